@@ -1,0 +1,13 @@
+use Rattle.std.proofs.Common.{refl, subst, arith}
+use Rattle.std.proofs.lemmas.Option.{slice_get_within, slice_get_read}
+use Rattle.match_puzzle.specs.Arrangement.{IsArrangement}
+use Rattle.cert_check.proofs.ListLemmas.{each_more}
+use Rattle.cert_check.proofs.lists.list_fault.Goals as goal
+
+pub loop-number-preserved : goal.loop-number-preserved
+loop-number-preserved c =
+    let here = slice_get_read c.args.listed.now _ c.loop-number.number c.index-listed-number.result refl c.loop-number-test.true c.index-listed-number.is in
+    each_more (IsArrangement c.args.puzzle.now) c.args.listed.now c.loop-number.number c.index-listed-number.result c.loop-number.invariant here (subst (IsArrangement c.args.puzzle.now) c.placements.ensures c.in_default.ensures)
+
+pub returns : goal.returns
+returns c = λ number a at. c.loop-number.invariant number a (let lt = slice_get_within c.args.listed.now number a at in omega arith) at

@@ -1,0 +1,10 @@
+pub mod Tree
+pub mod Setting
+pub mod NodeRules
+pub mod TreeFaults
+pub mod Covered
+pub mod Derivation
+pub mod Certificate
+pub mod Answer
+pub mod Lists
+pub mod Walk

@@ -1,0 +1,40 @@
+-- When a tree holds at a prefix. Nothing is said of what it covers.
+use Rattle.std.specs.Prelude.{◌≡◌, ◌≢◌, ℕ, List, [], ◌∷◌, Some, length, map, slice_get}
+use Rattle.match_puzzle.specs.Puzzle.{Task}
+use Rattle.match_puzzle.specs.Prefix.{Prefix, with_pair}
+use Rattle.match_puzzle.specs.Fitting.{FitsItem, AreFitting, IsOpen}
+use Rattle.match_puzzle.specs.declared.items.Item.{Item}
+use Rattle.match_puzzle.specs.declared.placements.Placement.{Placement}
+use Rattle.match_puzzle.specs.declared.placements.Pair.{Pair}
+use Rattle.cert_check.specs.Setting.{Setting}
+use Rattle.cert_check.specs.Tree.{Tree, Forest, branch, dead, found, none, more, count}
+
+-- The item is one of the puzzle and not settled, and the branch has a child for each pair that fits and settles it, and at least one.
+pub record IsBranch (p : Task) (q : Prefix) (item : Item) (children : ℕ) (xs : List Pair) : Type 0 where
+  pub unsettled : IsOpen p q item
+  pub fitting : AreFitting p q item xs
+  pub many : length xs ≡ children
+  pub some : children ≢ 0
+
+-- The item is one of the puzzle and not settled, and no pair that settles it fits.
+pub record IsDead (p : Task) (q : Prefix) (item : Item) : Type 0 where
+  pub unsettled : IsOpen p q item
+  pub nothing : (x : Pair) → FitsItem p q item x → ⊥
+
+-- The prefix is the listed arrangement with this number.
+abbrev pub IsListedAt : Setting → Prefix → ℕ → Type 0
+IsListedAt s q number = (a : List Placement) × (slice_get s.listed number ≡ Some a) × (q ≡ map Some a)
+
+abbrev mutual
+  -- The tree holds at the prefix.
+  pub Holds : Setting → Tree → Prefix → Type 0
+  Holds s (branch item children) q = (xs : List Pair) × IsBranch s.puzzle q item (count children) xs × EachHolds s children q xs
+  Holds s (dead item) q = IsDead s.puzzle q item
+  Holds s (found number) q = IsListedAt s q number
+
+  -- Each child holds at the prefix with the pair at its place.
+  pub EachHolds : Setting → Forest → Prefix → List Pair → Type 0
+  EachHolds s none q [] = Unit {0}
+  EachHolds s none q (x ∷ xs) = ⊥
+  EachHolds s (more tree trees) q [] = ⊥
+  EachHolds s (more tree trees) q (x ∷ xs) = Holds s tree (with_pair q x.cell x.placement) × EachHolds s trees q xs

@@ -1,0 +1,80 @@
+-- What may be wrong with a tree at a prefix, and where.
+use Rattle.std.specs.Prelude.{◌≡◌, ◌≢◌, ◌⊎◌, ◌≤◌, ℕ, zero, suc, List, [], ◌∷◌, Some, length, map, slice_get}
+use Rattle.match_board.specs.Board.{cell_count}
+use Rattle.match_board.specs.First.{Rank, IsFirst}
+use Rattle.match_puzzle.specs.Puzzle.{Task}
+use Rattle.match_puzzle.specs.Prefix.{Prefix, Has, IsFree, IsUsed, with_pair}
+use Rattle.match_puzzle.specs.Fitting.{AreFitting}
+use Rattle.match_puzzle.specs.declared.items.Item.{Item}
+use Rattle.match_puzzle.specs.declared.items.Item.TheVariants.{Cell, Tile}
+use Rattle.match_puzzle.specs.declared.placements.Placement.{Placement}
+use Rattle.match_puzzle.specs.declared.placements.Pair.{Pair}
+use Rattle.cert_check.specs.declared.faults.NodeFault.{NodeFault}
+use Rattle.cert_check.specs.declared.faults.NodeFault.TheVariants.{CellRange, CellTaken, TileRange, TileTaken, WrongCount, NotDead, NotWhole, ListRange, NotListed}
+use Rattle.cert_check.specs.Setting.{Setting}
+use Rattle.cert_check.specs.Tree.{Tree, Forest, branch, dead, found, none, more, count}
+use Rattle.cert_check.specs.NodeRules.{IsBranch, Holds}
+
+-- The item is none of the puzzle, or it is settled.
+abbrev pub ItemFails : Task → Prefix → Item → NodeFault → Type 0
+ItemFails p q (Cell cell) CellRange = cell_count p.board ≤ cell
+ItemFails p q (Cell cell) CellTaken = (x : Placement) × Has q cell x
+ItemFails p q (Tile tile) TileRange = length p.words ≤ tile
+ItemFails p q (Tile tile) TileTaken = IsUsed q tile
+ItemFails p q item fault = ⊥
+
+-- What may be wrong with a branch of so many children, but for the children themselves.
+abbrev pub BranchFails : Task → Prefix → Item → ℕ → NodeFault → Type 0
+BranchFails p q item number (WrongCount fits children) =
+    (xs : List Pair) × AreFitting p q item xs × (fits ≡ length xs) × (children ≡ number) × ((fits ≢ children) ⊎ (children ≡ 0))
+BranchFails p q item number fault = ItemFails p q item fault
+
+-- What may be wrong with a dead end.
+abbrev pub DeadFails : Task → Prefix → Item → NodeFault → Type 0
+DeadFails p q item (NotDead fits) = (xs : List Pair) × AreFitting p q item xs × (fits ≡ length xs) × (fits ≢ 0)
+DeadFails p q item fault = ItemFails p q item fault
+
+-- What may be wrong where an arrangement is named as found.
+abbrev pub FoundFails : Setting → Prefix → ℕ → NodeFault → Type 0
+FoundFails s q number NotWhole = (cell : ℕ) × IsFree q cell
+FoundFails s q number ListRange = length s.listed ≤ number
+FoundFails s q number NotListed = (a : List Placement) × (slice_get s.listed number ≡ Some a) × (q ≢ map Some a)
+FoundFails s q number fault = ⊥
+
+-- When a fault of the node itself occurs.
+abbrev pub NodeFails : Setting → Tree → Prefix → NodeFault → Type 0
+NodeFails s (branch item children) q = BranchFails s.puzzle q item (count children)
+NodeFails s (dead item) q = DeadFails s.puzzle q item
+NodeFails s (found number) q = FoundFails s q number
+
+-- the order of the faults
+abbrev pub node_rank : NodeFault → Rank
+node_rank CellRange = record { first = 1; second = 0; third = 0 }
+node_rank CellTaken = record { first = 2; second = 0; third = 0 }
+node_rank TileRange = record { first = 3; second = 0; third = 0 }
+node_rank TileTaken = record { first = 4; second = 0; third = 0 }
+node_rank (WrongCount fits children) = record { first = 5; second = 0; third = 0 }
+node_rank (NotDead fits) = record { first = 6; second = 0; third = 0 }
+node_rank NotWhole = record { first = 7; second = 0; third = 0 }
+node_rank ListRange = record { first = 8; second = 0; third = 0 }
+node_rank NotListed = record { first = 9; second = 0; third = 0 }
+
+-- the node's own fault: the first kind that occurs
+abbrev pub IsNodeFault : Setting → Tree → Prefix → NodeFault → Type 0
+IsNodeFault s tree q = IsFirst node_rank (NodeFails s tree q)
+
+abbrev mutual
+  -- The fault at the end of the path is the tree's first, in preorder: each branch on the way is right itself, and the children before the path's hold.
+  pub FailsAt : Setting → Tree → Prefix → List ℕ → NodeFault → Type 0
+  FailsAt s tree q [] fault = IsNodeFault s tree q fault
+  FailsAt s (branch item children) q (number ∷ path) fault =
+      (xs : List Pair) × IsBranch s.puzzle q item (count children) xs × EachFails s children q xs number path fault
+  FailsAt s (dead item) q (number ∷ path) fault = ⊥
+  FailsAt s (found listed) q (number ∷ path) fault = ⊥
+
+  -- The child with this number fails so, and the children before it hold.
+  pub EachFails : Setting → Forest → Prefix → List Pair → (number : ℕ) → List ℕ → NodeFault → Type 0
+  EachFails s none q xs number path fault = ⊥
+  EachFails s (more tree trees) q [] number path fault = ⊥
+  EachFails s (more tree trees) q (x ∷ xs) zero path fault = FailsAt s tree (with_pair q x.cell x.placement) path fault
+  EachFails s (more tree trees) q (x ∷ xs) (suc number) path fault = Holds s tree (with_pair q x.cell x.placement) × EachFails s trees q xs number path fault

@@ -1,0 +1,34 @@
+-- One input cut into three documents.
+use Rattle.std.specs.Prelude.{ℕ, List, [], ◌∷◌, ◌++◌, codes, ◌==◌, if◌then◌else◌}
+use Rattle.std.specs.Str.{bytes_eq}
+use Rattle.std.specs.List.{slice_split, join_with_byte}
+
+-- the lines, and what stands after the last LF
+abbrev pub pieces_of : List ℕ → List (List ℕ)
+pieces_of text = slice_split (λ b. b == 10) text
+
+abbrev pub behind : List ℕ → List ℕ × List (List ℕ) → List ℕ × List (List ℕ)
+behind front cut = (front ++ cut.0, cut.1)
+
+-- a document is everything up to the first line that is exactly `end`, or all there is; and the pieces after it
+abbrev pub cut_pieces : List (List ℕ) → List ℕ × List (List ℕ)
+cut_pieces [] = ([], [] ∷ [])
+cut_pieces (tail ∷ []) = (tail, [] ∷ [])
+cut_pieces (line ∷ piece ∷ pieces) =
+    if bytes_eq line (codes "end") then (line ++ 10 ∷ [], piece ∷ pieces) else behind (line ++ 10 ∷ []) (cut_pieces (piece ∷ pieces))
+
+abbrev pub joined : List ℕ × List (List ℕ) → List ℕ × List ℕ
+joined cut = (cut.0, join_with_byte 10 cut.1)
+
+-- a document, and the bytes after it
+unfoldable pub cut_document : List ℕ → List ℕ × List ℕ
+cut_document text = joined (cut_pieces (pieces_of text))
+
+abbrev pub first_of : List ℕ → List ℕ
+first_of input = (cut_document input).0
+
+abbrev pub second_of : List ℕ → List ℕ
+second_of input = (cut_document (cut_document input).1).0
+
+abbrev pub third_of : List ℕ → List ℕ
+third_of input = (cut_document (cut_document input).1).1

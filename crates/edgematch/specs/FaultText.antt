@@ -1,0 +1,104 @@
+-- How a fault of a run is printed.
+use Rattle.std.specs.Prelude.{ℕ, List, [], ◌∷◌, codes, decimal}
+use Rattle.match_board.specs.declared.boards.BoardFault.{BoardFault}
+use Rattle.match_board.specs.declared.boards.BoardFault.TheVariants as boards
+use Rattle.match_puzzle.specs.declared.faults.PuzzleFault.{PuzzleFault}
+use Rattle.match_puzzle.specs.declared.faults.PuzzleFault.TheVariants as puzzles
+use Rattle.match_text.specs.declared.faults.TextKind.{TextKind}
+use Rattle.match_text.specs.declared.faults.TextKind.TheVariants as kinds
+use Rattle.match_text.specs.declared.faults.TextFault.{TextFault}
+use Rattle.match_text.specs.declared.faults.ReadFault.{ReadFault}
+use Rattle.match_text.specs.declared.faults.ReadFault.TheVariants as readings
+use Rattle.edgematch.specs.declared.faults.Document.{Document}
+use Rattle.edgematch.specs.declared.faults.Document.TheVariants as documents
+use Rattle.match_text.specs.declared.faults.PuzzleTextFault.{PuzzleTextFault}
+use Rattle.match_text.specs.declared.faults.PuzzleTextFault.TheVariants as puzzle_text
+use Rattle.match_text.specs.declared.faults.ListTextFault.{ListTextFault}
+use Rattle.match_text.specs.declared.faults.ListTextFault.TheVariants as list_text
+use Rattle.edgematch.specs.declared.faults.CertTextFault.{CertTextFault}
+use Rattle.edgematch.specs.declared.faults.CertTextFault.TheVariants as cert_text
+use Rattle.edgematch.specs.declared.faults.RunFault.{RunFault}
+use Rattle.edgematch.specs.declared.faults.RunFault.TheVariants.{Read, TooLong, Puzzle, List as Listing, Certificate, Write, Memory}
+use Rattle.edgematch.specs.Line.{line_text, label}
+
+-- ---- faults of a text, by document
+
+abbrev pub cert_text_of : ReadFault → CertTextFault
+cert_text_of (readings.Text fault) = cert_text.Text fault
+cert_text_of readings.Memory = cert_text.Memory
+
+-- ---- want of memory, wherever it was met
+
+abbrev pub run_of_puzzle : PuzzleTextFault → RunFault
+run_of_puzzle (puzzle_text.Text fault) = Puzzle (puzzle_text.Text fault)
+run_of_puzzle (puzzle_text.Board fault) = Puzzle (puzzle_text.Board fault)
+run_of_puzzle (puzzle_text.Puzzle fault) = Puzzle (puzzle_text.Puzzle fault)
+run_of_puzzle puzzle_text.Memory = Memory
+
+abbrev pub run_of_list : ListTextFault → RunFault
+run_of_list (list_text.Text fault) = Listing (list_text.Text fault)
+run_of_list list_text.Memory = Memory
+
+abbrev pub run_of_certificate : CertTextFault → RunFault
+run_of_certificate (cert_text.Text fault) = Certificate (cert_text.Text fault)
+run_of_certificate cert_text.Memory = Memory
+
+-- ---- words
+
+abbrev pub document_word : Document → List ℕ
+document_word documents.Puzzle = codes "puzzle"
+document_word documents.List = codes "list"
+document_word documents.Certificate = codes "certificate"
+document_word documents.Input = codes "input"
+
+abbrev pub kind_word : TextKind → List ℕ
+kind_word kinds.Version = codes "version"
+kind_word kinds.Word = codes "word"
+kind_word kinds.Number = codes "number"
+kind_word kinds.Limit = codes "limit"
+kind_word kinds.Ends = codes "ends"
+kind_word kinds.After = codes "after"
+kind_word kinds.TooDeep = codes "too-deep"
+
+abbrev pub board_fault_word : BoardFault → List ℕ
+board_fault_word boards.Empty = codes "empty"
+board_fault_word boards.TooLarge = codes "too-large"
+
+abbrev pub memory_words : List (List ℕ)
+memory_words = codes "out" ∷ codes "of" ∷ codes "memory" ∷ []
+
+-- where a text is wrong, and how
+unfoldable pub text_fault_words : Document → TextFault → List (List ℕ)
+text_fault_words document fault = label (document_word document) ∷ codes "line" ∷ label (decimal fault.line) ∷ kind_word fault.kind ∷ []
+
+unfoldable pub puzzle_fault_words : PuzzleFault → List (List ℕ)
+puzzle_fault_words puzzles.FixedTriangles = codes "puzzle:" ∷ codes "fixed-triangles" ∷ []
+puzzle_fault_words puzzles.TileCount = codes "puzzle:" ∷ codes "tile-count" ∷ []
+puzzle_fault_words (puzzles.TileSides tile) = codes "puzzle:" ∷ codes "tile-sides" ∷ decimal tile ∷ []
+puzzle_fault_words (puzzles.BadColour place) = codes "puzzle:" ∷ codes "bad-colour" ∷ decimal place ∷ []
+puzzle_fault_words puzzles.BorderLength = codes "puzzle:" ∷ codes "border-length" ∷ []
+puzzle_fault_words puzzles.Memory = memory_words
+
+unfoldable pub puzzle_text_fault_words : PuzzleTextFault → List (List ℕ)
+puzzle_text_fault_words (puzzle_text.Text fault) = text_fault_words documents.Puzzle fault
+puzzle_text_fault_words (puzzle_text.Board fault) = codes "puzzle:" ∷ codes "board" ∷ board_fault_word fault ∷ []
+puzzle_text_fault_words (puzzle_text.Puzzle fault) = puzzle_fault_words fault
+puzzle_text_fault_words puzzle_text.Memory = memory_words
+
+unfoldable pub list_text_fault_words : ListTextFault → List (List ℕ)
+list_text_fault_words (list_text.Text fault) = text_fault_words documents.List fault
+list_text_fault_words list_text.Memory = memory_words
+
+unfoldable pub cert_text_fault_words : CertTextFault → List (List ℕ)
+cert_text_fault_words (cert_text.Text fault) = text_fault_words documents.Certificate fault
+cert_text_fault_words cert_text.Memory = memory_words
+
+-- the line of a fault
+unfoldable pub fault_line : RunFault → List ℕ
+fault_line (Read document) = line_text (codes "cannot" ∷ codes "read" ∷ document_word document ∷ [])
+fault_line (TooLong document) = line_text (codes "too" ∷ codes "long" ∷ document_word document ∷ [])
+fault_line (Puzzle fault) = line_text (puzzle_text_fault_words fault)
+fault_line (Listing fault) = line_text (list_text_fault_words fault)
+fault_line (Certificate fault) = line_text (cert_text_fault_words fault)
+fault_line Write = line_text (codes "cannot" ∷ codes "write" ∷ [])
+fault_line Memory = line_text memory_words

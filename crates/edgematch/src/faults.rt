@@ -1,0 +1,290 @@
+// What may go wrong with a run, and how that is printed.
+
+ghost use Rattle.std.specs.Prelude.{◌≡◌, ◌++◌, ◌∷◌, [], codes, decimal, IfOk};
+ghost use Rattle.edgematch.specs.Line.{line_text, label};
+ghost use Rattle.edgematch.specs.FaultText.{document_word, kind_word, board_fault_word, memory_words, text_fault_words, puzzle_fault_words, puzzle_text_fault_words, list_text_fault_words, cert_text_fault_words, fault_line};
+ghost use Rattle.edgematch.specs.declared.faults.CertTextFault.TheVariants as cert_text;
+ghost use Rattle.edgematch.specs.declared.faults.RunFault.TheVariants as run_fault;
+ghost use Rattle.edgematch.specs.FaultText.{cert_text_of, run_of_puzzle, run_of_list, run_of_certificate};
+
+use crate::lines::Line;
+use match_board::BoardFault;
+use match_puzzle::PuzzleFault;
+use match_text::{ListTextFault, PuzzleTextFault, ReadFault, TextFault, TextKind};
+use std::alloc::{AllocError, Global};
+use thiserror::Error;
+
+/// What a run reads.
+#[derive(Clone, Copy, PartialEq, Eq, Debug)]
+pub enum Document {
+    Puzzle,
+    List,
+    Certificate,
+    /// The three joined.
+    Input,
+}
+
+/// Why there is no certificate of a text.
+#[derive(Clone, Copy, PartialEq, Eq, Debug, Error)]
+pub enum CertTextFault {
+    #[error("{0}")]
+    Text(TextFault),
+    #[error("out of memory")]
+    Memory,
+}
+
+/// Why a run stopped.
+#[derive(Clone, Copy, PartialEq, Eq, Debug)]
+pub enum RunFault {
+    /// Reading this document failed.
+    Read(Document),
+    /// This document has more bytes than are read.
+    TooLong(Document),
+    Puzzle(PuzzleTextFault),
+    List(ListTextFault),
+    Certificate(CertTextFault),
+    /// Writing failed, or nothing more was taken.
+    Write,
+    Memory,
+}
+
+impl From<ReadFault> for CertTextFault {
+    ghost from_gives = { λ fault e. e ≡ cert_text_of fault };
+
+    fn from(fault: ReadFault) -> CertTextFault {
+        match fault {
+            ReadFault::Text(fault) => CertTextFault::Text(fault),
+            ReadFault::Memory => CertTextFault::Memory,
+        }
+    }
+}
+
+impl From<AllocError> for CertTextFault {
+    ghost from_gives = { λ _ e. e ≡ cert_text.Memory };
+
+    fn from(_error: AllocError) -> CertTextFault {
+        CertTextFault::Memory
+    }
+}
+
+impl From<PuzzleTextFault> for RunFault {
+    ghost from_gives = { λ fault e. e ≡ run_of_puzzle fault };
+
+    fn from(fault: PuzzleTextFault) -> RunFault {
+        match fault {
+            PuzzleTextFault::Memory => RunFault::Memory,
+            fault => RunFault::Puzzle(fault),
+        }
+    }
+}
+
+impl From<ListTextFault> for RunFault {
+    ghost from_gives = { λ fault e. e ≡ run_of_list fault };
+
+    fn from(fault: ListTextFault) -> RunFault {
+        match fault {
+            ListTextFault::Memory => RunFault::Memory,
+            fault => RunFault::List(fault),
+        }
+    }
+}
+
+impl From<CertTextFault> for RunFault {
+    ghost from_gives = { λ fault e. e ≡ run_of_certificate fault };
+
+    fn from(fault: CertTextFault) -> RunFault {
+        match fault {
+            CertTextFault::Memory => RunFault::Memory,
+            fault => RunFault::Certificate(fault),
+        }
+    }
+}
+
+impl From<AllocError> for RunFault {
+    ghost from_gives = { λ _ e. e ≡ run_fault.Memory };
+
+    fn from(_error: AllocError) -> RunFault {
+        RunFault::Memory
+    }
+}
+
+fn document_name(document: Document) -> &'static [u8]
+    ensures { result.now ≡ document_word document }
+{
+    match document {
+        Document::Puzzle => b"puzzle",
+        Document::List => b"list",
+        Document::Certificate => b"certificate",
+        Document::Input => b"input",
+    }
+}
+
+fn document_label(document: Document) -> &'static [u8]
+    ensures { result.now ≡ label (document_word document) }
+{
+    match document {
+        Document::Puzzle => b"puzzle:",
+        Document::List => b"list:",
+        Document::Certificate => b"certificate:",
+        Document::Input => b"input:",
+    }
+}
+
+fn kind_name(kind: TextKind) -> &'static [u8]
+    ensures { result.now ≡ kind_word kind }
+{
+    match kind {
+        TextKind::Version => b"version",
+        TextKind::Word => b"word",
+        TextKind::Number => b"number",
+        TextKind::Limit => b"limit",
+        TextKind::Ends => b"ends",
+        TextKind::After => b"after",
+        TextKind::TooDeep => b"too-deep",
+    }
+}
+
+fn board_fault_name(fault: BoardFault) -> &'static [u8]
+    ensures { result.now ≡ board_fault_word fault }
+{
+    match fault {
+        BoardFault::Empty => b"empty",
+        BoardFault::TooLarge => b"too-large",
+    }
+}
+
+// A line of three words.
+#[tactic(auto, using(crate::proofs::LineLemmas::line_laws))]
+fn words_line(
+    alloc: Global,
+    first: &[u8],
+    second: &[u8],
+    third: &[u8],
+) -> Result<Vec<u8>, AllocError>
+    ensures { IfOk result (λ text. text.items ≡ line_text (first.now ∷ second.now ∷ third.now ∷ [])) }
+{
+    let mut line = Line::new(alloc, first)?;
+    line.word(second)?;
+    line.word(third)?;
+    line.end()
+}
+
+fn memory_line(alloc: Global) -> Result<Vec<u8>, AllocError>
+    ensures { IfOk result (λ text. text.items ≡ line_text memory_words) }
+{
+    words_line(alloc, b"out", b"of", b"memory")
+}
+
+#[tactic(auto, using(crate::proofs::LineLemmas::line_laws), unfolding(crate::specs::FaultText::text_fault_words))]
+fn text_fault_line(
+    alloc: Global,
+    document: Document,
+    fault: &TextFault,
+) -> Result<Vec<u8>, AllocError>
+    ensures { IfOk result (λ text. text.items ≡ line_text (text_fault_words document fault.now)) }
+{
+    let mut line = Line::new(alloc, document_label(document))?;
+    line.word(b"line")?;
+    line.label(fault.line)?;
+    line.word(kind_name(fault.kind))?;
+    line.end()
+}
+
+#[tactic(auto, using(crate::proofs::LineLemmas::line_laws))]
+fn puzzle_line(alloc: Global, word: &[u8]) -> Result<Vec<u8>, AllocError>
+    ensures { IfOk result (λ text. text.items ≡ line_text (codes "puzzle:" ∷ word.now ∷ [])) }
+{
+    let mut line = Line::new(alloc, b"puzzle:")?;
+    line.word(word)?;
+    line.end()
+}
+
+#[tactic(auto, using(crate::proofs::LineLemmas::line_laws))]
+fn numbered_puzzle_line(alloc: Global, word: &[u8], number: u32) -> Result<Vec<u8>, AllocError>
+    ensures { IfOk result (λ text. text.items ≡ line_text (codes "puzzle:" ∷ word.now ∷ decimal number ∷ [])) }
+{
+    let mut line = Line::new(alloc, b"puzzle:")?;
+    line.word(word)?;
+    line.number(number)?;
+    line.end()
+}
+
+#[tactic(auto, unfolding(crate::specs::FaultText::puzzle_fault_words))]
+fn puzzle_fault_line(alloc: Global, fault: &PuzzleFault) -> Result<Vec<u8>, AllocError>
+    ensures { IfOk result (λ text. text.items ≡ line_text (puzzle_fault_words fault.now)) }
+{
+    match *fault {
+        PuzzleFault::FixedTriangles => puzzle_line(alloc, b"fixed-triangles"),
+        PuzzleFault::TileCount => puzzle_line(alloc, b"tile-count"),
+        PuzzleFault::TileSides(tile) => numbered_puzzle_line(alloc, b"tile-sides", tile),
+        PuzzleFault::BadColour(place) => numbered_puzzle_line(alloc, b"bad-colour", place),
+        PuzzleFault::BorderLength => puzzle_line(alloc, b"border-length"),
+        PuzzleFault::Memory => memory_line(alloc),
+    }
+}
+
+#[tactic(auto, unfolding(crate::specs::FaultText::puzzle_text_fault_words))]
+fn puzzle_text_fault_line(alloc: Global, fault: &PuzzleTextFault) -> Result<Vec<u8>, AllocError>
+    ensures { IfOk result (λ text. text.items ≡ line_text (puzzle_text_fault_words fault.now)) }
+{
+    match fault {
+        PuzzleTextFault::Text(fault) => text_fault_line(alloc, Document::Puzzle, fault),
+        PuzzleTextFault::Board(fault) => {
+            words_line(alloc, b"puzzle:", b"board", board_fault_name(*fault))
+        }
+        PuzzleTextFault::Puzzle(fault) => puzzle_fault_line(alloc, fault),
+        PuzzleTextFault::Memory => memory_line(alloc),
+    }
+}
+
+#[tactic(auto, unfolding(crate::specs::FaultText::list_text_fault_words))]
+fn list_text_fault_line(alloc: Global, fault: &ListTextFault) -> Result<Vec<u8>, AllocError>
+    ensures { IfOk result (λ text. text.items ≡ line_text (list_text_fault_words fault.now)) }
+{
+    match fault {
+        ListTextFault::Text(fault) => text_fault_line(alloc, Document::List, fault),
+        ListTextFault::Memory => memory_line(alloc),
+    }
+}
+
+#[tactic(auto, unfolding(crate::specs::FaultText::cert_text_fault_words))]
+fn cert_text_fault_line(alloc: Global, fault: &CertTextFault) -> Result<Vec<u8>, AllocError>
+    ensures { IfOk result (λ text. text.items ≡ line_text (cert_text_fault_words fault.now)) }
+{
+    match fault {
+        CertTextFault::Text(fault) => text_fault_line(alloc, Document::Certificate, fault),
+        CertTextFault::Memory => memory_line(alloc),
+    }
+}
+
+#[tactic(auto, using(crate::proofs::LineLemmas::line_laws))]
+fn write_fault_line(alloc: Global) -> Result<Vec<u8>, AllocError>
+    ensures { IfOk result (λ text. text.items ≡ line_text (codes "cannot" ∷ codes "write" ∷ [])) }
+{
+    let mut line = Line::new(alloc, b"cannot")?;
+    line.word(b"write")?;
+    line.end()
+}
+
+/// The line that says why a run stopped.
+#[tactic(auto, unfolding(crate::specs::FaultText::fault_line))]
+pub fn fault_text(alloc: Global, fault: &RunFault) -> Result<Vec<u8>, AllocError>
+    ensures { IfOk result (λ text. text.items ≡ fault_line fault.now) }
+{
+    match fault {
+        RunFault::Read(document) => {
+            words_line(alloc, b"cannot", b"read", document_name(*document))
+        }
+        RunFault::TooLong(document) => {
+            words_line(alloc, b"too", b"long", document_name(*document))
+        }
+        RunFault::Puzzle(fault) => puzzle_text_fault_line(alloc, fault),
+        RunFault::List(fault) => list_text_fault_line(alloc, fault),
+        RunFault::Certificate(fault) => cert_text_fault_line(alloc, fault),
+        RunFault::Write => write_fault_line(alloc),
+        RunFault::Memory => memory_line(alloc),
+    }
+}
+
+#[cfg(test)]
+mod tests;

@@ -1,0 +1,10 @@
+pub mod Listings
+pub mod Places
+pub mod BorderLemmas
+pub mod TurnsLemmas
+pub mod BoardVectors
+pub mod HexagonLemmas
+pub mod WordLemmas
+pub mod DigitLemmas
+pub mod ClassLemmas
+pub mod OptionLemmas

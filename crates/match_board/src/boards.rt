@@ -1,0 +1,190 @@
+// A board: its cells, and which of their sides meet.
+
+ghost use Rattle.std.specs.Prelude.{◌≡◌, ◌↔◌, ◌<◌, ◌≤◌, ◌*◌, ℕ, ◌+◌, List, length, IfOk, IfSome, MatchBool};
+ghost use Rattle.match_board.specs.Board.{Rectangle, Triangle, Hexagon, cell_count, side_count, Meets, IsBoard, IsBorderOrder, IsBorderPair, IsBorderBefore};
+ghost use Rattle.match_board.specs.Figure.{shape_of};
+
+use crate::figures::Figure;
+use std::marker::Model;
+use thiserror::Error;
+
+/// Why there is no such board: it has no cells, or over 100.
+#[derive(Clone, Copy, PartialEq, Eq, Debug, Error)]
+pub enum BoardFault {
+    #[error("empty")]
+    Empty,
+    #[error("too-large")]
+    TooLarge,
+}
+
+/// A board of 1 to 100 cells: squares in a rectangle, or triangles in a triangle or a hexagon.
+///
+/// Cells are numbered from 0, row by row, from the top and from the left. The sides of a square are
+/// 0 north, 1 east, 2 south and 3 west. Those of a triangle that points up are 0 north-east, 1 south
+/// and 2 north-west, and of one that points down 0 south-west, 1 north and 2 south-east: sides of
+/// triangles that meet have the same number.
+#[derive(Clone, Copy, PartialEq, Eq, Debug)]
+pub struct Board {
+    figure: Figure,
+}
+
+impl Model for Board {
+    ghost use Rattle.match_board.specs.Board.{Shape, IsBoard};
+    ghost use Rattle.match_board.specs.Figure.{shape_of, figure_of};
+
+    ghost Value = { Shape };
+
+    ghost view = { λ b. shape_of b.figure };
+
+    ghost invariant = { λ b. IsBoard (shape_of b.figure) };
+
+    ghost inverse = { λ s. record { figure = figure_of s } };
+}
+
+/// The most cells of a board.
+pub const MOST_CELLS: u32 = 100;
+
+impl Board {
+    #[tactic(auto, using(crate::proofs::Places::above_in_rectangle))]
+    /// The rectangle of this width and height.
+    ///
+    /// `Empty` where either is 0, and `TooLarge` where there are over 100 cells.
+    pub fn rect(width: u16, height: u16) -> Result<Board, BoardFault>
+        ensures board { IfOk result (λ b. b ≡ Rectangle width height) }
+        ensures fits { IfOk result IsBoard }
+        ensures empty { (result ≡ Err BoardFault.Empty) ↔ (width * height ≡ 0) }
+        ensures too_large { (result ≡ Err BoardFault.TooLarge) ↔ (100 < width * height) }
+    {
+        Board::of(Figure::Rectangle { width, height })
+    }
+
+    #[tactic(auto, using(crate::proofs::Places::empty_triangle))]
+    /// The triangle that points up, with this many cells at each side: `size * size` cells in all.
+    ///
+    /// `Empty` where the size is 0, and `TooLarge` where there are over 100 cells.
+    pub fn triangle(size: u16) -> Result<Board, BoardFault>
+        ensures board { IfOk result (λ b. b ≡ Triangle size) }
+        ensures fits { IfOk result IsBoard }
+        ensures empty { (result ≡ Err BoardFault.Empty) ↔ (size ≡ 0) }
+        ensures too_large { (result ≡ Err BoardFault.TooLarge) ↔ (100 < cell_count (Triangle size)) }
+    {
+        Board::of(Figure::Triangle { size })
+    }
+
+    #[tactic(auto, using(crate::proofs::Places::empty_hexagon))]
+    /// The hexagon with level top and bottom, with this many cells at each side: `6 * size * size`
+    /// cells in all.
+    ///
+    /// `Empty` where the size is 0, and `TooLarge` where there are over 100 cells.
+    pub fn hexagon(size: u16) -> Result<Board, BoardFault>
+        ensures board { IfOk result (λ b. b ≡ Hexagon size) }
+        ensures fits { IfOk result IsBoard }
+        ensures empty { (result ≡ Err BoardFault.Empty) ↔ (size ≡ 0) }
+        ensures too_large { (result ≡ Err BoardFault.TooLarge) ↔ (100 < cell_count (Hexagon size)) }
+    {
+        Board::of(Figure::Hexagon { size })
+    }
+
+    /// The board that covers the figure.
+    ///
+    /// `Empty` where it has no cells, and `TooLarge` where it has over 100.
+    pub fn of(figure: Figure) -> Result<Board, BoardFault>
+        ensures board { IfOk result (λ b. b ≡ shape_of figure) }
+        ensures fits { IfOk result IsBoard }
+        ensures empty { (result ≡ Err BoardFault.Empty) ↔ (cell_count (shape_of figure) ≡ 0) }
+        ensures too_large { (result ≡ Err BoardFault.TooLarge) ↔ (100 < cell_count (shape_of figure)) }
+    {
+        let cells = figure.cells();
+        if cells == 0 {
+            return Err(BoardFault::Empty);
+        }
+        if cells > u64::from(MOST_CELLS) {
+            return Err(BoardFault::TooLarge);
+        }
+        Ok(Board { figure })
+    }
+
+    /// The figure that the board covers.
+    pub fn figure(&self) -> Figure
+        ensures { shape_of result ≡ self.now }
+    {
+        self.figure
+    }
+
+    /// How many cells there are, from 1 to 100.
+    pub fn cells(&self) -> u16
+        ensures count { result ≡ cell_count self.now }
+        ensures some { 1 ≤ result }
+        ensures most { result ≤ 100 }
+    {
+        self.figure.cells() as u16
+    }
+
+    /// How many sides a cell has: 4 in a rectangle, 3 in a triangle or a hexagon.
+    pub fn sides(&self) -> u8
+        ensures count { result ≡ side_count self.now }
+        ensures few { result ≤ 4 }
+    {
+        self.figure.sides()
+    }
+
+    /// How many border pairs there are: sides of cells that meet nothing.
+    ///
+    /// It asks `meets` for each side of each cell.
+    pub fn border_len(&self) -> u16
+        ensures { (pairs : List (ℕ × ℕ)) × IsBorderOrder self.now pairs × (length pairs ≡ result) }
+    {
+        let mut count = 0;
+        for cell in 0..self.cells() {
+            count += self.border_sides(cell);
+        }
+        count
+    }
+
+    // How many border pairs the cell has.
+    fn border_sides(&self, cell: u16) -> u16
+        requires { cell < cell_count self.now }
+        ensures few { result ≤ 4 }
+        ensures counts { (before : List (ℕ × ℕ)) → IsBorderBefore self.now (cell, 0) before
+            → (pairs : List (ℕ × ℕ))
+            × IsBorderBefore self.now (cell + 1, 0) pairs
+            × (length pairs ≡ length before + result) }
+    {
+        let mut count = 0;
+        for side in 0..self.sides() {
+            if self.is_border(cell, side) {
+                count += 1;
+            }
+        }
+        count
+    }
+
+    // Whether the side of the cell meets nothing.
+    fn is_border(&self, cell: u16, side: u8) -> bool
+        requires cell { cell < cell_count self.now }
+        requires side { side < side_count self.now }
+        ensures { MatchBool result
+            (IsBorderPair self.now cell side)
+            (IsBorderPair self.now cell side → ⊥) }
+    {
+        match self.meets(cell, side) {
+            None => true,
+            Some(_) => false,
+        }
+    }
+
+    /// What the side of the cell meets: another cell and its side, or nothing at the border.
+    ///
+    /// It goes through the rows down to the cells.
+    pub fn meets(&self, cell: u16, side: u8) -> Option<(u16, u8)>
+        requires cell { cell < cell_count self.now }
+        requires side { side < side_count self.now }
+        ensures within { IfSome result
+            (λ other. (other.0 < cell_count self.now) × (other.1 < side_count self.now)) }
+        ensures found { IfSome result (λ other. Meets self.now cell side other.0 other.1) }
+        ensures symmetric { IfSome result (λ other. Meets self.now other.0 other.1 cell side) }
+        ensures only { (c k : ℕ) → Meets self.now cell side c k → result ≡ Some (c, k) }
+    {
+        self.figure.meets(cell, side)
+    }
+}

@@ -1,0 +1,119 @@
+// Boards and tiles whose numbers are known.
+
+use crate::{Board, BoardFault, Tile, TilesFault, all_tiles};
+use std::test::Fail;
+
+#[test]
+fn hexagon_of_side_two(rt: HostRuntime) -> Result<(), Fail> {
+    let board = Board::hexagon(2)?;
+    assert_eq!(rt; board.cells(), 24);
+    assert_eq!(rt; board.sides(), 3);
+    assert_eq!(rt; board.border_len(), 12);
+    assert_eq!(rt; board.meets(0, 1), Some((6, 1)));
+    assert_eq!(rt; board.meets(5, 1), Some((12, 1)));
+    assert_eq!(rt; board.meets(13, 1), Some((19, 1)));
+    assert_eq!(rt; board.meets(0, 2), None);
+    assert_eq!(rt; board.meets(1, 1), None);
+    Ok(())
+}
+
+#[test]
+fn triangle_of_side_two(rt: HostRuntime) -> Result<(), Fail> {
+    let board = Board::triangle(2)?;
+    assert_eq!(rt; board.cells(), 4);
+    assert_eq!(rt; board.sides(), 3);
+    assert_eq!(rt; board.border_len(), 6);
+    assert_eq!(rt; board.meets(2, 0), Some((1, 0)));
+    assert_eq!(rt; board.meets(2, 1), Some((0, 1)));
+    assert_eq!(rt; board.meets(2, 2), Some((3, 2)));
+    Ok(())
+}
+
+#[test]
+fn rectangle_of_two_by_two(rt: HostRuntime) -> Result<(), Fail> {
+    let board = Board::rect(2, 2)?;
+    assert_eq!(rt; board.cells(), 4);
+    assert_eq!(rt; board.sides(), 4);
+    assert_eq!(rt; board.border_len(), 8);
+    assert_eq!(rt; board.meets(0, 1), Some((1, 3)));
+    assert_eq!(rt; board.meets(0, 2), Some((2, 0)));
+    assert_eq!(rt; board.meets(0, 0), None);
+    Ok(())
+}
+
+#[test]
+fn boards_of_no_and_of_too_many_cells(rt: HostRuntime) {
+    assert_eq!(rt; Board::rect(11, 10), Err(BoardFault::TooLarge));
+    assert_eq!(rt; Board::rect(65535, 65535), Err(BoardFault::TooLarge));
+    assert_eq!(rt; Board::rect(0, 5), Err(BoardFault::Empty));
+    assert_eq!(rt; Board::triangle(0), Err(BoardFault::Empty));
+    assert_eq!(rt; Board::triangle(11), Err(BoardFault::TooLarge));
+    assert_eq!(rt; Board::hexagon(0), Err(BoardFault::Empty));
+    assert_eq!(rt; Board::hexagon(5), Err(BoardFault::TooLarge));
+    assert_eq!(rt; Board::hexagon(65535), Err(BoardFault::TooLarge));
+}
+
+#[test]
+fn largest_triangle_and_hexagon(rt: HostRuntime) -> Result<(), Fail> {
+    assert_eq!(rt; Board::triangle(10)?.cells(), 100);
+    assert_eq!(rt; Board::triangle(10)?.border_len(), 30);
+    assert_eq!(rt; Board::hexagon(4)?.cells(), 96);
+    assert_eq!(rt; Board::hexagon(4)?.border_len(), 24);
+    Ok(())
+}
+
+#[test]
+fn periods(rt: HostRuntime) -> Result<(), Fail> {
+    assert_eq!(rt; Tile::new([0, 0, 0, 0], 4)?.period(), 1);
+    assert_eq!(rt; Tile::new([0, 1, 0, 1], 4)?.period(), 2);
+    assert_eq!(rt; Tile::new([0, 1, 2, 3], 4)?.period(), 4);
+    assert_eq!(rt; Tile::new([0, 0, 1, 0], 3)?.period(), 3);
+    Ok(())
+}
+
+#[test]
+fn squares_of_three_colours(rt: HostRuntime) -> Result<(), Fail> {
+    let tiles = all_tiles(rt.alloc(), 4, 3)?;
+    assert_eq!(rt; tiles.len(), 24);
+    assert_eq!(rt; tiles[0], Tile::new([0, 0, 0, 0], 4)?);
+    assert_eq!(rt; tiles[1], Tile::new([0, 0, 0, 1], 4)?);
+    assert_eq!(rt; tiles[23], Tile::new([2, 2, 2, 2], 4)?);
+    Ok(())
+}
+
+#[test]
+fn triangles_of_four_colours(rt: HostRuntime) -> Result<(), Fail> {
+    let tiles = all_tiles(rt.alloc(), 3, 4)?;
+    assert_eq!(rt; tiles.len(), 24);
+    Ok(())
+}
+
+#[test]
+fn triangles_of_two_colours(rt: HostRuntime) -> Result<(), Fail> {
+    let tiles = all_tiles(rt.alloc(), 3, 2)?;
+    let words = [[0, 0, 0, 0], [0, 0, 1, 0], [0, 1, 1, 0], [1, 1, 1, 0]];
+    assert_eq!(rt; tiles.len(), 4);
+    for place in 0..4 {
+        assert_eq!(rt; tiles[place], Tile::new(words[place], 3)?);
+    }
+    Ok(())
+}
+
+#[test]
+fn too_many_tiles(rt: HostRuntime) {
+    for (sides, colours) in [(4, 5), (4, 36), (3, 7), (3, 36)] {
+        let too_many = matches!(
+            all_tiles(rt.alloc(), sides, colours),
+            Err(TilesFault::TooMany)
+        );
+        assert!(rt; too_many, "{sides} sides, {colours} colours");
+    }
+}
+
+#[test]
+fn most_tiles(rt: HostRuntime) -> Result<(), Fail> {
+    assert_eq!(rt; all_tiles(rt.alloc(), 4, 4)?.len(), 70);
+    assert_eq!(rt; all_tiles(rt.alloc(), 3, 6)?.len(), 76);
+    assert_eq!(rt; all_tiles(rt.alloc(), 4, 1)?.len(), 1);
+    Ok(())
+}

@@ -1,0 +1,10 @@
+pub mod Words
+pub mod Prefixes
+pub mod TableLemmas
+pub mod PuzzleFaultLemmas
+pub mod Kept
+pub mod Pigeonhole
+pub mod ArrangementLemmas
+pub mod FittingLemmas
+pub mod PairLemmas
+pub mod PrefixFaultLemmas

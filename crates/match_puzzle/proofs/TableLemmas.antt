@@ -1,0 +1,181 @@
+-- What is looked up.
+use Rattle.std.proofs.Common.{◌≡◌, ◌≢◌, ◌⊎◌, ◌<◌, ◌≤◌, ◌+◌, ◌*◌, ◌++◌, ◌∷◌, [], ◌↔◌, ℕ, zero, suc, Bool, List, Option, Some, None, MatchBool, Contains, All, length, map, get_or, set, slice_get, arith, refl, ap, sym, ◌∙◌, subst, inl, inr, ⊎_elim}
+use Rattle.std.proofs.lemmas.List.{length-map}
+use Rattle.match_board.specs.Board.{Shape, cell_count, side_count, Meets, IsBorderPair, IsBorderOrder}
+use Rattle.match_board.specs.declared.tiles.Tile.{Tile}
+use Rattle.match_puzzle.specs.declared.borders.Border.{Border}
+use Rattle.match_board.specs.Tile.{word}
+use Rattle.match_board.specs.Turns.{IsPeriod}
+use Rattle.match_puzzle.specs.Puzzle.{Task, BorderRule, free, one, each, task_of, rule_of, HasRule, Asks, AsksAt, StandsInRule, IsAsLongAsBorder}
+use Rattle.match_puzzle.specs.Colours.{HasColour, IsColourCount}
+use Rattle.match_puzzle.specs.Tables.{IsSide, IsTurnCount, IsNextNumber}
+use Rattle.match_puzzle.proofs.Words.{tile_of_word, word_at}
+use Rattle.match_puzzle.specs.declared.tables.Side.TheVariants.{Border as TableBorder}
+use Rattle.std.proofs.lemmas.Option.{slice_get_within, get_or_from_slice_get}
+use Rattle.match_board.specs.Listing.{IsListing, ComesBefore, HoldsBefore}
+use Rattle.match_board.proofs.Listings.{After, in_front, first_before, listing_rest, same_listing, contains_none, comes_before_asymmetric, comes_before_trans, lt_or_le}
+use Rattle.match_board.proofs.BorderLemmas.{border_next, inner_next, border_row, border_none}
+use Rattle.match_puzzle.proofs.Prefixes.{inside}
+
+none_some : {X : Type 0} {x : X} → None ≡ Some x → ⊥
+none_some e = cc
+
+same_pair : {a b c d : ℕ} → ◌≡◌ {A = Option (ℕ × ℕ)} (Some (a, b)) (Some (c, d)) → (a ≡ c) × (b ≡ d)
+same_pair e = (ap (λ (n : ℕ × ℕ). n.0) (inside e), ap (λ (n : ℕ × ℕ). n.1) (inside e))
+
+-- what is met, by the one answer of a look-up
+pub met_is : {s : Shape} {cell side c k : ℕ} → ((c' k' : ℕ) → Meets s cell side c' k' → ◌≡◌ {A = Option (ℕ × ℕ)} (Some (c, k)) (Some (c', k'))) → (c' k' : ℕ) → Meets s cell side c' k' → (c' ≡ c) × (k' ≡ k)
+met_is only c' k' m = let e = same_pair (only c' k' m) in (sym e.0, sym e.1)
+
+-- a side that no answer meets
+pub border_is : (s : Shape) (cell side : ℕ) → cell < cell_count s → side < side_count s → ((c k : ℕ) → Meets s cell side c k → ◌≡◌ {A = Option (ℕ × ℕ)} None (Some (c, k))) → IsBorderPair s cell side
+border_is s cell side cell_in side_in only = record { cell_in = cell_in; side_in = side_in; meets_nothing = λ c k m. none_some (only c k m) }
+
+-- ---- the number of a border pair
+
+-- The first of what comes before a key is the first of all that holds.
+head_is : (P : ℕ × ℕ → Type 0) (n x : ℕ × ℕ) (xs : List (ℕ × ℕ)) → IsListing ComesBefore P (x ∷ xs) → P n → IsListing ComesBefore (HoldsBefore (λ pair. pair) P n) [] → x ≡ n
+head_is P n x xs all holds before =
+    ⊎_elim
+    (λ e. e)
+    (λ c. absurd (contains_none x (before.all x (all.only x (0, omega arith, refl), first_before ComesBefore comes_before_asymmetric P x xs n all c))))
+    (in_front ComesBefore comes_before_asymmetric x xs n (all.all n holds))
+
+before_rest : (P : ℕ × ℕ → Type 0) (n x y : ℕ × ℕ) (ys : List (ℕ × ℕ)) → x ≡ y → IsListing ComesBefore (HoldsBefore (λ pair. pair) P n) (y ∷ ys) → IsListing ComesBefore (HoldsBefore (λ pair. pair) (After ComesBefore comes_before_asymmetric P x) n) ys
+before_rest P n x y ys e before =
+    let rest = listing_rest ComesBefore comes_before_asymmetric (HoldsBefore (λ pair. pair) P n) y ys before in
+    subst (λ z. IsListing ComesBefore (HoldsBefore (λ pair. pair) (After ComesBefore comes_before_asymmetric P z) n) ys) (sym e) (record {
+      only = λ z c. let w = rest.only z c in ((w.0.0, w.1), w.0.1);
+      all = λ z w. rest.all z ((w.0.0, w.1), w.0.1);
+      rising = rest.rising;
+    })
+
+-- In the list of all pairs a pair stands where as many stand before it as come before it.
+pub place_in_order : (P : ℕ × ℕ → Type 0) (n : ℕ × ℕ) (all before : List (ℕ × ℕ)) → IsListing ComesBefore P all → IsListing ComesBefore (HoldsBefore (λ pair. pair) P n) before → P n → slice_get all (length before) ≡ Some n
+place_in_order P n [] before all is holds = absurd (contains_none n (all.all n holds))
+place_in_order P n (x ∷ xs) [] all is holds = ap Some (head_is P n x xs all holds is)
+place_in_order P n (x ∷ xs) (y ∷ ys) all is holds =
+    let y_is = is.only y (0, omega arith, refl) in
+    let e : x ≡ y = ⊎_elim
+    (λ e. e)
+    (λ c.
+    let x_before_y = first_before ComesBefore comes_before_asymmetric P x xs y all c in
+    let x_holds = all.only x (0, omega arith, refl) in
+    ⊎_elim (λ e. sym e) (λ d. absurd (comes_before_asymmetric x y x_before_y (first_before ComesBefore comes_before_asymmetric (HoldsBefore (λ pair. pair) P n) y ys x is d)))
+    (in_front ComesBefore comes_before_asymmetric y ys x (is.all x (x_holds, comes_before_trans x y n x_before_y y_is.1))))
+    (in_front ComesBefore comes_before_asymmetric x xs y (all.all y y_is.0)) in
+    let after : ComesBefore x n = subst (λ z. ComesBefore z n) (sym e) y_is.1 in
+    place_in_order (After ComesBefore comes_before_asymmetric P x) n xs ys (listing_rest ComesBefore comes_before_asymmetric P x xs all) (before_rest P n x y ys e is) (holds, after)
+
+-- A pair stands at one place of the list of all.
+pub one_place_in_order : (P : ℕ × ℕ → Type 0) (all : List (ℕ × ℕ)) (i j : ℕ) (n : ℕ × ℕ) → IsListing ComesBefore P all → slice_get all i ≡ Some n → slice_get all j ≡ Some n → i ≡ j
+one_place_in_order P all i j n is at_i at_j =
+    ⊎_elim (λ lt. absurd (no_before i j lt at_i at_j)) (λ ge. ⊎_elim (λ lt. absurd (no_before j i lt at_j at_i)) (λ le. omega (arith, ge, le)) (lt_or_le j i)) (lt_or_le i j)
+  where
+    no_before : (k l : ℕ) → k < l → slice_get all k ≡ Some n → slice_get all l ≡ Some n → ⊥
+    no_before k l lt at_k at_l =
+        let before = is.rising k l n lt (slice_get_within all l n at_l) in
+        let here : ComesBefore n n = subst (λ a. ComesBefore a n) (get_or_from_slice_get all k n n at_k) (subst (ComesBefore (get_or all k n)) (get_or_from_slice_get all l n n at_l) before) in
+        comes_before_asymmetric n n here here
+
+-- ---- what the border asks of a border pair
+
+-- what is asked of the border pair with this number
+pub asks_numbered : (s : Shape) (rule : BorderRule) (cell side number colour : ℕ) → IsAsLongAsBorder s rule → IsBorderPair s cell side → IsNextNumber s (cell, side) number → Asks s rule cell side colour ↔ AsksAt rule number colour
+asks_numbered s free cell side number colour long pair next = (λ h. h, λ h. h)
+asks_numbered s (one c) cell side number colour long pair next = (λ h. h, λ h. h)
+asks_numbered s (each rules) cell side number colour long pair next =
+    let P : ℕ × ℕ → Type 0 = λ n. IsBorderPair s n.0 n.1 in
+    let at : slice_get long.0 number ≡ Some (cell, side) = subst (λ k. slice_get long.0 k ≡ Some (cell, side)) next.count (place_in_order P (cell, side) long.0 next.pairs long.1 next.before pair) in (
+      λ asked.
+          let same : asked.0 ≡ long.0 = same_listing ComesBefore comes_before_asymmetric P asked.0 long.0 asked.1 long.1 in
+          let place : asked.2 ≡ number = one_place_in_order P long.0 asked.2 number (cell, side) long.1 (subst (λ ps. slice_get ps asked.2 ≡ Some (cell, side)) same asked.3) at in
+          subst (λ k. slice_get rules k ≡ Some (Some colour)) place asked.4,
+      λ asked. (long.0, long.1, number, at, asked),
+    )
+
+-- a border pair by its rule
+pub border_side : (board : Shape) (turns : Bool) (border : Border) (tiles : List Tile) (cell side number : ℕ) (rule : Option ℕ) → IsAsLongAsBorder board (rule_of border) → IsBorderPair board cell side → IsNextNumber board (cell, side) number →
+    ((colour : ℕ) → (rule ≡ Some colour) ↔ AsksAt (rule_of border) number colour) → IsSide (task_of board turns border tiles) cell side (TableBorder rule)
+border_side board turns border tiles cell side number rule long pair next is = (
+  pair,
+  λ colour.
+      let asks = asks_numbered board (rule_of border) cell side number colour long pair next in
+      (λ e. record { border_pair = pair; asked = asks.1 ((is colour).0 e) }, λ has. (is colour).1 (asks.0 has.asked)),
+)
+
+-- one border pair more
+pub number_after_border : (s : Shape) (cell side number : ℕ) → IsBorderPair s cell side → IsNextNumber s (cell, side) number → IsNextNumber s (cell, side + 1) (number + 1)
+number_after_border s cell side number pair next =
+    let more = border_next s cell side next.pairs pair next.before in
+    record { pairs = more.0; before = more.1; count = omega (arith, more.2, next.count); small = omega (arith, next.small) }
+
+-- no border pair more
+pub number_after_edge : (s : Shape) (cell side number : ℕ) → (IsBorderPair s cell side → ⊥) → IsNextNumber s (cell, side) number → IsNextNumber s (cell, side + 1) number
+number_after_edge s cell side number inner next = record { pairs = next.pairs; before = inner_next s cell side next.pairs inner next.before; count = next.count; small = omega (arith, next.small) }
+
+pub number_after_cell : (s : Shape) (cell number : ℕ) → side_count s ≤ 4 → IsNextNumber s (cell, side_count s) number → IsNextNumber s (cell + 1, 0) number
+number_after_cell s cell number few next = record { pairs = next.pairs; before = border_row s cell next.pairs next.before; count = next.count; small = omega (arith, next.small, few) }
+
+pub number_at_first : (s : Shape) → IsNextNumber s (0, 0) 0
+number_at_first s = record { pairs = []; before = border_none s; count = refl; small = omega arith }
+
+-- what a list has after a push
+pub pushed_is : {X : Type 0} (xs : List X) (x : X) (i : ℕ) (y : X) → slice_get (xs ++ x ∷ []) i ≡ Some y → ((i < length xs) × (slice_get xs i ≡ Some y)) ⊎ ((i ≡ length xs) × (y ≡ x))
+pushed_is [] x zero y e = inr (refl, sym (inside e))
+pushed_is [] x (suc i) y e = absurd (none_some e)
+pushed_is (z ∷ xs) x zero y e = inl (omega arith, e)
+pushed_is (z ∷ xs) x (suc i) y e = ⊎_elim (λ w. inl (omega (arith, w.0), w.1)) (λ w. inr (omega (arith, w.0), w.1)) (pushed_is xs x i y e)
+
+-- what a list has after a write
+pub written_is : {X : Type 0} (xs : List X) (i j : ℕ) (x y : X) → slice_get (set xs i x) j ≡ Some y → ((j ≡ i) × (y ≡ x)) ⊎ ((j ≢ i) × (slice_get xs j ≡ Some y))
+written_is [] i j x y e = absurd (none_some e)
+written_is (z ∷ xs) zero zero x y e = inl (refl, sym (inside e))
+written_is (z ∷ xs) zero (suc j) x y e = inr ((λ w. omega (arith, w)), e)
+written_is (z ∷ xs) (suc i) zero x y e = inr ((λ w. omega (arith, w)), e)
+written_is (z ∷ xs) (suc i) (suc j) x y e = ⊎_elim (λ w. inl (omega (arith, w.0), w.1)) (λ w. inr ((λ v. w.0 (omega (arith, v))), w.1)) (written_is xs i j x y e)
+
+-- the word of a tile that stands there
+word_there : (tiles : List Tile) (k : ℕ) → k < length (map word tiles) → (t : Tile) × (slice_get tiles k ≡ Some t) × (get_or (map word tiles) k [] ≡ word t)
+word_there tiles k lt = tile_of_word tiles k (omega (arith, length-map tiles word, lt))
+
+-- the number that is above all colours and the least such
+pub colour_count_is : (board : Shape) (turns : Bool) (border : Border) (tiles : List Tile) (count : ℕ) →
+    ((place colour : ℕ) → StandsInRule (rule_of border) place colour → colour < count) →
+    ((k colour : ℕ) → k < length tiles → Contains (get_or (map word tiles) k []) colour → colour < count) →
+    ((other : ℕ) → ((colour : ℕ) → HasColour (task_of board turns border tiles) colour → colour < other) → count ≤ other) →
+    IsColourCount (task_of board turns border tiles) count
+colour_count_is board turns border tiles count of_border of_tiles least = record {
+  above = λ colour has. ⊎_elim (λ t. of_tiles t.0 colour (omega (arith, t.1, length-map tiles word)) t.2) (λ b. of_border b.0 colour b.1) has;
+  least = least;
+}
+
+-- What a push adds to the numbers of legal turns.
+pub turn_counts_more : (board : Shape) (turns : Bool) (border : Border) (tiles : List Tile) (table : List ℕ) (n : ℕ) →
+    ((tile count : ℕ) → slice_get table tile ≡ Some count → IsTurnCount (task_of board turns border tiles) tile count) →
+    IsTurnCount (task_of board turns border tiles) (length table) n →
+    (tile count : ℕ) → slice_get (table ++ n ∷ []) tile ≡ Some count → IsTurnCount (task_of board turns border tiles) tile count
+turn_counts_more board turns border tiles table n so_far here tile count get =
+    let Is : ℕ → ℕ → Type 0 = λ t k. IsTurnCount (task_of board turns border tiles) t k in
+    ⊎_elim (λ w. so_far tile count w.1) (λ w. subst (λ t. Is t count) (sym w.0) (subst (λ k. Is (length table) k) (sym w.1) here)) (pushed_is table n tile count get)
+
+-- how many turns of a tile that was read are legal
+pub turn_count_is : (board : Shape) (turns : Bool) (border : Border) (tiles : List Tile) (i : ℕ) (t : Tile) (n : ℕ) → i < length tiles → t ≡ get_or tiles i t → MatchBool turns (IsPeriod (word t) n) (n ≡ 1) → IsTurnCount (task_of board turns border tiles) i n
+turn_count_is board turns border tiles i t n lt at is = subst (λ w. MatchBool turns (IsPeriod w n) (n ≡ 1)) (sym (word_at tiles i t lt at)) is
+
+-- The words of tiles have colours below 36.
+pub words_coloured : (tiles : List Tile) (i : ℕ) → i < length (map word tiles) → All (λ colour. colour < 36) (get_or (map word tiles) i [])
+unfolding word
+words_coloured tiles i lt = let at = word_there tiles i lt in subst (λ w. All (λ colour. colour < 36) w) (sym at.2) at.0.in_range
+
+-- A list of rules is as long as the border exactly where it has as many as were counted.
+pub long_rules : (s : Shape) (rules : List (Option ℕ)) (count : ℕ) → (pairs : List (ℕ × ℕ)) × IsBorderOrder s pairs × (length pairs ≡ count) →
+    (length rules ≡ count → IsAsLongAsBorder s (each rules)) × (IsAsLongAsBorder s (each rules) → length rules ≡ count)
+long_rules s rules count all = (
+  λ e. (all.0, all.1, e ∙ sym all.2),
+  λ h. h.2 ∙ ap length (same_listing ComesBefore comes_before_asymmetric (λ n. IsBorderPair s n.0 n.1) h.0 all.0 h.1 all.1) ∙ all.2,
+)
+
+-- Nothing stands in an empty table.
+pub in_empty_table : {X : Type 0} (i : ℕ) (x : X) → slice_get [] i ≡ Some x → ⊥
+in_empty_table i x e = none_some e

@@ -1,0 +1,11 @@
+use Rattle.std.proofs.Common.{length, arith, ap}
+use Rattle.std.proofs.lemmas.List.{length-map}
+use Rattle.match_board.specs.Tile.{word}
+use Rattle.match_puzzle.specs.Puzzle.{Task}
+use Rattle.match_puzzle.proofs.Words.{legal_by_count}
+use Rattle.match_puzzle.proofs.puzzles.Puzzle.legal.Goals as goal
+
+pub returns-then-placement-len : goal.returns-then-placement-len
+returns-then-placement-len c =
+    legal_by_count c.args.self.now c.args.placement c.turn_count.result
+    (omega (arith, ap (λ (q : Task). length q.words) c.self.view_is, length-map c.self.inside.tiles.items word, c.self.inside.tiles.ok.0, c.if-placement-len.true)) c.turn_count.ensures

@@ -1,0 +1,8 @@
+use Rattle.std.proofs.Common.{◌<◌, ℕ}
+use Rattle.match_puzzle.specs.Puzzle.{IsLegal}
+use Rattle.match_puzzle.specs.Arrangement.{Stands}
+use Rattle.match_puzzle.specs.declared.placements.Placement.{Placement}
+use Rattle.match_puzzle.proofs.puzzles.Puzzle.turn_out_of_range.Given as goal
+
+abbrev pub invariant-loop-cell : goal.invariant-loop-cell
+invariant-loop-cell l = (k : ℕ) → k < l.cell → (x : Placement) → Stands l.placements k x → IsLegal l.self x

@@ -1,0 +1,22 @@
+use Rattle.std.proofs.Common.{◌<◌, ◌+◌, ◌≡◌, ℕ, arith, subst, sym, ⊎_elim}
+use Rattle.match_board.specs.Board.{side_count}
+use Rattle.match_puzzle.specs.Puzzle.{task_of}
+use Rattle.match_puzzle.specs.Tables.{IsSide, IsNextNumber}
+use Rattle.match_puzzle.proofs.TableLemmas.{written_is, number_after_cell}
+use Rattle.match_puzzle.proofs.tables.cell_sides.Goals as goal
+
+pub loop-side-preserved : goal.loop-side-preserved
+loop-side-preserved c = record {
+  sides = λ side x lt get turns tiles.
+      let p = task_of c.args.board turns c.args.border.now tiles in
+      ⊎_elim
+      (λ w. subst (λ k. IsSide p c.args.cell k x) (sym w.0) (subst (λ y. IsSide p c.args.cell c.loop-side.side y) (sym w.1) (c.side_at.ensures.side turns tiles)))
+      (λ w. c.loop-side.invariant.sides side x (omega (arith, w.0)) w.1 turns tiles)
+      (written_is c.loop-side.sides c.loop-side.side side c.side_at.result x get);
+  number = c.side_at.ensures.number;
+}
+
+pub returns-clause-number : goal.returns-clause-number
+returns-clause-number c =
+    let at : c.loop-side.side ≡ side_count c.args.board = omega (arith, c.loop-side-test.false, c.sides-side-end.ensures.count) in
+    number_after_cell c.args.board c.args.cell c.loop-side.number (omega (arith, c.sides-side-end.ensures.count, c.sides-side-end.ensures.few)) (subst (λ k. IsNextNumber c.args.board (c.args.cell, k) c.loop-side.number) at c.loop-side.invariant.number)

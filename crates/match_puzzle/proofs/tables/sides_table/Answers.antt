@@ -1,0 +1,29 @@
+use Rattle.std.proofs.Common.{◌≡◌, ◌<◌, ◌+◌, ◌++◌, ◌∷◌, ◌∙◌, [], ℕ, List, Some, length, length-append, slice_get, arith, ap, sym, subst, ⊎_elim}
+use Rattle.match_puzzle.specs.Puzzle.{task_of}
+use Rattle.match_puzzle.specs.Tables.{IsSide}
+use Rattle.match_puzzle.specs.declared.tables.CellSides.{CellSides}
+use Rattle.match_puzzle.proofs.TableLemmas.{pushed_is, number_at_first, in_empty_table}
+use Rattle.match_puzzle.proofs.tables.sides_table.Goals as goal
+
+pub loop-cell-init : goal.loop-cell-init
+loop-cell-init c = record {
+  long = ap length c.in_ok-table.ensures.items;
+  is = λ cell side sides x get. absurd (in_empty_table cell sides (subst (λ (t : List CellSides). slice_get t cell ≡ Some sides) c.in_ok-table.ensures.items get));
+  number = number_at_first c.args.board;
+}
+
+pub loop-cell-preserved : goal.loop-cell-preserved
+loop-cell-preserved c =
+    let i = c.loop-cell.cell in
+    let table = c.loop-cell.table.items in
+    let grown : c.push.new.self.items ≡ table ++ c.cell_sides-sides.result ∷ [] = c.in_ok-push.ensures.items in
+    record {
+      long = ap length grown ∙ omega (arith, length-append table (c.cell_sides-sides.result ∷ []), c.loop-cell.invariant.long);
+      is = λ cell side sides x get side_in at turns tiles.
+          let p = task_of c.args.board turns c.args.border.now tiles in
+          ⊎_elim
+          (λ w. c.loop-cell.invariant.is cell side sides x w.1 side_in at turns tiles)
+          (λ w. subst (λ k. IsSide p k side x) (sym (w.0 ∙ c.loop-cell.invariant.long)) (c.cell_sides-sides.ensures.sides turns tiles side x side_in (subst (λ (s : CellSides). slice_get s.sides side ≡ Some x) w.1 at)))
+          (pushed_is table c.cell_sides-sides.result cell sides (subst (λ (t : List CellSides). slice_get t cell ≡ Some sides) grown get));
+      number = c.cell_sides-sides.ensures.number;
+    }

@@ -1,0 +1,12 @@
+use Rattle.std.proofs.Common.{◌≡◌, ℕ, Some, length, slice_get}
+use Rattle.match_board.specs.Board.{Shape}
+use Rattle.match_puzzle.specs.declared.borders.Border.{Border}
+use Rattle.match_puzzle.specs.Puzzle.{task_of}
+use Rattle.match_puzzle.specs.Tables.{IsTurnCount}
+use Rattle.match_puzzle.proofs.tables.turn_counts.Given as goal
+
+abbrev pub invariant-loop-tile : goal.invariant-loop-tile
+invariant-loop-tile l = record {
+  long : length l.table.items ≡ l.tile-index;
+  is : (tile count : ℕ) → slice_get l.table.items tile ≡ Some count → (board : Shape) (border : Border) → IsTurnCount (task_of board l.turns border l.tiles) tile count;
+}

@@ -1,0 +1,47 @@
+-- Arrangements of a puzzle: a placement for each cell.
+use Rattle.std.specs.Prelude.{◌≡◌, ◌<◌, ℕ, List, Some, length, slice_get}
+use Rattle.match_board.specs.Board.{cell_count, Meets}
+use Rattle.match_puzzle.specs.Puzzle.{Task, colour_of, IsLegal, HasRule}
+use Rattle.match_puzzle.specs.declared.placements.Placement.{Placement}
+
+-- The placement stands at the cell.
+abbrev pub Stands : List Placement → ℕ → Placement → Type 0
+Stands a cell x = slice_get a cell ≡ Some x
+
+-- Each placement names a tile of the puzzle.
+abbrev pub HaveTiles : Task → List Placement → Type 0
+HaveTiles p a = (cell : ℕ) (x : Placement) → Stands a cell x → x.tile < length p.words
+
+-- Each placement is legal.
+abbrev pub AreLegal : Task → List Placement → Type 0
+AreLegal p a = (cell : ℕ) (x : Placement) → Stands a cell x → IsLegal p x
+
+-- No tile stands at two cells.
+abbrev pub StandOnce : List Placement → Type 0
+StandOnce a = (cell cell' : ℕ) (x y : Placement) → Stands a cell x → Stands a cell' y → x.tile ≡ y.tile → cell ≡ cell'
+
+-- Each tile of the puzzle stands at a cell.
+abbrev pub AreAllPlaced : Task → List Placement → Type 0
+AreAllPlaced p a = (tile : ℕ) → tile < length p.words → (cell : ℕ) × (x : Placement) × Stands a cell x × (x.tile ≡ tile)
+
+-- Each border pair with a rule shows that colour.
+abbrev pub ObeyBorder : Task → List Placement → Type 0
+ObeyBorder p a = (cell side colour : ℕ) (x : Placement) → Stands a cell x → HasRule p cell side colour → colour_of p x side ≡ colour
+
+-- The side shows the colour of the side that it meets, if it meets one.
+abbrev pub MatchesEdgeAt : Task → List Placement → (cell side : ℕ) → Type 0
+MatchesEdgeAt p a cell side =
+    (cell' side' : ℕ) (x y : Placement) → Meets p.board cell side cell' side' → Stands a cell x → Stands a cell' y → colour_of p x side ≡ colour_of p y side'
+
+-- Sides that meet show the same colour.
+abbrev pub MatchEdges : Task → List Placement → Type 0
+MatchEdges p a = (cell side : ℕ) → MatchesEdgeAt p a cell side
+
+-- A legal placement for each cell, each tile at just one cell, the border as asked, and sides that meet alike (MacMahon 1921).
+pub record IsArrangement (p : Task) (a : List Placement) : Type 0 where
+  pub cells : length a ≡ cell_count p.board
+  pub legal : AreLegal p a
+  pub once : StandOnce a
+  pub placed : AreAllPlaced p a
+  pub border : ObeyBorder p a
+  pub edges : MatchEdges p a

@@ -1,0 +1,54 @@
+-- What may be wrong with an arrangement.
+use Rattle.std.specs.Prelude.{◌≡◌, ◌≢◌, ◌<◌, ◌≤◌, ℕ, List, length}
+use Rattle.match_board.specs.Board.{cell_count, Meets}
+use Rattle.match_board.specs.First.{Rank, IsFirst}
+use Rattle.match_puzzle.specs.Puzzle.{Task, colour_of, IsLegalTurn, HasRule}
+use Rattle.match_puzzle.specs.Arrangement.{Stands}
+use Rattle.match_puzzle.specs.declared.placements.Placement.{Placement}
+use Rattle.match_puzzle.specs.declared.faults.ArrangementFault.{ArrangementFault}
+use Rattle.match_puzzle.specs.declared.faults.ArrangementFault.TheVariants.{Length, TileRange, Turn, TileTwice, BorderBroken, EdgeBroken}
+
+module _ (p : Task) (a : List Placement) where
+  -- The placement at the cell names no tile of the puzzle.
+  abbrev pub HasNoTileAt : ℕ → Type 0
+  HasNoTileAt cell = (x : Placement) × Stands a cell x × (length p.words ≤ x.tile)
+
+  -- The tile at the cell may not be turned so.
+  abbrev pub HasNoTurnAt : ℕ → Type 0
+  HasNoTurnAt cell = (x : Placement) × Stands a cell x × (IsLegalTurn p x → ⊥)
+
+  -- The tile at the cell stands at an earlier cell too.
+  abbrev pub RepeatsTileAt : ℕ → Type 0
+  RepeatsTileAt cell = (x : Placement) × (cell' : ℕ) × (y : Placement) × Stands a cell x × (cell' < cell) × Stands a cell' y × (x.tile ≡ y.tile)
+
+  -- The side does not show what the border asks.
+  abbrev pub BreaksBorderAt : (cell side : ℕ) → Type 0
+  BreaksBorderAt cell side = (x : Placement) × (colour : ℕ) × Stands a cell x × HasRule p cell side colour × (colour_of p x side ≢ colour)
+
+  -- The side and the one that it meets show different colours.
+  abbrev pub BreaksEdgeAt : (cell side : ℕ) → Type 0
+  BreaksEdgeAt cell side =
+      (x : Placement) × (cell' : ℕ) × (side' : ℕ) × (y : Placement) × Stands a cell x × Meets p.board cell side cell' side' × Stands a cell' y
+      × (colour_of p x side ≢ colour_of p y side')
+
+  -- When a fault occurs.
+  abbrev pub ArrangementFails : ArrangementFault → Type 0
+  ArrangementFails Length = length a ≢ cell_count p.board
+  ArrangementFails (TileRange cell) = HasNoTileAt cell
+  ArrangementFails (Turn cell) = HasNoTurnAt cell
+  ArrangementFails (TileTwice cell) = RepeatsTileAt cell
+  ArrangementFails (BorderBroken cell side) = BreaksBorderAt cell side
+  ArrangementFails (EdgeBroken cell side) = BreaksEdgeAt cell side
+
+-- the order of the faults
+abbrev pub arrangement_rank : ArrangementFault → Rank
+arrangement_rank Length = record { first = 1; second = 0; third = 0 }
+arrangement_rank (TileRange cell) = record { first = 2; second = cell; third = 0 }
+arrangement_rank (Turn cell) = record { first = 3; second = cell; third = 0 }
+arrangement_rank (TileTwice cell) = record { first = 4; second = cell; third = 0 }
+arrangement_rank (BorderBroken cell side) = record { first = 5; second = cell; third = side }
+arrangement_rank (EdgeBroken cell side) = record { first = 6; second = cell; third = side }
+
+-- the first kind that occurs, at its least place
+abbrev pub IsArrangementFault : Task → List Placement → ArrangementFault → Type 0
+IsArrangementFault p a = IsFirst arrangement_rank (ArrangementFails p a)

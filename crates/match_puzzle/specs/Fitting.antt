@@ -1,0 +1,71 @@
+-- What fits a prefix.
+use Rattle.std.specs.Prelude.{◌≡◌, ◌⊎◌, ◌<◌, ◌+◌, ℕ, List, Option, Some, None, length}
+use Rattle.match_board.specs.Board.{cell_count, Meets}
+use Rattle.match_board.specs.Listing.{IsListing, ByKey}
+use Rattle.match_puzzle.specs.Puzzle.{Task, colour_of, IsLegal, HasRule}
+use Rattle.match_puzzle.specs.Prefix.{Prefix, Has, IsFree, IsUnused}
+use Rattle.match_puzzle.specs.declared.placements.Placement.{Placement}
+use Rattle.match_puzzle.specs.declared.placements.Pair.{Pair}
+use Rattle.match_puzzle.specs.declared.items.Item.{Item}
+use Rattle.match_puzzle.specs.declared.items.Item.TheVariants.{Cell, Tile}
+
+-- The placement may be put at the cell: cell and tile are free, it is legal, and it shows what the border asks and what its neighbours show.
+pub record Fits (p : Task) (q : Prefix) (cell : ℕ) (x : Placement) : Type 0 where
+  pub free : IsFree q cell
+  pub unused : IsUnused q x.tile
+  pub legal : IsLegal p x
+  pub border : (side colour : ℕ) → HasRule p cell side colour → colour_of p x side ≡ colour
+  pub edges : (side cell' side' : ℕ) (y : Placement) → Meets p.board cell side cell' side' → Has q cell' y → colour_of p x side ≡ colour_of p y side'
+
+-- by tile, then by turn
+abbrev pub tile_turn : Placement → ℕ × ℕ
+tile_turn x = (x.tile, x.turn)
+
+-- by cell, then by turn
+abbrev pub cell_turn : Pair → ℕ × ℕ
+cell_turn x = (x.cell, x.placement.turn)
+
+-- The pair is of this cell, or of this tile.
+abbrev pub Settles : Item → Pair → Type 0
+Settles (Cell cell) x = x.cell ≡ cell
+Settles (Tile tile) x = x.placement.tile ≡ tile
+
+-- The pair fits and settles the item.
+abbrev pub FitsItem : Task → Prefix → Item → Pair → Type 0
+FitsItem p q item x = Settles item x × Fits p q x.cell x.placement
+
+-- the order of the pairs that settle an item
+abbrev pub item_key : Item → Pair → ℕ × ℕ
+item_key (Cell cell) x = tile_turn x.placement
+item_key (Tile tile) x = cell_turn x
+
+-- all pairs that fit and settle the item, in order
+abbrev pub AreFitting : Task → Prefix → Item → List Pair → Type 0
+AreFitting p q item xs = IsListing (ByKey (item_key item)) (FitsItem p q item) xs
+
+-- The item is one of the puzzle, and not settled.
+abbrev pub IsOpen : Task → Prefix → Item → Type 0
+IsOpen p q (Cell cell) = IsFree q cell
+IsOpen p q (Tile tile) = (tile < length p.words) × IsUnused q tile
+
+-- A placement at the cell has to show the colour on the side: the border asks for it, or a neighbour shows it.
+abbrev pub IsAsked : Task → Prefix → (cell side colour : ℕ) → Type 0
+IsAsked p q cell side colour =
+    HasRule p cell side colour
+    ⊎ ((cell' : ℕ) × (side' : ℕ) × (y : Placement) × Meets p.board cell side cell' side' × Has q cell' y × (colour_of p y side' ≡ colour))
+
+-- The item is one of the puzzle.
+abbrev pub IsItem : Task → Item → Type 0
+IsItem p (Cell cell) = cell < cell_count p.board
+IsItem p (Tile tile) = tile < length p.words
+
+-- the least key of pairs that come after this one, or of all
+abbrev pub key_after : Item → Option Pair → ℕ × ℕ
+key_after item None = (0, 0)
+key_after item (Some x) = ((item_key item x).0, (item_key item x).1 + 1)
+
+-- cells and tiles are below 100, and turns below 4
+pub record IsSmall (x : Pair) : Type 0 where
+  pub cell : x.cell < 100
+  pub tile : x.placement.tile < 100
+  pub turn : x.placement.turn < 4

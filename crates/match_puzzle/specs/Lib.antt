@@ -1,0 +1,11 @@
+pub mod Puzzle
+pub mod Colours
+pub mod PuzzleFaults
+pub mod Arrangement
+pub mod ArrangementFaults
+pub mod Prefix
+pub mod PrefixFaults
+pub mod Fitting
+pub mod Demands
+pub mod Tables
+pub mod Partials

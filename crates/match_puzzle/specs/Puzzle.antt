@@ -1,0 +1,102 @@
+-- What a puzzle asks.
+use Rattle.std.specs.Prelude.{◌≡◌, ◌<◌, ◌^◌, ℕ, Bool, true, List, [], Option, Some, MatchBool, All, map, length, slice_get, slice_index_or}
+use Rattle.match_board.specs.Board.{Shape, cell_count, side_count, IsBoard, IsBorderPair, IsBorderOrder}
+use Rattle.match_board.specs.Turns.{shown, IsPeriod}
+use Rattle.match_board.specs.Tile.{word}
+use Rattle.match_board.specs.declared.tiles.Tile.{Tile}
+use Rattle.match_puzzle.specs.declared.borders.Border.{Border}
+use Rattle.match_puzzle.specs.declared.borders.Border.TheVariants.{Free, One, Each}
+use Rattle.match_puzzle.specs.declared.placements.Placement.{Placement}
+
+-- what is asked of the border pairs
+pub data BorderRule : Type 0 where
+  -- nothing
+  free : BorderRule
+  -- this colour on each
+  one : (colour : ℕ) → BorderRule
+  -- a colour, or nothing, for each, in border order
+  each : (rules : List (Option ℕ)) → BorderRule
+
+abbrev pub rule_of : Border → BorderRule
+rule_of Free = free
+rule_of (One colour) = one colour
+rule_of (Each rules) = each rules
+
+-- a puzzle: its board, whether tiles may be turned, what the border asks, and the tiles' words
+pub record Task : Type 0 where
+  pub board : Shape
+  pub turns : Bool
+  pub border : BorderRule
+  pub words : List (List ℕ)
+
+-- the word of a tile
+abbrev pub word_of : Task → ℕ → List ℕ
+word_of p tile = slice_index_or p.words tile []
+
+-- the colour that a placed tile shows on a side
+unfoldable pub colour_of : Task → Placement → ℕ → ℕ
+colour_of p x side = shown (word_of p x.tile) x.turn side
+
+-- The turn is below the word's period.
+unfoldable pub IsBelowPeriod : List ℕ → ℕ → Type 0
+IsBelowPeriod word turn = (period : ℕ) × IsPeriod word period × (turn < period)
+
+-- a turn that the puzzle allows
+abbrev pub IsLegalTurn : Task → Placement → Type 0
+IsLegalTurn p x = MatchBool p.turns (IsBelowPeriod (word_of p x.tile) x.turn) (x.turn ≡ 0)
+
+-- a tile of the puzzle, turned as the puzzle allows
+pub record IsLegal (p : Task) (x : Placement) : Type 0 where
+  pub tile : x.tile < length p.words
+  pub turn : IsLegalTurn p x
+
+-- what a border rule asks of a border pair
+abbrev pub Asks : Shape → BorderRule → (cell side colour : ℕ) → Type 0
+Asks s free cell side colour = ⊥
+Asks s (one c) cell side colour = colour ≡ c
+Asks s (each rules) cell side colour =
+    (pairs : List (ℕ × ℕ)) × IsBorderOrder s pairs × (number : ℕ)
+    × (slice_get pairs number ≡ Some (cell, side)) × (slice_get rules number ≡ Some (Some colour))
+
+-- the colour that the border asks of a side
+pub record HasRule (p : Task) (cell side colour : ℕ) : Type 0 where
+  pub border_pair : IsBorderPair p.board cell side
+  pub asked : Asks p.board p.border cell side colour
+
+-- The colour stands in the border rule at this place.
+abbrev pub StandsInRule : BorderRule → (place colour : ℕ) → Type 0
+StandsInRule free place colour = ⊥
+StandsInRule (one c) place colour = (place ≡ 0) × (colour ≡ c)
+StandsInRule (each rules) place colour = slice_get rules place ≡ Some (Some colour)
+
+-- A list of rules has one for each border pair.
+abbrev pub IsAsLongAsBorder : Shape → BorderRule → Type 0
+IsAsLongAsBorder s free = Unit {0}
+IsAsLongAsBorder s (one c) = Unit {0}
+IsAsLongAsBorder s (each rules) = (pairs : List (ℕ × ℕ)) × IsBorderOrder s pairs × (length rules ≡ length pairs)
+
+-- as many tiles as cells, with as many sides; triangles may be turned; 36 colours; a rule for each border pair
+pub record IsPuzzle (p : Task) : Type 0 where
+  pub board : IsBoard p.board
+  pub triangles : side_count p.board ≡ 3 → p.turns ≡ true
+  pub tiles : length p.words ≡ cell_count p.board
+  pub sides : (tile : ℕ) → tile < length p.words → length (word_of p tile) ≡ side_count p.board
+  pub tile_colours : (tile : ℕ) → tile < length p.words → All (λ colour. colour < 36) (word_of p tile)
+  pub border_colours : (place colour : ℕ) → StandsInRule p.border place colour → colour < 36
+  pub border : IsAsLongAsBorder p.board p.border
+
+-- the puzzle of a board and tiles
+abbrev pub task_of : Shape → Bool → Border → List Tile → Task
+task_of board turns border tiles = record { board = board; turns = turns; border = rule_of border; words = map word tiles }
+
+-- The rule asks for the colour on the border pair with this number, in border order.
+abbrev pub AsksAt : BorderRule → (number colour : ℕ) → Type 0
+AsksAt free number colour = ⊥
+AsksAt (one c) number colour = colour ≡ c
+AsksAt (each rules) number colour = slice_get rules number ≡ Some (Some colour)
+
+-- A list of rules has fewer than 2^32 entries.
+abbrev pub IsShortRule : BorderRule → Type 0
+IsShortRule free = Unit {0}
+IsShortRule (one c) = Unit {0}
+IsShortRule (each rules) = length rules < 2 ^ 32

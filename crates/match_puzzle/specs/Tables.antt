@@ -1,0 +1,42 @@
+-- What a puzzle keeps looked up.
+use Rattle.std.specs.Prelude.{◌≡◌, ◌<◌, ◌≤◌, ◌+◌, ◌*◌, ◌↔◌, ℕ, List, Some, MatchBool, length, slice_get}
+use Rattle.match_board.specs.Board.{Shape, cell_count, side_count, Meets, IsBorderPair, IsBorderBefore}
+use Rattle.match_board.specs.Turns.{IsPeriod}
+use Rattle.match_puzzle.specs.Puzzle.{Task, IsPuzzle, word_of, HasRule}
+use Rattle.match_puzzle.specs.Colours.{IsColourCount}
+use Rattle.match_puzzle.specs.declared.tables.Side.{Side}
+use Rattle.match_puzzle.specs.declared.tables.Side.TheVariants.{Border, Edge}
+use Rattle.match_puzzle.specs.declared.tables.CellSides.{CellSides}
+
+-- What the table says of a side is so.
+abbrev pub IsSide : Task → (cell side : ℕ) → Side → Type 0
+IsSide p cell side (Border rule) = IsBorderPair p.board cell side × ((colour : ℕ) → (rule ≡ Some colour) ↔ HasRule p cell side colour)
+IsSide p cell side (Edge cell' side') = Meets p.board cell side cell' side' × ((c k : ℕ) → Meets p.board cell side c k → (c ≡ cell') × (k ≡ side'))
+
+-- The table has all sides of each cell.
+pub record AreSides (p : Task) (table : List CellSides) : Type 0 where
+  pub long : length table ≡ cell_count p.board
+  pub is : (cell side : ℕ) (sides : CellSides) (x : Side) → slice_get table cell ≡ Some sides → side < side_count p.board → slice_get sides.sides side ≡ Some x → IsSide p cell side x
+
+-- how many turns of a tile are legal
+abbrev pub IsTurnCount : Task → (tile count : ℕ) → Type 0
+IsTurnCount p tile count = MatchBool p.turns (IsPeriod (word_of p tile) count) (count ≡ 1)
+
+-- The table has that number for each tile.
+pub record AreTurnCounts (p : Task) (table : List ℕ) : Type 0 where
+  pub long : length table ≡ length p.words
+  pub is : (tile count : ℕ) → slice_get table tile ≡ Some count → IsTurnCount p tile count
+
+-- what holds of each puzzle
+pub record IsMade (p : Task) (sides_table : List CellSides) (turns_table : List ℕ) (count : ℕ) : Type 0 where
+  pub puzzle : IsPuzzle p
+  pub sides : AreSides p sides_table
+  pub turn_counts : AreTurnCounts p turns_table
+  pub colours : IsColourCount p count
+
+-- So many border pairs come before this pair.
+pub record IsNextNumber (s : Shape) (n : ℕ × ℕ) (number : ℕ) : Type 0 where
+  pub pairs : List (ℕ × ℕ)
+  pub before : IsBorderBefore s n pairs
+  pub count : length pairs ≡ number
+  pub small : number ≤ 4 * n.0 + n.1

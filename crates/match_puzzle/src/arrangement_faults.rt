@@ -1,0 +1,185 @@
+// What is wrong with a list of placements that is no arrangement.
+
+ghost use Rattle.std.specs.Prelude.{◌≡◌, ◌≢◌, ◌<◌, ◌≤◌, ℕ, MatchOption, MatchBool, length};
+ghost use Rattle.match_board.specs.Board.{cell_count, side_count};
+ghost use Rattle.match_board.specs.First.{IsLeast, IsLeastPair};
+ghost use Rattle.match_puzzle.specs.Puzzle.{HasRule, colour_of};
+ghost use Rattle.match_puzzle.specs.Arrangement.{IsArrangement, MatchesEdgeAt, HaveTiles, AreLegal, StandOnce, ObeyBorder, MatchEdges};
+ghost use Rattle.match_puzzle.specs.ArrangementFaults.{IsArrangementFault, HasNoTileAt, HasNoTurnAt, RepeatsTileAt, BreaksBorderAt, BreaksEdgeAt};
+
+use crate::faults::ArrangementFault;
+use crate::placements::Placement;
+use crate::puzzles::Puzzle;
+use crate::tables::Side;
+use match_board::MOST_CELLS;
+
+impl Puzzle {
+    /// The first fault of a list of placements, one for each cell in order, or none where it is an arrangement.
+    ///
+    /// It goes over the cells once for each kind of fault, and takes no memory.
+    pub fn arrangement_fault(&self, placements: &[Placement]) -> Option<ArrangementFault>
+        ensures { MatchOption result (IsArrangement self.now placements.now) (IsArrangementFault self.now placements.now) }
+    {
+        if placements.len() != self.board().cells() as usize {
+            return Some(ArrangementFault::Length);
+        }
+        if let Some(cell) = self.tile_out_of_range(placements) {
+            return Some(ArrangementFault::TileRange(cell));
+        }
+        if let Some(cell) = self.turn_out_of_range(placements) {
+            return Some(ArrangementFault::Turn(cell));
+        }
+        if let Some(cell) = self.repeated_tile(placements) {
+            return Some(ArrangementFault::TileTwice(cell));
+        }
+        if let Some((cell, side)) = self.broken_border(placements) {
+            return Some(ArrangementFault::BorderBroken(cell, side));
+        }
+        if let Some((cell, side)) = self.broken_edge(placements) {
+            return Some(ArrangementFault::EdgeBroken(cell, side));
+        }
+        None
+    }
+
+    // The first cell whose placement names no tile of the puzzle.
+    fn tile_out_of_range(&self, placements: &[Placement]) -> Option<u32>
+        requires { length placements.now ≡ cell_count self.now.board }
+        ensures { MatchOption result (HaveTiles self.now placements.now) (IsLeast (HasNoTileAt self.now placements.now)) }
+    {
+        let cells = self.board().cells();
+        for cell in 0..cells {
+            if placements[cell as usize].tile >= cells {
+                return Some(u32::from(cell));
+            }
+        }
+        None
+    }
+
+    // The first cell whose tile may not be turned so.
+    fn turn_out_of_range(&self, placements: &[Placement]) -> Option<u32>
+        requires long { length placements.now ≡ cell_count self.now.board }
+        requires tiles { HaveTiles self.now placements.now }
+        ensures { MatchOption result (AreLegal self.now placements.now) (IsLeast (HasNoTurnAt self.now placements.now)) }
+    {
+        for cell in 0..self.board().cells() {
+            if !self.legal(placements[cell as usize]) {
+                return Some(u32::from(cell));
+            }
+        }
+        None
+    }
+
+    // The first cell whose tile stands at an earlier cell too.
+    fn repeated_tile(&self, placements: &[Placement]) -> Option<u32>
+        requires long { length placements.now ≡ cell_count self.now.board }
+        requires tiles { HaveTiles self.now placements.now }
+        ensures { MatchOption result (StandOnce placements.now) (IsLeast (RepeatsTileAt self.now placements.now)) }
+    {
+        let mut seen = [false; MOST_CELLS as usize];
+        for cell in 0..self.board().cells() {
+            let tile = placements[cell as usize].tile as usize;
+            if seen[tile] {
+                return Some(u32::from(cell));
+            }
+            seen[tile] = true;
+        }
+        None
+    }
+
+    // The first side that does not show what the border asks, with its cell.
+    fn broken_border(&self, placements: &[Placement]) -> Option<(u32, u32)>
+        requires long { length placements.now ≡ cell_count self.now.board }
+        requires legal { AreLegal self.now placements.now }
+        ensures { MatchOption result (ObeyBorder self.now placements.now) (IsLeastPair (BreaksBorderAt self.now placements.now)) }
+    {
+        for cell in 0..self.board().cells() {
+            if let Some(side) = self.broken_border_at(cell, placements[cell as usize]) {
+                return Some((u32::from(cell), side));
+            }
+        }
+        None
+    }
+
+    // The first side of the placement at the cell that does not show what the border asks.
+    fn broken_border_at(&self, cell: u16, placement: Placement) -> Option<u32>
+        requires cell { cell < cell_count self.now.board }
+        requires tile { placement.tile < length self.now.words }
+        ensures { MatchOption result
+            ((side colour : ℕ) → HasRule self.now cell side colour → colour_of self.now placement side ≡ colour)
+            (IsLeast (λ side. (colour : ℕ) × HasRule self.now cell side colour × (colour_of self.now placement side ≢ colour))) }
+    {
+        for side in 0..self.board().sides() {
+            if !self.obeys_rule(cell, side, placement) {
+                return Some(u32::from(side));
+            }
+        }
+        None
+    }
+
+    // Whether the side of the placement at the cell shows what the border asks.
+    fn obeys_rule(&self, cell: u16, side: u8, placement: Placement) -> bool
+        requires cell { cell < cell_count self.now.board }
+        requires side { side < side_count self.now.board }
+        requires tile { placement.tile < length self.now.words }
+        ensures { MatchBool result
+            ((colour : ℕ) → HasRule self.now cell side colour → colour_of self.now placement side ≡ colour)
+            ((colour : ℕ) × HasRule self.now cell side colour × (colour_of self.now placement side ≢ colour)) }
+    {
+        match self.rule(cell, side) {
+            None => true,
+            Some(colour) => self.colour(placement, side) == colour,
+        }
+    }
+
+    // The first side that shows another colour than the one that it meets, with its cell.
+    fn broken_edge(&self, placements: &[Placement]) -> Option<(u32, u32)>
+        requires long { length placements.now ≡ cell_count self.now.board }
+        requires legal { AreLegal self.now placements.now }
+        ensures { MatchOption result (MatchEdges self.now placements.now) (IsLeastPair (BreaksEdgeAt self.now placements.now)) }
+    {
+        for cell in 0..self.board().cells() {
+            if let Some(side) = self.broken_edge_at(cell, placements) {
+                return Some((u32::from(cell), side));
+            }
+        }
+        None
+    }
+
+    // The first side of the cell that shows another colour than the one that it meets.
+    fn broken_edge_at(&self, cell: u16, placements: &[Placement]) -> Option<u32>
+        requires cell { cell < cell_count self.now.board }
+        requires long { length placements.now ≡ cell_count self.now.board }
+        requires legal { AreLegal self.now placements.now }
+        ensures { MatchOption result
+            ((side : ℕ) → MatchesEdgeAt self.now placements.now cell side)
+            (IsLeast (BreaksEdgeAt self.now placements.now cell)) }
+    {
+        for side in 0..self.board().sides() {
+            if !self.matches_edge(cell, side, placements) {
+                return Some(u32::from(side));
+            }
+        }
+        None
+    }
+
+    // Whether the side of the cell shows the colour of the side that it meets.
+    fn matches_edge(&self, cell: u16, side: u8, placements: &[Placement]) -> bool
+        requires cell { cell < cell_count self.now.board }
+        requires side { side < side_count self.now.board }
+        requires long { length placements.now ≡ cell_count self.now.board }
+        requires legal { AreLegal self.now placements.now }
+        ensures { MatchBool result (MatchesEdgeAt self.now placements.now cell side) (BreaksEdgeAt self.now placements.now cell side) }
+    {
+        match self.side(cell, side) {
+            Side::Border(_) => true,
+            Side::Edge {
+                cell: other,
+                side: other_side,
+            } => {
+                let here = placements[cell as usize];
+                let there = placements[other as usize];
+                self.colour(here, side) == self.colour(there, other_side)
+            }
+        }
+    }
+}

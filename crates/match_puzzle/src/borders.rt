@@ -1,0 +1,193 @@
+// What a puzzle asks of its border.
+
+ghost use Rattle.std.specs.Prelude.{◌≡◌, ◌<◌, ◌≤◌, ◌↔◌, ◌^◌, ℕ, IfOk, MatchOption, MatchBool, Some, length, slice_get};
+ghost use Rattle.match_board.specs.First.{IsLeast};
+
+use match_board::{Board, COLOURS};
+use std::alloc::{AllocError, Global};
+use std::marker::Model;
+
+/// A colour, or nothing, for each border pair, in border order: by cell, then by side.
+/// Nothing is promised of them.
+#[derive(Debug, Drop)]
+pub struct BorderRules {
+    rules: Vec<Option<u8>>,
+}
+
+impl Model for BorderRules {
+    ghost use Rattle.std.specs.Prelude.{ℕ, List, Option};
+
+    ghost Value = { List (Option ℕ) };
+
+    ghost view = { λ r. r.rules.items };
+}
+
+impl BorderRules {
+    /// These rules.
+    pub fn new(rules: Vec<Option<u8>>) -> BorderRules
+        ensures { result ≡ rules.items }
+    {
+        BorderRules { rules }
+    }
+
+    /// The rules.
+    pub fn as_slice(&self) -> &[Option<u8>]
+        ensures { result.now ≡ self.now }
+    {
+        self.rules.as_slice()
+    }
+
+    // The rule at this place, if there is one.
+    fn at(&self, place: u16) -> Option<u8>
+        ensures { (colour : ℕ) → (result ≡ Some colour) ↔ (slice_get self.now place ≡ Some (Some colour)) }
+    {
+        match self.rules.get(place as usize) {
+            None => None,
+            Some(rule) => *rule,
+        }
+    }
+
+    // The first place that asks for no colour that there is.
+    fn bad_colour(&self) -> Option<u32>
+        requires { length self.now < 2 ^ 32 }
+        ensures { MatchOption result
+            ((place colour : ℕ) → slice_get self.now place ≡ Some (Some colour) → colour < 36)
+            (IsLeast (λ place. (colour : ℕ) × (slice_get self.now place ≡ Some (Some colour)) × (36 ≤ colour))) }
+    {
+        first_bad_colour(&self.rules)
+    }
+
+    // One more than the greatest colour.
+    fn colour_count(&self) -> u8
+        requires { (place colour : ℕ) → slice_get self.now place ≡ Some (Some colour) → colour < 36 }
+        ensures above { (place colour : ℕ) → slice_get self.now place ≡ Some (Some colour) → colour < result }
+        ensures least { (other : ℕ) → ((place colour : ℕ) → slice_get self.now place ≡ Some (Some colour) → colour < other) → result ≤ other }
+    {
+        colour_count_of(&self.rules)
+    }
+
+    // Equal rules.
+    fn copy(&self, alloc: Global) -> Result<BorderRules, AllocError>
+        ensures { IfOk result (λ rules. rules ≡ self.now) }
+    {
+        let rules = self.rules.to_vec(alloc)?;
+        Ok(BorderRules::new(rules))
+    }
+}
+
+// The first place that asks for no colour that there is.
+fn first_bad_colour(rules: &[Option<u8>]) -> Option<u32>
+    requires { length rules.now < 2 ^ 32 }
+    ensures { MatchOption result
+        ((place colour : ℕ) → slice_get rules.now place ≡ Some (Some colour) → colour < 36)
+        (IsLeast (λ place. (colour : ℕ) × (slice_get rules.now place ≡ Some (Some colour)) × (36 ≤ colour))) }
+{
+    for (place, rule) in rules.iter().enumerate() {
+        if let Some(colour) = *rule
+            && colour >= COLOURS
+        {
+            return Some(place as u32);
+        }
+    }
+    None
+}
+
+// One more than the greatest colour of the rules.
+fn colour_count_of(rules: &[Option<u8>]) -> u8
+    requires { (place colour : ℕ) → slice_get rules.now place ≡ Some (Some colour) → colour < 36 }
+    ensures above { (place colour : ℕ) → slice_get rules.now place ≡ Some (Some colour) → colour < result }
+    ensures least { (other : ℕ) → ((place colour : ℕ) → slice_get rules.now place ≡ Some (Some colour) → colour < other) → result ≤ other }
+{
+    let mut count = 0;
+    for rule in rules {
+        count = count_with(count, *rule);
+    }
+    count
+}
+
+// One more than the greatest colour, with one rule more.
+fn count_with(count: u8, rule: Option<u8>) -> u8
+    requires { (colour : ℕ) → rule ≡ Some colour → colour < 36 }
+    ensures more { count ≤ result }
+    ensures above { (colour : ℕ) → rule ≡ Some colour → colour < result }
+    ensures least { (other : ℕ) → count ≤ other → ((colour : ℕ) → rule ≡ Some colour → colour < other) → result ≤ other }
+{
+    match rule {
+        Some(colour) if colour >= count => colour + 1,
+        _ => count,
+    }
+}
+
+/// What a puzzle asks of the sides that meet nothing.
+#[derive(Debug, Drop)]
+pub enum Border {
+    /// Nothing.
+    Free,
+    /// This colour on each.
+    One(u8),
+    /// A colour, or nothing, for each.
+    Each(BorderRules),
+}
+
+impl Border {
+    ghost use Rattle.match_puzzle.specs.Puzzle.{rule_of, AsksAt, StandsInRule, IsAsLongAsBorder, IsShortRule};
+
+    // An equal border.
+    pub(crate) fn copy(&self, alloc: Global) -> Result<Border, AllocError>
+        ensures { IfOk result (λ border. border ≡ self.now) }
+    {
+        match self {
+            Border::Free => Ok(Border::Free),
+            Border::One(colour) => Ok(Border::One(*colour)),
+            Border::Each(rules) => Ok(Border::Each(rules.copy(alloc)?)),
+        }
+    }
+
+    // What is asked of the border pair with this number, in border order.
+    pub(crate) fn rule_at(&self, number: u16) -> Option<u8>
+        ensures { (colour : ℕ) → (result ≡ Some colour) ↔ AsksAt (rule_of self.now) number colour }
+    {
+        match self {
+            Border::Free => None,
+            Border::One(colour) => Some(*colour),
+            Border::Each(rules) => rules.at(number),
+        }
+    }
+
+    // The first place that asks for no colour that there is.
+    pub(crate) fn bad_colour(&self) -> Option<u32>
+        requires { IsShortRule (rule_of self.now) }
+        ensures { MatchOption result
+            ((place colour : ℕ) → StandsInRule (rule_of self.now) place colour → colour < 36)
+            (IsLeast (λ place. (colour : ℕ) × StandsInRule (rule_of self.now) place colour × (36 ≤ colour))) }
+    {
+        match self {
+            Border::Free => None,
+            Border::One(colour) => { if *colour < COLOURS { None } else { Some(0) } }
+            Border::Each(rules) => rules.bad_colour(),
+        }
+    }
+
+    // One more than the greatest colour that is asked for.
+    pub(crate) fn colour_count(&self) -> u8
+        requires { (place colour : ℕ) → StandsInRule (rule_of self.now) place colour → colour < 36 }
+        ensures above { (place colour : ℕ) → StandsInRule (rule_of self.now) place colour → colour < result }
+        ensures least { (other : ℕ) → ((place colour : ℕ) → StandsInRule (rule_of self.now) place colour → colour < other) → result ≤ other }
+    {
+        match self {
+            Border::Free => 0,
+            Border::One(colour) => *colour + 1,
+            Border::Each(rules) => rules.colour_count(),
+        }
+    }
+
+    // Whether a list of rules has one for each border pair.
+    pub(crate) fn is_as_long_as(&self, board: Board) -> bool
+        ensures { MatchBool result (IsAsLongAsBorder board (rule_of self.now)) (IsAsLongAsBorder board (rule_of self.now) → ⊥) }
+    {
+        match self {
+            Border::Free | Border::One(_) => true,
+            Border::Each(rules) => rules.as_slice().len() == board.border_len() as usize,
+        }
+    }
+}

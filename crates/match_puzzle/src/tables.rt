@@ -1,0 +1,146 @@
+// What a puzzle looks up and does not work out anew.
+
+ghost use Rattle.std.specs.Prelude.{◌≡◌, ◌≢◌, ◌<◌, ◌≤◌, ◌+◌, ◌^◌, ℕ, Bool, List, IfOk, MatchOption, MatchBool, Contains, Some, [], length, map, slice_get, slice_index_or};
+ghost use Rattle.match_board.specs.Board.{Shape, cell_count, side_count};
+ghost use Rattle.match_board.specs.First.{IsLeast};
+ghost use Rattle.match_board.specs.Tile.{word};
+ghost use Rattle.match_board.specs.Turns.{IsPeriod};
+ghost use Rattle.match_board.specs.declared.tiles.Tile.{Tile as BoardTile};
+ghost use Rattle.match_puzzle.specs.declared.borders.Border.{Border as BorderRules};
+ghost use Rattle.match_puzzle.specs.Puzzle.{Task, task_of, rule_of, StandsInRule, IsAsLongAsBorder};
+ghost use Rattle.match_puzzle.specs.Colours.{IsColourCount};
+ghost use Rattle.match_puzzle.specs.Tables.{IsSide, AreSides, AreTurnCounts, IsNextNumber};
+
+use crate::borders::Border;
+use match_board::{Board, Tile};
+use std::alloc::{AllocError, Global};
+
+/// What a side of a cell is.
+#[derive(Clone, Copy, PartialEq, Eq, Debug)]
+pub(crate) enum Side {
+    /// It meets nothing, and the border may ask for a colour.
+    Border(Option<u8>),
+    /// It meets this side of this cell.
+    Edge { cell: u16, side: u8 },
+}
+
+/// The sides of a cell, in order; a triangle has no fourth.
+#[derive(Clone, Copy, PartialEq, Eq, Debug)]
+pub(crate) struct CellSides {
+    pub(crate) sides: [Side; 4],
+}
+
+/// The sides of each cell.
+pub(crate) fn sides_table(
+    alloc: Global,
+    board: Board,
+    border: &Border,
+) -> Result<Vec<CellSides>, AllocError>
+    requires { IsAsLongAsBorder board (rule_of border.now) }
+    ensures { IfOk result (λ v. (turns : Bool) (tiles : List BoardTile) → AreSides (task_of board turns border.now tiles) v.items) }
+{
+    let mut table = Vec::with_capacity(alloc, board.cells() as usize)?;
+    let mut number = 0;
+    for cell in 0..board.cells() {
+        let sides = cell_sides(board, border, cell, &mut number);
+        table.push(sides)?;
+    }
+    Ok(table)
+}
+
+// The sides of a cell; the number is that of the next border pair.
+fn cell_sides(board: Board, border: &Border, cell: u16, number: &mut u16) -> CellSides
+    requires cell { cell < cell_count board }
+    requires border { IsAsLongAsBorder board (rule_of border.now) }
+    requires number { IsNextNumber board (cell, 0) number.old }
+    ensures sides { (turns : Bool) (tiles : List BoardTile) (side : ℕ) (x : Side) → side < side_count board → slice_get result.sides side ≡ Some x → IsSide (task_of board turns border.now tiles) cell side x }
+    ensures number { IsNextNumber board (cell + 1, 0) number.new }
+{
+    let mut sides = [Side::Border(None); 4];
+    for side in 0..board.sides() {
+        sides[side as usize] = side_at(board, border, cell, side, number);
+    }
+    CellSides { sides }
+}
+
+// What a side of a cell is; the number is that of the next border pair.
+fn side_at(board: Board, border: &Border, cell: u16, side: u8, number: &mut u16) -> Side
+    requires cell { cell < cell_count board }
+    requires side { side < side_count board }
+    requires border { IsAsLongAsBorder board (rule_of border.now) }
+    requires number { IsNextNumber board (cell, side) number.old }
+    ensures side { (turns : Bool) (tiles : List BoardTile) → IsSide (task_of board turns border.now tiles) cell side result }
+    ensures number { IsNextNumber board (cell, side + 1) number.new }
+{
+    match board.meets(cell, side) {
+        Some((cell, side)) => Side::Edge { cell, side },
+        None => {
+            let rule = border.rule_at(*number);
+            *number += 1;
+            Side::Border(rule)
+        }
+    }
+}
+
+/// How many turns of each tile are legal.
+pub(crate) fn turn_counts(alloc: Global, turns: bool, tiles: &[Tile]) -> Result<Vec<u8>, AllocError>
+    ensures { IfOk result (λ v. (board : Shape) (border : BorderRules) → AreTurnCounts (task_of board turns border tiles.now) v.items) }
+{
+    let mut table = Vec::with_capacity(alloc, tiles.len())?;
+    for tile in tiles {
+        table.push(turn_count(turns, tile))?;
+    }
+    Ok(table)
+}
+
+// How many turns of the tile are legal.
+fn turn_count(turns: bool, tile: &Tile) -> u8
+    ensures { MatchBool turns (IsPeriod (word tile.now) result) (result ≡ 1) }
+{
+    if turns { tile.period() } else { 1 }
+}
+
+/// One more than the greatest colour on a tile or in the border's rule.
+pub(crate) fn colour_count(border: &Border, tiles: &[Tile]) -> u8
+    requires { (place colour : ℕ) → StandsInRule (rule_of border.now) place colour → colour < 36 }
+    ensures { (board : Shape) (turns : Bool) → IsColourCount (task_of board turns border.now tiles.now) result }
+{
+    let mut count = border.colour_count();
+    for tile in tiles {
+        let of_tile = tile_colour_count(tile);
+        if of_tile > count {
+            count = of_tile;
+        }
+    }
+    count
+}
+
+// One more than the greatest colour on the tile.
+fn tile_colour_count(tile: &Tile) -> u8
+    ensures above { (colour : ℕ) → Contains (word tile.now) colour → colour < result }
+    ensures least { (other : ℕ) → ((colour : ℕ) → Contains (word tile.now) colour → colour < other) → result ≤ other }
+{
+    let mut count = 0;
+    for side in 0..tile.sides() {
+        let colour = tile.shows(0, side);
+        if colour >= count {
+            count = colour + 1;
+        }
+    }
+    count
+}
+
+/// The first tile that does not have as many sides as a cell.
+pub(crate) fn odd_tile(board: Board, tiles: &[Tile]) -> Option<u32>
+    requires { length tiles.now < 2 ^ 32 }
+    ensures { MatchOption result
+        ((tile : ℕ) → tile < length (map word tiles.now) → length (slice_index_or (map word tiles.now) tile []) ≡ side_count board)
+        (IsLeast (λ tile. (tile < length (map word tiles.now)) × (length (slice_index_or (map word tiles.now) tile []) ≢ side_count board))) }
+{
+    for (number, tile) in tiles.iter().enumerate() {
+        if tile.sides() != board.sides() {
+            return Some(number as u32);
+        }
+    }
+    None
+}

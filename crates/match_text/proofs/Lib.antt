@@ -1,0 +1,13 @@
+pub mod BytesLemmas
+pub mod LoopLemmas
+pub mod WordLemmas
+pub mod CutLemmas
+pub mod LineLemmas
+pub mod ListLemmas
+pub mod TextLaws
+pub mod WritingLemmas
+pub mod ColourLemmas
+pub mod PuzzleLineLemmas
+pub mod PuzzleLemmas
+pub mod LimitLemmas
+pub mod ReadingLemmas

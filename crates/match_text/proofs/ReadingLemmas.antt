@@ -1,0 +1,84 @@
+-- What reading a puzzle comes to.
+use Rattle.std.proofs.Common.{◌≡◌, ◌<◌, ◌≤◌, ◌+◌, ℕ, List, length, take, Result, Ok, Err, sym, ap, subst, ◌∙◌, arith}
+use Rattle.std.specs.Prelude.{IfOk}
+use Rattle.match_board.specs.declared.boards.BoardFault.{BoardFault}
+use Rattle.match_board.specs.declared.boards.BoardFault.TheVariants.{Empty, TooLarge}
+use Rattle.match_puzzle.specs.Puzzle.{Task, BorderRule, free, one, each, IsPuzzle, IsShortRule}
+use Rattle.match_puzzle.specs.PuzzleFaults.{PuzzleFails}
+use Rattle.match_puzzle.specs.declared.faults.PuzzleFault.{PuzzleFault}
+use Rattle.match_puzzle.specs.declared.faults.PuzzleFault.TheVariants as puzzle
+use Rattle.match_text.specs.declared.faults.TextFault.{TextFault}
+use Rattle.match_text.specs.declared.faults.TextKind.TheVariants.{Ends}
+use Rattle.match_text.specs.declared.faults.PuzzleTextFault.{PuzzleTextFault}
+use Rattle.match_text.specs.declared.faults.PuzzleTextFault.TheVariants as faults
+use Rattle.match_text.specs.Bytes.{line_ends}
+use Rattle.match_text.specs.Place.{fail}
+use Rattle.match_text.specs.Puzzles.{puzzle_of, BoardFails, PuzzleReads, PuzzleGives}
+use Rattle.match_text.specs.PuzzleSpelling.{puzzle_spelling, IsBorderWithin, IsTaskWithin}
+use Rattle.match_text.proofs.CutLemmas.{ok_is}
+use Rattle.match_text.proofs.PuzzleLemmas.{puzzle_found, puzzle_only, puzzle_short}
+use Rattle.match_text.proofs.LimitLemmas.{puzzle_within}
+
+-- ---- how much was read
+
+short_rule : (border : BorderRule) → IsBorderWithin border → IsShortRule border
+short_rule free within = tt
+short_rule (one c) within = tt
+short_rule (each rules) within = omega (arith, within.1)
+
+pub said_border : (text : List ℕ) (said : Task) → puzzle_of text ≡ Ok said → IsShortRule said.border
+said_border text said e = short_rule said.border (puzzle_found text said e).0.border
+
+pub said_tiles : (text : List ℕ) (said : Task) → puzzle_of text ≡ Ok said → length said.words ≤ 100
+said_tiles text said e = (puzzle_found text said e).0.few_tiles
+
+-- ---- the laws of what a call returned
+
+pub found_of : (text : List ℕ) (result : Result Task PuzzleTextFault) → PuzzleReads text result → IfOk result (λ p. text ≡ puzzle_spelling p)
+found_of text (Ok p) is = (puzzle_found text p is.0).1
+found_of text (Err fault) is = tt
+
+ok_err : (p : Task) (fault : TextFault) → ◌≡◌ {A = Result Task TextFault} (Ok p) (Err fault) → ⊥
+ok_err p fault e = cc
+
+same_fault : (f g : TextFault) → ◌≡◌ {A = Result Task TextFault} (Err f) (Err g) → f ≡ g
+same_fault f g e = cc
+
+-- a puzzle has no fault
+no_board_fault : (p : Task) (fault : BoardFault) → IsPuzzle p → BoardFails p.board fault → ⊥
+no_board_fault p Empty is fails = omega (arith, is.board.0, fails)
+no_board_fault p TooLarge is fails = omega (arith, is.board.1, fails)
+
+no_puzzle_fault : (p : Task) (fault : PuzzleFault) → IsPuzzle p → PuzzleFails p fault → ⊥
+no_puzzle_fault p puzzle.FixedTriangles is fails = let yes' = is.triangles fails.0 in absurd cc
+no_puzzle_fault p puzzle.TileCount is fails = fails is.tiles
+no_puzzle_fault p (puzzle.TileSides tile) is fails = fails.1 (is.sides tile fails.0)
+no_puzzle_fault p (puzzle.BadColour place) is fails = omega (arith, is.border_colours place fails.0 fails.1, fails.2)
+no_puzzle_fault p puzzle.BorderLength is fails = fails is.border
+no_puzzle_fault p puzzle.Memory is fails = fails
+
+only_one : (text : List ℕ) (p : Task) → puzzle_of text ≡ Ok p → IsPuzzle p → (result : Result Task PuzzleTextFault) → PuzzleReads text result → PuzzleGives result (Ok p)
+only_one text p e is (Ok q) reads = sym e ∙ reads.0
+only_one text p e is (Err (faults.Text fault)) reads = absurd (ok_err p fault (sym e ∙ reads))
+only_one text p e is (Err (faults.Board fault)) reads =
+    let same : reads.0 ≡ p = ok_is reads.0 p (sym reads.1 ∙ e) in
+    absurd (no_board_fault p fault is (subst (λ (q : Task). BoardFails q.board fault) same reads.2))
+only_one text p e is (Err (faults.Puzzle fault)) reads =
+    let same : reads.0 ≡ p = ok_is reads.0 p (sym reads.1 ∙ e) in
+    absurd (no_puzzle_fault p fault is (subst (λ (q : Task). PuzzleFails q fault) same reads.3.occurs))
+only_one text p e is (Err faults.Memory) reads = tt
+
+pub only_of : (text : List ℕ) (result : Result Task PuzzleTextFault) → PuzzleReads text result → (p : Task) → IsPuzzle p → text ≡ puzzle_spelling p → PuzzleGives result (Ok p)
+only_of text result reads p is e = only_one text p (ap puzzle_of e ∙ puzzle_only p (puzzle_within p is)) is result reads
+
+cut_one : (text : List ℕ) (fault : TextFault) → puzzle_of text ≡ Err fault → (result : Result Task PuzzleTextFault) → PuzzleReads text result → PuzzleGives result (Err fault)
+cut_one text fault e (Ok q) reads = absurd (ok_err q fault (sym reads.0 ∙ e))
+cut_one text fault e (Err (faults.Text other)) reads = sym e ∙ reads
+cut_one text fault e (Err (faults.Board other)) reads = absurd (ok_err reads.0 fault (sym reads.1 ∙ e))
+cut_one text fault e (Err (faults.Puzzle other)) reads = absurd (ok_err reads.0 fault (sym reads.1 ∙ e))
+cut_one text fault e (Err faults.Memory) reads = tt
+
+pub cut_of : (text : List ℕ) (result : Result Task PuzzleTextFault) → PuzzleReads text result → (p : Task) (k : ℕ) → IsTaskWithin p → k < length (puzzle_spelling p) → text ≡ take k (puzzle_spelling p)
+    → PuzzleGives result (fail (line_ends text + 1) Ends)
+cut_of text result reads p k within lt e =
+    cut_one text (record { line = line_ends text + 1; kind = Ends }) (ap puzzle_of e ∙ puzzle_short (puzzle_spelling p) p k (puzzle_only p within) lt ∙ ap (λ t. fail (line_ends t + 1) Ends) (sym e)) result reads

@@ -1,0 +1,18 @@
+use Rattle.std.proofs.Common.{◌+◌, ◌-◌, arith}
+use Rattle.std.proofs.lemmas.Result.{err_from_is_err_and}
+use Rattle.match_text.specs.Place.{times}
+use Rattle.match_text.specs.Lists.{arrangement_line}
+use Rattle.match_text.proofs.LoopLemmas.{times_goes_on, times_fail, times_done}
+use Rattle.match_text.proofs.lists.arrangements.Goals as goal
+
+pub returns-in_err-row : goal.returns-in_err-row
+returns-in_err-row c =
+    let p = err_from_is_err_and c.from_residual.result c.from_residual.ensures.1 in
+    rw (p.1, p.2) (times_fail arrangement_line c.loop.scan (c.args.count - c.loop.counter) (c.args.count - (c.loop.counter + 1)) c.loop.rows.items c.in_err-row.field-0.0 (times c.args.count arrangement_line c.args.scan.now) (omega arith) c.in_err-row.ensures c.loop.invariant)
+
+pub loop-preserved : goal.loop-preserved
+loop-preserved c =
+    times_goes_on arrangement_line c.loop.scan c.arrangement.new.scan (c.args.count - c.loop.counter) (c.args.count - (c.loop.counter + 1)) c.loop.rows.items c.push.new.self.items c.in_ok-row.row (times c.args.count arrangement_line c.args.scan.now) (omega arith) c.in_ok-push.ensures.items c.in_ok-row.ensures c.loop.invariant
+
+pub returns : goal.returns
+returns c = times_done arrangement_line c.loop.scan (c.args.count - c.loop.counter) c.loop.rows.items (times c.args.count arrangement_line c.args.scan.now) (omega arith) c.loop.invariant

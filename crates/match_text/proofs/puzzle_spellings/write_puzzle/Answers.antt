@@ -1,0 +1,23 @@
+use Rattle.std.proofs.Common.{◌≡◌, length, sym, subst, ap, ◌∙◌}
+use Rattle.std.proofs.lemmas.List.{length-map}
+use Rattle.match_board.specs.Tile.{word}
+use Rattle.match_text.specs.Puzzles.{puzzle_of}
+use Rattle.match_text.specs.PuzzleSpelling.{IsBorderWithin}
+use Rattle.match_text.proofs.LimitLemmas.{puzzle_within}
+use Rattle.match_text.proofs.PuzzleLemmas.{puzzle_only, puzzle_written}
+use Rattle.match_text.proofs.puzzle_spellings.write_puzzle.Goals as goal
+
+pub put_border-requires : goal.put_border-requires
+put_border-requires c = subst IsBorderWithin (sym c.border.ensures) (puzzle_within c.args.puzzle.now c.board-board.ensures.puzzle).border
+
+pub returns-clause-spelling : goal.returns-clause-spelling
+returns-clause-spelling c =
+    let p = c.args.puzzle.now in
+    let count : length c.tiles-tiles.result.now ≡ length p.words = sym (length-map c.tiles-tiles.result.now word) ∙ ap length c.tiles-tiles.ensures in
+    rw (c.in_ok-put_end.ensures, c.in_ok-put_tiles.ensures, c.in_ok-put_number_line.ensures, c.in_ok-put_border.ensures, c.in_ok-put_turns.ensures, c.in_ok-put_board.ensures, c.in_ok-put_first.ensures, c.new-text.ensures.items, c.tiles-tiles.ensures, count, c.border.ensures, c.turns.ensures, c.board-board.ensures.value)
+    (sym (puzzle_written p))
+
+pub returns-clause-reads : goal.returns-clause-reads
+returns-clause-reads c =
+    let is = c.board-board.ensures.puzzle in
+    (ap puzzle_of (returns-clause-spelling c) ∙ puzzle_only c.args.puzzle.now (puzzle_within c.args.puzzle.now is), is)

@@ -1,0 +1,10 @@
+pub mod Bytes
+pub mod Words
+pub mod Place
+pub mod Lists
+pub mod Puzzles
+pub mod Faults
+pub mod Spelling
+pub mod ListSpelling
+pub mod PuzzleSpelling
+pub mod Laws

@@ -1,0 +1,70 @@
+-- The one spelling of a puzzle.
+use Rattle.std.specs.Prelude.{◌≡◌, ◌⊎◌, ◌<◌, ◌≤◌, ℕ, Bool, true, false, List, [], ◌∷◌, ◌++◌, Option, Some, None, length, map, codes, decimal}
+use Rattle.std.specs.List.{AllByRecursion}
+use Rattle.match_board.specs.Board.{Shape, Rectangle, Triangle, Hexagon}
+use Rattle.match_puzzle.specs.Puzzle.{Task, BorderRule, free, one, each}
+use Rattle.match_text.specs.Spelling.{text_of, colour_word, rule_word, tile_word, first_words, count_words, end_lines}
+
+abbrev pub size_words : Shape → List (List ℕ)
+size_words (Rectangle width height) = decimal width ∷ decimal height ∷ []
+size_words (Triangle size) = decimal size ∷ []
+size_words (Hexagon size) = decimal size ∷ []
+
+abbrev pub shape_word : Shape → List ℕ
+shape_word (Rectangle width height) = codes "rect"
+shape_word (Triangle size) = codes "triangle"
+shape_word (Hexagon size) = codes "hexagon"
+
+abbrev pub board_words : Shape → List (List ℕ)
+board_words board = codes "board" ∷ shape_word board ∷ size_words board
+
+abbrev pub turns_word : Bool → List ℕ
+turns_word true = codes "yes"
+turns_word false = codes "no"
+
+abbrev pub turns_words : Bool → List (List ℕ)
+turns_words turns = codes "turns" ∷ turns_word turns ∷ []
+
+abbrev pub border_words : BorderRule → List (List ℕ)
+border_words free = codes "border" ∷ codes "free" ∷ []
+border_words (one colour) = codes "border" ∷ codes "one" ∷ colour_word colour ∷ []
+border_words (each rules) = codes "border" ∷ codes "each" ∷ map rule_word rules
+
+abbrev pub tile_words : List ℕ → List (List ℕ)
+tile_words word = codes "tile" ∷ tile_word word ∷ []
+
+abbrev pub puzzle_lines : Task → List (List (List ℕ))
+puzzle_lines p =
+    (first_words (codes "match") ∷ []) ++ ((board_words p.board ∷ []) ++ ((turns_words p.turns ∷ []) ++ ((border_words p.border ∷ [])
+    ++ ((count_words (codes "tiles") (length p.words) ∷ []) ++ (map tile_words p.words ++ end_lines)))))
+
+unfoldable pub puzzle_spelling : Task → List ℕ
+puzzle_spelling p = text_of (puzzle_lines p)
+
+-- ---- what has a spelling
+
+abbrev pub IsShapeWithin : Shape → Type 0
+IsShapeWithin (Rectangle width height) = (width ≤ 100) × (height ≤ 100)
+IsShapeWithin (Triangle size) = size ≤ 100
+IsShapeWithin (Hexagon size) = size ≤ 100
+
+abbrev pub IsRuleWithin : Option ℕ → Type 0
+IsRuleWithin None = Unit {0}
+IsRuleWithin (Some colour) = colour < 36
+
+abbrev pub IsBorderWithin : BorderRule → Type 0
+IsBorderWithin free = Unit {0}
+IsBorderWithin (one colour) = colour < 36
+IsBorderWithin (each rules) = (0 < length rules) × (length rules ≤ 400) × AllByRecursion IsRuleWithin rules
+
+-- three or four colours
+abbrev pub IsWordWithin : List ℕ → Type 0
+IsWordWithin word = ((length word ≡ 3) ⊎ (length word ≡ 4)) × AllByRecursion (λ colour. colour < 36) word
+
+-- The puzzle is within the limits of its text; there may be no such puzzle.
+pub record IsTaskWithin (p : Task) : Type 0 where
+  pub board : IsShapeWithin p.board
+  pub border : IsBorderWithin p.border
+  pub some_tiles : 1 ≤ length p.words
+  pub few_tiles : length p.words ≤ 100
+  pub words : AllByRecursion IsWordWithin p.words

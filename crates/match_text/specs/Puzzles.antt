@@ -1,0 +1,135 @@
+-- The text of a puzzle.
+use Rattle.std.specs.Prelude.{◌≡◌, ◌<◌, ℕ, Bool, true, false, List, Result, Ok, Err, codes, map, if◌then◌else◌}
+use Rattle.std.specs.Str.{bytes_eq}
+use Rattle.match_board.specs.Board.{Shape, cell_count, IsBoard}
+use Rattle.match_board.specs.Board as shapes
+use Rattle.match_board.specs.Figure.{shape_of}
+use Rattle.match_board.specs.First.{IsFirst}
+use Rattle.match_board.specs.Tile.{word}
+use Rattle.match_board.specs.declared.boards.BoardFault.{BoardFault}
+use Rattle.match_board.specs.declared.boards.BoardFault.TheVariants.{Empty, TooLarge}
+use Rattle.match_puzzle.specs.Puzzle.{Task, BorderRule, free, one, each, rule_of, IsPuzzle}
+use Rattle.match_puzzle.specs.PuzzleFaults.{PuzzleFails, puzzle_rank}
+use Rattle.match_text.specs.declared.faults.TextFault.{TextFault}
+use Rattle.match_text.specs.declared.faults.TextKind.{TextKind}
+use Rattle.match_text.specs.declared.faults.TextKind.TheVariants.{Word}
+use Rattle.match_text.specs.declared.faults.PuzzleTextFault.{PuzzleTextFault}
+use Rattle.match_text.specs.declared.faults.PuzzleTextFault.TheVariants as faults
+use Rattle.match_text.specs.declared.puzzles.BoardKind.{BoardKind}
+use Rattle.match_text.specs.declared.puzzles.BoardKind.TheVariants.{Rectangle, Triangle, Hexagon}
+use Rattle.match_text.specs.declared.puzzles.BorderKind.{BorderKind}
+use Rattle.match_text.specs.declared.puzzles.BorderKind.TheVariants as kinds
+use Rattle.match_text.specs.declared.puzzles.PuzzleText as code
+use Rattle.match_text.specs.Words.{fixed_in, number_in, colour_in, rule_in, tile_in}
+use Rattle.match_text.specs.Place.{Read, ◌>>=◌, give, line_of, word_by, some_entries, opening, counted, closing, times, start, value_of}
+
+-- ---- the board
+
+-- the kinds of board by their words
+abbrev pub board_kind_in : List ℕ → Result BoardKind TextKind
+board_kind_in word =
+    if bytes_eq word (codes "rect") then Ok Rectangle
+    else (if bytes_eq word (codes "triangle") then Ok Triangle else (if bytes_eq word (codes "hexagon") then Ok Hexagon else Err Word))
+
+-- how large a board of this kind is
+unfoldable pub board_size : BoardKind → Read Shape
+board_size Rectangle = do
+  width ← word_by (number_in 0 100)
+  height ← word_by (number_in 0 100)
+  give (shapes.Rectangle width height)
+board_size Triangle = do
+  size ← word_by (number_in 0 100)
+  give (shapes.Triangle size)
+board_size Hexagon = do
+  size ← word_by (number_in 0 100)
+  give (shapes.Hexagon size)
+
+unfoldable pub board_line : Read Shape
+board_line = line_of (do
+  _ ← word_by (fixed_in (codes "board"))
+  kind ← word_by board_kind_in
+  board_size kind)
+
+-- ---- turns
+
+-- whether tiles may be turned, by its word
+abbrev pub turns_in : List ℕ → Result Bool TextKind
+turns_in word = if bytes_eq word (codes "yes") then Ok true else (if bytes_eq word (codes "no") then Ok false else Err Word)
+
+unfoldable pub turns_line : Read Bool
+turns_line = line_of (do
+  _ ← word_by (fixed_in (codes "turns"))
+  word_by turns_in)
+
+-- ---- the border
+
+-- the kinds of border by their words
+abbrev pub border_kind_in : List ℕ → Result BorderKind TextKind
+border_kind_in word =
+    if bytes_eq word (codes "free") then Ok kinds.Free
+    else (if bytes_eq word (codes "one") then Ok kinds.One else (if bytes_eq word (codes "each") then Ok kinds.Each else Err Word))
+
+-- what a border of this kind asks for
+unfoldable pub border_rule : BorderKind → Read BorderRule
+border_rule kinds.Free = give free
+border_rule kinds.One = do
+  colour ← word_by colour_in
+  give (one colour)
+border_rule kinds.Each = do
+  rules ← some_entries 400 rule_in
+  give (each rules)
+
+unfoldable pub border_line : Read BorderRule
+border_line = line_of (do
+  _ ← word_by (fixed_in (codes "border"))
+  kind ← word_by border_kind_in
+  border_rule kind)
+
+-- ---- the tiles, and the whole
+
+unfoldable pub tile_line : Read (List ℕ)
+tile_line = line_of (do
+  _ ← word_by (fixed_in (codes "tile"))
+  word_by tile_in)
+
+unfoldable pub puzzle_text : Read Task
+puzzle_text = do
+  _ ← opening (codes "match")
+  board ← board_line
+  turns ← turns_line
+  border ← border_line
+  count ← counted (codes "tiles") 1 100
+  words ← times count tile_line
+  _ ← closing
+  give (record { board = board; turns = turns; border = border; words = words })
+
+-- The puzzle that a text asks for, or the text's first fault. There may be no such puzzle.
+unfoldable pub puzzle_of : List ℕ → Result Task TextFault
+puzzle_of text = value_of (puzzle_text (start text))
+
+-- what was read, without where it lies in memory
+abbrev pub view_of : code.PuzzleText → Task
+view_of t = record { board = shape_of t.figure; turns = t.turns; border = rule_of t.border; words = map word t.tiles.items }
+
+-- ---- boards and puzzles that there are
+
+-- There is no such board.
+abbrev pub BoardFails : Shape → BoardFault → Type 0
+BoardFails s Empty = cell_count s ≡ 0
+BoardFails s TooLarge = 100 < cell_count s
+
+-- What reading a puzzle comes to: the puzzle, or the first fault of the text, else of the board, else of the puzzle.
+-- Of want of memory nothing is said.
+abbrev pub PuzzleReads : List ℕ → Result Task PuzzleTextFault → Type 0
+PuzzleReads text (Ok p) = (puzzle_of text ≡ Ok p) × IsPuzzle p
+PuzzleReads text (Err (faults.Text fault)) = puzzle_of text ≡ Err fault
+PuzzleReads text (Err (faults.Board fault)) = (said : Task) × (puzzle_of text ≡ Ok said) × BoardFails said.board fault
+PuzzleReads text (Err (faults.Puzzle fault)) = (said : Task) × (puzzle_of text ≡ Ok said) × IsBoard said.board × IsFirst puzzle_rank (PuzzleFails said) fault
+PuzzleReads text (Err faults.Memory) = Unit {0}
+
+-- What a call returned is this outcome of a text and of making the puzzle. Of want of memory nothing is said.
+abbrev pub PuzzleGives : Result Task PuzzleTextFault → Result Task TextFault → Type 0
+PuzzleGives (Ok p) outcome = outcome ≡ Ok p
+PuzzleGives (Err (faults.Text fault)) outcome = outcome ≡ Err fault
+PuzzleGives (Err faults.Memory) outcome = Unit {0}
+PuzzleGives (Err fault) outcome = ⊥

@@ -1,0 +1,22 @@
+//! Texts of puzzles and of lists of arrangements.
+#![tactic(auto)]
+
+mod faults;
+mod laws;
+mod list_spellings;
+mod lists;
+mod puzzle_spellings;
+mod puzzles;
+mod scans;
+mod spellings;
+#[cfg(test)]
+mod tests;
+mod words;
+
+pub use faults::{ListTextFault, PuzzleTextFault, ReadFault, TextFault, TextKind};
+pub use laws::{list_laws, puzzle_laws};
+pub use list_spellings::{list_within_limits, write_list};
+pub use lists::read_list;
+pub use puzzle_spellings::write_puzzle;
+pub use puzzles::read_puzzle;
+pub use scans::Scan;

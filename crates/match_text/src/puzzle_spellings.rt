@@ -1,0 +1,184 @@
+// Puzzles are written.
+
+ghost use Rattle.std.specs.Prelude.{◌≡◌, ◌<◌, ◌≤◌, ◌++◌, ◌∷◌, [], Ok, length, map, codes, IfOk, OnOk};
+ghost use Rattle.std.specs.List.{AllByRecursion};
+ghost use Rattle.match_board.specs.Board.{Shape, Rectangle, Triangle, Hexagon};
+ghost use Rattle.match_board.specs.Figure.{shape_of};
+ghost use Rattle.match_board.specs.Tile.{word as colours_of};
+ghost use Rattle.match_puzzle.specs.Puzzle.{rule_of, each, one, free};
+ghost use Rattle.match_text.specs.Puzzles.{PuzzleReads};
+ghost use Rattle.match_text.specs.Spelling.{text_of, first_words, colour_character, colour_word, rule_word, tile_word};
+ghost use Rattle.match_text.specs.PuzzleSpelling.{board_words, turns_words, border_words, tile_words, puzzle_spelling, IsRuleWithin, IsBorderWithin};
+
+use crate::spellings::{put_end, put_number, put_number_line};
+use match_board::{Board, Figure, Tile};
+use match_puzzle::{Border, Puzzle};
+use std::alloc::{AllocError, Global};
+
+// The character of a colour.
+fn character(colour: u8) -> u8
+    requires { colour < 36 }
+    ensures { result ≡ colour_character colour }
+{
+    if colour < 10 {
+        b'0' + colour
+    } else {
+        b'a' + (colour - 10)
+    }
+}
+
+#[tactic(auto, unfolding(crate::specs::Spelling::text_of))]
+fn put_first(text: &mut Vec<u8>) -> Result<(), AllocError>
+    ensures { OnOk result (text.new.items ≡ text.old.items ++ text_of (first_words (codes "match") ∷ [])) }
+{
+    text.extend_from_slice(b"match 1\n")?;
+    Ok(())
+}
+
+#[tactic(auto, unfolding(crate::specs::Spelling::text_of))]
+fn put_rectangle(text: &mut Vec<u8>, width: u16, height: u16) -> Result<(), AllocError>
+    ensures { OnOk result (text.new.items ≡ text.old.items ++ text_of (board_words (Rectangle width height) ∷ [])) }
+{
+    text.extend_from_slice(b"board rect ")?;
+    put_number(text, u32::from(width))?;
+    text.push(b' ')?;
+    put_number(text, u32::from(height))?;
+    text.push(b'\n')?;
+    Ok(())
+}
+
+#[tactic(auto, unfolding(crate::specs::Spelling::text_of))]
+fn put_triangle(text: &mut Vec<u8>, size: u16) -> Result<(), AllocError>
+    ensures { OnOk result (text.new.items ≡ text.old.items ++ text_of (board_words (Triangle size) ∷ [])) }
+{
+    put_number_line(text, b"board triangle", u32::from(size))
+}
+
+#[tactic(auto, unfolding(crate::specs::Spelling::text_of))]
+fn put_hexagon(text: &mut Vec<u8>, size: u16) -> Result<(), AllocError>
+    ensures { OnOk result (text.new.items ≡ text.old.items ++ text_of (board_words (Hexagon size) ∷ [])) }
+{
+    put_number_line(text, b"board hexagon", u32::from(size))
+}
+
+fn put_board(text: &mut Vec<u8>, board: Board) -> Result<(), AllocError>
+    ensures { OnOk result (text.new.items ≡ text.old.items ++ text_of (board_words board ∷ [])) }
+{
+    match board.figure() {
+        Figure::Rectangle { width, height } => put_rectangle(text, width, height),
+        Figure::Triangle { size } => put_triangle(text, size),
+        Figure::Hexagon { size } => put_hexagon(text, size),
+    }
+}
+
+#[tactic(auto, unfolding(crate::specs::Spelling::text_of))]
+fn put_turns(text: &mut Vec<u8>, turns: bool) -> Result<(), AllocError>
+    ensures { OnOk result (text.new.items ≡ text.old.items ++ text_of (turns_words turns ∷ [])) }
+{
+    if turns {
+        text.extend_from_slice(b"turns yes\n")?;
+    } else {
+        text.extend_from_slice(b"turns no\n")?;
+    }
+    Ok(())
+}
+
+#[tactic(auto, unfolding(crate::specs::Spelling::text_of))]
+fn put_free(text: &mut Vec<u8>) -> Result<(), AllocError>
+    ensures { OnOk result (text.new.items ≡ text.old.items ++ text_of (border_words free ∷ [])) }
+{
+    text.extend_from_slice(b"border free\n")?;
+    Ok(())
+}
+
+#[tactic(auto, unfolding(crate::specs::Spelling::text_of))]
+fn put_one(text: &mut Vec<u8>, colour: u8) -> Result<(), AllocError>
+    requires { colour < 36 }
+    ensures { OnOk result (text.new.items ≡ text.old.items ++ text_of (border_words (one colour) ∷ [])) }
+{
+    text.extend_from_slice(b"border one ")?;
+    text.push(character(colour))?;
+    text.push(b'\n')?;
+    Ok(())
+}
+
+fn put_rule(text: &mut Vec<u8>, rule: Option<u8>) -> Result<(), AllocError>
+    requires { IsRuleWithin rule }
+    ensures { OnOk result (text.new.items ≡ text.old.items ++ 32 ∷ rule_word rule) }
+{
+    text.push(b' ')?;
+    match rule {
+        None => text.push(b'-')?,
+        Some(colour) => text.push(character(colour))?,
+    }
+    Ok(())
+}
+
+fn put_rules(text: &mut Vec<u8>, rules: &[Option<u8>]) -> Result<(), AllocError>
+    requires { AllByRecursion IsRuleWithin rules.now }
+    ensures { OnOk result (text.new.items ≡ text.old.items ++ text_of (border_words (each rules.now) ∷ [])) }
+{
+    text.extend_from_slice(b"border each")?;
+    for rule in rules {
+        put_rule(text, *rule)?;
+    }
+    text.push(b'\n')?;
+    Ok(())
+}
+
+fn put_border(text: &mut Vec<u8>, border: &Border) -> Result<(), AllocError>
+    requires { IsBorderWithin (rule_of border.now) }
+    ensures { OnOk result (text.new.items ≡ text.old.items ++ text_of (border_words (rule_of border.now) ∷ [])) }
+{
+    match border {
+        Border::Free => put_free(text),
+        Border::One(colour) => put_one(text, *colour),
+        Border::Each(rules) => put_rules(text, rules.as_slice()),
+    }
+}
+
+fn put_colours(text: &mut Vec<u8>, tile: &Tile) -> Result<(), AllocError>
+    ensures { OnOk result (text.new.items ≡ text.old.items ++ tile_word (colours_of tile.now)) }
+{
+    for side in 0..tile.sides() {
+        text.push(character(tile.shows(0, side)))?;
+    }
+    Ok(())
+}
+
+#[tactic(auto, unfolding(crate::specs::Spelling::text_of))]
+fn put_tile(text: &mut Vec<u8>, tile: &Tile) -> Result<(), AllocError>
+    ensures { OnOk result (text.new.items ≡ text.old.items ++ text_of (tile_words (colours_of tile.now) ∷ [])) }
+{
+    text.extend_from_slice(b"tile ")?;
+    put_colours(text, tile)?;
+    text.push(b'\n')?;
+    Ok(())
+}
+
+fn put_tiles(text: &mut Vec<u8>, tiles: &[Tile]) -> Result<(), AllocError>
+    ensures { OnOk result (text.new.items ≡ text.old.items ++ text_of (map tile_words (map colours_of tiles.now))) }
+{
+    for tile in tiles {
+        put_tile(text, tile)?;
+    }
+    Ok(())
+}
+
+/// The text of the puzzle, which reads back as the puzzle.
+pub fn write_puzzle(alloc: Global, puzzle: &Puzzle) -> Result<Vec<u8>, AllocError>
+    ensures spelling { IfOk result (λ text. text.items ≡ puzzle_spelling puzzle.now) }
+    ensures reads { IfOk result (λ text. PuzzleReads text.items (Ok puzzle.now)) }
+{
+    let mut text = Vec::new(alloc);
+    let board = puzzle.board();
+    let tiles = puzzle.tiles();
+    put_first(&mut text)?;
+    put_board(&mut text, board)?;
+    put_turns(&mut text, puzzle.turns())?;
+    put_border(&mut text, puzzle.border())?;
+    put_number_line(&mut text, b"tiles", tiles.len() as u32)?;
+    put_tiles(&mut text, tiles)?;
+    put_end(&mut text)?;
+    Ok(text)
+}

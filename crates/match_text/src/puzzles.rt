@@ -1,0 +1,284 @@
+// Puzzles.
+
+ghost use Rattle.std.specs.Prelude.{◌≡◌, ◌+◌, ◌<◌, ◌≤◌, ◌^◌, ℕ, Ok, IfOk, length, map, take};
+ghost use Rattle.match_board.specs.Figure.{shape_of};
+ghost use Rattle.match_board.specs.Tile.{word as tile_colours};
+ghost use Rattle.match_puzzle.specs.Puzzle.{Task, IsPuzzle, rule_of};
+ghost use Rattle.match_text.specs.declared.faults.TextKind.TheVariants as kinds;
+ghost use Rattle.match_text.specs.Bytes.{line_ends};
+ghost use Rattle.match_text.specs.PuzzleSpelling.{puzzle_spelling, IsTaskWithin};
+ghost use Rattle.match_text.specs.Words.{Judges, rule_in};
+ghost use Rattle.match_text.specs.Place.{Gives, Reads, Says, times, entries, some_entries, word_by, fail};
+ghost use Rattle.match_text.specs.Puzzles.{board_kind_in, board_size, board_line, turns_in, turns_line, border_kind_in, border_rule, border_line, tile_line, puzzle_text, puzzle_of, view_of, PuzzleReads, PuzzleGives};
+
+use crate::faults::{PuzzleTextFault, ReadFault, TextFault, TextKind};
+use crate::scans::Scan;
+use match_board::{Board, Figure, Tile};
+use match_puzzle::{Border, BorderRules, Puzzle};
+use std::alloc::Global;
+
+// What a text says of a puzzle. There may be no such puzzle.
+#[derive(Drop)]
+struct PuzzleText {
+    // with numbers up to 100
+    figure: Figure,
+    turns: bool,
+    // with up to 400 rules
+    border: Border,
+    // from 1 to 100
+    tiles: Vec<Tile>,
+}
+
+// The kinds of board that have a word.
+#[derive(Clone, Copy)]
+enum BoardKind {
+    Rectangle,
+    Triangle,
+    Hexagon,
+}
+
+// The kinds of border that have a word.
+#[derive(Clone, Copy)]
+enum BorderKind {
+    Free,
+    One,
+    Each,
+}
+
+// The most rules of a border.
+const MOST_RULES: usize = 400;
+
+fn board_kind_word(word: &[u8]) -> Result<BoardKind, TextKind>
+    ensures { Judges (λ kind. kind) result (board_kind_in word.now) }
+{
+    if word == b"rect".as_slice() {
+        return Ok(BoardKind::Rectangle);
+    }
+    if word == b"triangle".as_slice() {
+        return Ok(BoardKind::Triangle);
+    }
+    if word == b"hexagon".as_slice() {
+        return Ok(BoardKind::Hexagon);
+    }
+    Err(TextKind::Word)
+}
+
+#[tactic(auto, unfolding(crate::specs::Place::word_by))]
+fn board_kind(scan: &mut Scan) -> Result<BoardKind, TextFault>
+    ensures { Gives (λ kind. kind) result scan.new (word_by board_kind_in scan.old) }
+{
+    let word = scan.next_word()?;
+    scan.accept(board_kind_word(word))
+}
+
+#[tactic(auto, unfolding(crate::specs::Puzzles::board_size))]
+fn board_size(scan: &mut Scan, kind: BoardKind) -> Result<Figure, TextFault>
+    ensures { Gives shape_of result scan.new (board_size kind scan.old) }
+{
+    match kind {
+        BoardKind::Rectangle => {
+            let width = scan.number(0, 100)? as u16;
+            let height = scan.number(0, 100)? as u16;
+            Ok(Figure::Rectangle { width, height })
+        }
+        BoardKind::Triangle => {
+            let size = scan.number(0, 100)? as u16;
+            Ok(Figure::Triangle { size })
+        }
+        BoardKind::Hexagon => {
+            let size = scan.number(0, 100)? as u16;
+            Ok(Figure::Hexagon { size })
+        }
+    }
+}
+
+#[tactic(auto, unfolding(crate::specs::Puzzles::board_line))]
+fn board_line(scan: &mut Scan) -> Result<Figure, TextFault>
+    ensures { Gives shape_of result scan.new (board_line scan.old) }
+{
+    scan.next_line()?;
+    scan.word(b"board")?;
+    let kind = board_kind(scan)?;
+    let figure = board_size(scan, kind)?;
+    scan.end_of_line()?;
+    Ok(figure)
+}
+
+fn turns_word(word: &[u8]) -> Result<bool, TextKind>
+    ensures { Judges (λ turns. turns) result (turns_in word.now) }
+{
+    if word == b"yes".as_slice() {
+        return Ok(true);
+    }
+    if word == b"no".as_slice() {
+        return Ok(false);
+    }
+    Err(TextKind::Word)
+}
+
+#[tactic(auto, unfolding(crate::specs::Place::word_by))]
+fn turns_rule(scan: &mut Scan) -> Result<bool, TextFault>
+    ensures { Gives (λ turns. turns) result scan.new (word_by turns_in scan.old) }
+{
+    let word = scan.next_word()?;
+    scan.accept(turns_word(word))
+}
+
+#[tactic(auto, unfolding(crate::specs::Puzzles::turns_line))]
+fn turns_line(scan: &mut Scan) -> Result<bool, TextFault>
+    ensures { Gives (λ turns. turns) result scan.new (turns_line scan.old) }
+{
+    scan.next_line()?;
+    scan.word(b"turns")?;
+    let turns = turns_rule(scan)?;
+    scan.end_of_line()?;
+    Ok(turns)
+}
+
+fn border_kind_word(word: &[u8]) -> Result<BorderKind, TextKind>
+    ensures { Judges (λ kind. kind) result (border_kind_in word.now) }
+{
+    if word == b"free".as_slice() {
+        return Ok(BorderKind::Free);
+    }
+    if word == b"one".as_slice() {
+        return Ok(BorderKind::One);
+    }
+    if word == b"each".as_slice() {
+        return Ok(BorderKind::Each);
+    }
+    Err(TextKind::Word)
+}
+
+#[tactic(auto, unfolding(crate::specs::Place::word_by))]
+fn border_kind(scan: &mut Scan) -> Result<BorderKind, TextFault>
+    ensures { Gives (λ kind. kind) result scan.new (word_by border_kind_in scan.old) }
+{
+    let word = scan.next_word()?;
+    scan.accept(border_kind_word(word))
+}
+
+// The rest of the line.
+fn rules(alloc: Global, scan: &mut Scan) -> Result<Vec<Option<u8>>, ReadFault>
+    ensures { Reads (λ rules. rules.items) result scan.new (entries 400 rule_in scan.old) }
+{
+    let mut rules = Vec::new(alloc);
+    while scan.has_word() {
+        scan.further_entry(rules.len(), MOST_RULES)?;
+        let rule = scan.rule()?;
+        rules.push(rule)?;
+    }
+    Ok(rules)
+}
+
+#[tactic(auto, unfolding(crate::specs::Place::some_entries))]
+fn some_rules(alloc: Global, scan: &mut Scan) -> Result<Vec<Option<u8>>, ReadFault>
+    ensures { Reads (λ rules. rules.items) result scan.new (some_entries 400 rule_in scan.old) }
+{
+    scan.some_word()?;
+    rules(alloc, scan)
+}
+
+#[tactic(auto, unfolding(crate::specs::Puzzles::border_rule))]
+fn border_rule(alloc: Global, scan: &mut Scan, kind: BorderKind) -> Result<Border, ReadFault>
+    ensures { Reads rule_of result scan.new (border_rule kind scan.old) }
+{
+    match kind {
+        BorderKind::Free => Ok(Border::Free),
+        BorderKind::One => Ok(Border::One(scan.colour()?)),
+        BorderKind::Each => {
+            let rules = some_rules(alloc, scan)?;
+            Ok(Border::Each(BorderRules::new(rules)))
+        }
+    }
+}
+
+#[tactic(auto, unfolding(crate::specs::Puzzles::border_line))]
+fn border_line(alloc: Global, scan: &mut Scan) -> Result<Border, ReadFault>
+    ensures { Reads rule_of result scan.new (border_line scan.old) }
+{
+    scan.next_line()?;
+    scan.word(b"border")?;
+    let kind = border_kind(scan)?;
+    let border = border_rule(alloc, scan, kind)?;
+    scan.end_of_line()?;
+    Ok(border)
+}
+
+#[tactic(auto, unfolding(crate::specs::Puzzles::tile_line))]
+fn tile_line(scan: &mut Scan) -> Result<Tile, TextFault>
+    ensures { Gives tile_colours result scan.new (tile_line scan.old) }
+{
+    scan.next_line()?;
+    scan.word(b"tile")?;
+    let tile = scan.tile()?;
+    scan.end_of_line()?;
+    Ok(tile)
+}
+
+fn tile_lines(alloc: Global, scan: &mut Scan, count: u32) -> Result<Vec<Tile>, ReadFault>
+    ensures { Reads (λ tiles. map tile_colours tiles.items) result scan.new (times count tile_line scan.old) }
+{
+    let mut tiles = Vec::new(alloc);
+    for _ in 0..count {
+        let tile = tile_line(scan)?;
+        tiles.push(tile)?;
+    }
+    Ok(tiles)
+}
+
+#[tactic(auto, unfolding(crate::specs::Puzzles::puzzle_text))]
+fn whole(alloc: Global, scan: &mut Scan) -> Result<PuzzleText, ReadFault>
+    ensures { Reads view_of result scan.new (puzzle_text scan.old) }
+{
+    scan.opening(b"match")?;
+    let figure = board_line(scan)?;
+    let turns = turns_line(scan)?;
+    let border = border_line(alloc, scan)?;
+    let count = scan.counted(b"tiles", 1, 100)?;
+    let tiles = tile_lines(alloc, scan, count)?;
+    scan.closing()?;
+    Ok(PuzzleText {
+        figure,
+        turns,
+        border,
+        tiles,
+    })
+}
+
+#[tactic(auto, unfolding(crate::specs::Puzzles::puzzle_of))]
+fn read_text(alloc: Global, text: &[u8]) -> Result<PuzzleText, ReadFault>
+    requires { length text.now + 1 < 2 ^ 32 }
+    ensures { Says view_of result (puzzle_of text.now) }
+{
+    let mut scan = Scan::new(text);
+    whole(alloc, &mut scan)
+}
+
+// The board and the puzzle are made after the whole text was read.
+fn read_and_make(alloc: Global, text: &[u8]) -> Result<Puzzle, PuzzleTextFault>
+    requires { length text.now + 1 < 2 ^ 32 }
+    ensures { PuzzleReads text.now result }
+{
+    let said = read_text(alloc, text)?;
+    let board = Board::of(said.figure)?;
+    let puzzle = Puzzle::new(alloc, board, said.turns, &said.border, &said.tiles)?;
+    Ok(puzzle)
+}
+
+/// The puzzle that a text asks for. An `Err` is the text's first fault; where it has none, that of
+/// the board; where there is such a board, that of the puzzle; `Memory` only where that is refused.
+pub fn read_puzzle(alloc: Global, text: &[u8]) -> Result<Puzzle, PuzzleTextFault>
+    requires { length text.now + 1 < 2 ^ 32 }
+    // Which puzzle, and which fault.
+    ensures exact { PuzzleReads text.now result }
+    // What is read is spelled so.
+    ensures found { IfOk result (λ p. text.now ≡ puzzle_spelling p) }
+    // What is spelled so is read.
+    ensures only { (p : Task) → IsPuzzle p → text.now ≡ puzzle_spelling p → PuzzleGives result (Ok p) }
+    // A spelling that is cut short ends at its last line.
+    ensures cut { (p : Task) (k : ℕ) → IsTaskWithin p → k < length (puzzle_spelling p) → text.now ≡ take k (puzzle_spelling p)
+        → PuzzleGives result (fail (line_ends text.now + 1) kinds.Ends) }
+{
+    read_and_make(alloc, text)
+}

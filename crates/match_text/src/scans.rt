@@ -1,0 +1,308 @@
+// Lines and words, one after the other.
+
+ghost use Rattle.std.specs.Prelude.{◌≡◌, ◌≢◌, MatchBool, MatchResult, ◌+◌, ◌<◌, ◌≤◌, ◌^◌, [], Some, length, OnErr, IfOk};
+ghost use Rattle.std.specs.Option.{option_copied};
+ghost use Rattle.match_board.specs.Tile.{word as tile_colours};
+ghost use Rattle.match_text.specs.Bytes.{words_from};
+ghost use Rattle.match_text.specs.Words.{fixed_in, version_in, number_in, colour_in, rule_in, tile_in, placement_in, pair_in};
+ghost use Rattle.match_text.specs.Place.{Place, start, first_word, other_words, without_word, judged, Gives, next_line, end_of_line, end_of_text, some_word, word_by, opening, counted, closing};
+
+use crate::faults::{TextFault, TextKind};
+use crate::words::{
+    colour_word, cut, fixed_word, front, number_word, pair_word, placement_word, rule_word,
+    tile_word, version_word,
+};
+use match_board::Tile;
+use match_puzzle::{Pair, Placement};
+use std::marker::Model;
+
+/// Reads a text line by line, and a line word by word, each byte once.
+///
+/// A fault at a single word leaves it as it was; one on a line that is read whole leaves it at that
+/// fault.
+#[derive(Drop)]
+pub struct Scan<'a> {
+    line: u32,
+    // the next word of the line, cut off, and what stands after the space that ends it
+    word: Option<&'a [u8]>,
+    others: Option<&'a [u8]>,
+    ahead: &'a [u8],
+}
+
+impl<'a> Model for Scan<'a> {
+    ghost Value = { Place };
+
+    ghost view = { λ s. record {
+      line = s.line;
+      words = words_from (option_copied s.word) (option_copied s.others);
+      ahead = s.ahead.now;
+    } };
+
+    ghost invariant = { λ s. s.line + length s.ahead.now + 1 < 2 ^ 32 };
+}
+
+impl<'a> Scan<'a> {
+    /// Before the first line of the text.
+    pub fn new(text: &'a [u8]) -> Scan<'a>
+        requires { length text.now + 1 < 2 ^ 32 }
+        ensures { result ≡ start text.now }
+    {
+        Scan {
+            line: 0,
+            word: None,
+            others: None,
+            ahead: text,
+        }
+    }
+
+    /// A fault on the line that is read.
+    pub fn fault(&self, kind: TextKind) -> TextFault
+        ensures { result ≡ record { line = self.now.line; kind = kind } }
+    {
+        TextFault {
+            line: self.line,
+            kind,
+        }
+    }
+
+    /// Goes on to the next line. Ends, where no LF is ahead.
+    #[tactic(auto, unfolding(crate::specs::Place::next_line))]
+    pub fn next_line(&mut self) -> Result<(), TextFault>
+        ensures gives { Gives (λ _. tt) result self.new (next_line self.old) }
+        ensures err { OnErr result (self.new ≡ self.old) }
+    {
+        let Some((line, ahead)) = cut(self.ahead, b'\n') else {
+            return Err(TextFault {
+                line: self.line + 1,
+                kind: TextKind::Ends,
+            });
+        };
+        let (word, others) = front(line);
+        self.line += 1;
+        self.word = Some(word);
+        self.others = others;
+        self.ahead = ahead;
+        Ok(())
+    }
+
+    /// The next word of the line, if one stands there.
+    pub fn peek(&self) -> Option<&'a [u8]>
+        ensures { option_copied result ≡ first_word self.now.words }
+    {
+        self.word
+    }
+
+    /// Whether the line has a further word.
+    pub fn has_word(&self) -> bool
+        ensures { MatchBool result (self.now.words ≢ []) (self.now.words ≡ []) }
+    {
+        self.word.is_some()
+    }
+
+    /// Goes past a word.
+    pub fn advance(&mut self)
+        requires { self.old.words ≢ [] }
+        ensures { self.new ≡ without_word self.old }
+    {
+        match self.others {
+            None => self.word = None,
+            Some(rest) => {
+                let (word, others) = front(rest);
+                self.word = Some(word);
+                self.others = others;
+            }
+        }
+    }
+
+    /// The line has no further word. Word, where it has one.
+    #[tactic(auto, unfolding(crate::specs::Place::end_of_line))]
+    pub fn end_of_line(&self) -> Result<(), TextFault>
+        ensures { Gives (λ _. tt) result self.now (end_of_line self.now) }
+    {
+        match self.word {
+            None => Ok(()),
+            Some(_) => Err(self.fault(TextKind::Word)),
+        }
+    }
+
+    /// The text has nothing after the line. After, where it has.
+    #[tactic(auto, unfolding(crate::specs::Place::end_of_text))]
+    pub fn end_of_text(&self) -> Result<(), TextFault>
+        ensures { Gives (λ _. tt) result self.now (end_of_text self.now) }
+    {
+        if self.ahead.is_empty() {
+            Ok(())
+        } else {
+            Err(TextFault {
+                line: self.line + 1,
+                kind: TextKind::After,
+            })
+        }
+    }
+
+    /// The next word. Word, where none stands there.
+    pub fn next_word(&self) -> Result<&'a [u8], TextFault>
+        ensures { MatchResult result
+            (λ word. first_word self.now.words ≡ Some word.now)
+            (λ e. (self.now.words ≡ []) × (e ≡ record { line = self.now.line; kind = TextKind.Word })) }
+    {
+        self.peek().ok_or(self.fault(TextKind::Word))
+    }
+
+    /// A word stands there. Word, where none does.
+    #[tactic(auto, unfolding(crate::specs::Place::some_word))]
+    pub fn some_word(&self) -> Result<(), TextFault>
+        ensures { Gives (λ _. tt) result self.now (some_word self.now) }
+    {
+        match self.word {
+            None => Err(self.fault(TextKind::Word)),
+            Some(_) => Ok(()),
+        }
+    }
+
+    /// A further entry may follow those that were read. Limit, where they are as many as may stand.
+    pub fn further_entry(&self, read: usize, most: usize) -> Result<(), TextFault>
+        ensures { MatchResult result
+            (λ _. read < most)
+            (λ e. (most ≤ read) × (e ≡ record { line = self.now.line; kind = TextKind.Limit })) }
+    {
+        if read < most {
+            Ok(())
+        } else {
+            Err(self.fault(TextKind::Limit))
+        }
+    }
+
+    /// Goes past the next word where it was judged good, and else says what is wrong with it.
+    pub fn accept<X>(&mut self, judgement: Result<X, TextKind>) -> Result<X, TextFault>
+        requires { self.old.words ≢ [] }
+        ensures gives { Gives (λ x. x) result self.new (judged self.old (other_words self.old.words) judgement) }
+        ensures err { OnErr result (self.new ≡ self.old) }
+    {
+        match judgement {
+            Ok(x) => {
+                self.advance();
+                Ok(x)
+            }
+            Err(kind) => Err(self.fault(kind)),
+        }
+    }
+
+    /// This word.
+    #[tactic(auto, unfolding(crate::specs::Place::word_by))]
+    pub fn word(&mut self, wanted: &[u8]) -> Result<(), TextFault>
+        ensures gives { Gives (λ _. tt) result self.new (word_by (fixed_in wanted.now) self.old) }
+        ensures err { OnErr result (self.new ≡ self.old) }
+    {
+        let word = self.next_word()?;
+        self.accept(fixed_word(word, wanted))
+    }
+
+    /// The version.
+    #[tactic(auto, unfolding(crate::specs::Place::word_by))]
+    pub fn version(&mut self) -> Result<(), TextFault>
+        ensures gives { Gives (λ _. tt) result self.new (word_by version_in self.old) }
+        ensures err { OnErr result (self.new ≡ self.old) }
+    {
+        let word = self.next_word()?;
+        self.accept(version_word(word))
+    }
+
+    /// A number from `least` to `most`.
+    #[tactic(auto, unfolding(crate::specs::Place::word_by))]
+    pub fn number(&mut self, least: u32, most: u32) -> Result<u32, TextFault>
+        requires { most + 1 < 2 ^ 32 }
+        ensures gives { Gives (λ n. n) result self.new (word_by (number_in least most) self.old) }
+        ensures within { IfOk result (λ n. (least ≤ n) × (n ≤ most)) }
+        ensures err { OnErr result (self.new ≡ self.old) }
+    {
+        let word = self.next_word()?;
+        self.accept(number_word(word, least, most))
+    }
+
+    /// A colour, below 36.
+    #[tactic(auto, unfolding(crate::specs::Place::word_by))]
+    pub fn colour(&mut self) -> Result<u8, TextFault>
+        ensures gives { Gives (λ n. n) result self.new (word_by colour_in self.old) }
+        ensures err { OnErr result (self.new ≡ self.old) }
+    {
+        let word = self.next_word()?;
+        self.accept(colour_word(word))
+    }
+
+    /// What is asked of a border pair: a colour below 36, or nothing.
+    #[tactic(auto, unfolding(crate::specs::Place::word_by))]
+    pub fn rule(&mut self) -> Result<Option<u8>, TextFault>
+        ensures gives { Gives (λ rule. rule) result self.new (word_by rule_in self.old) }
+        ensures err { OnErr result (self.new ≡ self.old) }
+    {
+        let word = self.next_word()?;
+        self.accept(rule_word(word))
+    }
+
+    /// A tile of three or four sides.
+    #[tactic(auto, unfolding(crate::specs::Place::word_by))]
+    pub fn tile(&mut self) -> Result<Tile, TextFault>
+        ensures gives { Gives tile_colours result self.new (word_by tile_in self.old) }
+        ensures err { OnErr result (self.new ≡ self.old) }
+    {
+        let word = self.next_word()?;
+        self.accept(tile_word(word))
+    }
+
+    /// A placement: a tile below 100, and a turn below 4.
+    #[tactic(auto, unfolding(crate::specs::Place::word_by))]
+    pub fn placement(&mut self) -> Result<Placement, TextFault>
+        ensures gives { Gives (λ p. p) result self.new (word_by placement_in self.old) }
+        ensures err { OnErr result (self.new ≡ self.old) }
+    {
+        let word = self.next_word()?;
+        self.accept(placement_word(word))
+    }
+
+    /// A pair: a cell below 100, and a placement.
+    #[tactic(auto, unfolding(crate::specs::Place::word_by))]
+    pub fn pair(&mut self) -> Result<Pair, TextFault>
+        ensures gives { Gives (λ p. p) result self.new (word_by pair_in self.old) }
+        ensures err { OnErr result (self.new ≡ self.old) }
+    {
+        let word = self.next_word()?;
+        self.accept(pair_word(word))
+    }
+
+    /// The first line of a text: its name and the version.
+    #[tactic(auto, unfolding(crate::specs::Place::opening))]
+    pub fn opening(&mut self, name: &[u8]) -> Result<(), TextFault>
+        ensures { Gives (λ _. tt) result self.new (opening name.now self.old) }
+    {
+        self.next_line()?;
+        self.word(name)?;
+        self.version()?;
+        self.end_of_line()
+    }
+
+    /// A line of a name and a number from `least` to `most`.
+    #[tactic(auto, unfolding(crate::specs::Place::counted))]
+    pub fn counted(&mut self, name: &[u8], least: u32, most: u32) -> Result<u32, TextFault>
+        requires { most + 1 < 2 ^ 32 }
+        ensures gives { Gives (λ n. n) result self.new (counted name.now least most self.old) }
+        ensures within { IfOk result (λ n. (least ≤ n) × (n ≤ most)) }
+    {
+        self.next_line()?;
+        self.word(name)?;
+        let number = self.number(least, most)?;
+        self.end_of_line()?;
+        Ok(number)
+    }
+
+    /// The line `end`, and nothing after it.
+    #[tactic(auto, unfolding(crate::specs::Place::closing))]
+    pub fn closing(&mut self) -> Result<(), TextFault>
+        ensures { Gives (λ _. tt) result self.new (closing self.old) }
+    {
+        self.next_line()?;
+        self.word(b"end")?;
+        self.end_of_line()?;
+        self.end_of_text()
+    }
+}

@@ -1,0 +1,37 @@
+// Words and lines are written one after the other.
+
+ghost use Rattle.std.specs.Prelude.{◌≡◌, ◌++◌, ◌∷◌, [], ◌<◌, decimal, OnOk};
+ghost use Rattle.match_text.specs.Spelling.{colour_character, count_words, end_lines, first_words, text_of};
+
+use itoa::Buffer;
+use std::alloc::AllocError;
+
+/// Writes a number.
+pub fn put_number(text: &mut Vec<u8>, number: u32) -> Result<(), AllocError>
+    ensures { OnOk result (text.new.items ≡ text.old.items ++ decimal number) }
+{
+    let mut buffer = Buffer::new();
+    text.extend_from_slice(buffer.format(number).as_bytes())?;
+    Ok(())
+}
+
+/// Writes a line of words and a number behind them.
+#[tactic(auto, unfolding(crate::specs::Spelling::text_of))]
+pub fn put_number_line(text: &mut Vec<u8>, words: &[u8], number: u32) -> Result<(), AllocError>
+    ensures { OnOk result (text.new.items ≡ text.old.items ++ text_of (count_words words.now number ∷ [])) }
+{
+    text.extend_from_slice(words)?;
+    text.push(b' ')?;
+    put_number(text, number)?;
+    text.push(b'\n')?;
+    Ok(())
+}
+
+/// Writes the last line.
+#[tactic(auto, unfolding(crate::specs::Spelling::text_of))]
+pub fn put_end(text: &mut Vec<u8>) -> Result<(), AllocError>
+    ensures { OnOk result (text.new.items ≡ text.old.items ++ text_of end_lines) }
+{
+    text.extend_from_slice(b"end\n")?;
+    Ok(())
+}
