@@ -1,167 +1,265 @@
 -- What a check finds is the answer.
-use Rattle.std.proofs.Common.{◌≡◌, ◌<◌, ◌≤◌, ◌-◌, ℕ, zero, suc, List, [], ◌∷◌, Option, Some, None, IfSome, length, slice_get, ap, sym, refl, arith, subst, ⊎_elim}
+use Rattle.std.proofs.Common.{◌≡◌, ◌⊎◌, ◌<◌, ◌≤◌, ◌+◌, ◌∙◌, ℕ, zero, suc, List, [], ◌∷◌, Option, Some, slice_get, map, take, arith, inl, inr, ap, sym, refl, subst, ⊎_elim}
+use Rattle.std.specs.Option.{option_map}
+use Rattle.std.proofs.lemmas.Bool.Decides.{eqb_tells}
+use Rattle.std.proofs.lemmas.Option.{slice_get-map}
 use Rattle.std.proofs.lemmas.Bool.{cases_lt}
 use Rattle.match_board.specs.First.{Rank, AtMost, IsLeast, IsFirst}
 use Rattle.match_puzzle.specs.Puzzle.{Task}
-use Rattle.match_puzzle.specs.Prefix.{empty_prefix}
-use Rattle.match_puzzle.specs.PrefixFaults.{IsPairList}
-use Rattle.match_puzzle.specs.declared.faults.ArrangementFault.{ArrangementFault}
+use Rattle.match_puzzle.specs.Arrangement.{IsArrangement}
+use Rattle.match_puzzle.specs.Prefix.{empty_prefix, with_pairs}
+use Rattle.match_puzzle.specs.declared.placements.Pair.{Pair}
 use Rattle.match_puzzle.proofs.Prefixes.{inside}
-use Rattle.cert_check.specs.declared.certificates.Lemma.{Lemma}
+use Rattle.match_symmetry.specs.Motion.{Motion}
+use Rattle.cert_tree.specs.declared.certificates.Lemma.{Lemma}
+use Rattle.cert_tree.specs.Tree.{tree_of}
+use Rattle.match_puzzle.specs.ArrangementFaults.{IsArrangementFault}
+use Rattle.match_puzzle.specs.PrefixFaults.{IsPairList, IsPrefixFault}
+use Rattle.match_puzzle.specs.declared.placements.Placement.{Placement}
+use Rattle.match_puzzle.specs.declared.faults.ArrangementFault.{ArrangementFault}
+use Rattle.match_puzzle.specs.declared.faults.PrefixFault.{PrefixFault}
+use Rattle.match_symmetry.specs.Symmetry.{IsSymmetry}
+use Rattle.match_symmetry.specs.SymmetryFaults.{IsSymmetryFault}
+use Rattle.match_symmetry.specs.declared.faults.SymmetryFault.{SymmetryFault}
+use Rattle.match_symmetry.specs.declared.lines.SymmetryLine.{SymmetryLine}
+use Rattle.match_symmetry.proofs.FaultLemmas.{no_fault}
+use Rattle.cert_tree.specs.Certificate.{Contents, Piece, piece_of}
 use Rattle.cert_check.specs.declared.faults.TreeFault.{TreeFault}
 use Rattle.cert_check.specs.declared.faults.Fault.{Fault}
 use Rattle.cert_check.specs.declared.faults.Fault.TheVariants as faults
-use Rattle.cert_check.specs.Setting.{Setting}
-use Rattle.cert_check.specs.Tree.{IsNarrow, tree_of}
+use Rattle.cert_check.specs.Setting.{Question, Setting, question_of, prefix_of, pairs_of, line_of, setting_at, setting_of, BeginWithPrefixes}
 use Rattle.cert_check.specs.NodeRules.{Holds}
 use Rattle.cert_check.specs.TreeFaults.{FailsAt}
-use Rattle.cert_check.specs.Derivation.{Claim, start_of, HasRoot}
-use Rattle.cert_check.specs.declared.trees.Node.{Node}
-use Rattle.cert_check.specs.Certificate.{claim_of, claims_of, plain_claims, ArePlain}
-use Rattle.cert_check.specs.Answer.{AreArrangements, AreDistinct, RepeatsEarlier, IsShown, Occurs, fault_rank}
-use Rattle.cert_check.specs.Lists.{IsListFault}
-use Rattle.cert_check.proofs.ListLemmas.{none≢some}
-use Rattle.cert_check.proofs.AnswerLemmas.{arrangement_no_fault}
+use Rattle.cert_check.specs.Derivation.{start_of, HavePrefixes, HasRoot, TreesHold}
+use Rattle.cert_check.specs.Answer.{AreArrangements, AreSymmetries, AreDistinct, RepeatsEarlier, IsShown, Occurs, fault_rank}
+use Rattle.cert_check.specs.Lists.{IsFirstBad}
+use Rattle.cert_check.specs.declared.symmetries.SymmetriesFault.{SymmetriesFault}
+use Rattle.cert_check.specs.declared.symmetries.SymmetriesFault.TheVariants.{Line, Memory}
+use Rattle.cert_check.specs.Lines.{LineFails as LineFailsAt, LinesFail, IsFirstBadPrefix}
+use Rattle.cert_check.specs.Walk.{Tells, TellsOfLemma, TellsOfListing}
+use Rattle.cert_check.proofs.ListLemmas.{mapped_at}
+use Rattle.cert_check.proofs.PrefixLemmas.{start_long}
+use Rattle.cert_check.proofs.FaultLemmas.{holds_not_fails}
+use Rattle.cert_check.proofs.AnswerLemmas.{arrangement_no_fault, prefix_no_fault}
 
--- a lesser kind comes first
-lesser_kind : (a b : Rank) → a.first < b.first → AtMost a b
-lesser_kind a b lt = record {
-  first = omega arith;
-  second = λ e. absurd (omega (arith, e));
-  third = λ e. absurd (omega (arith, e));
+-- a lesser kind comes first, and within a kind a lesser number
+abbrev ComesNoLater : (a b : Rank) → Type 0
+ComesNoLater a b = (a.first < b.first) ⊎ ((a.first ≡ b.first) × (a.second ≤ b.second))
+
+at_most : (a b : Rank) → a.third ≡ 0 → ComesNoLater a b → AtMost a b
+at_most a b none h = record {
+  first = ⊎_elim (λ lt. omega (arith, lt)) (λ w. omega (arith, w.0)) h;
+  second = λ e. ⊎_elim (λ lt. absurd (omega (arith, lt, e))) (λ w. w.1) h;
+  third = λ _ _. omega (arith, none);
 }
 
--- within a kind a lesser number does
-lesser_number : (a b : Rank) → a.first ≡ b.first → a.second ≤ b.second → a.third ≡ 0 → AtMost a b
-lesser_number a b same le none = record {
-  first = omega arith;
-  second = λ _. le;
-  third = λ _ _. omega arith;
-}
+-- nothing before the first bad one fails
+no_earlier : {X F : Type 0} (P : ℕ → X → Type 0) (Fails : ℕ → X → F → Type 0) (xs : List X) (number : ℕ) (fault : F) → IsFirstBad P Fails xs number fault → ((n : ℕ) (x : X) (f : F) → P n x → Fails n x f → ⊥) →
+    (m : ℕ) (x : X) (f : F) → slice_get xs m ≡ Some x → Fails m x f → number ≤ m
+no_earlier P Fails xs number fault is never m x f at fails = ⊎_elim (λ before. absurd (never m x f (is.before m x before at) fails)) (λ le. le) (cases_lt m number)
 
-module _ (s : Setting) (claims : List Claim) where
+module _ (question : Question) where
   abbrev IsFirstFault : Fault → Type 0
-  IsFirstFault = IsFirst fault_rank (Occurs s claims)
+  IsFirstFault = IsFirst fault_rank (Occurs question)
 
-  module _ (number : ℕ) (fault : ArrangementFault) (is : IsListFault s.puzzle s.listed number fault) where
-    list_least : (g : Fault) → Occurs s claims g → AtMost (fault_rank (faults.List number fault)) (fault_rank g)
-    list_least (faults.List m f) other =
-        let le : number ≤ m = ⊎_elim (λ before. absurd (arrangement_no_fault s.puzzle other.0 f (is.before m other.0 before other.1) other.2.occurs)) (λ le. le) (cases_lt m number) in
-        lesser_number (fault_rank (faults.List number fault)) (fault_rank (faults.List m f)) refl le refl
-    list_least (faults.Repeated m) other = lesser_kind (fault_rank (faults.List number fault)) (fault_rank (faults.Repeated m)) (omega arith)
-    list_least faults.Root other = lesser_kind (fault_rank (faults.List number fault)) (fault_rank faults.Root) (omega arith)
-    list_least (faults.Tree m f) other = lesser_kind (fault_rank (faults.List number fault)) (fault_rank (faults.Tree m f)) (omega arith)
+  -- a fault that no other comes before
+  first_fault : (fault : Fault) → Occurs question fault → (fault_rank fault).third ≡ 0 → ((g : Fault) → Occurs question g → ComesNoLater (fault_rank fault) (fault_rank g)) → IsFirstFault fault
+  first_fault fault occurs none least = record { occurs = occurs; first = λ g other. at_most (fault_rank fault) (fault_rank g) none (least g other) }
+
+  -- ---- the list
+
+  -- what may be wrong with a listed one
+  abbrev pub ListingFails : ℕ → List Placement → ArrangementFault → Type 0
+  ListingFails number a fault = IsArrangementFault question.puzzle a fault
+
+  abbrev pub ListingIs : ℕ → List Placement → Type 0
+  ListingIs number a = IsArrangement question.puzzle a
+
+  module _ (number : ℕ) (fault : ArrangementFault) (is : IsFirstBad ListingIs ListingFails question.listed number fault) where
+    listing_least : (g : Fault) → Occurs question g → ComesNoLater (fault_rank (faults.List number fault)) (fault_rank g)
+    listing_least (faults.List m f) other =
+        inr (refl, no_earlier ListingIs ListingFails question.listed number fault is (λ n a h arranged fails. arrangement_no_fault question.puzzle a h arranged fails.occurs) m other.0 f other.1 other.2)
+    listing_least (faults.Repeated m) other = inl (omega arith)
+    listing_least (faults.Symmetry m f) other = inl (omega arith)
+    listing_least (faults.Prefix m f) other = inl (omega arith)
+    listing_least faults.Root other = inl (omega arith)
+    listing_least (faults.Tree m f) other = inl (omega arith)
 
     pub first_list : IsFirstFault (faults.List number fault)
-    first_list = record { occurs = is.occurs; first = list_least }
+    first_list = first_fault (faults.List number fault) is.occurs refl listing_least
 
-  module _ (arranged : AreArrangements s.puzzle s.listed) where
-    no_list : (m : ℕ) (f : ArrangementFault) → Occurs s claims (faults.List m f) → ⊥
-    no_list m f other = arrangement_no_fault s.puzzle other.0 f (arranged m other.0 other.1) other.2.occurs
+  module _ (arranged : AreArrangements question.puzzle question.listed) where
+    no_list : (m : ℕ) (f : ArrangementFault) → Occurs question (faults.List m f) → ⊥
+    no_list m f other = arrangement_no_fault question.puzzle other.0 f (arranged m other.0 other.1) other.2.occurs
 
-    module _ (number : ℕ) (is : IsLeast (RepeatsEarlier s.listed) number) where
-      repeated_least : (g : Fault) → Occurs s claims g → AtMost (fault_rank (faults.Repeated number)) (fault_rank g)
-      repeated_least (faults.List m f) other = absurd (no_list m f other)
-      repeated_least (faults.Repeated m) other = lesser_number (fault_rank (faults.Repeated number)) (fault_rank (faults.Repeated m)) refl (is.least m other) refl
-      repeated_least faults.Root other = lesser_kind (fault_rank (faults.Repeated number)) (fault_rank faults.Root) (omega arith)
-      repeated_least (faults.Tree m f) other = lesser_kind (fault_rank (faults.Repeated number)) (fault_rank (faults.Tree m f)) (omega arith)
+    repeated_least : (number : ℕ) → IsLeast (RepeatsEarlier question.listed) number → (g : Fault) → Occurs question g → ComesNoLater (fault_rank (faults.Repeated number)) (fault_rank g)
+    repeated_least number is (faults.List m f) other = absurd (no_list m f other)
+    repeated_least number is (faults.Repeated m) other = inr (refl, is.least m other)
+    repeated_least number is (faults.Symmetry m f) other = inl (omega arith)
+    repeated_least number is (faults.Prefix m f) other = inl (omega arith)
+    repeated_least number is faults.Root other = inl (omega arith)
+    repeated_least number is (faults.Tree m f) other = inl (omega arith)
 
-      pub first_repeated : IsFirstFault (faults.Repeated number)
-      first_repeated = record { occurs = is.holds; first = repeated_least }
+    pub first_repeated : (number : ℕ) → IsLeast (RepeatsEarlier question.listed) number → IsFirstFault (faults.Repeated number)
+    first_repeated number is = first_fault (faults.Repeated number) is.holds refl (repeated_least number is)
 
-    module _ (distinct : AreDistinct s.listed) where
-      no_repeated : (m : ℕ) → RepeatsEarlier s.listed m → ⊥
+    module _ (distinct : AreDistinct question.listed) where
+      no_repeated : (m : ℕ) → Occurs question (faults.Repeated m) → ⊥
       no_repeated m other = omega (arith, distinct other.0 m other.1 other.3 other.4, other.2)
 
-      root_least : (g : Fault) → Occurs s claims g → AtMost (fault_rank faults.Root) (fault_rank g)
-      root_least (faults.List m f) other = absurd (no_list m f other)
-      root_least (faults.Repeated m) other = absurd (no_repeated m other)
-      root_least faults.Root other = lesser_number (fault_rank faults.Root) (fault_rank faults.Root) refl (omega arith) refl
-      root_least (faults.Tree m f) other = lesser_kind (fault_rank faults.Root) (fault_rank (faults.Tree m f)) (omega arith)
+      -- ---- the symmetries
 
-      first_root : (HasRoot claims → ⊥) → IsFirstFault faults.Root
-      first_root none = record { occurs = none; first = root_least }
+      -- what may be wrong with a symmetry line
+      abbrev pub LineFails : ℕ → SymmetryLine → SymmetryFault → Type 0
+      LineFails number g fault = IsSymmetryFault question.puzzle g fault
 
-      tree_least : (fault : TreeFault) (g : Fault) → HasRoot claims → Occurs s claims g → AtMost (fault_rank (faults.Tree 0 fault)) (fault_rank g)
-      tree_least fault (faults.List m f) root other = absurd (no_list m f other)
-      tree_least fault (faults.Repeated m) root other = absurd (no_repeated m other)
-      tree_least fault faults.Root root other = absurd (other root)
-      tree_least fault (faults.Tree m f) root other = lesser_number (fault_rank (faults.Tree 0 fault)) (fault_rank (faults.Tree m f)) refl (omega arith) refl
+      abbrev pub LineIs : ℕ → SymmetryLine → Type 0
+      LineIs number g = IsSymmetry question.puzzle g
 
-      -- the lemma numbered 0 has the first fault, where there is a root
-      first_tree : (claim : Claim) (fault : TreeFault) → HasRoot claims → slice_get claims 0 ≡ Some claim → FailsAt s claim.tree (start_of s.puzzle claim) fault.path fault.fault → IsFirstFault (faults.Tree 0 fault)
-      first_tree claim fault root at fails = record { occurs = (claim, at, fails); first = λ g other. tree_least fault g root other }
+      module _ (number : ℕ) (fault : SymmetryFault) (is : IsFirstBad LineIs LineFails question.symmetries number fault) where
+        symmetry_least : (g : Fault) → Occurs question g → ComesNoLater (fault_rank (faults.Symmetry number fault)) (fault_rank g)
+        symmetry_least (faults.List m f) other = absurd (no_list m f other)
+        symmetry_least (faults.Repeated m) other = absurd (no_repeated m other)
+        symmetry_least (faults.Symmetry m f) other =
+            inr (refl, no_earlier LineIs LineFails question.symmetries number fault is (λ n g h moves fails. no_fault question.puzzle g moves h fails.occurs) m other.0 f other.1 other.2)
+        symmetry_least (faults.Prefix m f) other = inl (omega arith)
+        symmetry_least faults.Root other = inl (omega arith)
+        symmetry_least (faults.Tree m f) other = inl (omega arith)
 
--- ---- a certificate of one lemma, or none
+        pub first_symmetry : IsFirstFault (faults.Symmetry number fault)
+        first_symmetry = first_fault (faults.Symmetry number fault) is.occurs refl symmetry_least
 
--- the only lemma
-pub record IsOnly (lemmas : List Lemma) (root : Lemma) : Type 0 where
-  pub number : root.number ≡ 0
-  pub prefix : root.prefix ≡ []
-  pub is : lemmas ≡ root ∷ []
+      module _ (symmetric : AreSymmetries question.puzzle question.symmetries) where
+        no_symmetry : (m : ℕ) (f : SymmetryFault) → Occurs question (faults.Symmetry m f) → ⊥
+        no_symmetry m f other = no_fault question.puzzle other.0 (symmetric m other.0 other.1) f other.2.occurs
 
-pub only_lemma : (lemmas : List Lemma) (root : Lemma) → ArePlain lemmas → slice_get lemmas (length lemmas - 1) ≡ Some root → IsOnly lemmas root
-only_lemma [] root plain at = absurd (none≢some at)
-only_lemma (lemma ∷ []) root plain at = record {
-  number = plain.numbered 0 root at;
-  prefix = plain.empty 0 root at;
-  is = ap (λ (l : Lemma). l ∷ []) (inside at);
+        -- ---- the prefixes
+
+        -- what may be wrong with a lemma's prefix
+        abbrev pub PrefixFailsOf : ℕ → Piece → PrefixFault → Type 0
+        PrefixFailsOf number lemma fault = IsPrefixFault question.puzzle lemma.prefix fault
+
+        abbrev pub PrefixIs : ℕ → Piece → Type 0
+        PrefixIs number lemma = IsPairList question.puzzle lemma.prefix
+
+        module _ (number : ℕ) (fault : PrefixFault) (is : IsFirstBad PrefixIs PrefixFailsOf question.lemmas number fault) where
+          prefix_least : (g : Fault) → Occurs question g → ComesNoLater (fault_rank (faults.Prefix number fault)) (fault_rank g)
+          prefix_least (faults.List m f) other = absurd (no_list m f other)
+          prefix_least (faults.Repeated m) other = absurd (no_repeated m other)
+          prefix_least (faults.Symmetry m f) other = absurd (no_symmetry m f other)
+          prefix_least (faults.Prefix m f) other =
+              inr (refl, no_earlier PrefixIs PrefixFailsOf question.lemmas number fault is (λ n lemma h right fails. prefix_no_fault question.puzzle lemma.prefix h right fails.occurs) m other.0 f other.1 other.2)
+          prefix_least faults.Root other = inl (omega arith)
+          prefix_least (faults.Tree m f) other = inl (omega arith)
+
+          pub first_prefix : IsFirstFault (faults.Prefix number fault)
+          first_prefix = first_fault (faults.Prefix number fault) is.occurs refl prefix_least
+
+        module _ (prefixes : HavePrefixes question) where
+          no_prefix : (m : ℕ) (f : PrefixFault) → Occurs question (faults.Prefix m f) → ⊥
+          no_prefix m f other = prefix_no_fault question.puzzle other.0.prefix f (prefixes m other.0 other.1) other.2.occurs
+
+          -- ---- the root
+
+          root_least : (g : Fault) → Occurs question g → ComesNoLater (fault_rank faults.Root) (fault_rank g)
+          root_least (faults.List m f) other = absurd (no_list m f other)
+          root_least (faults.Repeated m) other = absurd (no_repeated m other)
+          root_least (faults.Symmetry m f) other = absurd (no_symmetry m f other)
+          root_least (faults.Prefix m f) other = absurd (no_prefix m f other)
+          root_least faults.Root other = inr (refl, omega arith)
+          root_least (faults.Tree m f) other = inl (omega arith)
+
+          pub first_root : (HasRoot question.lemmas → ⊥) → IsFirstFault faults.Root
+          first_root none = first_fault faults.Root none refl root_least
+
+          module _ (root : HasRoot question.lemmas) where
+            -- ---- the trees
+
+            -- what may be wrong with a lemma's tree
+            abbrev pub TreeFails : ℕ → Piece → TreeFault → Type 0
+            TreeFails number lemma fault = FailsAt (setting_at question number) lemma.tree (start_of question.puzzle lemma) fault.path fault.fault
+
+            abbrev pub TreeHolds : ℕ → Piece → Type 0
+            TreeHolds number lemma = Holds (setting_at question number) lemma.tree (start_of question.puzzle lemma)
+
+            module _ (number : ℕ) (fault : TreeFault) (is : IsFirstBad TreeHolds TreeFails question.lemmas number fault) where
+              tree_least : (g : Fault) → Occurs question g → ComesNoLater (fault_rank (faults.Tree number fault)) (fault_rank g)
+              tree_least (faults.List m f) other = absurd (no_list m f other)
+              tree_least (faults.Repeated m) other = absurd (no_repeated m other)
+              tree_least (faults.Symmetry m f) other = absurd (no_symmetry m f other)
+              tree_least (faults.Prefix m f) other = absurd (no_prefix m f other)
+              tree_least faults.Root other = absurd (other root)
+              tree_least (faults.Tree m f) other =
+                  inr (
+                    refl,
+                    no_earlier TreeHolds TreeFails question.lemmas number fault is
+                        (λ n lemma h holds fails. holds_not_fails (setting_at question n) lemma.tree (start_of question.puzzle lemma) h.path h.fault (start_long question.puzzle lemma) holds fails)
+                        m other.0 f other.1 other.2,
+                  )
+
+              pub first_tree : IsFirstFault (faults.Tree number fault)
+              first_tree = first_fault (faults.Tree number fault) is.occurs refl tree_least
+
+            pub all_shown : TreesHold question → IsShown question
+            all_shown trees = record {
+              distinct = distinct;
+              arrangements = arranged;
+              symmetries = symmetric;
+              derivation = record { prefixes = prefixes; root = root; trees = trees };
+            }
+
+-- ---- the tree of one lemma
+
+earlier_is : (lemmas : List Lemma) (number : ℕ) → map pairs_of (take number lemmas) ≡ take number (map prefix_of (map piece_of lemmas))
+earlier_is lemmas zero = refl
+earlier_is [] (suc number) = refl
+earlier_is (lemma ∷ lemmas) (suc number) = ap (λ rest. lemma.prefix ∷ rest) (earlier_is lemmas number)
+
+-- what the walk of a lemma's tree says
+pub tells_lemma : (p : Task) (listed : List (List Placement)) (certificate : Contents) (motions : List Motion) (number : ℕ) (lemma : Lemma) (said : Option TreeFault) →
+    map line_of motions ≡ certificate.symmetries → slice_get certificate.lemmas number ≡ Some lemma →
+    Tells (setting_of p listed motions (take number certificate.lemmas)) (tree_of lemma.tree) (with_pairs lemma.prefix (empty_prefix p)) said → TellsOfLemma (question_of p listed certificate) number said
+tells_lemma p listed certificate motions number lemma said lines at told =
+    let of : List SymmetryLine → List (List Pair) → Setting = λ gs earlier. record { puzzle = p; listed = listed; symmetries = gs; earlier = earlier } in
+    let same : setting_of p listed motions (take number certificate.lemmas) ≡ setting_at (question_of p listed certificate) number =
+    ap (λ gs. of gs (map pairs_of (take number certificate.lemmas))) lines ∙ ap (of certificate.symmetries) (earlier_is certificate.lemmas number) in
+    (piece_of lemma, slice_get-map piece_of certificate.lemmas number ∙ ap (option_map piece_of) at, subst (λ s. Tells s (tree_of lemma.tree) (with_pairs lemma.prefix (empty_prefix p)) said) same told)
+
+-- the lemmas before one that holds, and that one
+pub each_lemma : (P : ℕ → Piece → Type 0) (lemmas : List Piece) (n : ℕ) (lemma : Piece) → ((k : ℕ) (x : Piece) → k < n → slice_get lemmas k ≡ Some x → P k x) → slice_get lemmas n ≡ Some lemma → P n lemma →
+    (k : ℕ) (x : Piece) → k < n + 1 → slice_get lemmas k ≡ Some x → P k x
+each_lemma P lemmas n lemma before at holds k x lt here =
+    ⊎_elim (λ e. subst (λ m. P m x) (sym e.1) (subst (P n) (inside (sym at ∙ ap (slice_get lemmas) (sym e.1) ∙ here)) holds)) (λ ne. let other = ne.1 in before k x (omega (arith, lt, other)) here) (eqb_tells k n)
+
+-- ---- what the parts of the check say
+
+-- the first fault of the list is the first of all
+pub first_listing : (question : Question) (fault : Fault) → TellsOfListing question.puzzle question.listed (Some fault) → IsFirst fault_rank (Occurs question) fault
+first_listing question (faults.List number fault) told = first_list question number fault told
+first_listing question (faults.Repeated number) told = first_repeated question told.0 number told.1
+first_listing question (faults.Symmetry number fault) told = absurd told
+first_listing question (faults.Prefix number fault) told = absurd told
+first_listing question faults.Root told = absurd told
+first_listing question (faults.Tree number fault) told = absurd told
+
+-- what holds of lemmas holds of them as plain data
+pub have_prefixes : (p : Task) (listed : List (List Placement)) (certificate : Contents) → BeginWithPrefixes p certificate.lemmas → HavePrefixes (question_of p listed certificate)
+have_prefixes p listed certificate all number lemma at =
+    let w = mapped_at piece_of certificate.lemmas number lemma at in
+    subst (λ (piece : Piece). IsPairList p piece.prefix) (sym w.2) (all number w.0 w.1)
+
+-- the first lemma with a bad prefix, as plain data
+pub first_bad_prefix : (p : Task) (lemmas : List Lemma) (number : ℕ) (fault : PrefixFault) →
+    IsFirstBadPrefix p lemmas number fault →
+    IsFirstBad (λ n (lemma : Piece). IsPairList p lemma.prefix) (λ n (lemma : Piece) f. IsPrefixFault p lemma.prefix f) (map piece_of lemmas) number fault
+first_bad_prefix p lemmas number fault is = record {
+  occurs = (piece_of is.occurs.0, slice_get-map piece_of lemmas number ∙ ap (option_map piece_of) is.occurs.1, is.occurs.2);
+  before = λ earlier lemma lt at. let w = mapped_at piece_of lemmas earlier lemma at in subst (λ (piece : Piece). IsPairList p piece.prefix) (sym w.2) (is.before earlier w.0 lt w.1);
 }
-only_lemma (lemma ∷ next ∷ lemmas) root plain at = absurd (let few = plain.few in omega arith)
 
-no_pairs : (p : Task) → IsPairList p []
-no_pairs p = record {
-  cells = λ place x at. absurd (none≢some at);
-  rising = λ place later x y at _ _. absurd (none≢some at);
-  legal = λ place x at. absurd (none≢some at);
-  once = λ place later x y at _ _. absurd (none≢some at);
-}
-
-module _ (s : Setting) (lemmas : List Lemma) (arranged : AreArrangements s.puzzle s.listed) (distinct : AreDistinct s.listed) where
-  no_root : (ls : List Lemma) → ArePlain ls → slice_get ls (length ls - 1) ≡ None → HasRoot (claims_of ls) → ⊥
-  no_root [] plain none root = none≢some root.3
-  no_root (lemma ∷ []) plain none root = none≢some (sym none)
-  no_root (lemma ∷ next ∷ ls) plain none root = let few = plain.few in omega arith
-
-  pub no_lemma : ArePlain lemmas → slice_get lemmas (length lemmas - 1) ≡ None → IsFirst fault_rank (Occurs s (claims_of lemmas)) faults.Root
-  no_lemma plain none = first_root s (claims_of lemmas) arranged distinct (no_root lemmas plain none)
-
-  module _ (root : Lemma) (only : IsOnly lemmas root) where
-    pub only_narrow : ((number : ℕ) (claim : Claim) → slice_get (claims_of lemmas) number ≡ Some claim → IsNarrow claim.tree) → IsNarrow (tree_of root.tree)
-    only_narrow narrow = narrow 0 (claim_of root) (ap (λ ls. slice_get (claims_of ls) 0) only.is)
-
-    has_root : HasRoot (claims_of lemmas)
-    has_root = (0, claim_of root, ap (λ ls. length (claims_of ls)) only.is, ap (λ ls. slice_get (claims_of ls) 0) only.is, only.prefix)
-
-    start_is : start_of s.puzzle (claim_of root) ≡ empty_prefix s.puzzle
-    start_is = ap (λ pairs. let c : Claim = record { prefix = pairs; tree = tree_of root.tree } in start_of s.puzzle c) only.prefix
-
-    pub only_fails : (fault : TreeFault) → FailsAt s (tree_of root.tree) (empty_prefix s.puzzle) fault.path fault.fault → IsFirst fault_rank (Occurs s (claims_of lemmas)) (faults.Tree root.number fault)
-    only_fails fault fails =
-        subst (λ n. IsFirst fault_rank (Occurs s (claims_of lemmas)) (faults.Tree n fault)) (sym only.number)
-        (first_tree s (claims_of lemmas) arranged distinct (claim_of root) fault has_root (ap (λ ls. slice_get (claims_of ls) 0) only.is) (subst (λ q. FailsAt s (tree_of root.tree) q fault.path fault.fault) (sym start_is) fails))
-
-    -- what holds of the only lemma's claim holds of each
-    each_claim : (P : Claim → Type 0) → P (claim_of root) → (number : ℕ) (claim : Claim) → slice_get (claims_of lemmas) number ≡ Some claim → P claim
-    each_claim P holds number claim at = by_place number (subst (λ ls. slice_get (claims_of ls) number ≡ Some claim) only.is at)
-      where
-        by_place : (number : ℕ) → slice_get (claims_of (root ∷ [])) number ≡ Some claim → P claim
-        by_place zero at = subst P (inside at) holds
-        by_place (suc number) at = absurd (none≢some at)
-
-    pub only_holds : Holds s (tree_of root.tree) (empty_prefix s.puzzle) → IsShown s (claims_of lemmas)
-    only_holds holds = record {
-      distinct = distinct;
-      arrangements = arranged;
-      derivation = record {
-        prefixes = each_claim (λ claim. IsPairList s.puzzle claim.prefix) (subst (IsPairList s.puzzle) (sym only.prefix) (no_pairs s.puzzle));
-        root = has_root;
-        trees = each_claim (λ claim. Holds s claim.tree (start_of s.puzzle claim)) (subst (Holds s (tree_of root.tree)) (sym start_is) holds);
-      };
-    }
-
--- a certificate of a narrow tree alone
-pub narrow_plain : (certificate : List Lemma) (tree : Option Node) → claims_of certificate ≡ plain_claims tree → IfSome tree (λ node. IsNarrow (tree_of node)) → (number : ℕ) (claim : Claim) → slice_get (claims_of certificate) number ≡ Some claim → IsNarrow claim.tree
-narrow_plain certificate None is narrow number claim at = absurd (none≢some (subst (λ claims. slice_get claims number ≡ Some claim) is at))
-narrow_plain certificate (Some node) is narrow zero claim at = subst (λ (c : Claim). IsNarrow c.tree) (inside (subst (λ claims. slice_get claims 0 ≡ Some claim) is at)) narrow
-narrow_plain certificate (Some node) is narrow (suc number) claim at = absurd (none≢some (subst (λ claims. slice_get claims (suc number) ≡ Some claim) is at))
+-- the first line that is none
+pub first_line : (p : Task) (lines : List SymmetryLine) (number : ℕ) (g : SymmetryLine) (fault : SymmetriesFault) → slice_get lines number ≡ Some g →
+    ((earlier : ℕ) (h : SymmetryLine) → earlier < number → slice_get lines earlier ≡ Some h → IsSymmetry p h) → LineFailsAt p number g fault → LinesFail p lines fault
+first_line p lines number g (Line n bad) at before fails =
+    subst (λ k. IsFirstBad (λ k h. IsSymmetry p h) (λ k h f. IsSymmetryFault p h f) lines k bad) (sym fails.0) (record { occurs = (g, at, fails.1); before = before })
+first_line p lines number g Memory at before fails = record {}

@@ -2,21 +2,23 @@
 use Rattle.std.proofs.Common.{◌≡◌, ◌≢◌, ℕ, zero, suc, List, [], ◌∷◌, Option, Some, None, map, length, length-set, slice_get, ap, sym, ◌∙◌, refl, arith, subst, ⊎_elim}
 use Rattle.std.proofs.lemmas.Option.{slice_get_within}
 use Rattle.match_board.specs.Board.{cell_count}
-use Rattle.match_board.specs.First.{Rank, IsFirst}
+use Rattle.match_board.specs.First.{Rank, AtMost, IsFirst}
 use Rattle.match_board.specs.Listing.{ByKey}
 use Rattle.match_board.proofs.Listings.{by_key_asymmetric, same_listing}
 use Rattle.match_puzzle.specs.Puzzle.{Task}
-use Rattle.match_puzzle.specs.Prefix.{Prefix, with_pair}
+use Rattle.match_puzzle.specs.Prefix.{Prefix, IsWithin, with_pair}
 use Rattle.match_puzzle.specs.Fitting.{FitsItem, AreFitting, IsOpen, item_key}
 use Rattle.match_puzzle.specs.declared.items.Item.{Item}
 use Rattle.match_puzzle.specs.declared.items.Item.TheVariants.{Cell, Tile}
 use Rattle.match_puzzle.specs.declared.placements.Pair.{Pair}
+use Rattle.match_symmetry.specs.Images.{IsImageWithin}
+use Rattle.match_symmetry.specs.declared.lines.SymmetryLine.{SymmetryLine}
 use Rattle.cert_check.specs.declared.faults.NodeFault.{NodeFault}
-use Rattle.cert_check.specs.declared.faults.NodeFault.TheVariants.{CellRange, CellTaken, TileRange, TileTaken, WrongCount, NotDead, NotWhole, ListRange, NotListed}
+use Rattle.cert_check.specs.declared.faults.NodeFault.TheVariants.{CellRange, CellTaken, TileRange, TileTaken, WrongCount, NotDead, NotWhole, ListRange, NotListed, NotEarlier, SymmetryRange, NotWithin}
 use Rattle.cert_check.specs.Setting.{Setting}
-use Rattle.cert_check.specs.Tree.{Tree, Forest, branch, dead, found, none, more, count}
-use Rattle.cert_check.specs.NodeRules.{IsBranch, IsDead, IsListedAt, Holds, EachHolds}
-use Rattle.cert_check.specs.TreeFaults.{ItemFails, NodeFails, node_rank, IsNodeFault, FailsAt, EachFails}
+use Rattle.cert_tree.specs.Tree.{Tree, Forest, branch, dead, found, same, image, none, more, count}
+use Rattle.cert_check.specs.NodeRules.{IsBranch, IsDead, IsListedAt, IsCited, IsCitedByImage, Holds, EachHolds}
+use Rattle.cert_check.specs.TreeFaults.{ItemFails, ImageFails, NodeFails, node_rank, IsNodeFault, FailsAt, EachFails}
 use Rattle.match_puzzle.proofs.Prefixes.{inside}
 use Rattle.cert_check.proofs.ListLemmas.{none≢some}
 use Rattle.cert_check.proofs.PrefixLemmas.{none_free}
@@ -79,11 +81,36 @@ found_no_fault s number q ListRange at fails = omega (arith, slice_get_within s.
 found_no_fault s number q NotListed at fails = fails.2 (at.2 ∙ ap (map Some) (inside (sym at.1 ∙ fails.1)))
 found_no_fault s number q fault at fails = fails
 
+same_no_fault : (s : Setting) (lemma : ℕ) (q : Prefix) (fault : NodeFault) → IsCited s q lemma → NodeFails s (same lemma) q fault → ⊥
+same_no_fault s lemma q NotEarlier cited fails = omega (arith, slice_get_within s.earlier lemma cited.0 cited.1, fails)
+same_no_fault s lemma q NotWithin cited fails = fails.2 (subst (λ pairs. IsWithin pairs q) (inside (sym cited.1 ∙ fails.1)) cited.2)
+same_no_fault s lemma q fault cited fails = fails
+
+image_no_fault : (s : Setting) (lemma symmetry : ℕ) (q : Prefix) (fault : NodeFault) → IsCitedByImage s q lemma symmetry → NodeFails s (image lemma symmetry) q fault → ⊥
+image_no_fault s lemma symmetry q NotEarlier cited fails = omega (arith, slice_get_within s.earlier lemma cited.0 cited.2, fails)
+image_no_fault s lemma symmetry q SymmetryRange cited fails = omega (arith, slice_get_within s.symmetries symmetry cited.1 cited.3, fails)
+image_no_fault s lemma symmetry q NotWithin cited fails =
+    fails.4 (subst (λ pairs. IsImageWithin s.puzzle fails.1 pairs q) (inside (sym cited.2 ∙ fails.2)) (subst (λ g. IsImageWithin s.puzzle g cited.0 q) (inside (sym cited.3 ∙ fails.3)) cited.4))
+image_no_fault s lemma symmetry q fault cited fails = fails
+
+-- The image of a prefix that isn't within what is placed is the last thing that may be wrong.
+pub first_not_within : (s : Setting) (q : Prefix) (lemma symmetry : ℕ) (pairs : List Pair) (g : SymmetryLine) → slice_get s.earlier lemma ≡ Some pairs → slice_get s.symmetries symmetry ≡ Some g → (IsImageWithin s.puzzle g pairs q → ⊥) →
+    IsFirst node_rank (ImageFails s q lemma symmetry) NotWithin
+first_not_within s q lemma symmetry pairs g at at' outside = record { occurs = (pairs, g, at, at', outside); first = least }
+  where
+    least : (fault : NodeFault) → ImageFails s q lemma symmetry fault → AtMost (node_rank NotWithin) (node_rank fault)
+    least NotEarlier fails = absurd (omega (arith, slice_get_within s.earlier lemma pairs at, fails))
+    least SymmetryRange fails = absurd (omega (arith, slice_get_within s.symmetries symmetry g at', fails))
+    least NotWithin fails = record { first = omega arith; second = λ _. omega arith; third = λ _ _. omega arith }
+    least fault fails = absurd fails
+
 -- A tree that holds has no fault of its first node.
 pub holds_no_fault : (s : Setting) (tree : Tree) (q : Prefix) (fault : NodeFault) → length q ≡ cell_count s.puzzle.board → Holds s tree q → NodeFails s tree q fault → ⊥
 holds_no_fault s (branch item children) q fault long holds fails = branch_no_fault s item children q holds.0 fault long holds.1 fails
 holds_no_fault s (dead item) q fault long holds fails = dead_no_fault s item q fault long holds fails
 holds_no_fault s (found number) q fault long holds fails = found_no_fault s number q fault holds fails
+holds_no_fault s (same lemma) q fault long holds fails = same_no_fault s lemma q fault holds fails
+holds_no_fault s (image lemma symmetry) q fault long holds fails = image_no_fault s lemma symmetry q fault holds fails
 
 mutual
   -- A tree that holds has no fault.
@@ -94,6 +121,8 @@ mutual
       each_holds_not_fails s children q fails.0 number path fault long (subst (EachHolds s children q) same holds.2) fails.2
   holds_not_fails s (dead item) q (number ∷ path) fault long holds fails = fails
   holds_not_fails s (found listed) q (number ∷ path) fault long holds fails = fails
+  holds_not_fails s (same lemma) q (number ∷ path) fault long holds fails = fails
+  holds_not_fails s (image lemma symmetry) q (number ∷ path) fault long holds fails = fails
 
   each_holds_not_fails : (s : Setting) (trees : Forest) (q : Prefix) (xs : List Pair) (number : ℕ) (path : List ℕ) (fault : NodeFault) → length q ≡ cell_count s.puzzle.board → EachHolds s trees q xs → EachFails s trees q xs number path fault → ⊥
   each_holds_not_fails s none q xs number path fault long holds fails = fails
@@ -119,6 +148,9 @@ alike (NotDead n) (NotDead n') e = (n', refl)
 alike NotWhole NotWhole e = refl
 alike ListRange ListRange e = refl
 alike NotListed NotListed e = refl
+alike NotEarlier NotEarlier e = refl
+alike SymmetryRange SymmetryRange e = refl
+alike NotWithin NotWithin e = refl
 alike _ _ e = absurd (omega (arith, e))
 
 -- what a fault says of the numbers in it
@@ -131,12 +163,16 @@ one_wrong_count s (branch item children) q n m n' m' a b =
 one_wrong_count s (dead (Cell cell)) q n m n' m' a b = absurd a
 one_wrong_count s (dead (Tile tile)) q n m n' m' a b = absurd a
 one_wrong_count s (found number) q n m n' m' a b = absurd a
+one_wrong_count s (same lemma) q n m n' m' a b = absurd a
+one_wrong_count s (image lemma symmetry) q n m n' m' a b = absurd a
 
 one_not_dead : (s : Setting) (tree : Tree) (q : Prefix) (n n' : ℕ) → NodeFails s tree q (NotDead n) → NodeFails s tree q (NotDead n') → NotDead n ≡ NotDead n'
 one_not_dead s (branch (Cell cell) children) q n n' a b = absurd a
 one_not_dead s (branch (Tile tile) children) q n n' a b = absurd a
 one_not_dead s (dead item) q n n' a b = ap NotDead (a.2 ∙ ap length (one_fitting s.puzzle q item a.0 b.0 a.1 b.1) ∙ sym b.2)
 one_not_dead s (found number) q n n' a b = absurd a
+one_not_dead s (same lemma) q n n' a b = absurd a
+one_not_dead s (image lemma symmetry) q n n' a b = absurd a
 
 one_of_kind : (s : Setting) (tree : Tree) (q : Prefix) (f g : NodeFault) → NodeFails s tree q f → NodeFails s tree q g → AreAlike f g → f ≡ g
 one_of_kind s tree q (WrongCount n m) g a b e = one_wrong_count s tree q n m e.0 e.1 a (subst (NodeFails s tree q) e.2 b) ∙ sym e.2
@@ -164,6 +200,10 @@ mutual
   one_failing s (dead item) q (n ∷ path) other f g long a b = absurd a
   one_failing s (found number) q [] (n ∷ other) f g long a b = absurd b
   one_failing s (found number) q (n ∷ path) other f g long a b = absurd a
+  one_failing s (same lemma) q [] (n ∷ other) f g long a b = absurd b
+  one_failing s (same lemma) q (n ∷ path) other f g long a b = absurd a
+  one_failing s (image lemma symmetry) q [] (n ∷ other) f g long a b = absurd b
+  one_failing s (image lemma symmetry) q (n ∷ path) other f g long a b = absurd a
 
   each_one_failing : (s : Setting) (trees : Forest) (q : Prefix) (xs : List Pair) (n m : ℕ) (path other : List ℕ) (f g : NodeFault) → length q ≡ cell_count s.puzzle.board → EachFails s trees q xs n path f → EachFails s trees q xs m other g → (n ≡ m) × (path ≡ other) × (f ≡ g)
   each_one_failing s none q xs n m path other f g long a b = absurd a

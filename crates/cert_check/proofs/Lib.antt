@@ -1,10 +1,9 @@
-pub mod TreeLemmas
 pub mod ListLemmas
 pub mod PrefixLemmas
 pub mod Soundness
 pub mod FaultLemmas
 pub mod AnswerLemmas
 pub mod ListingLemmas
+pub mod CheckLemmas
 pub mod WalkLemmas
 pub mod SeenLemmas
-pub mod CheckLemmas

@@ -9,13 +9,13 @@ use Rattle.match_puzzle.specs.declared.placements.Placement.{Placement}
 use Rattle.match_puzzle.specs.declared.placements.Pair.{Pair}
 use Rattle.match_puzzle.proofs.Prefixes.{has_new}
 use Rattle.cert_check.specs.declared.faults.NodeFault.{NodeFault}
-use Rattle.cert_check.specs.declared.trees.Node.{Node}
+use Rattle.cert_tree.specs.declared.trees.Node.{Node}
 use Rattle.cert_check.specs.Setting.{Setting}
-use Rattle.cert_check.specs.Tree.{Tree, Forest, branch, more, count, tree_of, forest_of, IsNarrow, AreNarrow}
+use Rattle.cert_tree.specs.Tree.{Tree, Forest, branch, more, count, tree_of, forest_of, IsNarrow, AreNarrow}
 use Rattle.cert_check.specs.NodeRules.{IsBranch, Holds, EachHolds}
 use Rattle.cert_check.specs.TreeFaults.{BranchFails, node_rank, FailsAt, EachFails}
 use Rattle.cert_check.proofs.ListingLemmas.{IsLeft, left_start, next_is_head, left_more, some_next}
-use Rattle.cert_check.proofs.TreeLemmas.{forest_of-drop, count-forest_of}
+use Rattle.cert_tree.proofs.TreeLemmas.{forest_of-drop, count-forest_of}
 
 module _ (s : Setting) (item : Item) (q : Prefix) (trees : Forest) where
   -- How far the walk of a branch's children has come: those before the number hold, and these children and pairs are left.

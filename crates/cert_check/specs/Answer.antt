@@ -1,22 +1,32 @@
 -- What the checker has to answer.
-use Rattle.std.specs.Prelude.{◌≡◌, ◌<◌, ℕ, List, Some, Contains, slice_get}
+use Rattle.std.specs.Prelude.{◌≡◌, ◌<◌, ℕ, List, Some, slice_get}
 use Rattle.match_board.specs.First.{Rank, IsFirst}
 use Rattle.match_puzzle.specs.Puzzle.{Task}
 use Rattle.match_puzzle.specs.Arrangement.{IsArrangement}
 use Rattle.match_puzzle.specs.ArrangementFaults.{IsArrangementFault}
+use Rattle.match_puzzle.specs.PrefixFaults.{IsPrefixFault}
 use Rattle.match_puzzle.specs.declared.placements.Placement.{Placement}
+use Rattle.match_symmetry.specs.Symmetry.{IsSymmetry}
+use Rattle.match_symmetry.specs.SymmetryFaults.{IsSymmetryFault}
+use Rattle.match_symmetry.specs.Reached.{IsReached}
+use Rattle.match_symmetry.specs.declared.lines.SymmetryLine.{SymmetryLine}
 use Rattle.cert_check.specs.declared.faults.Fault.{Fault}
 use Rattle.cert_check.specs.declared.faults.Fault.TheVariants as faults
 use Rattle.cert_check.specs.declared.faults.Answer.{Answer}
 use Rattle.cert_check.specs.declared.faults.Answer.TheVariants.{Complete, Refused}
-use Rattle.cert_check.specs.Setting.{Setting}
+use Rattle.cert_tree.specs.Certificate.{Piece}
+use Rattle.cert_check.specs.Setting.{Question, setting_at}
 use Rattle.cert_check.specs.TreeFaults.{FailsAt}
 use Rattle.cert_check.specs.Covered.{IsCovered}
-use Rattle.cert_check.specs.Derivation.{Claim, start_of, HasRoot, IsDerivation}
+use Rattle.cert_check.specs.Derivation.{start_of, HasRoot, IsDerivation}
 
 -- Each listed one is an arrangement of the puzzle.
 abbrev pub AreArrangements : Task → List (List Placement) → Type 0
 AreArrangements p listed = (number : ℕ) (a : List Placement) → slice_get listed number ≡ Some a → IsArrangement p a
+
+-- Each line is a symmetry of the puzzle.
+abbrev pub AreSymmetries : Task → List SymmetryLine → Type 0
+AreSymmetries p symmetries = (number : ℕ) (g : SymmetryLine) → slice_get symmetries number ≡ Some g → IsSymmetry p g
 
 -- The one with this number equals an earlier one.
 abbrev pub RepeatsEarlier : List (List Placement) → ℕ → Type 0
@@ -28,43 +38,54 @@ abbrev pub AreDistinct : List (List Placement) → Type 0
 AreDistinct listed =
     (place other : ℕ) (a : List Placement) → slice_get listed place ≡ Some a → slice_get listed other ≡ Some a → place ≡ other
 
--- Different arrangements of the puzzle, and all that there are.
-pub record IsCompleteList (p : Task) (listed : List (List Placement)) : Type 0 where
+-- Different arrangements of the puzzle, from which symmetries of it reach all that there are.
+pub record IsCompleteList (p : Task) (lines : List SymmetryLine) (listed : List (List Placement)) : Type 0 where
   pub distinct : AreDistinct listed
   pub arrangements : AreArrangements p listed
-  pub all : (a : List Placement) → IsArrangement p a → Contains listed a
+  pub symmetries : AreSymmetries p lines
+  pub reached : (a : List Placement) → IsArrangement p a → IsReached p lines listed a
 
--- Different arrangements of the puzzle, and lemmas that derive that these are all.
-pub record IsShown (s : Setting) (claims : List Claim) : Type 0 where
-  pub distinct : AreDistinct s.listed
-  pub arrangements : AreArrangements s.puzzle s.listed
-  pub derivation : IsDerivation s claims
+-- Different arrangements of the puzzle, symmetries of it, and lemmas that derive that these reach all.
+pub record IsShown (question : Question) : Type 0 where
+  pub distinct : AreDistinct question.listed
+  pub arrangements : AreArrangements question.puzzle question.listed
+  pub symmetries : AreSymmetries question.puzzle question.symmetries
+  pub derivation : IsDerivation question
 
--- Each arrangement that extends a lemma's prefix is listed.
-abbrev pub AreCovered : Setting → List Claim → Type 0
-AreCovered s claims =
-    (number : ℕ) (claim : Claim) → slice_get claims number ≡ Some claim → IsCovered s.puzzle (Contains s.listed) (start_of s.puzzle claim)
+-- Each arrangement that extends a lemma's prefix is reached.
+abbrev pub AreCovered : Question → Type 0
+AreCovered question =
+    (number : ℕ) (lemma : Piece) → slice_get question.lemmas number ≡ Some lemma
+    → IsCovered question.puzzle (IsReached question.puzzle question.symmetries question.listed) (start_of question.puzzle lemma)
 
 -- When a fault occurs.
-abbrev pub Occurs : Setting → List Claim → Fault → Type 0
-Occurs s claims (faults.List number fault) = (a : List Placement) × (slice_get s.listed number ≡ Some a) × IsArrangementFault s.puzzle a fault
-Occurs s claims (faults.Repeated number) = RepeatsEarlier s.listed number
-Occurs s claims faults.Root = HasRoot claims → ⊥
-Occurs s claims (faults.Tree number fault) =
-    (claim : Claim) × (slice_get claims number ≡ Some claim) × FailsAt s claim.tree (start_of s.puzzle claim) fault.path fault.fault
+abbrev pub Occurs : Question → Fault → Type 0
+Occurs question (faults.List number fault) =
+    (a : List Placement) × (slice_get question.listed number ≡ Some a) × IsArrangementFault question.puzzle a fault
+Occurs question (faults.Repeated number) = RepeatsEarlier question.listed number
+Occurs question (faults.Symmetry number fault) =
+    (g : SymmetryLine) × (slice_get question.symmetries number ≡ Some g) × IsSymmetryFault question.puzzle g fault
+Occurs question (faults.Prefix number fault) =
+    (lemma : Piece) × (slice_get question.lemmas number ≡ Some lemma) × IsPrefixFault question.puzzle lemma.prefix fault
+Occurs question faults.Root = HasRoot question.lemmas → ⊥
+Occurs question (faults.Tree number fault) =
+    (lemma : Piece) × (slice_get question.lemmas number ≡ Some lemma)
+    × FailsAt (setting_at question number) lemma.tree (start_of question.puzzle lemma) fault.path fault.fault
 
--- the order of the faults, with room for those of symmetries and prefixes
+-- the order of the faults
 abbrev pub fault_rank : Fault → Rank
 fault_rank (faults.List number fault) = record { first = 1; second = number; third = 0 }
 fault_rank (faults.Repeated number) = record { first = 2; second = number; third = 0 }
+fault_rank (faults.Symmetry number fault) = record { first = 3; second = number; third = 0 }
+fault_rank (faults.Prefix number fault) = record { first = 4; second = number; third = 0 }
 fault_rank faults.Root = record { first = 5; second = 0; third = 0 }
 fault_rank (faults.Tree number fault) = record { first = 6; second = number; third = 0 }
 
--- the answer for a list and lemmas: that they are right, or the first fault
-abbrev pub IsAnswer : Setting → List Claim → Answer → Type 0
-IsAnswer s claims Complete = IsShown s claims
-IsAnswer s claims (Refused fault) = IsFirst fault_rank (Occurs s claims) fault
+-- the answer to a question: that all is right, or the first fault
+abbrev pub IsAnswer : Question → Answer → Type 0
+IsAnswer question Complete = IsShown question
+IsAnswer question (Refused fault) = IsFirst fault_rank (Occurs question) fault
 
 -- There is no more than one answer.
 abbrev pub OneAnswer : Type 0
-OneAnswer = (s : Setting) (claims : List Claim) (a b : Answer) → IsAnswer s claims a → IsAnswer s claims b → a ≡ b
+OneAnswer = (question : Question) (a b : Answer) → IsAnswer question a → IsAnswer question b → a ≡ b

@@ -3,26 +3,29 @@ use Rattle.std.specs.Prelude.{◌≡◌, ◌+◌, ℕ, List, [], Some, length, s
 use Rattle.match_puzzle.specs.Puzzle.{Task}
 use Rattle.match_puzzle.specs.Prefix.{Prefix, empty_prefix, with_pairs}
 use Rattle.match_puzzle.specs.PrefixFaults.{IsPairList}
-use Rattle.match_puzzle.specs.declared.placements.Pair.{Pair}
-use Rattle.cert_check.specs.Setting.{Setting}
-use Rattle.cert_check.specs.Tree.{Tree}
+use Rattle.cert_tree.specs.Certificate.{Piece}
+use Rattle.cert_check.specs.Setting.{Question, setting_at}
 use Rattle.cert_check.specs.NodeRules.{Holds}
 
--- a lemma without its number: the pairs that it begins with, and its tree
-pub record Claim : Type 0 where
-  pub prefix : List Pair
-  pub tree : Tree
-
 -- what is placed where a lemma begins
-abbrev pub start_of : Task → Claim → Prefix
-start_of p claim = with_pairs claim.prefix (empty_prefix p)
+abbrev pub start_of : Task → Piece → Prefix
+start_of p lemma = with_pairs lemma.prefix (empty_prefix p)
+
+-- Each lemma begins with a prefix.
+abbrev pub HavePrefixes : Question → Type 0
+HavePrefixes question = (number : ℕ) (lemma : Piece) → slice_get question.lemmas number ≡ Some lemma → IsPairList question.puzzle lemma.prefix
 
 -- There is a last lemma, and it begins with nothing placed.
-abbrev pub HasRoot : List Claim → Type 0
-HasRoot claims = (number : ℕ) × (root : Claim) × (length claims ≡ number + 1) × (slice_get claims number ≡ Some root) × (root.prefix ≡ [])
+abbrev pub HasRoot : List Piece → Type 0
+HasRoot lemmas = (number : ℕ) × (root : Piece) × (length lemmas ≡ number + 1) × (slice_get lemmas number ≡ Some root) × (root.prefix ≡ [])
+
+-- The tree of each lemma holds at its prefix.
+abbrev pub TreesHold : Question → Type 0
+TreesHold question =
+    (number : ℕ) (lemma : Piece) → slice_get question.lemmas number ≡ Some lemma → Holds (setting_at question number) lemma.tree (start_of question.puzzle lemma)
 
 -- Each lemma begins with a prefix at which its tree holds, and the last begins with nothing placed.
-pub record IsDerivation (s : Setting) (claims : List Claim) : Type 0 where
-  pub prefixes : (number : ℕ) (claim : Claim) → slice_get claims number ≡ Some claim → IsPairList s.puzzle claim.prefix
-  pub root : HasRoot claims
-  pub trees : (number : ℕ) (claim : Claim) → slice_get claims number ≡ Some claim → Holds s claim.tree (start_of s.puzzle claim)
+pub record IsDerivation (question : Question) : Type 0 where
+  pub prefixes : HavePrefixes question
+  pub root : HasRoot question.lemmas
+  pub trees : TreesHold question

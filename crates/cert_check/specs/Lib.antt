@@ -1,10 +1,9 @@
-pub mod Tree
 pub mod Setting
 pub mod NodeRules
 pub mod TreeFaults
 pub mod Covered
 pub mod Derivation
-pub mod Certificate
 pub mod Answer
 pub mod Lists
 pub mod Walk
+pub mod Lines

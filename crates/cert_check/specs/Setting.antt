@@ -1,12 +1,74 @@
--- What a certificate speaks of.
-use Rattle.std.specs.Prelude.{List}
+-- What a tree speaks of.
+use Rattle.std.specs.Prelude.{◌≡◌, ℕ, List, Some, map, take, slice_get}
 use Rattle.match_puzzle.specs.Puzzle.{Task}
+use Rattle.match_puzzle.specs.PrefixFaults.{IsPairList}
 use Rattle.match_puzzle.specs.declared.placements.Placement.{Placement}
+use Rattle.match_puzzle.specs.declared.placements.Pair.{Pair}
+use Rattle.match_symmetry.specs.declared.lines.SymmetryLine.{SymmetryLine}
+use Rattle.match_symmetry.specs.Motion.{Motion}
+use Rattle.cert_tree.specs.declared.certificates.Lemma.{Lemma}
+use Rattle.cert_tree.specs.Certificate.{Contents, Piece, piece_of}
 
--- a puzzle, and the arrangements that are listed as all of its arrangements
+-- what is asked of the checker: whether these are all arrangements of the puzzle, by these symmetries and lemmas
+pub record Question : Type 0 where
+  pub puzzle : Task
+  pub listed : List (List Placement)
+  pub symmetries : List SymmetryLine
+  pub lemmas : List Piece
+
+-- what the tree of a lemma may name: the listed arrangements, the symmetries, and the prefixes of the lemmas before it, each by number
 pub record Setting : Type 0 where
   pub puzzle : Task
   pub listed : List (List Placement)
+  pub symmetries : List SymmetryLine
+  pub earlier : List (List Pair)
 
-abbrev pub setting_of : Task → List (List Placement) → Setting
-setting_of puzzle listed = record { puzzle = puzzle; listed = listed }
+abbrev pub question_of : Task → List (List Placement) → Contents → Question
+question_of puzzle listed certificate = record {
+  puzzle = puzzle;
+  listed = listed;
+  symmetries = certificate.symmetries;
+  lemmas = map piece_of certificate.lemmas;
+}
+
+-- the pairs that a lemma begins with
+abbrev pub prefix_of : Piece → List Pair
+prefix_of lemma = lemma.prefix
+
+-- what the tree of the lemma with this number may name
+abbrev pub setting_at : Question → ℕ → Setting
+setting_at question number = record {
+  puzzle = question.puzzle;
+  listed = question.listed;
+  symmetries = question.symmetries;
+  earlier = take number (map prefix_of question.lemmas);
+}
+
+-- the line that a symmetry was made of
+abbrev pub line_of : Motion → SymmetryLine
+line_of m = m.line
+
+-- the pairs that a lemma of the code begins with
+abbrev pub pairs_of : Lemma → List Pair
+pairs_of lemma = lemma.prefix
+
+abbrev pub setting_of : Task → List (List Placement) → List Motion → List Lemma → Setting
+setting_of puzzle listed motions earlier = record {
+  puzzle = puzzle;
+  listed = listed;
+  symmetries = map line_of motions;
+  earlier = map pairs_of earlier;
+}
+
+-- Each symmetry was made of this puzzle.
+abbrev pub AreOfPuzzle : Task → List Motion → Type 0
+AreOfPuzzle p motions = (number : ℕ) (m : Motion) → slice_get motions number ≡ Some m → m.puzzle ≡ p
+
+-- Each lemma begins with a prefix.
+abbrev pub BeginWithPrefixes : Task → List Lemma → Type 0
+BeginWithPrefixes p lemmas = (number : ℕ) (lemma : Lemma) → slice_get lemmas number ≡ Some lemma → IsPairList p lemma.prefix
+
+-- what holds of each setting that the code makes
+pub record IsSetting (p : Task) (motions : List Motion) (earlier : List Lemma) : Type 0 where
+  pub symmetries : AreOfPuzzle p motions
+  pub prefixes : BeginWithPrefixes p earlier

@@ -3,16 +3,18 @@ use Rattle.std.specs.Prelude.{◌≡◌, ◌≢◌, ◌⊎◌, ◌≤◌, ℕ, z
 use Rattle.match_board.specs.Board.{cell_count}
 use Rattle.match_board.specs.First.{Rank, IsFirst}
 use Rattle.match_puzzle.specs.Puzzle.{Task}
-use Rattle.match_puzzle.specs.Prefix.{Prefix, Has, IsFree, IsUsed, with_pair}
+use Rattle.match_puzzle.specs.Prefix.{Prefix, Has, IsFree, IsUsed, IsWithin, with_pair}
 use Rattle.match_puzzle.specs.Fitting.{AreFitting}
 use Rattle.match_puzzle.specs.declared.items.Item.{Item}
 use Rattle.match_puzzle.specs.declared.items.Item.TheVariants.{Cell, Tile}
 use Rattle.match_puzzle.specs.declared.placements.Placement.{Placement}
 use Rattle.match_puzzle.specs.declared.placements.Pair.{Pair}
+use Rattle.match_symmetry.specs.Images.{IsImageWithin}
+use Rattle.match_symmetry.specs.declared.lines.SymmetryLine.{SymmetryLine}
 use Rattle.cert_check.specs.declared.faults.NodeFault.{NodeFault}
-use Rattle.cert_check.specs.declared.faults.NodeFault.TheVariants.{CellRange, CellTaken, TileRange, TileTaken, WrongCount, NotDead, NotWhole, ListRange, NotListed}
+use Rattle.cert_check.specs.declared.faults.NodeFault.TheVariants.{CellRange, CellTaken, TileRange, TileTaken, WrongCount, NotDead, NotWhole, ListRange, NotListed, NotEarlier, SymmetryRange, NotWithin}
 use Rattle.cert_check.specs.Setting.{Setting}
-use Rattle.cert_check.specs.Tree.{Tree, Forest, branch, dead, found, none, more, count}
+use Rattle.cert_tree.specs.Tree.{Tree, Forest, branch, dead, found, same, image, none, more, count}
 use Rattle.cert_check.specs.NodeRules.{IsBranch, Holds}
 
 -- The item is none of the puzzle, or it is settled.
@@ -41,11 +43,28 @@ FoundFails s q number ListRange = length s.listed ≤ number
 FoundFails s q number NotListed = (a : List Placement) × (slice_get s.listed number ≡ Some a) × (q ≢ map Some a)
 FoundFails s q number fault = ⊥
 
+-- What may be wrong where a lemma is cited.
+abbrev pub SameFails : Setting → Prefix → ℕ → NodeFault → Type 0
+SameFails s q lemma NotEarlier = length s.earlier ≤ lemma
+SameFails s q lemma NotWithin = (pairs : List Pair) × (slice_get s.earlier lemma ≡ Some pairs) × (IsWithin pairs q → ⊥)
+SameFails s q lemma fault = ⊥
+
+-- What may be wrong where the image of a lemma is cited.
+abbrev pub ImageFails : Setting → Prefix → (lemma symmetry : ℕ) → NodeFault → Type 0
+ImageFails s q lemma symmetry NotEarlier = length s.earlier ≤ lemma
+ImageFails s q lemma symmetry SymmetryRange = length s.symmetries ≤ symmetry
+ImageFails s q lemma symmetry NotWithin =
+    (pairs : List Pair) × (g : SymmetryLine) × (slice_get s.earlier lemma ≡ Some pairs) × (slice_get s.symmetries symmetry ≡ Some g)
+    × (IsImageWithin s.puzzle g pairs q → ⊥)
+ImageFails s q lemma symmetry fault = ⊥
+
 -- When a fault of the node itself occurs.
 abbrev pub NodeFails : Setting → Tree → Prefix → NodeFault → Type 0
 NodeFails s (branch item children) q = BranchFails s.puzzle q item (count children)
 NodeFails s (dead item) q = DeadFails s.puzzle q item
 NodeFails s (found number) q = FoundFails s q number
+NodeFails s (same lemma) q = SameFails s q lemma
+NodeFails s (image lemma symmetry) q = ImageFails s q lemma symmetry
 
 -- the order of the faults
 abbrev pub node_rank : NodeFault → Rank
@@ -58,6 +77,9 @@ node_rank (NotDead fits) = record { first = 6; second = 0; third = 0 }
 node_rank NotWhole = record { first = 7; second = 0; third = 0 }
 node_rank ListRange = record { first = 8; second = 0; third = 0 }
 node_rank NotListed = record { first = 9; second = 0; third = 0 }
+node_rank NotEarlier = record { first = 10; second = 0; third = 0 }
+node_rank SymmetryRange = record { first = 11; second = 0; third = 0 }
+node_rank NotWithin = record { first = 12; second = 0; third = 0 }
 
 -- the node's own fault: the first kind that occurs
 abbrev pub IsNodeFault : Setting → Tree → Prefix → NodeFault → Type 0
@@ -71,6 +93,8 @@ abbrev mutual
       (xs : List Pair) × IsBranch s.puzzle q item (count children) xs × EachFails s children q xs number path fault
   FailsAt s (dead item) q (number ∷ path) fault = ⊥
   FailsAt s (found listed) q (number ∷ path) fault = ⊥
+  FailsAt s (same lemma) q (number ∷ path) fault = ⊥
+  FailsAt s (image lemma symmetry) q (number ∷ path) fault = ⊥
 
   -- The child with this number fails so, and the children before it hold.
   pub EachFails : Setting → Forest → Prefix → List Pair → (number : ℕ) → List ℕ → NodeFault → Type 0

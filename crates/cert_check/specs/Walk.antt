@@ -1,12 +1,23 @@
 -- What a walk of a tree says.
-use Rattle.std.specs.Prelude.{◌≡◌, [], Option, Some, None, MatchOption}
+use Rattle.std.specs.Prelude.{◌≡◌, ℕ, List, [], Option, Some, None, MatchOption, slice_get}
+use Rattle.match_board.specs.First.{IsLeast}
+use Rattle.match_puzzle.specs.Puzzle.{Task}
+use Rattle.match_puzzle.specs.Arrangement.{IsArrangement}
+use Rattle.match_puzzle.specs.ArrangementFaults.{IsArrangementFault}
 use Rattle.match_puzzle.specs.Prefix.{Prefix}
+use Rattle.match_puzzle.specs.declared.placements.Placement.{Placement}
+use Rattle.cert_tree.specs.Tree.{Tree}
+use Rattle.cert_tree.specs.Certificate.{Piece}
 use Rattle.cert_check.specs.declared.faults.NodeFault.{NodeFault}
 use Rattle.cert_check.specs.declared.faults.TreeFault.{TreeFault}
-use Rattle.cert_check.specs.Setting.{Setting}
-use Rattle.cert_check.specs.Tree.{Tree}
+use Rattle.cert_check.specs.declared.faults.Fault.{Fault}
+use Rattle.cert_check.specs.declared.faults.Fault.TheVariants as faults
+use Rattle.cert_check.specs.Setting.{Question, Setting, setting_at}
 use Rattle.cert_check.specs.NodeRules.{Holds}
 use Rattle.cert_check.specs.TreeFaults.{FailsAt}
+use Rattle.cert_check.specs.Derivation.{start_of, TreesHold}
+use Rattle.cert_check.specs.Answer.{AreArrangements, AreDistinct, RepeatsEarlier}
+use Rattle.cert_check.specs.Lists.{IsFirstBad}
 
 -- What is said of a tree: that it holds, or its first fault.
 abbrev pub Tells : Setting → Tree → Prefix → Option TreeFault → Type 0
@@ -16,3 +27,22 @@ Tells s tree q said = MatchOption said (Holds s tree q) (λ fault. FailsAt s tre
 abbrev pub IsAtTop : Option NodeFault → Option TreeFault → Type 0
 IsAtTop None said = said ≡ None
 IsAtTop (Some fault) said = said ≡ Some (record { path = []; fault = fault })
+
+-- The same of the tree of the lemma with this number, at its prefix.
+abbrev pub TellsOfLemma : Question → ℕ → Option TreeFault → Type 0
+TellsOfLemma question number said =
+    (lemma : Piece) × (slice_get question.lemmas number ≡ Some lemma) × Tells (setting_at question number) lemma.tree (start_of question.puzzle lemma) said
+
+-- What is said of all trees: that each holds, or the first that doesn't, with its first fault.
+abbrev pub TellsOfTrees : Question → Option (ℕ × TreeFault) → Type 0
+TellsOfTrees question said =
+    MatchOption said (TreesHold question)
+    (λ r. IsFirstBad (λ n lemma. Holds (setting_at question n) lemma.tree (start_of question.puzzle lemma))
+    (λ n lemma fault. FailsAt (setting_at question n) lemma.tree (start_of question.puzzle lemma) fault.path fault.fault) question.lemmas r.0 r.1)
+
+-- What is said of the list: that it has different arrangements, or its first fault.
+abbrev pub TellsOfListing : Task → List (List Placement) → Option Fault → Type 0
+TellsOfListing p listed None = AreArrangements p listed × AreDistinct listed
+TellsOfListing p listed (Some (faults.List number fault)) = IsFirstBad (λ n a. IsArrangement p a) (λ n a f. IsArrangementFault p a f) listed number fault
+TellsOfListing p listed (Some (faults.Repeated number)) = AreArrangements p listed × IsLeast (RepeatsEarlier listed) number
+TellsOfListing p listed (Some fault) = ⊥

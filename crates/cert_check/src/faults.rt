@@ -1,6 +1,7 @@
 // What may be wrong with a list or its certificate.
 
-use match_puzzle::ArrangementFault;
+use match_puzzle::{ArrangementFault, PrefixFault};
+use match_symmetry::SymmetryFault;
 use std::alloc::AllocError;
 use std::marker::Model;
 
@@ -25,6 +26,12 @@ pub enum NodeFault {
     ListRange,
     /// .. and another arrangement stands there.
     NotListed,
+    /// A lemma is cited that does not come before the lemma itself.
+    NotEarlier,
+    /// .. and its image, under a symmetry that the certificate does not have.
+    SymmetryRange,
+    /// .. and its prefix, or the image of that, is not within what is placed.
+    NotWithin,
 }
 
 /// Child numbers, from 0, that lead from the top of a tree to a node.
@@ -95,6 +102,10 @@ pub enum Fault {
     List(u32, ArrangementFault),
     /// The listed arrangement with this number equals an earlier one.
     Repeated(u32),
+    /// The line with this number is no symmetry of the puzzle. `Memory` does not come here.
+    Symmetry(u32, SymmetryFault),
+    /// The lemma with this number does not begin with a prefix.
+    Prefix(u32, PrefixFault),
     /// There is no lemma, or the last one does not begin with nothing placed.
     Root,
     /// The tree of the lemma with this number has a fault.
@@ -104,7 +115,7 @@ pub enum Fault {
 /// What the checker says of a list and a certificate.
 #[derive(Debug, Drop)]
 pub enum Answer {
-    /// The list has each arrangement of the puzzle once.
+    /// The list has different arrangements of the puzzle, and the named symmetries reach all others from them.
     Complete,
     /// The certificate does not show that, for this reason.
     Refused(Fault),

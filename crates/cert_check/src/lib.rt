@@ -1,15 +1,15 @@
 //! The checker of certificates.
 #![tactic(auto)]
 
-mod certificates;
 mod checks;
 mod faults;
 mod lists;
 mod nodes;
-mod trees;
+mod prefixes;
+mod settings;
+mod symmetries;
 mod walks;
 
-pub use certificates::{Certificate, Lemma, Pairs};
-pub use checks::{check, one_answer};
+pub use checks::{check, one_answer, tree_fault};
 pub use faults::{Answer, Fault, NodeFault, Path, TreeFault};
-pub use trees::{Children, Node};
+pub use symmetries::{SymmetriesFault, make_symmetries};

@@ -3,7 +3,9 @@
 ghost use Rattle.std.specs.Prelude.{◌≡◌, ◌<◌, ◌^◌, ◌⊎◌, ◌↔◌, List, IfOk, OnOk, MatchOption, MatchBool, length};
 ghost use Rattle.match_board.specs.First.{IsLeast};
 ghost use Rattle.match_puzzle.specs.declared.placements.Placement.{Placement as Standing};
-ghost use Rattle.cert_check.specs.Lists.{HasSeen, IsListFault};
+ghost use Rattle.match_puzzle.specs.Arrangement.{IsArrangement};
+ghost use Rattle.match_puzzle.specs.ArrangementFaults.{IsArrangementFault};
+ghost use Rattle.cert_check.specs.Lists.{HasSeen, IsFirstBad};
 ghost use Rattle.cert_check.specs.Answer.{AreArrangements, AreDistinct, RepeatsEarlier};
 
 use match_puzzle::{Arrangement, ArrangementFault, Placement, Puzzle};
@@ -13,7 +15,7 @@ use std::collections::BTreeSet;
 // The first one that is no arrangement, and what is wrong with it.
 pub(crate) fn list_fault(puzzle: &Puzzle, listed: &[Arrangement]) -> Option<(u32, ArrangementFault)>
     requires { length listed.now < 2 ^ 32 }
-    ensures { MatchOption result (AreArrangements puzzle.now listed.now) (λ r. IsListFault puzzle.now listed.now r.0 r.1) }
+    ensures { MatchOption result (AreArrangements puzzle.now listed.now) (λ r. IsFirstBad (λ n a. IsArrangement puzzle.now a) (λ n a fault. IsArrangementFault puzzle.now a fault) listed.now r.0 r.1) }
 {
     for (number, arrangement) in listed.iter().enumerate() {
         if let Some(fault) = puzzle.arrangement_fault(arrangement.placements()) {

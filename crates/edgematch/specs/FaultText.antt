@@ -2,30 +2,28 @@
 use Rattle.std.specs.Prelude.{ℕ, List, [], ◌∷◌, codes, decimal}
 use Rattle.match_board.specs.declared.boards.BoardFault.{BoardFault}
 use Rattle.match_board.specs.declared.boards.BoardFault.TheVariants as boards
+use Rattle.match_board.specs.declared.classes.TilesFault.{TilesFault}
+use Rattle.match_board.specs.declared.classes.TilesFault.TheVariants as tile_lists
 use Rattle.match_puzzle.specs.declared.faults.PuzzleFault.{PuzzleFault}
 use Rattle.match_puzzle.specs.declared.faults.PuzzleFault.TheVariants as puzzles
 use Rattle.match_text.specs.declared.faults.TextKind.{TextKind}
 use Rattle.match_text.specs.declared.faults.TextKind.TheVariants as kinds
 use Rattle.match_text.specs.declared.faults.TextFault.{TextFault}
-use Rattle.match_text.specs.declared.faults.ReadFault.{ReadFault}
-use Rattle.match_text.specs.declared.faults.ReadFault.TheVariants as readings
 use Rattle.edgematch.specs.declared.faults.Document.{Document}
 use Rattle.edgematch.specs.declared.faults.Document.TheVariants as documents
 use Rattle.match_text.specs.declared.faults.PuzzleTextFault.{PuzzleTextFault}
 use Rattle.match_text.specs.declared.faults.PuzzleTextFault.TheVariants as puzzle_text
 use Rattle.match_text.specs.declared.faults.ListTextFault.{ListTextFault}
 use Rattle.match_text.specs.declared.faults.ListTextFault.TheVariants as list_text
-use Rattle.edgematch.specs.declared.faults.CertTextFault.{CertTextFault}
-use Rattle.edgematch.specs.declared.faults.CertTextFault.TheVariants as cert_text
+use Rattle.cert_tree.specs.declared.faults.AssembleFault.{AssembleFault}
+use Rattle.cert_tree.specs.declared.faults.AssembleFault.TheVariants as assemblies
+use Rattle.cert_tree.specs.declared.faults.CertTextFault.{CertTextFault}
+use Rattle.cert_tree.specs.declared.faults.CertTextFault.TheVariants as cert_text
+use Rattle.match_report.specs.declared.expansions.ExpandFault.{ExpandFault}
+use Rattle.match_report.specs.declared.expansions.ExpandFault.TheVariants as expansions
 use Rattle.edgematch.specs.declared.faults.RunFault.{RunFault}
-use Rattle.edgematch.specs.declared.faults.RunFault.TheVariants.{Read, TooLong, Puzzle, List as Listing, Certificate, Write, Memory}
-use Rattle.edgematch.specs.Line.{line_text, label}
-
--- ---- faults of a text, by document
-
-abbrev pub cert_text_of : ReadFault → CertTextFault
-cert_text_of (readings.Text fault) = cert_text.Text fault
-cert_text_of readings.Memory = cert_text.Memory
+use Rattle.edgematch.specs.declared.faults.RunFault.TheVariants.{Read, TooLong, Puzzle, List as Listing, Certificate, Expand, Tiles, Write, Memory}
+use Rattle.match_report.specs.Line.{line_text, label}
 
 -- ---- want of memory, wherever it was met
 
@@ -41,7 +39,16 @@ run_of_list list_text.Memory = Memory
 
 abbrev pub run_of_certificate : CertTextFault → RunFault
 run_of_certificate (cert_text.Text fault) = Certificate (cert_text.Text fault)
+run_of_certificate (cert_text.Assemble fault) = Certificate (cert_text.Assemble fault)
 run_of_certificate cert_text.Memory = Memory
+
+abbrev pub run_of_expand : ExpandFault → RunFault
+run_of_expand expansions.TooMany = Expand
+run_of_expand expansions.Memory = Memory
+
+abbrev pub run_of_tiles : TilesFault → RunFault
+run_of_tiles tile_lists.TooMany = Tiles
+run_of_tiles tile_lists.Memory = Memory
 
 -- ---- words
 
@@ -89,8 +96,15 @@ unfoldable pub list_text_fault_words : ListTextFault → List (List ℕ)
 list_text_fault_words (list_text.Text fault) = text_fault_words documents.List fault
 list_text_fault_words list_text.Memory = memory_words
 
+unfoldable pub assemble_fault_words : AssembleFault → List (List ℕ)
+assemble_fault_words (assemblies.Stranger number) = codes "certificate:" ∷ codes "stranger" ∷ decimal number ∷ []
+assemble_fault_words (assemblies.Double number) = codes "certificate:" ∷ codes "double" ∷ decimal number ∷ []
+assemble_fault_words (assemblies.Missing number) = codes "certificate:" ∷ codes "missing" ∷ decimal number ∷ []
+assemble_fault_words assemblies.Memory = memory_words
+
 unfoldable pub cert_text_fault_words : CertTextFault → List (List ℕ)
 cert_text_fault_words (cert_text.Text fault) = text_fault_words documents.Certificate fault
+cert_text_fault_words (cert_text.Assemble fault) = assemble_fault_words fault
 cert_text_fault_words cert_text.Memory = memory_words
 
 -- the line of a fault
@@ -100,5 +114,7 @@ fault_line (TooLong document) = line_text (codes "too" ∷ codes "long" ∷ docu
 fault_line (Puzzle fault) = line_text (puzzle_text_fault_words fault)
 fault_line (Listing fault) = line_text (list_text_fault_words fault)
 fault_line (Certificate fault) = line_text (cert_text_fault_words fault)
+fault_line Expand = line_text (codes "too" ∷ codes "many" ∷ codes "expanded" ∷ [])
+fault_line Tiles = line_text (codes "too" ∷ codes "many" ∷ codes "tiles" ∷ [])
 fault_line Write = line_text (codes "cannot" ∷ codes "write" ∷ [])
 fault_line Memory = line_text memory_words

@@ -1,18 +1,17 @@
 // What may go wrong with a run, and how that is printed.
 
 ghost use Rattle.std.specs.Prelude.{◌≡◌, ◌++◌, ◌∷◌, [], codes, decimal, IfOk};
-ghost use Rattle.edgematch.specs.Line.{line_text, label};
-ghost use Rattle.edgematch.specs.FaultText.{document_word, kind_word, board_fault_word, memory_words, text_fault_words, puzzle_fault_words, puzzle_text_fault_words, list_text_fault_words, cert_text_fault_words, fault_line};
-ghost use Rattle.edgematch.specs.declared.faults.CertTextFault.TheVariants as cert_text;
+ghost use Rattle.match_report.specs.Line.{line_text, label};
+ghost use Rattle.edgematch.specs.FaultText.{document_word, kind_word, board_fault_word, memory_words, text_fault_words, puzzle_fault_words, puzzle_text_fault_words, list_text_fault_words, assemble_fault_words, cert_text_fault_words, fault_line};
 ghost use Rattle.edgematch.specs.declared.faults.RunFault.TheVariants as run_fault;
-ghost use Rattle.edgematch.specs.FaultText.{cert_text_of, run_of_puzzle, run_of_list, run_of_certificate};
+ghost use Rattle.edgematch.specs.FaultText.{run_of_puzzle, run_of_list, run_of_certificate, run_of_expand, run_of_tiles};
 
-use crate::lines::Line;
-use match_board::BoardFault;
+use cert_tree::{AssembleFault, CertTextFault};
+use match_board::{BoardFault, TilesFault};
 use match_puzzle::PuzzleFault;
-use match_text::{ListTextFault, PuzzleTextFault, ReadFault, TextFault, TextKind};
+use match_report::{ExpandFault, Line};
+use match_text::{ListTextFault, PuzzleTextFault, TextFault, TextKind};
 use std::alloc::{AllocError, Global};
-use thiserror::Error;
 
 /// What a run reads.
 #[derive(Clone, Copy, PartialEq, Eq, Debug)]
@@ -22,15 +21,6 @@ pub enum Document {
     Certificate,
     /// The three joined.
     Input,
-}
-
-/// Why there is no certificate of a text.
-#[derive(Clone, Copy, PartialEq, Eq, Debug, Error)]
-pub enum CertTextFault {
-    #[error("{0}")]
-    Text(TextFault),
-    #[error("out of memory")]
-    Memory,
 }
 
 /// Why a run stopped.
@@ -43,28 +33,13 @@ pub enum RunFault {
     Puzzle(PuzzleTextFault),
     List(ListTextFault),
     Certificate(CertTextFault),
+    /// More arrangements are reached than are listed.
+    Expand,
+    /// There are more tiles than are listed.
+    Tiles,
     /// Writing failed, or nothing more was taken.
     Write,
     Memory,
-}
-
-impl From<ReadFault> for CertTextFault {
-    ghost from_gives = { λ fault e. e ≡ cert_text_of fault };
-
-    fn from(fault: ReadFault) -> CertTextFault {
-        match fault {
-            ReadFault::Text(fault) => CertTextFault::Text(fault),
-            ReadFault::Memory => CertTextFault::Memory,
-        }
-    }
-}
-
-impl From<AllocError> for CertTextFault {
-    ghost from_gives = { λ _ e. e ≡ cert_text.Memory };
-
-    fn from(_error: AllocError) -> CertTextFault {
-        CertTextFault::Memory
-    }
 }
 
 impl From<PuzzleTextFault> for RunFault {
@@ -96,6 +71,28 @@ impl From<CertTextFault> for RunFault {
         match fault {
             CertTextFault::Memory => RunFault::Memory,
             fault => RunFault::Certificate(fault),
+        }
+    }
+}
+
+impl From<ExpandFault> for RunFault {
+    ghost from_gives = { λ fault e. e ≡ run_of_expand fault };
+
+    fn from(fault: ExpandFault) -> RunFault {
+        match fault {
+            ExpandFault::TooMany => RunFault::Expand,
+            ExpandFault::Memory => RunFault::Memory,
+        }
+    }
+}
+
+impl From<TilesFault> for RunFault {
+    ghost from_gives = { λ fault e. e ≡ run_of_tiles fault };
+
+    fn from(fault: TilesFault) -> RunFault {
+        match fault {
+            TilesFault::TooMany => RunFault::Tiles,
+            TilesFault::Memory => RunFault::Memory,
         }
     }
 }
@@ -154,7 +151,7 @@ fn board_fault_name(fault: BoardFault) -> &'static [u8]
 }
 
 // A line of three words.
-#[tactic(auto, using(crate::proofs::LineLemmas::line_laws))]
+#[tactic(auto, using(match_report::proofs::LineLemmas::line_laws))]
 fn words_line(
     alloc: Global,
     first: &[u8],
@@ -175,7 +172,7 @@ fn memory_line(alloc: Global) -> Result<Vec<u8>, AllocError>
     words_line(alloc, b"out", b"of", b"memory")
 }
 
-#[tactic(auto, using(crate::proofs::LineLemmas::line_laws), unfolding(crate::specs::FaultText::text_fault_words))]
+#[tactic(auto, using(match_report::proofs::LineLemmas::line_laws), unfolding(crate::specs::FaultText::text_fault_words))]
 fn text_fault_line(
     alloc: Global,
     document: Document,
@@ -190,7 +187,17 @@ fn text_fault_line(
     line.end()
 }
 
-#[tactic(auto, using(crate::proofs::LineLemmas::line_laws))]
+#[tactic(auto, using(match_report::proofs::LineLemmas::line_laws))]
+fn certificate_line(alloc: Global, word: &[u8], number: u32) -> Result<Vec<u8>, AllocError>
+    ensures { IfOk result (λ text. text.items ≡ line_text (codes "certificate:" ∷ word.now ∷ decimal number ∷ [])) }
+{
+    let mut line = Line::new(alloc, b"certificate:")?;
+    line.word(word)?;
+    line.number(number)?;
+    line.end()
+}
+
+#[tactic(auto, using(match_report::proofs::LineLemmas::line_laws))]
 fn puzzle_line(alloc: Global, word: &[u8]) -> Result<Vec<u8>, AllocError>
     ensures { IfOk result (λ text. text.items ≡ line_text (codes "puzzle:" ∷ word.now ∷ [])) }
 {
@@ -199,7 +206,7 @@ fn puzzle_line(alloc: Global, word: &[u8]) -> Result<Vec<u8>, AllocError>
     line.end()
 }
 
-#[tactic(auto, using(crate::proofs::LineLemmas::line_laws))]
+#[tactic(auto, using(match_report::proofs::LineLemmas::line_laws))]
 fn numbered_puzzle_line(alloc: Global, word: &[u8], number: u32) -> Result<Vec<u8>, AllocError>
     ensures { IfOk result (λ text. text.items ≡ line_text (codes "puzzle:" ∷ word.now ∷ decimal number ∷ [])) }
 {
@@ -247,17 +254,30 @@ fn list_text_fault_line(alloc: Global, fault: &ListTextFault) -> Result<Vec<u8>,
     }
 }
 
+#[tactic(auto, unfolding(crate::specs::FaultText::assemble_fault_words))]
+fn assemble_fault_line(alloc: Global, fault: &AssembleFault) -> Result<Vec<u8>, AllocError>
+    ensures { IfOk result (λ text. text.items ≡ line_text (assemble_fault_words fault.now)) }
+{
+    match *fault {
+        AssembleFault::Stranger(number) => certificate_line(alloc, b"stranger", number),
+        AssembleFault::Double(number) => certificate_line(alloc, b"double", number),
+        AssembleFault::Missing(number) => certificate_line(alloc, b"missing", number),
+        AssembleFault::Memory => memory_line(alloc),
+    }
+}
+
 #[tactic(auto, unfolding(crate::specs::FaultText::cert_text_fault_words))]
 fn cert_text_fault_line(alloc: Global, fault: &CertTextFault) -> Result<Vec<u8>, AllocError>
     ensures { IfOk result (λ text. text.items ≡ line_text (cert_text_fault_words fault.now)) }
 {
     match fault {
         CertTextFault::Text(fault) => text_fault_line(alloc, Document::Certificate, fault),
+        CertTextFault::Assemble(fault) => assemble_fault_line(alloc, fault),
         CertTextFault::Memory => memory_line(alloc),
     }
 }
 
-#[tactic(auto, using(crate::proofs::LineLemmas::line_laws))]
+#[tactic(auto, using(match_report::proofs::LineLemmas::line_laws))]
 fn write_fault_line(alloc: Global) -> Result<Vec<u8>, AllocError>
     ensures { IfOk result (λ text. text.items ≡ line_text (codes "cannot" ∷ codes "write" ∷ [])) }
 {
@@ -281,6 +301,8 @@ pub fn fault_text(alloc: Global, fault: &RunFault) -> Result<Vec<u8>, AllocError
         RunFault::Puzzle(fault) => puzzle_text_fault_line(alloc, fault),
         RunFault::List(fault) => list_text_fault_line(alloc, fault),
         RunFault::Certificate(fault) => cert_text_fault_line(alloc, fault),
+        RunFault::Expand => words_line(alloc, b"too", b"many", b"expanded"),
+        RunFault::Tiles => words_line(alloc, b"too", b"many", b"tiles"),
         RunFault::Write => write_fault_line(alloc),
         RunFault::Memory => memory_line(alloc),
     }

@@ -1,55 +1,124 @@
 //! Checks edge-matching puzzles: whether a list of arrangements is complete, by a certificate.
 #![tactic(auto)]
 
-mod answers;
-mod certificates;
+mod expansion_runs;
 mod faults;
-mod lines;
+mod files;
+mod questions;
 mod runs;
 mod streams;
+mod tile_runs;
 
-use crate::faults::{RunFault, fault_text};
-use crate::runs::{Status, run_joined};
+use crate::expansion_runs::run_expand;
+use crate::faults::{Document, RunFault, fault_text};
+use crate::files::open;
+use crate::runs::{Status, run_check, run_joined};
 use crate::streams::systems::{Input, Output};
-use std::env;
-use std::io::Write;
+use crate::tile_runs::run_tiles;
+use command_words::{Files, Order, WordsFault, order};
+use std::io::{ErrorKind, Write};
 use std::process::ExitCode;
+use std::{env, io};
 
 // What is neither an answer nor a fault of the documents that a solver makes.
 const OTHER: u8 = 2;
 
 fn main(rt: HostRuntime) -> ExitCode {
-    if has_words(&rt) {
-        let _ = rt.eprintln(
-            "edgematch takes no words: it reads a puzzle, a list and a certificate, joined, from standard input",
-        );
-        return ExitCode::from(OTHER);
+    let words = match words(&rt) {
+        Ok(words) => words,
+        Err(error) => return unread(&rt, &error),
+    };
+    match order(rt.alloc(), &words) {
+        Ok(Order::Joined) => {
+            let mut reader = Input::new(rt.stdin());
+            let mut writer = Output::new(rt.stdout());
+            checked(&rt, run_joined(rt.alloc(), &mut reader, 1, 0, &mut writer))
+        }
+        Ok(Order::Check(files)) => checked(&rt, check(&rt, &files)),
+        Ok(Order::Expand(files)) => checked(&rt, expand(&rt, &files)),
+        Ok(Order::Tiles { sides, colours }) => {
+            let mut writer = Output::new(rt.stdout());
+            match run_tiles(rt.alloc(), sides, colours, &mut writer) {
+                Ok(()) => ExitCode::SUCCESS,
+                Err(fault) => stopped(&rt, &fault),
+            }
+        }
+        Err(WordsFault::Words(error)) => explained(&rt, &error),
+        Err(WordsFault::Memory) => stopped(&rt, &RunFault::Memory),
     }
-    let mut reader = Input::new(rt.stdin());
+}
+
+// The words after the program's name.
+fn words(rt: &HostRuntime) -> io::Result<Vec<String>> {
+    let words = env::args(rt)?.skip(1).collect(rt.alloc())?;
+    Ok(words)
+}
+
+// Opens all three files before any is read.
+fn check(rt: &HostRuntime, files: &Files) -> Result<Status, RunFault> {
+    let mut puzzle = open(rt, &files.puzzle, Document::Puzzle)?;
+    let mut list = open(rt, &files.list, Document::List)?;
+    let mut certificate = open(rt, &files.certificate, Document::Certificate)?;
     let mut writer = Output::new(rt.stdout());
-    match run_joined(rt.alloc(), &mut reader, 1, 0, &mut writer) {
+    run_check(
+        rt.alloc(),
+        &mut puzzle,
+        &mut list,
+        &mut certificate,
+        1,
+        0,
+        &mut writer,
+    )
+}
+
+// The same, and prints all arrangements.
+fn expand(rt: &HostRuntime, files: &Files) -> Result<Status, RunFault> {
+    let mut puzzle = open(rt, &files.puzzle, Document::Puzzle)?;
+    let mut list = open(rt, &files.list, Document::List)?;
+    let mut certificate = open(rt, &files.certificate, Document::Certificate)?;
+    let mut writer = Output::new(rt.stdout());
+    run_expand(
+        rt.alloc(),
+        &mut puzzle,
+        &mut list,
+        &mut certificate,
+        &mut writer,
+    )
+}
+
+// After a check.
+fn checked(rt: &HostRuntime, status: Result<Status, RunFault>) -> ExitCode {
+    match status {
         Ok(Status::Complete) => ExitCode::SUCCESS,
         Ok(Status::Refused) => ExitCode::FAILURE,
-        Err(fault) => {
-            print_fault(&rt, &fault);
-            ExitCode::from(OTHER)
-        }
+        Err(fault) => stopped(rt, &fault),
     }
 }
 
-// Whether words stand after the program's name, or can't be read.
-fn has_words(rt: &HostRuntime) -> bool {
-    match env::args(rt) {
-        Ok(words) => words.len() > 1,
-        Err(_) => true,
-    }
-}
-
-// One line on standard error. Where that can't be written, nothing can be said.
-fn print_fault(rt: &HostRuntime, fault: &RunFault) {
+// Says why a run stopped, in one line on standard error. Where that can't be written, nothing can
+// be said.
+fn stopped(rt: &HostRuntime, fault: &RunFault) -> ExitCode {
     let mut errors = rt.stderr();
     let _ = match fault_text(rt.alloc(), fault) {
         Ok(text) => errors.write_all(&text),
         Err(_) => errors.write_all(b"out of memory\n"),
     };
+    ExitCode::from(OTHER)
+}
+
+// Prints help where it was asked for, else what is wrong with the words.
+fn explained(rt: &HostRuntime, error: &clap::Error) -> ExitCode {
+    match error.print(rt) {
+        Ok(()) if !error.use_stderr() => ExitCode::SUCCESS,
+        _ => ExitCode::from(OTHER),
+    }
+}
+
+// Says that the words can't be read.
+fn unread(rt: &HostRuntime, error: &io::Error) -> ExitCode {
+    if error.kind() == ErrorKind::OutOfMemory {
+        return stopped(rt, &RunFault::Memory);
+    }
+    let _ = rt.eprintln("the words of the command line are not UTF-8");
+    ExitCode::from(OTHER)
 }

@@ -84,7 +84,7 @@ module _ (p : Task) (pairs : List Pair) (is : IsPairList p pairs) (i : ℕ) (x :
       (has_of_pairs (take i pairs) (empty_prefix p) c y has)
 
 -- one more of a list
-taken_more : {X : Type 0} (xs : List X) (i : ℕ) (x : X) → slice_get xs i ≡ Some x → take (i + 1) xs ≡ take i xs ++ x ∷ []
+pub taken_more : {X : Type 0} (xs : List X) (i : ℕ) (x : X) → slice_get xs i ≡ Some x → take (i + 1) xs ≡ take i xs ++ x ∷ []
 taken_more xs i x e = take_more xs i x (slice_get_within xs i x e) ∙ ap (λ y. take i xs ++ y ∷ []) (get_or_from_slice_get xs i x x e)
 
 -- the prefix with the next pair too

@@ -44,6 +44,7 @@ pub record AreRight (p : Task) (pairs : List Pair) (n least : ℕ) (marks : List
   pub last : (i : ℕ) (x : Pair) → n ≡ i + 1 → slice_get pairs i ≡ Some x → least ≡ x.cell + 1
   pub first : n ≡ 0 → least ≡ 0
   pub small : least ≤ cell_count p.board
+  pub few : (n ≤ least) × (least ≤ 100)
   pub long : length marks ≡ 100
   pub seen : AreSeen (placed pairs) n marks
 
@@ -58,6 +59,7 @@ module _ (p : Task) (pairs : List Pair) where
     last = λ i x e. absurd (omega (arith, e));
     first = λ e. refl;
     small = omega arith;
+    few = (omega arith, omega arith);
     long = long;
     seen = seen_none (placed pairs) seen none;
   }
@@ -91,6 +93,7 @@ module _ (p : Task) (pairs : List Pair) where
       last = λ i y e at. let is = ap (λ (w : Pair). w.cell) (same y (subst (λ k. slice_get pairs k ≡ Some y) (let s : i ≡ n = omega (arith, e) in s) at)) in omega (arith, is);
       first = λ e. absurd (omega (arith, e));
       small = omega (arith, next.1);
+      few = (omega (arith, right.few.0, next.0), omega (arith, next.2));
       long = length-set seen x.placement.tile true ∙ right.long;
       seen = seen_more (placed pairs) n x.placement seen (at_mapped pairs n x there) right.long right.seen;
     }

@@ -18,7 +18,7 @@ pub word_at : (ts : List Tile) (i : ℕ) (t : Tile) → i < length ts → t ≡ 
 word_at ts i t lt e = get_or-map word ts i t [] lt ∙ ap word (sym e)
 
 -- a cell has sides
-some_sides : (s : Shape) → 1 ≤ side_count s
+pub some_sides : (s : Shape) → 1 ≤ side_count s
 some_sides (Rectangle width height) = omega arith
 some_sides (Triangle size) = omega arith
 some_sides (Hexagon size) = omega arith

@@ -9,3 +9,4 @@ pub mod Fitting
 pub mod Demands
 pub mod Tables
 pub mod Partials
+pub mod Equality

@@ -36,7 +36,8 @@ impl<'a> Partial<'a> {
 
     /// Nothing is placed yet.
     pub fn new(alloc: Global, puzzle: &'a Puzzle) -> Result<Partial<'a>, AllocError>
-        ensures { IfOk result (λ q. q ≡ record { puzzle = puzzle.now; placed = empty_prefix puzzle.now }) }
+        ensures empty { IfOk result (λ q. q ≡ record { puzzle = puzzle.now; placed = empty_prefix puzzle.now }) }
+        ensures puzzle { IsPuzzle puzzle.now }
     {
         let cells = puzzle.board().cells() as usize;
         let placed = vec![in alloc; None; cells]?;
@@ -51,7 +52,8 @@ impl<'a> Partial<'a> {
     /// Just these pairs are placed.
     pub fn of(alloc: Global, puzzle: &'a Puzzle, pairs: &[Pair]) -> Result<Partial<'a>, AllocError>
         requires { IsPairList puzzle.now pairs.now }
-        ensures { IfOk result (λ q. q ≡ record { puzzle = puzzle.now; placed = with_pairs pairs.now (empty_prefix puzzle.now) }) }
+        ensures pairs { IfOk result (λ q. q ≡ record { puzzle = puzzle.now; placed = with_pairs pairs.now (empty_prefix puzzle.now) }) }
+        ensures puzzle { IsPuzzle puzzle.now }
     {
         let mut partial = Partial::new(alloc, puzzle)?;
         for pair in pairs {

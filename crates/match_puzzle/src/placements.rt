@@ -1,7 +1,7 @@
 // Tiles that are put into place.
 
 /// A tile of the puzzle, and how often it is turned.
-#[derive(Clone, Copy, PartialEq, Eq, PartialOrd, Ord, Debug)]
+#[derive(Clone, Copy, PartialEq, Eq, PartialOrd, Ord, Hash, Debug)]
 pub struct Placement {
     pub tile: u16,
     pub turn: u8,

@@ -1,6 +1,6 @@
 // What is wrong with a list of pairs that is no prefix.
 
-ghost use Rattle.std.specs.Prelude.{◌≡◌, ◌<◌, ◌≤◌, ◌^◌, MatchOption, length};
+ghost use Rattle.std.specs.Prelude.{◌≡◌, MatchOption, length};
 ghost use Rattle.match_puzzle.specs.PrefixFaults.{IsPairList, IsPrefixFault, TellsOfPair};
 
 use crate::faults::PrefixFault;
@@ -12,7 +12,6 @@ impl Puzzle {
     /// The first fault of a list of pairs, at its least place, or none where it is a prefix with cells rising.
     /// Matching edges are not asked. It is one pass and takes no memory.
     pub fn prefix_fault(&self, pairs: &[Pair]) -> Option<PrefixFault>
-        requires { length pairs.now < 2 ^ 32 }
         ensures { MatchOption result (IsPairList self.now pairs.now) (IsPrefixFault self.now pairs.now) }
     {
         let mut seen = [false; MOST_CELLS as usize];

@@ -1,7 +1,7 @@
 // A puzzle: a board, tiles, and a rule for the border.
 
 ghost use Rattle.std.specs.Prelude.{◌≡◌, ◌≢◌, ◌<◌, ◌≤◌, ◌↔◌, ◌^◌, ℕ, IfOk, IfErr, IsErrOf, IfSome, IsTrue, MatchOption, Some, length, map, []};
-ghost use Rattle.match_board.specs.Board.{cell_count, side_count};
+ghost use Rattle.match_board.specs.Board.{cell_count, side_count, Meets};
 ghost use Rattle.match_board.specs.First.{IsFirst};
 ghost use Rattle.match_puzzle.specs.Puzzle.{Task, task_of, rule_of, IsPuzzle, IsShortRule};
 ghost use Rattle.match_puzzle.specs.PuzzleFaults.{PuzzleFails, puzzle_rank};
@@ -126,6 +126,21 @@ impl Puzzle {
         }
     }
 
+    /// What the side of the cell meets: another cell and its side, or nothing at the border.
+    ///
+    /// It is a look-up, where the board's own call goes through the rows.
+    pub fn meets(&self, cell: u16, side: u8) -> Option<(u16, u8)>
+        requires cell { cell < cell_count self.now.board }
+        requires side { side < side_count self.now.board }
+        ensures found { IfSome result (λ other. Meets self.now.board cell side other.0 other.1) }
+        ensures only { (c k : ℕ) → Meets self.now.board cell side c k → result ≡ Some (c, k) }
+    {
+        match self.side(cell, side) {
+            Side::Border(_) => None,
+            Side::Edge { cell, side } => Some((cell, side)),
+        }
+    }
+
     /// Whether the tile is one of the puzzle's, and may be turned so.
     pub fn legal(&self, placement: Placement) -> bool
         ensures { IsTrue result ↔ IsLegal self.now placement }
@@ -153,7 +168,7 @@ impl Puzzle {
 
     /// The colour that a placed tile shows on a side.
     #[tactic(auto, unfolding(crate::specs::Puzzle::colour_of))]
-    pub(crate) fn colour(&self, placement: Placement, side: u8) -> u8
+    pub fn colour(&self, placement: Placement, side: u8) -> u8
         requires tile { placement.tile < length self.now.words }
         requires side { side < side_count self.now.board }
         ensures { result ≡ colour_of self.now placement side }

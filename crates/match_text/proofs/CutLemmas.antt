@@ -211,7 +211,7 @@ end_at : (p : Place) (ahead : List ℕ) (x : Unit {0} × Place) → ahead ≡ p.
 end_at p [] x is e = ap (λ (z : Unit {0} × Place). z.1.ahead) (sym (ok_is (tt, p) x e)) ∙ sym is
 end_at p (b ∷ bytes) x is e = absurd cc
 
-end_leaves : (p : Place) (x : Unit {0} × Place) → end_of_text p ≡ Ok x → x.1.ahead ≡ []
+pub end_leaves : (p : Place) (x : Unit {0} × Place) → end_of_text p ≡ Ok x → x.1.ahead ≡ []
 unfolding end_of_text
 end_leaves p x e = end_at p p.ahead x refl e
 

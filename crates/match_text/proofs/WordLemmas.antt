@@ -73,7 +73,7 @@ or_word_is None x e = absurd cc
 
 -- ---- numbers
 
-own : IsNumeralModel (λ ds. all_ascii_digits ds ≡ true) (digits_value 10)
+pub own : IsNumeralModel (λ ds. all_ascii_digits ds ≡ true) (digits_value 10)
 own = numerals_by_value (λ ds. all_ascii_digits ds ≡ true) tells_all_ascii_digits
 
 is_number-decimal : (n : ℕ) → n < 2 ^ 64 → is_number (decimal n) ≡ true
@@ -143,7 +143,7 @@ digits_lack c small (b ∷ word) digits =
 pub decimal_lacks : (c n : ℕ) → c < 48 → n < 2 ^ 64 → has_no c (decimal n) ≡ true
 decimal_lacks c n small lt = digits_lack c small (decimal n) (own.to (decimal n) (digits_decimal own n lt))
 
-cut_dot : (c : ℕ) (word rest : List ℕ) → has_no c word ≡ true → cut_at c (word ++ c ∷ rest) ≡ Some (word, rest)
+pub cut_dot : (c : ℕ) (word rest : List ℕ) → has_no c word ≡ true → cut_at c (word ++ c ∷ rest) ≡ Some (word, rest)
 cut_dot c [] rest e = rw (eq-eqb c c refl) refl
 cut_dot c (b ∷ word) rest e =
     let h = both (not (eqb b c)) (has_no c word) e in
@@ -184,7 +184,7 @@ clean_from (b ∷ word) e h =
     let two = both (not (eqb b 10)) (has_no 10 word) h in
     rw (one.0, two.0, clean_from word one.1 two.1) refl
 
-clean-append : (a b : List ℕ) → is_clean a ≡ true → is_clean b ≡ true → is_clean (a ++ b) ≡ true
+pub clean-append : (a b : List ℕ) → is_clean a ≡ true → is_clean b ≡ true → is_clean (a ++ b) ≡ true
 clean-append [] b e h = h
 clean-append (x ∷ a) b e h =
     let parts = both (not (eqb x 32) && not (eqb x 10)) (is_clean a) e in
@@ -193,7 +193,7 @@ clean-append (x ∷ a) b e h =
 pub clean-decimal : (n : ℕ) → n < 2 ^ 64 → is_clean (decimal n) ≡ true
 clean-decimal n lt = clean_from (decimal n) (decimal_lacks 32 n (omega arith) lt) (decimal_lacks 10 n (omega arith) lt)
 
-clean-placement : (p : Placement) → IsPlacementWithin p → is_clean (placement_word p) ≡ true
+pub clean-placement : (p : Placement) → IsPlacementWithin p → is_clean (placement_word p) ≡ true
 clean-placement p fits = clean-append (decimal p.tile) (46 ∷ decimal p.turn) (clean-decimal p.tile (omega (arith, fits.0))) (rw (clean-decimal p.turn (omega (arith, fits.1))) refl)
 
 -- words of values that are clean

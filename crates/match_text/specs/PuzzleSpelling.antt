@@ -38,6 +38,14 @@ puzzle_lines p =
     (first_words (codes "match") ∷ []) ++ ((board_words p.board ∷ []) ++ ((turns_words p.turns ∷ []) ++ ((border_words p.border ∷ [])
     ++ ((count_words (codes "tiles") (length p.words) ∷ []) ++ (map tile_words p.words ++ end_lines)))))
 
+-- a tile by itself
+abbrev pub lone_tile_words : List ℕ → List (List ℕ)
+lone_tile_words word = tile_word word ∷ []
+
+-- tiles by themselves, the word of one on each line
+unfoldable pub tiles_spelling : List (List ℕ) → List ℕ
+tiles_spelling words = text_of (map lone_tile_words words)
+
 unfoldable pub puzzle_spelling : Task → List ℕ
 puzzle_spelling p = text_of (puzzle_lines p)
 

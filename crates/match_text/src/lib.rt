@@ -11,12 +11,15 @@ mod scans;
 mod spellings;
 #[cfg(test)]
 mod tests;
+mod tile_spellings;
 mod words;
 
 pub use faults::{ListTextFault, PuzzleTextFault, ReadFault, TextFault, TextKind};
 pub use laws::{list_laws, puzzle_laws};
-pub use list_spellings::{list_within_limits, write_list};
+pub use list_spellings::{list_within_limits, put_placement, write_list};
 pub use lists::read_list;
 pub use puzzle_spellings::write_puzzle;
 pub use puzzles::read_puzzle;
 pub use scans::Scan;
+pub use spellings::{character, put_end, put_number, put_number_line};
+pub use tile_spellings::write_tiles;

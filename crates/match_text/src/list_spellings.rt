@@ -70,7 +70,8 @@ pub fn list_within_limits(list: &[Arrangement]) -> bool
     is_list_within(list)
 }
 
-fn put_placement(text: &mut Vec<u8>, placement: Placement) -> Result<(), AllocError>
+/// Writes a placement.
+pub fn put_placement(text: &mut Vec<u8>, placement: Placement) -> Result<(), AllocError>
     ensures { OnOk result (text.new.items ≡ text.old.items ++ placement_word placement) }
 {
     put_number(text, u32::from(placement.tile))?;

@@ -10,22 +10,10 @@ ghost use Rattle.match_text.specs.Puzzles.{PuzzleReads};
 ghost use Rattle.match_text.specs.Spelling.{text_of, first_words, colour_character, colour_word, rule_word, tile_word};
 ghost use Rattle.match_text.specs.PuzzleSpelling.{board_words, turns_words, border_words, tile_words, puzzle_spelling, IsRuleWithin, IsBorderWithin};
 
-use crate::spellings::{put_end, put_number, put_number_line};
+use crate::spellings::{character, put_end, put_number, put_number_line};
 use match_board::{Board, Figure, Tile};
 use match_puzzle::{Border, Puzzle};
 use std::alloc::{AllocError, Global};
-
-// The character of a colour.
-fn character(colour: u8) -> u8
-    requires { colour < 36 }
-    ensures { result ≡ colour_character colour }
-{
-    if colour < 10 {
-        b'0' + colour
-    } else {
-        b'a' + (colour - 10)
-    }
-}
 
 #[tactic(auto, unfolding(crate::specs::Spelling::text_of))]
 fn put_first(text: &mut Vec<u8>) -> Result<(), AllocError>
@@ -137,7 +125,8 @@ fn put_border(text: &mut Vec<u8>, border: &Border) -> Result<(), AllocError>
     }
 }
 
-fn put_colours(text: &mut Vec<u8>, tile: &Tile) -> Result<(), AllocError>
+/// Writes a tile's word.
+pub fn put_colours(text: &mut Vec<u8>, tile: &Tile) -> Result<(), AllocError>
     ensures { OnOk result (text.new.items ≡ text.old.items ++ tile_word (colours_of tile.now)) }
 {
     for side in 0..tile.sides() {

@@ -6,6 +6,18 @@ ghost use Rattle.match_text.specs.Spelling.{colour_character, count_words, end_l
 use itoa::Buffer;
 use std::alloc::AllocError;
 
+/// The character of a colour.
+pub fn character(colour: u8) -> u8
+    requires { colour < 36 }
+    ensures { result ≡ colour_character colour }
+{
+    if colour < 10 {
+        b'0' + colour
+    } else {
+        b'a' + (colour - 10)
+    }
+}
+
 /// Writes a number.
 pub fn put_number(text: &mut Vec<u8>, number: u32) -> Result<(), AllocError>
     ensures { OnOk result (text.new.items ≡ text.old.items ++ decimal number) }

@@ -1,4 +1,7 @@
 mod boards;
+mod checks;
+pub(crate) mod citations;
+mod examples;
 
 use super::{Status, run_joined};
 use crate::faults::{RunFault, fault_text};
@@ -197,7 +200,7 @@ fn prints_the_first_fault_of_the_documents(rt: HostRuntime) -> Result<(), Fail> 
         (
             ONE_CELL,
             LISTED_CELL,
-            b"certificate 1\nsymmetries 1\n".as_slice(),
+            b"certificate 1\nsymmetries 1025\n".as_slice(),
             b"certificate: line 2: limit\n".as_slice(),
         ),
         (

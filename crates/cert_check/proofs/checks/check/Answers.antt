@@ -1,77 +1,87 @@
-use Rattle.std.proofs.Common.{MatchOption, subst, sym}
-use Rattle.match_board.specs.First.{IsLeast, IsFirst}
-use Rattle.match_puzzle.specs.Prefix.{empty_prefix}
-use Rattle.cert_check.specs.declared.faults.Fault.TheVariants as faults
-use Rattle.cert_check.specs.Setting.{setting_of}
-use Rattle.cert_check.specs.Tree.{tree_of}
-use Rattle.cert_check.specs.Walk.{Tells}
-use Rattle.cert_check.specs.Certificate.{claims_of}
-use Rattle.cert_check.specs.Answer.{AreDistinct, RepeatsEarlier, Occurs, fault_rank}
+use Rattle.std.proofs.Common.{◌<◌, List, MatchBool, length, map, arith, ap, subst}
+use Rattle.std.proofs.lemmas.List.{length-map}
+use Rattle.cert_tree.specs.Certificate.{piece_of}
+use Rattle.cert_tree.specs.declared.certificates.Lemma.{Lemma}
+use Rattle.cert_check.specs.Setting.{question_of, BeginWithPrefixes}
+use Rattle.cert_check.specs.Derivation.{HasRoot}
+use Rattle.cert_check.specs.Answer.{AreSymmetries}
+use Rattle.cert_check.specs.Lines.{LinesFail, IsFirstBadPrefix}
+use Rattle.cert_check.specs.Walk.{TellsOfListing, TellsOfTrees}
+use Rattle.cert_check.proofs.CheckLemmas.{first_listing, first_symmetry, first_prefix, first_bad_prefix, first_root, first_tree, have_prefixes, all_shown}
 use Rattle.cert_check.proofs.Soundness.{complete, all_covered}
-use Rattle.cert_check.proofs.CheckLemmas.{first_list, first_repeated, no_lemma, IsOnly, only_lemma, only_narrow, only_fails, only_holds}
 use Rattle.cert_check.proofs.checks.check.Goals as goal
 
 pub returns-in-Some-clause-answer : goal.returns-in-Some-clause-answer
-returns-in-Some-clause-answer c = first_list (setting_of c.args.puzzle.now c.args.listed.now) (claims_of c.args.certificate.now) c.in-Some.number c.in-Some.fault c.in-Some.ensures
+returns-in-Some-clause-answer c =
+    let question = question_of c.args.puzzle.now c.args.listed.now c.args.certificate.now in
+    first_listing question c.in-Some.fault (subst (TellsOfListing question.puzzle question.listed) c.in-Some.is c.in_ok-fault.ensures)
 
-pub returns-in-Some-2-clause-answer : goal.returns-in-Some-2-clause-answer
-returns-in-Some-2-clause-answer c =
-    let s = setting_of c.args.puzzle.now c.args.listed.now in
-    let least = subst (λ r. MatchOption r (AreDistinct s.listed) (IsLeast (RepeatsEarlier s.listed))) c.in-Some-2.is c.in_ok-number.ensures in
-    first_repeated s (claims_of c.args.certificate.now) c.in_default.ensures c.in-Some-2.number least
+pub make_symmetries-requires : goal.make_symmetries-requires
+make_symmetries-requires c = let few = c.symmetries.ensures.numbered.few_symmetries in omega (arith, few, ap length c.symmetries.ensures.symmetries)
 
-pub returns-in_default-last-clause-answer : goal.returns-in_default-last-clause-answer
-returns-in_default-last-clause-answer c =
-    let s = setting_of c.args.puzzle.now c.args.listed.now in
-    let certificate = c.args.certificate.now in
-    let distinct = subst (λ r. MatchOption r (AreDistinct s.listed) (IsLeast (RepeatsEarlier s.listed))) c.in_default-2.is c.in_ok-number.ensures in
-    subst (λ lemmas. IsFirst fault_rank (Occurs s (claims_of lemmas)) faults.Root) c.lemmas.ensures.lemmas (no_lemma s c.lemmas.result.now c.in_default.ensures distinct c.lemmas.ensures.plain (sym c.in_default-last.ensures.value))
+pub returns-in-Err-Line-clause-answer : goal.returns-in-Err-Line-clause-answer
+returns-in-Err-Line-clause-answer c =
+    let question = question_of c.args.puzzle.now c.args.listed.now c.args.certificate.now in
+    let told = subst (TellsOfListing question.puzzle question.listed) c.in_default.is c.in_ok-fault.ensures in
+    let is = subst (LinesFail question.puzzle question.symmetries) c.in-Err-Line.field-0-is (subst (λ lines. LinesFail question.puzzle lines c.in-Err-Line.field-0) c.symmetries.ensures.symmetries c.in-Err-Line.ensures.fault) in
+    rw (c.in-Err-Line.number-is, c.in-Err-Line.fault-is) (first_symmetry question told.0 told.1 c.in-Err-Line.number c.in-Err-Line.fault is)
 
-pub tree_fault-requires : goal.tree_fault-requires
-tree_fault-requires c =
-    let s = setting_of c.args.puzzle.now c.args.listed.now in
-    let certificate = c.args.certificate.now in
-    let distinct = subst (λ r. MatchOption r (AreDistinct s.listed) (IsLeast (RepeatsEarlier s.listed))) c.in_default-2.is c.in_ok-number.ensures in
-    let root = c.in-Some-last.root.now in
-    let only = subst (λ lemmas. IsOnly lemmas root) c.lemmas.ensures.lemmas (only_lemma c.lemmas.result.now root c.lemmas.ensures.plain (sym c.in-Some-last.ensures.value)) in
-    only_narrow s certificate c.in_default.ensures distinct root only c.requires.narrow
+pub returns-in-Some-prefixes_fault-clause-answer : goal.returns-in-Some-prefixes_fault-clause-answer
+returns-in-Some-prefixes_fault-clause-answer c =
+    let question = question_of c.args.puzzle.now c.args.listed.now c.args.certificate.now in
+    let told = subst (TellsOfListing question.puzzle question.listed) c.in_default.is c.in_ok-fault.ensures in
+    let symmetric = subst (AreSymmetries question.puzzle) c.symmetries.ensures.symmetries c.in-Ok.ensures.moves in
+    let number = c.in-Some-prefixes_fault.number in
+    let fault = c.in-Some-prefixes_fault.fault in
+    let is = subst (λ (ls : List Lemma). IsFirstBadPrefix question.puzzle ls number fault) c.lemmas.ensures.lemmas c.in-Some-prefixes_fault.ensures in
+    first_prefix question told.0 told.1 symmetric number fault (first_bad_prefix question.puzzle c.args.certificate.now.lemmas number fault is)
+
+pub returns-then-not-ends_at_a_root-clause-answer : goal.returns-then-not-ends_at_a_root-clause-answer
+returns-then-not-ends_at_a_root-clause-answer c =
+    let question = question_of c.args.puzzle.now c.args.listed.now c.args.certificate.now in
+    let told = subst (TellsOfListing question.puzzle question.listed) c.in_default.is c.in_ok-fault.ensures in
+    let symmetric = subst (AreSymmetries question.puzzle) c.symmetries.ensures.symmetries c.in-Ok.ensures.moves in
+    let prefixes = have_prefixes question.puzzle question.listed c.args.certificate.now (subst (BeginWithPrefixes question.puzzle) c.lemmas.ensures.lemmas c.in_default-prefixes_fault.ensures) in
+    let none = subst (λ (ls : List Lemma). HasRoot (map piece_of ls) → ⊥) c.lemmas-2.ensures.lemmas (subst (λ b. MatchBool b (HasRoot (map piece_of c.lemmas-2.result.now)) (HasRoot (map piece_of c.lemmas-2.result.now) → ⊥)) c.if-not-ends_at_a_root.true c.ends_at_a_root.ensures) in
+    first_root question told.0 told.1 symmetric prefixes none
 
 pub returns-in-None-clause-answer : goal.returns-in-None-clause-answer
 returns-in-None-clause-answer c =
-    let s = setting_of c.args.puzzle.now c.args.listed.now in
-    let certificate = c.args.certificate.now in
-    let distinct = subst (λ r. MatchOption r (AreDistinct s.listed) (IsLeast (RepeatsEarlier s.listed))) c.in_default-2.is c.in_ok-number.ensures in
-    let root = c.in-Some-last.root.now in
-    let only = subst (λ lemmas. IsOnly lemmas root) c.lemmas.ensures.lemmas (only_lemma c.lemmas.result.now root c.lemmas.ensures.plain (sym c.in-Some-last.ensures.value)) in
-    let holds = subst (Tells s (tree_of root.tree) (empty_prefix s.puzzle)) c.in-None.is c.in_ok-tree_fault.ensures in
-    only_holds s certificate c.in_default.ensures distinct root only holds
+    let question = question_of c.args.puzzle.now c.args.listed.now c.args.certificate.now in
+    let told = subst (TellsOfListing question.puzzle question.listed) c.in_default.is c.in_ok-fault.ensures in
+    let symmetric = subst (AreSymmetries question.puzzle) c.symmetries.ensures.symmetries c.in-Ok.ensures.moves in
+    let prefixes = have_prefixes question.puzzle question.listed c.args.certificate.now (subst (BeginWithPrefixes question.puzzle) c.lemmas.ensures.lemmas c.in_default-prefixes_fault.ensures) in
+    let root = subst (λ (ls : List Lemma). HasRoot (map piece_of ls)) c.lemmas-2.ensures.lemmas (subst (λ b. MatchBool b (HasRoot (map piece_of c.lemmas-2.result.now)) (HasRoot (map piece_of c.lemmas-2.result.now) → ⊥)) c.if-not-ends_at_a_root.false c.ends_at_a_root.ensures) in
+    all_shown question told.0 told.1 symmetric prefixes root (subst (TellsOfTrees question) c.in-None.is c.in_ok-trees_fault.ensures.trees)
 
 pub returns-in-None-clause-complete : goal.returns-in-None-clause-complete
 returns-in-None-clause-complete c = λ _.
-    let s = setting_of c.args.puzzle.now c.args.listed.now in
-    let certificate = c.args.certificate.now in
-    let distinct = subst (λ r. MatchOption r (AreDistinct s.listed) (IsLeast (RepeatsEarlier s.listed))) c.in_default-2.is c.in_ok-number.ensures in
-    let root = c.in-Some-last.root.now in
-    let only = subst (λ lemmas. IsOnly lemmas root) c.lemmas.ensures.lemmas (only_lemma c.lemmas.result.now root c.lemmas.ensures.plain (sym c.in-Some-last.ensures.value)) in
-    let holds = subst (Tells s (tree_of root.tree) (empty_prefix s.puzzle)) c.in-None.is c.in_ok-tree_fault.ensures in
-    complete s (claims_of certificate) (only_holds s certificate c.in_default.ensures distinct root only holds)
+    let question = question_of c.args.puzzle.now c.args.listed.now c.args.certificate.now in
+    let told = subst (TellsOfListing question.puzzle question.listed) c.in_default.is c.in_ok-fault.ensures in
+    let symmetric = subst (AreSymmetries question.puzzle) c.symmetries.ensures.symmetries c.in-Ok.ensures.moves in
+    let prefixes = have_prefixes question.puzzle question.listed c.args.certificate.now (subst (BeginWithPrefixes question.puzzle) c.lemmas.ensures.lemmas c.in_default-prefixes_fault.ensures) in
+    let root = subst (λ (ls : List Lemma). HasRoot (map piece_of ls)) c.lemmas-2.ensures.lemmas (subst (λ b. MatchBool b (HasRoot (map piece_of c.lemmas-2.result.now)) (HasRoot (map piece_of c.lemmas-2.result.now) → ⊥)) c.if-not-ends_at_a_root.false c.ends_at_a_root.ensures) in
+    let shown = all_shown question told.0 told.1 symmetric prefixes root (subst (TellsOfTrees question) c.in-None.is c.in_ok-trees_fault.ensures.trees) in
+    let some : 0 < length c.args.certificate.now.lemmas = omega (arith, root.2, length-map c.args.certificate.now.lemmas piece_of) in
+    complete question (c.in_ok-trees_fault.ensures.made some) shown
 
 pub returns-in-None-clause-covered : goal.returns-in-None-clause-covered
 returns-in-None-clause-covered c = λ _.
-    let s = setting_of c.args.puzzle.now c.args.listed.now in
-    let certificate = c.args.certificate.now in
-    let distinct = subst (λ r. MatchOption r (AreDistinct s.listed) (IsLeast (RepeatsEarlier s.listed))) c.in_default-2.is c.in_ok-number.ensures in
-    let root = c.in-Some-last.root.now in
-    let only = subst (λ lemmas. IsOnly lemmas root) c.lemmas.ensures.lemmas (only_lemma c.lemmas.result.now root c.lemmas.ensures.plain (sym c.in-Some-last.ensures.value)) in
-    let holds = subst (Tells s (tree_of root.tree) (empty_prefix s.puzzle)) c.in-None.is c.in_ok-tree_fault.ensures in
-    all_covered s (claims_of certificate) (only_holds s certificate c.in_default.ensures distinct root only holds)
+    let question = question_of c.args.puzzle.now c.args.listed.now c.args.certificate.now in
+    let told = subst (TellsOfListing question.puzzle question.listed) c.in_default.is c.in_ok-fault.ensures in
+    let symmetric = subst (AreSymmetries question.puzzle) c.symmetries.ensures.symmetries c.in-Ok.ensures.moves in
+    let prefixes = have_prefixes question.puzzle question.listed c.args.certificate.now (subst (BeginWithPrefixes question.puzzle) c.lemmas.ensures.lemmas c.in_default-prefixes_fault.ensures) in
+    let root = subst (λ (ls : List Lemma). HasRoot (map piece_of ls)) c.lemmas-2.ensures.lemmas (subst (λ b. MatchBool b (HasRoot (map piece_of c.lemmas-2.result.now)) (HasRoot (map piece_of c.lemmas-2.result.now) → ⊥)) c.if-not-ends_at_a_root.false c.ends_at_a_root.ensures) in
+    let shown = all_shown question told.0 told.1 symmetric prefixes root (subst (TellsOfTrees question) c.in-None.is c.in_ok-trees_fault.ensures.trees) in
+    let some : 0 < length c.args.certificate.now.lemmas = omega (arith, root.2, length-map c.args.certificate.now.lemmas piece_of) in
+    all_covered question (c.in_ok-trees_fault.ensures.made some) shown
 
-pub returns-in-Some-3-clause-answer : goal.returns-in-Some-3-clause-answer
-returns-in-Some-3-clause-answer c =
-    let s = setting_of c.args.puzzle.now c.args.listed.now in
-    let certificate = c.args.certificate.now in
-    let distinct = subst (λ r. MatchOption r (AreDistinct s.listed) (IsLeast (RepeatsEarlier s.listed))) c.in_default-2.is c.in_ok-number.ensures in
-    let root = c.in-Some-last.root.now in
-    let only = subst (λ lemmas. IsOnly lemmas root) c.lemmas.ensures.lemmas (only_lemma c.lemmas.result.now root c.lemmas.ensures.plain (sym c.in-Some-last.ensures.value)) in
-    let fails = subst (Tells s (tree_of root.tree) (empty_prefix s.puzzle)) c.in-Some-3.is c.in_ok-tree_fault.ensures in
-    only_fails s certificate c.in_default.ensures distinct root only c.in-Some-3.fault fails
+pub returns-clause-answer : goal.returns-clause-answer
+returns-clause-answer c =
+    let question = question_of c.args.puzzle.now c.args.listed.now c.args.certificate.now in
+    let told = subst (TellsOfListing question.puzzle question.listed) c.in_default.is c.in_ok-fault.ensures in
+    let symmetric = subst (AreSymmetries question.puzzle) c.symmetries.ensures.symmetries c.in-Ok.ensures.moves in
+    let prefixes = have_prefixes question.puzzle question.listed c.args.certificate.now (subst (BeginWithPrefixes question.puzzle) c.lemmas.ensures.lemmas c.in_default-prefixes_fault.ensures) in
+    let root = subst (λ (ls : List Lemma). HasRoot (map piece_of ls)) c.lemmas-2.ensures.lemmas (subst (λ b. MatchBool b (HasRoot (map piece_of c.lemmas-2.result.now)) (HasRoot (map piece_of c.lemmas-2.result.now) → ⊥)) c.if-not-ends_at_a_root.false c.ends_at_a_root.ensures) in
+    let is = subst (TellsOfTrees question) c.in-Some-2.is c.in_ok-trees_fault.ensures.trees in
+    first_tree question told.0 told.1 symmetric prefixes root c.in-Some-2.number c.in-Some-2.fault is

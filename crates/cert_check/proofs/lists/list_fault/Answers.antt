@@ -1,8 +1,17 @@
-use Rattle.std.proofs.Common.{refl, subst, arith}
+use Rattle.std.proofs.Common.{List, refl, subst, arith}
 use Rattle.std.proofs.lemmas.Option.{slice_get_within, slice_get_read}
 use Rattle.match_puzzle.specs.Arrangement.{IsArrangement}
+use Rattle.match_puzzle.specs.ArrangementFaults.{IsArrangementFault}
+use Rattle.match_puzzle.specs.declared.placements.Placement.{Placement}
 use Rattle.cert_check.proofs.ListLemmas.{each_more}
 use Rattle.cert_check.proofs.lists.list_fault.Goals as goal
+
+pub returns-in-Some : goal.returns-in-Some
+returns-in-Some c =
+    let a = c.index-listed-number.result in
+    let here = slice_get_read c.args.listed.now _ c.loop-number.number a refl c.loop-number-test.true c.index-listed-number.is in
+    let fails = subst (λ (b : List Placement). IsArrangementFault c.args.puzzle.now b c.in-Some.fault) c.placements.ensures c.in-Some.ensures in
+    record { occurs = (a, here, fails); before = c.loop-number.invariant }
 
 pub loop-number-preserved : goal.loop-number-preserved
 loop-number-preserved c =

@@ -1,10 +1,9 @@
 use Rattle.std.proofs.Common.{◌∷◌, arith, ap, sym, ◌∙◌, refl, subst}
 use Rattle.match_puzzle.specs.Prefix.{Layout}
-use Rattle.cert_check.specs.Setting.{setting_of}
-use Rattle.cert_check.specs.Tree.{branch, tree_of, forest_of}
+use Rattle.cert_tree.specs.Tree.{branch, tree_of, forest_of}
 use Rattle.cert_check.specs.TreeFaults.{FailsAt}
 use Rattle.cert_check.specs.Walk.{Tells}
-use Rattle.cert_check.proofs.TreeLemmas.{tree_of-Cell, tree_of-Tile}
+use Rattle.cert_tree.proofs.TreeLemmas.{tree_of-Cell, tree_of-Tile}
 use Rattle.cert_check.proofs.WalkLemmas.{going_start, narrow_children, own_fault, own_pairs, Turn, turn_narrow, turn_on, turn_placed, turn_fewer, turn_fault, turn_has, turn_lifted, turn_more}
 use Rattle.cert_check.proofs.walks.+walk.Goals as goal
 
@@ -20,14 +19,14 @@ walk-walk_branch-requires-in-Tile t c =
 
 pub walk_branch-returns-in-Some-clause-tells : goal.walk_branch-returns-in-Some-clause-tells
 walk_branch-returns-in-Some-clause-tells t c =
-    let s = setting_of c.args.puzzle.now c.args.listed.now in
+    let s = c.args.setting.now in
     let q = c.args.partial.now.placed in
     let trees = forest_of c.args.children.now in
     subst (Tells s (branch c.args.item trees) q) (sym c.at_top.ensures) (own_fault s c.args.item c.args.children.now q c.in-Some.fault c.in-Some.ensures.fault)
 
 pub walk_branch-loop-number-init : goal.walk_branch-loop-number-init
 walk_branch-loop-number-init t c =
-    let s = setting_of c.args.puzzle.now c.args.listed.now in
+    let s = c.args.setting.now in
     let q = c.args.partial.now.placed in
     let pairs = c.in_default.ensures.fault in
     record {
@@ -38,7 +37,7 @@ walk_branch-loop-number-init t c =
 
 pub walk_branch-unreachable-requires : goal.walk_branch-unreachable-requires
 walk_branch-unreachable-requires t c =
-    let s = setting_of c.args.puzzle.now c.args.listed.now in
+    let s = c.args.setting.now in
     let w = c.args.partial.now in
     let v = c.loop-number.partial in
     let i = c.loop-number.number in
@@ -54,7 +53,7 @@ walk_branch-unreachable-requires t c =
 
 pub walk_branch-walk-requires : goal.walk_branch-walk-requires
 walk_branch-walk-requires t c =
-    let s = setting_of c.args.puzzle.now c.args.listed.now in
+    let s = c.args.setting.now in
     let w = c.args.partial.now in
     let v = c.loop-number.partial in
     let i = c.loop-number.number in
@@ -72,7 +71,7 @@ walk_branch-walk-requires t c =
 
 pub walk_branch-returns-in-Some-2-clause-tells : goal.walk_branch-returns-in-Some-2-clause-tells
 walk_branch-returns-in-Some-2-clause-tells t c =
-    let s = setting_of c.args.puzzle.now c.args.listed.now in
+    let s = c.args.setting.now in
     let w = c.args.partial.now in
     let v = c.loop-number.partial in
     let i = c.loop-number.number in
@@ -93,7 +92,7 @@ walk_branch-returns-in-Some-2-clause-tells t c =
 
 pub walk_branch-lift-requires : goal.walk_branch-lift-requires
 walk_branch-lift-requires t c =
-    let s = setting_of c.args.puzzle.now c.args.listed.now in
+    let s = c.args.setting.now in
     let w = c.args.partial.now in
     let v = c.loop-number.partial in
     let i = c.loop-number.number in
@@ -109,7 +108,7 @@ walk_branch-lift-requires t c =
 
 pub walk_branch-loop-number-preserved : goal.walk_branch-loop-number-preserved
 walk_branch-loop-number-preserved t c =
-    let s = setting_of c.args.puzzle.now c.args.listed.now in
+    let s = c.args.setting.now in
     let w = c.args.partial.now in
     let v = c.loop-number.partial in
     let i = c.loop-number.number in

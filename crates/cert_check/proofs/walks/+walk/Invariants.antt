@@ -1,6 +1,5 @@
 use Rattle.std.proofs.Common.{◌≡◌, ◌+◌, ◌*◌, drop}
-use Rattle.cert_check.specs.Setting.{setting_of}
-use Rattle.cert_check.specs.Tree.{forest_of, AreNarrow}
+use Rattle.cert_tree.specs.Tree.{forest_of, AreNarrow}
 use Rattle.cert_check.proofs.WalkLemmas.{Going, free_count}
 use Rattle.cert_check.proofs.walks.+walk.Given as goal
 
@@ -8,7 +7,7 @@ use Rattle.cert_check.proofs.walks.+walk.Given as goal
 abbrev pub invariant-walk_branch-loop-number : goal.invariant-walk_branch-loop-number
 invariant-walk_branch-loop-number l = record {
   partial : l.partial ≡ l.initial.partial;
-  going : Going (setting_of l.puzzle l.listed) l.item l.initial.partial.placed (forest_of l.children) l.number (forest_of (drop l.number l.children)) l.last;
+  going : Going l.setting l.item l.initial.partial.placed (forest_of l.children) l.number (forest_of (drop l.number l.children)) l.last;
   narrow : AreNarrow (forest_of (drop l.number l.children));
 }
 

@@ -21,6 +21,10 @@ first_told p pairs n least seen right x there (Turn m) told = subst (λ k. IsPre
 pub loop-place-init : goal.loop-place-init
 loop-place-init c = right_none c.args.self.now c.args.pairs.now (replicate 100 false) (length-replicate 100 false) (λ tile lt. get_or-replicate 100 tile false false lt)
 
+-- No more pairs are right than there may be cells.
+pub overflow_cast-place : goal.overflow_cast-place
+overflow_cast-place c = let few = c.loop-place.invariant.few in omega (arith, few.0, few.1)
+
 pub returns-in-Some : goal.returns-in-Some
 returns-in-Some c =
     let pairs = c.args.pairs.now in

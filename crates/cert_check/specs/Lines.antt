@@ -1,0 +1,26 @@
+-- What may be wrong with a certificate's symmetries and prefixes.
+use Rattle.std.specs.Prelude.{◌≡◌, ℕ, List}
+use Rattle.match_puzzle.specs.Puzzle.{Task}
+use Rattle.match_puzzle.specs.PrefixFaults.{IsPairList, IsPrefixFault}
+use Rattle.match_puzzle.specs.declared.faults.PrefixFault.{PrefixFault}
+use Rattle.match_symmetry.specs.Symmetry.{IsSymmetry}
+use Rattle.match_symmetry.specs.SymmetryFaults.{IsSymmetryFault}
+use Rattle.match_symmetry.specs.declared.lines.SymmetryLine.{SymmetryLine}
+use Rattle.cert_tree.specs.declared.certificates.Lemma.{Lemma}
+use Rattle.cert_check.specs.declared.symmetries.SymmetriesFault.{SymmetriesFault}
+use Rattle.cert_check.specs.declared.symmetries.SymmetriesFault.TheVariants.{Line, Memory}
+use Rattle.cert_check.specs.Lists.{IsFirstBad}
+
+-- The line with this number has this fault.
+abbrev pub LineFails : Task → ℕ → SymmetryLine → SymmetriesFault → Type 0
+LineFails p number g (Line n fault) = (n ≡ number) × IsSymmetryFault p g fault
+LineFails p number g Memory = Unit {0}
+
+-- It is the first line that has a fault.
+abbrev pub LinesFail : Task → List SymmetryLine → SymmetriesFault → Type 0
+LinesFail p lines (Line number fault) = IsFirstBad (λ n g. IsSymmetry p g) (λ n g f. IsSymmetryFault p g f) lines number fault
+LinesFail p lines Memory = Unit {0}
+
+-- The lemma with this number does not begin with a prefix, and it is the first.
+abbrev pub IsFirstBadPrefix : Task → List Lemma → ℕ → PrefixFault → Type 0
+IsFirstBadPrefix p = IsFirstBad (λ n (lemma : Lemma). IsPairList p lemma.prefix) (λ n (lemma : Lemma) fault. IsPrefixFault p lemma.prefix fault)

@@ -1,0 +1,14 @@
+pub mod TreeLemmas
+pub mod AssemblyLemmas
+pub mod OrderLemmas
+pub mod NodeLemmas
+pub mod EntryLemmas
+pub mod FieldLemmas
+pub mod TreeTextLemmas
+pub mod LemmaTextLemmas
+pub mod CertificateTextLemmas
+pub mod ReadingLemmas
+pub mod TreeLimitLemmas
+pub mod SpacedLemmas
+pub mod WholeLemmas
+pub mod LawLemmas

@@ -1,0 +1,103 @@
+-- Words that are written behind one another.
+use Rattle.std.proofs.Common.{◌≡◌, ℕ, List, [], ◌∷◌, ◌++◌, length, map, Result, Ok, Err, refl, sym, ap, ◌∙◌, append_assoc, codes}
+use Rattle.std.specs.Fmt.{decimal}
+use Rattle.std.specs.List.{join_with_byte}
+use Rattle.std.specs.Prelude.{OnOk}
+use Rattle.std.proofs.lemmas.List.{append-nil}
+use Rattle.std.proofs.lemmas.List.Concat.{flat_map-append}
+use Rattle.match_symmetry.specs.declared.lines.SymmetryLine.{SymmetryLine}
+use Rattle.match_text.specs.Spelling.{line_text, colour_word}
+use Rattle.cert_tree.specs.declared.trees.Node.{Node}
+use Rattle.cert_tree.specs.Tree.{Tree, forest_of, count}
+use Rattle.cert_tree.proofs.TreeLemmas.{count-forest_of}
+use Rattle.cert_tree.specs.Certificate.{Piece}
+use Rattle.cert_tree.specs.TreeSpelling.{tree_words, forest_words}
+use Rattle.cert_tree.specs.CertificateSpelling.{mirrored_word, symmetry_words, pair_word, lemma_words}
+use Rattle.cert_tree.specs.Writing.{spaced}
+
+-- what follows from what a call ensures
+pub on_ok : {T E P Q : Type 0} (result : Result T E) → (P → Q) → OnOk result P → OnOk result Q
+on_ok (Ok x) f p = f p
+on_ok (Err e) f p = tt
+
+-- ---- nodes
+
+pub leaf_written : (old new letter word : List ℕ) (tree : Tree) → tree_words tree ≡ letter ∷ word ∷ [] → new ≡ old ++ ((32 ∷ letter) ++ (32 ∷ word)) → new ≡ old ++ spaced (tree_words tree)
+leaf_written old new letter word tree words written =
+    written ∙ ap (λ t. old ++ ((32 ∷ letter) ++ t)) (sym (append-nil (32 ∷ word))) ∙ ap (λ ws. old ++ spaced ws) (sym words)
+
+pub branch_written : (old mid new letter word : List ℕ) (tree : Tree) (nodes slice : List Node) → tree_words tree ≡ letter ∷ word ∷ decimal (count (forest_of nodes)) ∷ forest_words (forest_of nodes) → slice ≡ nodes
+    → mid ≡ old ++ ((32 ∷ letter) ++ (32 ∷ word)) → new ≡ mid ++ spaced (decimal (length slice) ∷ forest_words (forest_of slice)) → new ≡ old ++ spaced (tree_words tree)
+branch_written old mid new letter word tree nodes slice words same first written =
+    let children = spaced (decimal (length nodes) ∷ forest_words (forest_of nodes)) in
+    let front = (32 ∷ letter) ++ (32 ∷ word) in
+    let together : (old ++ front) ++ children ≡ old ++ ((32 ∷ letter) ++ ((32 ∷ word) ++ children)) = append_assoc old front children ∙ ap (λ t. old ++ t) (append_assoc (32 ∷ letter) (32 ∷ word) children) in
+    written ∙ ap (λ ns. mid ++ spaced (decimal (length ns) ∷ forest_words (forest_of ns))) same ∙ ap (λ t. t ++ children) first ∙ together
+    ∙ ap (λ n. old ++ ((32 ∷ letter) ++ ((32 ∷ word) ++ spaced (decimal n ∷ forest_words (forest_of nodes))))) (sym (count-forest_of nodes)) ∙ ap (λ ws. old ++ spaced ws) (sym words)
+
+pub image_written : (old mid new letter word last : List ℕ) (tree : Tree) → tree_words tree ≡ letter ∷ word ∷ last ∷ [] → mid ≡ old ++ ((32 ∷ letter) ++ (32 ∷ word)) → new ≡ mid ++ (32 ∷ last) → new ≡ old ++ spaced (tree_words tree)
+image_written old mid new letter word last tree words first written =
+    let front = (32 ∷ letter) ++ (32 ∷ word) in
+    written ∙ ap (λ t. t ++ (32 ∷ last)) first ∙ append_assoc old front (32 ∷ last) ∙ ap (λ t. old ++ t) (append_assoc (32 ∷ letter) (32 ∷ word) (32 ∷ last))
+    ∙ ap (λ t. old ++ ((32 ∷ letter) ++ ((32 ∷ word) ++ t))) (sym (append-nil (32 ∷ last))) ∙ ap (λ ws. old ++ spaced ws) (sym words)
+
+-- ---- lines
+
+-- words of a line behind the first
+pub join_spaced : (word : List ℕ) (words : List (List ℕ)) → join_with_byte 32 (word ∷ words) ≡ word ++ spaced words
+join_spaced word [] = sym (append-nil word)
+join_spaced word (w ∷ words) = ap (λ t. word ++ 32 ∷ t) (join_spaced w words)
+
+spaced-append : (words others : List (List ℕ)) → spaced (words ++ others) ≡ spaced words ++ spaced others
+spaced-append words others = flat_map-append (λ word. 32 ∷ word) words others
+
+line_spaced : (word : List ℕ) (words : List (List ℕ)) → line_text (word ∷ words) ≡ word ++ (spaced words ++ 10 ∷ [])
+line_spaced word words = ap (λ t. t ++ 10 ∷ []) (join_spaced word words) ∙ append_assoc word (spaced words) (10 ∷ [])
+
+-- a word and what follows it, within a line
+word_then : (word : List ℕ) (words : List (List ℕ)) (rest : List ℕ) → spaced (word ∷ words) ++ rest ≡ 32 ∷ (word ++ (spaced words ++ rest))
+word_then word words rest = append_assoc (32 ∷ word) (spaced words) rest
+
+words_then : (words others : List (List ℕ)) (rest : List ℕ) → spaced (words ++ others) ++ rest ≡ spaced words ++ (spaced others ++ rest)
+words_then words others rest = ap (λ t. t ++ rest) (spaced-append words others) ∙ append_assoc (spaced words) (spaced others) rest
+
+abbrev after_mirrored : SymmetryLine → List (List ℕ)
+after_mirrored g = codes "cells" ∷ (map decimal g.cells ++ (codes "colours" ∷ (map colour_word g.colours ++ (codes "tiles" ∷ map decimal g.tiles))))
+
+-- a symmetry's line by its parts
+pub symmetry_parts : (g : SymmetryLine)
+    → line_text (symmetry_words g) ≡ codes "symmetry " ++ (decimal g.shift ++ (32 ∷ (mirrored_word g.mirrored ++ (codes " cells" ++ (spaced (map decimal g.cells) ++ (codes " colours" ++ (spaced (map colour_word g.colours) ++ (codes " tiles" ++ (spaced (map decimal g.tiles) ++ 10 ∷ [])))))))))
+symmetry_parts g =
+    let end = 10 ∷ [] in
+    let tiles = map decimal g.tiles in
+    let colours = map colour_word g.colours in
+    let cells = map decimal g.cells in
+    line_spaced (codes "symmetry") (decimal g.shift ∷ mirrored_word g.mirrored ∷ after_mirrored g)
+    ∙ ap (λ t. codes "symmetry" ++ t) (word_then (decimal g.shift) (mirrored_word g.mirrored ∷ after_mirrored g) end
+    ∙ ap (λ t. 32 ∷ (decimal g.shift ++ t)) (word_then (mirrored_word g.mirrored) (after_mirrored g) end
+    ∙ ap (λ t. 32 ∷ (mirrored_word g.mirrored ++ t)) (word_then (codes "cells") (cells ++ (codes "colours" ∷ (colours ++ (codes "tiles" ∷ tiles)))) end
+    ∙ ap (λ t. codes " cells" ++ t) (words_then cells (codes "colours" ∷ (colours ++ (codes "tiles" ∷ tiles))) end
+    ∙ ap (λ t. spaced cells ++ t) (word_then (codes "colours") (colours ++ (codes "tiles" ∷ tiles)) end
+    ∙ ap (λ t. codes " colours" ++ t) (words_then colours (codes "tiles" ∷ tiles) end
+    ∙ ap (λ t. spaced colours ++ t) (word_then (codes "tiles") tiles end)))))))
+
+-- a lemma's line by its parts
+pub lemma_parts : (piece : Piece)
+    → line_text (lemma_words piece) ≡ codes "lemma " ++ (decimal piece.number ++ (codes " prefix" ++ (spaced (map pair_word piece.prefix) ++ (codes " tree" ++ (spaced (tree_words piece.tree) ++ 10 ∷ [])))))
+lemma_parts piece =
+    let end = 10 ∷ [] in
+    let pairs = map pair_word piece.prefix in
+    let tree = tree_words piece.tree in
+    line_spaced (codes "lemma") (decimal piece.number ∷ codes "prefix" ∷ (pairs ++ (codes "tree" ∷ tree)))
+    ∙ ap (λ t. codes "lemma" ++ t) (word_then (decimal piece.number) (codes "prefix" ∷ (pairs ++ (codes "tree" ∷ tree))) end
+    ∙ ap (λ t. 32 ∷ (decimal piece.number ++ t)) (word_then (codes "prefix") (pairs ++ (codes "tree" ∷ tree)) end
+    ∙ ap (λ t. codes " prefix" ++ t) (words_then pairs (codes "tree" ∷ tree) end
+    ∙ ap (λ t. spaced pairs ++ t) (word_then (codes "tree") tree end))))
+
+-- ---- parts one after the other
+
+pub six_parts : (old a b c d e f : List ℕ) → (((((old ++ (a ++ b)) ++ c) ++ d) ++ e) ++ f) ++ 10 ∷ [] ≡ old ++ (a ++ (b ++ (c ++ (d ++ (e ++ (f ++ 10 ∷ []))))))
+six_parts old a b c d e f = simp append_assoc refl
+
+pub ten_parts : (old a b s c d e f g h : List ℕ) → (((((((((old ++ (a ++ b)) ++ 32 ∷ []) ++ s) ++ c) ++ d) ++ e) ++ f) ++ g) ++ h) ++ 10 ∷ [] ≡ old ++ (a ++ (b ++ (32 ∷ (s ++ (c ++ (d ++ (e ++ (f ++ (g ++ (h ++ 10 ∷ []))))))))))
+ten_parts old a b s c d e f g h = simp append_assoc refl

@@ -1,0 +1,61 @@
+-- Trees within limits, level by level and child by child.
+use Rattle.std.proofs.Common.{◌≡◌, ◌≢◌, ℕ, zero, suc, ◌+◌, ◌-◌, ◌<◌, ◌≤◌, Bool, true, false, List, length, get_or, drop, refl, sym, subst, arith}
+use Rattle.std.specs.Prelude.{MatchBool}
+use Rattle.match_puzzle.specs.declared.items.Item.{Item}
+use Rattle.cert_tree.specs.declared.trees.Node.{Node}
+use Rattle.cert_tree.specs.Tree.{Tree, Forest, branch, tree_of, forest_of}
+use Rattle.cert_tree.specs.TreeSpelling.{IsItemWithin, IsTreeWithin, AreTreesWithin, AreChildrenWithin}
+use Rattle.cert_tree.proofs.TreeLemmas.{count-forest_of, forest_of-drop}
+
+-- ---- a level
+
+pub branch_parts : (room : ℕ) (item : Item) (children : Forest) → IsTreeWithin room (branch item children) → IsItemWithin item × AreChildrenWithin (room - 1) children
+branch_parts zero item children fits = absurd fits
+branch_parts (suc room) item children fits =
+    let less : suc room - 1 ≡ room = omega arith in
+    (fits.0, subst (λ r. AreChildrenWithin r children) (sym less) (fits.1, fits.2, fits.3))
+
+branch_again : (room : ℕ) (item : Item) (children : Forest) → room ≢ 0 → IsItemWithin item → AreChildrenWithin (room - 1) children → IsTreeWithin room (branch item children)
+branch_again zero item children some fits all = absurd (some refl)
+branch_again (suc room) item children some fits all =
+    let less : suc room - 1 ≡ room = omega arith in
+    let below = subst (λ r. AreChildrenWithin r children) less all in
+    (fits, below.0, below.1, below.2)
+
+-- a branch is within limits where its children are
+pub branch_by_children : (room : ℕ) (item : Item) (children : Forest) (b : Bool) → room ≢ 0 → IsItemWithin item → MatchBool b (AreChildrenWithin (room - 1) children) (AreChildrenWithin (room - 1) children → ⊥)
+    → MatchBool b (IsTreeWithin room (branch item children)) (IsTreeWithin room (branch item children) → ⊥)
+branch_by_children room item children true some fits all = branch_again room item children some fits all
+branch_by_children room item children false some fits not = λ within. not (branch_parts room item children within).1
+
+some_level : (room : ℕ) (tree : Tree) → IsTreeWithin room tree → 1 ≤ room
+some_level zero tree fits = absurd fits
+some_level (suc room) tree fits = omega arith
+
+-- the children of a branch that is within limits
+pub children_within : (room : ℕ) (tree : Tree) (item : Item) (children : Forest) (nodes : List Node) → tree ≡ branch item children → children ≡ forest_of nodes → IsTreeWithin room tree
+    → (1 ≤ room) × (length nodes ≤ 400) × AreTreesWithin (room - 1) (forest_of nodes)
+children_within room tree item children nodes is are fits =
+    let parts = branch_parts room item children (subst (IsTreeWithin room) is fits) in
+    let below = subst (AreChildrenWithin (room - 1)) are parts.1 in
+    (some_level room tree fits, omega (arith, below.1, count-forest_of nodes), below.2)
+
+-- ---- a child
+
+pub first_child : (room : ℕ) (nodes : List Node) (i : ℕ) (d : Node) → i < length nodes → AreTreesWithin room (forest_of (drop i nodes)) → IsTreeWithin room (tree_of (get_or nodes i d)) × AreTreesWithin room (forest_of (drop (i + 1) nodes))
+first_child room nodes i d lt all = subst (AreTreesWithin room) (forest_of-drop nodes i d lt) all
+
+pub more_children : (room : ℕ) (nodes : List Node) (i : ℕ) (d : Node) → i < length nodes → IsTreeWithin room (tree_of (get_or nodes i d)) → AreTreesWithin room (forest_of (drop (i + 1) nodes)) → AreTreesWithin room (forest_of (drop i nodes))
+more_children room nodes i d lt one others = subst (AreTreesWithin room) (sym (forest_of-drop nodes i d lt)) (one, others)
+
+-- so many nodes are children by their limits
+pub children_by_nodes : (room : ℕ) (nodes : List Node) (b : Bool) → 0 < length nodes → length nodes ≤ 400 → MatchBool b (AreTreesWithin room (forest_of nodes)) (AreTreesWithin room (forest_of nodes) → ⊥)
+    → MatchBool b (AreChildrenWithin room (forest_of nodes)) (AreChildrenWithin room (forest_of nodes) → ⊥)
+children_by_nodes room nodes true some few all = (omega (arith, some, count-forest_of nodes), omega (arith, few, count-forest_of nodes), all)
+children_by_nodes room nodes false some few not = λ within. not within.2
+
+pub too_many : (room : ℕ) (nodes : List Node) → 400 < length nodes → AreChildrenWithin room (forest_of nodes) → ⊥
+too_many room nodes many within = omega (arith, many, within.1, count-forest_of nodes)
+
+pub too_few : (room : ℕ) (nodes : List Node) → length nodes ≤ 0 → AreChildrenWithin room (forest_of nodes) → ⊥
+too_few room nodes none within = omega (arith, none, within.0, count-forest_of nodes)

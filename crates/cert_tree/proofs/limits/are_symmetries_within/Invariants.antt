@@ -1,0 +1,10 @@
+use Rattle.std.proofs.Common.{drop}
+use Rattle.std.specs.List.{AllByRecursion}
+use Rattle.cert_tree.specs.CertificateSpelling.{IsSymmetryWithin}
+use Rattle.cert_tree.proofs.limits.are_symmetries_within.Given as goal
+
+abbrev pub invariant-loop-line : goal.invariant-loop-line
+invariant-loop-line l = record {
+  back : AllByRecursion IsSymmetryWithin (drop l.line-index l.lines) → AllByRecursion IsSymmetryWithin l.lines;
+  on : AllByRecursion IsSymmetryWithin l.lines → AllByRecursion IsSymmetryWithin (drop l.line-index l.lines);
+}

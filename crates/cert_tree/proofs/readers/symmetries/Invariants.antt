@@ -1,0 +1,8 @@
+use Rattle.std.proofs.Common.{◌≡◌, ◌-◌}
+use Rattle.match_text.specs.Place.{times}
+use Rattle.cert_tree.specs.CertificateText.{symmetry_line}
+use Rattle.match_text.proofs.LoopLemmas.{with_front}
+use Rattle.cert_tree.proofs.readers.symmetries.Given as goal
+
+abbrev pub invariant-loop : goal.invariant-loop
+invariant-loop l = with_front l.lines.items (times (l.count - l.counter) symmetry_line l.scan) ≡ times l.count symmetry_line l.fn.scan

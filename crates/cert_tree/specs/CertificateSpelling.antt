@@ -1,0 +1,77 @@
+-- The one spelling of a lemma, and of a certificate's symmetries and lemmas in their order.
+use Rattle.std.specs.Prelude.{◌≤◌, ◌<◌, ℕ, Bool, true, false, List, [], ◌∷◌, ◌++◌, length, map, codes, decimal}
+use Rattle.std.specs.List.{AllByRecursion}
+use Rattle.match_puzzle.specs.declared.placements.Pair.{Pair}
+use Rattle.match_symmetry.specs.declared.lines.SymmetryLine.{SymmetryLine}
+use Rattle.match_text.specs.Spelling.{text_of, colour_word, placement_word, first_words, count_words, end_lines}
+use Rattle.match_text.specs.ListSpelling.{IsPlacementWithin}
+use Rattle.cert_tree.specs.Certificate.{Piece}
+use Rattle.cert_tree.specs.CertificateText.{Said}
+use Rattle.cert_tree.specs.TreeSpelling.{tree_words, IsTreeWithin}
+
+-- ---- symmetries
+
+abbrev pub mirrored_word : Bool → List ℕ
+mirrored_word false = codes "+"
+mirrored_word true = codes "-"
+
+abbrev pub symmetry_words : SymmetryLine → List (List ℕ)
+symmetry_words g =
+    codes "symmetry" ∷ decimal g.shift ∷ mirrored_word g.mirrored
+    ∷ codes "cells" ∷ (map decimal g.cells ++ (codes "colours" ∷ (map colour_word g.colours ++ (codes "tiles" ∷ map decimal g.tiles))))
+
+-- ---- lemmas
+
+-- a cell, and a placement there
+abbrev pub pair_word : Pair → List ℕ
+pair_word x = decimal x.cell ++ 58 ∷ placement_word x.placement
+
+abbrev pub lemma_words : Piece → List (List ℕ)
+lemma_words piece = codes "lemma" ∷ decimal piece.number ∷ codes "prefix" ∷ (map pair_word piece.prefix ++ (codes "tree" ∷ tree_words piece.tree))
+
+unfoldable pub lemma_spelling : Piece → List ℕ
+lemma_spelling piece = text_of (lemma_words piece ∷ [])
+
+-- ---- certificates
+
+abbrev pub certificate_lines : Said → List (List (List ℕ))
+certificate_lines said =
+    (first_words (codes "certificate") ∷ []) ++ ((count_words (codes "symmetries") (length said.symmetries) ∷ []) ++ (map symmetry_words said.symmetries
+    ++ ((count_words (codes "lemmas") (length said.pieces) ∷ []) ++ (map lemma_words said.pieces ++ end_lines))))
+
+unfoldable pub certificate_spelling : Said → List ℕ
+certificate_spelling said = text_of (certificate_lines said)
+
+-- ---- what has a spelling
+
+-- up to 100 images of cells or of tiles
+abbrev pub AreImagesWithin : List ℕ → Type 0
+AreImagesWithin images = (length images ≤ 100) × AllByRecursion (λ n. n ≤ 99) images
+
+-- up to 36 images of colours
+abbrev pub AreColourImagesWithin : List ℕ → Type 0
+AreColourImagesWithin images = (length images ≤ 36) × AllByRecursion (λ n. n < 36) images
+
+-- The symmetry's line is within the limits of its text.
+pub record IsSymmetryWithin (g : SymmetryLine) : Type 0 where
+  pub shift : g.shift ≤ 3
+  pub cells : AreImagesWithin g.cells
+  pub colours : AreColourImagesWithin g.colours
+  pub tiles : AreImagesWithin g.tiles
+
+abbrev pub IsPairWithin : Pair → Type 0
+IsPairWithin x = (x.cell ≤ 99) × IsPlacementWithin x.placement
+
+-- The lemma is within the limits of its text.
+pub record IsLemmaWithin (piece : Piece) : Type 0 where
+  pub number : piece.number ≤ 999999
+  pub few_pairs : length piece.prefix ≤ 100
+  pub pairs : AllByRecursion IsPairWithin piece.prefix
+  pub tree : IsTreeWithin 101 piece.tree
+
+-- The symmetries and lemmas are within the limits of their text.
+pub record IsCertificateWithin (said : Said) : Type 0 where
+  pub few_symmetries : length said.symmetries ≤ 1024
+  pub symmetries : AllByRecursion IsSymmetryWithin said.symmetries
+  pub few_pieces : length said.pieces ≤ 1000000
+  pub pieces : AllByRecursion IsLemmaWithin said.pieces

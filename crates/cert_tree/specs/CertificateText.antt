@@ -1,0 +1,110 @@
+-- The texts of lemmas and of certificates.
+use Rattle.std.specs.Prelude.{◌≡◌, ◌≢◌, ℕ, List, Bool, true, false, Result, Ok, Err, codes, map, length, if◌then◌else◌}
+use Rattle.std.specs.Str.{bytes_eq}
+use Rattle.match_symmetry.specs.declared.lines.SymmetryLine.{SymmetryLine}
+use Rattle.match_text.specs.declared.faults.TextFault.{TextFault}
+use Rattle.match_text.specs.declared.faults.TextKind.{TextKind}
+use Rattle.match_text.specs.declared.faults.TextKind.TheVariants.{Word}
+use Rattle.match_text.specs.Words.{fixed_in, number_in, colour_in, pair_in}
+use Rattle.match_text.specs.Place.{Read, ◌>>=◌, give, line_of, word_by, entries, opening, counted, closing, end_of_text, times, start, value_of}
+use Rattle.cert_tree.specs.declared.certificates.Lemma.{Lemma}
+use Rattle.cert_tree.specs.declared.faults.AssembleFault.TheVariants.{Memory}
+use Rattle.cert_tree.specs.declared.faults.LemmaTextFault.{LemmaTextFault}
+use Rattle.cert_tree.specs.declared.faults.LemmaTextFault.TheVariants as lemma_text_faults
+use Rattle.cert_tree.specs.declared.faults.CertTextFault.{CertTextFault}
+use Rattle.cert_tree.specs.declared.faults.CertTextFault.TheVariants as faults
+use Rattle.cert_tree.specs.Certificate.{Contents, Piece, piece_of, piece_number}
+use Rattle.cert_tree.specs.Assembly.{Assembles}
+use Rattle.cert_tree.specs.Entries.{entries_before}
+use Rattle.cert_tree.specs.Nodes.{tree_by}
+
+-- ---- symmetries
+
+-- whether sides are mirrored, by its sign
+abbrev pub mirrored_in : List ℕ → Result Bool TextKind
+mirrored_in word = if bytes_eq word (codes "+") then Ok false else (if bytes_eq word (codes "-") then Ok true else Err Word)
+
+unfoldable pub symmetry_line : Read SymmetryLine
+symmetry_line = line_of (do
+  _ ← word_by (fixed_in (codes "symmetry"))
+  shift ← word_by (number_in 0 3)
+  mirrored ← word_by mirrored_in
+  _ ← word_by (fixed_in (codes "cells"))
+  cells ← entries_before (codes "colours") 100 (number_in 0 99)
+  _ ← word_by (fixed_in (codes "colours"))
+  colours ← entries_before (codes "tiles") 36 colour_in
+  _ ← word_by (fixed_in (codes "tiles"))
+  tiles ← entries 100 (number_in 0 99)
+  give (record { shift = shift; mirrored = mirrored; cells = cells; colours = colours; tiles = tiles }))
+
+-- ---- lemmas
+
+unfoldable pub lemma_line : Read Piece
+lemma_line = line_of (do
+  _ ← word_by (fixed_in (codes "lemma"))
+  number ← word_by (number_in 0 999999)
+  _ ← word_by (fixed_in (codes "prefix"))
+  prefix ← entries_before (codes "tree") 100 pair_in
+  _ ← word_by (fixed_in (codes "tree"))
+  tree ← tree_by 101
+  give (record { number = number; prefix = prefix; tree = tree }))
+
+-- one such line and nothing after it
+unfoldable pub lemma_text : Read Piece
+lemma_text = do
+  piece ← lemma_line
+  _ ← end_of_text
+  give piece
+
+-- the lemma of a text, or the text's first fault
+unfoldable pub lemma_of : List ℕ → Result Piece TextFault
+lemma_of text = value_of (lemma_text (start text))
+
+-- ---- certificates
+
+-- what a certificate's text says: its symmetries, and its lemmas in the order of their lines
+pub record Said : Type 0 where
+  pub symmetries : List SymmetryLine
+  pub pieces : List Piece
+
+unfoldable pub certificate_text : Read Said
+certificate_text = do
+  _ ← opening (codes "certificate")
+  many ← counted (codes "symmetries") 0 1024
+  symmetries ← times many symmetry_line
+  count ← counted (codes "lemmas") 0 1000000
+  pieces ← times count lemma_line
+  _ ← closing
+  give (record { symmetries = symmetries; pieces = pieces })
+
+-- What a text says, or its first fault. The lemmas may make no certificate.
+unfoldable pub certificate_of : List ℕ → Result Said TextFault
+certificate_of text = value_of (certificate_text (start text))
+
+-- ---- what a call comes to
+
+-- What a call returned is this outcome. Of want of memory nothing is said.
+abbrev pub LemmaGives : Result Lemma LemmaTextFault → Result Piece TextFault → Type 0
+LemmaGives (Ok lemma) outcome = outcome ≡ Ok (piece_of lemma)
+LemmaGives (Err (lemma_text_faults.Text fault)) outcome = outcome ≡ Err fault
+LemmaGives (Err lemma_text_faults.Memory) outcome = Unit {0}
+
+-- The certificate that is assembled of what a text says, or the first fault of its lemmas. Of want of memory nothing is
+-- said.
+abbrev pub Makes : Said → Result Contents CertTextFault → Type 0
+Makes said (Ok c) = (c.symmetries ≡ said.symmetries) × Assembles piece_number (length said.pieces) said.pieces (Ok (map piece_of c.lemmas))
+Makes said (Err (faults.Text fault)) = ⊥
+Makes said (Err (faults.Assemble fault)) = (fault ≢ Memory) × Assembles piece_number (length said.pieces) said.pieces (Err fault)
+Makes said (Err faults.Memory) = Unit {0}
+
+-- The fault of a text. Of want of memory nothing is said.
+abbrev pub IsTextFault : TextFault → Result Contents CertTextFault → Type 0
+IsTextFault fault (Ok c) = ⊥
+IsTextFault fault (Err (faults.Text other)) = other ≡ fault
+IsTextFault fault (Err (faults.Assemble other)) = ⊥
+IsTextFault fault (Err faults.Memory) = Unit {0}
+
+-- What a call returned is this outcome: what the text says is assembled, or the text has this fault.
+abbrev pub CertificateGives : Result Contents CertTextFault → Result Said TextFault → Type 0
+CertificateGives result (Ok said) = Makes said result
+CertificateGives result (Err fault) = IsTextFault fault result

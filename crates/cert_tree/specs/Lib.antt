@@ -1,0 +1,14 @@
+pub mod Tree
+pub mod Certificate
+pub mod Assembly
+pub mod TurnedAssembly
+pub mod Slots
+pub mod Faults
+pub mod Entries
+pub mod Nodes
+pub mod CertificateText
+pub mod TreeSpelling
+pub mod CertificateSpelling
+pub mod Lines
+pub mod Writing
+pub mod Laws

@@ -1,0 +1,52 @@
+-- The one spelling of a tree.
+use Rattle.std.specs.Prelude.{◌≤◌, ℕ, zero, suc, List, [], ◌∷◌, ◌++◌, codes, decimal}
+use Rattle.match_puzzle.specs.declared.items.Item.{Item}
+use Rattle.match_puzzle.specs.declared.items.Item.TheVariants as items
+use Rattle.cert_tree.specs.Tree.{Tree, Forest, branch, dead, found, same, image, none, more, count}
+
+-- a branch's letter and item
+abbrev pub branch_words : Item → List (List ℕ)
+branch_words (items.Cell cell) = codes "c" ∷ decimal cell ∷ []
+branch_words (items.Tile tile) = codes "t" ∷ decimal tile ∷ []
+
+-- the same where nothing fits
+abbrev pub dead_words : Item → List (List ℕ)
+dead_words (items.Cell cell) = codes "d" ∷ decimal cell ∷ []
+dead_words (items.Tile tile) = codes "e" ∷ decimal tile ∷ []
+
+abbrev mutual
+  -- a tree's words, each node before its children
+  pub tree_words : Tree → List (List ℕ)
+  tree_words (branch item children) = branch_words item ++ (decimal (count children) ∷ forest_words children)
+  tree_words (dead item) = dead_words item
+  tree_words (found number) = codes "f" ∷ decimal number ∷ []
+  tree_words (same lemma) = codes "s" ∷ decimal lemma ∷ []
+  tree_words (image lemma symmetry) = codes "i" ∷ decimal lemma ∷ decimal symmetry ∷ []
+
+  pub forest_words : Forest → List (List ℕ)
+  forest_words none = []
+  forest_words (more tree trees) = tree_words tree ++ forest_words trees
+
+-- ---- what has a spelling
+
+abbrev pub IsItemWithin : Item → Type 0
+IsItemWithin (items.Cell cell) = cell ≤ 99
+IsItemWithin (items.Tile tile) = tile ≤ 99
+
+abbrev mutual
+  -- The tree has at most so many levels, and its numbers are within the limits of its text.
+  pub IsTreeWithin : ℕ → Tree → Type 0
+  IsTreeWithin zero tree = ⊥
+  IsTreeWithin (suc room) (branch item children) = IsItemWithin item × (1 ≤ count children) × (count children ≤ 400) × AreTreesWithin room children
+  IsTreeWithin (suc room) (dead item) = IsItemWithin item
+  IsTreeWithin (suc room) (found number) = number ≤ 999999
+  IsTreeWithin (suc room) (same lemma) = lemma ≤ 999999
+  IsTreeWithin (suc room) (image lemma symmetry) = (lemma ≤ 999999) × (symmetry ≤ 1023)
+
+  pub AreTreesWithin : ℕ → Forest → Type 0
+  AreTreesWithin room none = Unit {0}
+  AreTreesWithin room (more tree trees) = IsTreeWithin room tree × AreTreesWithin room trees
+
+-- The same of the children of a branch, of which there are 1 to 400.
+abbrev pub AreChildrenWithin : ℕ → Forest → Type 0
+AreChildrenWithin room children = (1 ≤ count children) × (count children ≤ 400) × AreTreesWithin room children

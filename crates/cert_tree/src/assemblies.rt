@@ -1,0 +1,156 @@
+// Certificates are assembled of numbered pieces.
+
+ghost use Rattle.std.specs.Prelude.{◌≡◌, ◌≢◌, ◌≤◌, ◌<◌, ◌^◌, ◌∷◌, [], ℕ, List, None, Some, Ok, Err, All, Contains, IfOk, IfErr, MatchBool, length, map, replicate};
+ghost use Rattle.cert_tree.specs.declared.certificates.Lemma.{Lemma as LemmaOf};
+ghost use Rattle.cert_tree.specs.Tree.{tree_of, IsNarrow};
+ghost use Rattle.cert_tree.specs.Certificate.{number_of, piece_number};
+ghost use Rattle.cert_tree.specs.Assembly.{how_often, Assembles, TellsLeast, IsOneInAnyOrder};
+ghost use Rattle.cert_tree.specs.Slots.{lesser_of, stranger_of, IsPut, IsTaken, IsEntered, IsFirstEmpty};
+
+use crate::certificates::{Certificate, Lemma};
+use crate::faults::AssembleFault;
+use match_symmetry::SymmetryLine;
+use std::alloc::{AllocError, Global};
+
+// The number, or the one that was found before, if that is less.
+fn lesser(least: Option<u32>, number: u32) -> u32
+    ensures { result ≡ lesser_of least number }
+{
+    match least {
+        None => number,
+        Some(other) => other.min(number),
+    }
+}
+
+// The same of the numbers at or past the count alone.
+fn stranger_so_far(count: u32, least: Option<u32>, number: u32) -> Option<u32>
+    ensures { result ≡ stranger_of count least number }
+{
+    if number < count {
+        return least;
+    }
+    Some(lesser(least, number))
+}
+
+// The least number at or past the count that a piece has.
+fn least_stranger(pieces: &[Lemma], count: u32) -> Option<u32>
+    ensures { TellsLeast (λ n. (count ≤ n) × (how_often number_of pieces.now n ≢ 0)) result }
+{
+    let mut least = None;
+    for piece in pieces {
+        least = stranger_so_far(count, least, piece.number);
+    }
+    least
+}
+
+// A place for each number below the count, with nothing in it.
+fn empty_slots(alloc: Global, count: u32) -> Result<Vec<Option<Lemma>>, AllocError>
+    ensures { IfOk result (λ slots. slots.items ≡ replicate count None) }
+{
+    let mut slots = Vec::new(alloc);
+    for _ in 0..count {
+        slots.push(None)?;
+    }
+    Ok(slots)
+}
+
+// Puts the piece into the place of its number, if nothing is there; whether it did.
+fn put(slots: &mut Vec<Option<Lemma>>, piece: Lemma) -> bool
+    requires { piece.number < length slots.old.items }
+    ensures { MatchBool result (IsPut slots.old.items slots.new.items piece) (IsTaken slots.old.items slots.new.items piece) }
+{
+    let number = piece.number as usize;
+    if slots[number].is_some() {
+        return false;
+    }
+    slots[number] = Some(piece);
+    true
+}
+
+// The same, and answers the least number that more than one piece has, by that of the pieces before.
+fn enter(slots: &mut Vec<Option<Lemma>>, double: Option<u32>, piece: Lemma) -> Option<u32>
+    requires { piece.number < length slots.old.items }
+    ensures long { length slots.new.items ≡ length slots.old.items }
+    ensures entered { (before : List LemmaOf) → IsEntered before slots.old.items double → IsEntered (piece ∷ before) slots.new.items result }
+{
+    let number = piece.number;
+    if put(slots, piece) {
+        return double;
+    }
+    Some(lesser(double, number))
+}
+
+// Puts each piece into the place of its number, and answers the least number that more than one piece has.
+fn fill(slots: &mut Vec<Option<Lemma>>, mut pieces: Vec<Lemma>) -> Option<u32>
+    requires empty { IsEntered [] slots.old.items None }
+    requires below { (piece : LemmaOf) → Contains pieces.items piece → piece.number < length slots.old.items }
+    ensures long { length slots.new.items ≡ length slots.old.items }
+    ensures entered { IsEntered pieces.items slots.new.items result }
+{
+    let mut double = None;
+    while let Some(piece) = pieces.pop() {
+        double = enter(slots, double, piece);
+    }
+    double
+}
+
+// What stands in the places, in order. Missing, where one is empty.
+fn take_each(alloc: Global, mut slots: Vec<Option<Lemma>>) -> Result<Vec<Lemma>, AssembleFault>
+    requires { length slots.items < 2 ^ 32 }
+    ensures all { IfOk result (λ lemmas. map Some lemmas.items ≡ slots.items) }
+    ensures missing { IfErr result (IsFirstEmpty slots.items) }
+{
+    let mut lemmas = Vec::new(alloc);
+    for number in 0..slots.len() {
+        let Some(lemma) = slots[number].take() else {
+            return Err(AssembleFault::Missing(number as u32));
+        };
+        lemmas.push(lemma)?;
+    }
+    Ok(lemmas)
+}
+
+// The pieces by number, each of which is below the count.
+fn in_order(alloc: Global, count: u32, pieces: Vec<Lemma>) -> Result<Vec<Lemma>, AssembleFault>
+    requires { (n : ℕ) → count ≤ n → how_often number_of pieces.items n ≡ 0 }
+    ensures ok { IfOk result (λ lemmas. Assembles number_of count pieces.items (Ok lemmas.items)) }
+    ensures err { IfErr result (λ fault. Assembles number_of count pieces.items (Err fault)) }
+{
+    let mut slots = empty_slots(alloc, count)?;
+    if let Some(number) = fill(&mut slots, pieces) {
+        return Err(AssembleFault::Double(number));
+    }
+    take_each(alloc, slots)
+}
+
+/// The certificate of these symmetries, whose lemma i is the only piece with number i.
+///
+/// An `Err` is the first fault in the order of [`AssembleFault`], with its least number: `Stranger`, `Double`,
+/// `Missing`; `Memory` only where memory is refused. The order of the pieces doesn't matter. On an `Err` all are dropped.
+pub fn assemble(
+    alloc: Global,
+    count: u32,
+    symmetries: Vec<SymmetryLine>,
+    pieces: Vec<Lemma>,
+) -> Result<Certificate, AssembleFault>
+    requires count { count ≤ 1000000 }
+    requires symmetries { length symmetries.items < 2 ^ 32 }
+    requires prefixes { All (λ piece. length piece.prefix < 2 ^ 32) pieces.items }
+    requires narrow { All (λ piece. IsNarrow (tree_of piece.tree)) pieces.items }
+    ensures symmetries { IfOk result (λ certificate. certificate.symmetries ≡ symmetries.items) }
+    ensures lemmas { IfOk result (λ certificate. Assembles number_of count pieces.items (Ok certificate.lemmas)) }
+    ensures fault { IfErr result (λ fault. Assembles number_of count pieces.items (Err fault)) }
+{
+    if let Some(number) = least_stranger(&pieces, count) {
+        return Err(AssembleFault::Stranger(number));
+    }
+    let lemmas = in_order(alloc, count, pieces)?;
+    Ok(Certificate::of(symmetries, lemmas))
+}
+
+/// A law: the same lemmas, in whatever order they come, make the same certificate, or have the same first fault. The
+/// call does nothing.
+pub fn assembly_laws()
+    ensures lemmas { IsOneInAnyOrder number_of }
+    ensures pieces { IsOneInAnyOrder piece_number }
+{}

@@ -1,0 +1,28 @@
+// Laws of texts: nothing is done here, and the contracts say what holds.
+
+ghost use Rattle.match_text.specs.Laws.{ReadsSpellingsAlone, ReadsEachSpelling, HasOneSpelling, IsOneValue, EndsWhereCut};
+ghost use Rattle.cert_tree.specs.CertificateText.{lemma_of, certificate_of};
+ghost use Rattle.cert_tree.specs.CertificateSpelling.{lemma_spelling, certificate_spelling, IsLemmaWithin, IsCertificateWithin};
+ghost use Rattle.cert_tree.specs.Laws.{MakesOneInAnyOrder};
+
+/// The laws of lemmas and their texts; it does nothing.
+pub fn lemma_laws()
+    ensures alone { ReadsSpellingsAlone lemma_of IsLemmaWithin lemma_spelling }
+    ensures each { ReadsEachSpelling lemma_of IsLemmaWithin lemma_spelling }
+    ensures one_spelling { HasOneSpelling lemma_of }
+    ensures one_value { IsOneValue IsLemmaWithin lemma_spelling }
+    ensures cut { EndsWhereCut lemma_of }
+{}
+
+/// The laws of certificates and their texts; it does nothing.
+///
+/// A text may have lemmas that make no certificate: all but the last law hold of it too. The last one says that the
+/// order of the lemma lines makes no difference.
+pub fn certificate_laws()
+    ensures alone { ReadsSpellingsAlone certificate_of IsCertificateWithin certificate_spelling }
+    ensures each { ReadsEachSpelling certificate_of IsCertificateWithin certificate_spelling }
+    ensures one_spelling { HasOneSpelling certificate_of }
+    ensures one_value { IsOneValue IsCertificateWithin certificate_spelling }
+    ensures cut { EndsWhereCut certificate_of }
+    ensures any_order { MakesOneInAnyOrder }
+{}

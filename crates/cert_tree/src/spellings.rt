@@ -1,0 +1,198 @@
+// Lemmas and certificates are written.
+
+ghost use Rattle.std.specs.Prelude.{◌≡◌, ◌<◌, ◌≤◌, ◌++◌, ◌∷◌, [], Ok, length, map, codes, decimal, IfOk, OnOk};
+ghost use Rattle.std.specs.List.{AllByRecursion};
+ghost use Rattle.match_text.specs.Spelling.{line_text, text_of, first_words, colour_word};
+ghost use Rattle.cert_tree.specs.Tree.{tree_of, forest_of, count};
+ghost use Rattle.cert_tree.specs.Certificate.{piece_of};
+ghost use Rattle.cert_tree.specs.CertificateText.{lemma_of, certificate_of, Makes};
+ghost use Rattle.cert_tree.specs.TreeSpelling.{tree_words, forest_words, IsTreeWithin, AreTreesWithin};
+ghost use Rattle.cert_tree.specs.CertificateSpelling.{mirrored_word, symmetry_words, pair_word, lemma_words, lemma_spelling, certificate_spelling, IsSymmetryWithin, IsLemmaWithin, IsCertificateWithin};
+ghost use Rattle.cert_tree.specs.Writing.{spaced, words_of, said_by};
+
+use crate::certificates::{Certificate, Lemma};
+use crate::limits::MOST_LEVELS;
+use crate::trees::Node;
+use match_puzzle::Pair;
+use match_symmetry::SymmetryLine;
+use match_text::{character, put_end, put_number, put_number_line, put_placement};
+use std::alloc::{AllocError, Global};
+
+// The number behind these bytes.
+fn put_behind(text: &mut Vec<u8>, bytes: &[u8], number: u32) -> Result<(), AllocError>
+    ensures { OnOk result (text.new.items ≡ text.old.items ++ (bytes.now ++ decimal number)) }
+{
+    text.extend_from_slice(bytes)?;
+    put_number(text, number)
+}
+
+// A node before its children, each word behind a space.
+#[cycle(put_nodes)]
+#[tactic(auto, using(crate::proofs::TreeLemmas::tree_laws))]
+fn put_node(text: &mut Vec<u8>, node: &Node, room: u8) -> Result<(), AllocError>
+    requires { IsTreeWithin room (tree_of node.now) }
+    ensures { OnOk result (text.new.items ≡ text.old.items ++ spaced (tree_words (tree_of node.now))) }
+{
+    match node {
+        Node::Cell { cell, children } => {
+            put_behind(text, b" c ", u32::from(*cell))?;
+            put_children(text, children.as_slice(), room - 1)
+        }
+        Node::Tile { tile, children } => {
+            put_behind(text, b" t ", u32::from(*tile))?;
+            put_children(text, children.as_slice(), room - 1)
+        }
+        Node::DeadCell(cell) => put_behind(text, b" d ", u32::from(*cell)),
+        Node::DeadTile(tile) => put_behind(text, b" e ", u32::from(*tile)),
+        Node::Found(number) => put_behind(text, b" f ", *number),
+        Node::Same(lemma) => put_behind(text, b" s ", *lemma),
+        Node::Image { lemma, symmetry } => {
+            put_behind(text, b" i ", *lemma)?;
+            put_behind(text, b" ", u32::from(*symmetry))
+        }
+    }
+}
+
+// How many nodes there are, and the nodes.
+#[cycle(put_nodes)]
+fn put_children(text: &mut Vec<u8>, nodes: &[Node], room: u8) -> Result<(), AllocError>
+    requires few { length nodes.now ≤ 400 }
+    requires within { AreTreesWithin room (forest_of nodes.now) }
+    ensures { OnOk result (text.new.items ≡ text.old.items ++ spaced (decimal (length nodes.now) ∷ forest_words (forest_of nodes.now))) }
+{
+    put_behind(text, b" ", nodes.len() as u32)?;
+    for node in nodes {
+        put_node(text, node, room)?;
+    }
+    Ok(())
+}
+
+fn put_pair(text: &mut Vec<u8>, pair: Pair) -> Result<(), AllocError>
+    ensures { OnOk result (text.new.items ≡ text.old.items ++ (32 ∷ pair_word pair)) }
+{
+    put_behind(text, b" ", u32::from(pair.cell))?;
+    text.push(b':')?;
+    put_placement(text, pair.placement)
+}
+
+fn put_pairs(text: &mut Vec<u8>, pairs: &[Pair]) -> Result<(), AllocError>
+    ensures { OnOk result (text.new.items ≡ text.old.items ++ spaced (map pair_word pairs.now)) }
+{
+    for pair in pairs {
+        put_pair(text, *pair)?;
+    }
+    Ok(())
+}
+
+fn put_lemma(text: &mut Vec<u8>, lemma: &Lemma) -> Result<(), AllocError>
+    requires { IsLemmaWithin (piece_of lemma.now) }
+    ensures { OnOk result (text.new.items ≡ text.old.items ++ line_text (lemma_words (piece_of lemma.now))) }
+{
+    put_behind(text, b"lemma ", lemma.number)?;
+    text.extend_from_slice(b" prefix")?;
+    put_pairs(text, lemma.prefix.as_slice())?;
+    text.extend_from_slice(b" tree")?;
+    put_node(text, &lemma.tree, MOST_LEVELS)?;
+    text.push(b'\n')?;
+    Ok(())
+}
+
+fn put_lemmas(text: &mut Vec<u8>, lemmas: &[Lemma]) -> Result<(), AllocError>
+    requires { AllByRecursion IsLemmaWithin (map piece_of lemmas.now) }
+    ensures { OnOk result (text.new.items ≡ text.old.items ++ text_of (map words_of lemmas.now)) }
+{
+    for lemma in lemmas {
+        put_lemma(text, lemma)?;
+    }
+    Ok(())
+}
+
+fn put_numbers(text: &mut Vec<u8>, numbers: &[u16]) -> Result<(), AllocError>
+    ensures { OnOk result (text.new.items ≡ text.old.items ++ spaced (map decimal numbers.now)) }
+{
+    for number in numbers {
+        put_behind(text, b" ", u32::from(*number))?;
+    }
+    Ok(())
+}
+
+fn put_colours(text: &mut Vec<u8>, colours: &[u8]) -> Result<(), AllocError>
+    requires { AllByRecursion (λ colour. colour < 36) colours.now }
+    ensures { OnOk result (text.new.items ≡ text.old.items ++ spaced (map colour_word colours.now)) }
+{
+    for colour in colours {
+        text.push(b' ')?;
+        text.push(character(*colour))?;
+    }
+    Ok(())
+}
+
+fn sign(mirrored: bool) -> u8
+    ensures { result ∷ [] ≡ mirrored_word mirrored }
+{
+    if mirrored { b'-' } else { b'+' }
+}
+
+fn put_symmetry(text: &mut Vec<u8>, line: &SymmetryLine) -> Result<(), AllocError>
+    requires { IsSymmetryWithin line.now }
+    ensures { OnOk result (text.new.items ≡ text.old.items ++ line_text (symmetry_words line.now)) }
+{
+    put_behind(text, b"symmetry ", u32::from(line.shift))?;
+    text.push(b' ')?;
+    text.push(sign(line.mirrored))?;
+    text.extend_from_slice(b" cells")?;
+    put_numbers(text, line.cells.as_slice())?;
+    text.extend_from_slice(b" colours")?;
+    put_colours(text, line.colours.as_slice())?;
+    text.extend_from_slice(b" tiles")?;
+    put_numbers(text, line.tiles.as_slice())?;
+    text.push(b'\n')?;
+    Ok(())
+}
+
+fn put_symmetries(text: &mut Vec<u8>, lines: &[SymmetryLine]) -> Result<(), AllocError>
+    requires { AllByRecursion IsSymmetryWithin lines.now }
+    ensures { OnOk result (text.new.items ≡ text.old.items ++ text_of (map symmetry_words lines.now)) }
+{
+    for line in lines {
+        put_symmetry(text, line)?;
+    }
+    Ok(())
+}
+
+/// The text of the lemma, one line, which reads back as an equal lemma.
+pub fn write_lemma(alloc: Global, lemma: &Lemma) -> Result<Vec<u8>, AllocError>
+    requires { IsLemmaWithin (piece_of lemma.now) }
+    ensures spelling { IfOk result (λ text. text.items ≡ lemma_spelling (piece_of lemma.now)) }
+    ensures reads { IfOk result (λ text. lemma_of text.items ≡ Ok (piece_of lemma.now)) }
+{
+    let mut text = Vec::new(alloc);
+    put_lemma(&mut text, lemma)?;
+    Ok(text)
+}
+
+#[tactic(auto, unfolding(match_text::specs::Spelling::text_of))]
+fn put_first(text: &mut Vec<u8>) -> Result<(), AllocError>
+    ensures { OnOk result (text.new.items ≡ text.old.items ++ text_of (first_words (codes "certificate") ∷ [])) }
+{
+    text.extend_from_slice(b"certificate 1\n")?;
+    Ok(())
+}
+
+/// The text of the certificate, its lemmas by number, which reads back as an equal certificate.
+pub fn write_certificate(alloc: Global, certificate: &Certificate) -> Result<Vec<u8>, AllocError>
+    requires { IsCertificateWithin (said_by certificate.now) }
+    ensures spelling { IfOk result (λ text. text.items ≡ certificate_spelling (said_by certificate.now)) }
+    ensures reads { IfOk result (λ text. (certificate_of text.items ≡ Ok (said_by certificate.now)) × Makes (said_by certificate.now) (Ok certificate.now)) }
+{
+    let symmetries = certificate.symmetries();
+    let lemmas = certificate.lemmas();
+    let mut text = Vec::new(alloc);
+    put_first(&mut text)?;
+    put_number_line(&mut text, b"symmetries", symmetries.len() as u32)?;
+    put_symmetries(&mut text, symmetries)?;
+    put_number_line(&mut text, b"lemmas", lemmas.len() as u32)?;
+    put_lemmas(&mut text, lemmas)?;
+    put_end(&mut text)?;
+    Ok(text)
+}

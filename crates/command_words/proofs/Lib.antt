@@ -1,0 +1,2 @@
+pub mod FaultlessWalk
+pub mod ProgramLemmas

@@ -1,0 +1,35 @@
+-- The program's commands, as `clap` reads them.
+use Rattle.std.specs.Prelude.{◌≡◌, ℕ, true, false, Some, codes}
+use Rattle.clap.specs.Words.{App, Rule, Text, new_app, new_rule, with_rule, with_subcommand}
+use Rattle.clap.specs.Simple.{on_top}
+use Rattle.clap.specs.declared.builder.command.Command.{Command}
+use Rattle.clap.specs.declared.builder.command.Command.TheViews.{out-Command}
+use Rattle.clap.specs.declared.builder.value_parser.ValueParser.TheVariants as parsers
+
+-- no argument of the command is one of its subcommands too
+abbrev pub IsLocal : Command → Type 0
+IsLocal command = (out-Command command).has_globals ≡ false
+
+-- a word that a command needs
+abbrev pub wanted : Text → Rule
+wanted id = record (new_rule id) { required = true }
+
+-- a number that a command needs, from `least` to `most`
+abbrev pub wanted_number : Text → ℕ → ℕ → Rule
+wanted_number id least most = record (wanted id) { parser = Some (parsers.Unsigned least most) }
+
+-- three files by their names
+abbrev pub with_files : App → App
+with_files app = with_rule (with_rule (with_rule app (wanted (codes "PUZZLE"))) (wanted (codes "LIST"))) (wanted (codes "CERTIFICATE"))
+
+abbrev pub check_app : App
+check_app = with_files (new_app (codes "check"))
+
+abbrev pub expand_app : App
+expand_app = with_files (new_app (codes "expand"))
+
+abbrev pub tiles_app : App
+tiles_app = with_rule (with_rule (new_app (codes "tiles")) (wanted_number (codes "SIDES") 3 4)) (wanted_number (codes "COLOURS") 1 36)
+
+abbrev pub whole_app : App
+whole_app = with_subcommand (with_subcommand (with_subcommand (on_top (λ s. record s { no_binary_name = true }) (new_app (codes "edgematch"))) check_app.top) expand_app.top) tiles_app.top

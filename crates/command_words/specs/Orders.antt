@@ -1,0 +1,65 @@
+-- What words order.
+use Rattle.std.specs.Prelude.{◌≡◌, ◌≢◌, ◌≤◌, ◌⊎◌, ℕ, List, Option, Some, None, codes, option_map}
+use Rattle.std.specs.String.{string_bytes}
+use Rattle.std.specs.Str.Parse.{digits_value, without_leading_plus}
+use Rattle.clap.specs.Words.{IsAmong, IsUnsignedIn, Kinds, Row, Text, first_of, kind_of, subcommand_of}
+use Rattle.clap.specs.declared.error.Error.{Error}
+use Rattle.clap.specs.declared.error.kind.ErrorKind.TheVariants.{OutOfMemory}
+use Rattle.command_words.specs.declared.faults.WordsFault.{WordsFault}
+use Rattle.command_words.specs.declared.faults.WordsFault.TheVariants.{Words, Memory}
+use Rattle.command_words.specs.declared.orders.Files.{Files}
+use Rattle.command_words.specs.declared.orders.Order.{Order}
+use Rattle.command_words.specs.declared.orders.Order.TheVariants.{Joined, Check, Expand, Tiles}
+use Rattle.command_words.specs.Commands.{whole_app}
+
+-- the matches of a command have a text under this id
+abbrev pub HasText : Text → List Row → Type 0
+HasText id rows = (text : Text) × (first_of id rows ≡ Some text)
+
+-- and it is a number from `least` to `most`
+abbrev pub HasNumber : Text → (least most : ℕ) → List Row → Type 0
+HasNumber id least most rows = (text : Text) × (first_of id rows ≡ Some text) × IsUnsignedIn least most text
+
+-- the matches name three files
+abbrev pub HasFiles : List Row → Type 0
+HasFiles rows = HasText (codes "PUZZLE") rows × HasText (codes "LIST") rows × HasText (codes "CERTIFICATE") rows
+
+-- the files that the matches of a command name
+pub record NameFiles (rows : List Row) (files : Files) : Type 0 where
+  pub puzzle : first_of (codes "PUZZLE") rows ≡ Some (string_bytes files.puzzle)
+  pub list : first_of (codes "LIST") rows ≡ Some (string_bytes files.list)
+  pub certificate : first_of (codes "CERTIFICATE") rows ≡ Some (string_bytes files.certificate)
+
+-- the number that the matches of a command have under an id, a sign `+` before it or none
+abbrev pub number_of : Text → List Row → Option ℕ
+number_of id rows = option_map (λ text. digits_value 10 (without_leading_plus text)) (first_of id rows)
+
+-- The command and its matches give the order.
+abbrev pub IsOrderOf : Option (Text × List Row) → Order → Type 0
+IsOrderOf None Joined = Unit {0}
+IsOrderOf (Some (name, rows)) (Check files) = (name ≡ codes "check") × NameFiles rows files
+IsOrderOf (Some (name, rows)) (Expand files) = (name ≡ codes "expand") × NameFiles rows files
+IsOrderOf (Some (name, rows)) (Tiles sides colours) =
+    (name ≡ codes "tiles") × (number_of (codes "SIDES") rows ≡ Some sides) × (number_of (codes "COLOURS") rows ≡ Some colours)
+IsOrderOf matches order = ⊥
+
+-- The words give the order, by what the program's commands make of them.
+abbrev pub IsOrder : List Text → Order → Type 0
+IsOrder words order = IsOrderOf (subcommand_of whole_app words) order
+
+-- The numbers of the order are in their ranges.
+abbrev pub IsInRange : Order → Type 0
+IsInRange Joined = Unit {0}
+IsInRange (Check files) = Unit {0}
+IsInRange (Expand files) = Unit {0}
+IsInRange (Tiles sides colours) = ((sides ≡ 3) ⊎ (sides ≡ 4)) × (1 ≤ colours) × (colours ≤ 36)
+
+-- The fault of what `clap` answers: want of memory, or the words.
+abbrev pub IsFaultOf : Error → WordsFault → Type 0
+IsFaultOf error (Words e) = (e ≡ error) × (kind_of error ≢ OutOfMemory)
+IsFaultOf error Memory = kind_of error ≡ OutOfMemory
+
+-- The words are refused with one of these kinds, or memory is.
+abbrev pub IsRefusedBy : Kinds → WordsFault → Type 0
+IsRefusedBy kinds (Words e) = IsAmong (kind_of e) kinds
+IsRefusedBy kinds Memory = Unit {0}

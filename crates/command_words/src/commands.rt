@@ -1,0 +1,125 @@
+// The program's commands, with their help.
+
+ghost use Rattle.std.specs.Prelude.{◌≡◌, IfOk, false};
+ghost use Rattle.clap.specs.Words.{app_of, rule_of};
+ghost use Rattle.command_words.specs.Commands.{IsLocal, wanted, wanted_number, with_files, check_app, expand_app, tiles_app, whole_app};
+
+use clap::builder::ValueParser;
+use clap::{Arg, Command};
+use std::alloc::{AllocError, Global};
+
+const NAME: &str = "edgematch";
+
+const WITHOUT_COMMAND: &str = "\
+Without a command it reads a puzzle, a list and a certificate from standard input, one after the \
+other, and checks them.
+
+Exit status:
+  0  done; of a check, the list is complete
+  1  the certificate does not show that the list is complete
+  2  anything else, which is said on standard error";
+
+const CHECKED: &str = "\
+Prints the answer in one line: complete, or refused and why.
+
+Exit status:
+  0  the list is complete
+  1  the certificate does not show that the list is complete
+  2  anything else, which is said on standard error";
+
+const EXPANDED: &str = "\
+Prints the list with the images of its arrangements under the symmetries of the certificate, or \
+the answer of check where it is refused.
+
+Exit status:
+  0  every arrangement of the puzzle is printed, once
+  1  the certificate does not show that the list is complete
+  2  anything else, which is said on standard error";
+
+// A word that a command needs.
+fn word<'a>(alloc: Global, id: &'a str, help: &'a str) -> Arg<'a>
+    ensures rule { rule_of result ≡ wanted id.entry.now }
+    ensures local { result.global ≡ false }
+{
+    Arg::new(alloc, id).help(help).required(true)
+}
+
+// A number that a command needs, from `least` to `most`.
+fn number<'a>(alloc: Global, id: &'a str, least: u64, most: u64, help: &'a str) -> Arg<'a>
+    ensures rule { rule_of result ≡ wanted_number id.entry.now least most }
+    ensures local { result.global ≡ false }
+{
+    word(alloc, id, help).value_parser(ValueParser::unsigned(least, most))
+}
+
+// The command with three files by their names.
+fn of_files<'a>(alloc: Global, command: Command<'a>) -> Result<Command<'a>, AllocError>
+    requires { IsLocal command }
+    ensures app { IfOk result (λ c. app_of c ≡ with_files (app_of command.entry)) }
+    ensures local { IfOk result IsLocal }
+{
+    let puzzle = word(alloc, "PUZZLE", "File of the puzzle");
+    let list = word(alloc, "LIST", "File of the list of arrangements");
+    let certificate = word(alloc, "CERTIFICATE", "File of the certificate");
+    let command = command.arg(puzzle)?.arg(list)?.arg(certificate)?;
+    Ok(command)
+}
+
+fn check<'a>(alloc: Global) -> Result<Command<'a>, AllocError>
+    ensures app { IfOk result (λ c. app_of c ≡ check_app) }
+    ensures local { IfOk result IsLocal }
+{
+    let command = Command::new(alloc, "check")
+        .about("Checks that a list has every arrangement of a puzzle")
+        .after_help(CHECKED);
+    of_files(alloc, command)
+}
+
+fn expand<'a>(alloc: Global) -> Result<Command<'a>, AllocError>
+    ensures app { IfOk result (λ c. app_of c ≡ expand_app) }
+    ensures local { IfOk result IsLocal }
+{
+    let command = Command::new(alloc, "expand")
+        .about("Checks a list, and prints every arrangement of the puzzle")
+        .after_help(EXPANDED);
+    of_files(alloc, command)
+}
+
+fn tiles<'a>(alloc: Global) -> Result<Command<'a>, AllocError>
+    ensures app { IfOk result (λ c. app_of c ≡ tiles_app) }
+    ensures local { IfOk result IsLocal }
+{
+    let sides = number(alloc, "SIDES", 3, 4, "How many sides a tile has, 3 or 4");
+    let colours = number(
+        alloc,
+        "COLOURS",
+        1,
+        36,
+        "How many colours there are, 1 to 36",
+    );
+    let command = Command::new(alloc, "tiles")
+        .about(
+            "Lists the tiles with so many sides and colours, one of those that turn into each other",
+        )
+        .arg(sides)?
+        .arg(colours)?;
+    Ok(command)
+}
+
+/// The program's commands. A command's words begin after the program's name.
+pub fn program<'a>(alloc: Global) -> Result<Command<'a>, AllocError>
+    ensures { IfOk result (λ c. app_of c ≡ whole_app) }
+{
+    let check = check(alloc)?;
+    let expand = expand(alloc)?;
+    let tiles = tiles(alloc)?;
+    let command = Command::new(alloc, NAME)
+        .about("Checks that lists of arrangements of edge-matching puzzles are complete")
+        .after_help(WITHOUT_COMMAND)
+        .no_binary_name(true)
+        .bin_name(NAME)?
+        .subcommand(check)?
+        .subcommand(expand)?
+        .subcommand(tiles)?;
+    Ok(command)
+}

@@ -1,0 +1,93 @@
+// Words are read.
+
+ghost use Rattle.std.specs.Prelude.{◌≡◌, Some, true, codes, map, IfOk, IfErr};
+ghost use Rattle.std.specs.String.{string_bytes};
+ghost use Rattle.clap.specs.Words.{fault_of, first_of, found_of, rows_of, takes};
+ghost use Rattle.command_words.specs.Commands.{whole_app};
+ghost use Rattle.command_words.specs.Orders.{HasFiles, HasNumber, HasText, IsInRange, IsOrder, IsOrderOf, IsRefusedBy, NameFiles, number_of};
+
+use crate::commands::program;
+use crate::faults::WordsFault;
+use crate::orders::{Files, Order};
+use clap::ArgMatches;
+use std::alloc::{AllocError, Global};
+
+// The text under this id.
+fn text(alloc: Global, matches: &ArgMatches<'_>, id: &str) -> Result<String, AllocError>
+    requires { HasText id.now (rows_of (found_of matches.now)) }
+    ensures { IfOk result (λ text. first_of id.now (rows_of (found_of matches.now)) ≡ Some (string_bytes text)) }
+{
+    let Some(text) = matches.get_str(id) else {
+        unreachable!();
+    };
+    String::from_str(alloc, text)
+}
+
+// The number under this id.
+fn number(matches: &ArgMatches<'_>, id: &str) -> u8
+    requires { HasNumber id.now 0 255 (rows_of (found_of matches.now)) }
+    ensures { number_of id.now (rows_of (found_of matches.now)) ≡ Some result }
+{
+    let Some(text) = matches.get_str(id) else {
+        unreachable!();
+    };
+    let Ok(number) = text.parse::<u8>() else {
+        unreachable!();
+    };
+    number
+}
+
+fn files(alloc: Global, matches: &ArgMatches<'_>) -> Result<Files, AllocError>
+    requires { HasFiles (rows_of (found_of matches.now)) }
+    ensures { IfOk result (NameFiles (rows_of (found_of matches.now))) }
+{
+    let puzzle = text(alloc, matches, "PUZZLE")?;
+    let list = text(alloc, matches, "LIST")?;
+    let certificate = text(alloc, matches, "CERTIFICATE")?;
+    Ok(Files {
+        puzzle,
+        list,
+        certificate,
+    })
+}
+
+fn tiles(matches: &ArgMatches<'_>) -> Order
+    requires sides { HasNumber (codes "SIDES") 3 4 (rows_of (found_of matches.now)) }
+    requires colours { HasNumber (codes "COLOURS") 1 36 (rows_of (found_of matches.now)) }
+    ensures order { IsOrderOf (Some (codes "tiles", rows_of (found_of matches.now))) result }
+    ensures range { IsInRange result }
+{
+    Order::Tiles {
+        sides: number(matches, "SIDES"),
+        colours: number(matches, "COLOURS"),
+    }
+}
+
+/// What the words after the program's name order.
+///
+/// Words that name no command order what no words do. `Words` where they are wrong or ask for help,
+/// by the program's commands as `clap` reads them; then the error says why.
+pub fn order(alloc: Global, words: &[String]) -> Result<Order, WordsFault>
+    ensures order { IfOk result (IsOrder (map string_bytes words.now)) }
+    ensures range { IfOk result IsInRange }
+
+    // Words that `clap` takes are refused for want of memory alone, and others by a kind that it has for them.
+    ensures memory { takes whole_app (map string_bytes words.now) ≡ true → IfErr result (λ fault. fault ≡ WordsFault.Memory) }
+    ensures refused { IfErr result (IsRefusedBy (fault_of whole_app (map string_bytes words.now))) }
+{
+    let matches = program(alloc)?.try_get_matches_from(words)?;
+    let Some((name, matches)) = matches.subcommand() else {
+        return Ok(Order::Joined);
+    };
+    if name == "check" {
+        return Ok(Order::Check(files(alloc, matches)?));
+    }
+    if name == "expand" {
+        return Ok(Order::Expand(files(alloc, matches)?));
+    }
+    if name == "tiles" {
+        return Ok(tiles(matches));
+    }
+    // `clap` answers the words of `help` itself, by an error.
+    unreachable!();
+}

@@ -1,0 +1,54 @@
+use super::run_expand;
+use crate::faults::RunFault;
+use crate::runs::Status;
+use crate::runs::tests::citations::{
+    LISTED_TRIANGLE, LISTED_TWINS, TURNING_TRIANGLE, TWIN_TILES, WALK_OF_TWINS, walk_of_triangle,
+};
+use crate::streams::fakes::Fake;
+use std::alloc::{AllocError, Global};
+use std::test::Fail;
+
+// What an expansion writes, and what it comes to.
+fn expansion(
+    alloc: Global,
+    puzzle: &[u8],
+    list: &[u8],
+    certificate: &[u8],
+) -> Result<(Vec<u8>, Result<Status, RunFault>), AllocError> {
+    let mut puzzle = Fake::new(alloc, Vec::from_slice(alloc, puzzle)?, 7, usize::MAX);
+    let mut list = Fake::new(alloc, Vec::from_slice(alloc, list)?, 7, usize::MAX);
+    let mut certificate = Fake::new(alloc, Vec::from_slice(alloc, certificate)?, 7, usize::MAX);
+    let mut writer = Fake::new(alloc, Vec::new(alloc), 5, usize::MAX);
+    let status = run_expand(alloc, &mut puzzle, &mut list, &mut certificate, &mut writer);
+    Ok((Vec::from_slice(alloc, writer.written())?, status))
+}
+
+#[test]
+fn prints_all_arrangements(rt: HostRuntime) -> Result<(), Fail> {
+    let (written, status) = expansion(rt.alloc(), TWIN_TILES, LISTED_TWINS, WALK_OF_TWINS)?;
+    assert_eq!(rt;
+        written.as_slice(),
+        b"list 1\narrangements 2\n0.0 1.0\n1.0 0.0\nend\n".as_slice()
+    );
+    assert_eq!(rt; status, Ok(Status::Complete));
+    let text = walk_of_triangle(rt.alloc())?;
+    let (written, status) = expansion(rt.alloc(), TURNING_TRIANGLE, LISTED_TRIANGLE, &text)?;
+    assert_eq!(rt;
+        written.as_slice(),
+        b"list 1\narrangements 3\n2.2 1.0 0.0 3.1\n1.2 3.0 0.2 2.1\n3.2 2.0 0.1 1.1\nend\n".as_slice()
+    );
+    assert_eq!(rt; status, Ok(Status::Complete));
+    Ok(())
+}
+
+#[test]
+fn prints_the_answer_where_it_is_refused(rt: HostRuntime) -> Result<(), Fail> {
+    let text = b"certificate 1\nsymmetries 0\nlemmas 1\nlemma 0 prefix tree d 0\nend\n";
+    let (written, status) = expansion(rt.alloc(), TWIN_TILES, LISTED_TWINS, text)?;
+    assert_eq!(rt;
+        written.as_slice(),
+        b"refused tree 0 at - not-dead 2\n".as_slice()
+    );
+    assert_eq!(rt; status, Ok(Status::Refused));
+    Ok(())
+}

@@ -1,0 +1,110 @@
+use super::{LISTED, SQUARE_OF_FOUR, WALK_OF_FOUR, certificate};
+use crate::faults::{Document, RunFault, fault_text};
+use crate::runs::{Status, run_check};
+use crate::streams::fakes::Fake;
+use std::alloc::{AllocError, Global};
+use std::test::Fail;
+
+// A reader of this text, some bytes at a time, that fails after so many.
+fn reader(alloc: Global, text: &[u8], fails_after: usize) -> Result<Fake, AllocError> {
+    Ok(Fake::new(alloc, Vec::from_slice(alloc, text)?, 7, fails_after))
+}
+
+// What a check of three documents writes, and what it comes to.
+pub fn check(
+    alloc: Global,
+    puzzle: &[u8],
+    list: &[u8],
+    certificate: &[u8],
+) -> Result<(Vec<u8>, Result<Status, RunFault>), AllocError> {
+    let mut puzzle = reader(alloc, puzzle, usize::MAX)?;
+    let mut list = reader(alloc, list, usize::MAX)?;
+    let mut certificate = reader(alloc, certificate, usize::MAX)?;
+    let mut writer = Fake::new(alloc, Vec::new(alloc), 5, usize::MAX);
+    let status = run_check(
+        alloc,
+        &mut puzzle,
+        &mut list,
+        &mut certificate,
+        1,
+        0,
+        &mut writer,
+    );
+    Ok((Vec::from_slice(alloc, writer.written())?, status))
+}
+
+#[test]
+fn reads_nothing_after_a_failed_read(rt: HostRuntime) -> Result<(), Fail> {
+    let text = certificate(rt.alloc(), WALK_OF_FOUR)?;
+    let mut puzzle = reader(rt.alloc(), SQUARE_OF_FOUR, 0)?;
+    let mut list = reader(rt.alloc(), LISTED, usize::MAX)?;
+    let mut certificate = reader(rt.alloc(), &text, usize::MAX)?;
+    let mut writer = Fake::new(rt.alloc(), Vec::new(rt.alloc()), 5, usize::MAX);
+    let fault = run_check(
+        rt.alloc(),
+        &mut puzzle,
+        &mut list,
+        &mut certificate,
+        1,
+        0,
+        &mut writer,
+    )
+    .err();
+    assert_eq!(rt; fault, Some(RunFault::Read(Document::Puzzle)));
+    assert_eq!(rt; (list.taken(), writer.written().len()), (0, 0));
+    Ok(())
+}
+
+#[test]
+fn writes_a_front_of_the_answer(rt: HostRuntime) -> Result<(), Fail> {
+    let text = certificate(rt.alloc(), WALK_OF_FOUR)?;
+    let mut puzzle = reader(rt.alloc(), SQUARE_OF_FOUR, usize::MAX)?;
+    let mut list = reader(rt.alloc(), LISTED, usize::MAX)?;
+    let mut certificate = reader(rt.alloc(), &text, usize::MAX)?;
+    let mut writer = Fake::new(rt.alloc(), Vec::new(rt.alloc()), usize::MAX, 3);
+    let fault = run_check(
+        rt.alloc(),
+        &mut puzzle,
+        &mut list,
+        &mut certificate,
+        1,
+        0,
+        &mut writer,
+    )
+    .err();
+    assert_eq!(rt; fault, Some(RunFault::Write));
+    assert_eq!(rt; writer.written(), b"com".as_slice());
+    Ok(())
+}
+
+#[test]
+fn names_the_document_of_a_fault(rt: HostRuntime) -> Result<(), Fail> {
+    let fixed_triangle =
+        b"match 1\nboard triangle 2\nturns no\nborder one 0\ntiles 4\ntile 123\ntile 100\ntile 200\ntile 300\nend\n";
+    let rows = [
+        (
+            fixed_triangle.as_slice(),
+            LISTED,
+            b"puzzle: fixed-triangles\n".as_slice(),
+        ),
+        (
+            SQUARE_OF_FOUR,
+            b"list 1\n".as_slice(),
+            b"list: line 2: ends\n".as_slice(),
+        ),
+        (
+            SQUARE_OF_FOUR,
+            LISTED,
+            b"certificate: line 1: ends\n".as_slice(),
+        ),
+    ];
+    for (puzzle, list, line) in rows {
+        let (written, status) = check(rt.alloc(), puzzle, list, b"")?;
+        let Err(fault) = status else {
+            return Err(Fail::from("there is an answer"));
+        };
+        assert_eq!(rt; written.len(), 0);
+        assert_eq!(rt; fault_text(rt.alloc(), &fault)?.as_slice(), line);
+    }
+    Ok(())
+}

@@ -1,0 +1,50 @@
+// Lists of tiles.
+
+ghost use Rattle.std.specs.Prelude.{◌≡◌, ◌≢◌, ◌≤◌, ◌⊎◌, ◌+◌, ℕ, List, true, OnOk, IfErr, IsErrOf};
+ghost use Rattle.std.specs.Io.KnownBytes.{Appends};
+ghost use Rattle.match_board.specs.Turns.{HasMoreLeastWords};
+ghost use Rattle.match_text.specs.PuzzleSpelling.{tiles_spelling};
+ghost use Rattle.edgematch.specs.Streams.{AppendsFront};
+ghost use Rattle.edgematch.specs.Runs.{AreTileWords, IsOfTiles};
+
+use crate::faults::RunFault;
+use crate::streams::sinks::{Sink, write_whole};
+use match_board::all_tiles;
+use match_text::write_tiles;
+use std::alloc::Global;
+
+/// Writes a tile for each class of tiles that turn into each other, with 3 or 4 sides of so many
+/// colours, 1 to 36: its least word, rising, one on each line, as they stand in a puzzle's text.
+///
+/// `Tiles` where there are over 100. Where a fault other than `Write` is answered, nothing was
+/// written.
+pub fn run_tiles<W: Sink>(
+    alloc: Global,
+    sides: u8,
+    colours: u8,
+    writer: &mut W,
+) -> Result<(), RunFault>
+    requires sides { (sides ≡ 3) ⊎ (sides ≡ 4) }
+    requires colours { (1 ≤ colours) × (colours ≤ 36) }
+
+    ensures ok { OnOk result ((words : List (List ℕ)) × AreTileWords sides colours words
+        × Appends (W.written writer.old) (W.written writer.new) (tiles_spelling words)) }
+
+    ensures fault { IfErr result IsOfTiles }
+    ensures tiles { IsErrOf result RunFault.Tiles → HasMoreLeastWords sides colours 100 }
+    ensures untouched { IfErr result (λ fault. fault ≢ RunFault.Write → writer.new ≡ writer.old) }
+    // Writing fails only where the sink answered an error, or took nothing; then a front of the words went out.
+    ensures write { IsErrOf result RunFault.Write → (words : List (List ℕ)) × AreTileWords sides colours words
+        × AppendsFront (W.written writer.old) (W.written writer.new) (tiles_spelling words)
+        × ((W.errors writer.new ≡ W.errors writer.old + 1) ⊎ (W.idle writer.new ≡ true)) }
+{
+    let tiles = all_tiles(alloc, sides, colours)?;
+    let text = write_tiles(alloc, &tiles)?;
+    match write_whole(writer, &text) {
+        Ok(()) => Ok(()),
+        Err(_) => Err(RunFault::Write),
+    }
+}
+
+#[cfg(test)]
+mod tests;

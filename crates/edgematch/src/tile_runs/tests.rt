@@ -1,0 +1,25 @@
+use super::run_tiles;
+use crate::faults::{RunFault, fault_text};
+use crate::streams::fakes::Fake;
+use std::test::Fail;
+
+#[test]
+fn lists_the_triangles_of_two_colours(rt: HostRuntime) -> Result<(), Fail> {
+    let mut writer = Fake::new(rt.alloc(), Vec::new(rt.alloc()), 3, usize::MAX);
+    assert_eq!(rt; run_tiles(rt.alloc(), 3, 2, &mut writer), Ok(()));
+    assert_eq!(rt; writer.written(), b"000\n001\n011\n111\n".as_slice());
+    Ok(())
+}
+
+#[test]
+fn lists_no_more_than_100_tiles(rt: HostRuntime) -> Result<(), Fail> {
+    let mut writer = Fake::new(rt.alloc(), Vec::new(rt.alloc()), 3, usize::MAX);
+    assert_eq!(rt;
+        run_tiles(rt.alloc(), 4, 5, &mut writer),
+        Err(RunFault::Tiles)
+    );
+    assert_eq!(rt; writer.written().len(), 0);
+    let text = fault_text(rt.alloc(), &RunFault::Tiles)?;
+    assert_eq!(rt; text.as_slice(), b"too many tiles\n".as_slice());
+    Ok(())
+}

@@ -1,0 +1,4 @@
+pub mod LineLemmas
+pub mod ClosureLemmas
+pub mod MemberLemmas
+pub mod ExpansionLemmas

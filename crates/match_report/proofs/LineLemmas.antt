@@ -1,0 +1,49 @@
+-- Lines, word by word.
+use Rattle.std.proofs.Common.{◌≡◌, ℕ, List, [], ◌∷◌, ◌++◌, refl, sym, ap, ◌∙◌, append_assoc, map, length, decimal, codes, arith}
+use Rattle.std.specs.List.{join_with_byte}
+use Rattle.std.proofs.lemmas.List.{append-nil}
+use Rattle.match_report.specs.Line.{line_text, spaced, path_text, dotted}
+
+spaced-append : (words more : List (List ℕ)) → spaced (words ++ more) ≡ spaced words ++ spaced more
+unfolding spaced
+spaced-append [] more = refl
+spaced-append (word ∷ words) more = ap (λ text. 32 ∷ (word ++ text)) (spaced-append words more) ∙ ap (λ text. 32 ∷ text) (sym (append_assoc word (spaced words) (spaced more)))
+
+-- words after words
+pub spaced-after : (front : List ℕ) (words more : List (List ℕ)) → (front ++ spaced words) ++ spaced more ≡ front ++ spaced (words ++ more)
+spaced-after front words more = append_assoc front (spaced words) (spaced more) ∙ ap (λ text. front ++ text) (sym (spaced-append words more))
+
+join_with_byte-cons : (word : List ℕ) (words : List (List ℕ)) → join_with_byte 32 (word ∷ words) ≡ word ++ spaced words
+unfolding spaced
+join_with_byte-cons word [] = sym (append-nil word)
+join_with_byte-cons word (next ∷ words) = ap (λ text. word ++ 32 ∷ text) (join_with_byte-cons next words)
+
+-- a line by its first word
+pub line_text-cons : (word : List ℕ) (words : List (List ℕ)) → line_text (word ∷ words) ≡ (word ++ spaced words) ++ 10 ∷ []
+unfolding line_text
+line_text-cons word words = ap (λ text. text ++ 10 ∷ []) (join_with_byte-cons word words)
+
+-- ---- paths
+
+dotted-join : (step : ℕ) (steps : List ℕ) → join_with_byte 46 (map decimal (step ∷ steps)) ≡ decimal step ++ dotted steps
+dotted-join step [] = sym (append-nil (decimal step))
+dotted-join step (next ∷ steps) = ap (λ text. decimal step ++ 46 ∷ text) (dotted-join next steps)
+
+spaced-one : (word : List ℕ) → spaced (word ∷ []) ≡ 32 ∷ word
+unfolding spaced
+spaced-one word = ap (λ text. 32 ∷ text) (append-nil word)
+
+-- a path by its first step
+pub spaced-path_text : (front steps others : List ℕ) (step : ℕ) → steps ≡ step ∷ others → (front ++ spaced (decimal step ∷ [])) ++ dotted others ≡ front ++ spaced (path_text steps ∷ [])
+unfolding path_text
+spaced-path_text front steps others step e =
+    let path : path_text steps ≡ decimal step ++ dotted others = ap path_text e ∙ dotted-join step others in
+    append_assoc front (spaced (decimal step ∷ [])) (dotted others)
+    ∙ ap (λ text. front ++ text) (ap (λ text. text ++ dotted others) (spaced-one (decimal step)) ∙ sym (spaced-one (path_text steps) ∙ ap (λ text. 32 ∷ text) path))
+
+pub path_text-none : (steps : List ℕ) → length steps ≡ 0 → path_text steps ≡ codes "-"
+unfolding path_text
+path_text-none [] e = refl
+path_text-none (step ∷ steps) e = absurd (omega (arith, e))
+
+pub ruleset line_laws = (spaced-after, line_text-cons)

@@ -1,0 +1,68 @@
+-- How an answer is printed.
+use Rattle.std.specs.Prelude.{◌≢◌, ℕ, List, [], ◌∷◌, codes, decimal}
+use Rattle.match_puzzle.specs.declared.faults.ArrangementFault.{ArrangementFault}
+use Rattle.match_puzzle.specs.declared.faults.ArrangementFault.TheVariants as arrangements
+use Rattle.match_puzzle.specs.declared.faults.PrefixFault.{PrefixFault}
+use Rattle.match_puzzle.specs.declared.faults.PrefixFault.TheVariants as prefixes
+use Rattle.match_symmetry.specs.declared.faults.SymmetryFault.{SymmetryFault}
+use Rattle.match_symmetry.specs.declared.faults.SymmetryFault.TheVariants as symmetries
+use Rattle.cert_check.specs.declared.faults.NodeFault.{NodeFault}
+use Rattle.cert_check.specs.declared.faults.NodeFault.TheVariants as nodes
+use Rattle.cert_check.specs.declared.faults.Fault.{Fault}
+use Rattle.cert_check.specs.declared.faults.Fault.TheVariants as faults
+use Rattle.cert_check.specs.declared.faults.Answer.{Answer}
+use Rattle.cert_check.specs.declared.faults.Answer.TheVariants.{Complete, Refused}
+use Rattle.match_report.specs.Line.{line_text, path_text}
+
+unfoldable pub arrangement_fault_words : ArrangementFault → List (List ℕ)
+arrangement_fault_words arrangements.Length = codes "length" ∷ []
+arrangement_fault_words (arrangements.TileRange cell) = codes "tile" ∷ decimal cell ∷ []
+arrangement_fault_words (arrangements.Turn cell) = codes "turn" ∷ decimal cell ∷ []
+arrangement_fault_words (arrangements.TileTwice cell) = codes "twice" ∷ decimal cell ∷ []
+arrangement_fault_words (arrangements.BorderBroken cell side) = codes "border" ∷ decimal cell ∷ decimal side ∷ []
+arrangement_fault_words (arrangements.EdgeBroken cell side) = codes "edge" ∷ decimal cell ∷ decimal side ∷ []
+
+unfoldable pub symmetry_fault_words : SymmetryFault → List (List ℕ)
+symmetry_fault_words symmetries.Cells = codes "cells" ∷ []
+symmetry_fault_words symmetries.Colours = codes "colours" ∷ []
+symmetry_fault_words symmetries.Tiles = codes "tiles" ∷ []
+symmetry_fault_words (symmetries.EdgeBroken cell side) = codes "edge" ∷ decimal cell ∷ decimal side ∷ []
+symmetry_fault_words (symmetries.BorderBroken cell side) = codes "border" ∷ decimal cell ∷ decimal side ∷ []
+symmetry_fault_words (symmetries.TileBroken tile) = codes "tile" ∷ decimal tile ∷ []
+symmetry_fault_words symmetries.Memory = []
+
+unfoldable pub prefix_fault_words : PrefixFault → List (List ℕ)
+prefix_fault_words (prefixes.Cell place) = codes "cell" ∷ decimal place ∷ []
+prefix_fault_words (prefixes.Tile place) = codes "tile" ∷ decimal place ∷ []
+prefix_fault_words (prefixes.Turn place) = codes "turn" ∷ decimal place ∷ []
+
+unfoldable pub node_fault_words : NodeFault → List (List ℕ)
+node_fault_words nodes.CellRange = codes "cell-range" ∷ []
+node_fault_words nodes.CellTaken = codes "cell-taken" ∷ []
+node_fault_words nodes.TileRange = codes "tile-range" ∷ []
+node_fault_words nodes.TileTaken = codes "tile-taken" ∷ []
+node_fault_words (nodes.WrongCount fits children) = codes "wrong-count" ∷ decimal fits ∷ decimal children ∷ []
+node_fault_words (nodes.NotDead fits) = codes "not-dead" ∷ decimal fits ∷ []
+node_fault_words nodes.NotWhole = codes "not-whole" ∷ []
+node_fault_words nodes.ListRange = codes "list-range" ∷ []
+node_fault_words nodes.NotListed = codes "not-listed" ∷ []
+node_fault_words nodes.NotEarlier = codes "not-earlier" ∷ []
+node_fault_words nodes.SymmetryRange = codes "symmetry-range" ∷ []
+node_fault_words nodes.NotWithin = codes "not-within" ∷ []
+
+unfoldable pub fault_words : Fault → List (List ℕ)
+fault_words (faults.List number fault) = codes "list" ∷ decimal number ∷ arrangement_fault_words fault
+fault_words (faults.Repeated number) = codes "repeated" ∷ decimal number ∷ []
+fault_words (faults.Symmetry number fault) = codes "symmetry" ∷ decimal number ∷ symmetry_fault_words fault
+fault_words (faults.Prefix lemma fault) = codes "prefix" ∷ decimal lemma ∷ prefix_fault_words fault
+fault_words faults.Root = codes "root" ∷ []
+fault_words (faults.Tree lemma fault) = codes "tree" ∷ decimal lemma ∷ codes "at" ∷ path_text fault.path ∷ node_fault_words fault.fault
+
+-- the line of an answer on a list of so many arrangements
+unfoldable pub answer_line : Answer → ℕ → List ℕ
+answer_line Complete listed = line_text (codes "complete" ∷ decimal listed ∷ [])
+answer_line (Refused fault) listed = line_text (codes "refused" ∷ fault_words fault)
+
+-- The answer isn't want of memory for a symmetry.
+abbrev pub HoldsNoMemory : Answer → Type 0
+HoldsNoMemory answer = (number : ℕ) → answer ≢ Refused (faults.Symmetry number symmetries.Memory)

@@ -1,0 +1,4 @@
+pub mod Line
+pub mod AnswerText
+pub mod Closure
+pub mod Expansion

@@ -1,0 +1,148 @@
+// How an answer is printed.
+
+ghost use Rattle.std.specs.Prelude.{◌≡◌, ◌≢◌, ◌++◌, [], ◌∷◌, ℕ, decimal, IfOk, OnOk};
+ghost use Rattle.match_report.specs.Line.{spaced};
+ghost use Rattle.match_report.specs.AnswerText.{HoldsNoMemory, answer_line, fault_words, node_fault_words, arrangement_fault_words, symmetry_fault_words, prefix_fault_words};
+
+use crate::lines::Line;
+use cert_check::{Answer, Fault, NodeFault};
+use match_puzzle::{ArrangementFault, PrefixFault};
+use match_symmetry::SymmetryFault;
+use std::alloc::{AllocError, Global};
+
+#[tactic(auto, using(crate::proofs::LineLemmas::line_laws))]
+fn put_numbered(line: &mut Line, word: &[u8], number: u32) -> Result<(), AllocError>
+    ensures { OnOk result (line.new ≡ line.old ++ spaced (word.now ∷ decimal number ∷ [])) }
+{
+    line.word(word)?;
+    line.number(number)
+}
+
+#[tactic(auto, using(crate::proofs::LineLemmas::line_laws), unfolding(crate::specs::AnswerText::arrangement_fault_words))]
+fn put_arrangement_fault(line: &mut Line, fault: &ArrangementFault) -> Result<(), AllocError>
+    ensures { OnOk result (line.new ≡ line.old ++ spaced (arrangement_fault_words fault.now)) }
+{
+    match *fault {
+        ArrangementFault::Length => line.word(b"length"),
+        ArrangementFault::TileRange(cell) => put_numbered(line, b"tile", cell),
+        ArrangementFault::Turn(cell) => put_numbered(line, b"turn", cell),
+        ArrangementFault::TileTwice(cell) => put_numbered(line, b"twice", cell),
+        ArrangementFault::BorderBroken(cell, side) => {
+            put_numbered(line, b"border", cell)?;
+            line.number(side)
+        }
+        ArrangementFault::EdgeBroken(cell, side) => {
+            put_numbered(line, b"edge", cell)?;
+            line.number(side)
+        }
+    }
+}
+
+#[tactic(auto, using(crate::proofs::LineLemmas::line_laws), unfolding(crate::specs::AnswerText::symmetry_fault_words))]
+fn put_symmetry_fault(line: &mut Line, fault: &SymmetryFault) -> Result<(), AllocError>
+    requires { fault.now ≢ SymmetryFault.Memory }
+    ensures { OnOk result (line.new ≡ line.old ++ spaced (symmetry_fault_words fault.now)) }
+{
+    match *fault {
+        SymmetryFault::Cells => line.word(b"cells"),
+        SymmetryFault::Colours => line.word(b"colours"),
+        SymmetryFault::Tiles => line.word(b"tiles"),
+        SymmetryFault::EdgeBroken(cell, side) => {
+            put_numbered(line, b"edge", cell)?;
+            line.number(side)
+        }
+        SymmetryFault::BorderBroken(cell, side) => {
+            put_numbered(line, b"border", cell)?;
+            line.number(side)
+        }
+        SymmetryFault::TileBroken(tile) => put_numbered(line, b"tile", tile),
+        SymmetryFault::Memory => unreachable!(),
+    }
+}
+
+#[tactic(auto, using(crate::proofs::LineLemmas::line_laws), unfolding(crate::specs::AnswerText::prefix_fault_words))]
+fn put_prefix_fault(line: &mut Line, fault: &PrefixFault) -> Result<(), AllocError>
+    ensures { OnOk result (line.new ≡ line.old ++ spaced (prefix_fault_words fault.now)) }
+{
+    match *fault {
+        PrefixFault::Cell(place) => put_numbered(line, b"cell", place),
+        PrefixFault::Tile(place) => put_numbered(line, b"tile", place),
+        PrefixFault::Turn(place) => put_numbered(line, b"turn", place),
+    }
+}
+
+#[tactic(auto, using(crate::proofs::LineLemmas::line_laws), unfolding(crate::specs::AnswerText::node_fault_words))]
+fn put_node_fault(line: &mut Line, fault: &NodeFault) -> Result<(), AllocError>
+    ensures { OnOk result (line.new ≡ line.old ++ spaced (node_fault_words fault.now)) }
+{
+    match *fault {
+        NodeFault::CellRange => line.word(b"cell-range"),
+        NodeFault::CellTaken => line.word(b"cell-taken"),
+        NodeFault::TileRange => line.word(b"tile-range"),
+        NodeFault::TileTaken => line.word(b"tile-taken"),
+        NodeFault::WrongCount { fits, children } => {
+            put_numbered(line, b"wrong-count", fits)?;
+            line.number(children)
+        }
+        NodeFault::NotDead { fits } => put_numbered(line, b"not-dead", fits),
+        NodeFault::NotWhole => line.word(b"not-whole"),
+        NodeFault::ListRange => line.word(b"list-range"),
+        NodeFault::NotListed => line.word(b"not-listed"),
+        NodeFault::NotEarlier => line.word(b"not-earlier"),
+        NodeFault::SymmetryRange => line.word(b"symmetry-range"),
+        NodeFault::NotWithin => line.word(b"not-within"),
+    }
+}
+
+#[tactic(auto, using(crate::proofs::LineLemmas::line_laws), unfolding(crate::specs::AnswerText::fault_words))]
+fn put_fault(line: &mut Line, fault: &Fault) -> Result<(), AllocError>
+    requires { (number : ℕ) → fault.now ≢ Fault.Symmetry number SymmetryFault.Memory }
+    ensures { OnOk result (line.new ≡ line.old ++ spaced (fault_words fault.now)) }
+{
+    match fault {
+        Fault::List(number, fault) => {
+            put_numbered(line, b"list", *number)?;
+            put_arrangement_fault(line, fault)
+        }
+        Fault::Repeated(number) => put_numbered(line, b"repeated", *number),
+        Fault::Symmetry(number, fault) => {
+            put_numbered(line, b"symmetry", *number)?;
+            put_symmetry_fault(line, fault)
+        }
+        Fault::Prefix(lemma, fault) => {
+            put_numbered(line, b"prefix", *lemma)?;
+            put_prefix_fault(line, fault)
+        }
+        Fault::Root => line.word(b"root"),
+        Fault::Tree(lemma, fault) => {
+            put_numbered(line, b"tree", *lemma)?;
+            line.word(b"at")?;
+            line.path(fault.path.steps())?;
+            put_node_fault(line, &fault.fault)
+        }
+    }
+}
+
+/// The line of an answer on a list of so many arrangements.
+#[tactic(auto, using(crate::proofs::LineLemmas::line_laws), unfolding(crate::specs::AnswerText::answer_line))]
+pub fn write_answer(alloc: Global, answer: &Answer, listed: u32) -> Result<Vec<u8>, AllocError>
+    requires { HoldsNoMemory answer.now }
+    ensures { IfOk result (λ text. text.items ≡ answer_line answer.now listed) }
+{
+    let line = match answer {
+        Answer::Complete => {
+            let mut line = Line::new(alloc, b"complete")?;
+            line.number(listed)?;
+            line
+        }
+        Answer::Refused(fault) => {
+            let mut line = Line::new(alloc, b"refused")?;
+            put_fault(&mut line, fault)?;
+            line
+        }
+    };
+    line.end()
+}
+
+#[cfg(test)]
+mod tests;

@@ -1,0 +1,95 @@
+// Lines of words, as they are printed.
+
+ghost use Rattle.std.specs.Prelude.{◌≡◌, ◌++◌, ◌∷◌, [], ℕ, List, IfOk, OnOk, decimal};
+ghost use Rattle.match_report.specs.Line.{spaced, dotted, label, path_text};
+
+use itoa::Buffer;
+use std::alloc::{AllocError, Global};
+use std::marker::Model;
+
+/// A line that is being written, seen as its bytes. Where memory is refused, a part of a word may
+/// have been written.
+#[derive(Drop)]
+pub struct Line {
+    text: Vec<u8>,
+}
+
+impl Model for Line {
+    ghost Value = { List ℕ };
+
+    ghost view = { λ line. line.text.items };
+}
+
+#[tactic(auto, unfolding(crate::specs::Line::spaced))]
+impl Line {
+    /// A line that begins with this word.
+    pub fn new(alloc: Global, word: &[u8]) -> Result<Line, AllocError>
+        ensures { IfOk result (λ line. line ≡ word.now) }
+    {
+        let text = Vec::from_slice(alloc, word)?;
+        Ok(Line { text })
+    }
+
+    /// One word more.
+    pub fn word(&mut self, word: &[u8]) -> Result<(), AllocError>
+        ensures { OnOk result (self.new ≡ self.old ++ spaced (word.now ∷ [])) }
+    {
+        self.text.push(b' ')?;
+        self.text.extend_from_slice(word)
+    }
+
+    /// One number more.
+    pub fn number(&mut self, number: u32) -> Result<(), AllocError>
+        ensures { OnOk result (self.new ≡ self.old ++ spaced (decimal number ∷ [])) }
+    {
+        let mut buffer = Buffer::new();
+        self.word(buffer.format(number).as_bytes())
+    }
+
+    /// One number more, with a colon behind it.
+    pub fn label(&mut self, number: u32) -> Result<(), AllocError>
+        ensures { OnOk result (self.new ≡ self.old ++ spaced (label (decimal number) ∷ [])) }
+    {
+        self.number(number)?;
+        self.text.push(b':')?;
+        Ok(())
+    }
+
+    /// One word more, the steps of a path: `-` for none.
+    pub fn path(&mut self, steps: &[u16]) -> Result<(), AllocError>
+        ensures { OnOk result (self.new ≡ self.old ++ spaced (path_text steps.now ∷ [])) }
+    {
+        let Some((first, others)) = steps.split_first() else {
+            return self.word(b"-");
+        };
+        self.number(u32::from(*first))?;
+        self.dotted(others)
+    }
+
+    // Numbers with a dot before each.
+    fn dotted(&mut self, numbers: &[u16]) -> Result<(), AllocError>
+        ensures { OnOk result (self.new ≡ self.old ++ dotted numbers.now) }
+    {
+        for number in numbers {
+            self.dotted_number(*number)?;
+        }
+        Ok(())
+    }
+
+    fn dotted_number(&mut self, number: u16) -> Result<(), AllocError>
+        ensures { OnOk result (self.new ≡ self.old ++ 46 ∷ decimal number) }
+    {
+        let mut buffer = Buffer::new();
+        self.text.push(b'.')?;
+        self.text
+            .extend_from_slice(buffer.format(number).as_bytes())
+    }
+
+    /// The LF that ends the line.
+    pub fn end(mut self) -> Result<Vec<u8>, AllocError>
+        ensures { IfOk result (λ text. text.items ≡ self ++ 10 ∷ []) }
+    {
+        self.text.push(b'\n')?;
+        Ok(self.text)
+    }
+}

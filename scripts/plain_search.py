@@ -1,0 +1,173 @@
+#!/usr/bin/env python3
+"""Writes a list of all arrangements of a puzzle, and a certificate, by a plain search.
+
+usage: plain_search.py PUZZLE LIST CERTIFICATE [DEPTH [MOST]]
+
+Reads the puzzle's text from the file PUZZLE, and writes the other two. At each node the cell with the fewest fitting
+placements is filled, the least number at a tie; a cell or a tile that nothing fits ends a branch. Nodes with DEPTH pairs
+(0, unless given) are lemmas of their own, which the root cites. After MOST nodes (no bound, unless given) it gives up.
+Nobody has to trust it: `edgematch check` reads what it wrote.
+"""
+import sys
+
+DIGITS = "0123456789abcdefghijklmnopqrstuvwxyz"
+
+
+class GaveUp(Exception):
+    pass
+
+
+def rectangle(width, height):
+    """The side that each (cell, side) meets."""
+    meets = {}
+    for row in range(height):
+        for column in range(width):
+            cell = row * width + column
+            if column + 1 < width:
+                meets[cell, 1], meets[cell + 1, 3] = (cell + 1, 3), (cell, 1)
+            if row + 1 < height:
+                meets[cell, 2], meets[cell + width, 0] = (cell + width, 0), (cell, 2)
+    return width * height, 4, meets
+
+
+def triangles(rows):
+    """The same of rows of triangles: (how many, whether the first points up, how far right the one below stands)."""
+    meets, starts, cell = {}, [], 0
+    for length, _, _ in rows:
+        starts.append(cell)
+        cell += length
+    for row, (length, begins_up, below) in enumerate(rows):
+        for place in range(length):
+            here, up = starts[row] + place, (place % 2 == 0) == begins_up
+            if place + 1 < length:
+                side = 0 if up else 2
+                meets[here, side], meets[here + 1, side] = (here + 1, side), (here, side)
+            if up and row + 1 < len(rows):
+                there = starts[row + 1] + place + below
+                meets[here, 1], meets[there, 1] = (there, 1), (here, 1)
+    return cell, 3, meets
+
+
+def board(words):
+    kind, numbers = words[0], [int(word) for word in words[1:]]
+    if kind == "rect":
+        return rectangle(*numbers)
+    size = numbers[0]
+    if kind == "triangle":
+        return triangles([(2 * row + 1, True, 1) for row in range(size)])
+    upper = [(2 * size + 1 + 2 * row, True, 1 if row + 1 < size else 0) for row in range(size)]
+    lower = [(2 * size + 1 + 2 * row, False, -1) for row in reversed(range(size))]
+    return triangles(upper + lower)
+
+
+def read_puzzle(text):
+    lines = [line.split(" ") for line in text.splitlines()]
+    cells, sides, meets = board(lines[1][1:])
+    turns = lines[2][1] == "yes"
+    pairs = [(cell, side) for cell in range(cells) for side in range(sides) if (cell, side) not in meets]
+    rules, border = {}, lines[3]
+    if border[1] == "one":
+        rules = {pair: DIGITS.index(border[2]) for pair in pairs}
+    elif border[1] == "each":
+        rules = {pair: DIGITS.index(word) for pair, word in zip(pairs, border[2:]) if word != "-"}
+    shown = []
+    for (word,) in (line[1:] for line in lines[5:-1]):
+        colours = [DIGITS.index(letter) for letter in word]
+        faces = []
+        for turn in range(sides if turns else 1):
+            face = tuple(colours[(side + turn) % sides] for side in range(sides))
+            if face in faces:
+                break
+            faces.append(face)
+        shown.append(faces)
+    return cells, sides, meets, rules, shown
+
+
+class Search:
+    def __init__(self, puzzle, depth, most):
+        self.cells, self.sides, self.meets, self.rules, self.shown = puzzle
+        self.depth, self.most, self.nodes = depth, most, 0
+        self.at = [None] * self.cells
+        self.free = list(range(len(self.shown)))
+        self.listed, self.lemmas = [], []
+
+    def fitting(self, cell):
+        asked = []
+        for side in range(self.sides):
+            if (cell, side) in self.rules:
+                asked.append((side, self.rules[cell, side]))
+            elif (cell, side) in self.meets:
+                other, other_side = self.meets[cell, side]
+                if self.at[other] is not None:
+                    tile, turn = self.at[other]
+                    asked.append((side, self.shown[tile][turn][other_side]))
+        return [
+            (tile, turn)
+            for tile in self.free
+            for turn, face in enumerate(self.shown[tile])
+            if all(face[side] == colour for side, colour in asked)
+        ]
+
+    def node(self, out, placed):
+        self.nodes += 1
+        if self.nodes > self.most:
+            raise GaveUp
+        best = None
+        for cell in range(self.cells):
+            if self.at[cell] is None:
+                fits = self.fitting(cell)
+                if best is None or len(fits) < len(best[1]):
+                    best = cell, fits
+                if not fits:
+                    break
+        if best is None:
+            self.listed.append(list(self.at))
+            out.append(f"f {len(self.listed) - 1}")
+            return
+        cell, fits = best
+        if not fits:
+            out.append(f"d {cell}")
+            return
+        out.append(f"c {cell} {len(fits)}")
+        for placement in fits:
+            self.at[cell] = placement
+            self.free.remove(placement[0])
+            self.child(out, placed + 1)
+            self.free.append(placement[0])
+            self.free.sort()
+            self.at[cell] = None
+
+    def child(self, out, placed):
+        if placed != self.depth:
+            self.node(out, placed)
+            return
+        prefix = " ".join(f"{cell}:{at[0]}.{at[1]}" for cell, at in enumerate(self.at) if at)
+        tree = []
+        self.node(tree, placed)
+        out.append(f"s {len(self.lemmas)}")
+        self.lemmas.append(f"{prefix} tree {' '.join(tree)}")
+
+
+def main():
+    puzzle_name, list_name, certificate_name = sys.argv[1:4]
+    depth = int(sys.argv[4]) if len(sys.argv) > 4 else 0
+    most = int(sys.argv[5]) if len(sys.argv) > 5 else sys.maxsize
+    with open(puzzle_name) as file:
+        search = Search(read_puzzle(file.read()), depth, most)
+    sys.setrecursionlimit(10_000)
+    root = []
+    search.node(root, 0)
+    search.lemmas.append(f"tree {' '.join(root)}")
+    with open(list_name, "w") as file:
+        rows = (" ".join(f"{tile}.{turn}" for tile, turn in row) for row in search.listed)
+        file.write(f"list 1\narrangements {len(search.listed)}\n" + "".join(row + "\n" for row in rows) + "end\n")
+    with open(certificate_name, "w") as file:
+        file.write(f"certificate 1\nsymmetries 0\nlemmas {len(search.lemmas)}\n")
+        for number, lemma in enumerate(search.lemmas):
+            file.write(f"lemma {number} prefix {lemma}\n")
+        file.write("end\n")
+    print(f"found {len(search.listed)}, {search.nodes} nodes, {len(search.lemmas)} lemmas")
+
+
+if __name__ == "__main__":
+    main()
