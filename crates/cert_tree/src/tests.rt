@@ -399,9 +399,19 @@ fn tells_faults_of_assembly(rt: HostRuntime) -> Result<(), Fail> {
     Ok(())
 }
 
-// Where a text that is cut short ends.
+// Where a text that is cut short ends: the line after its last LF.
+fn ends(text: &[u8]) -> TextFault
+    requires { length text.now < 1000 }
+{
+    let lines = text.iter().filter(|byte| **byte == b'\n').count();
+    TextFault {
+        line: lines as u32 + 1,
+        kind: TextKind::Ends,
+    }
+}
+
 #[test]
-fn ends_at_a_cut(rt: HostRuntime) {
+fn ends_at_each_cut(rt: HostRuntime) {
     assert_eq!(rt; ONE_CELL.len(), 70);
     for (cut, line) in [(0, 1), (36, 4), (50, 4), (69, 5)] {
         let text = &ONE_CELL[..cut];
@@ -410,6 +420,11 @@ fn ends_at_a_cut(rt: HostRuntime) {
             in_text(line, TextKind::Ends),
             "at {cut}"
         );
+    }
+    for cut in 0..SQUARE_OF_FOUR.len() {
+        let text = &SQUARE_OF_FOUR[..cut];
+        let fault = read_certificate(rt.alloc(), text).err();
+        assert_eq!(rt; fault, Some(CertTextFault::Text(ends(text))), "at {cut}");
     }
 }
 

@@ -445,13 +445,13 @@ fn ends(text: &[u8]) -> TextFault
 
 #[test]
 fn ends_at_each_cut(rt: HostRuntime) {
-    for cut in 0..ONE_CELL.len() {
-        let text = &ONE_CELL[..cut];
+    for cut in 0..SQUARE_OF_FOUR.len() {
+        let text = &SQUARE_OF_FOUR[..cut];
         let fault = read_puzzle(rt.alloc(), text).err();
         assert_eq!(rt; fault, Some(PuzzleTextFault::Text(ends(text))), "at {cut}");
     }
-    for cut in 0..TURNING_TRIANGLE_LIST.len() {
-        let text = &TURNING_TRIANGLE_LIST[..cut];
+    for cut in 0..SQUARE_OF_FOUR_LIST.len() {
+        let text = &SQUARE_OF_FOUR_LIST[..cut];
         let fault = read_list(rt.alloc(), text).err();
         assert_eq!(rt; fault, Some(ListTextFault::Text(ends(text))), "at {cut}");
     }
