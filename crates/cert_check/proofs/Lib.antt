@@ -3,7 +3,6 @@ pub mod PrefixLemmas
 pub mod Soundness
 pub mod FaultLemmas
 pub mod AnswerLemmas
-pub mod ListingLemmas
 pub mod CheckLemmas
 pub mod WalkLemmas
-pub mod SeenLemmas
+pub mod RepeatLemmas

@@ -72,3 +72,17 @@ taken_at xs zero i x e = absurd (none≢some e)
 taken_at [] (suc n) i x e = absurd (none≢some e)
 taken_at (y ∷ xs) (suc n) zero x e = e
 taken_at (y ∷ xs) (suc n) (suc i) x e = taken_at xs n i x e
+
+-- a place of a member, and the member at a place
+pub place_of : {X : Type 0} (xs : List X) (x : X) → Contains xs x → (i : ℕ) × (slice_get xs i ≡ Some x)
+place_of xs x c = at xs c.0 c.1 c.2
+  where
+    at : {X : Type 0} {x : X} (xs : List X) (i : ℕ) → i < length xs → get_or xs i x ≡ x → (i : ℕ) × (slice_get xs i ≡ Some x)
+    at [] i lt e = absurd (omega (arith, lt))
+    at (y ∷ xs) zero lt e = (0, ap Some e)
+    at (y ∷ xs) (suc i) lt e = let w = at xs i (omega (arith, lt)) e in (suc w.0, w.1)
+
+pub member_at : {X : Type 0} (xs : List X) (i : ℕ) → i < length xs → (x : X) × (slice_get xs i ≡ Some x)
+member_at [] i lt = absurd (omega (arith, lt))
+member_at (x ∷ xs) zero lt = (x, refl)
+member_at (x ∷ xs) (suc i) lt = member_at xs i (omega (arith, lt))

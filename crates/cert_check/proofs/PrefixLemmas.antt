@@ -14,8 +14,8 @@ use Rattle.match_puzzle.proofs.Prefixes.{inside}
 use Rattle.match_puzzle.proofs.Kept.{has_none}
 use Rattle.match_symmetry.specs.Images.{HasPairs}
 use Rattle.cert_tree.specs.Certificate.{Piece}
-use Rattle.cert_tree.specs.declared.certificates.Lemma.{Lemma}
-use Rattle.cert_tree.specs.Certificate.{piece_of}
+use Rattle.cert_tree.specs.declared.certificates.FlatLemma.{FlatLemma}
+use Rattle.cert_tree.specs.Certificate.{flat_piece}
 use Rattle.cert_check.specs.Setting.{prefix_of}
 use Rattle.cert_check.specs.Derivation.{start_of, HasRoot}
 use Rattle.cert_check.proofs.ListLemmas.{none≢some}
@@ -79,16 +79,16 @@ last_is f xs x at =
     (omega (arith, length-map xs f, lt), slice_get-map f xs (length xs - 1) ∙ ap (option_map f) at)
 
 -- Whether the last lemma begins with nothing placed tells whether there is a root.
-pub tells_root : (lemmas : List Lemma) (root : Lemma) (pairs : List Pair) (empty : Bool) → slice_get lemmas (length lemmas - 1) ≡ Some root → pairs ≡ root.prefix → empty ≡ (length pairs == 0) →
-    MatchBool empty (HasRoot (map piece_of lemmas)) (HasRoot (map piece_of lemmas) → ⊥)
+pub tells_root : (lemmas : List FlatLemma) (root : FlatLemma) (pairs : List Pair) (empty : Bool) → slice_get lemmas (length lemmas - 1) ≡ Some root → pairs ≡ root.prefix → empty ≡ (length pairs == 0) →
+    MatchBool empty (HasRoot (map flat_piece lemmas)) (HasRoot (map flat_piece lemmas) → ⊥)
 tells_root lemmas root [] empty at same is =
-    let w = last_is piece_of lemmas root at in
-    subst (λ b. MatchBool b (HasRoot (map piece_of lemmas)) (HasRoot (map piece_of lemmas) → ⊥)) (sym is) (length lemmas - 1, piece_of root, w.0, w.1, sym same)
+    let w = last_is flat_piece lemmas root at in
+    subst (λ b. MatchBool b (HasRoot (map flat_piece lemmas)) (HasRoot (map flat_piece lemmas) → ⊥)) (sym is) (length lemmas - 1, flat_piece root, w.0, w.1, sym same)
 tells_root lemmas root (x ∷ pairs) empty at same is =
     let some : (length (x ∷ pairs) == 0) ≡ false = ne_eqb (suc (length pairs)) 0 (λ e. omega (arith, e)) in
-    subst (λ b. MatchBool b (HasRoot (map piece_of lemmas)) (HasRoot (map piece_of lemmas) → ⊥)) (sym (is ∙ some))
+    subst (λ b. MatchBool b (HasRoot (map flat_piece lemmas)) (HasRoot (map flat_piece lemmas) → ⊥)) (sym (is ∙ some))
     (λ has.
-    let w = last_is piece_of lemmas root at in
+    let w = last_is flat_piece lemmas root at in
     let k : has.0 ≡ length lemmas - 1 = omega (arith, w.0, has.2) in
-    let e : has.1 ≡ piece_of root = inside (sym has.3 ∙ ap (slice_get (map piece_of lemmas)) k ∙ w.1) in
+    let e : has.1 ≡ flat_piece root = inside (sym has.3 ∙ ap (slice_get (map flat_piece lemmas)) k ∙ w.1) in
     omega (arith, ap length (same ∙ sym (ap prefix_of e) ∙ has.4)))

@@ -1,88 +1,59 @@
 -- Steps of a walk.
-use Rattle.std.proofs.Common.{◌≡◌, ◌<◌, ◌+◌, ◌^◌, ℕ, zero, suc, List, [], ◌∷◌, Option, Some, None, length, get_or, drop, ap, sym, ◌∙◌, refl, arith, subst}
-use Rattle.match_board.specs.First.{IsFirst}
-use Rattle.match_board.specs.Listing.{IsNextAt, IsNext}
+use Rattle.std.proofs.Common.{◌≡◌, ◌≢◌, ◌<◌, ◌≤◌, ◌+◌, ℕ, zero, suc, List, [], ◌∷◌, Option, Some, None, Contains, length, ap, sym, ◌∙◌, refl, arith, subst}
 use Rattle.match_puzzle.specs.Prefix.{Prefix, Layout, Has, IsFree, with_pair, without_cell}
-use Rattle.match_puzzle.specs.Fitting.{FitsItem, item_key, key_after}
+use Rattle.match_puzzle.specs.Fitting.{FitsItem}
 use Rattle.match_puzzle.specs.declared.items.Item.{Item}
 use Rattle.match_puzzle.specs.declared.placements.Placement.{Placement}
 use Rattle.match_puzzle.specs.declared.placements.Pair.{Pair}
-use Rattle.match_puzzle.proofs.Prefixes.{has_new}
+use Rattle.match_puzzle.proofs.Prefixes.{has_new, lifted_is}
 use Rattle.cert_check.specs.declared.faults.NodeFault.{NodeFault}
-use Rattle.cert_tree.specs.declared.trees.Node.{Node}
 use Rattle.cert_check.specs.Setting.{Setting}
-use Rattle.cert_tree.specs.Tree.{Tree, Forest, branch, more, count, tree_of, forest_of, IsNarrow, AreNarrow}
+use Rattle.cert_tree.specs.Tree.{Tree, Forest, branch, none, more, count}
 use Rattle.cert_check.specs.NodeRules.{IsBranch, Holds, EachHolds}
-use Rattle.cert_check.specs.TreeFaults.{BranchFails, node_rank, FailsAt, EachFails}
-use Rattle.cert_check.proofs.ListingLemmas.{IsLeft, left_start, next_is_head, left_more, some_next}
-use Rattle.cert_tree.proofs.TreeLemmas.{forest_of-drop, count-forest_of}
+use Rattle.cert_check.specs.TreeFaults.{FailsAt, EachFails}
 
 module _ (s : Setting) (item : Item) (q : Prefix) (trees : Forest) where
   -- How far the walk of a branch's children has come: those before the number hold, and these children and pairs are left.
-  pub record Going (number : ℕ) (left : Forest) (last : Option Pair) : Type 0 where
-    pub xs : List Pair
-    pub rest : List Pair
-    pub is : IsBranch s.puzzle q item (count trees) xs
-    pub many : length rest ≡ count left
-    pub next : IsLeft (item_key item) (FitsItem s.puzzle q item) (key_after item last) rest
-    pub holds : EachHolds s left q rest → EachHolds s trees q xs
-    pub fails : (n m : ℕ) (path : List ℕ) (fault : NodeFault) → m ≡ number + n → EachFails s left q rest n path fault → EachFails s trees q xs m path fault
+  pub record Going (number : ℕ) (left : Forest) (pairs : List Pair) : Type 0 where
+    pub all : List Pair
+    pub is : IsBranch s.puzzle q item (count trees) all
+    pub many : length pairs ≡ count left
+    pub fit : (x : Pair) → Contains pairs x → FitsItem s.puzzle q item x
+    pub holds : EachHolds s left q pairs → EachHolds s trees q all
+    pub fails : (n m : ℕ) (path : List ℕ) (fault : NodeFault) → m ≡ number + n → EachFails s left q pairs n path fault → EachFails s trees q all m path fault
 
-  pub going_start : (xs : List Pair) → IsBranch s.puzzle q item (count trees) xs → Going 0 trees None
-  going_start xs is = record {
-    xs = xs;
-    rest = xs;
+  pub going_start : (pairs : List Pair) → IsBranch s.puzzle q item (count trees) pairs → Going 0 trees pairs
+  going_start pairs is = record {
+    all = pairs;
     is = is;
     many = is.many;
-    next = left_start (item_key item) (FitsItem s.puzzle q item) xs is.fitting;
+    fit = is.fitting.only;
     holds = λ each. each;
-    fails = λ n m path fault e each. subst (λ k. EachFails s trees q xs k path fault) (let same : n ≡ m = omega arith in same) each;
+    fails = λ n m path fault e each. subst (λ k. EachFails s trees q pairs k path fault) (let same : n ≡ m = omega arith in same) each;
   }
 
-  -- while children are left there is a next pair
-  pub going_on : (number : ℕ) (tree : Tree) (left : Forest) (last : Option Pair) → Going number (more tree left) last → IsNext (item_key item) (FitsItem s.puzzle q item) (key_after item last) None → ⊥
-  going_on number tree left last g ended = some_next (item_key item) (FitsItem s.puzzle q item) (key_after item last) g.rest (let many = g.many in omega arith) g.next ended
+  -- while children are left, pairs are
+  pub going_on : (number : ℕ) (tree : Tree) (left : Forest) (pairs : List Pair) → Going number (more tree left) pairs → pairs ≡ [] → ⊥
+  going_on number tree left pairs g ended = let many = g.many in let no_more = ap length ended in omega (arith, many, no_more)
 
-  -- the pairs that are left, taken apart
-  record Next (rest : List Pair) (left : Forest) (x : Pair) : Type 0 where
-    tail : List Pair
-    is : rest ≡ x ∷ tail
-    many : length tail ≡ count left
-    next : IsLeft (item_key item) (FitsItem s.puzzle q item) (key_after item (Some x)) tail
+  module _ (number : ℕ) (tree : Tree) (left : Forest) (x : Pair) (pairs : List Pair) (g : Going number (more tree left) (x ∷ pairs)) where
+    pub going_fits : FitsItem s.puzzle q item x
+    going_fits = g.fit x (0, omega arith, refl)
 
-  next_of : (left : Forest) (tree : Tree) (last : Option Pair) (x : Pair) (rest : List Pair) → length rest ≡ count (more tree left) → IsLeft (item_key item) (FitsItem s.puzzle q item) (key_after item last) rest →
-      IsNextAt (item_key item) (FitsItem s.puzzle q item) (key_after item last) x → Next rest left x
-  next_of left tree last x [] many h next = absurd (omega arith)
-  next_of left tree last x (y ∷ rest) many h next =
-      let same = next_is_head (item_key item) (FitsItem s.puzzle q item) (key_after item last) y rest x h next in
-      record {
-        tail = rest;
-        is = ap (λ z. z ∷ rest) same;
-        many = omega arith;
-        next = subst (λ z. IsLeft (item_key item) (FitsItem s.puzzle q item) (key_after item (Some z)) rest) same (left_more (item_key item) (FitsItem s.puzzle q item) (key_after item last) y rest h);
-      }
+    -- a child holds
+    pub going_more : Holds s tree (with_pair q x.cell x.placement) → Going (number + 1) left pairs
+    going_more holds = record {
+      all = g.all;
+      is = g.is;
+      many = let many = g.many in omega (arith, many);
+      fit = λ y c. g.fit y (suc c.0, omega (arith, c.1), c.2);
+      holds = λ each. g.holds (holds, each);
+      fails = λ n m path fault e each. g.fails (suc n) m path fault (omega arith) (holds, each);
+    }
 
-  -- a child holds
-  pub going_more : (number : ℕ) (tree : Tree) (left : Forest) (last : Option Pair) (x : Pair) → Going number (more tree left) last → IsNextAt (item_key item) (FitsItem s.puzzle q item) (key_after item last) x →
-      Holds s tree (with_pair q x.cell x.placement) → Going (number + 1) left (Some x)
-  going_more number tree left last x g next holds =
-      let w = next_of left tree last x g.rest g.many g.next next in
-      record {
-        xs = g.xs;
-        rest = w.tail;
-        is = g.is;
-        many = w.many;
-        next = w.next;
-        holds = λ each. g.holds (subst (EachHolds s (more tree left) q) (sym w.is) (holds, each));
-        fails = λ n m path fault e each. g.fails (suc n) m path fault (omega arith) (subst (λ xs. EachFails s (more tree left) q xs (suc n) path fault) (sym w.is) (holds, each));
-      }
-
-  -- a child fails
-  pub going_fault : (number : ℕ) (tree : Tree) (left : Forest) (last : Option Pair) (x : Pair) (path : List ℕ) (fault : NodeFault) → Going number (more tree left) last →
-      IsNextAt (item_key item) (FitsItem s.puzzle q item) (key_after item last) x → FailsAt s tree (with_pair q x.cell x.placement) path fault → FailsAt s (branch item trees) q (number ∷ path) fault
-  going_fault number tree left last x path fault g next fails =
-      let w = next_of left tree last x g.rest g.many g.next next in
-      (g.xs, g.is, g.fails 0 number path fault (omega arith) (subst (λ xs. EachFails s (more tree left) q xs 0 path fault) (sym w.is) fails))
+    -- a child fails
+    pub going_fault : (path : List ℕ) (fault : NodeFault) → FailsAt s tree (with_pair q x.cell x.placement) path fault → FailsAt s (branch item trees) q (number ∷ path) fault
+    going_fault path fault fails = (g.all, g.is, g.fails 0 number path fault (omega arith) fails)
 
 -- how many cells are free
 abbrev pub free_count : Prefix → ℕ
@@ -104,33 +75,6 @@ free_count-placed (Some y ∷ q) zero x free = absurd (taken free)
 free_count-placed (None ∷ q) (suc cell) x free = omega (arith, free_count-placed q cell x free)
 free_count-placed (Some y ∷ q) (suc cell) x free = free_count-placed q cell x free
 
--- a placement that was put and taken away
-pub lifted_is : (q : Prefix) (cell : ℕ) (x : Placement) → IsFree q cell → without_cell (with_pair q cell x) cell ≡ q
-lifted_is [] cell x free = refl
-lifted_is (y ∷ q) zero x free = ap (λ z. z ∷ q) (inside_some (sym free))
-  where
-    inside_some : {X : Type 0} {a b : X} → Some a ≡ Some b → a ≡ b
-    inside_some e = cc
-lifted_is (y ∷ q) (suc cell) x free = ap (λ z. y ∷ z) (lifted_is q cell x free)
-
--- the children of a narrow branch
-pub narrow_children : (node : Node) (item : Item) (nodes children : List Node) → tree_of node ≡ branch item (forest_of nodes) → children ≡ nodes → IsNarrow (tree_of node) → (length children < 2 ^ 32) × AreNarrow (forest_of children)
-narrow_children node item nodes children is same narrow =
-    let h = subst IsNarrow is narrow in
-    (omega (arith, h.0, count-forest_of nodes, ap length same), subst (λ xs. AreNarrow (forest_of xs)) (sym same) h.1)
-
-module _ (s : Setting) (item : Item) (children : List Node) where
-  -- a branch's own fault
-  pub own_fault : (q : Prefix) (fault : NodeFault) → IsFirst node_rank (BranchFails s.puzzle q item (length children)) fault → FailsAt s (branch item (forest_of children)) q [] fault
-  own_fault q fault h = subst (λ n. IsFirst node_rank (BranchFails s.puzzle q item n) fault) (sym (count-forest_of children)) h
-
-  pub own_pairs : (q : Prefix) (xs : List Pair) → IsBranch s.puzzle q item (length children) xs → IsBranch s.puzzle q item (count (forest_of children)) xs
-  own_pairs q xs h = subst (λ n. IsBranch s.puzzle q item n xs) (sym (count-forest_of children)) h
-
-  -- the children from this one on
-  pub left_is : (number : ℕ) (child : Node) → number < length children → child ≡ get_or children number child → forest_of (drop number children) ≡ more (tree_of child) (forest_of (drop (number + 1) children))
-  left_is number child lt at = forest_of-drop children number child lt ∙ ap (λ node. more (tree_of node) (forest_of (drop (number + 1) children))) (sym at)
-
 -- a layout with one more pair
 abbrev pub grown : Layout → Pair → Layout
 grown w x = record { puzzle = w.puzzle; placed = with_pair w.placed x.cell x.placement }
@@ -144,58 +88,40 @@ after_place v w n x e is = is ∙ ap (λ u. grown u x) e
 pub after_lift : (w n m : Layout) (x : Pair) → IsFree w.placed x.cell → n ≡ grown w x → m ≡ shrunk n x.cell → m ≡ w
 after_lift w n m x free is last = last ∙ ap (λ u. shrunk u x.cell) is ∙ ap (λ (z : Prefix). let v : Layout = record { puzzle = w.puzzle; placed = z } in v) (lifted_is w.placed x.cell x.placement free)
 
--- a turn of the loop over the children of a branch: what is placed now is what was placed before
-pub record Turn (s : Setting) (item : Item) (children : List Node) (before now : Layout) (number : ℕ) (child : Node) (last : Option Pair) : Type 0 where
-  pub within : number < length children
-  pub at : child ≡ get_or children number child
+-- ---- the trees that are left
+
+pub some_left : (n : ℕ) (trees : Forest) → 0 < n → n ≤ count trees → trees ≢ none
+some_left n none some le e = omega arith
+some_left n (more tree trees) some le e = cc
+
+-- ---- a turn of the loop over the children of a branch
+
+-- what is placed now is what was placed before, and this child and the others are left, with this pair and the others
+pub record Turn (s : Setting) (item : Item) (trees : Forest) (before now : Layout) (number : ℕ) (child : Tree) (rest : Forest) (x : Pair) (pairs : List Pair) : Type 0 where
   pub same : now ≡ before
-  pub going : Going s item before.placed (forest_of children) number (forest_of (drop number children)) last
-  pub narrow : AreNarrow (forest_of (drop number children))
+  pub going : Going s item before.placed trees number (more child rest) (x ∷ pairs)
 
-module _ (s : Setting) (item : Item) (children : List Node) (w v : Layout) (number : ℕ) (child : Node) (last : Option Pair) (t : Turn s item children w v number child last) where
-  abbrev Rest : Forest
-  Rest = forest_of (drop (number + 1) children)
+module _ (s : Setting) (item : Item) (trees : Forest) (w v : Layout) (number : ℕ) (child : Tree) (rest : Forest) (x : Pair) (pairs : List Pair) (t : Turn s item trees w v number child rest x pairs) (n : Layout) (placed : n ≡ grown v x) where
+  free : IsFree w.placed x.cell
+  free = (going_fits s item w.placed trees number child rest x pairs t.going).1.free
 
-  abbrev IsNextIn : Layout → Option Pair → Type 0
-  IsNextIn u next = IsNext (item_key item) (FitsItem s.puzzle u.placed item) (key_after item last) next
+  pub turn_placed : n ≡ grown w x
+  turn_placed = after_place v w n x t.same placed
 
-  left : forest_of (drop number children) ≡ more (tree_of child) Rest
-  left = left_is s item children number child t.within t.at
+  pub turn_fewer : free_count n.placed + 1 ≡ free_count w.placed
+  turn_fewer = let e = ap (λ (u : Layout). free_count u.placed) turn_placed in omega (arith, e, free_count-placed w.placed x.cell x.placement free)
 
-  here : Going s item w.placed (forest_of children) number (more (tree_of child) Rest) last
-  here = subst (λ trees. Going s item w.placed (forest_of children) number trees last) left t.going
+  pub turn_fault : (path : List ℕ) (fault : NodeFault) → FailsAt s child n.placed path fault → FailsAt s (branch item trees) w.placed (number ∷ path) fault
+  turn_fault path fault fails =
+      going_fault s item w.placed trees number child rest x pairs t.going path fault (subst (λ (u : Layout). FailsAt s child u.placed path fault) turn_placed fails)
 
-  pub turn_narrow : AreNarrow (more (tree_of child) Rest)
-  turn_narrow = subst AreNarrow left t.narrow
+  -- the child holds, and nothing else was changed
+  module _ (after : Layout) (restored : after ≡ n) where
+    pub turn_has : Has after.placed x.cell x.placement
+    turn_has = subst (λ (u : Layout). Has u.placed x.cell x.placement) (sym (restored ∙ turn_placed)) (has_new w.placed x.cell x.placement free)
 
-  pub turn_on : IsNextIn v None → ⊥
-  turn_on ended = going_on s item w.placed (forest_of children) number (tree_of child) Rest last here (subst (λ (u : Layout). IsNextIn u None) t.same ended)
+    pub turn_lifted : (lifted : Layout) → lifted ≡ shrunk after x.cell → lifted ≡ w
+    turn_lifted lifted is = after_lift w after lifted x free (restored ∙ turn_placed) is
 
-  -- the pair is placed
-  module _ (x : Pair) (next : IsNextIn v (Some x)) (n : Layout) (placed : n ≡ grown v x) where
-    next_here : IsNextIn w (Some x)
-    next_here = subst (λ (u : Layout). IsNextIn u (Some x)) t.same next
-
-    free : IsFree w.placed x.cell
-    free = next_here.holds.1.free
-
-    pub turn_placed : n ≡ grown w x
-    turn_placed = after_place v w n x t.same placed
-
-    pub turn_fewer : free_count n.placed + 1 ≡ free_count w.placed
-    turn_fewer = let e = ap (λ (u : Layout). free_count u.placed) turn_placed in omega (arith, e, free_count-placed w.placed x.cell x.placement free)
-
-    pub turn_fault : (path : List ℕ) (fault : NodeFault) → FailsAt s (tree_of child) n.placed path fault → FailsAt s (branch item (forest_of children)) w.placed (number ∷ path) fault
-    turn_fault path fault fails =
-        going_fault s item w.placed (forest_of children) number (tree_of child) Rest last x path fault here next_here (subst (λ (u : Layout). FailsAt s (tree_of child) u.placed path fault) turn_placed fails)
-
-    -- the child holds, and nothing else was changed
-    module _ (after : Layout) (restored : after ≡ n) where
-      pub turn_has : Has after.placed x.cell x.placement
-      turn_has = subst (λ (u : Layout). Has u.placed x.cell x.placement) (sym (restored ∙ turn_placed)) (has_new w.placed x.cell x.placement free)
-
-      pub turn_lifted : (lifted : Layout) → lifted ≡ shrunk after x.cell → lifted ≡ w
-      turn_lifted lifted is = after_lift w after lifted x free (restored ∙ turn_placed) is
-
-      pub turn_more : Holds s (tree_of child) n.placed → Going s item w.placed (forest_of children) (number + 1) Rest (Some x)
-      turn_more holds = going_more s item w.placed (forest_of children) number (tree_of child) Rest last x here next_here (subst (λ (u : Layout). Holds s (tree_of child) u.placed) turn_placed holds)
+    pub turn_more : Holds s child n.placed → Going s item w.placed trees (number + 1) rest pairs
+    turn_more holds = going_more s item w.placed trees number child rest x pairs t.going (subst (λ (u : Layout). Holds s child u.placed) turn_placed holds)

@@ -5,5 +5,6 @@ pub mod Covered
 pub mod Derivation
 pub mod Answer
 pub mod Lists
+pub mod Repeats
 pub mod Walk
 pub mod Lines

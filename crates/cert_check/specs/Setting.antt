@@ -6,8 +6,8 @@ use Rattle.match_puzzle.specs.declared.placements.Placement.{Placement}
 use Rattle.match_puzzle.specs.declared.placements.Pair.{Pair}
 use Rattle.match_symmetry.specs.declared.lines.SymmetryLine.{SymmetryLine}
 use Rattle.match_symmetry.specs.Motion.{Motion}
-use Rattle.cert_tree.specs.declared.certificates.Lemma.{Lemma}
-use Rattle.cert_tree.specs.Certificate.{Contents, Piece, piece_of}
+use Rattle.cert_tree.specs.declared.certificates.FlatLemma.{FlatLemma}
+use Rattle.cert_tree.specs.Certificate.{Contents, Piece, flat_piece}
 
 -- what is asked of the checker: whether these are all arrangements of the puzzle, by these symmetries and lemmas
 pub record Question : Type 0 where
@@ -28,7 +28,7 @@ question_of puzzle listed certificate = record {
   puzzle = puzzle;
   listed = listed;
   symmetries = certificate.symmetries;
-  lemmas = map piece_of certificate.lemmas;
+  lemmas = map flat_piece certificate.lemmas;
 }
 
 -- the pairs that a lemma begins with
@@ -49,10 +49,10 @@ abbrev pub line_of : Motion → SymmetryLine
 line_of m = m.line
 
 -- the pairs that a lemma of the code begins with
-abbrev pub pairs_of : Lemma → List Pair
+abbrev pub pairs_of : FlatLemma → List Pair
 pairs_of lemma = lemma.prefix
 
-abbrev pub setting_of : Task → List (List Placement) → List Motion → List Lemma → Setting
+abbrev pub setting_of : Task → List (List Placement) → List Motion → List FlatLemma → Setting
 setting_of puzzle listed motions earlier = record {
   puzzle = puzzle;
   listed = listed;
@@ -65,10 +65,10 @@ abbrev pub AreOfPuzzle : Task → List Motion → Type 0
 AreOfPuzzle p motions = (number : ℕ) (m : Motion) → slice_get motions number ≡ Some m → m.puzzle ≡ p
 
 -- Each lemma begins with a prefix.
-abbrev pub BeginWithPrefixes : Task → List Lemma → Type 0
-BeginWithPrefixes p lemmas = (number : ℕ) (lemma : Lemma) → slice_get lemmas number ≡ Some lemma → IsPairList p lemma.prefix
+abbrev pub BeginWithPrefixes : Task → List FlatLemma → Type 0
+BeginWithPrefixes p lemmas = (number : ℕ) (lemma : FlatLemma) → slice_get lemmas number ≡ Some lemma → IsPairList p lemma.prefix
 
 -- what holds of each setting that the code makes
-pub record IsSetting (p : Task) (motions : List Motion) (earlier : List Lemma) : Type 0 where
+pub record IsSetting (p : Task) (motions : List Motion) (earlier : List FlatLemma) : Type 0 where
   pub symmetries : AreOfPuzzle p motions
   pub prefixes : BeginWithPrefixes p earlier

@@ -1,15 +1,17 @@
 // The check of a certificate.
 
-ghost use Rattle.std.specs.Prelude.{◌≡◌, ◌<◌, ◌^◌, ℕ, IfOk, MatchOption, Some, length, map, slice_get};
+ghost use Rattle.std.specs.Prelude.{◌≡◌, ◌<◌, ◌^◌, ℕ, IfOk, MatchOption, None, Some, length, map, slice_get};
 ghost use Rattle.match_board.specs.First.{IsFirst};
 ghost use Rattle.match_puzzle.specs.Puzzle.{IsPuzzle};
+ghost use Rattle.match_puzzle.specs.Prefix.{empty_prefix};
 ghost use Rattle.cert_check.specs.Setting.{question_of, line_of, AreOfPuzzle, BeginWithPrefixes};
 ghost use Rattle.cert_check.specs.Walk.{TellsOfLemma, TellsOfTrees, TellsOfListing};
 ghost use Rattle.cert_check.specs.Answer.{IsAnswer, IsCompleteList, AreCovered, OneAnswer};
 
 use crate::faults::{Answer, Fault, TreeFault};
-use crate::lists::{first_repeated, list_fault};
+use crate::lists::list_fault;
 use crate::prefixes::{ends_at_a_root, prefixes_fault};
+use crate::repeats::first_repeated;
 use crate::settings::Setting;
 use crate::symmetries::{SymmetriesFault, make_symmetries};
 use crate::walks::walk;
@@ -25,9 +27,9 @@ use std::alloc::{AllocError, Global};
 /// preorder; it does not mean that an arrangement is left out. An `Err` comes where memory is refused before a fault
 /// is found.
 ///
-/// The list is gone through twice, the second time with an ordered set of its members. Each tree is walked once, on
-/// one board for a lemma and with no memory for a node, at most one level deeper than there are cells; a citation
-/// costs at most the length of its prefix.
+/// The list is gone through twice; where its members don't rise, its places are sorted too, with sixteen bytes and
+/// O(log n) comparisons for each of n. Each tree is walked once, on one board for a lemma and with no memory for a
+/// node, at most one level deeper than there are cells; a citation costs at most the length of its prefix.
 pub fn check(
     alloc: Global,
     puzzle: &Puzzle,
@@ -94,12 +96,53 @@ fn trees_fault(
     ensures trees { IfOk result (TellsOfTrees (question_of puzzle.now listed.now certificate.now)) }
     ensures made { IfOk result (λ r. 0 < length certificate.now.lemmas → IsPuzzle puzzle.now) }
 {
+    let mut partial = Partial::new(alloc, puzzle)?;
     for lemma in 0..certificate.lemmas().len() as u32 {
-        if let Some(fault) = tree_fault(alloc, puzzle, listed, symmetries, certificate, lemma)? {
+        let fault = lemma_fault(
+            alloc,
+            puzzle,
+            listed,
+            symmetries,
+            certificate,
+            lemma,
+            &mut partial,
+        )?;
+        if let Some(fault) = fault {
             return Ok(Some((lemma, fault)));
         }
     }
     Ok(None)
+}
+
+// The same of one lemma, walked where nothing is placed before, and after it if it has no fault.
+fn lemma_fault(
+    alloc: Global,
+    puzzle: &Puzzle,
+    listed: &[Arrangement],
+    symmetries: &[Symmetry<'_>],
+    certificate: &Certificate,
+    lemma: u32,
+    partial: &mut Partial<'_>,
+) -> Result<Option<TreeFault>, AllocError>
+    requires puzzle { AreOfPuzzle puzzle.now symmetries.now }
+    requires lines { map line_of symmetries.now ≡ certificate.now.symmetries }
+    requires prefixes { BeginWithPrefixes puzzle.now certificate.now.lemmas }
+    requires lemma { lemma < length certificate.now.lemmas }
+    requires empty { partial.old ≡ record { puzzle = puzzle.now; placed = empty_prefix puzzle.now } }
+    ensures tree { IfOk result (TellsOfLemma (question_of puzzle.now listed.now certificate.now) lemma) }
+    ensures restored { IfOk result (λ fault. fault ≡ None → partial.new ≡ partial.old) }
+{
+    let lemmas = certificate.lemmas();
+    let number = lemma as usize;
+    let lemma = &lemmas[number];
+    let pairs = lemma.prefix.as_slice();
+    let setting = Setting::new(puzzle, listed, symmetries, &lemmas[..number]);
+    partial.place_all(pairs);
+    let fault = walk(alloc, &setting, &mut lemma.tree.trees(), partial)?;
+    if fault.is_none() {
+        partial.lift_all(pairs);
+    }
+    Ok(fault)
 }
 
 /// The first fault of the tree of the lemma with this number, in preorder, or none where it holds.
@@ -120,12 +163,16 @@ pub fn tree_fault(
     ensures tree { IfOk result (TellsOfLemma (question_of puzzle.now listed.now certificate.now) lemma) }
     ensures made { IfOk result (λ r. IsPuzzle puzzle.now) }
 {
-    let lemmas = certificate.lemmas();
-    let number = lemma as usize;
-    let lemma = &lemmas[number];
-    let setting = Setting::new(puzzle, listed, symmetries, &lemmas[..number]);
-    let mut partial = Partial::of(alloc, puzzle, lemma.prefix.as_slice())?;
-    walk(alloc, &setting, &lemma.tree, &mut partial)
+    let mut partial = Partial::new(alloc, puzzle)?;
+    lemma_fault(
+        alloc,
+        puzzle,
+        listed,
+        symmetries,
+        certificate,
+        lemma,
+        &mut partial,
+    )
 }
 
 /// Does nothing. Its promise is a law: a puzzle, a list and a certificate have no more than one answer.

@@ -6,6 +6,7 @@ mod faults;
 mod lists;
 mod nodes;
 mod prefixes;
+mod repeats;
 mod settings;
 mod symmetries;
 mod walks;

@@ -4,7 +4,7 @@ ghost use Rattle.std.specs.Prelude.{◌≡◌, ◌≤◌, ℕ, IfSome, None, Som
 ghost use Rattle.match_puzzle.specs.PrefixFaults.{IsPairList};
 ghost use Rattle.cert_check.specs.Setting.{setting_of, line_of, pairs_of, AreOfPuzzle, BeginWithPrefixes};
 
-use cert_tree::Lemma;
+use cert_tree::FlatLemma;
 use match_puzzle::{Arrangement, Pair, Puzzle};
 use match_symmetry::Symmetry;
 use std::marker::Model;
@@ -15,7 +15,7 @@ pub(crate) struct Setting<'a> {
     puzzle: &'a Puzzle,
     listed: &'a [Arrangement],
     symmetries: &'a [Symmetry<'a>],
-    earlier: &'a [Lemma],
+    earlier: &'a [FlatLemma],
 }
 
 impl<'a> Model for Setting<'a> {
@@ -34,7 +34,7 @@ impl<'a> Setting<'a> {
         puzzle: &'a Puzzle,
         listed: &'a [Arrangement],
         symmetries: &'a [Symmetry<'a>],
-        earlier: &'a [Lemma],
+        earlier: &'a [FlatLemma],
     ) -> Setting<'a>
         requires symmetries { AreOfPuzzle puzzle.now symmetries.now }
         requires prefixes { BeginWithPrefixes puzzle.now earlier.now }

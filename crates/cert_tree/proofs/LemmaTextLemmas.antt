@@ -24,7 +24,7 @@ use Rattle.cert_tree.specs.Certificate.{Piece}
 use Rattle.cert_tree.specs.CertificateText.{mirrored_in, symmetry_line, lemma_line}
 use Rattle.cert_tree.specs.CertificateSpelling.{mirrored_word, symmetry_words, pair_word, lemma_words, IsSymmetryWithin, IsPairWithin, IsLemmaWithin}
 use Rattle.cert_tree.specs.Entries.{entries_before}
-use Rattle.cert_tree.specs.Nodes.{tree_by}
+use Rattle.cert_tree.specs.TreeText.{tree_by}
 use Rattle.match_puzzle.specs.declared.items.Item.{Item}
 use Rattle.match_puzzle.specs.declared.items.Item.TheVariants as items
 use Rattle.cert_tree.specs.Tree.{Tree, Forest, branch, dead, found, same, image, none, more, count}

@@ -1,7 +1,11 @@
 pub mod TreeLemmas
+pub mod HeadLemmas
+pub mod ConversionLemmas
+pub mod HeadSpellingLemmas
 pub mod AssemblyLemmas
+pub mod NumberedLemmas
 pub mod OrderLemmas
-pub mod NodeLemmas
+pub mod TreeReadingLemmas
 pub mod EntryLemmas
 pub mod FieldLemmas
 pub mod TreeTextLemmas

@@ -10,18 +10,17 @@ use Rattle.match_text.specs.declared.faults.TextKind.TheVariants.{Ends}
 use Rattle.match_text.specs.Bytes.{line_ends}
 use Rattle.match_text.specs.Place.{fail}
 use Rattle.cert_tree.specs.declared.certificates.Lemma.{Lemma}
+use Rattle.cert_tree.specs.declared.certificates.FlatLemma.{FlatLemma}
 use Rattle.cert_tree.specs.declared.faults.AssembleFault.{AssembleFault}
 use Rattle.cert_tree.specs.declared.faults.AssembleFault.TheVariants.{Stranger, Double, Missing, Memory}
 use Rattle.cert_tree.specs.declared.faults.LemmaTextFault.{LemmaTextFault}
 use Rattle.cert_tree.specs.declared.faults.CertTextFault.{CertTextFault}
 use Rattle.cert_tree.specs.Faults.{of_assembly}
-use Rattle.cert_tree.specs.Tree.{Tree, Forest, branch, dead, found, same, image, none, more, tree_of, IsNarrow, AreNarrow}
-use Rattle.cert_tree.specs.Certificate.{Contents, Piece, piece_of, number_of, piece_number}
+use Rattle.cert_tree.specs.Certificate.{Contents, Piece, piece_of, flat_piece, number_of, piece_number}
 use Rattle.cert_tree.specs.Assembly.{how_often, IsOnly, IsAssembly, AssemblyFails, assembly_rank, Assembles}
 use Rattle.cert_tree.specs.CertificateText.{Said, lemma_of, LemmaGives, certificate_of, Makes, CertificateGives}
 use Rattle.cert_tree.specs.CertificateSpelling.{lemma_spelling, certificate_spelling, IsSymmetryWithin, IsLemmaWithin, IsCertificateWithin}
 use Rattle.cert_tree.specs.Writing.{said_by}
-use Rattle.cert_tree.specs.TreeSpelling.{IsTreeWithin, AreTreesWithin}
 use Rattle.cert_tree.proofs.AssemblyLemmas.{often-cons, later_contained}
 use Rattle.cert_tree.proofs.CertificateTextLemmas.{lemma_found, lemma_only, lemma_short, certificate_found, certificate_only, certificate_short}
 
@@ -39,84 +38,61 @@ pub cut_of : (text : List ℕ) (result : Result Lemma LemmaTextFault) → LemmaG
 cut_of text result gives piece k fits lt e =
     subst (λ outcome. LemmaGives result outcome) (ap lemma_of e ∙ lemma_short (lemma_spelling piece) piece k (lemma_only piece fits) lt ∙ ap (λ t. fail (line_ends t + 1) Ends) (sym e)) gives
 
--- ---- within the limits of a text no branch has too many children
-
-mutual
-  narrow_within : (room : ℕ) (tree : Tree) → IsTreeWithin room tree → IsNarrow tree
-  narrow_within zero tree fits = absurd fits
-  narrow_within (suc room) (branch item children) fits = (omega (arith, fits.2), narrow_forest room children fits.3)
-  narrow_within (suc room) (dead item) fits = tt
-  narrow_within (suc room) (found number) fits = tt
-  narrow_within (suc room) (same lemma) fits = tt
-  narrow_within (suc room) (image lemma symmetry) fits = tt
-
-  narrow_forest : (room : ℕ) (trees : Forest) → AreTreesWithin room trees → AreNarrow trees
-  narrow_forest room none fits = tt
-  narrow_forest room (more tree trees) fits = (narrow_within room tree fits.0, narrow_forest room trees fits.1)
-
-pub narrow_lemma : (lemma : Lemma) → IsLemmaWithin (piece_of lemma) → IsNarrow (tree_of lemma.tree)
-narrow_lemma lemma fits = narrow_within 101 (tree_of lemma.tree) fits.tree
-
-pub narrow_lemmas : (lemmas : List Lemma) → AllByRecursion IsLemmaWithin (map piece_of lemmas) → All (λ lemma. IsNarrow (tree_of lemma.tree)) lemmas
-narrow_lemmas [] fits k d lt = absurd (omega (arith, lt))
-narrow_lemmas (l ∷ lemmas) fits zero d lt = narrow_lemma l fits.0
-narrow_lemmas (l ∷ lemmas) fits (suc k) d lt = narrow_lemmas lemmas fits.1 k d (omega (arith, lt))
-
-pub short_lemmas : (lemmas : List Lemma) → AllByRecursion IsLemmaWithin (map piece_of lemmas) → All (λ lemma. length lemma.prefix < 2 ^ 32) lemmas
+pub short_lemmas : (lemmas : List FlatLemma) → AllByRecursion IsLemmaWithin (map flat_piece lemmas) → All (λ lemma. length lemma.prefix < 2 ^ 32) lemmas
 short_lemmas [] fits k d lt = absurd (omega (arith, lt))
 short_lemmas (l ∷ lemmas) fits zero d lt = omega (arith, fits.0.few_pairs)
 short_lemmas (l ∷ lemmas) fits (suc k) d lt = short_lemmas lemmas fits.1 k d (omega (arith, lt))
 
 -- ---- lemmas are assembled as their pieces are
 
-often-map : (lemmas : List Lemma) (n : ℕ) → how_often piece_number (map piece_of lemmas) n ≡ how_often number_of lemmas n
+often-map : (lemmas : List FlatLemma) (n : ℕ) → how_often piece_number (map flat_piece lemmas) n ≡ how_often number_of lemmas n
 often-map [] n = refl
 often-map (lemma ∷ lemmas) n =
-    often-cons piece_number (piece_of lemma) (map piece_of lemmas) n ∙ ap (λ m. cond (eqb lemma.number n) 1 0 + m) (often-map lemmas n) ∙ sym (often-cons number_of lemma lemmas n)
+    often-cons piece_number (flat_piece lemma) (map flat_piece lemmas) n ∙ ap (λ m. cond (eqb lemma.number n) 1 0 + m) (often-map lemmas n) ∙ sym (often-cons number_of lemma lemmas n)
 
-contained_map : (lemmas : List Lemma) (lemma : Lemma) → Contains lemmas lemma → Contains (map piece_of lemmas) (piece_of lemma)
+contained_map : (lemmas : List FlatLemma) (lemma : FlatLemma) → Contains lemmas lemma → Contains (map flat_piece lemmas) (flat_piece lemma)
 contained_map [] lemma at = absurd (omega (arith, at.1))
-contained_map (l ∷ lemmas) lemma (zero, at, is) = (0, omega arith, ap piece_of is)
-contained_map (l ∷ lemmas) lemma (suc k, at, is) = later_contained (piece_of lemma) (piece_of l) (map piece_of lemmas) (contained_map lemmas lemma (k, omega (arith, at), is))
+contained_map (l ∷ lemmas) lemma (zero, at, is) = (0, omega arith, ap flat_piece is)
+contained_map (l ∷ lemmas) lemma (suc k, at, is) = later_contained (flat_piece lemma) (flat_piece l) (map flat_piece lemmas) (contained_map lemmas lemma (k, omega (arith, at), is))
 
 -- what stands at a place of the pieces
-pub piece_at : (lemmas : List Lemma) (n : ℕ) (piece : Piece) → slice_get (map piece_of lemmas) n ≡ Some piece → (lemma : Lemma) × (slice_get lemmas n ≡ Some lemma) × (piece ≡ piece_of lemma)
+pub piece_at : (lemmas : List FlatLemma) (n : ℕ) (piece : Piece) → slice_get (map flat_piece lemmas) n ≡ Some piece → (lemma : FlatLemma) × (slice_get lemmas n ≡ Some lemma) × (piece ≡ flat_piece lemma)
 piece_at [] n piece e = absurd cc
 piece_at (l ∷ lemmas) zero piece e = (l, refl, inside (sym e))
 piece_at (l ∷ lemmas) (suc n) piece e = piece_at lemmas n piece e
 
-only_map : (pieces : List Lemma) (n : ℕ) (lemma : Lemma) → IsOnly number_of pieces n lemma → IsOnly piece_number (map piece_of pieces) n (piece_of lemma)
+only_map : (pieces : List FlatLemma) (n : ℕ) (lemma : FlatLemma) → IsOnly number_of pieces n lemma → IsOnly piece_number (map flat_piece pieces) n (flat_piece lemma)
 only_map pieces n lemma is = record { among = contained_map pieces lemma is.among; number = is.number; once = often-map pieces n ∙ is.once }
 
-assembly_map : (count : ℕ) (pieces lemmas : List Lemma) → IsAssembly number_of count pieces lemmas → IsAssembly piece_number count (map piece_of pieces) (map piece_of lemmas)
+assembly_map : (count : ℕ) (pieces lemmas : List FlatLemma) → IsAssembly number_of count pieces lemmas → IsAssembly piece_number count (map flat_piece pieces) (map flat_piece lemmas)
 assembly_map count pieces lemmas is = record {
-  many = length-map lemmas piece_of ∙ is.many;
-  only = λ n piece at. let l = piece_at lemmas n piece at in subst (IsOnly piece_number (map piece_of pieces) n) (sym l.2) (only_map pieces n l.0 (is.only n l.0 l.1));
+  many = length-map lemmas flat_piece ∙ is.many;
+  only = λ n piece at. let l = piece_at lemmas n piece at in subst (IsOnly piece_number (map flat_piece pieces) n) (sym l.2) (only_map pieces n l.0 (is.only n l.0 l.1));
   no_stranger = λ n past. often-map pieces n ∙ is.no_stranger n past;
 }
 
-fails_map : (count : ℕ) (pieces : List Lemma) (fault : AssembleFault) → AssemblyFails number_of count pieces fault → AssemblyFails piece_number count (map piece_of pieces) fault
+fails_map : (count : ℕ) (pieces : List FlatLemma) (fault : AssembleFault) → AssemblyFails number_of count pieces fault → AssemblyFails piece_number count (map flat_piece pieces) fault
 fails_map count pieces (Stranger n) fails = (fails.0, λ e. fails.1 (sym (often-map pieces n) ∙ e))
 fails_map count pieces (Double n) fails = omega (arith, fails, often-map pieces n)
 fails_map count pieces (Missing n) fails = (fails.0, often-map pieces n ∙ fails.1)
 fails_map count pieces Memory fails = fails
 
-fails_back : (count : ℕ) (pieces : List Lemma) (fault : AssembleFault) → AssemblyFails piece_number count (map piece_of pieces) fault → AssemblyFails number_of count pieces fault
+fails_back : (count : ℕ) (pieces : List FlatLemma) (fault : AssembleFault) → AssemblyFails piece_number count (map flat_piece pieces) fault → AssemblyFails number_of count pieces fault
 fails_back count pieces (Stranger n) fails = (fails.0, λ e. fails.1 (often-map pieces n ∙ e))
 fails_back count pieces (Double n) fails = omega (arith, fails, often-map pieces n)
 fails_back count pieces (Missing n) fails = (fails.0, sym (often-map pieces n) ∙ fails.1)
 fails_back count pieces Memory fails = fails
 
-first_map : (count : ℕ) (pieces : List Lemma) (fault : AssembleFault) → IsFirst assembly_rank (AssemblyFails number_of count pieces) fault → IsFirst assembly_rank (AssemblyFails piece_number count (map piece_of pieces)) fault
+first_map : (count : ℕ) (pieces : List FlatLemma) (fault : AssembleFault) → IsFirst assembly_rank (AssemblyFails number_of count pieces) fault → IsFirst assembly_rank (AssemblyFails piece_number count (map flat_piece pieces)) fault
 first_map count pieces fault is = record { occurs = fails_map count pieces fault is.occurs; first = λ other fails. is.first other (fails_back count pieces other fails) }
 
-pub assembles_map : (count : ℕ) (pieces : List Lemma) (fault : AssembleFault) → Assembles number_of count pieces (Err fault) → Assembles piece_number count (map piece_of pieces) (Err fault)
+pub assembles_map : (count : ℕ) (pieces : List FlatLemma) (fault : AssembleFault) → Assembles number_of count pieces (Err fault) → Assembles piece_number count (map flat_piece pieces) (Err fault)
 assembles_map count pieces (Stranger n) is = first_map count pieces (Stranger n) is
 assembles_map count pieces (Double n) is = first_map count pieces (Double n) is
 assembles_map count pieces (Missing n) is = first_map count pieces (Missing n) is
 assembles_map count pieces Memory is = tt
 
-pub assembled_map : (count : ℕ) (pieces lemmas : List Lemma) → Assembles number_of count pieces (Ok lemmas) → Assembles piece_number count (map piece_of pieces) (Ok (map piece_of lemmas))
+pub assembled_map : (count : ℕ) (pieces lemmas : List FlatLemma) → Assembles number_of count pieces (Ok lemmas) → Assembles piece_number count (map flat_piece pieces) (Ok (map flat_piece lemmas))
 assembled_map count pieces lemmas is = assembly_map count pieces lemmas is
 
 -- ---- a certificate
@@ -160,7 +136,7 @@ made_within said c fits made = record {
   few_symmetries = subst (λ gs. length gs ≤ 1024) (sym made.0) fits.few_symmetries;
   symmetries = subst (AllByRecursion IsSymmetryWithin) (sym made.0) fits.symmetries;
   few_pieces = omega (arith, made.1.many, fits.few_pieces);
-  pieces = all_within (map piece_of c.lemmas) (λ n piece at. contained_within said.pieces fits.pieces piece (made.1.only n piece at).among);
+  pieces = all_within (map flat_piece c.lemmas) (λ n piece at. contained_within said.pieces fits.pieces piece (made.1.only n piece at).among);
 }
 
 pub certificate_within_of : (text : List ℕ) (result : Result Contents CertTextFault) → CertificateGives result (certificate_of text) → IfOk result (λ c. IsCertificateWithin (said_by c))

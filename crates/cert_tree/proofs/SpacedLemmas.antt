@@ -1,45 +1,15 @@
 -- Words that are written behind one another.
-use Rattle.std.proofs.Common.{◌≡◌, ℕ, List, [], ◌∷◌, ◌++◌, length, map, Result, Ok, Err, refl, sym, ap, ◌∙◌, append_assoc, codes}
+use Rattle.std.proofs.Common.{◌≡◌, ℕ, List, [], ◌∷◌, ◌++◌, map, refl, sym, ap, ◌∙◌, append_assoc, codes}
 use Rattle.std.specs.Fmt.{decimal}
 use Rattle.std.specs.List.{join_with_byte}
-use Rattle.std.specs.Prelude.{OnOk}
 use Rattle.std.proofs.lemmas.List.{append-nil}
 use Rattle.std.proofs.lemmas.List.Concat.{flat_map-append}
 use Rattle.match_symmetry.specs.declared.lines.SymmetryLine.{SymmetryLine}
 use Rattle.match_text.specs.Spelling.{line_text, colour_word}
-use Rattle.cert_tree.specs.declared.trees.Node.{Node}
-use Rattle.cert_tree.specs.Tree.{Tree, forest_of, count}
-use Rattle.cert_tree.proofs.TreeLemmas.{count-forest_of}
 use Rattle.cert_tree.specs.Certificate.{Piece}
-use Rattle.cert_tree.specs.TreeSpelling.{tree_words, forest_words}
+use Rattle.cert_tree.specs.TreeSpelling.{tree_words}
 use Rattle.cert_tree.specs.CertificateSpelling.{mirrored_word, symmetry_words, pair_word, lemma_words}
 use Rattle.cert_tree.specs.Writing.{spaced}
-
--- what follows from what a call ensures
-pub on_ok : {T E P Q : Type 0} (result : Result T E) → (P → Q) → OnOk result P → OnOk result Q
-on_ok (Ok x) f p = f p
-on_ok (Err e) f p = tt
-
--- ---- nodes
-
-pub leaf_written : (old new letter word : List ℕ) (tree : Tree) → tree_words tree ≡ letter ∷ word ∷ [] → new ≡ old ++ ((32 ∷ letter) ++ (32 ∷ word)) → new ≡ old ++ spaced (tree_words tree)
-leaf_written old new letter word tree words written =
-    written ∙ ap (λ t. old ++ ((32 ∷ letter) ++ t)) (sym (append-nil (32 ∷ word))) ∙ ap (λ ws. old ++ spaced ws) (sym words)
-
-pub branch_written : (old mid new letter word : List ℕ) (tree : Tree) (nodes slice : List Node) → tree_words tree ≡ letter ∷ word ∷ decimal (count (forest_of nodes)) ∷ forest_words (forest_of nodes) → slice ≡ nodes
-    → mid ≡ old ++ ((32 ∷ letter) ++ (32 ∷ word)) → new ≡ mid ++ spaced (decimal (length slice) ∷ forest_words (forest_of slice)) → new ≡ old ++ spaced (tree_words tree)
-branch_written old mid new letter word tree nodes slice words same first written =
-    let children = spaced (decimal (length nodes) ∷ forest_words (forest_of nodes)) in
-    let front = (32 ∷ letter) ++ (32 ∷ word) in
-    let together : (old ++ front) ++ children ≡ old ++ ((32 ∷ letter) ++ ((32 ∷ word) ++ children)) = append_assoc old front children ∙ ap (λ t. old ++ t) (append_assoc (32 ∷ letter) (32 ∷ word) children) in
-    written ∙ ap (λ ns. mid ++ spaced (decimal (length ns) ∷ forest_words (forest_of ns))) same ∙ ap (λ t. t ++ children) first ∙ together
-    ∙ ap (λ n. old ++ ((32 ∷ letter) ++ ((32 ∷ word) ++ spaced (decimal n ∷ forest_words (forest_of nodes))))) (sym (count-forest_of nodes)) ∙ ap (λ ws. old ++ spaced ws) (sym words)
-
-pub image_written : (old mid new letter word last : List ℕ) (tree : Tree) → tree_words tree ≡ letter ∷ word ∷ last ∷ [] → mid ≡ old ++ ((32 ∷ letter) ++ (32 ∷ word)) → new ≡ mid ++ (32 ∷ last) → new ≡ old ++ spaced (tree_words tree)
-image_written old mid new letter word last tree words first written =
-    let front = (32 ∷ letter) ++ (32 ∷ word) in
-    written ∙ ap (λ t. t ++ (32 ∷ last)) first ∙ append_assoc old front (32 ∷ last) ∙ ap (λ t. old ++ t) (append_assoc (32 ∷ letter) (32 ∷ word) (32 ∷ last))
-    ∙ ap (λ t. old ++ ((32 ∷ letter) ++ ((32 ∷ word) ++ t))) (sym (append-nil (32 ∷ last))) ∙ ap (λ ws. old ++ spaced ws) (sym words)
 
 -- ---- lines
 

@@ -2,8 +2,8 @@
 use Rattle.std.proofs.Common.{◌≡◌, ℕ, ◌+◌, List, [], ◌∷◌, length, ap, sym, ◌∙◌, refl, arith, Vec, Global, ◌<◌, drop, get_or, drop-cons, add-one}
 use mathlib.Core.Former.{Count}
 use Rattle.match_puzzle.specs.declared.items.Item.TheVariants as items
-use Rattle.cert_tree.specs.declared.trees.Node.{Node, Cell, Tile, Cell', Tile', DeadCell, DeadTile, Found, Same, Image, Row_of-Node, end_of-Node, more_of-Node, items-the_row-Node, items_hidden-the_row-Node-0}
-use Rattle.cert_tree.specs.declared.trees.Children.{Children}
+use Rattle.cert_tree.specs.declared.nodes.Node.{Node, Cell, Tile, Cell', Tile', DeadCell, DeadTile, Found, Same, Image, Row_of-Node, end_of-Node, more_of-Node, items-the_row-Node, items_hidden-the_row-Node-0}
+use Rattle.cert_tree.specs.declared.nodes.Children.{Children}
 use Rattle.cert_tree.specs.Tree.{branch, dead, found, same, image, more, count, tree_of, trees_of, forest_of}
 
 trees_of-row : (n : _) (row : Row_of-Node n) → trees_of row ≡ forest_of (items-the_row-Node n row)

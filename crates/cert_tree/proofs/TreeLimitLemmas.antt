@@ -2,8 +2,8 @@
 use Rattle.std.proofs.Common.{◌≡◌, ◌≢◌, ℕ, zero, suc, ◌+◌, ◌-◌, ◌<◌, ◌≤◌, Bool, true, false, List, length, get_or, drop, refl, sym, subst, arith}
 use Rattle.std.specs.Prelude.{MatchBool}
 use Rattle.match_puzzle.specs.declared.items.Item.{Item}
-use Rattle.cert_tree.specs.declared.trees.Node.{Node}
-use Rattle.cert_tree.specs.Tree.{Tree, Forest, branch, tree_of, forest_of}
+use Rattle.cert_tree.specs.declared.nodes.Node.{Node}
+use Rattle.cert_tree.specs.Tree.{Tree, Forest, branch, dead, found, same, image, none, more, tree_of, forest_of, IsNarrow, AreNarrow}
 use Rattle.cert_tree.specs.TreeSpelling.{IsItemWithin, IsTreeWithin, AreTreesWithin, AreChildrenWithin}
 use Rattle.cert_tree.proofs.TreeLemmas.{count-forest_of, forest_of-drop}
 
@@ -28,17 +28,19 @@ pub branch_by_children : (room : ℕ) (item : Item) (children : Forest) (b : Boo
 branch_by_children room item children true some fits all = branch_again room item children some fits all
 branch_by_children room item children false some fits not = λ within. not (branch_parts room item children within).1
 
-some_level : (room : ℕ) (tree : Tree) → IsTreeWithin room tree → 1 ≤ room
-some_level zero tree fits = absurd fits
-some_level (suc room) tree fits = omega arith
+-- a tree within the limits of its text is narrow
+mutual
+  pub narrow_within : (room : ℕ) (tree : Tree) → IsTreeWithin room tree → IsNarrow tree
+  narrow_within zero tree fits = absurd fits
+  narrow_within (suc room) (branch item children) fits = (omega (arith, fits.2), all_narrow_within room children fits.3)
+  narrow_within (suc room) (dead item) fits = tt
+  narrow_within (suc room) (found number) fits = tt
+  narrow_within (suc room) (same lemma) fits = tt
+  narrow_within (suc room) (image lemma symmetry) fits = tt
 
--- the children of a branch that is within limits
-pub children_within : (room : ℕ) (tree : Tree) (item : Item) (children : Forest) (nodes : List Node) → tree ≡ branch item children → children ≡ forest_of nodes → IsTreeWithin room tree
-    → (1 ≤ room) × (length nodes ≤ 400) × AreTreesWithin (room - 1) (forest_of nodes)
-children_within room tree item children nodes is are fits =
-    let parts = branch_parts room item children (subst (IsTreeWithin room) is fits) in
-    let below = subst (AreChildrenWithin (room - 1)) are parts.1 in
-    (some_level room tree fits, omega (arith, below.1, count-forest_of nodes), below.2)
+  all_narrow_within : (room : ℕ) (trees : Forest) → AreTreesWithin room trees → AreNarrow trees
+  all_narrow_within room none fits = tt
+  all_narrow_within room (more tree trees) fits = (narrow_within room tree fits.0, all_narrow_within room trees fits.1)
 
 -- ---- a child
 
@@ -58,4 +60,4 @@ pub too_many : (room : ℕ) (nodes : List Node) → 400 < length nodes → AreCh
 too_many room nodes many within = omega (arith, many, within.1, count-forest_of nodes)
 
 pub too_few : (room : ℕ) (nodes : List Node) → length nodes ≤ 0 → AreChildrenWithin room (forest_of nodes) → ⊥
-too_few room nodes none within = omega (arith, none, within.0, count-forest_of nodes)
+too_few room nodes few within = omega (arith, few, within.0, count-forest_of nodes)

@@ -11,10 +11,10 @@ use Rattle.match_text.specs.Place.{Place, Read, ◌>>=◌, give, fail, word_by, 
 use Rattle.match_text.proofs.CutLemmas.{CutsShort, LineOnly, place, bind_ok, ok_is, cuts_bind, cuts_give, cuts_word, cuts_times, cuts_line_only}
 use Rattle.match_text.proofs.WordLemmas.{Spells, judged_ok, judged_ok_is, spells_number}
 use Rattle.match_text.proofs.LineLemmas.{TakesWords, takes_word}
-use Rattle.cert_tree.specs.declared.nodes.NodeKind.{NodeKind}
-use Rattle.cert_tree.specs.declared.nodes.NodeKind.TheVariants.{Cell, Tile, DeadCell, DeadTile, Found, Same, Image}
+use Rattle.cert_tree.specs.declared.tree_readers.NodeKind.{NodeKind}
+use Rattle.cert_tree.specs.declared.tree_readers.NodeKind.TheVariants.{Cell, Tile, DeadCell, DeadTile, Found, Same, Image}
 use Rattle.cert_tree.specs.Tree.{Tree, Forest, branch, dead, found, same, image, none, more, count}
-use Rattle.cert_tree.specs.Nodes.{node_kind_in, forest, children_by, node_by, too_deep_from, tree_by}
+use Rattle.cert_tree.specs.TreeText.{node_kind_in, forest, children_by, node_by, too_deep_from, tree_by}
 use Rattle.cert_tree.specs.TreeSpelling.{tree_words, forest_words, IsTreeWithin, AreTreesWithin}
 use Rattle.cert_tree.proofs.FieldLemmas.{takes_field, takes_as, times_words_is}
 

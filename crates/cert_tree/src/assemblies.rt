@@ -1,13 +1,14 @@
-// Certificates are assembled of numbered pieces.
+//! Certificates are assembled of numbered pieces.
 
-ghost use Rattle.std.specs.Prelude.{◌≡◌, ◌≢◌, ◌≤◌, ◌<◌, ◌^◌, ◌∷◌, [], ℕ, List, None, Some, Ok, Err, All, Contains, IfOk, IfErr, MatchBool, length, map, replicate};
-ghost use Rattle.cert_tree.specs.declared.certificates.Lemma.{Lemma as LemmaOf};
+ghost use Rattle.std.specs.Prelude.{◌≡◌, ◌↔◌, ◌≢◌, ◌≤◌, ◌<◌, ◌^◌, ◌∷◌, [], ℕ, List, None, Some, Ok, Err, All, Contains, IfOk, IfErr, IsTrue, MatchBool, length, map, replicate};
+ghost use Rattle.cert_tree.specs.declared.certificates.FlatLemma.{FlatLemma as LemmaOf};
+ghost use Rattle.cert_tree.specs.Certificate.{number_of, piece_number, piece_of, flat_piece};
 ghost use Rattle.cert_tree.specs.Tree.{tree_of, IsNarrow};
-ghost use Rattle.cert_tree.specs.Certificate.{number_of, piece_number};
 ghost use Rattle.cert_tree.specs.Assembly.{how_often, Assembles, TellsLeast, IsOneInAnyOrder};
 ghost use Rattle.cert_tree.specs.Slots.{lesser_of, stranger_of, IsPut, IsTaken, IsEntered, IsFirstEmpty};
 
-use crate::certificates::{Certificate, Lemma};
+use crate::certificates::{Certificate, FlatLemma, Lemma};
+use crate::conversions::flat_lemmas;
 use crate::faults::AssembleFault;
 use match_symmetry::SymmetryLine;
 use std::alloc::{AllocError, Global};
@@ -33,7 +34,7 @@ fn stranger_so_far(count: u32, least: Option<u32>, number: u32) -> Option<u32>
 }
 
 // The least number at or past the count that a piece has.
-fn least_stranger(pieces: &[Lemma], count: u32) -> Option<u32>
+fn least_stranger(pieces: &[FlatLemma], count: u32) -> Option<u32>
     ensures { TellsLeast (λ n. (count ≤ n) × (how_often number_of pieces.now n ≢ 0)) result }
 {
     let mut least = None;
@@ -44,10 +45,10 @@ fn least_stranger(pieces: &[Lemma], count: u32) -> Option<u32>
 }
 
 // A place for each number below the count, with nothing in it.
-fn empty_slots(alloc: Global, count: u32) -> Result<Vec<Option<Lemma>>, AllocError>
+fn empty_slots(alloc: Global, count: u32) -> Result<Vec<Option<FlatLemma>>, AllocError>
     ensures { IfOk result (λ slots. slots.items ≡ replicate count None) }
 {
-    let mut slots = Vec::new(alloc);
+    let mut slots = Vec::with_capacity(alloc, count as usize)?;
     for _ in 0..count {
         slots.push(None)?;
     }
@@ -55,7 +56,7 @@ fn empty_slots(alloc: Global, count: u32) -> Result<Vec<Option<Lemma>>, AllocErr
 }
 
 // Puts the piece into the place of its number, if nothing is there; whether it did.
-fn put(slots: &mut Vec<Option<Lemma>>, piece: Lemma) -> bool
+fn put(slots: &mut Vec<Option<FlatLemma>>, piece: FlatLemma) -> bool
     requires { piece.number < length slots.old.items }
     ensures { MatchBool result (IsPut slots.old.items slots.new.items piece) (IsTaken slots.old.items slots.new.items piece) }
 {
@@ -68,7 +69,7 @@ fn put(slots: &mut Vec<Option<Lemma>>, piece: Lemma) -> bool
 }
 
 // The same, and answers the least number that more than one piece has, by that of the pieces before.
-fn enter(slots: &mut Vec<Option<Lemma>>, double: Option<u32>, piece: Lemma) -> Option<u32>
+fn enter(slots: &mut Vec<Option<FlatLemma>>, double: Option<u32>, piece: FlatLemma) -> Option<u32>
     requires { piece.number < length slots.old.items }
     ensures long { length slots.new.items ≡ length slots.old.items }
     ensures entered { (before : List LemmaOf) → IsEntered before slots.old.items double → IsEntered (piece ∷ before) slots.new.items result }
@@ -81,7 +82,7 @@ fn enter(slots: &mut Vec<Option<Lemma>>, double: Option<u32>, piece: Lemma) -> O
 }
 
 // Puts each piece into the place of its number, and answers the least number that more than one piece has.
-fn fill(slots: &mut Vec<Option<Lemma>>, mut pieces: Vec<Lemma>) -> Option<u32>
+fn fill(slots: &mut Vec<Option<FlatLemma>>, mut pieces: Vec<FlatLemma>) -> Option<u32>
     requires empty { IsEntered [] slots.old.items None }
     requires below { (piece : LemmaOf) → Contains pieces.items piece → piece.number < length slots.old.items }
     ensures long { length slots.new.items ≡ length slots.old.items }
@@ -95,12 +96,15 @@ fn fill(slots: &mut Vec<Option<Lemma>>, mut pieces: Vec<Lemma>) -> Option<u32>
 }
 
 // What stands in the places, in order. Missing, where one is empty.
-fn take_each(alloc: Global, mut slots: Vec<Option<Lemma>>) -> Result<Vec<Lemma>, AssembleFault>
+fn take_each(
+    alloc: Global,
+    mut slots: Vec<Option<FlatLemma>>,
+) -> Result<Vec<FlatLemma>, AssembleFault>
     requires { length slots.items < 2 ^ 32 }
     ensures all { IfOk result (λ lemmas. map Some lemmas.items ≡ slots.items) }
     ensures missing { IfErr result (IsFirstEmpty slots.items) }
 {
-    let mut lemmas = Vec::new(alloc);
+    let mut lemmas = Vec::with_capacity(alloc, slots.len())?;
     for number in 0..slots.len() {
         let Some(lemma) = slots[number].take() else {
             return Err(AssembleFault::Missing(number as u32));
@@ -111,7 +115,11 @@ fn take_each(alloc: Global, mut slots: Vec<Option<Lemma>>) -> Result<Vec<Lemma>,
 }
 
 // The pieces by number, each of which is below the count.
-fn in_order(alloc: Global, count: u32, pieces: Vec<Lemma>) -> Result<Vec<Lemma>, AssembleFault>
+fn in_order(
+    alloc: Global,
+    count: u32,
+    pieces: Vec<FlatLemma>,
+) -> Result<Vec<FlatLemma>, AssembleFault>
     requires { (n : ℕ) → count ≤ n → how_often number_of pieces.items n ≡ 0 }
     ensures ok { IfOk result (λ lemmas. Assembles number_of count pieces.items (Ok lemmas.items)) }
     ensures err { IfErr result (λ fault. Assembles number_of count pieces.items (Err fault)) }
@@ -123,10 +131,53 @@ fn in_order(alloc: Global, count: u32, pieces: Vec<Lemma>) -> Result<Vec<Lemma>,
     take_each(alloc, slots)
 }
 
+// Whether the pieces stand in the order of their numbers, and none below the count is missing.
+fn are_assembled(pieces: &[FlatLemma], count: u32) -> bool
+    ensures { IsTrue result ↔ Assembles number_of count pieces.now (Ok pieces.now) }
+{
+    if pieces.len() != count as usize {
+        return false;
+    }
+    for (place, piece) in pieces.iter().enumerate() {
+        if piece.number as usize != place {
+            return false;
+        }
+    }
+    true
+}
+
+// The certificate of these symmetries, whose lemma i is the only piece with number i. Pieces in the order of their
+// numbers, as a certificate is written, are the lemmas as they stand; others are put into a table first.
+pub(crate) fn assemble_flat(
+    alloc: Global,
+    count: u32,
+    symmetries: Vec<SymmetryLine>,
+    pieces: Vec<FlatLemma>,
+) -> Result<Certificate, AssembleFault>
+    requires count { count ≤ 1000000 }
+    requires symmetries { length symmetries.items < 2 ^ 32 }
+    requires prefixes { All (λ piece. length piece.prefix < 2 ^ 32) pieces.items }
+    ensures symmetries { IfOk result (λ certificate. certificate.symmetries ≡ symmetries.items) }
+    ensures lemmas { IfOk result (λ certificate. Assembles number_of count pieces.items (Ok certificate.lemmas)) }
+    ensures fault { IfErr result (λ fault. Assembles number_of count pieces.items (Err fault)) }
+{
+    if are_assembled(&pieces, count) {
+        return Ok(Certificate::of(symmetries, pieces));
+    }
+    if let Some(number) = least_stranger(&pieces, count) {
+        return Err(AssembleFault::Stranger(number));
+    }
+    let lemmas = in_order(alloc, count, pieces)?;
+    Ok(Certificate::of(symmetries, lemmas))
+}
+
 /// The certificate of these symmetries, whose lemma i is the only piece with number i.
 ///
 /// An `Err` is the first fault in the order of [`AssembleFault`], with its least number: `Stranger`, `Double`,
 /// `Missing`; `Memory` only where memory is refused. The order of the pieces doesn't matter. On an `Err` all are dropped.
+///
+/// The trees are laid out flat by a recursion that is as deep as they are, into 8 bytes a node beside the pieces. The
+/// rest takes a step for each piece and each number below the count.
 pub fn assemble(
     alloc: Global,
     count: u32,
@@ -138,14 +189,11 @@ pub fn assemble(
     requires prefixes { All (λ piece. length piece.prefix < 2 ^ 32) pieces.items }
     requires narrow { All (λ piece. IsNarrow (tree_of piece.tree)) pieces.items }
     ensures symmetries { IfOk result (λ certificate. certificate.symmetries ≡ symmetries.items) }
-    ensures lemmas { IfOk result (λ certificate. Assembles number_of count pieces.items (Ok certificate.lemmas)) }
-    ensures fault { IfErr result (λ fault. Assembles number_of count pieces.items (Err fault)) }
+    ensures lemmas { IfOk result (λ certificate. Assembles piece_number count (map piece_of pieces.items) (Ok (map flat_piece certificate.lemmas))) }
+    ensures fault { IfErr result (λ fault. Assembles piece_number count (map piece_of pieces.items) (Err fault)) }
 {
-    if let Some(number) = least_stranger(&pieces, count) {
-        return Err(AssembleFault::Stranger(number));
-    }
-    let lemmas = in_order(alloc, count, pieces)?;
-    Ok(Certificate::of(symmetries, lemmas))
+    let flat = flat_lemmas(alloc, &pieces)?;
+    assemble_flat(alloc, count, symmetries, flat)
 }
 
 /// A law: the same lemmas, in whatever order they come, make the same certificate, or have the same first fault. The

@@ -1,6 +1,7 @@
-// Lemmas, and certificates that are made of them.
+//! Lemmas, and certificates that are made of them.
 
-use crate::trees::Node;
+use crate::flat_trees::FlatTree;
+use crate::nodes::Node;
 use match_puzzle::Pair;
 use match_symmetry::SymmetryLine;
 use std::marker::Model;
@@ -39,6 +40,9 @@ impl Pairs {
 }
 
 /// A claim that each arrangement which extends the prefix is listed, or has an image that is, and a tree that shows it.
+///
+/// The nodes own their children, so that a tree can be built from its leaves or from its root. A certificate keeps its
+/// lemmas as [`FlatLemma`].
 #[derive(Drop)]
 pub struct Lemma {
     /// Which lemma of its certificate it is, from 0.
@@ -48,24 +52,35 @@ pub struct Lemma {
     pub tree: Node,
 }
 
+/// A lemma of a certificate: the same claim, with a tree that lies in one piece of memory.
+#[derive(Drop)]
+pub struct FlatLemma {
+    /// Which lemma of its certificate it is, from 0.
+    pub number: u32,
+    /// What is placed where the tree begins.
+    pub prefix: Pairs,
+    pub tree: FlatTree,
+}
+
 /// Symmetries by number, from 0, and lemmas by number, from 0; the last lemma is the root, which is to show that the
 /// list is complete.
 ///
-/// There are at most 1,000,000 lemmas, and fewer than 2^32 symmetries, pairs of a prefix and children of a branch.
+/// There are at most 1,000,000 lemmas, and fewer than 2^32 symmetries and pairs of a prefix.
 #[derive(Drop)]
 pub struct Certificate {
     symmetries: Vec<SymmetryLine>,
-    lemmas: Vec<Lemma>,
+    lemmas: Vec<FlatLemma>,
 }
 
 impl Model for Certificate {
     ghost use Rattle.std.specs.Coded.{codes};
-    ghost use Rattle.cert_tree.specs.contracts.trees.Node as node;
+    ghost use Rattle.cert_tree.specs.contracts.heads.Head as head;
+    ghost use Rattle.cert_tree.specs.HeadCode.{tree_code};
     ghost use Rattle.cert_tree.specs.Certificate.{Contents, IsNumbered};
 
     ghost Value = { Contents };
 
-    ghost coded = { Prim.hlevel (codes, node.the_row.coded) };
+    ghost coded = { Prim.hlevel (codes, tree_code head.the_row.coded) };
 
     ghost view = { λ c. record { symmetries = c.symmetries.items; lemmas = c.lemmas.items } };
 
@@ -77,7 +92,7 @@ impl Certificate {
     ghost use Rattle.cert_tree.specs.Certificate.{IsNumbered};
 
     /// The certificate of these symmetries and lemmas, each in the order of its numbers.
-    pub(crate) fn of(symmetries: Vec<SymmetryLine>, lemmas: Vec<Lemma>) -> Certificate
+    pub(crate) fn of(symmetries: Vec<SymmetryLine>, lemmas: Vec<FlatLemma>) -> Certificate
         requires { IsNumbered (record { symmetries = symmetries.items; lemmas = lemmas.items }) }
         ensures { result ≡ record { symmetries = symmetries.items; lemmas = lemmas.items } }
     {
@@ -93,7 +108,7 @@ impl Certificate {
     }
 
     /// The lemmas, by number.
-    pub fn lemmas(&self) -> &[Lemma]
+    pub fn lemmas(&self) -> &[FlatLemma]
         ensures lemmas { result.now ≡ self.now.lemmas }
         ensures numbered { IsNumbered self.now }
     {

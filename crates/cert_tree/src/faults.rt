@@ -1,7 +1,8 @@
-// What may be wrong with pieces and with texts.
+//! What may be wrong with pieces and with texts.
 
 ghost use Rattle.std.specs.Prelude.{◌≡◌};
 ghost use Rattle.cert_tree.specs.declared.faults.AssembleFault.TheVariants as assemble;
+ghost use Rattle.cert_tree.specs.declared.faults.LemmaTextFault.TheVariants as lemma_text;
 ghost use Rattle.cert_tree.specs.Faults.{of_lemma_text, of_certificate_text, of_assembly};
 
 use match_text::{ReadFault, TextFault};
@@ -47,6 +48,14 @@ pub enum LemmaTextFault {
     Text(TextFault),
     #[error("out of memory")]
     Memory,
+}
+
+impl From<AllocError> for LemmaTextFault {
+    ghost from_gives = { λ _ e. e ≡ lemma_text.Memory };
+
+    fn from(_error: AllocError) -> LemmaTextFault {
+        LemmaTextFault::Memory
+    }
 }
 
 impl From<ReadFault> for LemmaTextFault {

@@ -1,9 +1,10 @@
-// Laws of texts: nothing is done here, and the contracts say what holds.
+//! Laws of texts and of heads: nothing is done here, and the contracts say what holds.
 
 ghost use Rattle.match_text.specs.Laws.{ReadsSpellingsAlone, ReadsEachSpelling, HasOneSpelling, IsOneValue, EndsWhereCut};
 ghost use Rattle.cert_tree.specs.CertificateText.{lemma_of, certificate_of};
 ghost use Rattle.cert_tree.specs.CertificateSpelling.{lemma_spelling, certificate_spelling, IsLemmaWithin, IsCertificateWithin};
 ghost use Rattle.cert_tree.specs.Laws.{MakesOneInAnyOrder};
+ghost use Rattle.cert_tree.specs.HeadLaws.{HaveOneReading, AreReadBack, AreOfTheirTrees};
 
 /// The laws of lemmas and their texts; it does nothing.
 pub fn lemma_laws()
@@ -25,4 +26,14 @@ pub fn certificate_laws()
     ensures one_value { IsOneValue IsCertificateWithin certificate_spelling }
     ensures cut { EndsWhereCut certificate_of }
     ensures any_order { MakesOneInAnyOrder }
+{}
+
+/// The laws of trees and their heads; it does nothing.
+///
+/// No tree's heads begin another's, whatever follows; trees are read back from their heads; and heads that each have
+/// their children after them are those of the trees that are read.
+pub fn head_laws()
+    ensures one_reading { HaveOneReading }
+    ensures back { AreReadBack }
+    ensures whole { AreOfTheirTrees }
 {}

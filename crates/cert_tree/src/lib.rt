@@ -3,9 +3,12 @@
 
 mod assemblies;
 mod certificates;
+mod conversions;
 mod copies;
 mod entries;
 mod faults;
+mod flat_trees;
+mod heads;
 mod laws;
 mod limits;
 mod nodes;
@@ -13,12 +16,14 @@ mod readers;
 mod spellings;
 #[cfg(test)]
 mod tests;
-mod trees;
+mod tree_readers;
 
 pub use assemblies::{assemble, assembly_laws};
-pub use certificates::{Certificate, Lemma, Pairs};
+pub use certificates::{Certificate, FlatLemma, Lemma, Pairs};
 pub use faults::{AssembleFault, CertTextFault, LemmaTextFault};
-pub use laws::{certificate_laws, lemma_laws};
+pub use flat_trees::{FlatTree, Trees};
+pub use heads::Head;
+pub use laws::{certificate_laws, head_laws, lemma_laws};
+pub use nodes::{Children, Node};
 pub use readers::{read_certificate, read_lemma};
 pub use spellings::{write_certificate, write_lemma};
-pub use trees::{Children, Node};

@@ -1,16 +1,19 @@
-// What has a spelling.
+//! What has a spelling.
 
-ghost use Rattle.std.specs.Prelude.{◌≡◌, ◌≢◌, ◌<◌, ◌≤◌, ℕ, List, Ok, MatchBool, map};
+ghost use Rattle.std.specs.Prelude.{◌≡◌, ◌≢◌, ◌<◌, ◌≤◌, ℕ, List, Ok, IsTrue, MatchBool, map};
 ghost use Rattle.std.specs.List.{AllByRecursion};
-ghost use Rattle.cert_tree.specs.Tree.{tree_of, forest_of, count};
-ghost use Rattle.cert_tree.specs.Certificate.{piece_of};
+ghost use Rattle.cert_tree.specs.Tree.{tree_of, forest_of, count, none};
+ghost use Rattle.cert_tree.specs.Certificate.{piece_of, flat_piece};
+ghost use Rattle.cert_tree.specs.Heads.{first, front, past};
 ghost use Rattle.cert_tree.specs.CertificateText.{lemma_of, certificate_of};
 ghost use Rattle.cert_tree.specs.TreeSpelling.{IsTreeWithin, AreTreesWithin, AreChildrenWithin};
 ghost use Rattle.cert_tree.specs.CertificateSpelling.{AreImagesWithin, AreColourImagesWithin, IsSymmetryWithin, IsPairWithin, IsLemmaWithin, IsCertificateWithin};
 ghost use Rattle.cert_tree.specs.Writing.{said_by};
 
-use crate::certificates::{Certificate, Lemma};
-use crate::trees::Node;
+use crate::certificates::{Certificate, FlatLemma, Lemma};
+use crate::flat_trees::Trees;
+use crate::heads::Head;
+use crate::nodes::Node;
 use match_puzzle::Pair;
 use match_symmetry::SymmetryLine;
 
@@ -116,11 +119,66 @@ fn is_lemma_within(lemma: &Lemma) -> bool
             && (are_pairs_within(pairs) && is_node_within(&lemma.tree, MOST_LEVELS)))
 }
 
-fn are_lemmas_within(lemmas: &[Lemma]) -> bool
-    ensures { MatchBool result (AllByRecursion IsLemmaWithin (map piece_of lemmas.now)) (AllByRecursion IsLemmaWithin (map piece_of lemmas.now) → ⊥) }
+// The same of the first tree, which is then gone past.
+#[cycle(flat_limits)]
+fn is_first_within(trees: &mut Trees<'_>, room: u8) -> bool
+    requires { trees.old ≢ none }
+    ensures within { MatchBool result (IsTreeWithin room (first trees.old)) (IsTreeWithin room (first trees.old) → ⊥) }
+    ensures past { IsTrue result → trees.new ≡ past 1 trees.old }
+{
+    if room == 0 {
+        return false;
+    }
+    match trees.next() {
+        Head::Cell { cell, children } => {
+            cell <= MOST_CELL && are_first_within(trees, room - 1, children)
+        }
+        Head::Tile { tile, children } => {
+            tile <= MOST_TILE && are_first_within(trees, room - 1, children)
+        }
+        Head::DeadCell(cell) => cell <= MOST_CELL,
+        Head::DeadTile(tile) => tile <= MOST_TILE,
+        Head::Found(number) => number <= MOST_NUMBER,
+        Head::Same(lemma) => lemma <= MOST_NUMBER,
+        Head::Image { symmetry, lemma } => lemma <= MOST_NUMBER && symmetry <= MOST_SYMMETRY,
+    }
+}
+
+// The same of the first so many trees, as the children of a branch.
+#[cycle(flat_limits)]
+fn are_first_within(trees: &mut Trees<'_>, room: u8, children: u32) -> bool
+    requires { children ≤ count trees.old }
+    ensures within { MatchBool result (AreChildrenWithin room (front children trees.old)) (AreChildrenWithin room (front children trees.old) → ⊥) }
+    ensures past { IsTrue result → trees.new ≡ past children trees.old }
+{
+    if children == 0 {
+        return false;
+    }
+    if children as usize > MOST_CHILDREN {
+        return false;
+    }
+    for _ in 0..children {
+        if !is_first_within(trees, room) {
+            return false;
+        }
+    }
+    true
+}
+
+fn is_flat_lemma_within(lemma: &FlatLemma) -> bool
+    ensures { MatchBool result (IsLemmaWithin (flat_piece lemma.now)) (IsLemmaWithin (flat_piece lemma.now) → ⊥) }
+{
+    let pairs = lemma.prefix.as_slice();
+    lemma.number <= MOST_NUMBER
+        && (pairs.len() <= MOST_PAIRS
+            && (are_pairs_within(pairs) && is_first_within(&mut lemma.tree.trees(), MOST_LEVELS)))
+}
+
+fn are_lemmas_within(lemmas: &[FlatLemma]) -> bool
+    ensures { MatchBool result (AllByRecursion IsLemmaWithin (map flat_piece lemmas.now)) (AllByRecursion IsLemmaWithin (map flat_piece lemmas.now) → ⊥) }
 {
     for lemma in lemmas {
-        if !is_lemma_within(lemma) {
+        if !is_flat_lemma_within(lemma) {
             return false;
         }
     }

@@ -1,9 +1,9 @@
-// Lemmas and certificates are read.
+//! Lemmas and certificates are read.
 
 ghost use Rattle.std.specs.Prelude.{◌≡◌, ◌+◌, ◌<◌, ◌≤◌, ◌^◌, ℕ, List, Contains, Ok, Err, IfOk, IfErr, length, map, take};
 ghost use Rattle.match_text.specs.Words.{Judges};
 ghost use Rattle.match_text.specs.Place.{Gives, Reads, Says, fail, times, word_by};
-ghost use Rattle.cert_tree.specs.Certificate.{Piece, piece_of};
+ghost use Rattle.cert_tree.specs.Certificate.{Piece, piece_of, flat_piece};
 ghost use Rattle.match_text.specs.declared.faults.TextKind.TheVariants as kinds;
 ghost use Rattle.match_text.specs.Bytes.{line_ends};
 ghost use Rattle.cert_tree.specs.Lines.{said_of};
@@ -11,12 +11,15 @@ ghost use Rattle.cert_tree.specs.CertificateText.{Said, mirrored_in, symmetry_li
 ghost use Rattle.cert_tree.specs.Writing.{said_by};
 ghost use Rattle.cert_tree.specs.CertificateSpelling.{lemma_spelling, certificate_spelling, IsLemmaWithin, IsCertificateWithin};
 
-use crate::assemblies::assemble;
-use crate::certificates::{Certificate, Lemma, Pairs};
-use crate::entries::{cell_images, colour_images, pairs, tile_images};
+use crate::assemblies::assemble_flat;
+use crate::certificates::{Certificate, FlatLemma, Lemma};
+use crate::conversions::owned_lemma;
+use crate::entries::{cell_images, colour_images, prefix, tile_images};
 use crate::faults::{CertTextFault, LemmaTextFault};
+use crate::heads::Head;
 use crate::limits::MOST_LEVELS;
-use crate::nodes::node;
+use crate::tree_readers::tree;
+use match_puzzle::Pair;
 use match_symmetry::{ColourImages, Images, SymmetryLine};
 use match_text::{ReadFault, Scan, TextFault, TextKind};
 use std::alloc::Global;
@@ -76,41 +79,60 @@ fn symmetries(alloc: Global, scan: &mut Scan, count: u32) -> Result<Vec<Symmetry
     Ok(lines)
 }
 
+// What the lines of lemmas are read into, one after the other, so that nothing that is kept of a line has spare room.
+#[derive(Drop)]
+struct Buffers {
+    pairs: Vec<Pair>,
+    heads: Vec<Head>,
+}
+
+impl Buffers {
+    fn new(alloc: Global) -> Buffers {
+        Buffers {
+            pairs: Vec::new(alloc),
+            heads: Vec::new(alloc),
+        }
+    }
+}
+
 #[tactic(auto, unfolding(crate::specs::CertificateText::lemma_line))]
-fn lemma(alloc: Global, scan: &mut Scan) -> Result<Lemma, ReadFault>
-    ensures { Reads piece_of result scan.new (lemma_line scan.old) }
+fn lemma(alloc: Global, scan: &mut Scan, buffers: &mut Buffers) -> Result<FlatLemma, ReadFault>
+    ensures { Reads flat_piece result scan.new (lemma_line scan.old) }
 {
     scan.next_line()?;
     scan.word(b"lemma")?;
     let number = scan.number(0, 999_999)?;
     scan.word(b"prefix")?;
-    let prefix = Pairs::new(pairs(alloc, scan)?);
+    let prefix = prefix(alloc, scan, &mut buffers.pairs)?;
     scan.word(b"tree")?;
-    let tree = node(alloc, scan, MOST_LEVELS)?;
+    let tree = tree(alloc, scan, &mut buffers.heads, MOST_LEVELS)?;
     scan.end_of_line()?;
-    Ok(Lemma {
+    Ok(FlatLemma {
         number,
         prefix,
         tree,
     })
 }
 
-fn lemmas(alloc: Global, scan: &mut Scan, count: u32) -> Result<Vec<Lemma>, ReadFault>
-    ensures { Reads (λ lemmas. map piece_of lemmas.items) result scan.new (times count lemma_line scan.old) }
+fn lemmas(alloc: Global, scan: &mut Scan, count: u32) -> Result<Vec<FlatLemma>, ReadFault>
+    ensures { Reads (λ lemmas. map flat_piece lemmas.items) result scan.new (times count lemma_line scan.old) }
 {
+    let mut buffers = Buffers::new(alloc);
     let mut lemmas = Vec::new(alloc);
     for _ in 0..count {
-        let lemma = lemma(alloc, scan)?;
+        let lemma = lemma(alloc, scan, &mut buffers)?;
         lemmas.push(lemma)?;
     }
+    lemmas.shrink_to_fit();
     Ok(lemmas)
 }
 
 #[tactic(auto, unfolding(crate::specs::CertificateText::lemma_text))]
-fn whole_lemma(alloc: Global, scan: &mut Scan) -> Result<Lemma, ReadFault>
-    ensures { Reads piece_of result scan.new (lemma_text scan.old) }
+fn whole_lemma(alloc: Global, scan: &mut Scan) -> Result<FlatLemma, ReadFault>
+    ensures { Reads flat_piece result scan.new (lemma_text scan.old) }
 {
-    let lemma = lemma(alloc, scan)?;
+    let mut buffers = Buffers::new(alloc);
+    let lemma = lemma(alloc, scan, &mut buffers)?;
     scan.end_of_text()?;
     Ok(lemma)
 }
@@ -121,7 +143,8 @@ fn read_lemma_text(alloc: Global, text: &[u8]) -> Result<Lemma, LemmaTextFault>
     ensures { LemmaGives result (lemma_of text.now) }
 {
     let mut scan = Scan::new(text);
-    let lemma = whole_lemma(alloc, &mut scan)?;
+    let flat = whole_lemma(alloc, &mut scan)?;
+    let lemma = owned_lemma(alloc, flat)?;
     Ok(lemma)
 }
 
@@ -146,7 +169,7 @@ pub fn read_lemma(alloc: Global, text: &[u8]) -> Result<Lemma, LemmaTextFault>
 #[derive(Drop)]
 struct CertificateLines {
     symmetries: Vec<SymmetryLine>,
-    lemmas: Vec<Lemma>,
+    lemmas: Vec<FlatLemma>,
 }
 
 #[tactic(auto, unfolding(crate::specs::CertificateText::certificate_text))]
@@ -177,7 +200,7 @@ fn made(alloc: Global, lines: CertificateLines) -> Result<Certificate, CertTextF
     ensures { Makes (said_of lines) result }
 {
     let count = lines.lemmas.len() as u32;
-    let certificate = assemble(alloc, count, lines.symmetries, lines.lemmas)?;
+    let certificate = assemble_flat(alloc, count, lines.symmetries, lines.lemmas)?;
     Ok(certificate)
 }
 

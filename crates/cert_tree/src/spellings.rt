@@ -1,18 +1,18 @@
-// Lemmas and certificates are written.
+//! Lemmas and certificates are written.
 
 ghost use Rattle.std.specs.Prelude.{◌≡◌, ◌<◌, ◌≤◌, ◌++◌, ◌∷◌, [], Ok, length, map, codes, decimal, IfOk, OnOk};
 ghost use Rattle.std.specs.List.{AllByRecursion};
 ghost use Rattle.match_text.specs.Spelling.{line_text, text_of, first_words, colour_word};
-ghost use Rattle.cert_tree.specs.Tree.{tree_of, forest_of, count};
-ghost use Rattle.cert_tree.specs.Certificate.{piece_of};
+ghost use Rattle.cert_tree.specs.Certificate.{piece_of, flat_piece};
+ghost use Rattle.cert_tree.specs.HeadSpelling.{head_words};
+ghost use Rattle.std.specs.List.{flat_map};
 ghost use Rattle.cert_tree.specs.CertificateText.{lemma_of, certificate_of, Makes};
-ghost use Rattle.cert_tree.specs.TreeSpelling.{tree_words, forest_words, IsTreeWithin, AreTreesWithin};
 ghost use Rattle.cert_tree.specs.CertificateSpelling.{mirrored_word, symmetry_words, pair_word, lemma_words, lemma_spelling, certificate_spelling, IsSymmetryWithin, IsLemmaWithin, IsCertificateWithin};
 ghost use Rattle.cert_tree.specs.Writing.{spaced, words_of, said_by};
 
-use crate::certificates::{Certificate, Lemma};
-use crate::limits::MOST_LEVELS;
-use crate::trees::Node;
+use crate::certificates::{Certificate, FlatLemma, Lemma};
+use crate::conversions::flat_lemma;
+use crate::heads::Head;
 use match_puzzle::Pair;
 use match_symmetry::SymmetryLine;
 use match_text::{character, put_end, put_number, put_number_line, put_placement};
@@ -26,43 +26,36 @@ fn put_behind(text: &mut Vec<u8>, bytes: &[u8], number: u32) -> Result<(), Alloc
     put_number(text, number)
 }
 
-// A node before its children, each word behind a space.
-#[cycle(put_nodes)]
-#[tactic(auto, using(crate::proofs::TreeLemmas::tree_laws))]
-fn put_node(text: &mut Vec<u8>, node: &Node, room: u8) -> Result<(), AllocError>
-    requires { IsTreeWithin room (tree_of node.now) }
-    ensures { OnOk result (text.new.items ≡ text.old.items ++ spaced (tree_words (tree_of node.now))) }
+// A head, each word behind a space.
+fn put_head(text: &mut Vec<u8>, head: Head) -> Result<(), AllocError>
+    ensures { OnOk result (text.new.items ≡ text.old.items ++ spaced (head_words head)) }
 {
-    match node {
-        Node::Cell { cell, children } => {
-            put_behind(text, b" c ", u32::from(*cell))?;
-            put_children(text, children.as_slice(), room - 1)
+    match head {
+        Head::Cell { cell, children } => {
+            put_behind(text, b" c ", u32::from(cell))?;
+            put_behind(text, b" ", children)
         }
-        Node::Tile { tile, children } => {
-            put_behind(text, b" t ", u32::from(*tile))?;
-            put_children(text, children.as_slice(), room - 1)
+        Head::Tile { tile, children } => {
+            put_behind(text, b" t ", u32::from(tile))?;
+            put_behind(text, b" ", children)
         }
-        Node::DeadCell(cell) => put_behind(text, b" d ", u32::from(*cell)),
-        Node::DeadTile(tile) => put_behind(text, b" e ", u32::from(*tile)),
-        Node::Found(number) => put_behind(text, b" f ", *number),
-        Node::Same(lemma) => put_behind(text, b" s ", *lemma),
-        Node::Image { lemma, symmetry } => {
-            put_behind(text, b" i ", *lemma)?;
-            put_behind(text, b" ", u32::from(*symmetry))
+        Head::DeadCell(cell) => put_behind(text, b" d ", u32::from(cell)),
+        Head::DeadTile(tile) => put_behind(text, b" e ", u32::from(tile)),
+        Head::Found(number) => put_behind(text, b" f ", number),
+        Head::Same(lemma) => put_behind(text, b" s ", lemma),
+        Head::Image { symmetry, lemma } => {
+            put_behind(text, b" i ", lemma)?;
+            put_behind(text, b" ", u32::from(symmetry))
         }
     }
 }
 
-// How many nodes there are, and the nodes.
-#[cycle(put_nodes)]
-fn put_children(text: &mut Vec<u8>, nodes: &[Node], room: u8) -> Result<(), AllocError>
-    requires few { length nodes.now ≤ 400 }
-    requires within { AreTreesWithin room (forest_of nodes.now) }
-    ensures { OnOk result (text.new.items ≡ text.old.items ++ spaced (decimal (length nodes.now) ∷ forest_words (forest_of nodes.now))) }
+// A tree's words are those of its heads.
+fn put_heads(text: &mut Vec<u8>, heads: &[Head]) -> Result<(), AllocError>
+    ensures { OnOk result (text.new.items ≡ text.old.items ++ spaced (flat_map head_words heads.now)) }
 {
-    put_behind(text, b" ", nodes.len() as u32)?;
-    for node in nodes {
-        put_node(text, node, room)?;
+    for head in heads {
+        put_head(text, *head)?;
     }
     Ok(())
 }
@@ -84,21 +77,19 @@ fn put_pairs(text: &mut Vec<u8>, pairs: &[Pair]) -> Result<(), AllocError>
     Ok(())
 }
 
-fn put_lemma(text: &mut Vec<u8>, lemma: &Lemma) -> Result<(), AllocError>
-    requires { IsLemmaWithin (piece_of lemma.now) }
-    ensures { OnOk result (text.new.items ≡ text.old.items ++ line_text (lemma_words (piece_of lemma.now))) }
+fn put_lemma(text: &mut Vec<u8>, lemma: &FlatLemma) -> Result<(), AllocError>
+    ensures { OnOk result (text.new.items ≡ text.old.items ++ line_text (lemma_words (flat_piece lemma.now))) }
 {
     put_behind(text, b"lemma ", lemma.number)?;
     text.extend_from_slice(b" prefix")?;
     put_pairs(text, lemma.prefix.as_slice())?;
     text.extend_from_slice(b" tree")?;
-    put_node(text, &lemma.tree, MOST_LEVELS)?;
+    put_heads(text, lemma.tree.heads())?;
     text.push(b'\n')?;
     Ok(())
 }
 
-fn put_lemmas(text: &mut Vec<u8>, lemmas: &[Lemma]) -> Result<(), AllocError>
-    requires { AllByRecursion IsLemmaWithin (map piece_of lemmas.now) }
+fn put_lemmas(text: &mut Vec<u8>, lemmas: &[FlatLemma]) -> Result<(), AllocError>
     ensures { OnOk result (text.new.items ≡ text.old.items ++ text_of (map words_of lemmas.now)) }
 {
     for lemma in lemmas {
@@ -166,8 +157,9 @@ pub fn write_lemma(alloc: Global, lemma: &Lemma) -> Result<Vec<u8>, AllocError>
     ensures spelling { IfOk result (λ text. text.items ≡ lemma_spelling (piece_of lemma.now)) }
     ensures reads { IfOk result (λ text. lemma_of text.items ≡ Ok (piece_of lemma.now)) }
 {
+    let flat = flat_lemma(alloc, &mut Vec::new(alloc), lemma)?;
     let mut text = Vec::new(alloc);
-    put_lemma(&mut text, lemma)?;
+    put_lemma(&mut text, &flat)?;
     Ok(text)
 }
 

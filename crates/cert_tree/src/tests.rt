@@ -2,9 +2,9 @@ ghost use Rattle.std.specs.Prelude.{◌≡◌, ◌<◌, ◌^◌, ◌∷◌, [], 
 ghost use Rattle.cert_tree.specs.Tree.{tree_of, IsNarrow};
 
 use crate::{
-    AssembleFault, CertTextFault, Certificate, Children, Lemma, LemmaTextFault, Node, Pairs,
-    assemble, assembly_laws, certificate_laws, lemma_laws, read_certificate, read_lemma,
-    write_certificate, write_lemma,
+    AssembleFault, CertTextFault, Certificate, Children, FlatTree, Head, Lemma, LemmaTextFault,
+    Node, Pairs, assemble, assembly_laws, certificate_laws, head_laws, lemma_laws,
+    read_certificate, read_lemma, write_certificate, write_lemma,
 };
 use match_puzzle::{Pair, Placement};
 use match_text::{TextFault, TextKind};
@@ -59,7 +59,7 @@ fn repeated(
 
 // What is written of what the text says.
 fn written(alloc: Global, text: &[u8]) -> Result<Vec<u8>, Fail>
-    requires { length text.now < 1000 }
+    requires { length text.now < 100000 }
 {
     let certificate = read_certificate(alloc, text)?;
     if !certificate.within_limits() {
@@ -84,6 +84,47 @@ fn writes_what_was_read(rt: HostRuntime) -> Result<(), Fail> {
     certificate_laws();
     lemma_laws();
     assembly_laws();
+    Ok(())
+}
+
+// Trees of so many nodes that each takes the vector that it is read into, and a small one between them.
+#[test]
+fn writes_large_trees_that_were_read(rt: HostRuntime) -> Result<(), Fail> {
+    let alloc = rt.alloc();
+    let branch = repeated(alloc, b" c 1 400", b" d 2", 400, b"")?;
+    let tree = repeated(alloc, b" prefix tree c 0 11", &branch, 11, b"\n")?;
+    let mut text = Vec::from_slice(alloc, b"certificate 1\nsymmetries 0\nlemmas 3\nlemma 0")?;
+    text.extend_from_slice(&tree)?;
+    text.extend_from_slice(b"lemma 1 prefix 3:2.1 tree e 4\nlemma 2")?;
+    text.extend_from_slice(&tree)?;
+    text.extend_from_slice(b"end\n")?;
+    assert!(rt; text.len() < 100_000);
+    assert_eq!(rt; written(alloc, &text)?.as_slice(), text.as_slice());
+    Ok(())
+}
+
+// The second child of a branch of two.
+fn second_child(tree: &FlatTree) -> Option<Head> {
+    let mut trees = tree.trees();
+    let children = match trees.next() {
+        Head::Tile { children, .. } => children,
+        _ => 0,
+    };
+    if children != 2 {
+        return None;
+    }
+    trees.skip();
+    Some(trees.next())
+}
+
+#[test]
+fn skips_a_tree(rt: HostRuntime) -> Result<(), Fail> {
+    if EACH_NODE.len() < 1000 {
+        let certificate = read_certificate(rt.alloc(), EACH_NODE)?;
+        let lemma = certificate.lemmas().first().ok_or("no lemma")?;
+        assert_eq!(rt; second_child(&lemma.tree), Some(Head::Same(999_999)));
+    }
+    head_laws();
     Ok(())
 }
 
@@ -499,7 +540,7 @@ fn assembles_lemmas(rt: HostRuntime) -> Result<(), Fail> {
     assert!(rt; certificate.symmetries().is_empty());
     for (number, place) in [(0, 1), (1, 2), (2, 0)] {
         let lemma = certificate.lemmas().get(number).ok_or("missing")?;
-        assert!(rt; matches!(&lemma.tree, Node::Found(found) if *found == place));
+        assert!(rt; matches!(lemma.tree.trees().next(), Head::Found(found) if found == place));
     }
     assert!(rt; assembled(rt.alloc(), 0, &[])?.lemmas().is_empty());
     Ok(())

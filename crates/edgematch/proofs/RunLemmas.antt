@@ -19,7 +19,7 @@ use Rattle.cert_tree.specs.declared.faults.AssembleFault.{AssembleFault}
 use Rattle.cert_tree.specs.declared.faults.CertTextFault.TheVariants.{Text, Assemble}
 use Rattle.cert_check.specs.Setting.{Question, line_of, AreOfPuzzle}
 use Rattle.cert_check.specs.Answer.{AreSymmetries, IsAnswer, IsCompleteList}
-use Rattle.cert_check.proofs.ListLemmas.{contains_at, mapped_at, same_by_place}
+use Rattle.cert_check.proofs.ListLemmas.{contains_at, mapped_at, same_by_place, place_of}
 use Rattle.cert_check.specs.declared.faults.Answer.{Answer}
 use Rattle.cert_check.specs.declared.symmetries.SymmetriesFault.TheVariants.{Line}
 use Rattle.cert_check.specs.Lines.{LinesFail}
@@ -27,7 +27,6 @@ use Rattle.match_report.specs.AnswerText.{HoldsNoMemory}
 use Rattle.match_report.specs.declared.expansions.ExpandFault.{ExpandFault}
 use Rattle.match_report.specs.declared.expansions.ExpandFault.TheVariants as expansions
 use Rattle.match_report.specs.Expansion.{AreOf, IsExpansion, HasWhatIsReached}
-use Rattle.match_report.proofs.ClosureLemmas.{place_of}
 use Rattle.edgematch.specs.declared.faults.RunFault.TheVariants as runs
 use Rattle.edgematch.specs.FaultText.{run_of_expand}
 use Rattle.edgematch.specs.Runs.{motion_of, AreAllInOrder}

@@ -4,7 +4,7 @@ use Rattle.std.proofs.Math.Logic.{⊎_map}
 use Rattle.std.proofs.lemmas.List.{get_or_append_left, get_or_push}
 use Rattle.std.proofs.lemmas.List.Elements.{Contains-append_left, Contains-push, Contains-push_cases, Contains-get_or}
 use Rattle.std.proofs.lemmas.Bool.Decides.{eqb_tells}
-use Rattle.match_board.specs.Listing.{ComesBefore, ByKey, IsListing, HoldsBefore, IsFrom, IsNextAt}
+use Rattle.match_board.specs.Listing.{ComesBefore, ByKey, IsListing, HoldsBefore}
 
 -- nothing is in an empty list
 pub contains_none : {X : Type 0} (x : X) → Contains [] x → ⊥
@@ -131,42 +131,3 @@ pub lt_or_le : (m n : ℕ) → (m < n) ⊎ (n ≤ m)
 lt_or_le m zero = inr (omega arith)
 lt_or_le zero (suc n) = inl (omega arith)
 lt_or_le (suc m) (suc n) = ⊎_elim (λ l. inl (omega (arith, l))) (λ l. inr (omega (arith, l))) (lt_or_le m n)
-
-le_or_lt : (m n : ℕ) → (m ≤ n) ⊎ (n < m)
-le_or_lt m n = ⊎_elim (λ l. inr l) (λ l. inl l) (lt_or_le n m)
-
--- ---- going on by the next thing
-
-from_or_before : (n k : ℕ × ℕ) → IsFrom n k ⊎ ComesBefore k n
-from_or_before n k =
-    ⊎_elim
-    (λ lt. inl (inl lt))
-    (λ ge. ⊎_elim
-    (λ e. ⊎_elim (λ le. inl (inr (sym e.1, le))) (λ lt. inr (inr (e.1, lt))) (le_or_lt n.1 k.1))
-    (λ ne. inr (inl (omega (arith, ge, ne.1))))
-    (eqb_tells k.0 n.0))
-    (lt_or_le n.0 k.0)
-
-before_from : (k m n : ℕ × ℕ) → ComesBefore k m → IsFrom m n → ComesBefore k n
-before_from k m n b f = ⊎_elim (λ l. ⊎_elim (λ g. inl (omega (arith, l, g))) (λ e. inl (omega (arith, l, e.0))) f) (λ e. ⊎_elim (λ g. inl (omega (arith, e.0, g))) (λ g. inr (e.0 ∙ g.0, omega (arith, e.1, g.1))) f) b
-
-pub not_before_from : (k n : ℕ × ℕ) → ComesBefore k n → IsFrom n k → ⊥
-not_before_from k n b f = ⊎_elim (λ l. ⊎_elim (λ g. omega (arith, l, g)) (λ e. omega (arith, l, e.0)) f) (λ e. ⊎_elim (λ g. omega (arith, e.0, g)) (λ g. omega (arith, e.1, g.1)) f) b
-
-module _ {X : Type 0} (key : X → ℕ × ℕ) (P : X → Type 0) where
-  -- the list with the next thing at its end
-  pub listing_next : (n : ℕ × ℕ) (xs : List X) (x : X) → IsNextAt key P n x → ((y : X) → P y → (key y).0 ≡ (key x).0 → (key y).1 ≡ (key x).1 → y ≡ x) → IsListing (ByKey key) (HoldsBefore key P n) xs →
-      IsListing (ByKey key) (HoldsBefore key P ((key x).0, (key x).1 + 1)) (xs ++ x ∷ [])
-  listing_next n xs x next one h = listing_push key P (key x) xs x next.holds refl one record {
-    only = λ y c. let w = h.only y c in (w.0, before_from (key y) n (key x) w.1 next.from);
-    all = λ y w. ⊎_elim (λ f. absurd (not_before_from (key y) (key x) w.1 (next.least y w.0 f))) (λ b. h.all y (w.0, b)) (from_or_before n (key y));
-    rising = h.rising;
-  }
-
-  -- the list where nothing is left
-  pub listing_done : (n : ℕ × ℕ) (xs : List X) → ((x : X) → P x → IsFrom n (key x) → ⊥) → IsListing (ByKey key) (HoldsBefore key P n) xs → IsListing (ByKey key) P xs
-  listing_done n xs none h = record {
-    only = λ x c. (h.only x c).0;
-    all = λ x p. ⊎_elim (λ f. absurd (none x p f)) (λ b. h.all x (p, b)) (from_or_before n (key x));
-    rising = h.rising;
-  }

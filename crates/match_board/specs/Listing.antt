@@ -1,5 +1,5 @@
 -- All things with a property, in order.
-use Rattle.std.specs.Prelude.{◌≡◌, ◌⊎◌, ◌<◌, ◌≤◌, ℕ, List, Option, MatchOption, Contains, length, slice_index_or}
+use Rattle.std.specs.Prelude.{◌≡◌, ◌⊎◌, ◌<◌, ℕ, List, Contains, length, slice_index_or}
 
 -- The list has just the things with the property, each before the ones after it.
 pub record IsListing {X : Type 0} (Before : X → X → Type 0) (P : X → Type 0) (xs : List X) : Type 0 where
@@ -18,17 +18,3 @@ ByKey key x y = ComesBefore (key x) (key y)
 -- The thing has the property, and its key comes before this one.
 abbrev pub HoldsBefore : {X : Type 0} → (X → ℕ × ℕ) → (X → Type 0) → ℕ × ℕ → X → Type 0
 HoldsBefore key P n x = P x × ComesBefore (key x) n
-
--- The other pair of numbers is this one or comes after it.
-abbrev pub IsFrom : (n k : ℕ × ℕ) → Type 0
-IsFrom n k = (n.0 < k.0) ⊎ ((n.0 ≡ k.0) × (n.1 ≤ k.1))
-
--- The thing has the property, and of those whose keys are from this one on its key is the least.
-pub record IsNextAt {X : Type 0} (key : X → ℕ × ℕ) (P : X → Type 0) (n : ℕ × ℕ) (x : X) : Type 0 where
-  pub holds : P x
-  pub from : IsFrom n (key x)
-  pub least : (y : X) → P y → IsFrom n (key y) → IsFrom (key x) (key y)
-
--- the next thing with the property, from a key on, or none where there is no more
-abbrev pub IsNext : {X : Type 0} → (X → ℕ × ℕ) → (X → Type 0) → ℕ × ℕ → Option X → Type 0
-IsNext {X} key P n next = MatchOption next ((x : X) → P x → IsFrom n (key x) → ⊥) (IsNextAt key P n)

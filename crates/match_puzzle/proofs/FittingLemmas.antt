@@ -1,25 +1,24 @@
 -- What fits at a cell.
-use Rattle.std.proofs.Common.{◌≡◌, ◌≢◌, ◌<◌, ◌≤◌, ◌+◌, ◌++◌, ◌∷◌, [], ◌↔◌, ◌*◌, ℕ, zero, suc, List, Contains, Option, Some, None, length, length-append, map, get_or, slice_get, arith, refl, sym, ap, ◌∙◌, subst, inl, inr, ⊎_elim, lt-ltb}
-use borrow.Author.Tests.{ltb-true}
+use Rattle.std.proofs.Common.{◌≡◌, ◌<◌, ◌≤◌, ◌+◌, ◌*◌, ◌/◌, ◌%◌, ◌∷◌, [], ◌↔◌, ℕ, zero, suc, List, Contains, Option, Some, None, IfSome, unwrap_or, length, map, get_or, IsTrue, eqb, eq-eqb, ◌^◌, bit_and, arith, refl, sym, ap, ◌∙◌, subst, inl, inr, ⊎_elim}
+use Rattle.std.specs.Int.{bit_at}
+use Rattle.std.proofs.lemmas.Nat.Bits.{shr_and_one}
+use Rattle.std.proofs.lemmas.Bool.{eqb-true}
 use Rattle.std.proofs.lemmas.Bool.Decides.{eqb_tells}
 use Rattle.std.proofs.lemmas.List.{get_or-map, length-map}
-use Rattle.std.proofs.lemmas.Option.{slice_get_within}
-use Rattle.match_board.specs.Board.{cell_count}
-use Rattle.match_board.specs.Listing.{IsListing, ByKey, HoldsBefore, IsFrom, IsNextAt}
-use Rattle.match_board.proofs.Listings.{listing_none, listing_next, listing_done}
+use Rattle.match_board.specs.Board.{side_count}
+use Rattle.match_board.specs.Listing.{IsListing, ByKey, ComesBefore}
 use Rattle.match_puzzle.specs.Puzzle.{Task, IsPuzzle, IsLegal, colour_of}
-use Rattle.match_puzzle.specs.Prefix.{Prefix, Has, IsFree, IsUnused, IsUsed}
-use Rattle.match_puzzle.specs.Fitting.{Fits, FitsItem, AreFitting, IsAsked, IsSmall, item_key, key_after, tile_turn}
-use Rattle.match_puzzle.specs.Demands.{IsDemand, ShowsDemand, IsNextTurn, turned_tile}
-use Rattle.match_puzzle.specs.Tables.{IsSide, IsTurnCount}
-use Rattle.match_puzzle.proofs.Words.{legal_by_count, legal_below, few_sides}
+use Rattle.match_puzzle.specs.Prefix.{Prefix, Has, IsFree, IsUnused}
+use Rattle.match_puzzle.specs.Fitting.{Fits, FitsItem, AreFitting, AreAsAsked, IsAsked, item_key, tile_turn, turned_tile, numbered_pair}
+use Rattle.match_puzzle.specs.PlacementSets.{AreFreeNumbers, AreShowing, numbered}
+use Rattle.match_puzzle.specs.Tables.{IsSide}
+use Rattle.match_puzzle.proofs.Words.{legal_below, few_sides}
 use Rattle.match_puzzle.specs.declared.tables.Side.TheVariants.{Border, Edge}
-use Rattle.match_puzzle.specs.declared.demands.Demand.{Demand}
 use Rattle.match_puzzle.specs.declared.placements.Placement.{Placement}
 use Rattle.match_puzzle.specs.declared.placements.Pair.{Pair}
 use Rattle.match_puzzle.specs.declared.items.Item.{Item}
 use Rattle.match_puzzle.specs.declared.items.Item.TheVariants.{Cell, Tile}
-use Rattle.match_puzzle.proofs.Prefixes.{inside}
+use Rattle.match_puzzle.proofs.Prefixes.{inside, free_or_has}
 use Rattle.match_puzzle.proofs.ArrangementLemmas.{side_in_range}
 
 none_some : {X : Type 0} {x : X} → None ≡ Some x → ⊥
@@ -27,47 +26,88 @@ none_some e = cc
 
 -- ---- what is asked of a side
 
+pub at_most_36 : (rule : Option ℕ) → IfSome rule (λ colour. colour < 36) → unwrap_or rule 36 ≤ 36
+at_most_36 None few = omega arith
+at_most_36 (Some rule) few = omega (arith, few)
+
+-- The number is the colour that is asked of the side, or 36 where none is.
+abbrev pub AsksBelow : Task → Prefix → (cell side asked : ℕ) → Type 0
+AsksBelow p q cell side asked = (colour : ℕ) → IsAsked p q cell side colour ↔ ((asked ≡ colour) × (colour < 36))
+
 module _ (p : Task) (q : Prefix) (cell side : ℕ) where
+  -- where a cell has no such side, nothing is asked of it
+  pub outside_asks : side_count p.board ≤ side → AsksBelow p q cell side 36
+  outside_asks past colour = (
+    λ asked. absurd (⊎_elim (λ r. let lt = r.border_pair.side_in in omega (arith, past, lt)) (λ w. let lt = side_in_range w.3 in omega (arith, past, lt)) asked),
+    λ h. absurd (omega (arith, h.0, h.1)),
+  )
+
   -- a border pair asks what the border asks
-  pub border_asks : (rule : Option ℕ) → IsSide p cell side (Border rule) → (colour : ℕ) → (rule ≡ Some colour) ↔ IsAsked p q cell side colour
-  border_asks rule is colour = (λ e. inl ((is.1 colour).0 e), λ asked. ⊎_elim (λ r. (is.1 colour).1 r) (λ w. absurd (is.0.meets_nothing w.0 w.1 w.3)) asked)
+  pub border_asks : (rule : Option ℕ) (asked : ℕ) → IsSide p cell side (Border rule) → IfSome rule (λ colour. colour < 36) → asked ≡ unwrap_or rule 36 → AsksBelow p q cell side asked
+  border_asks None asked is few same colour = (
+    λ other. absurd (⊎_elim (λ r. none_some ((is.1 colour).1 r)) (λ w. is.0.meets_nothing w.0 w.1 w.3) other),
+    λ h. absurd (omega (arith, h.0, h.1, same)),
+  )
+  border_asks (Some rule) asked is few same colour = (
+    λ other. ⊎_elim (λ r. let e : rule ≡ colour = inside ((is.1 colour).1 r) in (same ∙ e, omega (arith, few, e))) (λ w. absurd (is.0.meets_nothing w.0 w.1 w.3)) other,
+    λ h. inl ((is.1 colour).0 (ap Some (sym same ∙ h.0))),
+  )
 
   -- a side that meets an empty cell asks nothing
-  pub empty_asks : (c k : ℕ) → IsSide p cell side (Edge c k) → slice_get q c ≡ Some None → (colour : ℕ) → (None ≡ Some colour) ↔ IsAsked p q cell side colour
-  empty_asks c k is free colour = (
-    λ e. absurd (none_some e),
-    λ asked. ⊎_elim (λ r. absurd (r.border_pair.meets_nothing c k is.0)) (λ w. absurd (none_some (inside (sym free ∙ subst (λ n. Has q n w.2) (is.1 w.0 w.1 w.3).0 w.4)))) asked,
+  pub empty_asks : (c k asked : ℕ) → IsSide p cell side (Edge c k) → IsFree q c → asked ≡ 36 → AsksBelow p q cell side asked
+  empty_asks c k asked is free none colour = (
+    λ other. absurd (⊎_elim (λ r. r.border_pair.meets_nothing c k is.0) (λ w. none_some (inside (sym free ∙ subst (λ n. Has q n w.2) (is.1 w.0 w.1 w.3).0 w.4))) other),
+    λ h. absurd (omega (arith, h.0, h.1, none)),
   )
 
   -- a side that meets a placement asks what that shows
-  pub neighbour_asks : (c k shown : ℕ) (y : Placement) → IsSide p cell side (Edge c k) → Has q c y → shown ≡ colour_of p y k → (colour : ℕ) → (Some shown ≡ Some colour) ↔ IsAsked p q cell side colour
-  neighbour_asks c k shown y is has shows colour = (
-    λ e. inr (c, k, y, is.0, has, sym shows ∙ inside e),
-    λ asked. ⊎_elim
+  pub neighbour_asks : (c k asked : ℕ) (y : Placement) → IsSide p cell side (Edge c k) → Has q c y → asked ≡ colour_of p y k → asked < 36 → AsksBelow p q cell side asked
+  neighbour_asks c k asked y is has shows few colour = (
+    λ other. ⊎_elim
         (λ r. absurd (r.border_pair.meets_nothing c k is.0))
         (λ w.
         let same = is.1 w.0 w.1 w.3 in
         let at : y ≡ w.2 = inside (inside (sym has ∙ subst (λ n. Has q n w.2) same.0 w.4)) in
-        ap Some (shows ∙ ap (λ z. colour_of p z k) at ∙ ap (λ n. colour_of p w.2 n) (sym same.1) ∙ w.5))
-        asked,
+        let e : asked ≡ colour = shows ∙ ap (λ z. colour_of p z k) at ∙ ap (λ n. colour_of p w.2 n) (sym same.1) ∙ w.5 in
+        (e, omega (arith, e, few)))
+        other,
+    λ h. inr (c, k, y, is.0, has, sym shows ∙ h.0),
   )
+
+  -- a side that meets another asks what stands there shows
+  pub edge_asks : (c k asked : ℕ) → IsSide p cell side (Edge c k) → c < length q → ((y : Placement) → Has q c y → (asked ≡ colour_of p y k) × (asked < 36)) → (IsFree q c → asked ≡ 36) → (asked ≤ 36) × AsksBelow p q cell side asked
+  edge_asks c k asked is within shows none =
+      ⊎_elim
+      (λ free. let e = none free in (omega (arith, e), empty_asks c k asked is free e))
+      (λ w. let h = shows w.0 w.1 in let few = h.1 in (omega (arith, few), neighbour_asks c k asked w.0 is w.1 h.0 few))
+      (free_or_has q c within)
 
 -- ---- what fits, by what is asked
 
-module _ (p : Task) (q : Prefix) (d : Demand) (is : IsDemand p q d) (x : Placement) where
-  pub fits_shown : IsFree q d.cell → IsUnused q x.tile → IsLegal p x → ShowsDemand p d x → Fits p q d.cell x
+-- The placement shows what is asked of the side.
+abbrev pub ShowsAsked : Task → Prefix → (cell : ℕ) → Placement → (side : ℕ) → Type 0
+ShowsAsked p q cell x side = (colour : ℕ) → IsAsked p q cell side colour → colour_of p x side ≡ colour
+
+module _ (p : Task) (q : Prefix) (cell : ℕ) (x : Placement) where
+  pub fits_shown : IsFree q cell → IsUnused q x.tile → IsLegal p x → ((side : ℕ) → side < 4 → ShowsAsked p q cell x side) → Fits p q cell x
   fits_shown free unused legal shows = record {
     free = free;
     unused = unused;
     legal = legal;
-    border = λ side colour rule. shows side colour rule.border_pair.side_in ((is side colour rule.border_pair.side_in).1 (inl rule));
-    edges = λ side c k y meets has. let lt = side_in_range meets in shows side (colour_of p y k) lt ((is side (colour_of p y k) lt).1 (inr (c, k, y, meets, has, refl)));
+    border = λ side colour rule. shows side (let lt = rule.border_pair.side_in in omega (arith, lt, few_sides p.board)) colour (inl rule);
+    edges = λ side c k y meets has. shows side (let lt = side_in_range meets in omega (arith, lt, few_sides p.board)) (colour_of p y k) (inr (c, k, y, meets, has, refl));
   }
 
-  pub shown_fits : Fits p q d.cell x → ShowsDemand p d x
-  shown_fits fits = λ side colour lt asks. ⊎_elim (λ rule. fits.border side colour rule) (λ w. fits.edges side w.0 w.1 w.2 w.3 w.4 ∙ w.5) ((is side colour lt).0 asks)
+  pub shown_fits : Fits p q cell x → (side : ℕ) → ShowsAsked p q cell x side
+  shown_fits fits side colour asked = ⊎_elim (λ rule. fits.border side colour rule) (λ w. fits.edges side w.0 w.1 w.2 w.3 w.4 ∙ w.5) asked
 
--- ---- the next one in order
+-- four sides, one by one
+pub each_of_four : (P : ℕ → Type 0) → P 0 → P 1 → P 2 → P 3 → (side : ℕ) → side < 4 → P side
+each_of_four P a b c d zero lt = a
+each_of_four P a b c d (suc zero) lt = b
+each_of_four P a b c d (suc (suc zero)) lt = c
+each_of_four P a b c d (suc (suc (suc zero))) lt = d
+each_of_four P a b c d (suc (suc (suc (suc n)))) lt = absurd (omega arith)
 
 -- a placement by its tile and turn
 pub same_placement : {x y : Placement} → x.tile ≡ y.tile → x.turn ≡ y.turn → x ≡ y
@@ -80,127 +120,13 @@ same_pair {x} {y} e f =
     let of : ℕ → Placement → Pair = λ a b. record { cell = a; placement = b } in
     ap (λ a. of a x.placement) e ∙ ap (λ b. of y.cell b) f
 
--- Pairs that settle one item differ by their keys.
-pub one_of_key : (p : Task) (q : Prefix) (item : Item) (x y : Pair) → FitsItem p q item x → FitsItem p q item y → (item_key item x).0 ≡ (item_key item y).0 → (item_key item x).1 ≡ (item_key item y).1 → x ≡ y
-one_of_key p q (Cell cell) x y f g e h = same_pair (f.0 ∙ sym g.0) (same_placement e h)
-one_of_key p q (Tile tile) x y f g e h = same_pair e (same_placement (f.0 ∙ sym g.0) h)
-
--- the pairs of an item that come before the ones after this
-abbrev pub AreFittingUpTo : Task → Prefix → Item → Option Pair → List Pair → Type 0
-AreFittingUpTo p q item last xs = IsListing (ByKey (item_key item)) (HoldsBefore (item_key item) (FitsItem p q item) (key_after item last)) xs
-
-pub fitting_none : (p : Task) (q : Prefix) (item : Item) → AreFittingUpTo p q item None []
-fitting_none p q item = listing_none (item_key item) (FitsItem p q item)
-
-pub fitting_more : (p : Task) (q : Prefix) (item : Item) (last : Option Pair) (xs : List Pair) (x : Pair) → IsNextAt (item_key item) (FitsItem p q item) (key_after item last) x → AreFittingUpTo p q item last xs → AreFittingUpTo p q item (Some x) (xs ++ x ∷ [])
-fitting_more p q item last xs x next h = listing_next (item_key item) (FitsItem p q item) (key_after item last) xs x next (λ y f. one_of_key p q item y x f next.holds) h
-
-pub fitting_done : (p : Task) (q : Prefix) (item : Item) (last : Option Pair) (xs : List Pair) → ((x : Pair) → FitsItem p q item x → IsFrom (key_after item last) (item_key item x) → ⊥) → AreFittingUpTo p q item last xs → AreFitting p q item xs
-fitting_done p q item last xs none h = listing_done (item_key item) (FitsItem p q item) (key_after item last) xs none h
-
--- ---- the least turn
-
-module _ (p : Task) (q : Prefix) (d : Demand) (is : IsDemand p q d) (free : IsFree q d.cell) (tile : ℕ) (tile_in : tile < length p.words) (unused : IsUnused q tile) (count : ℕ) (turns : IsTurnCount p tile count) where
-  pub turn_fits : (turn : ℕ) → turn < count → ShowsDemand p d (turned_tile tile turn) → Fits p q d.cell (turned_tile tile turn)
-  turn_fits turn lt shows = fits_shown p q d is (turned_tile tile turn) free unused ((legal_by_count p (turned_tile tile turn) count tile_in turns).0 (lt-ltb turn count lt)) shows
-
-  pub fitting_turn_below : (turn : ℕ) → Fits p q d.cell (turned_tile tile turn) → turn < count
-  fitting_turn_below turn fits = ltb-true turn count ((legal_by_count p (turned_tile tile turn) count tile_in turns).1 fits.legal)
-
--- nothing of a used tile fits
-pub used_fits_not : (p : Task) (q : Prefix) (cell tile : ℕ) → IsUsed q tile → (turn : ℕ) → Fits p q cell (turned_tile tile turn) → ⊥
-used_fits_not p q cell tile used turn fits = fits.unused used.0 used.1 used.2 used.3
-
--- what a used tile has as its next turn
-pub used_next_turn : (p : Task) (q : Prefix) (cell tile from : ℕ) → IsUsed q tile → IsNextTurn p q cell tile from None
-used_next_turn p q cell tile from used = λ turn le fits. used_fits_not p q cell tile used turn fits
-
 -- nothing fits where something stands
 pub taken_fits_not : (p : Task) (q : Prefix) (cell : ℕ) (y x : Placement) → Has q cell y → Fits p q cell x → ⊥
 taken_fits_not p q cell y x has fits = none_some (inside (sym fits.free ∙ has))
 
--- ---- the next placement at a cell
-
-module _ (p : Task) (q : Prefix) (cell tile turn : ℕ) where
-  -- no fitting one so far, and none of this tile
-  pub cell_goes_on : (next from : ℕ) → (next ≡ tile → from ≡ turn) → (next ≢ tile → from ≡ 0) → ((x : Placement) → Fits p q cell x → IsFrom (tile, turn) (tile_turn x) → next ≤ x.tile) → IsNextTurn p q cell next from None →
-      (x : Placement) → Fits p q cell x → IsFrom (tile, turn) (tile_turn x) → next + 1 ≤ x.tile
-  cell_goes_on next from first other so_far none x fits reached =
-      let not_here : x.tile ≢ next = λ e. none x.turn (from_low e) (subst (λ t. Fits p q cell (turned_tile t x.turn)) e (subst (Fits p q cell) (let s : x ≡ turned_tile x.tile x.turn = same_placement refl refl in s) fits)) in
-      omega (arith, so_far x fits reached, not_here)
-    where
-      from_low : x.tile ≡ next → from ≤ x.turn
-      from_low e = ⊎_elim (λ same. from_first same.1) (λ ne. omega (arith, other ne.1)) (eqb_tells next tile)
-        where
-          from_first : next ≡ tile → from ≤ x.turn
-          from_first same = ⊎_elim (λ lt. absurd (omega (arith, lt, e, same))) (λ w. omega (arith, first same, w.1)) reached
-
-  -- the first fitting one of the first tile that has one
-  pub cell_next : (next from found : ℕ) → tile ≤ next → (next ≡ tile → from ≡ turn) → (next ≢ tile → from ≡ 0) → ((x : Placement) → Fits p q cell x → IsFrom (tile, turn) (tile_turn x) → next ≤ x.tile) → IsNextTurn p q cell next from (Some found) →
-      IsNextAt tile_turn (Fits p q cell) (tile, turn) (turned_tile next found)
-  cell_next next from found le first other so_far is = record {
-    holds = is.holds.1;
-    from = ⊎_elim (λ same. inr (sym same.1, omega (arith, first same.1, is.holds.0))) (λ ne. inl (omega (arith, le, ne.1))) (eqb_tells next tile);
-    least = λ y fits reached. least y fits reached;
-  }
-    where
-      least : (y : Placement) → Fits p q cell y → IsFrom (tile, turn) (tile_turn y) → IsFrom (next, found) (tile_turn y)
-      least y fits reached =
-          let le = so_far y fits reached in
-          ⊎_elim
-          (λ e. inr (sym e.1, is.least y.turn (low y reached e.1, subst (λ t. Fits p q cell (turned_tile t y.turn)) e.1 (subst (Fits p q cell) (let s : y ≡ turned_tile y.tile y.turn = same_placement refl refl in s) fits))))
-          (λ ne. inl (omega (arith, le, ne.1)))
-          (eqb_tells y.tile next)
-        where
-          low : (y : Placement) → IsFrom (tile, turn) (tile_turn y) → y.tile ≡ next → from ≤ y.turn
-          low y reached e = ⊎_elim (λ same. ⊎_elim (λ lt. absurd (omega (arith, lt, e, same.1))) (λ w. omega (arith, first same.1, w.1)) reached) (λ ne. omega (arith, other ne.1)) (eqb_tells next tile)
-
--- ---- how far the pairs of an item have been gone through
-
--- keys as numbers: at most four turns to a tile or a cell
-abbrev pub key_number : Item → Option Pair → ℕ
-key_number item last = 4 * (key_after item last).0 + (key_after item last).1
-
--- the pairs so far, and how far they go
-pub record FoundUpTo (p : Task) (q : Prefix) (item : Item) (last : Option Pair) (xs : List Pair) : Type 0 where
-  pub pairs : AreFittingUpTo p q item last xs
-  pub turn : (key_after item last).1 ≤ 4
-  pub count : length xs ≤ key_number item last
-  pub most : key_number item last ≤ 400
-
-pub found_none : (p : Task) (q : Prefix) (item : Item) → FoundUpTo p q item None []
-found_none p q item = record { pairs = fitting_none p q item; turn = omega arith; count = omega arith; most = omega arith }
-
 -- a legal turn is below 4
 pub small_turn : (p : Task) (x : Placement) → IsPuzzle p → IsLegal p x → x.turn < 4
 small_turn p x is legal = omega (arith, legal_below p x is legal, few_sides p.board)
-
--- a pair that fits is small
-pub small_pair : (p : Task) (q : Prefix) (x : Pair) → IsPuzzle p → length q ≡ cell_count p.board → Fits p q x.cell x.placement → IsSmall x
-small_pair p q x is long fits = record {
-  cell = omega (arith, slice_get_within q x.cell None fits.free, long, is.board.1);
-  tile = omega (arith, fits.legal.tile, is.tiles, is.board.1);
-  turn = small_turn p x.placement is fits.legal;
-}
-
--- so its key is
-small_key : (item : Item) (x : Pair) → IsSmall x → ((item_key item x).0 < 100) × ((item_key item x).1 < 4)
-small_key (Cell cell) x small = (small.tile, small.turn)
-small_key (Tile tile) x small = (small.cell, small.turn)
-
-module _ (p : Task) (q : Prefix) (item : Item) (last : Option Pair) (xs : List Pair) (x : Pair) (small : IsSmall x) (next : IsNextAt (item_key item) (FitsItem p q item) (key_after item last) x) (h : FoundUpTo p q item last xs) where
-  pub found_more : FoundUpTo p q item (Some x) (xs ++ x ∷ [])
-  found_more =
-      let key = small_key item x small in
-      record {
-        pairs = fitting_more p q item last xs x next h.pairs;
-        turn = omega (arith, key.1);
-        count = ⊎_elim (λ l. omega (arith, l, h.count, h.turn, length-append xs (x ∷ []))) (λ e. omega (arith, e.0, e.1, h.count, length-append xs (x ∷ []))) next.from;
-        most = omega (arith, key.0, key.1);
-      }
-
-  pub key_rises : key_number item last < key_number item (Some x)
-  key_rises = ⊎_elim (λ l. omega (arith, l, h.turn)) (λ e. omega (arith, e.0, e.1)) next.from
 
 -- a list of images has the image of each member
 contains_map : {X Y : Type 0} (f : X → Y) (xs : List X) (x : X) → Contains xs x → Contains (map f xs) (f x)
@@ -235,3 +161,118 @@ module _ (p : Task) (q : Prefix) (cell : ℕ) where
         let at_j : get_or (placements_of xs) j d ≡ (get_or xs j e).placement = get_or-map (λ (y : Pair). y.placement) xs j e d (omega (arith, length-map xs (λ (y : Pair). y.placement), in_range)) in
         subst (λ a. ByKey tile_turn a (get_or (placements_of xs) j d)) (sym at_i) (subst (ByKey tile_turn (get_or xs i e).placement) (sym at_j) (h.rising i j e lt (omega (arith, length-map xs (λ (y : Pair). y.placement), in_range))));
   }
+
+-- ---- the placements that fit at a cell, by number
+
+-- the placement with the number of a tile and a turn
+pub numbered_at : (tile turn : ℕ) → turn < 4 → numbered (4 * tile + turn) ≡ turned_tile tile turn
+numbered_at tile turn lt = same_placement (let e : (4 * tile + turn) / 4 ≡ tile = omega arith in e) (let e : (4 * tile + turn) % 4 ≡ turn = omega arith in e)
+
+module _ (p : Task) (q : Prefix) (cell : ℕ) where
+  -- what shows on a side what a number says shows what is asked there
+  pub as_asked_by : (side asked : ℕ) (numbers : List ℕ) → side < 4 → IsPuzzle p → AsksBelow p q cell side asked → AreShowing p.words asked side numbers → AreAsAsked p q cell side numbers
+  unfolding colour_of
+  as_asked_by side asked numbers side_in puzzle is shown = record {
+    only = λ n c.
+        let w = shown.only n c in
+        (w.0, λ colour other. let h = (is colour).0 other in (w.1 (omega (arith, h.0, h.1))).1 ∙ h.0);
+    all = λ n h. shown.all n (h.0, λ below. let asks = (is asked).1 (refl, below) in (asked_in (n / 4) h.0 asked asks, h.1 asked asks));
+    rising = shown.rising;
+  }
+    where
+      asked_in : (tile : ℕ) → tile < length p.words → (colour : ℕ) → IsAsked p q cell side colour → side < length (get_or p.words tile [])
+      asked_in tile lt colour other =
+          let long = puzzle.sides tile lt in
+          ⊎_elim (λ rule. let within = rule.border_pair.side_in in omega (arith, long, within)) (λ w. let within = side_in_range w.3 in omega (arith, long, within)) other
+
+  module _ (free first second third fourth : List ℕ) (are_free : AreFreeNumbers p q free) (as_first : AreAsAsked p q cell 0 first) (as_second : AreAsAsked p q cell 1 second) (as_third : AreAsAsked p q cell 2 third) (as_fourth : AreAsAsked p q cell 3 fourth) (empty : IsFree q cell) where
+    -- a number that is in all sets is that of a placement that fits
+    pub in_all_fits : (n : ℕ) → Contains free n × Contains first n × Contains second n × Contains third n × Contains fourth n → Fits p q cell (numbered n)
+    in_all_fits n h =
+        let w = are_free.only n h.0 in
+        fits_shown p q cell (numbered n) empty w.1 w.0
+        (each_of_four (ShowsAsked p q cell (numbered n)) (as_first.only n h.1).1 (as_second.only n h.2).1 (as_third.only n h.3).1 (as_fourth.only n h.4).1)
+
+    pub fits_in_all : (n : ℕ) → Fits p q cell (numbered n) → Contains free n × Contains first n × Contains second n × Contains third n × Contains fourth n
+    fits_in_all n fits =
+        let tile_in = fits.legal.tile in
+        let shows = shown_fits p q cell (numbered n) fits in
+        (are_free.all n (fits.legal, fits.unused), as_first.all n (tile_in, shows 0), as_second.all n (tile_in, shows 1), as_third.all n (tile_in, shows 2), as_fourth.all n (tile_in, shows 3))
+
+    pub fitting_common : (common : List ℕ) → IsListing ◌<◌ (λ n. Contains free n × Contains first n × Contains second n × Contains third n × Contains fourth n) common → IsListing ◌<◌ (λ n. Fits p q cell (numbered n)) common
+    fitting_common common both = record {
+      only = λ n c. in_all_fits n (both.only n c);
+      all = λ n fits. both.all n (fits_in_all n fits);
+      rising = both.rising;
+    }
+
+    -- the turns after which a tile fits
+    pub turns_common : (tile turns : ℕ) → ((n : ℕ) → n < 4 → (bit_at turns n ≡ 1) ↔ (Contains free (4 * tile + n) × Contains first (4 * tile + n) × Contains second (4 * tile + n) × Contains third (4 * tile + n) × Contains fourth (4 * tile + n))) →
+        (turn : ℕ) → turn < 4 → (bit_at turns turn ≡ 1 → Fits p q cell (turned_tile tile turn)) × (Fits p q cell (turned_tile tile turn) → bit_at turns turn ≡ 1)
+    turns_common tile turns is turn lt = (
+      λ one. subst (Fits p q cell) (numbered_at tile turn lt) (in_all_fits (4 * tile + turn) ((is turn lt).0 one)),
+      λ fits. (is turn lt).1 (fits_in_all (4 * tile + turn) (subst (Fits p q cell) (sym (numbered_at tile turn lt)) fits)),
+    )
+
+  -- nothing fits where something stands
+  pub fitting_taken : (y : Placement) → Has q cell y → IsListing ◌<◌ (λ n. Fits p q cell (numbered n)) []
+  fitting_taken y has = record {
+    only = λ n c. absurd (omega (arith, c.1));
+    all = λ n fits. absurd (taken_fits_not p q cell y (numbered n) has fits);
+    rising = λ i j d lt in_range. absurd (omega (arith, in_range));
+  }
+
+-- ---- the pairs of an item, by number
+
+number_rises : (m n : ℕ) → m < n → ComesBefore (m / 4, m % 4) (n / 4, n % 4)
+number_rises m n lt = ⊎_elim (λ e. inr (e.1, let same = e.1 in omega (arith, lt, same))) (λ ne. let other = ne.1 in inl (omega (arith, lt, other))) (eqb_tells (m / 4) (n / 4))
+
+pair_rises : (item : Item) (m n : ℕ) → m < n → ByKey (item_key item) (numbered_pair item m) (numbered_pair item n)
+pair_rises (Cell cell) m n lt = number_rises m n lt
+pair_rises (Tile tile) m n lt = number_rises m n lt
+
+-- the pairs with rising numbers, if these are the numbers of the pairs that fit
+pub fitting_numbered : (p : Task) (q : Prefix) (item : Item) (numbers : List ℕ) → ((n : ℕ) → Contains numbers n → FitsItem p q item (numbered_pair item n)) → ((x : Pair) → FitsItem p q item x → (n : ℕ) × Contains numbers n × (numbered_pair item n ≡ x)) →
+    ((i j d : ℕ) → i < j → j < length numbers → get_or numbers i d < get_or numbers j d) → AreFitting p q item (map (numbered_pair item) numbers)
+fitting_numbered p q item numbers only all rising = record {
+  only = λ x c. let m = contains_mapped (numbered_pair item) numbers x c in subst (FitsItem p q item) m.2 (only m.0 m.1);
+  all = λ x fits. let m = all x fits in subst (Contains (map (numbered_pair item) numbers)) m.2 (contains_map (numbered_pair item) numbers m.0 m.1);
+  rising = λ i j d lt in_range.
+      let long = length-map numbers (numbered_pair item) in
+      let at_i = get_or-map (numbered_pair item) numbers i 0 d (omega (arith, long, lt, in_range)) in
+      let at_j = get_or-map (numbered_pair item) numbers j 0 d (omega (arith, long, in_range)) in
+      subst (λ a. ByKey (item_key item) a (get_or (map (numbered_pair item) numbers) j d)) (sym at_i)
+      (subst (ByKey (item_key item) (numbered_pair item (get_or numbers i 0))) (sym at_j) (pair_rises item (get_or numbers i 0) (get_or numbers j 0) (rising i j 0 lt (omega (arith, long, in_range)))));
+}
+
+pub fitting_at_cell : (p : Task) (q : Prefix) (cell : ℕ) (numbers : List ℕ) → IsPuzzle p → IsListing ◌<◌ (λ n. Fits p q cell (numbered n)) numbers → AreFitting p q (Cell cell) (map (numbered_pair (Cell cell)) numbers)
+fitting_at_cell p q cell numbers puzzle is =
+    fitting_numbered p q (Cell cell) numbers (λ n c. (refl, is.only n c))
+    (λ x fits.
+    let lt = small_turn p x.placement puzzle fits.1.legal in
+    let at = numbered_at x.placement.tile x.placement.turn lt in
+    (4 * x.placement.tile + x.placement.turn, is.all (4 * x.placement.tile + x.placement.turn) (subst (Fits p q cell) (sym at) (subst (λ k. Fits p q k x.placement) fits.0 fits.1)), same_pair (sym fits.0) at))
+    is.rising
+
+pub fitting_of_tile : (p : Task) (q : Prefix) (tile : ℕ) (numbers : List ℕ) → IsPuzzle p → IsListing ◌<◌ (λ n. Fits p q (n / 4) (turned_tile tile (n % 4))) numbers → AreFitting p q (Tile tile) (map (numbered_pair (Tile tile)) numbers)
+fitting_of_tile p q tile numbers puzzle is =
+    fitting_numbered p q (Tile tile) numbers (λ n c. (refl, is.only n c))
+    (λ x fits.
+    let lt = small_turn p x.placement puzzle fits.1.legal in
+    let cell : (4 * x.cell + x.placement.turn) / 4 ≡ x.cell = omega (arith, lt) in
+    let turn : (4 * x.cell + x.placement.turn) % 4 ≡ x.placement.turn = omega (arith, lt) in
+    let at : turned_tile tile ((4 * x.cell + x.placement.turn) % 4) ≡ x.placement = same_placement (sym fits.0) turn in
+    (4 * x.cell + x.placement.turn, is.all (4 * x.cell + x.placement.turn) (subst (λ k. Fits p q k (turned_tile tile ((4 * x.cell + x.placement.turn) % 4))) (sym cell) (subst (Fits p q x.cell) (sym at) fits.1)), same_pair cell at))
+    is.rising
+
+-- ---- one placement
+
+-- a placement fits where its turn is among those after which the tile fits
+pub fits_by_turn : (p : Task) (q : Prefix) (cell : ℕ) (x : Placement) (turns : ℕ) → (bit_at turns x.turn ≡ 1 → Fits p q cell (turned_tile x.tile x.turn)) × (Fits p q cell (turned_tile x.tile x.turn) → bit_at turns x.turn ≡ 1) →
+    IsTrue (eqb (bit_and (turns / 2 ^ x.turn) 1) 1) ↔ Fits p q cell x
+fits_by_turn p q cell x turns is =
+    let bit = shr_and_one turns x.turn in
+    let same : turned_tile x.tile x.turn ≡ x = same_placement refl refl in (
+      λ h. subst (Fits p q cell) same (is.0 (sym bit ∙ eqb-true (bit_and (turns / 2 ^ x.turn) 1) 1 h)),
+      λ fits. eq-eqb (bit_and (turns / 2 ^ x.turn) 1) 1 (bit ∙ is.1 (subst (Fits p q cell) (sym same) fits)),
+    )

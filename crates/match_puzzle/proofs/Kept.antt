@@ -1,13 +1,19 @@
 -- What holds of each partial arrangement stays so.
-use Rattle.std.proofs.Common.{◌≡◌, ◌<◌, ℕ, Bool, true, false, List, Some, None, MatchBool, length, length-set, get_or, replicate, set, arith, ap, sym, ◌∙◌, subst, ⊎_elim}
-use Rattle.std.proofs.lemmas.List.{get_or-set_same, get_or-set_other, get_or-replicate, length-replicate}
+use Rattle.std.proofs.Common.{◌≡◌, ◌≢◌, ◌⊎◌, ◌<◌, ◌+◌, ◌*◌, ◌/◌, ◌%◌, ◌∷◌, [], ℕ, zero, suc, eqb, List, Option, Some, None, MatchBool, Contains, length, length-set, replicate, set, arith, refl, ap, sym, ◌∙◌, subst, inl, inr, ⊎_elim}
+use Rattle.std.specs.Int.{bit_at}
+use Rattle.std.proofs.lemmas.Nat.Bits.{bit_at-zero, bit_at-lt as bit_at_lt, same_from_bits_below}
+use Rattle.std.proofs.lemmas.List.{length-replicate}
 use Rattle.std.proofs.lemmas.Bool.Decides.{eqb_tells}
 use Rattle.match_board.specs.Board.{cell_count}
+use Rattle.match_board.specs.Listing.{IsListing}
 use Rattle.match_puzzle.specs.Puzzle.{Task, IsPuzzle, IsLegal}
-use Rattle.match_puzzle.specs.Prefix.{Prefix, Has, IsFree, IsUnused, with_pair}
-use Rattle.match_puzzle.specs.Partials.{IsKept}
+use Rattle.match_puzzle.specs.Prefix.{Prefix, Has, IsFree, IsUsed, IsUnused, with_pair}
+use Rattle.match_puzzle.specs.NumberSets.{IsGroup}
+use Rattle.match_puzzle.specs.PlacementSets.{AreLegalNumbers, AreFreeNumbers, AreUnturnedLegal, numbered}
+use Rattle.match_puzzle.specs.Partials.{IsKept, AreShown}
 use Rattle.match_puzzle.specs.declared.placements.Placement.{Placement}
-use Rattle.match_puzzle.proofs.Prefixes.{slice_get-replicate, has_placed, has_new, has_still, has_lifted, has_kept}
+use Rattle.match_puzzle.proofs.FittingLemmas.{numbered_at}
+use Rattle.match_puzzle.proofs.Prefixes.{inside, slice_get-replicate, has_placed, has_new, has_still, has_lifted, has_kept}
 
 nothing_is_some : {X : Type 0} {x : X} → Some x ≡ None → ⊥
 nothing_is_some e = cc
@@ -15,48 +21,86 @@ nothing_is_some e = cc
 twice : {a b : Placement} → Some (Some a) ≡ Some (Some b) → a ≡ b
 twice e = cc
 
--- what marks say of one tile
-abbrev Mark : Bool → Prefix → ℕ → Type 0
-Mark b q tile = MatchBool b ((cell : ℕ) × (x : Placement) × Has q cell x × (x.tile ≡ tile)) (IsUnused q tile)
-
--- A mark goes on to a prefix that has what is needed of the other.
-mark_map : (b : Bool) (q q' : Prefix) (tile : ℕ) → ((cell : ℕ) (x : Placement) → Has q cell x → x.tile ≡ tile → Has q' cell x) → (IsUnused q tile → IsUnused q' tile) → Mark b q tile → Mark b q' tile
-mark_map true q q' tile f g h = (h.0, h.1, f h.0 h.1 h.2 h.3, h.3)
-mark_map false q q' tile f g h = g h
-
 -- Nothing stands in an empty prefix.
 pub has_none : (n cell : ℕ) (x : Placement) → Has (replicate n None) cell x → ⊥
 has_none n cell x has = nothing_is_some (slice_get-replicate n cell None (Some x) has)
 
-pub kept_new : (p : Task) → IsPuzzle p → IsKept p (replicate (cell_count p.board) None) (replicate (cell_count p.board) false)
-kept_new p is = record {
+-- ---- which tiles are placed
+
+nowhere : {x : Option Placement} → None ≡ Some x → ⊥
+nowhere e = cc
+
+-- a tile stands somewhere or nowhere
+pub used_or_unused : (q : Prefix) (tile : ℕ) → IsUsed q tile ⊎ IsUnused q tile
+used_or_unused [] tile = inr (λ cell x has same. nowhere has)
+used_or_unused (y ∷ q) tile = ⊎_elim (λ w. inl (suc w.0, w.1, w.2, w.3)) (λ none. at_first y none) (used_or_unused q tile)
+  where
+    at_first : (z : Option Placement) → IsUnused q tile → IsUsed (z ∷ q) tile ⊎ IsUnused (z ∷ q) tile
+    at_first None none = inr elsewhere
+      where
+        elsewhere : IsUnused (None ∷ q) tile
+        elsewhere zero x has same = nothing_is_some (sym (inside has))
+        elsewhere (suc cell) x has same = none cell x has same
+    at_first (Some z) none = ⊎_elim (λ e. inl (0, z, refl, e.1)) (λ ne. inr (elsewhere ne.1)) (eqb_tells z.tile tile)
+      where
+        elsewhere : z.tile ≢ tile → IsUnused (Some z ∷ q) tile
+        elsewhere ne zero x has same = ne (ap (λ (y : Placement). y.tile) (twice has) ∙ same)
+        elsewhere ne (suc cell) x has same = none cell x has same
+
+not_both : (q : Prefix) (tile : ℕ) → IsUsed q tile → IsUnused q tile → ⊥
+not_both q tile used unused = unused used.0 used.1 used.2 used.3
+
+-- A tile is placed where none of its placements is free.
+module _ (p : Task) (q : Prefix) (numbers : List ℕ) (tile digits : ℕ) (free : AreFreeNumbers p q numbers) (unturned : AreUnturnedLegal p) (tile_in : tile < length p.words) (few : digits < 16) (group : IsGroup numbers tile digits) where
+  digit_of_free : (k : ℕ) → k < 4 → IsUsed q tile → bit_at digits k ≡ 0
+  digit_of_free k lt used =
+      ⊎_elim
+      (λ one. absurd (let e : (4 * tile + k) / 4 ≡ tile = omega (arith, lt) in not_both q tile used (subst (IsUnused q) e (free.only (4 * tile + k) ((group k lt).0 one.1)).1)))
+      (λ ne. let small = bit_at_lt digits k in let not_one = ne.1 in omega (arith, small, not_one))
+      (eqb_tells (bit_at digits k) 1)
+
+  first_of_unused : IsUnused q tile → bit_at digits 0 ≡ 1
+  first_of_unused unused =
+      (group 0 (omega arith)).1
+      (free.all (4 * tile + 0)
+      (subst (IsLegal p) (sym (numbered_at tile 0 (omega arith))) (unturned tile tile_in), subst (IsUnused q) (let e : tile ≡ (4 * tile + 0) / 4 = omega arith in e) unused))
+
+  pub used_by_group : MatchBool (eqb digits 0) (IsUsed q tile) (IsUnused q tile)
+  used_by_group =
+      ⊎_elim
+      (λ e. subst (λ b. MatchBool b (IsUsed q tile) (IsUnused q tile)) (sym e.0)
+      (⊎_elim (λ used. used) (λ unused. absurd (let none = e.1 in omega (arith, sym (first_of_unused unused) ∙ ap (λ d. bit_at d 0) none, bit_at-zero 0))) (used_or_unused q tile)))
+      (λ ne. subst (λ b. MatchBool b (IsUsed q tile) (IsUnused q tile)) (sym ne.0)
+      (⊎_elim (λ used. absurd (ne.1 (same_from_bits_below 4 digits 0 few (omega arith) (λ k lt. digit_of_free k lt used ∙ sym (bit_at-zero k))))) (λ unused. unused) (used_or_unused q tile)))
+      (eqb_tells digits 0)
+
+-- ---- nothing is placed
+
+pub kept_new : (p : Task) (numbers shown : List ℕ) → IsPuzzle p → AreLegalNumbers p numbers → AreUnturnedLegal p → AreShown p (replicate (cell_count p.board) None) shown → IsKept p (replicate (cell_count p.board) None) numbers shown
+kept_new p numbers shown is legal unturned shows = record {
   puzzle = is;
   prefix = record {
     cells = length-replicate (cell_count p.board) None;
     legal = λ cell x has. absurd (has_none _ cell x has);
     once = λ cell cell' x y has has' e. absurd (has_none _ cell x has);
   };
-  tiles = length-replicate (cell_count p.board) false ∙ sym is.tiles;
-  marks = λ tile lt.
-      let unmarked : get_or (replicate (cell_count p.board) false) tile false ≡ false = get_or-replicate (cell_count p.board) tile false false (omega (arith, length-replicate (cell_count p.board) false)) in
-      subst (λ b. Mark b (replicate (cell_count p.board) None) tile) (sym unmarked) (λ cell x has. absurd (has_none _ cell x has));
+  free = record {
+    only = λ n c. (legal.only n c, λ cell x has same. absurd (has_none _ cell x has));
+    all = λ n h. legal.all n h.0;
+    rising = legal.rising;
+  };
+  unturned = unturned;
+  shows = shows;
 }
 
-module _ (p : Task) (q : Prefix) (used : List Bool) (kept : IsKept p q used) (cell : ℕ) (x : Placement) where
-  marks_placed : IsFree q cell → (tile : ℕ) → tile < length (set used x.tile true) → Mark (get_or (set used x.tile true) tile false) (with_pair q cell x) tile
-  marks_placed free tile lt =
-      let long : tile < length used = omega (arith, length-set used x.tile true) in
-      ⊎_elim
-      (λ e. subst (λ b. Mark b (with_pair q cell x) tile) (sym (ap (λ t. get_or (set used x.tile true) t false) e.1 ∙ get_or-set_same used x.tile true false (subst (λ t. t < length used) e.1 long))) (cell, x, has_new q cell x free, sym e.1))
-      (λ e. subst (λ b. Mark b (with_pair q cell x) tile) (sym (get_or-set_other used x.tile tile true false e.1))
-      (mark_map (get_or used tile false) q (with_pair q cell x) tile
-      (λ cell' y has same. has_still q cell x cell' y free has)
-      (λ none cell' y has same. ⊎_elim (λ w. e.1 (sym same ∙ ap (λ (z : Placement). z.tile) w.1)) (λ w. none cell' y w.1 same) (has_placed q cell x cell' y free has))
-      (kept.marks tile long)))
-      (eqb_tells tile x.tile)
+module _ (p : Task) (q : Prefix) (numbers shown : List ℕ) (kept : IsKept p q numbers shown) (cell : ℕ) (x : Placement) where
+  -- ---- one is placed
 
-  pub kept_placed : IsLegal p x → IsFree q cell → IsUnused q x.tile → IsKept p (with_pair q cell x) (set used x.tile true)
-  kept_placed legal free unused = record {
+  unused_placed : (free : IsFree q cell) (tile : ℕ) → IsUnused q tile → tile ≢ x.tile → IsUnused (with_pair q cell x) tile
+  unused_placed free tile unused ne cell' y has same = ⊎_elim (λ w. ne (sym same ∙ ap (λ (z : Placement). z.tile) w.1)) (λ w. unused cell' y w.1 same) (has_placed q cell x cell' y free has)
+
+  pub kept_placed : (after : List ℕ) → IsListing ◌<◌ (λ n. Contains numbers n × (n / 4 ≢ x.tile)) after → IsLegal p x → IsFree q cell → IsUnused q x.tile → (shown' : List ℕ) → AreShown p (with_pair q cell x) shown' → IsKept p (with_pair q cell x) after shown'
+  kept_placed after others legal free unused shown' shows = record {
     puzzle = kept.puzzle;
     prefix = record {
       cells = length-set q cell (Some x) ∙ kept.prefix.cells;
@@ -67,34 +111,59 @@ module _ (p : Task) (q : Prefix) (used : List Bool) (kept : IsKept p q used) (ce
           (λ v. ⊎_elim (λ w. absurd (unused a y v.1 (e ∙ ap (λ (u : Placement). u.tile) w.1))) (λ w. kept.prefix.once a b y z v.1 w.1 e) (has_placed q cell x b z free has_b))
           (has_placed q cell x a y free has_a);
     };
-    tiles = length-set used x.tile true ∙ kept.tiles;
-    marks = marks_placed free;
+    free = record {
+      only = λ n c. let w = others.only n c in let old = kept.free.only n w.0 in (old.0, unused_placed free (n / 4) old.1 w.1);
+      all = λ n h.
+          let ne : n / 4 ≢ x.tile = λ e. h.1 cell x (has_new q cell x free) (sym e) in
+          others.all n (kept.free.all n (h.0, λ cell' y has same. h.1 cell' y (has_still q cell x cell' y free has) same), ne);
+      rising = others.rising;
+    };
+    unturned = kept.unturned;
+    shows = shows;
   }
+
+  -- ---- one is taken away
 
   one_standing : Has q cell x → (cell' : ℕ) (y : Placement) → cell' ≡ cell → Has q cell' y → y ≡ x
   one_standing here cell' y same has = twice (sym (subst (λ k. Has q k y) same has) ∙ here)
 
-  marks_lifted : Has q cell x → (tile : ℕ) → tile < length (set used x.tile false) → Mark (get_or (set used x.tile false) tile false) (set q cell None) tile
-  marks_lifted here tile lt =
-      let long : tile < length used = omega (arith, length-set used x.tile false) in
-      ⊎_elim
-      (λ e. subst (λ b. Mark b (set q cell None) tile) (sym (ap (λ t. get_or (set used x.tile false) t false) e.1 ∙ get_or-set_same used x.tile false false (subst (λ t. t < length used) e.1 long)))
-      (λ cell' y has same. let w = has_lifted q cell cell' x y here has in w.0 (kept.prefix.once cell' cell y x w.1 here (same ∙ e.1))))
-      (λ e. subst (λ b. Mark b (set q cell None) tile) (sym (get_or-set_other used x.tile tile false false e.1))
-      (mark_map (get_or used tile false) q (set q cell None) tile
-      (λ cell' y has named. has_kept q cell cell' y (λ same. e.1 (sym named ∙ ap (λ (u : Placement). u.tile) (one_standing here cell' y same has))) has)
-      (λ none cell' y has same. none cell' y (has_lifted q cell cell' x y here has).1 same)
-      (kept.marks tile long)))
-      (eqb_tells tile x.tile)
+  unused_lifted : Has q cell x → (tile : ℕ) → tile ≡ x.tile → IsUnused (set q cell None) tile
+  unused_lifted here tile e cell' y has same = let w = has_lifted q cell cell' x y here has in w.0 (kept.prefix.once cell' cell y x w.1 here (same ∙ e))
 
-  pub kept_lifted : Has q cell x → IsKept p (set q cell None) (set used x.tile false)
-  kept_lifted here = record {
+  pub kept_lifted : (turns : ℕ) (legal after : List ℕ) → AreLegalNumbers p legal → IsGroup legal x.tile turns → IsListing ◌<◌ (λ n. Contains numbers n ⊎ ((n / 4 ≡ x.tile) × (bit_at turns (n % 4) ≡ 1))) after → Has q cell x → (shown' : List ℕ) → AreShown p (set q cell None) shown' → IsKept p (set q cell None) after shown'
+  kept_lifted turns legal after are_legal group more here shown' shows = record {
     puzzle = kept.puzzle;
     prefix = record {
       cells = length-set q cell None ∙ kept.prefix.cells;
       legal = λ cell' y has. kept.prefix.legal cell' y (has_lifted q cell cell' x y here has).1;
       once = λ a b y z has_a has_b e. kept.prefix.once a b y z (has_lifted q cell a x y here has_a).1 (has_lifted q cell b x z here has_b).1 e;
     };
-    tiles = length-set used x.tile false ∙ kept.tiles;
-    marks = marks_lifted here;
+    free = record {
+      only = λ n c.
+          ⊎_elim
+          (λ old. let w = kept.free.only n old in (w.0, λ cell' y has same. w.1 cell' y (has_lifted q cell cell' x y here has).1 same))
+          (λ new.
+          let e = new.0 in
+          let at : 4 * x.tile + n % 4 ≡ n = omega (arith, e) in
+          (subst (λ k. IsLegal p (numbered k)) at (are_legal.only (4 * x.tile + n % 4) ((group (n % 4) (omega arith)).0 new.1)), unused_lifted here (n / 4) e))
+          (more.only n c);
+      all = λ n h.
+          ⊎_elim
+          (λ e.
+          let same = e.1 in
+          let at : n ≡ 4 * x.tile + n % 4 = omega (arith, same) in
+          more.all n (inr (same, (group (n % 4) (omega arith)).1 (subst (Contains legal) at (are_legal.all n h.0)))))
+          (λ ne. more.all n (inl (kept.free.all n (h.0, unused_before (n / 4) ne.1 h.1))))
+          (eqb_tells (n / 4) x.tile);
+      rising = more.rising;
+    };
+    unturned = kept.unturned;
+    shows = shows;
   }
+    where
+      unused_before : (tile : ℕ) → tile ≢ x.tile → IsUnused (set q cell None) tile → IsUnused q tile
+      unused_before tile ne unused cell' y has same =
+          ⊎_elim
+          (λ e. ne (sym same ∙ ap (λ (z : Placement). z.tile) (one_standing here cell' y e.1 has)))
+          (λ other. unused cell' y (has_kept q cell cell' y other.1 has) same)
+          (eqb_tells cell' cell)

@@ -3,8 +3,11 @@ pub mod Prefixes
 pub mod TableLemmas
 pub mod PuzzleFaultLemmas
 pub mod Kept
+pub mod ShownLemmas
 pub mod Pigeonhole
 pub mod ArrangementLemmas
+pub mod NumberSetLemmas
+pub mod PlacementSetLemmas
 pub mod FittingLemmas
 pub mod PairLemmas
 pub mod PrefixFaultLemmas

@@ -1,16 +1,16 @@
 -- Prefixes that are made of pairs.
-use Rattle.std.proofs.Common.{◌≡◌, ◌≢◌, ◌⊎◌, ◌<◌, ◌≤◌, ◌+◌, ◌++◌, ◌∷◌, [], ℕ, zero, suc, List, Option, Some, None, Contains, length, length-set, take, get_or, set, slice_get, replicate, arith, refl, sym, ap, ◌∙◌, subst, inl, inr, ⊎_elim}
+use Rattle.std.proofs.Common.{◌≡◌, ◌≢◌, ◌⊎◌, ◌<◌, ◌+◌, ◌++◌, ◌∷◌, [], ℕ, zero, suc, List, Option, Some, None, Contains, length, length-set, take, get_or, slice_get, arith, refl, sym, ap, ◌∙◌, subst, inl, inr, ⊎_elim}
 use Rattle.std.proofs.lemmas.Bool.Decides.{eqb_tells}
 use Rattle.std.proofs.lemmas.List.{length-replicate, get_or-replicate, take_more}
 use Rattle.std.proofs.lemmas.Option.{slice_get_within, slice_get-get_or, get_or_from_slice_get}
 use Rattle.std.proofs.lemmas.List.Elements.{Contains-push_cases}
 use Rattle.match_board.specs.Board.{cell_count}
-use Rattle.match_puzzle.specs.Puzzle.{Task, IsLegal}
-use Rattle.match_puzzle.specs.Prefix.{Prefix, Has, IsFree, IsUnused, IsWithin, empty_prefix, with_pair, with_pairs}
+use Rattle.match_puzzle.specs.Puzzle.{Task}
+use Rattle.match_puzzle.specs.Prefix.{Prefix, Has, IsFree, IsUnused, IsWithin, empty_prefix, with_pair, with_pairs, without_cell}
 use Rattle.match_puzzle.specs.PrefixFaults.{IsPairList}
 use Rattle.match_puzzle.specs.declared.placements.Placement.{Placement}
 use Rattle.match_puzzle.specs.declared.placements.Pair.{Pair}
-use Rattle.match_puzzle.proofs.Prefixes.{inside, slice_get-set_same, slice_get-set_other}
+use Rattle.match_puzzle.proofs.Prefixes.{inside, has_new, lifted_is, slice_get-set_same, slice_get-set_other}
 use Rattle.match_puzzle.proofs.Kept.{has_none}
 
 none_some : {X : Type 0} {x : X} → None ≡ Some x → ⊥
@@ -90,6 +90,15 @@ taken_more xs i x e = take_more xs i x (slice_get_within xs i x e) ∙ ap (λ y.
 -- the prefix with the next pair too
 pub next_pair : (pairs : List Pair) (i : ℕ) (x : Pair) (q : Prefix) → slice_get pairs i ≡ Some x → with_pairs (take (i + 1) pairs) q ≡ with_pair (with_pairs (take i pairs) q) x.cell x.placement
 next_pair pairs i x q there = ap (λ xs. with_pairs xs q) (taken_more pairs i x there) ∙ with_pairs-append (take i pairs) (x ∷ []) q
+
+-- the last of the first pairs stands, and can be taken away again
+module _ (p : Task) (pairs : List Pair) (is : IsPairList p pairs) (i : ℕ) (x : Pair) (there : slice_get pairs i ≡ Some x) where
+  pub last_stands : Has (with_pairs (take (i + 1) pairs) (empty_prefix p)) x.cell x.placement
+  last_stands =
+      subst (λ q. Has q x.cell x.placement) (sym (next_pair pairs i x (empty_prefix p) there)) (has_new (with_pairs (take i pairs) (empty_prefix p)) x.cell x.placement (next_free p pairs is i x there))
+
+  pub last_lifted : without_cell (with_pairs (take (i + 1) pairs) (empty_prefix p)) x.cell ≡ with_pairs (take i pairs) (empty_prefix p)
+  last_lifted = ap (λ q. without_cell q x.cell) (next_pair pairs i x (empty_prefix p) there) ∙ lifted_is (with_pairs (take i pairs) (empty_prefix p)) x.cell x.placement (next_free p pairs is i x there)
 
 -- what was read is among the pairs
 pub read_pair : (pairs : List Pair) (i : ℕ) (d : Pair) → i < length pairs → slice_get pairs i ≡ Some (get_or pairs i d)

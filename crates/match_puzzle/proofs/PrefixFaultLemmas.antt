@@ -1,11 +1,10 @@
 -- The first fault of a list of pairs.
-use Rattle.std.proofs.Common.{◌≡◌, ◌≢◌, ◌⊎◌, ◌<◌, ◌≤◌, ◌+◌, ◌^◌, ℕ, zero, suc, Bool, true, false, List, Option, Some, None, length, length-set, map, set, get_or, slice_get, arith, refl, sym, ap, ◌∙◌, subst, inl, inr, ⊎_elim}
+use Rattle.std.proofs.Common.{◌≡◌, ◌≢◌, ◌⊎◌, ◌<◌, ◌≤◌, ◌+◌, ℕ, zero, suc, Bool, true, false, List, Some, length, length-set, map, set, get_or, slice_get, arith, refl, sym, ap, ◌∙◌, subst, inl, inr, ⊎_elim}
 use Rattle.std.proofs.lemmas.Bool.Decides.{eqb_tells}
 use Rattle.std.proofs.lemmas.List.{length-map, get_or-map}
 use Rattle.std.proofs.lemmas.Option.{slice_get_within, slice_get-get_or, get_or_from_slice_get}
 use Rattle.match_board.specs.Board.{cell_count}
-use Rattle.match_board.specs.First.{Rank, AtMost, IsFirst}
-use Rattle.match_board.proofs.Listings.{lt_or_le}
+use Rattle.match_board.specs.First.{AtMost}
 use Rattle.match_puzzle.specs.Puzzle.{Task, IsLegal, IsLegalTurn}
 use Rattle.match_puzzle.specs.Arrangement.{Stands}
 use Rattle.match_puzzle.specs.PrefixFaults.{IsPairList, PrefixFails, prefix_rank, IsPrefixFault, IsNextCell, IsNewTile}
@@ -14,7 +13,7 @@ use Rattle.match_puzzle.specs.declared.placements.Pair.{Pair}
 use Rattle.match_puzzle.specs.declared.faults.PrefixFault.{PrefixFault}
 use Rattle.match_puzzle.specs.declared.faults.PrefixFault.TheVariants.{Cell, Tile, Turn}
 use Rattle.match_puzzle.proofs.Prefixes.{inside}
-use Rattle.match_puzzle.proofs.ArrangementLemmas.{AreSeen, StandsBefore, NotBefore, seen_none, seen_more, seen_tells}
+use Rattle.match_puzzle.proofs.ArrangementLemmas.{AreSeen, seen_none, seen_more, seen_tells}
 
 -- the placements of the pairs
 abbrev pub placed : List Pair → List Placement

@@ -1,9 +1,9 @@
 -- Prefixes with a placement more or less.
-use Rattle.std.proofs.Common.{◌≡◌, ◌≢◌, ◌⊎◌, ◌<◌, ◌≤◌, ℕ, List, Option, Some, None, length, length-set, get_or, replicate, set, slice_get, arith, refl, ap, sym, ◌∙◌, subst, inl, inr, ⊎_elim}
+use Rattle.std.proofs.Common.{◌∷◌, [], zero, suc, ap, ◌≡◌, ◌≢◌, ◌⊎◌, ◌<◌, ◌≤◌, ℕ, List, Option, Some, None, length, length-set, get_or, replicate, set, slice_get, arith, refl, sym, ◌∙◌, subst, inl, inr, ⊎_elim}
 use Rattle.std.proofs.lemmas.Option.{slice_get_cases, slice_get-get_or, slice_get_past, slice_get_within, slice_get_read}
 use Rattle.std.proofs.lemmas.List.{get_or-set_same, get_or-set_other, get_or-replicate, length-replicate}
 use Rattle.std.proofs.lemmas.Bool.Decides.{eqb_tells}
-use Rattle.match_puzzle.specs.Prefix.{Prefix, Has, IsFree, with_pair}
+use Rattle.match_puzzle.specs.Prefix.{Prefix, Has, IsFree, with_pair, without_cell}
 use Rattle.match_puzzle.specs.declared.placements.Placement.{Placement}
 
 pub inside : {X : Type 0} {x y : X} → Some x ≡ Some y → x ≡ y
@@ -28,6 +28,16 @@ slice_get-replicate n i a x e =
 
 none≢some : {X : Type 0} {x : X} → None ≡ Some x → ⊥
 none≢some e = cc
+
+-- something stands at a cell, or nothing
+pub free_or_has : (q : Prefix) (cell : ℕ) → cell < length q → IsFree q cell ⊎ ((x : Placement) × Has q cell x)
+free_or_has [] cell lt = absurd (omega (arith, lt))
+free_or_has (y ∷ q) zero lt = standing y
+  where
+    standing : (z : Option Placement) → IsFree (z ∷ q) zero ⊎ ((x : Placement) × Has (z ∷ q) zero x)
+    standing None = inl refl
+    standing (Some x) = inr (x, refl)
+free_or_has (y ∷ q) (suc cell) lt = free_or_has q cell (omega (arith, lt))
 
 -- what stands after a placement
 pub has_placed : (q : Prefix) (cell : ℕ) (x : Placement) (cell' : ℕ) (y : Placement) → IsFree q cell → Has (with_pair q cell x) cell' y → ((cell' ≡ cell) × (y ≡ x)) ⊎ ((cell' ≢ cell) × Has q cell' y)
@@ -59,3 +69,12 @@ has_kept q cell cell' y ne has = slice_get-set_other q cell cell' None ne ∙ ha
 -- what was read where something stands
 pub read_has : (q : Prefix) (cell : ℕ) (x y : Placement) (r : Option Placement) → Has q cell x → r ≡ get_or q cell r → r ≡ Some y → Has q cell y
 read_has q cell x y r has read is = slice_get_read q (length q) cell r refl (slice_get_within q cell (Some x) has) read ∙ ap Some is
+
+-- a placement that was put and taken away
+pub lifted_is : (q : Prefix) (cell : ℕ) (x : Placement) → IsFree q cell → without_cell (with_pair q cell x) cell ≡ q
+lifted_is [] cell x free = refl
+lifted_is (y ∷ q) zero x free = ap (λ z. z ∷ q) (inside_some (sym free))
+  where
+    inside_some : {X : Type 0} {a b : X} → Some a ≡ Some b → a ≡ b
+    inside_some e = cc
+lifted_is (y ∷ q) (suc cell) x free = ap (λ z. y ∷ z) (lifted_is q cell x free)

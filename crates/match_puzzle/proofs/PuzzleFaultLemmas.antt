@@ -1,8 +1,8 @@
 -- The first fault of a puzzle.
-use Rattle.std.proofs.Common.{◌≡◌, ◌≢◌, ◌<◌, ◌≤◌, ℕ, Bool, true, false, length, arith}
+use Rattle.std.proofs.Common.{◌≡◌, ◌<◌, ℕ, false, length, arith}
 use Rattle.match_board.specs.Board.{cell_count, side_count}
 use Rattle.match_board.specs.First.{Rank, AtMost, IsFirst, IsLeast}
-use Rattle.match_puzzle.specs.Puzzle.{Task, StandsInRule, word_of}
+use Rattle.match_puzzle.specs.Puzzle.{Task, word_of}
 use Rattle.match_puzzle.specs.PuzzleFaults.{PuzzleFails, puzzle_rank}
 use Rattle.match_puzzle.specs.declared.faults.PuzzleFault.{PuzzleFault}
 use Rattle.match_puzzle.specs.declared.faults.PuzzleFault.TheVariants.{FixedTriangles, TileCount, TileSides, BadColour, BorderLength, Memory}

@@ -1,12 +1,12 @@
 -- What is looked up.
-use Rattle.std.proofs.Common.{◌≡◌, ◌≢◌, ◌⊎◌, ◌<◌, ◌≤◌, ◌+◌, ◌*◌, ◌++◌, ◌∷◌, [], ◌↔◌, ℕ, zero, suc, Bool, List, Option, Some, None, MatchBool, Contains, All, length, map, get_or, set, slice_get, arith, refl, ap, sym, ◌∙◌, subst, inl, inr, ⊎_elim}
+use Rattle.std.proofs.Common.{◌≡◌, ◌≢◌, ◌⊎◌, ◌<◌, ◌≤◌, ◌+◌, ◌++◌, ◌∷◌, [], ◌↔◌, ℕ, zero, suc, Bool, List, Option, Some, None, MatchBool, IfSome, Contains, All, length, map, get_or, set, slice_get, arith, refl, ap, sym, ◌∙◌, subst, inl, inr, ⊎_elim}
 use Rattle.std.proofs.lemmas.List.{length-map}
 use Rattle.match_board.specs.Board.{Shape, cell_count, side_count, Meets, IsBorderPair, IsBorderOrder}
 use Rattle.match_board.specs.declared.tiles.Tile.{Tile}
 use Rattle.match_puzzle.specs.declared.borders.Border.{Border}
 use Rattle.match_board.specs.Tile.{word}
 use Rattle.match_board.specs.Turns.{IsPeriod}
-use Rattle.match_puzzle.specs.Puzzle.{Task, BorderRule, free, one, each, task_of, rule_of, HasRule, Asks, AsksAt, StandsInRule, IsAsLongAsBorder}
+use Rattle.match_puzzle.specs.Puzzle.{Task, BorderRule, free, one, each, task_of, rule_of, HasRule, Asks, AsksAt, StandsInRule, IsPuzzle, IsAsLongAsBorder}
 use Rattle.match_puzzle.specs.Colours.{HasColour, IsColourCount}
 use Rattle.match_puzzle.specs.Tables.{IsSide, IsTurnCount, IsNextNumber}
 use Rattle.match_puzzle.proofs.Words.{tile_of_word, word_at}
@@ -103,6 +103,16 @@ border_side board turns border tiles cell side number rule long pair next is = (
       let asks = asks_numbered board (rule_of border) cell side number colour long pair next in
       (λ e. record { border_pair = pair; asked = asks.1 ((is colour).0 e) }, λ has. (is colour).1 (asks.0 has.asked)),
 )
+
+-- The colours that the border asks for are colours.
+stands_in_rule : (s : Shape) (rule : BorderRule) (cell side colour : ℕ) → Asks s rule cell side colour → (place : ℕ) × StandsInRule rule place colour
+stands_in_rule s free cell side colour asked = absurd asked
+stands_in_rule s (one c) cell side colour asked = (0, (refl, asked))
+stands_in_rule s (each rules) cell side colour asked = (asked.2, asked.4)
+
+pub rule_below : (p : Task) (cell side : ℕ) (rule : Option ℕ) → IsPuzzle p → ((colour : ℕ) → rule ≡ Some colour → HasRule p cell side colour) → IfSome rule (λ colour. colour < 36)
+rule_below p cell side None puzzle is = tt
+rule_below p cell side (Some colour) puzzle is = let at = stands_in_rule p.board p.border cell side colour (is colour refl).asked in puzzle.border_colours at.0 colour at.1
 
 -- one border pair more
 pub number_after_border : (s : Shape) (cell side number : ℕ) → IsBorderPair s cell side → IsNextNumber s (cell, side) number → IsNextNumber s (cell, side + 1) (number + 1)

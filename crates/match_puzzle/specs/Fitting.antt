@@ -1,5 +1,5 @@
 -- What fits a prefix.
-use Rattle.std.specs.Prelude.{◌≡◌, ◌⊎◌, ◌<◌, ◌+◌, ℕ, List, Option, Some, None, length}
+use Rattle.std.specs.Prelude.{◌≡◌, ◌⊎◌, ◌<◌, ◌/◌, ◌%◌, ℕ, List, length}
 use Rattle.match_board.specs.Board.{cell_count, Meets}
 use Rattle.match_board.specs.Listing.{IsListing, ByKey}
 use Rattle.match_puzzle.specs.Puzzle.{Task, colour_of, IsLegal, HasRule}
@@ -59,13 +59,15 @@ abbrev pub IsItem : Task → Item → Type 0
 IsItem p (Cell cell) = cell < cell_count p.board
 IsItem p (Tile tile) = tile < length p.words
 
--- the least key of pairs that come after this one, or of all
-abbrev pub key_after : Item → Option Pair → ℕ × ℕ
-key_after item None = (0, 0)
-key_after item (Some x) = ((item_key item x).0, (item_key item x).1 + 1)
+-- the tile at a turn
+abbrev pub turned_tile : (tile turn : ℕ) → Placement
+turned_tile tile turn = record { tile = tile; turn = turn }
 
--- cells and tiles are below 100, and turns below 4
-pub record IsSmall (x : Pair) : Type 0 where
-  pub cell : x.cell < 100
-  pub tile : x.placement.tile < 100
-  pub turn : x.placement.turn < 4
+-- The numbers are those of the tiles' placements that show what is asked on the side of the cell.
+abbrev pub AreAsAsked : Task → Prefix → (cell side : ℕ) → List ℕ → Type 0
+AreAsAsked p q cell side numbers = IsListing ◌<◌ (λ n. (n / 4 < length p.words) × ((colour : ℕ) → IsAsked p q cell side colour → colour_of p (turned_tile (n / 4) (n % 4)) side ≡ colour)) numbers
+
+-- the pair with this number among those that settle the item: at a cell four turns to a tile, of a tile four turns to a cell
+abbrev pub numbered_pair : Item → ℕ → Pair
+numbered_pair (Cell cell) n = record { cell = cell; placement = turned_tile (n / 4) (n % 4) }
+numbered_pair (Tile tile) n = record { cell = n / 4; placement = turned_tile tile (n % 4) }

@@ -6,7 +6,8 @@ pub mod ArrangementFaults
 pub mod Prefix
 pub mod PrefixFaults
 pub mod Fitting
-pub mod Demands
 pub mod Tables
 pub mod Partials
 pub mod Equality
+pub mod NumberSets
+pub mod PlacementSets

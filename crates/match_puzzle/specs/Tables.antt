@@ -4,6 +4,7 @@ use Rattle.match_board.specs.Board.{Shape, cell_count, side_count, Meets, IsBord
 use Rattle.match_board.specs.Turns.{IsPeriod}
 use Rattle.match_puzzle.specs.Puzzle.{Task, IsPuzzle, word_of, HasRule}
 use Rattle.match_puzzle.specs.Colours.{IsColourCount}
+use Rattle.match_puzzle.specs.PlacementSets.{AreLegalNumbers, AreUnturnedLegal, AreShowingSets}
 use Rattle.match_puzzle.specs.declared.tables.Side.{Side}
 use Rattle.match_puzzle.specs.declared.tables.Side.TheVariants.{Border, Edge}
 use Rattle.match_puzzle.specs.declared.tables.CellSides.{CellSides}
@@ -28,11 +29,14 @@ pub record AreTurnCounts (p : Task) (table : List ℕ) : Type 0 where
   pub is : (tile count : ℕ) → slice_get table tile ≡ Some count → IsTurnCount p tile count
 
 -- what holds of each puzzle
-pub record IsMade (p : Task) (sides_table : List CellSides) (turns_table : List ℕ) (count : ℕ) : Type 0 where
+pub record IsMade (p : Task) (sides_table : List CellSides) (turns_table : List ℕ) (count : ℕ) (legal_numbers : List ℕ) (showing_sets : List (List ℕ)) : Type 0 where
   pub puzzle : IsPuzzle p
   pub sides : AreSides p sides_table
   pub turn_counts : AreTurnCounts p turns_table
   pub colours : IsColourCount p count
+  pub legal : AreLegalNumbers p legal_numbers
+  pub unturned : AreUnturnedLegal p
+  pub showing : AreShowingSets p.words showing_sets
 
 -- So many border pairs come before this pair.
 pub record IsNextNumber (s : Shape) (n : ℕ × ℕ) (number : ℕ) : Type 0 where

@@ -1,19 +1,116 @@
-// Which placements fit a partial arrangement.
+//! Which placements fit a partial arrangement.
 
-ghost use Rattle.std.specs.Prelude.{◌≡◌, ◌↔◌, ◌<◌, ◌≤◌, ℕ, List, IfOk, IfSome, IsTrue, length};
-ghost use Rattle.match_board.specs.Board.{cell_count};
-ghost use Rattle.match_board.specs.Listing.{IsListing, ByKey, IsNext};
+ghost use Rattle.std.specs.Prelude.{◌≡◌, ◌↔◌, ◌<◌, ◌≤◌, ◌/◌, ◌%◌, ℕ, List, IfOk, IfSome, IsTrue, Some, length};
+ghost use Rattle.std.specs.Int.{bit_at};
+ghost use Rattle.match_board.specs.Board.{cell_count, side_count};
+ghost use Rattle.match_board.specs.Listing.{IsListing, ByKey};
 ghost use Rattle.match_puzzle.specs.declared.placements.Placement.{Placement as Standing};
 ghost use Rattle.match_puzzle.specs.declared.placements.Pair.{Pair as StandingPair};
 ghost use Rattle.match_puzzle.specs.declared.items.Item.TheVariants as items;
-ghost use Rattle.match_puzzle.specs.Fitting.{Fits, FitsItem, AreFitting, IsItem, IsSmall, item_key, key_after, tile_turn, cell_turn};
-ghost use Rattle.match_puzzle.specs.Demands.{IsNextTurn};
+ghost use Rattle.match_puzzle.specs.Puzzle.{IsPuzzle};
+ghost use Rattle.match_puzzle.specs.Fitting.{Fits, AreFitting, AreAsAsked, IsAsked, IsItem, tile_turn, turned_tile};
 
+use crate::fitting_pairs::FittingPairs;
 use crate::items::Item;
+use crate::number_sets::NumberSet;
 use crate::partials::Partial;
+use crate::placement_sets::ANY_COLOUR;
 use crate::placements::{Pair, Placement};
 use crate::puzzles::Puzzle;
+use crate::tables::Side;
 use std::alloc::{AllocError, Global};
+
+impl<'a> Partial<'a> {
+    /// All pairs that fit and settle the item, in the item's order. It takes no memory.
+    ///
+    /// At a cell it costs a few words for each side, of a tile as much for each cell.
+    pub fn fitting(&self, item: Item) -> FittingPairs
+        requires { IsItem self.now.puzzle item }
+        ensures { AreFitting self.now.puzzle self.now.placed item result }
+    {
+        let numbers = match item {
+            Item::Cell(cell) => self.fitting_at(cell),
+            Item::Tile(tile) => self.fitting_of(tile),
+        };
+        FittingPairs::new(item, numbers)
+    }
+
+    // The placements that fit at the cell: of tile t after turn r by 4 t + r.
+    fn fitting_at(&self, cell: u16) -> NumberSet
+        requires { cell < cell_count self.now.puzzle.board }
+        ensures fitting { IsListing ◌<◌ (λ n. Fits self.now.puzzle self.now.placed cell (turned_tile (n / 4) (n % 4))) result }
+        ensures puzzle { IsPuzzle self.now.puzzle }
+    {
+        if self.at(cell).is_some() {
+            return NumberSet::new();
+        }
+        self.free().common(
+            self.as_asked(cell, 0),
+            self.as_asked(cell, 1),
+            self.as_asked(cell, 2),
+            self.as_asked(cell, 3),
+        )
+    }
+
+    // Where the tile fits: at cell c after turn r by 4 c + r.
+    fn fitting_of(&self, tile: u16) -> NumberSet
+        requires { tile < length self.now.puzzle.words }
+        ensures fitting { IsListing ◌<◌ (λ n. Fits self.now.puzzle self.now.placed (n / 4) (turned_tile tile (n % 4))) result }
+        ensures puzzle { IsPuzzle self.now.puzzle }
+    {
+        let mut numbers = NumberSet::new();
+        for cell in 0..self.puzzle().board().cells() {
+            numbers.put_group(cell, self.fitting_turns(cell, tile));
+        }
+        numbers
+    }
+
+    // The turns after which the tile fits at the cell, as bits.
+    fn fitting_turns(&self, cell: u16, tile: u16) -> u8
+        requires cell { cell < cell_count self.now.puzzle.board }
+        requires tile { tile < length self.now.puzzle.words }
+        ensures few { result < 16 }
+        ensures puzzle { IsPuzzle self.now.puzzle }
+        ensures turns { (turn : ℕ) → turn < 4 → (bit_at result turn ≡ 1 → Fits self.now.puzzle self.now.placed cell (turned_tile tile turn)) × (Fits self.now.puzzle self.now.placed cell (turned_tile tile turn) → bit_at result turn ≡ 1) }
+    {
+        if self.at(cell).is_some() {
+            return 0;
+        }
+        self.free().common_group(
+            self.as_asked(cell, 0),
+            self.as_asked(cell, 1),
+            self.as_asked(cell, 2),
+            self.as_asked(cell, 3),
+            tile,
+        )
+    }
+
+    // The placements that show what is asked on the side of the cell, by number; all where there is no such side.
+    fn as_asked(&self, cell: u16, side: u8) -> &NumberSet
+        requires cell { cell < cell_count self.now.puzzle.board }
+        requires side { side < 4 }
+        ensures { AreAsAsked self.now.puzzle self.now.placed cell side result.now }
+    {
+        self.puzzle().showing(self.asked(cell, side), side)
+    }
+
+    // The colour that is asked on the side of the cell, or any.
+    fn asked(&self, cell: u16, side: u8) -> u8
+        requires cell { cell < cell_count self.now.puzzle.board }
+        requires side { side < 4 }
+        ensures most { result ≤ 36 }
+        ensures asked { (colour : ℕ) → IsAsked self.now.puzzle self.now.placed cell side colour ↔ ((result ≡ colour) × (colour < 36)) }
+        ensures puzzle { IsPuzzle self.now.puzzle }
+    {
+        if side >= self.puzzle().board().sides() {
+            return ANY_COLOUR;
+        }
+        match self.puzzle().side(cell, side) {
+            Side::Border(rule) => rule.unwrap_or(ANY_COLOUR),
+            Side::Edge { cell, side } => self.shown(cell, side),
+        }
+    }
+}
 
 impl Puzzle {
     /// Whether the placement may be put at the cell: cell and tile are free, the placement is legal, and it shows
@@ -24,61 +121,8 @@ impl Puzzle {
         requires tile { placement.tile < length self.now.words }
         ensures { IsTrue result ↔ Fits self.now partial.now.placed cell placement }
     {
-        if partial.at(cell).is_some() {
-            return false;
-        }
-        if partial.used(placement.tile) {
-            return false;
-        }
-        if !self.legal(placement) {
-            return false;
-        }
-        self.shows(&self.demand(partial, cell), placement)
-    }
-
-    /// The first pair that fits and settles the item, after this one in the item's order, or of all:
-    /// at a cell by tile, then by turn; of a tile by cell, then by turn.
-    ///
-    /// At most a pass over the tiles, or over the cells, and no memory.
-    pub fn next_fit(&self, partial: &Partial<'_>, item: Item, after: Option<Pair>) -> Option<Pair>
-        requires made { partial.now.puzzle ≡ self.now }
-        requires item { IsItem self.now item }
-        ensures next { IsNext (item_key item) (FitsItem self.now partial.now.placed item) (key_after item after) result }
-        ensures small { IfSome result IsSmall }
-    {
-        match item {
-            Item::Cell(cell) => {
-                let (tile, turn) = match after {
-                    None => (0, 0),
-                    Some(pair) => (pair.placement.tile, u16::from(pair.placement.turn) + 1),
-                };
-                let placement = self.next_at_cell(partial, cell, tile, turn)?;
-                Some(Pair { cell, placement })
-            }
-            Item::Tile(tile) => {
-                let (cell, turn) = match after {
-                    None => (0, 0),
-                    Some(pair) => (pair.cell, u16::from(pair.placement.turn) + 1),
-                };
-                self.next_of_tile(partial, tile, cell, turn)
-            }
-        }
-    }
-
-    /// How many pairs fit and settle the item: at most 400. It takes no memory.
-    pub fn count(&self, partial: &Partial<'_>, item: Item) -> u16
-        requires made { partial.now.puzzle ≡ self.now }
-        requires item { IsItem self.now item }
-        ensures most { result ≤ 400 }
-        ensures count { (xs : List StandingPair) × AreFitting self.now partial.now.placed item xs × (length xs ≡ result) }
-    {
-        let mut count = 0;
-        let mut last = None;
-        while let Some(pair) = self.next_fit(partial, item, last) {
-            count += 1;
-            last = Some(pair);
-        }
-        count
+        let turns = partial.fitting_turns(cell, placement.tile);
+        placement.turn < 4 && turns >> placement.turn & 1 == 1
     }
 
     /// How many placements fit at the cell.
@@ -87,7 +131,7 @@ impl Puzzle {
         requires cell { cell < cell_count self.now.board }
         ensures { (xs : List Standing) × IsListing (ByKey tile_turn) (Fits self.now partial.now.placed cell) xs × (length xs ≡ result) }
     {
-        self.count(partial, Item::Cell(cell))
+        partial.fitting(Item::Cell(cell)).len()
     }
 
     /// How many pairs of the tile fit.
@@ -96,7 +140,7 @@ impl Puzzle {
         requires tile { tile < length self.now.words }
         ensures { (xs : List StandingPair) × AreFitting self.now partial.now.placed (items.Tile tile) xs × (length xs ≡ result) }
     {
-        self.count(partial, Item::Tile(tile))
+        partial.fitting(Item::Tile(tile)).len()
     }
 
     /// The placements that fit at the cell, by tile, then by turn.
@@ -110,13 +154,12 @@ impl Puzzle {
         requires cell { cell < cell_count self.now.board }
         ensures { IfOk result (λ v. IsListing (ByKey tile_turn) (Fits self.now partial.now.placed cell) v.items) }
     {
-        let mut found = Vec::new(alloc);
-        let mut last = None;
-        while let Some(pair) = self.next_fit(partial, Item::Cell(cell), last) {
-            found.push(pair.placement)?;
-            last = Some(pair);
+        let mut pairs = partial.fitting(Item::Cell(cell));
+        let mut placements = Vec::with_capacity(alloc, usize::from(pairs.len()))?;
+        while let Some(pair) = pairs.take_first() {
+            placements.push(pair.placement)?;
         }
-        Ok(found)
+        Ok(placements)
     }
 
     /// The pairs of the tile that fit, by cell, then by turn.
@@ -130,74 +173,11 @@ impl Puzzle {
         requires tile { tile < length self.now.words }
         ensures { IfOk result (λ v. AreFitting self.now partial.now.placed (items.Tile tile) v.items) }
     {
-        let mut found = Vec::new(alloc);
-        let mut last = None;
-        while let Some(pair) = self.next_fit(partial, Item::Tile(tile), last) {
+        let mut pairs = partial.fitting(Item::Tile(tile));
+        let mut found = Vec::with_capacity(alloc, usize::from(pairs.len()))?;
+        while let Some(pair) = pairs.take_first() {
             found.push(pair)?;
-            last = Some(pair);
         }
         Ok(found)
-    }
-
-    // The first placement from this tile and turn on that fits at the cell, by tile, then by turn.
-    fn next_at_cell(
-        &self,
-        partial: &Partial<'_>,
-        cell: u16,
-        tile: u16,
-        turn: u16,
-    ) -> Option<Placement>
-        requires made { partial.now.puzzle ≡ self.now }
-        requires cell { cell < cell_count self.now.board }
-        ensures next { IsNext tile_turn (Fits self.now partial.now.placed cell) (tile, turn) result }
-        ensures small { IfSome result (λ x. (cell < 100) × (x.tile < 100) × (x.turn < 4)) }
-    {
-        if partial.at(cell).is_some() {
-            return None;
-        }
-        let demand = self.demand(partial, cell);
-        for next in tile..self.board().cells() {
-            let from = if next == tile { turn } else { 0 };
-            if let Some(turn) = self.next_turn(partial, &demand, next, from) {
-                return Some(Placement { tile: next, turn });
-            }
-        }
-        None
-    }
-
-    // The first pair of the tile from this cell and turn on that fits, by cell, then by turn.
-    fn next_of_tile(&self, partial: &Partial<'_>, tile: u16, cell: u16, turn: u16) -> Option<Pair>
-        requires made { partial.now.puzzle ≡ self.now }
-        requires tile { tile < length self.now.words }
-        ensures next { IsNext cell_turn (FitsItem self.now partial.now.placed (items.Tile tile)) (cell, turn) result }
-        ensures small { IfSome result IsSmall }
-    {
-        if partial.used(tile) {
-            return None;
-        }
-        for next in cell..self.board().cells() {
-            let from = if next == cell { turn } else { 0 };
-            if let Some(turn) = self.next_turn_at(partial, next, tile, from) {
-                let placement = Placement { tile, turn };
-                return Some(Pair {
-                    cell: next,
-                    placement,
-                });
-            }
-        }
-        None
-    }
-
-    // The least turn from one on at which the tile fits at the cell.
-    fn next_turn_at(&self, partial: &Partial<'_>, cell: u16, tile: u16, from: u16) -> Option<u8>
-        requires made { partial.now.puzzle ≡ self.now }
-        requires cell { cell < cell_count self.now.board }
-        requires tile { tile < length self.now.words }
-        ensures { IsNextTurn self.now partial.now.placed cell tile from result }
-    {
-        if partial.at(cell).is_some() {
-            return None;
-        }
-        self.next_turn(partial, &self.demand(partial, cell), tile, from)
     }
 }

@@ -1,9 +1,12 @@
 // Partial arrangements.
 
-ghost use Rattle.std.specs.Prelude.{◌≡◌, ◌↔◌, ◌<◌, ℕ, IfOk, IfSome, IsTrue, MatchBool, false, map, None, Some, List, length, slice_get};
-ghost use Rattle.match_board.specs.Board.{cell_count};
+ghost use Rattle.std.specs.Prelude.{◌≡◌, ◌↔◌, ◌⊎◌, ◌<◌, ◌≤◌, ◌+◌, ◌*◌, ℕ, slice_index, IfOk, IfSome, IsTrue, MatchBool, false, map, None, Some, List, length, slice_get};
+ghost use Rattle.match_board.specs.Board.{cell_count, side_count};
+ghost use Rattle.match_puzzle.specs.Puzzle.{colour_of};
 ghost use Rattle.match_puzzle.specs.Prefix.{IsWithin, Has};
 
+use crate::number_sets::NumberSet;
+use crate::placement_sets::ANY_COLOUR;
 use crate::placements::{Pair, Placement};
 use crate::puzzles::Puzzle;
 use std::alloc::{AllocError, Global};
@@ -14,7 +17,10 @@ use std::marker::Model;
 pub struct Partial<'a> {
     puzzle: &'a Puzzle,
     placed: Vec<Option<Placement>>,
-    used: Vec<bool>,
+    // the legal placements of tiles that are not placed
+    free: NumberSet,
+    // the colour on each of four sides of each cell, or any where nothing stands
+    shown: Vec<u8>,
 }
 
 impl<'a> Model for Partial<'a> {
@@ -25,7 +31,7 @@ impl<'a> Model for Partial<'a> {
 
     ghost view = { λ q. record { puzzle = q.puzzle.now; placed = q.placed.items } };
 
-    ghost invariant = { λ q. IsKept q.puzzle.now q.placed.items q.used.items };
+    ghost invariant = { λ q. IsKept q.puzzle.now q.placed.items q.free q.shown.items };
 }
 
 impl<'a> Partial<'a> {
@@ -33,6 +39,7 @@ impl<'a> Partial<'a> {
     ghost use Rattle.match_puzzle.specs.declared.placements.Placement.{Placement};
     ghost use Rattle.match_puzzle.specs.Prefix.{Layout, IsPrefix, IsFree, IsUsed, IsUnused, empty_prefix, with_pair, with_pairs, without_cell, Has};
     ghost use Rattle.match_puzzle.specs.PrefixFaults.{IsPairList};
+    ghost use Rattle.match_puzzle.specs.PlacementSets.{AreFreeNumbers};
 
     /// Nothing is placed yet.
     pub fn new(alloc: Global, puzzle: &'a Puzzle) -> Result<Partial<'a>, AllocError>
@@ -41,11 +48,12 @@ impl<'a> Partial<'a> {
     {
         let cells = puzzle.board().cells() as usize;
         let placed = vec![in alloc; None; cells]?;
-        let used = vec![in alloc; false; cells]?;
+        let shown = vec![in alloc; ANY_COLOUR; 4 * cells]?;
         Ok(Partial {
             puzzle,
             placed,
-            used,
+            free: puzzle.legal_numbers().copy(),
+            shown,
         })
     }
 
@@ -56,9 +64,7 @@ impl<'a> Partial<'a> {
         ensures puzzle { IsPuzzle puzzle.now }
     {
         let mut partial = Partial::new(alloc, puzzle)?;
-        for pair in pairs {
-            partial.place(pair.cell, pair.placement);
-        }
+        partial.place_all(pairs);
         Ok(partial)
     }
 
@@ -67,12 +73,40 @@ impl<'a> Partial<'a> {
         ensures { IfOk result (λ q. q ≡ self.now) }
     {
         let placed = self.placed.to_vec(alloc)?;
-        let used = self.used.to_vec(alloc)?;
+        let shown = self.shown.to_vec(alloc)?;
         Ok(Partial {
             puzzle: self.puzzle,
             placed,
-            used,
+            free: self.free.copy(),
+            shown,
         })
+    }
+
+    /// The puzzle that it is of.
+    pub fn puzzle(&self) -> &'a Puzzle
+        ensures same { result.now ≡ self.now.puzzle }
+        ensures puzzle { IsPuzzle self.now.puzzle }
+        ensures prefix { IsPrefix self.now.puzzle self.now.placed }
+    {
+        self.puzzle
+    }
+
+    // The legal placements of tiles that are not placed, by number.
+    pub(crate) fn free(&self) -> &NumberSet
+        ensures { AreFreeNumbers self.now.puzzle self.now.placed result.now }
+    {
+        &self.free
+    }
+
+    // The colour that stands on the side of the cell, or any where nothing stands.
+    pub(crate) fn shown(&self, cell: u16, side: u8) -> u8
+        requires cell { cell < cell_count self.now.puzzle.board }
+        requires side { side < side_count self.now.puzzle.board }
+        ensures placed { (x : Placement) → Has self.now.placed cell x → (result ≡ colour_of self.now.puzzle x side) × (result < 36) }
+        ensures empty { IsFree self.now.placed cell → result ≡ 36 }
+        ensures long { length self.now.placed ≡ cell_count self.now.puzzle.board }
+    {
+        self.shown[4 * usize::from(cell) + usize::from(side)]
     }
 
     /// What stands at the cell.
@@ -91,7 +125,7 @@ impl<'a> Partial<'a> {
         ensures used { MatchBool result (IsUsed self.now.placed tile) (IsUnused self.now.placed tile) }
         ensures prefix { IsPrefix self.now.puzzle self.now.placed }
     {
-        self.used[tile as usize]
+        self.free.group(tile) == 0
     }
 
     /// Whether no cell is empty.
@@ -123,7 +157,8 @@ impl<'a> Partial<'a> {
         ensures { self.new ≡ record { puzzle = self.old.puzzle; placed = with_pair self.old.placed cell placement } }
     {
         self.placed[cell as usize] = Some(placement);
-        self.used[placement.tile as usize] = true;
+        self.free.remove_group(placement.tile);
+        show(&mut self.shown, self.puzzle, cell, placement);
     }
 
     /// Takes the tile at the cell away.
@@ -133,8 +168,62 @@ impl<'a> Partial<'a> {
     {
         if let Some(placement) = self.placed[cell as usize] {
             self.placed[cell as usize] = None;
-            self.used[placement.tile as usize] = false;
+            let turns = self.puzzle.legal_numbers().group(placement.tile);
+            self.free.put_group(placement.tile, turns);
+            hide(&mut self.shown, cell);
         }
+    }
+}
+
+impl<'a> Partial<'a> {
+    ghost use Rattle.match_puzzle.specs.Prefix.{Layout, empty_prefix, with_pairs};
+    ghost use Rattle.match_puzzle.specs.PrefixFaults.{IsPairList};
+
+    /// Puts these pairs into place, where nothing is placed yet.
+    pub fn place_all(&mut self, pairs: &[Pair])
+        requires pairs { IsPairList self.old.puzzle pairs.now }
+        requires empty { self.old.placed ≡ empty_prefix self.old.puzzle }
+        ensures { self.new ≡ record { puzzle = self.old.puzzle; placed = with_pairs pairs.now (empty_prefix self.old.puzzle) } }
+    {
+        for pair in pairs {
+            self.place(pair.cell, pair.placement);
+        }
+    }
+
+    /// Takes these pairs away, where just they are placed.
+    pub fn lift_all(&mut self, pairs: &[Pair])
+        requires pairs { IsPairList self.old.puzzle pairs.now }
+        requires placed { self.old.placed ≡ with_pairs pairs.now (empty_prefix self.old.puzzle) }
+        ensures { self.new ≡ record { puzzle = self.old.puzzle; placed = empty_prefix self.old.puzzle } }
+    {
+        for place in (0..pairs.len()).rev() {
+            self.lift(pairs[place].cell);
+        }
+    }
+}
+
+// Puts down what the placement at the cell shows.
+fn show(shown: &mut Vec<u8>, puzzle: &Puzzle, cell: u16, placement: Placement)
+    requires tile { placement.tile < length puzzle.now.words }
+    requires cell { 4 * cell + 4 ≤ length shown.old.items }
+    ensures long { length shown.new.items ≡ length shown.old.items }
+    ensures shows { (side : ℕ) → side < side_count puzzle.now.board → (slice_index shown.new.items (4 * cell + side) ≡ colour_of puzzle.now placement side) × (slice_index shown.new.items (4 * cell + side) < 36) }
+    ensures others { (place : ℕ) → (place < 4 * cell) ⊎ (4 * cell + 4 ≤ place) → slice_index shown.new.items place ≡ slice_index shown.old.items place }
+{
+    for side in 0..puzzle.board().sides() {
+        shown[4 * usize::from(cell) + usize::from(side)] = puzzle.colour(placement, side);
+    }
+}
+
+// Puts down that nothing stands at the cell.
+fn hide(shown: &mut Vec<u8>, cell: u16)
+    requires { 4 * cell + 4 ≤ length shown.old.items }
+    ensures long { length shown.new.items ≡ length shown.old.items }
+    ensures any { (side : ℕ) → side < 4 → slice_index shown.new.items (4 * cell + side) ≡ 36 }
+    ensures others { (place : ℕ) → (place < 4 * cell) ⊎ (4 * cell + 4 ≤ place) → slice_index shown.new.items place ≡ slice_index shown.old.items place }
+{
+    for side in 0..4 {
+        shown[4 * usize::from(cell) + side] = ANY_COLOUR;
     }
 }
 

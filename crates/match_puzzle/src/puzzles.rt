@@ -8,6 +8,8 @@ ghost use Rattle.match_puzzle.specs.PuzzleFaults.{PuzzleFails, puzzle_rank};
 
 use crate::borders::Border;
 use crate::faults::PuzzleFault;
+use crate::number_sets::NumberSet;
+use crate::placement_sets::PlacementSets;
 use crate::placements::Placement;
 use crate::tables::{CellSides, Side, colour_count, odd_tile, sides_table, turn_counts};
 use match_board::{Board, Tile};
@@ -24,6 +26,7 @@ pub struct Puzzle {
     sides: Vec<CellSides>,
     turn_counts: Vec<u8>,
     colours: u8,
+    sets: PlacementSets,
 }
 
 impl Model for Puzzle {
@@ -34,7 +37,7 @@ impl Model for Puzzle {
 
     ghost view = { λ p. task_of p.board p.turns p.border p.tiles.items };
 
-    ghost invariant = { λ p. IsMade (task_of p.board p.turns p.border p.tiles.items) p.sides.items p.turn_counts.items p.colours };
+    ghost invariant = { λ p. IsMade (task_of p.board p.turns p.border p.tiles.items) p.sides.items p.turn_counts.items p.colours p.sets.legal p.sets.showing.items };
 }
 
 impl Puzzle {
@@ -42,6 +45,7 @@ impl Puzzle {
     ghost use Rattle.match_puzzle.specs.Puzzle.{IsLegal, HasRule, colour_of, word_of};
     ghost use Rattle.match_puzzle.specs.Colours.{IsColourCount};
     ghost use Rattle.match_puzzle.specs.Tables.{IsSide, IsTurnCount};
+    ghost use Rattle.match_puzzle.specs.PlacementSets.{AreLegalNumbers, AreUnturnedLegal, AreShowing};
 
     /// The puzzle of this board and these tiles, where tiles may be turned or not.
     ///
@@ -65,6 +69,7 @@ impl Puzzle {
         let sides = sides_table(alloc, board, border)?;
         let turn_counts = turn_counts(alloc, turns, tiles)?;
         let colours = colour_count(border, tiles);
+        let sets = PlacementSets::new(alloc, tiles, &turn_counts)?;
         let border = border.copy(alloc)?;
         let tiles = tiles.to_vec(alloc)?;
         Ok(Puzzle {
@@ -75,6 +80,7 @@ impl Puzzle {
             sides,
             turn_counts,
             colours,
+            sets,
         })
     }
 
@@ -166,12 +172,30 @@ impl Puzzle {
         self.turn_counts[tile as usize]
     }
 
+    // The legal placements, by number.
+    pub(crate) fn legal_numbers(&self) -> &NumberSet
+        ensures legal { AreLegalNumbers self.now result.now }
+        ensures unturned { AreUnturnedLegal self.now }
+    {
+        &self.sets.legal
+    }
+
+    // The placements that show on the side what is asked, by number.
+    pub(crate) fn showing(&self, asked: u8, side: u8) -> &NumberSet
+        requires asked { asked ≤ 36 }
+        requires side { side < 4 }
+        ensures { AreShowing self.now.words asked side result.now }
+    {
+        &self.sets.showing[usize::from(4 * asked + side)]
+    }
+
     /// The colour that a placed tile shows on a side.
     #[tactic(auto, unfolding(crate::specs::Puzzle::colour_of))]
     pub fn colour(&self, placement: Placement, side: u8) -> u8
         requires tile { placement.tile < length self.now.words }
         requires side { side < side_count self.now.board }
-        ensures { result ≡ colour_of self.now placement side }
+        ensures colour { result ≡ colour_of self.now placement side }
+        ensures below { result < 36 }
     {
         self.tile(placement.tile).shows(placement.turn, side)
     }

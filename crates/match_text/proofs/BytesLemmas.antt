@@ -1,6 +1,9 @@
 -- Cutting at a byte: what a search found, and a line's words by its first space.
-use Rattle.std.proofs.Common.{◌≡◌, ℕ, zero, suc, ◌+◌, ◌<◌, Bool, true, false, cond, eqb, List, [], ◌∷◌, length, get_or, take, drop, Option, Some, None, refl, ap, ◌∙◌, add-one, arith}
-use Rattle.std.specs.List.{onto_first}
+use Rattle.std.proofs.Common.{◌≡◌, ℕ, zero, suc, ◌+◌, ◌<◌, ◌≤◌, Bool, true, false, cond, eqb, List, [], ◌∷◌, length, get_or, take, drop, Option, Some, None, refl, sym, ap, ◌∙◌, add-one, arith}
+use Rattle.std.specs.List.{onto_first, position, position_or_len}
+use Rattle.std.proofs.lemmas.Bool.{ltb-false}
+use Rattle.std.proofs.lemmas.List.Quantifiers.{position-Some}
+use Rattle.std.proofs.lemmas.List.Sums.{fails_before_first}
 use Rattle.memchr.specs.Find.{IsFirstByte, is_byte}
 use Rattle.match_text.specs.Bytes.{onto, cut_at, words_of}
 
@@ -47,3 +50,19 @@ cut_at-none c bytes h = none_of c bytes (λ k lt. false_from (eqb (get_or bytes 
 
 pub cut_at-some : (c : ℕ) (bytes : List ℕ) (i : ℕ) → IsFirstByte (is_byte c) bytes (Some i) → cut_at c bytes ≡ Some (take i bytes, drop (i + 1) bytes)
 cut_at-some c bytes i h = rw add-one (found_at c bytes i h.0.high (λ k lt. false_from (eqb (get_or bytes k 0) c) (h.0.before k (omega arith) lt)) h.1)
+
+-- ---- the same, as std says what a search found
+
+absent_is : (t : Bool) (i : ℕ) → cond t (Some i) None ≡ None → t ≡ false
+absent_is true i e = absurd cc
+absent_is false i e = refl
+
+pub cut_at-absent : (c : ℕ) (bytes : List ℕ) → None ≡ position (λ b. eqb b c) bytes → cut_at c bytes ≡ None
+cut_at-absent c bytes e =
+    let past : length bytes ≤ position_or_len (λ b. eqb b c) bytes = ltb-false _ _ (absent_is _ _ (sym e)) in
+    none_of c bytes (λ k lt. fails_before_first (λ b. eqb b c) bytes k 0 (omega arith))
+
+pub cut_at-found : (c : ℕ) (bytes : List ℕ) (i : ℕ) → Some i ≡ position (λ b. eqb b c) bytes → cut_at c bytes ≡ Some (take i bytes, drop (i + 1) bytes)
+cut_at-found c bytes i e =
+    let at = position-Some (λ b. eqb b c) bytes i 0 (sym e) in
+    rw add-one (found_at c bytes i at.0 at.2 at.1)

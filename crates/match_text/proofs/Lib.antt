@@ -1,4 +1,5 @@
 pub mod BytesLemmas
+pub mod FrontLemmas
 pub mod LoopLemmas
 pub mod WordLemmas
 pub mod CutLemmas

@@ -143,6 +143,11 @@ digits_lack c small (b ∷ word) digits =
 pub decimal_lacks : (c n : ℕ) → c < 48 → n < 2 ^ 64 → has_no c (decimal n) ≡ true
 decimal_lacks c n small lt = digits_lack c small (decimal n) (own.to (decimal n) (digits_decimal own n lt))
 
+pub number_lacks : (c : ℕ) → c < 48 → (word : List ℕ) → is_number word ≡ true → has_no c word ≡ true
+number_lacks c small word is =
+    let some = both (ltb 0 (length word)) (all_ascii_digits word && (ltb 48 (get_or word 0 0) || eqb (length word) 1)) is in
+    digits_lack c small word (own.to word (both (all_ascii_digits word) (ltb 48 (get_or word 0 0) || eqb (length word) 1) some.1).0)
+
 pub cut_dot : (c : ℕ) (word rest : List ℕ) → has_no c word ≡ true → cut_at c (word ++ c ∷ rest) ≡ Some (word, rest)
 cut_dot c [] rest e = rw (eq-eqb c c refl) refl
 cut_dot c (b ∷ word) rest e =

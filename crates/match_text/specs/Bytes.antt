@@ -20,11 +20,6 @@ abbrev pub words_left : Option (List ℕ) → List (List ℕ)
 words_left None = []
 words_left (Some bytes) = words_of bytes
 
--- a word that was cut off, and the words after it
-abbrev pub words_from : Option (List ℕ) → Option (List ℕ) → List (List ℕ)
-words_from None others = []
-words_from (Some word) others = word ∷ words_left others
-
 -- how many lines end in the bytes
 abbrev pub line_ends : List ℕ → ℕ
 line_ends [] = 0

@@ -17,44 +17,56 @@ use std::alloc::Global;
 // The most placements of an arrangement.
 const MOST_PLACEMENTS: usize = 100;
 
-// The rest of the line.
-fn placements(alloc: Global, scan: &mut Scan) -> Result<Vec<Placement>, ReadFault>
-    ensures { Reads (λ row. row.items) result scan.new (entries 100 placement_in scan.old) }
+// The bytes of a line of two placements.
+const SHORT_LINE: usize = 8;
+
+// The rest of the line, in place of what the row had.
+fn placements(scan: &mut Scan, row: &mut Vec<Placement>) -> Result<(), ReadFault>
+    ensures { Reads (λ _. row.new.items) result scan.new (entries 100 placement_in scan.old) }
 {
-    let mut row = Vec::new(alloc);
+    row.clear();
     while scan.has_word() {
         scan.further_entry(row.len(), MOST_PLACEMENTS)?;
         let placement = scan.placement()?;
         row.push(placement)?;
     }
-    Ok(row)
+    Ok(())
 }
 
 #[tactic(auto, unfolding(crate::specs::Place::some_entries))]
-fn some_placements(alloc: Global, scan: &mut Scan) -> Result<Vec<Placement>, ReadFault>
-    ensures { Reads (λ row. row.items) result scan.new (some_entries 100 placement_in scan.old) }
+fn some_placements(scan: &mut Scan, row: &mut Vec<Placement>) -> Result<(), ReadFault>
+    ensures { Reads (λ _. row.new.items) result scan.new (some_entries 100 placement_in scan.old) }
 {
     scan.some_word()?;
-    placements(alloc, scan)
+    placements(scan, row)
 }
 
+// The row is read first, since an arrangement is kept with no spare room.
 #[tactic(auto, unfolding(crate::specs::Lists::arrangement_line))]
-fn arrangement(alloc: Global, scan: &mut Scan) -> Result<Arrangement, ReadFault>
-    ensures { Reads (λ row. row) result scan.new (arrangement_line scan.old) }
+fn arrangement(
+    alloc: Global,
+    scan: &mut Scan,
+    row: &mut Vec<Placement>,
+) -> Result<Arrangement, ReadFault>
+    ensures { Reads (λ arrangement. arrangement) result scan.new (arrangement_line scan.old) }
 {
     scan.next_line()?;
-    let row = some_placements(alloc, scan)?;
+    some_placements(scan, row)?;
     scan.end_of_line()?;
-    Ok(Arrangement::new(row))
+    let placements = Vec::from_slice(alloc, row)?;
+    Ok(Arrangement::new(placements))
 }
 
+// Room is taken for as many arrangements as the text ahead has short lines, whatever the count says.
 fn arrangements(alloc: Global, scan: &mut Scan, count: u32) -> Result<Vec<Arrangement>, ReadFault>
     ensures { Reads (λ rows. rows.items) result scan.new (times count arrangement_line scan.old) }
 {
-    let mut rows = Vec::new(alloc);
+    let room = (scan.bytes_ahead() / SHORT_LINE).min(count as usize);
+    let mut rows = Vec::with_capacity(alloc, room)?;
+    let mut row = Vec::new(alloc);
     for _ in 0..count {
-        let row = arrangement(alloc, scan)?;
-        rows.push(row)?;
+        let arrangement = arrangement(alloc, scan, &mut row)?;
+        rows.push(arrangement)?;
     }
     Ok(rows)
 }

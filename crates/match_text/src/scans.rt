@@ -3,29 +3,29 @@
 ghost use Rattle.std.specs.Prelude.{◌≡◌, ◌≢◌, MatchBool, MatchResult, ◌+◌, ◌<◌, ◌≤◌, ◌^◌, [], Some, length, OnErr, IfOk};
 ghost use Rattle.std.specs.Option.{option_copied};
 ghost use Rattle.match_board.specs.Tile.{word as tile_colours};
-ghost use Rattle.match_text.specs.Bytes.{words_from};
+ghost use Rattle.match_text.specs.Bytes.{words_left};
 ghost use Rattle.match_text.specs.Words.{fixed_in, version_in, number_in, colour_in, rule_in, tile_in, placement_in, pair_in};
 ghost use Rattle.match_text.specs.Place.{Place, start, first_word, other_words, without_word, judged, Gives, next_line, end_of_line, end_of_text, some_word, word_by, opening, counted, closing};
 
 use crate::faults::{TextFault, TextKind};
 use crate::words::{
-    colour_word, cut, fixed_word, front, number_word, pair_word, placement_word, rule_word,
-    tile_word, version_word,
+    colour_word, cut_line, fixed_word, front, number_word, pair_word, placement_word, rule_word,
+    short_number, short_placement, tile_word, version_word,
 };
 use match_board::Tile;
 use match_puzzle::{Pair, Placement};
 use std::marker::Model;
 
-/// Reads a text line by line, and a line word by word, each byte once.
+/// Reads a text line by line, and a line word by word. What is asked of a word costs its length.
 ///
 /// A fault at a single word leaves it as it was; one on a line that is read whole leaves it at that
 /// fault.
 #[derive(Drop)]
 pub struct Scan<'a> {
     line: u32,
-    // the next word of the line, cut off, and what stands after the space that ends it
-    word: Option<&'a [u8]>,
-    others: Option<&'a [u8]>,
+    // what is left of the line, where a word stands there
+    rest: Option<&'a [u8]>,
+    // what stands after the line
     ahead: &'a [u8],
 }
 
@@ -34,7 +34,7 @@ impl<'a> Model for Scan<'a> {
 
     ghost view = { λ s. record {
       line = s.line;
-      words = words_from (option_copied s.word) (option_copied s.others);
+      words = words_left (option_copied s.rest);
       ahead = s.ahead.now;
     } };
 
@@ -49,13 +49,13 @@ impl<'a> Scan<'a> {
     {
         Scan {
             line: 0,
-            word: None,
-            others: None,
+            rest: None,
             ahead: text,
         }
     }
 
     /// A fault on the line that is read.
+    #[inline]
     pub fn fault(&self, kind: TextKind) -> TextFault
         ensures { result ≡ record { line = self.now.line; kind = kind } }
     {
@@ -65,61 +65,65 @@ impl<'a> Scan<'a> {
         }
     }
 
+    /// How many bytes stand after the line.
+    pub fn bytes_ahead(&self) -> usize
+        ensures { result ≡ length self.now.ahead }
+    {
+        self.ahead.len()
+    }
+
     /// Goes on to the next line. Ends, where no LF is ahead.
     #[tactic(auto, unfolding(crate::specs::Place::next_line))]
     pub fn next_line(&mut self) -> Result<(), TextFault>
         ensures gives { Gives (λ _. tt) result self.new (next_line self.old) }
         ensures err { OnErr result (self.new ≡ self.old) }
     {
-        let Some((line, ahead)) = cut(self.ahead, b'\n') else {
+        let Some((line, ahead)) = cut_line(self.ahead) else {
             return Err(TextFault {
                 line: self.line + 1,
                 kind: TextKind::Ends,
             });
         };
-        let (word, others) = front(line);
         self.line += 1;
-        self.word = Some(word);
-        self.others = others;
+        self.rest = Some(line);
         self.ahead = ahead;
         Ok(())
     }
 
     /// The next word of the line, if one stands there.
+    #[inline]
     pub fn peek(&self) -> Option<&'a [u8]>
         ensures { option_copied result ≡ first_word self.now.words }
     {
-        self.word
+        Some(front(self.rest?).0)
     }
 
     /// Whether the line has a further word.
+    #[inline]
     pub fn has_word(&self) -> bool
         ensures { MatchBool result (self.now.words ≢ []) (self.now.words ≡ []) }
     {
-        self.word.is_some()
+        self.rest.is_some()
     }
 
     /// Goes past a word.
+    #[inline]
     pub fn advance(&mut self)
         requires { self.old.words ≢ [] }
         ensures { self.new ≡ without_word self.old }
     {
-        match self.others {
-            None => self.word = None,
-            Some(rest) => {
-                let (word, others) = front(rest);
-                self.word = Some(word);
-                self.others = others;
-            }
+        if let Some(rest) = self.rest {
+            self.rest = front(rest).1;
         }
     }
 
     /// The line has no further word. Word, where it has one.
+    #[inline]
     #[tactic(auto, unfolding(crate::specs::Place::end_of_line))]
     pub fn end_of_line(&self) -> Result<(), TextFault>
         ensures { Gives (λ _. tt) result self.now (end_of_line self.now) }
     {
-        match self.word {
+        match self.rest {
             None => Ok(()),
             Some(_) => Err(self.fault(TextKind::Word)),
         }
@@ -141,6 +145,7 @@ impl<'a> Scan<'a> {
     }
 
     /// The next word. Word, where none stands there.
+    #[inline]
     pub fn next_word(&self) -> Result<&'a [u8], TextFault>
         ensures { MatchResult result
             (λ word. first_word self.now.words ≡ Some word.now)
@@ -150,17 +155,19 @@ impl<'a> Scan<'a> {
     }
 
     /// A word stands there. Word, where none does.
+    #[inline]
     #[tactic(auto, unfolding(crate::specs::Place::some_word))]
     pub fn some_word(&self) -> Result<(), TextFault>
         ensures { Gives (λ _. tt) result self.now (some_word self.now) }
     {
-        match self.word {
+        match self.rest {
             None => Err(self.fault(TextKind::Word)),
             Some(_) => Ok(()),
         }
     }
 
     /// A further entry may follow those that were read. Limit, where they are as many as may stand.
+    #[inline]
     pub fn further_entry(&self, read: usize, most: usize) -> Result<(), TextFault>
         ensures { MatchResult result
             (λ _. read < most)
@@ -174,6 +181,7 @@ impl<'a> Scan<'a> {
     }
 
     /// Goes past the next word where it was judged good, and else says what is wrong with it.
+    #[inline]
     pub fn accept<X>(&mut self, judgement: Result<X, TextKind>) -> Result<X, TextFault>
         requires { self.old.words ≢ [] }
         ensures gives { Gives (λ x. x) result self.new (judged self.old (other_words self.old.words) judgement) }
@@ -208,9 +216,10 @@ impl<'a> Scan<'a> {
         self.accept(version_word(word))
     }
 
-    /// A number from `least` to `most`.
+    // A number of any length.
+    #[inline(never)]
     #[tactic(auto, unfolding(crate::specs::Place::word_by))]
-    pub fn number(&mut self, least: u32, most: u32) -> Result<u32, TextFault>
+    fn any_number(&mut self, least: u32, most: u32) -> Result<u32, TextFault>
         requires { most + 1 < 2 ^ 32 }
         ensures gives { Gives (λ n. n) result self.new (word_by (number_in least most) self.old) }
         ensures within { IfOk result (λ n. (least ≤ n) × (n ≤ most)) }
@@ -218,6 +227,28 @@ impl<'a> Scan<'a> {
     {
         let word = self.next_word()?;
         self.accept(number_word(word, least, most))
+    }
+
+    /// A number from `least` to `most`.
+    #[inline]
+    #[tactic(auto, unfolding(crate::specs::Place::word_by))]
+    pub fn number(&mut self, least: u32, most: u32) -> Result<u32, TextFault>
+        requires { most + 1 < 2 ^ 32 }
+        ensures gives { Gives (λ n. n) result self.new (word_by (number_in least most) self.old) }
+        ensures within { IfOk result (λ n. (least ≤ n) × (n ≤ most)) }
+        ensures err { OnErr result (self.new ≡ self.old) }
+    {
+        // Nearly every number is short and in its range, with a further word after it.
+        if let Some(rest) = self.rest
+            && let Some((number, others)) = short_number(rest)
+            && number >= least
+            && number <= most
+        {
+            self.rest = Some(others);
+            return Ok(number);
+        }
+        // Taken apart, so that a short number need not pass through memory.
+        Ok(self.any_number(least, most)?)
     }
 
     /// A colour, below 36.
@@ -250,14 +281,32 @@ impl<'a> Scan<'a> {
         self.accept(tile_word(word))
     }
 
-    /// A placement: a tile below 100, and a turn below 4.
+    // A placement, whatever stands after it.
+    #[inline(never)]
     #[tactic(auto, unfolding(crate::specs::Place::word_by))]
-    pub fn placement(&mut self) -> Result<Placement, TextFault>
+    fn any_placement(&mut self) -> Result<Placement, TextFault>
         ensures gives { Gives (λ p. p) result self.new (word_by placement_in self.old) }
         ensures err { OnErr result (self.new ≡ self.old) }
     {
         let word = self.next_word()?;
         self.accept(placement_word(word))
+    }
+
+    /// A placement: a tile below 100, and a turn below 4.
+    #[inline]
+    #[tactic(auto, unfolding(crate::specs::Place::word_by))]
+    pub fn placement(&mut self) -> Result<Placement, TextFault>
+        ensures gives { Gives (λ p. p) result self.new (word_by placement_in self.old) }
+        ensures err { OnErr result (self.new ≡ self.old) }
+    {
+        // Nearly every placement has a further one after it.
+        if let Some(rest) = self.rest
+            && let Some((placement, others)) = short_placement(rest)
+        {
+            self.rest = Some(others);
+            return Ok(placement);
+        }
+        self.any_placement()
     }
 
     /// A pair: a cell below 100, and a placement.

@@ -496,3 +496,92 @@ fn reads_pairs(rt: HostRuntime) {
         assert_eq!(rt; pair_of(line), Err(TextFault { line: 1, kind }));
     }
 }
+
+// A scan of one line, at its first word.
+fn scan_of(line: &[u8]) -> Result<Scan<'_>, TextFault>
+    requires { length line.now < 1000 }
+{
+    let mut scan = Scan::new(line);
+    scan.next_line()?;
+    Ok(scan)
+}
+
+#[test]
+fn goes_from_word_to_word(rt: HostRuntime) -> Result<(), Fail> {
+    let mut scan = scan_of(b"1 9 10 42 100 9.3 99.0 100 c 7\n")?;
+    for number in [1, 9, 10, 42, 100] {
+        assert_eq!(rt; scan.number(1, 100)?, number);
+    }
+    assert_eq!(rt; scan.placement()?, Placement { tile: 9, turn: 3 });
+    assert_eq!(rt; scan.placement()?, Placement { tile: 99, turn: 0 });
+    assert_eq!(rt; scan.number(100, 100)?, 100);
+    assert_eq!(rt; scan.peek(), Some(b"c".as_slice()));
+    scan.word(b"c")?;
+    assert_eq!(rt; scan.number(7, 7)?, 7);
+    scan.end_of_line()?;
+    Ok(())
+}
+
+#[test]
+fn tells_faults_of_short_words_before_a_further_one(rt: HostRuntime) -> Result<(), Fail> {
+    let numbers = [
+        (b" 1\n".as_slice(), TextKind::Number),
+        (b"  1\n".as_slice(), TextKind::Number),
+        (b"01 1\n".as_slice(), TextKind::Number),
+        (b"00 1\n".as_slice(), TextKind::Number),
+        (b"/ 1\n".as_slice(), TextKind::Number),
+        (b": 1\n".as_slice(), TextKind::Number),
+        (b"1/ 1\n".as_slice(), TextKind::Number),
+        (b"1: 1\n".as_slice(), TextKind::Number),
+        (b"11x 1\n".as_slice(), TextKind::Number),
+        (b"1\t1 1\n".as_slice(), TextKind::Number),
+        (b"0 1\n".as_slice(), TextKind::Limit),
+        (b"43 1\n".as_slice(), TextKind::Limit),
+        (b"420 1\n".as_slice(), TextKind::Limit),
+    ];
+    for (line, kind) in numbers {
+        let fault = scan_of(line)?.number(1, 42).err();
+        assert_eq!(rt; fault, Some(TextFault { line: 1, kind }));
+    }
+    let placements = [
+        (b"1 1\n".as_slice(), TextKind::Word),
+        (b"1:1 1\n".as_slice(), TextKind::Word),
+        (b"12 .3\n".as_slice(), TextKind::Word),
+        (b"09.1 1\n".as_slice(), TextKind::Number),
+        (b"9. 1\n".as_slice(), TextKind::Number),
+        (b".1 1\n".as_slice(), TextKind::Number),
+        (b"9./ 1\n".as_slice(), TextKind::Number),
+        (b"9.1.1 1\n".as_slice(), TextKind::Number),
+        (b"9.01 1\n".as_slice(), TextKind::Number),
+        (b"9.4 1\n".as_slice(), TextKind::Limit),
+        (b"9.10 1\n".as_slice(), TextKind::Limit),
+        (b"100.0 1\n".as_slice(), TextKind::Limit),
+    ];
+    for (line, kind) in placements {
+        let fault = scan_of(line)?.placement().err();
+        assert_eq!(rt; fault, Some(TextFault { line: 1, kind }));
+    }
+    Ok(())
+}
+
+#[test]
+fn keeps_each_row_by_itself(rt: HostRuntime) -> Result<(), Fail> {
+    let list = read_list(
+        rt.alloc(),
+        b"list 1\narrangements 3\n10.1 2.0\n3.3 4.2 50.0\n6.1\nend\n",
+    )?;
+    let rows = [
+        [(10, 1), (2, 0)].as_slice(),
+        [(3, 3), (4, 2), (50, 0)].as_slice(),
+        [(6, 1)].as_slice(),
+    ];
+    assert_eq!(rt; list.len(), 3);
+    for (arrangement, row) in list.iter().zip(rows) {
+        let placements = arrangement.placements();
+        assert_eq!(rt; placements.len(), row.len());
+        for (placement, (tile, turn)) in placements.iter().zip(row) {
+            assert_eq!(rt; (placement.tile, placement.turn), (*tile, *turn));
+        }
+    }
+    Ok(())
+}

@@ -1,8 +1,8 @@
 // Words by themselves: what one has to be, or what is wrong with it.
 
-ghost use Rattle.std.specs.Prelude.{◌≡◌, ◌+◌, ◌<◌, ◌≤◌, ◌^◌, ◌∷◌, ◌⊎◌, length, take, min, true, All, IfSome, IfOk};
+ghost use Rattle.std.specs.Prelude.{ℕ, List, ◌≡◌, ◌==◌, ◌+◌, ◌<◌, ◌≤◌, ◌^◌, ◌∷◌, ◌++◌, ◌⊎◌, length, take, min, true, false, All, IfSome, IfOk, IfErr, OnOk};
 ghost use Rattle.std.specs.Option.{option_map, option_copied};
-ghost use Rattle.std.specs.Str.{all_ascii_digits};
+ghost use Rattle.std.specs.List.{position};
 ghost use Rattle.std.specs.Str.Parse.{digits_value};
 ghost use Rattle.match_board.specs.Tile.{word as tile_colours};
 ghost use Rattle.match_text.specs.Bytes.{cut_at, words_of, words_left};
@@ -13,19 +13,44 @@ use match_board::Tile;
 use match_puzzle::{Pair, Placement};
 use memchr::memchr;
 
-/// What stands before the first `at`, and what stands after it.
-pub fn cut(bytes: &[u8], at: u8) -> Option<(&[u8], &[u8])>
-    ensures parts { option_map (λ x. (x.0.now, x.1.now)) result ≡ cut_at at bytes.now }
-    ensures shorter { IfSome result (λ x. length x.0.now + length x.1.now < length bytes.now) }
+/// What stands before the first LF, and what stands after it. A line may be long: the search goes
+/// by many bytes at a time.
+pub fn cut_line(text: &[u8]) -> Option<(&[u8], &[u8])>
+    ensures parts { option_map (λ x. (x.0.now, x.1.now)) result ≡ cut_at 10 text.now }
+    ensures shorter { IfSome result (λ x. length x.0.now + length x.1.now < length text.now) }
 {
-    let index = memchr(at, bytes)?;
-    Some((&bytes[..index], &bytes[index + 1..]))
+    let index = memchr(b'\n', text)?;
+    Some((&text[..index], &text[index + 1..]))
+}
+
+// The place of the first `at`. It is mostly near: the search goes byte by byte.
+#[inline]
+fn place_of(bytes: &[u8], at: u8) -> Option<usize>
+    ensures { result ≡ position (λ byte. byte == at) bytes.now }
+{
+    bytes.iter().position(|byte| *byte == at)
+}
+
+/// What stands before the first `at`, and what stands after it.
+#[inline]
+pub fn cut(bytes: &[u8], at: u8) -> Option<(&[u8], &[u8])>
+    ensures { option_map (λ x. (x.0.now, x.1.now)) result ≡ cut_at at bytes.now }
+{
+    let place = place_of(bytes, at)?;
+    Some((&bytes[..place], &bytes[place + 1..]))
 }
 
 /// The first word of a line, and what stands after the space that ends it.
+#[inline]
 pub fn front(line: &[u8]) -> (&[u8], Option<&[u8]>)
     ensures { words_of line.now ≡ result.0.now ∷ words_left (option_copied result.1) }
 {
+    // Most words of a certificate have one letter.
+    if let [letter, b' ', others @ ..] = line
+        && *letter != b' '
+    {
+        return (&line[..1], Some(others));
+    }
     match cut(line, b' ') {
         None => (line, None),
         Some((word, others)) => (word, Some(others)),
@@ -54,35 +79,23 @@ pub fn version_word(word: &[u8]) -> Result<(), TextKind>
     }
 }
 
-// Whether each byte is a decimal digit.
-fn all_digits(word: &[u8]) -> bool
-    ensures { result ≡ all_ascii_digits word.now }
+// What a number says, or `ceiling` where that is more. Number, where the word is none.
+fn number_up_to(word: &[u8], ceiling: u32) -> Result<u32, TextKind>
+    ensures number { OnOk result (is_number word.now ≡ true) }
+    ensures value { IfOk result (λ n. n ≡ min (digits_value 10 word.now) ceiling) }
+    ensures other { IfErr result (λ kind. (is_number word.now ≡ false) × (kind ≡ TextKind.Number)) }
 {
-    for byte in word {
-        if !byte.is_ascii_digit() {
-            return false;
-        }
+    if word.is_empty() || (word[0] == b'0' && word.len() > 1) {
+        return Err(TextKind::Number);
     }
-    true
-}
-
-// Whether the word is a number: digits, with no zero before another digit.
-fn is_number_word(word: &[u8]) -> bool
-    ensures { result ≡ is_number word.now }
-{
-    !word.is_empty() && (all_digits(word) && (word[0] > b'0' || word.len() == 1))
-}
-
-// What the digits say, or `ceiling` where that is more.
-fn value_up_to(word: &[u8], ceiling: u32) -> u32
-    requires digits { all_ascii_digits word.now ≡ true }
-    ensures { result ≡ min (digits_value 10 word.now) ceiling }
-{
     let mut value = 0u64;
     for byte in word {
+        if !byte.is_ascii_digit() {
+            return Err(TextKind::Number);
+        }
         value = (value * 10 + u64::from(*byte - b'0')).min(u64::from(ceiling));
     }
-    value as u32
+    Ok(value as u32)
 }
 
 /// A number from `least` to `most`; Limit outside them, however many digits it has.
@@ -92,14 +105,41 @@ pub fn number_word(word: &[u8], least: u32, most: u32) -> Result<u32, TextKind>
     ensures within { IfOk result (λ n. (least ≤ n) × (n ≤ most)) }
     ensures judges { Judges (λ n. n) result (number_in least most word.now) }
 {
-    if !is_number_word(word) {
-        return Err(TextKind::Number);
-    }
-    let value = value_up_to(word, most + 1);
+    let value = number_up_to(word, most + 1)?;
     if value < least || value > most {
         return Err(TextKind::Limit);
     }
     Ok(value)
+}
+
+// The number of one digit or two that bytes begin with, and what stands after it.
+#[inline]
+fn short_digits(bytes: &[u8]) -> Option<(u8, &[u8])>
+    ensures digits { IfSome result (λ x. (word : List ℕ) × (bytes.now ≡ word ++ x.1.now)
+        × (is_number word ≡ true) × (digits_value 10 word ≡ x.0)) }
+    ensures small { IfSome result (λ x. x.0 < 100) }
+{
+    if let [tens @ b'1'..=b'9', ones @ b'0'..=b'9', after @ ..] = bytes {
+        return Some(((tens - b'0') * 10 + (ones - b'0'), after));
+    }
+    if let [ones @ b'0'..=b'9', after @ ..] = bytes {
+        return Some((ones - b'0', after));
+    }
+    None
+}
+
+/// The number of one digit or two that a line begins with, and what stands after the space that
+/// ends it; none, where the line begins with something else, or the number ends it.
+#[inline]
+pub fn short_number(line: &[u8]) -> Option<(u32, &[u8])>
+    ensures { IfSome result (λ x. (word : List ℕ) × (words_of line.now ≡ word ∷ words_of x.1.now)
+        × (is_number word ≡ true) × (digits_value 10 word ≡ x.0)) }
+{
+    let (number, after) = short_digits(line)?;
+    let [b' ', others @ ..] = after else {
+        return None;
+    };
+    Some((u32::from(number), others))
 }
 
 // The colour that a character stands for.
@@ -194,6 +234,24 @@ pub fn placement_word(word: &[u8]) -> Result<Placement, TextKind>
     let tile = number_word(tile, 0, 99)? as u16;
     let turn = number_word(turn, 0, 3)? as u8;
     Ok(Placement { tile, turn })
+}
+
+/// The placement that a line begins with, and what stands after the space that ends it; none, where
+/// the line begins with something else, or the placement ends it.
+#[inline]
+pub fn short_placement(line: &[u8]) -> Option<(Placement, &[u8])>
+    ensures { IfSome result (λ x. (word : List ℕ) × (words_of line.now ≡ word ∷ words_of x.1.now)
+        × (placement_in word ≡ Ok x.0)) }
+{
+    let (tile, after) = short_digits(line)?;
+    let [b'.', turn @ b'0'..=b'3', b' ', others @ ..] = after else {
+        return None;
+    };
+    let placement = Placement {
+        tile: u16::from(tile),
+        turn: turn - b'0',
+    };
+    Some((placement, others))
 }
 
 /// A cell, and a placement there, with a colon between.

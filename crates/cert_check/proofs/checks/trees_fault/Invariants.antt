@@ -1,5 +1,5 @@
 use Rattle.std.proofs.Common.{◌≡◌, ◌<◌, ℕ, Some, slice_get}
-use Rattle.match_puzzle.specs.Puzzle.{IsPuzzle}
+use Rattle.match_puzzle.specs.Prefix.{empty_prefix}
 use Rattle.cert_tree.specs.Certificate.{Piece}
 use Rattle.cert_check.specs.Setting.{question_of, setting_at}
 use Rattle.cert_check.specs.NodeRules.{Holds}
@@ -11,5 +11,5 @@ abbrev pub invariant-loop-lemma : goal.invariant-loop-lemma
 invariant-loop-lemma l = record {
   before : (number : ℕ) (lemma : Piece) → number < l.lemma → slice_get (question_of l.puzzle l.listed l.certificate).lemmas number ≡ Some lemma →
       Holds (setting_at (question_of l.puzzle l.listed l.certificate) number) lemma.tree (start_of l.puzzle lemma);
-  made : 0 < l.lemma → IsPuzzle l.puzzle;
+  empty : l.partial ≡ record { puzzle = l.puzzle; placed = empty_prefix l.puzzle };
 }

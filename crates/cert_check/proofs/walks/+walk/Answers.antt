@@ -1,129 +1,120 @@
-use Rattle.std.proofs.Common.{◌∷◌, arith, ap, sym, ◌∙◌, refl, subst}
+use Rattle.std.proofs.Common.{◌≡◌, ◌<◌, ◌≤◌, ◌+◌, ◌-◌, ℕ, suc, ◌∷◌, List, arith, ap, sym, ◌∙◌, refl, subst}
+use Rattle.match_board.specs.First.{IsFirst}
+use Rattle.match_puzzle.specs.Puzzle.{Task}
 use Rattle.match_puzzle.specs.Prefix.{Layout}
-use Rattle.cert_tree.specs.Tree.{branch, tree_of, forest_of}
-use Rattle.cert_check.specs.TreeFaults.{FailsAt}
+use Rattle.match_puzzle.specs.declared.placements.Pair.{Pair}
+use Rattle.cert_tree.specs.Tree.{branch, count, more}
+use Rattle.cert_tree.specs.Heads.{first, front, past}
+use Rattle.cert_tree.proofs.HeadLemmas.{count-front, front_first, past_first, count_first}
+use Rattle.cert_check.specs.NodeRules.{IsBranch}
+use Rattle.cert_check.specs.TreeFaults.{BranchFails, node_rank, FailsAt}
 use Rattle.cert_check.specs.Walk.{Tells}
-use Rattle.cert_tree.proofs.TreeLemmas.{tree_of-Cell, tree_of-Tile}
-use Rattle.cert_check.proofs.WalkLemmas.{going_start, narrow_children, own_fault, own_pairs, Turn, turn_narrow, turn_on, turn_placed, turn_fewer, turn_fault, turn_has, turn_lifted, turn_more}
+use Rattle.cert_check.proofs.WalkLemmas.{Going, going_start, going_on, some_left, Turn, turn_placed, turn_fewer, turn_fault, turn_has, turn_lifted, turn_more}
 use Rattle.cert_check.proofs.walks.+walk.Goals as goal
+use Rattle.cert_check.proofs.walks.+walk.Goals.{walk_branch-In-Some}
 
-pub walk-walk_branch-requires : goal.walk-walk_branch-requires
-walk-walk_branch-requires t c =
-    let h = narrow_children c.args.tree.now _ c.in-Cell.children.nodes.items c.as_slice.result.now (ap tree_of c.in-Cell.is ∙ tree_of-Cell c.in-Cell.cell c.in-Cell.children) c.as_slice.ensures c.requires.narrow in
-    (omega (arith, c.decreases), (c.requires.made, (h.0, h.1)))
-
-pub walk-walk_branch-requires-in-Tile : goal.walk-walk_branch-requires-in-Tile
-walk-walk_branch-requires-in-Tile t c =
-    let h = narrow_children c.args.tree.now _ c.in-Tile.children.nodes.items c.as_slice-in-Tile.result.now (ap tree_of c.in-Tile.is ∙ tree_of-Tile c.in-Tile.tile c.in-Tile.children) c.as_slice-in-Tile.ensures c.requires.narrow in
-    (omega (arith, c.decreases), (c.requires.made, (h.0, h.1)))
-
-pub walk_branch-returns-in-Some-clause-tells : goal.walk_branch-returns-in-Some-clause-tells
-walk_branch-returns-in-Some-clause-tells t c =
+pub walk_branch-returns-in-Err-clause-tells : goal.walk_branch-returns-in-Err-clause-tells
+walk_branch-returns-in-Err-clause-tells t c =
     let s = c.args.setting.now in
     let q = c.args.partial.now.placed in
-    let trees = forest_of c.args.children.now in
-    subst (Tells s (branch c.args.item trees) q) (sym c.at_top.ensures) (own_fault s c.args.item c.args.children.now q c.in-Some.fault c.in-Some.ensures.fault)
+    let trees = front c.args.children c.args.trees.now in
+    let many = count-front c.args.children c.args.trees.now c.requires.counted in
+    let fails = subst (λ (p : Task). IsFirst node_rank (BranchFails p q c.args.item c.args.children) c.in-Err.fault) c.requires.made c.in-Err.ensures.fault in
+    subst (Tells s (branch c.args.item trees) q) (sym c.at_top.ensures) (subst (λ n. IsFirst node_rank (BranchFails s.puzzle q c.args.item n) c.in-Err.fault) (sym many) fails)
 
 pub walk_branch-loop-number-init : goal.walk_branch-loop-number-init
 walk_branch-loop-number-init t c =
     let s = c.args.setting.now in
     let q = c.args.partial.now.placed in
-    let pairs = c.in_default.ensures.fault in
+    let trees = front c.args.children c.args.trees.now in
+    let many = count-front c.args.children c.args.trees.now c.requires.counted in
+    let pairs = c.in-Ok.pairs in
+    let is = subst (λ (p : Task). IsBranch p q c.args.item c.args.children pairs) c.requires.made c.in-Ok.ensures.pairs in
+    let all : c.args.children ≡ c.args.children - 0 = omega arith in
     record {
       partial = refl;
-      going = going_start s c.args.item q (forest_of c.args.children.now) pairs.0 (own_pairs s c.args.item c.args.children.now q pairs.0 pairs.1);
-      narrow = c.requires.narrow;
+      going = subst (λ n. Going s c.args.item q trees 0 (front n c.args.trees.now) pairs) all (going_start s c.args.item q trees pairs (subst (λ n. IsBranch s.puzzle q c.args.item n pairs) (sym many) is));
+      past = ap (λ n. past n c.args.trees.now) (sym all);
+      counted = let h = c.requires.counted in omega arith;
     }
+
+-- the children that are left at a turn, one and the others
+less : (i n : ℕ) → i < n → n - i ≡ suc (n - (i + 1))
+less i n below = omega arith
 
 pub walk_branch-unreachable-requires : goal.walk_branch-unreachable-requires
 walk_branch-unreachable-requires t c =
     let s = c.args.setting.now in
-    let w = c.args.partial.now in
-    let v = c.loop-number.partial in
-    let i = c.loop-number.number in
-    let child = c.index-children-number.result in
-    let turn : Turn s c.args.item c.args.children.now w v i child c.loop-number.last = record {
-      within = c.loop-number-test.true;
-      at = c.index-children-number.is;
-      same = c.loop-number.invariant.partial;
-      going = c.loop-number.invariant.going;
-      narrow = c.loop-number.invariant.narrow;
-    } in
-    turn_on s c.args.item c.args.children.now w v i child c.loop-number.last turn c.in_default-next_fit.ensures.next
+    let l = c.loop-number in
+    let n = c.args.children in
+    let all = front n c.args.trees.now in
+    let child = first l.trees in
+    let rest = front (n - (l.number + 1)) (past 1 l.trees) in
+    going_on s c.args.item c.args.partial.now.placed all l.number child rest l.pairs
+    (subst (λ trees. Going s c.args.item c.args.partial.now.placed all l.number trees l.pairs) (front_first (n - l.number) (n - (l.number + 1)) l.trees (less l.number n c.loop-number-test.true) l.invariant.counted) l.invariant.going)
+    c.in_default.ensures.0
+
+-- The turn of the loop at which this pair was taken.
+turn_here : (t : ℕ) (c : walk_branch-In-Some t) →
+    Turn c.args.setting.now c.args.item (front c.args.children c.args.trees.now) c.args.partial.now c.loop-number.partial c.loop-number.number (first c.loop-number.trees) (front (c.args.children - (c.loop-number.number + 1)) (past 1 c.loop-number.trees)) c.in-Some.pair c.take_first.new.self
+turn_here t c =
+    let s = c.args.setting.now in
+    let l = c.loop-number in
+    let n = c.args.children in
+    let q = c.args.partial.now.placed in
+    let all = front n c.args.trees.now in
+    record {
+      same = l.invariant.partial;
+      going = subst (λ (pairs : List Pair). Going s c.args.item q all l.number (more (first l.trees) (front (n - (l.number + 1)) (past 1 l.trees))) pairs) c.in-Some.ensures
+          (subst (λ trees. Going s c.args.item q all l.number trees l.pairs) (front_first (n - l.number) (n - (l.number + 1)) l.trees (less l.number n c.loop-number-test.true) l.invariant.counted) l.invariant.going);
+    }
 
 pub walk_branch-walk-requires : goal.walk_branch-walk-requires
 walk_branch-walk-requires t c =
-    let s = c.args.setting.now in
-    let w = c.args.partial.now in
-    let v = c.loop-number.partial in
-    let i = c.loop-number.number in
-    let child = c.index-children-number.result in
-    let turn : Turn s c.args.item c.args.children.now w v i child c.loop-number.last = record {
-      within = c.loop-number-test.true;
-      at = c.index-children-number.is;
-      same = c.loop-number.invariant.partial;
-      going = c.loop-number.invariant.going;
-      narrow = c.loop-number.invariant.narrow;
-    } in
-    let fewer = turn_fewer s c.args.item c.args.children.now w v i child c.loop-number.last turn c.in-Some-next_fit.pair c.in-Some-next_fit.ensures.next c.place.new.self c.place.ensures in
-    let placed = turn_placed s c.args.item c.args.children.now w v i child c.loop-number.last turn c.in-Some-next_fit.pair c.in-Some-next_fit.ensures.next c.place.new.self c.place.ensures in
-    (omega (arith, c.decreases, fewer), (ap (λ (u : Layout). u.puzzle) placed ∙ c.requires.made, (turn_narrow s c.args.item c.args.children.now w v i child c.loop-number.last turn).0))
+    let l = c.loop-number in
+    let n = c.args.children in
+    let turn = turn_here t (goal.at.walk_branch-walk-requires t c).In-Some in
+    let fewer = turn_fewer _ _ _ _ _ _ _ _ _ _ turn c.place.new.self c.place.ensures in
+    let placed = turn_placed _ _ _ _ _ _ _ _ _ _ turn c.place.new.self c.place.ensures in
+    let some : 0 < n - l.number = let below = c.loop-number-test.true in omega arith in
+    (omega (arith, c.decreases, fewer), (ap (λ (u : Layout). u.puzzle) placed ∙ c.requires.made, some_left (n - l.number) l.trees some l.invariant.counted))
 
 pub walk_branch-returns-in-Some-2-clause-tells : goal.walk_branch-returns-in-Some-2-clause-tells
 walk_branch-returns-in-Some-2-clause-tells t c =
     let s = c.args.setting.now in
     let w = c.args.partial.now in
-    let v = c.loop-number.partial in
     let i = c.loop-number.number in
-    let child = c.index-children-number.result in
-    let turn : Turn s c.args.item c.args.children.now w v i child c.loop-number.last = record {
-      within = c.loop-number-test.true;
-      at = c.index-children-number.is;
-      same = c.loop-number.invariant.partial;
-      going = c.loop-number.invariant.going;
-      narrow = c.loop-number.invariant.narrow;
-    } in
-    let trees = forest_of c.args.children.now in
+    let all = front c.args.children c.args.trees.now in
+    let child = first c.loop-number.trees in
+    let turn = turn_here t (goal.at.walk_branch-returns-in-Some-2-clause-tells t c).In-Some in
     let child_fault = c.in-Some-2.fault in
-    let fails = subst (Tells s (tree_of child) c.place.new.self.placed) c.in-Some-2.is c.in_ok-fault.ensures.tells in
-    let all = turn_fault s c.args.item c.args.children.now w v i child c.loop-number.last turn c.in-Some-next_fit.pair c.in-Some-next_fit.ensures.next c.place.new.self c.place.ensures child_fault.path child_fault.fault fails in
-    subst (λ path. FailsAt s (branch c.args.item trees) w.placed path c.in_ok-below.field-0.fault) (sym c.in_ok-below.ensures.path)
-    (subst (λ fault. FailsAt s (branch c.args.item trees) w.placed (i ∷ child_fault.path) fault) (sym c.in_ok-below.ensures.fault) all)
+    let fails = subst (Tells s child c.place.new.self.placed) c.in-Some-2.is c.in_ok-fault.ensures.tells in
+    let whole = turn_fault _ _ _ _ _ _ _ _ _ _ turn c.place.new.self c.place.ensures child_fault.path child_fault.fault fails in
+    subst (λ path. FailsAt s (branch c.args.item all) w.placed path c.in_ok-below.field-0.fault) (sym c.in_ok-below.ensures.path)
+    (subst (λ fault. FailsAt s (branch c.args.item all) w.placed (i ∷ child_fault.path) fault) (sym c.in_ok-below.ensures.fault) whole)
 
 pub walk_branch-lift-requires : goal.walk_branch-lift-requires
 walk_branch-lift-requires t c =
-    let s = c.args.setting.now in
-    let w = c.args.partial.now in
-    let v = c.loop-number.partial in
-    let i = c.loop-number.number in
-    let child = c.index-children-number.result in
-    let turn : Turn s c.args.item c.args.children.now w v i child c.loop-number.last = record {
-      within = c.loop-number-test.true;
-      at = c.index-children-number.is;
-      same = c.loop-number.invariant.partial;
-      going = c.loop-number.invariant.going;
-      narrow = c.loop-number.invariant.narrow;
-    } in
-    (c.in-Some-next_fit.pair.placement, turn_has s c.args.item c.args.children.now w v i child c.loop-number.last turn c.in-Some-next_fit.pair c.in-Some-next_fit.ensures.next c.place.new.self c.place.ensures c.walk.new.partial (c.in_ok-fault.ensures.restored c.in_default-2.is))
+    let turn = turn_here t (goal.at.walk_branch-lift-requires t c).In-Some in
+    (c.in-Some.pair.placement, turn_has _ _ _ _ _ _ _ _ _ _ turn c.place.new.self c.place.ensures c.walk.new.partial (c.in_ok-fault.ensures.restored c.in_default-2.is))
 
 pub walk_branch-loop-number-preserved : goal.walk_branch-loop-number-preserved
 walk_branch-loop-number-preserved t c =
     let s = c.args.setting.now in
     let w = c.args.partial.now in
-    let v = c.loop-number.partial in
-    let i = c.loop-number.number in
-    let child = c.index-children-number.result in
-    let turn : Turn s c.args.item c.args.children.now w v i child c.loop-number.last = record {
-      within = c.loop-number-test.true;
-      at = c.index-children-number.is;
-      same = c.loop-number.invariant.partial;
-      going = c.loop-number.invariant.going;
-      narrow = c.loop-number.invariant.narrow;
-    } in
+    let l = c.loop-number in
+    let i = l.number in
+    let n = c.args.children in
+    let all = front n c.args.trees.now in
+    let child = first l.trees in
+    let fewer = less i n c.loop-number-test.true in
+    let turn = turn_here t (goal.at.walk_branch-loop-number-preserved t c).In-Some in
     let restored = c.in_ok-fault.ensures.restored c.in_default-2.is in
-    let holds = subst (Tells s (tree_of child) c.place.new.self.placed) c.in_default-2.is c.in_ok-fault.ensures.tells in
+    let holds = subst (Tells s child c.place.new.self.placed) c.in_default-2.is c.in_ok-fault.ensures.tells in
+    let gone = c.in_ok-fault.ensures.past c.in_default-2.is in
     record {
-      partial = turn_lifted s c.args.item c.args.children.now w v i child c.loop-number.last turn c.in-Some-next_fit.pair c.in-Some-next_fit.ensures.next c.place.new.self c.place.ensures c.walk.new.partial restored c.lift.new.self c.lift.ensures;
-      going = turn_more s c.args.item c.args.children.now w v i child c.loop-number.last turn c.in-Some-next_fit.pair c.in-Some-next_fit.ensures.next c.place.new.self c.place.ensures c.walk.new.partial restored holds;
-      narrow = (turn_narrow s c.args.item c.args.children.now w v i child c.loop-number.last turn).1;
+      partial = turn_lifted _ _ _ _ _ _ _ _ _ _ turn c.place.new.self c.place.ensures c.walk.new.partial restored c.lift.new.self c.lift.ensures;
+      going = subst (λ trees. Going s c.args.item w.placed all (i + 1) (front (n - (i + 1)) trees) c.take_first.new.self) (sym gone) (turn_more _ _ _ _ _ _ _ _ _ _ turn c.place.new.self c.place.ensures c.walk.new.partial restored holds);
+      past = ap (past (n - (i + 1))) gone ∙ sym (past_first (n - i) (n - (i + 1)) l.trees fewer l.invariant.counted) ∙ l.invariant.past;
+      counted = subst (λ trees. n - (i + 1) ≤ count trees) (sym gone) (count_first (n - i) (n - (i + 1)) l.trees fewer l.invariant.counted);
     }

@@ -1,14 +1,16 @@
-use Rattle.std.proofs.Common.{◌≡◌, ◌+◌, ◌*◌, drop}
-use Rattle.cert_tree.specs.Tree.{forest_of, AreNarrow}
+use Rattle.std.proofs.Common.{◌≡◌, ◌≤◌, ◌+◌, ◌-◌, ◌*◌}
+use Rattle.cert_tree.specs.Tree.{count}
+use Rattle.cert_tree.specs.Heads.{front, past}
 use Rattle.cert_check.proofs.WalkLemmas.{Going, free_count}
 use Rattle.cert_check.proofs.walks.+walk.Given as goal
 
--- The children before this one hold, and what is placed is as it was.
+-- The children before this one hold, what is placed is as it was, and the other children come next.
 abbrev pub invariant-walk_branch-loop-number : goal.invariant-walk_branch-loop-number
 invariant-walk_branch-loop-number l = record {
   partial : l.partial ≡ l.initial.partial;
-  going : Going l.setting l.item l.initial.partial.placed (forest_of l.children) l.number (forest_of (drop l.number l.children)) l.last;
-  narrow : AreNarrow (forest_of (drop l.number l.children));
+  going : Going l.setting l.fn.item l.initial.partial.placed (front l.children l.initial.trees) l.number (front (l.children - l.number) l.trees) l.pairs;
+  past : past (l.children - l.number) l.trees ≡ past l.children l.initial.trees;
+  counted : l.children - l.number ≤ count l.trees;
 }
 
 -- Each level fills a cell.

@@ -1,27 +1,19 @@
-use Rattle.std.proofs.Common.{◌<◌, ◌^◌, length, arith, ◌≢◌, ◌≤◌, subst}
-use Rattle.cert_tree.specs.Certificate.{number_of}
-use Rattle.cert_tree.specs.Assembly.{how_often, TellsLeast}
-use Rattle.cert_tree.specs.Tree.{tree_of, IsNarrow}
-use Rattle.cert_tree.proofs.AssemblyLemmas.{assembled_all, first_stranger, no_strangers}
+use Rattle.std.proofs.Common.{◌≡◌, map, ap, ◌∙◌}
+use Rattle.cert_tree.specs.Certificate.{piece_of, flat_piece}
+use Rattle.cert_tree.proofs.ConversionLemmas.{short_flat, flat_assembled, flat_failed}
 use Rattle.cert_tree.proofs.assemblies.assemble.Goals as goal
 
-pub returns-in-Some-clause-fault : goal.returns-in-Some-clause-fault
-returns-in-Some-clause-fault c =
-    let least = subst (λ xs. TellsLeast (λ n. (c.args.count ≤ n) × (how_often number_of xs n ≢ 0)) c.least_stranger.result) c.deref.ensures.value c.least_stranger.ensures in
-    first_stranger c.args.count c.args.pieces.items c.in-Some.number (subst (TellsLeast (λ n. (c.args.count ≤ n) × (how_often number_of c.args.pieces.items n ≢ 0))) c.in-Some.is least)
+pub assemble_flat-requires-clause-prefixes : goal.assemble_flat-requires-clause-prefixes
+assemble_flat-requires-clause-prefixes c =
+    let same : map flat_piece c.in_ok-flat.flat.items ≡ map piece_of c.args.pieces.items = c.in_ok-flat.ensures ∙ ap (map piece_of) c.deref.ensures.value in
+    short_flat c.in_ok-flat.flat.items c.args.pieces.items same c.requires.prefixes
 
-pub in_order-requires : goal.in_order-requires
-in_order-requires c =
-    let least = subst (λ xs. TellsLeast (λ n. (c.args.count ≤ n) × (how_often number_of xs n ≢ 0)) c.least_stranger.result) c.deref.ensures.value c.least_stranger.ensures in
-    no_strangers c.args.count c.args.pieces.items (subst (TellsLeast (λ n. (c.args.count ≤ n) × (how_often number_of c.args.pieces.items n ≢ 0))) c.in_default.is least)
+pub returns-clause-lemmas : goal.returns-clause-lemmas
+returns-clause-lemmas c =
+    let same : map flat_piece c.in_ok-flat.flat.items ≡ map piece_of c.args.pieces.items = c.in_ok-flat.ensures ∙ ap (map piece_of) c.deref.ensures.value in
+    flat_assembled c.args.count c.args.pieces.items c.in_ok-flat.flat.items c.assemble_flat.result same c.assemble_flat.ensures.lemmas
 
-pub of-requires : goal.of-requires
-of-requires c =
-    let is = c.in_ok-lemmas.ensures.ok in
-    record {
-      numbered = λ number lemma at. (is.only number lemma at).number;
-      few_lemmas = omega (arith, is.many, c.requires.count);
-      few_symmetries = c.requires.symmetries;
-      narrow = assembled_all (λ piece. IsNarrow (tree_of piece.tree)) c.args.count c.args.pieces.items c.in_ok-lemmas.lemmas.items c.requires.narrow is;
-      prefixes = assembled_all (λ piece. length piece.prefix < 2 ^ 32) c.args.count c.args.pieces.items c.in_ok-lemmas.lemmas.items c.requires.prefixes is;
-    }
+pub returns-clause-fault : goal.returns-clause-fault
+returns-clause-fault c =
+    let same : map flat_piece c.in_ok-flat.flat.items ≡ map piece_of c.args.pieces.items = c.in_ok-flat.ensures ∙ ap (map piece_of) c.deref.ensures.value in
+    flat_failed c.args.count c.args.pieces.items c.in_ok-flat.flat.items c.assemble_flat.result same c.assemble_flat.ensures.fault

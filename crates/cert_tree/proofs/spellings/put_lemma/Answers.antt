@@ -1,10 +1,10 @@
 use Rattle.std.proofs.Common.{◌≡◌, ◌++◌, ◌∷◌, [], map, sym, ap, ◌∙◌, refl, codes}
 use Rattle.std.specs.Fmt.{decimal}
-use Rattle.cert_tree.specs.Certificate.{piece_of}
-use Rattle.cert_tree.specs.Tree.{tree_of}
+use Rattle.cert_tree.specs.Certificate.{flat_piece}
 use Rattle.cert_tree.specs.TreeSpelling.{tree_words}
 use Rattle.cert_tree.specs.CertificateSpelling.{pair_word}
 use Rattle.cert_tree.specs.Writing.{spaced}
+use Rattle.cert_tree.proofs.HeadSpellingLemmas.{tree_words-heads}
 use Rattle.cert_tree.proofs.SpacedLemmas.{lemma_parts, six_parts}
 use Rattle.cert_tree.proofs.spellings.put_lemma.Goals as goal
 
@@ -12,8 +12,8 @@ pub returns : goal.returns
 returns c =
     let lemma = c.args.lemma.now in
     let pairs = spaced (map pair_word lemma.prefix) in
-    let tree = spaced (tree_words (tree_of lemma.tree)) in
+    let tree = spaced (tree_words lemma.tree) in
     let old = c.args.text.now.items in
     let written : c.push.new.self.items ≡ (((((old ++ (codes "lemma " ++ decimal lemma.number)) ++ codes " prefix") ++ pairs) ++ codes " tree") ++ tree) ++ 10 ∷ [] =
-    rw (c.in_ok-push.ensures.items, c.in_ok-put_node.ensures, c.in_ok-extend_from_slice-2.ensures.items, c.in_ok-put_pairs.ensures, c.as_slice.ensures, c.in_ok-extend_from_slice.ensures.items, c.in_ok-put_behind.ensures) refl in
-    written ∙ six_parts old (codes "lemma ") (decimal lemma.number) (codes " prefix") pairs (codes " tree") tree ∙ ap (λ t. old ++ t) (sym (lemma_parts (piece_of lemma)))
+    rw (c.in_ok-push.ensures.items, c.in_ok-put_heads.ensures, c.heads.ensures, ← tree_words-heads lemma.tree, c.in_ok-extend_from_slice-2.ensures.items, c.in_ok-put_pairs.ensures, c.as_slice.ensures, c.in_ok-extend_from_slice.ensures.items, c.in_ok-put_behind.ensures) refl in
+    written ∙ six_parts old (codes "lemma ") (decimal lemma.number) (codes " prefix") pairs (codes " tree") tree ∙ ap (λ t. old ++ t) (sym (lemma_parts (flat_piece lemma)))

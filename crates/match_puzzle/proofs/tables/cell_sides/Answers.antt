@@ -1,4 +1,4 @@
-use Rattle.std.proofs.Common.{◌<◌, ◌+◌, ◌≡◌, ℕ, arith, subst, sym, ⊎_elim}
+use Rattle.std.proofs.Common.{◌≡◌, arith, subst, sym, ⊎_elim}
 use Rattle.match_board.specs.Board.{side_count}
 use Rattle.match_puzzle.specs.Puzzle.{task_of}
 use Rattle.match_puzzle.specs.Tables.{IsSide, IsNextNumber}

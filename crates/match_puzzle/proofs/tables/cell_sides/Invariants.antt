@@ -1,4 +1,4 @@
-use Rattle.std.proofs.Common.{◌≡◌, ◌<◌, ℕ, Bool, List, Some, length, slice_get}
+use Rattle.std.proofs.Common.{◌≡◌, ◌<◌, ℕ, Bool, List, Some, slice_get}
 use Rattle.match_board.specs.declared.tiles.Tile.{Tile}
 use Rattle.match_puzzle.specs.declared.tables.Side.{Side}
 use Rattle.match_puzzle.specs.Puzzle.{task_of}

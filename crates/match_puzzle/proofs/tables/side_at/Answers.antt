@@ -1,4 +1,3 @@
-use Rattle.std.proofs.Common.{◌<◌, ◌≤◌, ◌+◌, ◌*◌, arith}
 use Rattle.match_puzzle.proofs.TableLemmas.{met_is, border_is, border_side, number_after_border, number_after_edge}
 use Rattle.match_puzzle.proofs.tables.side_at.Goals as goal
 

@@ -1,10 +1,10 @@
 use Rattle.std.proofs.Common.{refl, arith}
 use Rattle.std.proofs.lemmas.Grind.{common_steps}
-use Rattle.match_text.proofs.BytesLemmas.{cut_at-none, cut_at-some}
+use Rattle.match_text.proofs.BytesLemmas.{cut_at-absent, cut_at-found}
 use Rattle.match_text.proofs.words.cut.Goals as goal
 
-pub returns-in_err-index-clause-parts : goal.returns-in_err-index-clause-parts
-returns-in_err-index-clause-parts c = rw (c.from_residual.ensures, cut_at-none c.args.at c.args.bytes.now c.in_err-index.ensures) refl
+pub returns-in_err-place : goal.returns-in_err-place
+returns-in_err-place c = rw (c.from_residual.ensures, cut_at-absent c.args.at c.args.bytes.now c.in_err-place.ensures) refl
 
-pub returns-clause-parts : goal.returns-clause-parts
-returns-clause-parts c = rw (cut_at-some c.args.at c.args.bytes.now c.in_ok-index.index c.in_ok-index.ensures) (grind (arith, common_steps))
+pub returns : goal.returns
+returns c = rw (cut_at-found c.args.at c.args.bytes.now c.in_ok-place.place c.in_ok-place.ensures) (grind (arith, common_steps))

@@ -1,4 +1,4 @@
-use Rattle.std.proofs.Common.{◌≡◌, ◌<◌, ◌≤◌, ℕ, Some, MatchOption, sym, subst}
+use Rattle.std.proofs.Common.{◌<◌, ◌≤◌, ℕ, MatchOption, sym, subst}
 use Rattle.match_board.specs.First.{IsLeast}
 use Rattle.match_puzzle.specs.declared.borders.Border.{Border}
 use Rattle.match_puzzle.specs.Puzzle.{rule_of, StandsInRule}

@@ -1,5 +1,4 @@
-use Rattle.std.proofs.Common.{◌≡◌, ◌<◌, ◌≤◌, ℕ, Some, slice_get, arith, refl, sym, subst}
-use Rattle.match_puzzle.specs.declared.borders.Border.{Border}
+use Rattle.std.proofs.Common.{◌≡◌, ℕ, Some, slice_get, arith, refl, sym, subst}
 use Rattle.match_puzzle.specs.Puzzle.{rule_of, StandsInRule}
 use Rattle.match_puzzle.proofs.borders.Border.colour_count.Goals as goal
 use Rattle.match_puzzle.proofs.borders.Border.colour_count.Goals.{In-One, In-Each}

@@ -1,4 +1,4 @@
-use Rattle.std.proofs.Common.{◌≡◌, ◌≢◌, ◌∙◌, ℕ, MatchBool, length, nat_eq, ap, sym, subst}
+use Rattle.std.proofs.Common.{◌∙◌, MatchBool, length, nat_eq, ap, sym, subst}
 use Rattle.match_puzzle.specs.Puzzle.{rule_of, IsAsLongAsBorder}
 use Rattle.match_puzzle.proofs.ArrangementLemmas.{by_test}
 use Rattle.match_puzzle.proofs.TableLemmas.{long_rules}

@@ -1,4 +1,4 @@
-use Rattle.std.proofs.Common.{◌≡◌, ◌↔◌, ℕ, Some, sym, subst}
+use Rattle.std.proofs.Common.{◌≡◌, ◌↔◌, Some, sym, subst}
 use Rattle.match_puzzle.specs.Puzzle.{rule_of, AsksAt}
 use Rattle.match_puzzle.proofs.borders.Border.rule_at.Goals as goal
 

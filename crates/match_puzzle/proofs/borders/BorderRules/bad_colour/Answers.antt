@@ -1,4 +1,4 @@
-use Rattle.std.proofs.Common.{◌≡◌, ◌<◌, ◌≤◌, ◌∙◌, ℕ, List, Option, Some, MatchOption, slice_get, ap, sym, subst}
+use Rattle.std.proofs.Common.{◌≡◌, ◌<◌, ◌≤◌, ◌∙◌, ℕ, List, Option, Some, MatchOption, slice_get, subst}
 use Rattle.match_board.specs.First.{IsLeast}
 use Rattle.match_puzzle.proofs.borders.BorderRules.bad_colour.Goals as goal
 

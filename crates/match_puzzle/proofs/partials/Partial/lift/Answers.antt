@@ -1,19 +1,43 @@
-use Rattle.std.proofs.Common.{arith, sym, subst}
+use Rattle.std.proofs.Common.{Some, ◌<◌, arith, sym, subst}
+use Rattle.std.proofs.lemmas.Option.{slice_get_within}
 use Rattle.match_puzzle.specs.Prefix.{Layout, Has}
 use Rattle.match_puzzle.proofs.Prefixes.{read_has}
 use Rattle.match_puzzle.proofs.Kept.{kept_lifted}
+use Rattle.match_puzzle.proofs.ShownLemmas.{shown_lifted}
 use Rattle.match_puzzle.proofs.partials.Partial.lift.Goals as goal
 use Rattle.match_puzzle.proofs.partials.Partial.lift.Goals.{In-Some}
 
 stands : (c : In-Some) → Has c.self.inside.placed.items c.args.cell c.in-Some.placement
 stands c = read_has _ c.args.cell _ c.in-Some.placement _ (subst (λ (v : Layout). Has v.placed c.args.cell c.requires.0) (sym c.self.view_is) c.requires.1) c.index.ensures c.in-Some.is
 
-pub index_mut-requires-in-Some : goal.index_mut-requires-in-Some
-index_mut-requires-in-Some c =
-    let legal = c.self.invariant.prefix.legal _ _ (stands (goal.at.index_mut-requires-in-Some c).In-Some) in
-    omega (arith, legal.tile, c.self.invariant.tiles, c.self.inside.used.ok.0)
+tile_in : (c : In-Some) → c.in-Some.placement.tile < 112
+tile_in c =
+    let kept = c.self.invariant in
+    let legal = kept.prefix.legal c.args.cell c.in-Some.placement (stands c) in
+    let tile = legal.tile in
+    let tiles = kept.puzzle.tiles in
+    let cells = kept.puzzle.board.1 in
+    omega (arith, tile, tiles, cells)
+
+pub group-turns-requires : goal.group-turns-requires
+group-turns-requires c = tile_in (goal.at.group-turns-requires c).In-Some
+
+pub put_group-requires-clause-group : goal.put_group-requires-clause-group
+put_group-requires-clause-group c = tile_in (goal.at.put_group-requires-clause-group c).In-Some
+
+pub hide-requires : goal.hide-requires
+hide-requires c =
+    let kept = c.self.invariant in
+    let within = slice_get_within c.self.inside.placed.items c.args.cell (Some c.in-Some.placement) (stands (goal.at.hide-requires c).In-Some) in
+    let cells = kept.prefix.cells in
+    let long = kept.shows.long in
+    omega (arith, within, cells, long)
 
 pub invariant_of-self : goal.invariant_of-self
 invariant_of-self c =
     let i = c.self.inside in
-    kept_lifted i.puzzle.now i.placed.items i.used.items c.self.invariant c.args.cell c.in-Some.placement (stands (goal.at.invariant_of-self c).In-Some)
+    let p = i.puzzle.now in
+    let here = stands (goal.at.invariant_of-self c).In-Some in
+    kept_lifted p i.placed.items i.free i.shown.items c.self.invariant c.args.cell c.in-Some.placement c.group-turns.result c.legal_numbers.result.now _ c.legal_numbers.ensures.legal c.group-turns.ensures.group c.put_group.ensures here
+    c.hide.new.shown.items
+    (shown_lifted p i.placed.items c.args.cell c.in-Some.placement i.shown.items c.hide.new.shown.items c.self.invariant.shows c.hide.ensures.long c.hide.ensures.others here c.hide.ensures.any)

@@ -1,14 +1,32 @@
-use Rattle.std.proofs.Common.{sym, subst}
+use Rattle.std.proofs.Common.{None, arith, sym, subst}
+use Rattle.std.proofs.lemmas.Option.{slice_get_within}
 use Rattle.match_puzzle.specs.Puzzle.{IsLegal}
 use Rattle.match_puzzle.specs.Prefix.{Layout, IsFree, IsUnused}
 use Rattle.match_puzzle.proofs.Kept.{kept_placed}
+use Rattle.match_puzzle.proofs.ShownLemmas.{shown_placed}
 use Rattle.match_puzzle.proofs.partials.Partial.place.Goals as goal
+
+pub show-requires-clause-tile : goal.show-requires-clause-tile
+show-requires-clause-tile c = (subst (λ (v : Layout). IsLegal v.puzzle c.args.placement) (sym c.self.view_is) c.requires.legal).tile
+
+pub show-requires-clause-cell : goal.show-requires-clause-cell
+show-requires-clause-cell c =
+    let kept = c.self.invariant in
+    let within = slice_get_within c.self.inside.placed.items c.args.cell None (subst (λ (v : Layout). IsFree v.placed c.args.cell) (sym c.self.view_is) c.requires.free) in
+    let cells = kept.prefix.cells in
+    let long = kept.shows.long in
+    omega (arith, within, cells, long)
 
 pub invariant_of-self : goal.invariant_of-self
 invariant_of-self c =
     let i = c.self.inside in
+    let p = i.puzzle.now in
+    let kept = c.self.invariant in
     let back = sym c.self.view_is in
-    kept_placed i.puzzle.now i.placed.items i.used.items c.self.invariant c.args.cell c.args.placement
+    let free = subst (λ (v : Layout). IsFree v.placed c.args.cell) back c.requires.free in
+    kept_placed p i.placed.items i.free i.shown.items kept c.args.cell c.args.placement _ c.remove_group.ensures
     (subst (λ (v : Layout). IsLegal v.puzzle c.args.placement) back c.requires.legal)
-    (subst (λ (v : Layout). IsFree v.placed c.args.cell) back c.requires.free)
+    free
     (subst (λ (v : Layout). IsUnused v.placed c.args.placement.tile) back c.requires.unused)
+    c.show.new.shown.items
+    (shown_placed p i.placed.items c.args.cell c.args.placement i.shown.items c.show.new.shown.items kept.shows c.show.ensures.long c.show.ensures.others c.show.ensures.shows free)

@@ -1,18 +1,15 @@
-use Rattle.std.proofs.Common.{◌≡◌, MatchBool, sym, subst, rules}
-use Rattle.match_puzzle.specs.Prefix.{IsFree, IsUsed, IsUnused}
-use Rattle.match_puzzle.specs.Fitting.{Fits}
-use Rattle.match_puzzle.proofs.FittingLemmas.{fits_shown, shown_fits}
+use Rattle.std.proofs.Common.{subst, arith}
+use borrow.Author.Tests.{ltb-true}
+use Rattle.match_puzzle.specs.Puzzle.{IsPuzzle}
+use Rattle.match_puzzle.proofs.FittingLemmas.{fits_by_turn, small_turn}
 use Rattle.match_puzzle.proofs.puzzles.Puzzle.fits.Goals as goal
 
-pub returns : goal.returns
-returns c =
-    let p = c.args.self.now in
-    let q = c.args.partial.now.placed in
-    let x = c.args.placement in
-    let d = c.demand.result in
-    let unused : IsUnused q x.tile = subst (λ b. MatchBool b (IsUsed q x.tile) (IsUnused q x.tile)) c.if-used.false c.used.ensures.used in
-    let free : IsFree q c.args.cell = search rules in
-    let at : d.cell ≡ c.args.cell = c.demand.ensures.cell in (
-      λ shows. subst (λ cell. Fits p q cell x) at (fits_shown p q d c.demand.ensures.is x (subst (IsFree q) (sym at) free) unused (c.legal.ensures.0 c.if-not-legal.false) (c.shows.ensures.0 shows)),
-      λ fits. c.shows.ensures.1 (shown_fits p q d c.demand.ensures.is x (subst (λ cell. Fits p q cell x) (sym at) fits)),
-    )
+pub returns-then-placement-lt4 : goal.returns-then-placement-lt4
+returns-then-placement-lt4 c =
+    rw (← c.requires.made) (fits_by_turn c.args.partial.now.puzzle c.args.partial.now.placed c.args.cell c.args.placement c.fitting_turns-turns.result (c.fitting_turns-turns.ensures.turns c.args.placement.turn c.if-placement-lt4.true))
+
+pub returns-else-placement-lt4 : goal.returns-else-placement-lt4
+returns-else-placement-lt4 c = (
+  λ less. absurd (omega (arith, ltb-true c.args.placement.turn 4 less, c.if-placement-lt4.false)),
+  λ fits. absurd (omega (arith, small_turn c.args.self.now c.args.placement (subst IsPuzzle c.requires.made c.fitting_turns-turns.ensures.puzzle) fits.legal, c.if-placement-lt4.false)),
+)

@@ -26,4 +26,4 @@ returns-in-Border c = border_matches c.args.self.now c.args.placements.now c.arg
 pub returns-in-Edge : goal.returns-in-Edge
 returns-in-Edge c =
     let both = edge_matches c.args.self.now c.args.placements.now c.args.cell c.args.side c.in-Edge.other c.in-Edge.other_side first_tile (omega (arith, c.requires.long, c.requires.cell)) (other_in (goal.at.returns-in-Edge c).In-Edge) c.in-Edge.ensures in
-    by_test c.colour.result c.colour-in-Edge.result _ _ (λ e. both.0 (sym c.colour.ensures ∙ e ∙ c.colour-in-Edge.ensures)) (λ ne. both.1 (λ e. ne (c.colour.ensures ∙ e ∙ sym c.colour-in-Edge.ensures)))
+    by_test c.colour.result c.colour-in-Edge.result _ _ (λ e. both.0 (sym c.colour.ensures.colour ∙ e ∙ c.colour-in-Edge.ensures.colour)) (λ ne. both.1 (λ e. ne (c.colour.ensures.colour ∙ e ∙ sym c.colour-in-Edge.ensures.colour)))

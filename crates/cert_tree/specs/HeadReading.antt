@@ -1,0 +1,60 @@
+-- Trees that are read head by head.
+use Rattle.std.specs.Prelude.{◌≡◌, ℕ, List, ◌++◌, Result, Ok, Err}
+use Rattle.match_text.specs.declared.faults.TextFault.{TextFault}
+use Rattle.match_text.specs.declared.faults.ReadFault.{ReadFault}
+use Rattle.match_text.specs.Words.{number_in}
+use Rattle.match_text.specs.Place.{Place, Read, ◌>>=◌, give, word_by, Fails}
+use Rattle.cert_tree.specs.declared.heads.Head.{Head}
+use Rattle.cert_tree.specs.declared.heads.Head.TheVariants as heads
+use Rattle.cert_tree.specs.declared.tree_readers.NodeKind.{NodeKind}
+use Rattle.cert_tree.specs.declared.tree_readers.NodeKind.TheVariants.{Cell, Tile, DeadCell, DeadTile, Found, Same, Image}
+use Rattle.cert_tree.specs.Tree.{Tree}
+use Rattle.cert_tree.specs.Heads.{heads_of, heads_in}
+use Rattle.cert_tree.specs.TreeText.{node_kind_in, forest}
+
+-- ---- a head
+
+-- the greatest number that may follow the letter
+abbrev pub most_of : NodeKind → ℕ
+most_of Cell = 99
+most_of Tile = 99
+most_of DeadCell = 99
+most_of DeadTile = 99
+most_of Found = 999999
+most_of Same = 999999
+most_of Image = 999999
+
+-- the rest of a head behind that number
+unfoldable pub rest_by : NodeKind → ℕ → Read Head
+rest_by Cell cell = do
+  children ← word_by (number_in 1 400)
+  give (heads.Cell cell children)
+rest_by Tile tile = do
+  children ← word_by (number_in 1 400)
+  give (heads.Tile tile children)
+rest_by DeadCell cell = give (heads.DeadCell cell)
+rest_by DeadTile tile = give (heads.DeadTile tile)
+rest_by Found number = give (heads.Found number)
+rest_by Same lemma = give (heads.Same lemma)
+rest_by Image lemma = do
+  symmetry ← word_by (number_in 0 1023)
+  give (heads.Image symmetry lemma)
+
+-- a node without its children
+unfoldable pub head_by : Read Head
+head_by = do
+  kind ← word_by node_kind_in
+  number ← word_by (number_in 0 (most_of kind))
+  rest_by kind number
+
+-- ---- a tree
+
+-- Reading gives a tree, and its heads went behind the old ones.
+abbrev pub ReadsOnto : Result (Unit {0}) ReadFault → Place → (old new : List Head) → Result (Tree × Place) TextFault → Type 0
+ReadsOnto (Ok _) after old new read = (tree : Tree) × (read ≡ Ok (tree, after)) × (new ≡ old ++ heads_of tree)
+ReadsOnto (Err e) after old new read = Fails e read
+
+-- The same of several trees.
+abbrev pub ReadAllOnto : Result (Unit {0}) ReadFault → Place → (old new : List Head) → Result (List Tree × Place) TextFault → Type 0
+ReadAllOnto (Ok _) after old new read = (trees : List Tree) × (read ≡ Ok (trees, after)) × (new ≡ old ++ heads_in (forest trees))
+ReadAllOnto (Err e) after old new read = Fails e read

@@ -1,0 +1,72 @@
+-- How a tree is read.
+use Rattle.std.specs.Prelude.{ℕ, zero, suc, List, [], ◌∷◌, Result, Ok, Err, codes, if◌then◌else◌}
+use Rattle.std.specs.Str.{bytes_eq}
+use Rattle.match_puzzle.specs.declared.items.Item.TheVariants as items
+use Rattle.match_text.specs.declared.faults.TextFault.{TextFault}
+use Rattle.match_text.specs.declared.faults.TextKind.{TextKind}
+use Rattle.match_text.specs.declared.faults.TextKind.TheVariants.{Word, TooDeep}
+use Rattle.match_text.specs.Words.{number_in}
+use Rattle.match_text.specs.Place.{Place, Read, ◌>>=◌, give, fail, word_by, times}
+use Rattle.cert_tree.specs.declared.tree_readers.NodeKind.{NodeKind}
+use Rattle.cert_tree.specs.declared.tree_readers.NodeKind.TheVariants.{Cell, Tile, DeadCell, DeadTile, Found, Same, Image}
+use Rattle.cert_tree.specs.Tree.{Tree, Forest, branch, dead, found, same, image, none, more}
+
+-- the kinds of node by their letters
+abbrev pub node_kind_in : List ℕ → Result NodeKind TextKind
+node_kind_in word =
+    if bytes_eq word (codes "c") then Ok Cell
+    else (if bytes_eq word (codes "t") then Ok Tile
+    else (if bytes_eq word (codes "d") then Ok DeadCell
+    else (if bytes_eq word (codes "e") then Ok DeadTile
+    else (if bytes_eq word (codes "f") then Ok Found
+    else (if bytes_eq word (codes "s") then Ok Same
+    else (if bytes_eq word (codes "i") then Ok Image else Err Word))))))
+
+-- trees one after the other
+abbrev pub forest : List Tree → Forest
+forest [] = none
+forest (tree ∷ trees) = more tree (forest trees)
+
+-- how many children there are, and the children
+unfoldable pub children_by : Read Tree → Read Forest
+children_by child = do
+  count ← word_by (number_in 1 400)
+  trees ← times count child
+  give (forest trees)
+
+-- the rest of a node of this kind
+unfoldable pub node_by : Read Tree → NodeKind → Read Tree
+node_by child Cell = do
+  cell ← word_by (number_in 0 99)
+  children ← children_by child
+  give (branch (items.Cell cell) children)
+node_by child Tile = do
+  tile ← word_by (number_in 0 99)
+  children ← children_by child
+  give (branch (items.Tile tile) children)
+node_by child DeadCell = do
+  cell ← word_by (number_in 0 99)
+  give (dead (items.Cell cell))
+node_by child DeadTile = do
+  tile ← word_by (number_in 0 99)
+  give (dead (items.Tile tile))
+node_by child Found = do
+  number ← word_by (number_in 0 999999)
+  give (found number)
+node_by child Same = do
+  lemma ← word_by (number_in 0 999999)
+  give (same lemma)
+node_by child Image = do
+  lemma ← word_by (number_in 0 999999)
+  symmetry ← word_by (number_in 0 1023)
+  give (image lemma symmetry)
+
+-- a node below the last level
+abbrev pub too_deep_from : ℕ → List (List ℕ) → Result (Tree × Place) TextFault
+too_deep_from line [] = fail line Word
+too_deep_from line (word ∷ words) = fail line TooDeep
+
+-- a tree of up to so many levels, each node before its children
+unfoldable pub tree_by : ℕ → Read Tree
+tree_by zero p = too_deep_from p.line p.words
+tree_by (suc room) p = (word_by node_kind_in >>= node_by (tree_by room)) p

@@ -1,0 +1,140 @@
+//! Trees whose nodes lie one after the other in memory, in preorder.
+
+ghost use Rattle.std.specs.Prelude.{◌≡◌, ◌≢◌};
+
+use crate::heads::Head;
+use std::alloc::{AllocError, Global};
+use std::marker::Model;
+use std::mem::replace;
+
+// From so many nodes on a tree is large.
+const LARGE: usize = 4_096;
+
+/// A tree as the heads of its nodes in preorder, each node before its children, in one piece of memory: 8 bytes a node.
+#[derive(Drop)]
+pub struct FlatTree {
+    heads: Vec<Head>,
+}
+
+impl Model for FlatTree {
+    ghost use Rattle.cert_tree.specs.contracts.heads.Head as head;
+    ghost use Rattle.cert_tree.specs.Tree.{Tree};
+    ghost use Rattle.cert_tree.specs.HeadCode.{tree_code};
+
+    ghost Value = { Tree };
+
+    ghost coded = { tree_code head.the_row.coded };
+
+    ghost use Rattle.cert_tree.specs.Heads.{trees_in, first, AreOfTree};
+
+    ghost view = { λ t. first (trees_in t.heads.items) };
+
+    ghost invariant = { λ t. AreOfTree t.heads.items };
+}
+
+/// The trees that are left of a walk in preorder.
+///
+/// Going past a node leaves its children as the first trees. What is left is a slice of the heads, so that a walk takes
+/// no memory.
+#[derive(Drop)]
+pub struct Trees<'a> {
+    heads: &'a [Head],
+}
+
+impl<'a> Model for Trees<'a> {
+    ghost use Rattle.cert_tree.specs.contracts.heads.Head as head;
+    ghost use Rattle.cert_tree.specs.Tree.{Forest};
+    ghost use Rattle.cert_tree.specs.HeadCode.{forest_code};
+
+    ghost Value = { Forest };
+
+    ghost coded = { forest_code head.the_row.coded };
+
+    ghost use Rattle.cert_tree.specs.Heads.{trees_in, AreWhole};
+
+    ghost view = { λ t. trees_in t.heads.now };
+
+    ghost invariant = { λ t. AreWhole t.heads.now };
+}
+
+impl FlatTree {
+    ghost use Rattle.std.specs.Prelude.{◌≡◌, IfOk};
+    ghost use Rattle.cert_tree.specs.Tree.{more, none};
+    ghost use Rattle.cert_tree.specs.Heads.{heads_of, trees_in, first, AreOfTree};
+
+    // The tree with these heads.
+    pub(crate) fn of(heads: Vec<Head>) -> FlatTree
+        requires { AreOfTree heads.items }
+        ensures { result ≡ first (trees_in heads.items) }
+    {
+        FlatTree { heads }
+    }
+
+    // The tree with these heads, in no more memory than they take. Those of a small tree are copied, and the vector
+    // keeps its room for the next one; a large tree takes the vector itself, since a copy would double the memory.
+    pub(crate) fn taken(alloc: Global, heads: &mut Vec<Head>) -> Result<FlatTree, AllocError>
+        requires { AreOfTree heads.old.items }
+        ensures { IfOk result (λ tree. tree ≡ first (trees_in heads.old.items)) }
+    {
+        if heads.len() < LARGE {
+            let copy = Vec::from_slice(alloc, heads)?;
+            return Ok(FlatTree::of(copy));
+        }
+        let mut heads = replace(heads, Vec::new(alloc));
+        heads.shrink_to_fit();
+        Ok(FlatTree::of(heads))
+    }
+
+    // The heads of its nodes.
+    pub(crate) fn heads(&self) -> &[Head]
+        ensures { result.now ≡ heads_of self.now }
+    {
+        &self.heads
+    }
+
+    /// The tree alone, to be walked in preorder.
+    pub fn trees(&self) -> Trees<'_>
+        ensures { result ≡ more self.now none }
+    {
+        Trees::of(&self.heads)
+    }
+}
+
+impl<'a> Trees<'a> {
+    ghost use Rattle.std.specs.Prelude.{◌≡◌, ◌≢◌, ◌≤◌, ◌<◌, ◌^◌};
+    ghost use Rattle.cert_tree.specs.Tree.{none, count};
+    ghost use Rattle.cert_tree.specs.Heads.{arity, past, put, trees_in, AreWhole};
+
+    // The trees that have these heads.
+    pub(crate) fn of(heads: &'a [Head]) -> Trees<'a>
+        requires { AreWhole heads.now }
+        ensures { result ≡ trees_in heads.now }
+    {
+        Trees { heads }
+    }
+
+    /// Goes past the first node, whose children are then the first trees, and gives its head.
+    pub fn next(&mut self) -> Head
+        requires { self.old ≢ none }
+        ensures first { put result self.new ≡ self.old }
+        ensures children { arity result ≤ count self.new }
+        ensures few { count self.new < 2 ^ 60 }
+    {
+        let Some((head, rest)) = self.heads.split_first() else {
+            unreachable!();
+        };
+        self.heads = rest;
+        *head
+    }
+
+    /// Goes past the first tree, in a step for each of its nodes.
+    pub fn skip(&mut self)
+        requires { self.old ≢ none }
+        ensures { self.new ≡ past 1 self.old }
+    {
+        let mut left = 1;
+        while left > 0 {
+            left = left - 1 + self.next().children() as usize;
+        }
+    }
+}

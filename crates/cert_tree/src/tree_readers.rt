@@ -1,0 +1,150 @@
+//! Trees are read, node by node in preorder.
+
+ghost use Rattle.std.specs.Prelude.{◌≡◌, ◌+◌, ◌<◌, ◌≤◌, ◌^◌, Err};
+ghost use Rattle.match_text.specs.Words.{Judges};
+ghost use Rattle.match_text.specs.Place.{Gives, Reads, times, word_by};
+ghost use Rattle.cert_tree.specs.TreeText.{node_kind_in, tree_by};
+ghost use Rattle.cert_tree.specs.HeadReading.{most_of, rest_by, head_by, ReadsOnto, ReadAllOnto};
+
+use crate::flat_trees::FlatTree;
+use crate::heads::Head;
+use match_text::{ReadFault, Scan, TextFault, TextKind};
+use std::alloc::Global;
+
+// The kinds of node that have a letter.
+#[derive(Clone, Copy)]
+enum NodeKind {
+    Cell,
+    Tile,
+    DeadCell,
+    DeadTile,
+    Found,
+    Same,
+    Image,
+}
+
+fn node_kind_word(word: &[u8]) -> Result<NodeKind, TextKind>
+    ensures { Judges (λ kind. kind) result (node_kind_in word.now) }
+{
+    match word {
+        b"c" => Ok(NodeKind::Cell),
+        b"t" => Ok(NodeKind::Tile),
+        b"d" => Ok(NodeKind::DeadCell),
+        b"e" => Ok(NodeKind::DeadTile),
+        b"f" => Ok(NodeKind::Found),
+        b"s" => Ok(NodeKind::Same),
+        b"i" => Ok(NodeKind::Image),
+        _ => Err(TextKind::Word),
+    }
+}
+
+#[tactic(auto, unfolding(match_text::specs::Place::word_by))]
+fn node_kind(scan: &mut Scan) -> Result<NodeKind, TextFault>
+    ensures { Gives (λ kind. kind) result scan.new (word_by node_kind_in scan.old) }
+{
+    let word = scan.next_word()?;
+    scan.accept(node_kind_word(word))
+}
+
+// What is wrong where a node would begin below the last level.
+#[tactic(auto, unfolding(crate::specs::TreeText::tree_by))]
+fn below_last(scan: &Scan) -> TextFault
+    ensures { tree_by 0 scan.now ≡ Err result }
+{
+    if scan.has_word() {
+        scan.fault(TextKind::TooDeep)
+    } else {
+        scan.fault(TextKind::Word)
+    }
+}
+
+// The greatest number that may follow the letter.
+fn most_number(kind: NodeKind) -> u32
+    ensures { result ≡ most_of kind }
+{
+    match kind {
+        NodeKind::Cell | NodeKind::Tile | NodeKind::DeadCell | NodeKind::DeadTile => 99,
+        NodeKind::Found | NodeKind::Same | NodeKind::Image => 999_999,
+    }
+}
+
+// The rest of a head of this kind behind its first number.
+#[tactic(auto, unfolding(crate::specs::HeadReading::rest_by))]
+fn rest(scan: &mut Scan, kind: NodeKind, number: u32) -> Result<Head, TextFault>
+    requires { number ≤ most_of kind }
+    ensures { Gives (λ head. head) result scan.new (rest_by kind number scan.old) }
+{
+    match kind {
+        NodeKind::Cell => {
+            let children = scan.number(1, 400)?;
+            let cell = number as u16;
+            Ok(Head::Cell { cell, children })
+        }
+        NodeKind::Tile => {
+            let children = scan.number(1, 400)?;
+            let tile = number as u16;
+            Ok(Head::Tile { tile, children })
+        }
+        NodeKind::DeadCell => Ok(Head::DeadCell(number as u16)),
+        NodeKind::DeadTile => Ok(Head::DeadTile(number as u16)),
+        NodeKind::Found => Ok(Head::Found(number)),
+        NodeKind::Same => Ok(Head::Same(number)),
+        NodeKind::Image => {
+            let symmetry = scan.number(0, 1_023)? as u16;
+            let lemma = number;
+            Ok(Head::Image { symmetry, lemma })
+        }
+    }
+}
+
+// The words of a node without its children.
+#[tactic(auto, unfolding(crate::specs::HeadReading::head_by))]
+fn head(scan: &mut Scan) -> Result<Head, TextFault>
+    ensures { Gives (λ head. head) result scan.new (head_by scan.old) }
+{
+    let kind = node_kind(scan)?;
+    let number = scan.number(0, most_number(kind))?;
+    rest(scan, kind, number)
+}
+
+// The heads of a tree of up to so many levels go behind these.
+#[cycle(trees)]
+fn node(scan: &mut Scan, heads: &mut Vec<Head>, room: u8) -> Result<(), ReadFault>
+    ensures { ReadsOnto result scan.new heads.old.items heads.new.items (tree_by room scan.old) }
+{
+    if room == 0 {
+        return Err(ReadFault::Text(below_last(scan)));
+    }
+    let head = head(scan)?;
+    heads.push(head)?;
+    nodes(scan, heads, room - 1, head.children())
+}
+
+// The same of so many trees, the children of a node.
+#[cycle(trees)]
+fn nodes(scan: &mut Scan, heads: &mut Vec<Head>, room: u8, count: u32) -> Result<(), ReadFault>
+    ensures { ReadAllOnto result scan.new heads.old.items heads.new.items (times count (tree_by room) scan.old) }
+{
+    for _ in 0..count {
+        node(scan, heads, room)?;
+    }
+    Ok(())
+}
+
+/// A tree of up to so many levels, by a recursion that is no deeper than that.
+///
+/// Its heads are collected in `heads`, where they take the place of what was there, so that one vector serves one tree
+/// after the other.
+pub fn tree(
+    alloc: Global,
+    scan: &mut Scan,
+    heads: &mut Vec<Head>,
+    room: u8,
+) -> Result<FlatTree, ReadFault>
+    ensures { Reads (λ tree. tree) result scan.new (tree_by room scan.old) }
+{
+    heads.clear();
+    node(scan, heads, room)?;
+    let tree = FlatTree::taken(alloc, heads)?;
+    Ok(tree)
+}

@@ -1,0 +1,36 @@
+-- Sets of placements, by number: four turns to a tile.
+use Rattle.std.specs.Prelude.{◌≡◌, ◌<◌, ◌/◌, ◌%◌, ℕ, List, [], length, slice_index_or}
+use Rattle.match_board.specs.Listing.{IsListing}
+use Rattle.match_board.specs.Turns.{shown}
+use Rattle.match_puzzle.specs.Puzzle.{Task, IsLegal}
+use Rattle.match_puzzle.specs.Prefix.{Prefix, IsUnused}
+use Rattle.match_puzzle.specs.declared.placements.Placement.{Placement}
+
+-- the placement with this number
+abbrev pub numbered : ℕ → Placement
+numbered n = record { tile = n / 4; turn = n % 4 }
+
+-- The word shows the colour on the side after these turns.
+abbrev pub Shows : List ℕ → (colour side turn : ℕ) → Type 0
+Shows word colour side turn = (side < length word) × (shown word turn side ≡ colour)
+
+-- The numbers are those of the words' placements that show on the side what is asked: a colour, or with 36 nothing in particular.
+abbrev pub AreShowing : List (List ℕ) → (asked side : ℕ) → List ℕ → Type 0
+AreShowing words asked side numbers = IsListing ◌<◌ (λ n. (n / 4 < length words) × (asked < 36 → Shows (slice_index_or words (n / 4) []) asked side (n % 4))) numbers
+
+-- The table has these sets, four sides for each colour and for 36.
+pub record AreShowingSets (words : List (List ℕ)) (table : List (List ℕ)) : Type 0 where
+  pub long : length table ≡ 148
+  pub is : (place : ℕ) → place < length table → AreShowing words (place / 4) (place % 4) (slice_index_or table place [])
+
+-- The numbers are those of the legal placements.
+abbrev pub AreLegalNumbers : Task → List ℕ → Type 0
+AreLegalNumbers p numbers = IsListing ◌<◌ (λ n. IsLegal p (numbered n)) numbers
+
+-- The numbers are those of the legal placements of tiles that stand nowhere.
+abbrev pub AreFreeNumbers : Task → Prefix → List ℕ → Type 0
+AreFreeNumbers p q numbers = IsListing ◌<◌ (λ n. IsLegal p (numbered n) × IsUnused q (n / 4)) numbers
+
+-- Each tile may be placed unturned.
+abbrev pub AreUnturnedLegal : Task → Type 0
+AreUnturnedLegal p = (tile : ℕ) → tile < length p.words → IsLegal p (record { tile = tile; turn = 0 })

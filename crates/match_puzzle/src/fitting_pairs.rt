@@ -1,0 +1,65 @@
+//! The pairs that fit and settle an item.
+
+use crate::items::Item;
+use crate::number_sets::NumberSet;
+use crate::placements::{Pair, Placement};
+use std::marker::Model;
+
+/// Pairs that settle one item, each of which can be placed: those that were not yet taken, in the item's order, at a
+/// cell by tile, then by turn, and of a tile by cell, then by turn. They are kept as bits and take no memory.
+#[derive(Drop)]
+pub struct FittingPairs {
+    item: Item,
+    numbers: NumberSet,
+}
+
+impl Model for FittingPairs {
+    ghost use Rattle.std.specs.Prelude.{List, map};
+    ghost use Rattle.match_puzzle.specs.declared.placements.Pair.{Pair};
+
+    ghost Value = { List Pair };
+
+    ghost use Rattle.match_puzzle.specs.Fitting.{numbered_pair};
+
+    ghost view = { λ f. map (numbered_pair f.item) f.numbers };
+}
+
+impl FittingPairs {
+    ghost use Rattle.std.specs.Prelude.{◌≡◌, ◌∷◌, [], MatchOption, length, map};
+    ghost use Rattle.match_puzzle.specs.Fitting.{numbered_pair};
+
+    // The pairs with these numbers.
+    pub(crate) fn new(item: Item, numbers: NumberSet) -> FittingPairs
+        ensures { result ≡ map (numbered_pair item) numbers }
+    {
+        FittingPairs { item, numbers }
+    }
+
+    /// How many pairs are left.
+    pub fn len(&self) -> u16
+        ensures { result ≡ length self.now }
+    {
+        self.numbers.len()
+    }
+
+    /// Takes the first pair, if one is left.
+    pub fn take_first(&mut self) -> Option<Pair>
+        ensures { MatchOption result ((self.old ≡ []) × (self.new ≡ [])) (λ pair. self.old ≡ pair ∷ self.new) }
+    {
+        let number = self.numbers.take_first()?;
+        let turn = (number % 4) as u8;
+        Some(match self.item {
+            Item::Cell(cell) => Pair {
+                cell,
+                placement: Placement {
+                    tile: number / 4,
+                    turn,
+                },
+            },
+            Item::Tile(tile) => Pair {
+                cell: number / 4,
+                placement: Placement { tile, turn },
+            },
+        })
+    }
+}

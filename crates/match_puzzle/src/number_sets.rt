@@ -1,0 +1,156 @@
+//! Sets of numbers below 448, as bits.
+
+ghost use Rattle.std.specs.Prelude.{◌≡◌, ◌≢◌, ◌⊎◌, ◌↔◌, ◌<◌, ◌≤◌, ◌/◌, ◌%◌, ◌*◌, ◌+◌, ℕ, [], ◌∷◌, Contains, MatchOption, length};
+ghost use Rattle.std.specs.Int.{bit_at};
+ghost use Rattle.match_board.specs.Listing.{IsListing};
+ghost use Rattle.match_puzzle.specs.NumberSets.{IsGroup};
+
+use std::marker::Model;
+
+/// How many words of 64 bits a set has.
+const WORDS: usize = 7;
+
+/// Different numbers below 448, rising. They come in groups of four: group k has the numbers from 4 k to 4 k + 3.
+#[derive(Drop)]
+pub(crate) struct NumberSet {
+    words: [u64; WORDS],
+    // Words from here on are 0 and are not looked at.
+    end: usize,
+}
+
+impl Model for NumberSet {
+    ghost use Rattle.std.specs.Prelude.{ℕ, List};
+
+    ghost Value = { List ℕ };
+
+    ghost use Rattle.match_puzzle.specs.NumberSets.{members, AreWordsOfSet};
+
+    ghost view = { λ s. members s.words };
+
+    ghost invariant = { λ s. AreWordsOfSet s.words s.end };
+}
+
+impl NumberSet {
+    /// No number.
+    pub(crate) fn new() -> NumberSet
+        ensures { result ≡ [] }
+    {
+        NumberSet {
+            words: [0; WORDS],
+            end: 0,
+        }
+    }
+
+    /// The same numbers.
+    pub(crate) fn copy(&self) -> NumberSet
+        ensures { result ≡ self.now }
+    {
+        NumberSet {
+            words: self.words,
+            end: self.end,
+        }
+    }
+
+    /// How many numbers there are.
+    pub(crate) fn len(&self) -> u16
+        ensures { result ≡ length self.now }
+    {
+        let mut count = 0;
+        for word in &self.words[..self.end] {
+            count += word.count_ones() as u16;
+        }
+        count
+    }
+
+    /// Takes the least number off.
+    pub(crate) fn take_first(&mut self) -> Option<u16>
+        ensures { MatchOption result ((self.old ≡ []) × (self.new ≡ [])) (λ n. self.old ≡ n ∷ self.new) }
+    {
+        for i in 0..self.end {
+            let word = self.words[i];
+            if word != 0 {
+                let digit = word.trailing_zeros();
+                self.words[i] = word & !(1 << digit);
+                return Some(64 * i as u16 + digit as u16);
+            }
+        }
+        None
+    }
+
+    /// The numbers that are in this set and in each of four others.
+    ///
+    /// Each word is made at once, so that a set is written and not read again on the way.
+    pub(crate) fn common(
+        &self,
+        first: &NumberSet,
+        second: &NumberSet,
+        third: &NumberSet,
+        fourth: &NumberSet,
+    ) -> NumberSet
+        ensures { IsListing ◌<◌ (λ n. Contains self.now n × Contains first.now n × Contains second.now n × Contains third.now n × Contains fourth.now n) result }
+    {
+        let mut words = [0; WORDS];
+        for i in 0..self.end {
+            words[i] = self.words[i]
+                & first.words[i]
+                & second.words[i]
+                & third.words[i]
+                & fourth.words[i];
+        }
+        NumberSet {
+            words,
+            end: self.end,
+        }
+    }
+
+    /// Which numbers of the group are in this set and in each of four others: the first by the lowest bit.
+    pub(crate) fn common_group(
+        &self,
+        first: &NumberSet,
+        second: &NumberSet,
+        third: &NumberSet,
+        fourth: &NumberSet,
+        group: u16,
+    ) -> u8
+        requires { group < 112 }
+        ensures few { result < 16 }
+        ensures common { (n : ℕ) → n < 4 → (bit_at result n ≡ 1) ↔ (Contains self.now (4 * group + n) × Contains first.now (4 * group + n) × Contains second.now (4 * group + n) × Contains third.now (4 * group + n) × Contains fourth.now (4 * group + n)) }
+    {
+        let place = usize::from(group / 16);
+        let word = self.words[place]
+            & first.words[place]
+            & second.words[place]
+            & third.words[place]
+            & fourth.words[place];
+        (word >> (4 * (group % 16)) & 15) as u8
+    }
+
+    /// Which numbers of the group there are: the first by the lowest bit.
+    pub(crate) fn group(&self, group: u16) -> u8
+        requires { group < 112 }
+        ensures few { result < 16 }
+        ensures group { IsGroup self.now group result }
+    {
+        let word = self.words[usize::from(group / 16)];
+        (word >> (4 * (group % 16)) & 15) as u8
+    }
+
+    /// Puts these numbers of the group in.
+    pub(crate) fn put_group(&mut self, group: u16, digits: u8)
+        requires group { group < 112 }
+        requires digits { digits < 16 }
+        ensures { IsListing ◌<◌ (λ n. Contains self.old n ⊎ ((n / 4 ≡ group) × (bit_at digits (n % 4) ≡ 1))) self.new }
+    {
+        let place = usize::from(group / 16);
+        self.words[place] |= u64::from(digits) << (4 * (group % 16));
+        self.end = self.end.max(place + 1);
+    }
+
+    /// Takes all numbers of the group off.
+    pub(crate) fn remove_group(&mut self, group: u16)
+        requires { group < 112 }
+        ensures { IsListing ◌<◌ (λ n. Contains self.old n × (n / 4 ≢ group)) self.new }
+    {
+        self.words[usize::from(group / 16)] &= !(15 << (4 * (group % 16)));
+    }
+}

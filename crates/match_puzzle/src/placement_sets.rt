@@ -1,0 +1,109 @@
+//! Sets of a puzzle's placements: that of tile t after turn r has the number 4 t + r.
+
+ghost use Rattle.std.specs.Prelude.{◌≡◌, ◌<◌, ◌≤◌, ◌/◌, ◌%◌, ℕ, All, IfOk, length, map, slice_index};
+ghost use Rattle.std.specs.Int.{bit_at};
+ghost use Rattle.match_board.specs.Listing.{IsListing};
+ghost use Rattle.match_board.specs.Tile.{word};
+ghost use Rattle.match_puzzle.specs.PlacementSets.{Shows, AreShowing, AreShowingSets};
+
+use crate::number_sets::NumberSet;
+use match_board::{COLOURS, Tile};
+use std::alloc::{AllocError, Global};
+
+/// What a puzzle keeps of its placements.
+#[derive(Drop)]
+pub(crate) struct PlacementSets {
+    /// Those that are legal.
+    pub(crate) legal: NumberSet,
+    /// For each colour, and for `ANY_COLOUR`, and each of four sides, those that show it there: of colour c on side k
+    /// at 4 c + k.
+    pub(crate) showing: Vec<NumberSet>,
+}
+
+/// What stands for no colour in particular, where a colour is asked.
+pub(crate) const ANY_COLOUR: u8 = COLOURS;
+
+// For each colour, and for any, and each of four sides the placements that show it there.
+fn showing_sets(alloc: Global, tiles: &[Tile]) -> Result<Vec<NumberSet>, AllocError>
+    requires { length tiles.now ≤ 100 }
+    ensures { IfOk result (λ v. AreShowingSets (map word tiles.now) v.items) }
+{
+    let places = 4 * (ANY_COLOUR + 1);
+    let mut sets = Vec::with_capacity(alloc, usize::from(places))?;
+    for place in 0..places {
+        sets.push(showing_set(tiles, place / 4, place % 4))?;
+    }
+    Ok(sets)
+}
+
+// The placements that show on the side what is asked.
+fn showing_set(tiles: &[Tile], asked: u8, side: u8) -> NumberSet
+    requires { length tiles.now ≤ 100 }
+    ensures { AreShowing (map word tiles.now) asked side result }
+{
+    let mut set = NumberSet::new();
+    for (number, tile) in tiles.iter().enumerate() {
+        set.put_group(number as u16, turns_as_asked(tile, asked, side));
+    }
+    set
+}
+
+// The turns after which the tile shows on the side what is asked, as bits.
+fn turns_as_asked(tile: &Tile, asked: u8, side: u8) -> u8
+    ensures few { result < 16 }
+    ensures turns { (turn : ℕ) → turn < 4 → (bit_at result turn ≡ 1 → asked < 36 → Shows (word tile.now) asked side turn) × ((asked < 36 → Shows (word tile.now) asked side turn) → bit_at result turn ≡ 1) }
+{
+    if asked >= ANY_COLOUR {
+        return 15;
+    }
+    showing_turns(tile, asked, side)
+}
+
+// The turns after which the tile shows the colour on the side, as bits.
+fn showing_turns(tile: &Tile, colour: u8, side: u8) -> u8
+    ensures few { result < 16 }
+    ensures turns { (turn : ℕ) → turn < 4 → (bit_at result turn ≡ 1 → Shows (word tile.now) colour side turn) × (Shows (word tile.now) colour side turn → bit_at result turn ≡ 1) }
+{
+    if side >= tile.sides() {
+        return 0;
+    }
+    let mut turns = 0;
+    for turn in 0..4 {
+        if tile.shows(turn, side) == colour {
+            turns |= 1 << turn;
+        }
+    }
+    turns
+}
+
+// The placements of each tile with turns below its number of legal ones, at most four.
+fn legal_set(turn_counts: &[u8]) -> NumberSet
+    requires tiles { length turn_counts.now ≤ 100 }
+    requires turns { All (λ count. count ≤ 4) turn_counts.now }
+    ensures { IsListing ◌<◌ (λ n. n % 4 < slice_index turn_counts.now (n / 4)) result }
+{
+    let mut set = NumberSet::new();
+    for (tile, count) in turn_counts.iter().enumerate() {
+        set.put_group(tile as u16, (1 << *count) - 1);
+    }
+    set
+}
+
+impl PlacementSets {
+    /// The sets of these tiles, of each of which so many turns are legal.
+    pub(crate) fn new(
+        alloc: Global,
+        tiles: &[Tile],
+        turn_counts: &[u8],
+    ) -> Result<PlacementSets, AllocError>
+        requires tiles { length tiles.now ≤ 100 }
+        requires as_many { length turn_counts.now ≤ 100 }
+        requires turns { All (λ count. count ≤ 4) turn_counts.now }
+        ensures legal { IfOk result (λ sets. IsListing ◌<◌ (λ n. n % 4 < slice_index turn_counts.now (n / 4)) sets.legal) }
+        ensures showing { IfOk result (λ sets. AreShowingSets (map word tiles.now) sets.showing.items) }
+    {
+        let showing = showing_sets(alloc, tiles)?;
+        let legal = legal_set(turn_counts);
+        Ok(PlacementSets { legal, showing })
+    }
+}
