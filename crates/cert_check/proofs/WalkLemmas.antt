@@ -7,10 +7,13 @@ use Rattle.match_puzzle.specs.declared.placements.Placement.{Placement}
 use Rattle.match_puzzle.specs.declared.placements.Pair.{Pair}
 use Rattle.match_puzzle.proofs.Prefixes.{has_new, lifted_is}
 use Rattle.cert_check.specs.declared.faults.NodeFault.{NodeFault}
+use Rattle.cert_check.specs.declared.faults.TreeFault.{TreeFault}
+use Rattle.std.specs.Option.{option_map}
 use Rattle.cert_check.specs.Setting.{Setting}
 use Rattle.cert_tree.specs.Tree.{Tree, Forest, branch, none, more, count}
 use Rattle.cert_check.specs.NodeRules.{IsBranch, Holds, EachHolds}
 use Rattle.cert_check.specs.TreeFaults.{FailsAt, EachFails}
+use Rattle.cert_check.specs.Walk.{Tells, below}
 
 module _ (s : Setting) (item : Item) (q : Prefix) (trees : Forest) where
   -- How far the walk of a branch's children has come: those before the number hold, and these children and pairs are left.
@@ -55,6 +58,11 @@ module _ (s : Setting) (item : Item) (q : Prefix) (trees : Forest) where
     pub going_fault : (path : List ℕ) (fault : NodeFault) → FailsAt s tree (with_pair q x.cell x.placement) path fault → FailsAt s (branch item trees) q (number ∷ path) fault
     going_fault path fault fails = (g.all, g.is, g.fails 0 number path fault (omega arith) fails)
 
+  -- all children hold
+  pub going_done : (number : ℕ) (pairs : List Pair) → Going number none pairs → Holds s (branch item trees) q
+  going_done number [] g = (g.all, g.is, g.holds tt)
+  going_done number (x ∷ pairs) g = let many = g.many in absurd (omega (arith, many))
+
 -- how many cells are free
 abbrev pub free_count : Prefix → ℕ
 free_count [] = 0
@@ -94,6 +102,11 @@ pub some_left : (n : ℕ) (trees : Forest) → 0 < n → n ≤ count trees → t
 some_left n none some le e = omega arith
 some_left n (more tree trees) some le e = cc
 
+-- a fault that is put below a parent stays one
+pub still_some : (number : ℕ) (said said' : Option TreeFault) → said ≢ None → said' ≡ option_map (below number) said → said' ≢ None
+still_some number None said' some is = absurd (some refl)
+still_some number (Some fault) said' some is = λ none. let gone = sym is ∙ none in cc
+
 -- ---- a turn of the loop over the children of a branch
 
 -- what is placed now is what was placed before, and this child and the others are left, with this pair and the others
@@ -114,6 +127,10 @@ module _ (s : Setting) (item : Item) (trees : Forest) (w v : Layout) (number : �
   pub turn_fault : (path : List ℕ) (fault : NodeFault) → FailsAt s child n.placed path fault → FailsAt s (branch item trees) w.placed (number ∷ path) fault
   turn_fault path fault fails =
       going_fault s item w.placed trees number child rest x pairs t.going path fault (subst (λ (u : Layout). FailsAt s child u.placed path fault) turn_placed fails)
+
+  pub turn_said : (said said' : Option TreeFault) → said ≢ None → Tells s child n.placed said → said' ≡ option_map (below number) said → Tells s (branch item trees) w.placed said'
+  turn_said None said' some tells is = absurd (some refl)
+  turn_said (Some fault) said' some tells is = subst (Tells s (branch item trees) w.placed) (sym is) (turn_fault fault.path fault.fault tells)
 
   -- the child holds, and nothing else was changed
   module _ (after : Layout) (restored : after ≡ n) where

@@ -1,5 +1,5 @@
 -- What a walk of a tree says.
-use Rattle.std.specs.Prelude.{◌≡◌, ℕ, List, [], Option, Some, None, MatchOption, slice_get}
+use Rattle.std.specs.Prelude.{◌≡◌, ℕ, List, [], ◌∷◌, Option, Some, None, MatchOption, slice_get}
 use Rattle.match_board.specs.First.{IsLeast}
 use Rattle.match_puzzle.specs.Puzzle.{Task}
 use Rattle.match_puzzle.specs.Arrangement.{IsArrangement}
@@ -28,7 +28,11 @@ abbrev pub IsAtTop : Option NodeFault → Option TreeFault → Type 0
 IsAtTop None said = said ≡ None
 IsAtTop (Some fault) said = said ≡ Some (record { path = []; fault = fault })
 
--- The same of the tree of the lemma with this number, at its prefix.
+-- A fault of a tree whose child with this number has this one.
+abbrev pub below : ℕ → TreeFault → TreeFault
+below number fault = record { path = number ∷ fault.path; fault = fault.fault }
+
+-- What is said of the tree of the lemma with this number, at its prefix.
 abbrev pub TellsOfLemma : Question → ℕ → Option TreeFault → Type 0
 TellsOfLemma question number said =
     (lemma : Piece) × (slice_get question.lemmas number ≡ Some lemma) × Tells (setting_at question number) lemma.tree (start_of question.puzzle lemma) said

@@ -28,7 +28,7 @@ use std::alloc::{AllocError, Global};
 /// is found.
 ///
 /// The list is gone through twice; where its members don't rise, its places are sorted too, with sixteen bytes and
-/// O(log n) comparisons for each of n. Each tree is walked once, on one board for a lemma and with no memory for a
+/// O(log n) comparisons for each of n. Each tree is walked once, on one board for all lemmas and with no memory for a
 /// node, at most one level deeper than there are cells; a citation costs at most the length of its prefix.
 pub fn check(
     alloc: Global,
@@ -138,8 +138,9 @@ fn lemma_fault(
     let pairs = lemma.prefix.as_slice();
     let setting = Setting::new(puzzle, listed, symmetries, &lemmas[..number]);
     partial.place_all(pairs);
-    let fault = walk(alloc, &setting, &mut lemma.tree.trees(), partial)?;
-    if fault.is_none() {
+    let mut trees = lemma.tree.trees();
+    let mut fault = None;
+    if walk(alloc, &setting, &mut trees, partial, &mut fault)? {
         partial.lift_all(pairs);
     }
     Ok(fault)

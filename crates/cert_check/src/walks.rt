@@ -1,10 +1,11 @@
 // The walk of a tree by its heads.
 
-ghost use Rattle.std.specs.Prelude.{◌≡◌, ◌≢◌, ◌<◌, ◌≤◌, ◌^◌, ℕ, List, IfOk, MatchOption, None, length};
+ghost use Rattle.std.specs.Prelude.{◌≡◌, ◌≢◌, ◌<◌, ◌≤◌, ◌^◌, ℕ, List, IfOk, MatchBool, MatchOption, None, length};
+ghost use Rattle.std.specs.Option.{option_map};
 ghost use Rattle.match_puzzle.specs.Prefix.{Prefix};
 ghost use Rattle.cert_tree.specs.Tree.{branch, count, none};
 ghost use Rattle.cert_tree.specs.Heads.{first, front, past};
-ghost use Rattle.cert_check.specs.Walk.{Tells, IsAtTop};
+ghost use Rattle.cert_check.specs.Walk.{Tells, IsAtTop, below};
 
 use crate::faults::{NodeFault, Path, TreeFault};
 use crate::nodes::{branch_pairs, dead_fault, found_fault, image_fault, same_fault};
@@ -13,42 +14,41 @@ use cert_tree::{Head, Trees};
 use match_puzzle::{Item, Partial};
 use std::alloc::{AllocError, Global};
 
-// The first fault of the first tree at what is placed, in preorder, or none where it holds; then what is placed is as
-// before, and the tree is gone past. Each branch fills a cell for its children, so the walk goes no deeper than one
-// level for each cell and one more.
+// Whether the first tree holds at what is placed. Then what is placed is as before, and the tree is gone past; else its
+// first fault in preorder is put down. Most trees hold, so a fault has a place of its own and isn't handed from node to
+// node. Each branch fills a cell for its children, so the walk goes no deeper than one level for each cell and one more.
 #[cycle(walk)]
 pub(crate) fn walk(
     alloc: Global,
     setting: &Setting<'_>,
     trees: &mut Trees<'_>,
     partial: &mut Partial<'_>,
-) -> Result<Option<TreeFault>, AllocError>
+    fault: &mut Option<TreeFault>,
+) -> Result<bool, AllocError>
     requires made { partial.old.puzzle ≡ setting.now.puzzle }
     requires some { trees.old ≢ none }
-    ensures tells { IfOk result (Tells setting.now (first trees.old) partial.old.placed) }
-    ensures restored { IfOk result (λ fault. fault ≡ None → partial.new ≡ partial.old) }
-    ensures past { IfOk result (λ fault. fault ≡ None → trees.new ≡ past 1 trees.old) }
+    requires no_fault { fault.old ≡ None }
+    ensures holds { IfOk result (λ holds. MatchBool holds (fault.new ≡ None) (fault.new ≢ None)) }
+    ensures tells { IfOk result (λ holds. Tells setting.now (first trees.old) partial.old.placed fault.new) }
+    ensures restored { IfOk result (λ holds. fault.new ≡ None → partial.new ≡ partial.old) }
+    ensures past { IfOk result (λ holds. fault.new ≡ None → trees.new ≡ past 1 trees.old) }
 {
     match trees.next() {
         Head::Cell { cell, children } => {
-            walk_branch(alloc, setting, Item::Cell(cell), children, trees, partial)
+            let item = Item::Cell(cell);
+            walk_branch(alloc, setting, item, children, trees, partial, fault)
         }
         Head::Tile { tile, children } => {
-            walk_branch(alloc, setting, Item::Tile(tile), children, trees, partial)
+            let item = Item::Tile(tile);
+            walk_branch(alloc, setting, item, children, trees, partial, fault)
         }
-        Head::DeadCell(cell) => {
-            let fault = dead_fault(Item::Cell(cell), partial);
-            Ok(at_top(alloc, fault))
-        }
-        Head::DeadTile(tile) => {
-            let fault = dead_fault(Item::Tile(tile), partial);
-            Ok(at_top(alloc, fault))
-        }
-        Head::Found(number) => Ok(at_top(alloc, found_fault(setting, number, partial))),
-        Head::Same(lemma) => Ok(at_top(alloc, same_fault(setting, lemma, partial))),
+        Head::DeadCell(cell) => Ok(at_top(alloc, dead_fault(Item::Cell(cell), partial), fault)),
+        Head::DeadTile(tile) => Ok(at_top(alloc, dead_fault(Item::Tile(tile), partial), fault)),
+        Head::Found(number) => Ok(at_top(alloc, found_fault(setting, number, partial), fault)),
+        Head::Same(lemma) => Ok(at_top(alloc, same_fault(setting, lemma, partial), fault)),
         Head::Image { symmetry, lemma } => {
-            let fault = image_fault(setting, lemma, symmetry, partial);
-            Ok(at_top(alloc, fault))
+            let of_node = image_fault(setting, lemma, symmetry, partial);
+            Ok(at_top(alloc, of_node, fault))
         }
     }
 }
@@ -62,35 +62,57 @@ fn walk_branch(
     children: u32,
     trees: &mut Trees<'_>,
     partial: &mut Partial<'_>,
-) -> Result<Option<TreeFault>, AllocError>
+    fault: &mut Option<TreeFault>,
+) -> Result<bool, AllocError>
     requires made { partial.old.puzzle ≡ setting.now.puzzle }
     requires counted { children ≤ count trees.old }
-    ensures tells { IfOk result (Tells setting.now (branch item (front children trees.old)) partial.old.placed) }
-    ensures restored { IfOk result (λ fault. fault ≡ None → partial.new ≡ partial.old) }
-    ensures past { IfOk result (λ fault. fault ≡ None → trees.new ≡ past children trees.old) }
+    requires no_fault { fault.old ≡ None }
+    ensures holds { IfOk result (λ holds. MatchBool holds (fault.new ≡ None) (fault.new ≢ None)) }
+    ensures tells { IfOk result (λ holds. Tells setting.now (branch item (front children trees.old)) partial.old.placed fault.new) }
+    ensures restored { IfOk result (λ holds. fault.new ≡ None → partial.new ≡ partial.old) }
+    ensures past { IfOk result (λ holds. fault.new ≡ None → trees.new ≡ past children trees.old) }
 {
     let mut pairs = match branch_pairs(item, children, partial) {
         Ok(pairs) => pairs,
-        Err(fault) => return Ok(at_top(alloc, Some(fault))),
+        Err(of_node) => return Ok(at_top(alloc, Some(of_node), fault)),
     };
     for number in 0..children {
         let Some(pair) = pairs.take_first() else {
             unreachable!();
         };
         partial.place(pair.cell, pair.placement);
-        if let Some(fault) = walk(alloc, setting, trees, partial)? {
-            return Ok(Some(fault.below(number as u16)?));
+        if !walk(alloc, setting, trees, partial, fault)? {
+            put_below(number as u16, fault)?;
+            return Ok(false);
         }
         partial.lift(pair.cell);
     }
-    Ok(None)
+    Ok(true)
 }
 
-// A fault of the first node.
-fn at_top(alloc: Global, fault: Option<NodeFault>) -> Option<TreeFault>
-    ensures { IsAtTop fault result }
+// Puts a fault of the first node down. Whether there is none.
+fn at_top(alloc: Global, of_node: Option<NodeFault>, fault: &mut Option<TreeFault>) -> bool
+    requires { fault.old ≡ None }
+    ensures holds { MatchBool result (fault.new ≡ None) (fault.new ≢ None) }
+    ensures fault { IsAtTop of_node fault.new }
 {
-    let fault = fault?;
+    let Some(of_node) = of_node else {
+        return true;
+    };
     let path = Path::new(Vec::new(alloc));
-    Some(TreeFault { path, fault })
+    *fault = Some(TreeFault {
+        path,
+        fault: of_node,
+    });
+    false
+}
+
+// Makes a fault of a child one of its parent.
+fn put_below(number: u16, fault: &mut Option<TreeFault>) -> Result<(), AllocError>
+    ensures { IfOk result (λ done. fault.new ≡ option_map (below number) fault.old) }
+{
+    if let Some(of_child) = fault.take() {
+        *fault = Some(of_child.below(number)?);
+    }
+    Ok(())
 }

@@ -42,7 +42,10 @@ fn node_kind_word(word: &[u8]) -> Result<NodeKind, TextKind>
 fn node_kind(scan: &mut Scan) -> Result<NodeKind, TextFault>
     ensures { Gives (λ kind. kind) result scan.new (word_by node_kind_in scan.old) }
 {
-    let word = scan.next_word()?;
+    // Looked at where it stands: in a `Result` beside a fault a word would pass through memory.
+    let Some(word) = scan.peek() else {
+        return Err(scan.fault(TextKind::Word));
+    };
     scan.accept(node_kind_word(word))
 }
 

@@ -79,7 +79,8 @@ impl NumberSet {
 
     /// The numbers that are in this set and in each of four others.
     ///
-    /// Each word is made at once, so that a set is written and not read again on the way.
+    /// Each word is made at once, so that a set is written and not read again on the way; all seven are, since a loop
+    /// that goes to an end known beforehand is faster.
     pub(crate) fn common(
         &self,
         first: &NumberSet,
@@ -90,7 +91,7 @@ impl NumberSet {
         ensures { IsListing ◌<◌ (λ n. Contains self.now n × Contains first.now n × Contains second.now n × Contains third.now n × Contains fourth.now n) result }
     {
         let mut words = [0; WORDS];
-        for i in 0..self.end {
+        for i in 0..WORDS {
             words[i] = self.words[i]
                 & first.words[i]
                 & second.words[i]

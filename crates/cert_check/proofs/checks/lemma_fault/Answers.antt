@@ -26,7 +26,7 @@ returns-clause-tree c =
     let placed : c.place_all.new.self.placed ≡ with_pairs lemma.prefix (empty_prefix p) = ap (λ (w : Layout). w.placed) c.place_all.ensures
     ∙ ap (λ (w : Layout). with_pairs c.as_slice-pairs.result.now (empty_prefix w.puzzle)) c.requires.empty
     ∙ ap (λ (pairs : List Pair). with_pairs pairs (empty_prefix p)) c.as_slice-pairs.ensures in
-    let fault = c.in_ok-fault.fault in
-    let told = subst (λ (trees : Forest). Tells c.new-setting.result (first trees) c.place_all.new.self.placed fault) c.trees.ensures c.in_ok-fault.ensures.tells in
+    let fault = c.walk.new.fault in
+    let told = subst (λ (trees : Forest). Tells c.new-setting.result (first trees) c.place_all.new.self.placed fault) c.trees-trees.ensures c.in_ok-walk.ensures.tells in
     tells_lemma p listed certificate motions n lemma fault c.requires.lines at
     (subst (λ q. Tells (setting_of p listed motions (take n certificate.lemmas)) lemma.tree q fault) placed (subst (λ s. Tells s lemma.tree c.place_all.new.self.placed fault) setting told))

@@ -1,4 +1,4 @@
-use Rattle.std.proofs.Common.{◌≡◌, ◌<◌, ◌≤◌, ◌+◌, ◌-◌, ℕ, suc, ◌∷◌, List, arith, ap, sym, ◌∙◌, refl, subst}
+use Rattle.std.proofs.Common.{◌≡◌, ◌<◌, ◌≤◌, ◌+◌, ◌-◌, ℕ, suc, List, None, MatchBool, ◌≢◌, arith, ap, sym, ◌∙◌, refl, subst}
 use Rattle.match_board.specs.First.{IsFirst}
 use Rattle.match_puzzle.specs.Puzzle.{Task}
 use Rattle.match_puzzle.specs.Prefix.{Layout}
@@ -7,9 +7,9 @@ use Rattle.cert_tree.specs.Tree.{branch, count, more}
 use Rattle.cert_tree.specs.Heads.{first, front, past}
 use Rattle.cert_tree.proofs.HeadLemmas.{count-front, front_first, past_first, count_first}
 use Rattle.cert_check.specs.NodeRules.{IsBranch}
-use Rattle.cert_check.specs.TreeFaults.{BranchFails, node_rank, FailsAt}
+use Rattle.cert_check.specs.TreeFaults.{BranchFails, node_rank}
 use Rattle.cert_check.specs.Walk.{Tells}
-use Rattle.cert_check.proofs.WalkLemmas.{Going, going_start, going_on, some_left, Turn, turn_placed, turn_fewer, turn_fault, turn_has, turn_lifted, turn_more}
+use Rattle.cert_check.proofs.WalkLemmas.{Going, going_start, going_on, going_done, some_left, Turn, turn_placed, turn_fewer, turn_said, still_some, turn_has, turn_lifted, turn_more}
 use Rattle.cert_check.proofs.walks.+walk.Goals as goal
 use Rattle.cert_check.proofs.walks.+walk.Goals.{walk_branch-In-Some}
 
@@ -19,8 +19,8 @@ walk_branch-returns-in-Err-clause-tells t c =
     let q = c.args.partial.now.placed in
     let trees = front c.args.children c.args.trees.now in
     let many = count-front c.args.children c.args.trees.now c.requires.counted in
-    let fails = subst (λ (p : Task). IsFirst node_rank (BranchFails p q c.args.item c.args.children) c.in-Err.fault) c.requires.made c.in-Err.ensures.fault in
-    subst (Tells s (branch c.args.item trees) q) (sym c.at_top.ensures) (subst (λ n. IsFirst node_rank (BranchFails s.puzzle q c.args.item n) c.in-Err.fault) (sym many) fails)
+    let fails = subst (λ (p : Task). IsFirst node_rank (BranchFails p q c.args.item c.args.children) c.in-Err.of_node) c.requires.made c.in-Err.ensures.fault in
+    subst (Tells s (branch c.args.item trees) q) (sym c.at_top.ensures.fault) (subst (λ n. IsFirst node_rank (BranchFails s.puzzle q c.args.item n) c.in-Err.of_node) (sym many) fails)
 
 pub walk_branch-loop-number-init : goal.walk_branch-loop-number-init
 walk_branch-loop-number-init t c =
@@ -35,6 +35,7 @@ walk_branch-loop-number-init t c =
       partial = refl;
       going = subst (λ n. Going s c.args.item q trees 0 (front n c.args.trees.now) pairs) all (going_start s c.args.item q trees pairs (subst (λ n. IsBranch s.puzzle q c.args.item n pairs) (sym many) is));
       past = ap (λ n. past n c.args.trees.now) (sym all);
+      no_fault = c.requires.no_fault;
       counted = let h = c.requires.counted in omega arith;
     }
 
@@ -77,26 +78,40 @@ walk_branch-walk-requires t c =
     let fewer = turn_fewer _ _ _ _ _ _ _ _ _ _ turn c.place.new.self c.place.ensures in
     let placed = turn_placed _ _ _ _ _ _ _ _ _ _ turn c.place.new.self c.place.ensures in
     let some : 0 < n - l.number = let below = c.loop-number-test.true in omega arith in
-    (omega (arith, c.decreases, fewer), (ap (λ (u : Layout). u.puzzle) placed ∙ c.requires.made, some_left (n - l.number) l.trees some l.invariant.counted))
+    (omega (arith, c.decreases, fewer), (ap (λ (u : Layout). u.puzzle) placed ∙ c.requires.made, (some_left (n - l.number) l.trees some l.invariant.counted, l.invariant.no_fault)))
 
-pub walk_branch-returns-in-Some-2-clause-tells : goal.walk_branch-returns-in-Some-2-clause-tells
-walk_branch-returns-in-Some-2-clause-tells t c =
+pub walk_branch-returns-then-not-branch-clause-holds : goal.walk_branch-returns-then-not-branch-clause-holds
+walk_branch-returns-then-not-branch-clause-holds t c =
+    let said = c.walk.new.fault in
+    let some = subst (λ b. MatchBool b (said ≡ None) (said ≢ None)) c.if-not-branch.true c.in_ok-walk.ensures.holds in
+    still_some c.loop-number.number said c.put_below.new.fault some c.in_ok-put_below.ensures
+
+pub walk_branch-returns-then-not-branch-clause-tells : goal.walk_branch-returns-then-not-branch-clause-tells
+walk_branch-returns-then-not-branch-clause-tells t c =
+    let turn = turn_here t (goal.at.walk_branch-returns-then-not-branch-clause-tells t c).In-Some in
+    let said = c.walk.new.fault in
+    let some = subst (λ b. MatchBool b (said ≡ None) (said ≢ None)) c.if-not-branch.true c.in_ok-walk.ensures.holds in
+    turn_said _ _ _ _ _ _ _ _ _ _ turn c.place.new.self c.place.ensures said c.put_below.new.fault some c.in_ok-walk.ensures.tells c.in_ok-put_below.ensures
+
+pub walk_branch-returns-clause-holds : goal.walk_branch-returns-clause-holds
+walk_branch-returns-clause-holds t c = c.loop-number.invariant.no_fault
+
+pub walk_branch-returns-clause-tells : goal.walk_branch-returns-clause-tells
+walk_branch-returns-clause-tells t c =
     let s = c.args.setting.now in
-    let w = c.args.partial.now in
-    let i = c.loop-number.number in
-    let all = front c.args.children c.args.trees.now in
-    let child = first c.loop-number.trees in
-    let turn = turn_here t (goal.at.walk_branch-returns-in-Some-2-clause-tells t c).In-Some in
-    let child_fault = c.in-Some-2.fault in
-    let fails = subst (Tells s child c.place.new.self.placed) c.in-Some-2.is c.in_ok-fault.ensures.tells in
-    let whole = turn_fault _ _ _ _ _ _ _ _ _ _ turn c.place.new.self c.place.ensures child_fault.path child_fault.fault fails in
-    subst (λ path. FailsAt s (branch c.args.item all) w.placed path c.in_ok-below.field-0.fault) (sym c.in_ok-below.ensures.path)
-    (subst (λ fault. FailsAt s (branch c.args.item all) w.placed (i ∷ child_fault.path) fault) (sym c.in_ok-below.ensures.fault) whole)
+    let q = c.args.partial.now.placed in
+    let l = c.loop-number in
+    let trees = front c.args.children c.args.trees.now in
+    let none_left : c.args.children - l.number ≡ 0 = let at_end = c.loop-number-test.false in omega (arith, at_end) in
+    subst (Tells s (branch c.args.item trees) q) (sym l.invariant.no_fault)
+    (going_done s c.args.item q trees l.number l.pairs (subst (λ n. Going s c.args.item q trees l.number (front n l.trees) l.pairs) none_left l.invariant.going))
 
 pub walk_branch-lift-requires : goal.walk_branch-lift-requires
 walk_branch-lift-requires t c =
     let turn = turn_here t (goal.at.walk_branch-lift-requires t c).In-Some in
-    (c.in-Some.pair.placement, turn_has _ _ _ _ _ _ _ _ _ _ turn c.place.new.self c.place.ensures c.walk.new.partial (c.in_ok-fault.ensures.restored c.in_default-2.is))
+    let said = c.walk.new.fault in
+    let none = subst (λ b. MatchBool b (said ≡ None) (said ≢ None)) c.if-not-branch.false c.in_ok-walk.ensures.holds in
+    (c.in-Some.pair.placement, turn_has _ _ _ _ _ _ _ _ _ _ turn c.place.new.self c.place.ensures c.walk.new.partial (c.in_ok-walk.ensures.restored none))
 
 pub walk_branch-loop-number-preserved : goal.walk_branch-loop-number-preserved
 walk_branch-loop-number-preserved t c =
@@ -109,12 +124,15 @@ walk_branch-loop-number-preserved t c =
     let child = first l.trees in
     let fewer = less i n c.loop-number-test.true in
     let turn = turn_here t (goal.at.walk_branch-loop-number-preserved t c).In-Some in
-    let restored = c.in_ok-fault.ensures.restored c.in_default-2.is in
-    let holds = subst (Tells s child c.place.new.self.placed) c.in_default-2.is c.in_ok-fault.ensures.tells in
-    let gone = c.in_ok-fault.ensures.past c.in_default-2.is in
+    let said = c.walk.new.fault in
+    let none = subst (λ b. MatchBool b (said ≡ None) (said ≢ None)) c.if-not-branch.false c.in_ok-walk.ensures.holds in
+    let restored = c.in_ok-walk.ensures.restored none in
+    let holds = subst (Tells s child c.place.new.self.placed) none c.in_ok-walk.ensures.tells in
+    let gone = c.in_ok-walk.ensures.past none in
     record {
       partial = turn_lifted _ _ _ _ _ _ _ _ _ _ turn c.place.new.self c.place.ensures c.walk.new.partial restored c.lift.new.self c.lift.ensures;
       going = subst (λ trees. Going s c.args.item w.placed all (i + 1) (front (n - (i + 1)) trees) c.take_first.new.self) (sym gone) (turn_more _ _ _ _ _ _ _ _ _ _ turn c.place.new.self c.place.ensures c.walk.new.partial restored holds);
+      no_fault = none;
       past = ap (past (n - (i + 1))) gone ∙ sym (past_first (n - i) (n - (i + 1)) l.trees fewer l.invariant.counted) ∙ l.invariant.past;
       counted = subst (λ trees. n - (i + 1) ≤ count trees) (sym gone) (count_first (n - i) (n - (i + 1)) l.trees fewer l.invariant.counted);
     }

@@ -1,4 +1,4 @@
-use Rattle.std.proofs.Common.{◌≡◌, ◌≤◌, ◌+◌, ◌-◌, ◌*◌}
+use Rattle.std.proofs.Common.{◌≡◌, ◌≤◌, ◌+◌, ◌-◌, ◌*◌, None}
 use Rattle.cert_tree.specs.Tree.{count}
 use Rattle.cert_tree.specs.Heads.{front, past}
 use Rattle.cert_check.proofs.WalkLemmas.{Going, free_count}
@@ -10,6 +10,7 @@ invariant-walk_branch-loop-number l = record {
   partial : l.partial ≡ l.initial.partial;
   going : Going l.setting l.fn.item l.initial.partial.placed (front l.children l.initial.trees) l.number (front (l.children - l.number) l.trees) l.pairs;
   past : past (l.children - l.number) l.trees ≡ past l.children l.initial.trees;
+  no_fault : l.fault ≡ None;
   counted : l.children - l.number ≤ count l.trees;
 }
 
