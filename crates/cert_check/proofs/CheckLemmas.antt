@@ -1,8 +1,6 @@
 -- What a check finds is the answer.
 use Rattle.std.proofs.Common.{◌≡◌, ◌⊎◌, ◌<◌, ◌≤◌, ◌+◌, ◌∙◌, ℕ, zero, suc, List, [], ◌∷◌, Option, Some, slice_get, map, take, arith, inl, inr, ap, sym, refl, subst, ⊎_elim}
-use Rattle.std.specs.Option.{option_map}
 use Rattle.std.proofs.lemmas.Bool.Decides.{eqb_tells}
-use Rattle.std.proofs.lemmas.Option.{slice_get-map}
 use Rattle.std.proofs.lemmas.Bool.{cases_lt}
 use Rattle.match_board.specs.First.{Rank, AtMost, IsLeast, IsFirst}
 use Rattle.match_puzzle.specs.Puzzle.{Task}
@@ -11,7 +9,6 @@ use Rattle.match_puzzle.specs.Prefix.{empty_prefix, with_pairs}
 use Rattle.match_puzzle.specs.declared.placements.Pair.{Pair}
 use Rattle.match_puzzle.proofs.Prefixes.{inside}
 use Rattle.match_symmetry.specs.Motion.{Motion}
-use Rattle.cert_tree.specs.declared.certificates.FlatLemma.{FlatLemma}
 use Rattle.match_puzzle.specs.ArrangementFaults.{IsArrangementFault}
 use Rattle.match_puzzle.specs.PrefixFaults.{IsPairList, IsPrefixFault}
 use Rattle.match_puzzle.specs.declared.placements.Placement.{Placement}
@@ -22,11 +19,11 @@ use Rattle.match_symmetry.specs.SymmetryFaults.{IsSymmetryFault}
 use Rattle.match_symmetry.specs.declared.faults.SymmetryFault.{SymmetryFault}
 use Rattle.match_symmetry.specs.declared.lines.SymmetryLine.{SymmetryLine}
 use Rattle.match_symmetry.proofs.FaultLemmas.{no_fault}
-use Rattle.cert_tree.specs.Certificate.{Contents, Piece, flat_piece}
+use Rattle.cert_tree.specs.Certificate.{Contents, Piece}
 use Rattle.cert_check.specs.declared.faults.TreeFault.{TreeFault}
 use Rattle.cert_check.specs.declared.faults.Fault.{Fault}
 use Rattle.cert_check.specs.declared.faults.Fault.TheVariants as faults
-use Rattle.cert_check.specs.Setting.{Question, Setting, question_of, prefix_of, pairs_of, line_of, setting_at, setting_of, BeginWithPrefixes}
+use Rattle.cert_check.specs.Setting.{Question, Setting, question_of, prefix_of, line_of, setting_at, setting_of}
 use Rattle.cert_check.specs.NodeRules.{Holds}
 use Rattle.cert_check.specs.TreeFaults.{FailsAt}
 use Rattle.cert_check.specs.Derivation.{start_of, HavePrefixes, HasRoot, TreesHold}
@@ -34,9 +31,8 @@ use Rattle.cert_check.specs.Answer.{AreArrangements, AreSymmetries, AreDistinct,
 use Rattle.cert_check.specs.Lists.{IsFirstBad}
 use Rattle.cert_check.specs.declared.symmetries.SymmetriesFault.{SymmetriesFault}
 use Rattle.cert_check.specs.declared.symmetries.SymmetriesFault.TheVariants.{Line, Memory}
-use Rattle.cert_check.specs.Lines.{LineFails as LineFailsAt, LinesFail, IsFirstBadPrefix}
+use Rattle.cert_check.specs.Lines.{LineFails as LineFailsAt, LinesFail}
 use Rattle.cert_check.specs.Walk.{Tells, TellsOfLemma, TellsOfListing}
-use Rattle.cert_check.proofs.ListLemmas.{mapped_at}
 use Rattle.cert_check.proofs.PrefixLemmas.{start_long}
 use Rattle.cert_check.proofs.FaultLemmas.{holds_not_fails}
 use Rattle.cert_check.proofs.AnswerLemmas.{arrangement_no_fault, prefix_no_fault}
@@ -209,20 +205,20 @@ module _ (question : Question) where
 
 -- ---- the tree of one lemma
 
-earlier_is : (lemmas : List FlatLemma) (number : ℕ) → map pairs_of (take number lemmas) ≡ take number (map prefix_of (map flat_piece lemmas))
+earlier_is : (lemmas : List Piece) (number : ℕ) → map prefix_of (take number lemmas) ≡ take number (map prefix_of lemmas)
 earlier_is lemmas zero = refl
 earlier_is [] (suc number) = refl
 earlier_is (lemma ∷ lemmas) (suc number) = ap (λ rest. lemma.prefix ∷ rest) (earlier_is lemmas number)
 
 -- what the walk of a lemma's tree says
-pub tells_lemma : (p : Task) (listed : List (List Placement)) (certificate : Contents) (motions : List Motion) (number : ℕ) (lemma : FlatLemma) (said : Option TreeFault) →
+pub tells_lemma : (p : Task) (listed : List (List Placement)) (certificate : Contents) (motions : List Motion) (number : ℕ) (lemma : Piece) (said : Option TreeFault) →
     map line_of motions ≡ certificate.symmetries → slice_get certificate.lemmas number ≡ Some lemma →
     Tells (setting_of p listed motions (take number certificate.lemmas)) lemma.tree (with_pairs lemma.prefix (empty_prefix p)) said → TellsOfLemma (question_of p listed certificate) number said
 tells_lemma p listed certificate motions number lemma said lines at told =
     let of : List SymmetryLine → List (List Pair) → Setting = λ gs earlier. record { puzzle = p; listed = listed; symmetries = gs; earlier = earlier } in
     let same : setting_of p listed motions (take number certificate.lemmas) ≡ setting_at (question_of p listed certificate) number =
-    ap (λ gs. of gs (map pairs_of (take number certificate.lemmas))) lines ∙ ap (of certificate.symmetries) (earlier_is certificate.lemmas number) in
-    (flat_piece lemma, slice_get-map flat_piece certificate.lemmas number ∙ ap (option_map flat_piece) at, subst (λ s. Tells s lemma.tree (with_pairs lemma.prefix (empty_prefix p)) said) same told)
+    ap (λ gs. of gs (map prefix_of (take number certificate.lemmas))) lines ∙ ap (of certificate.symmetries) (earlier_is certificate.lemmas number) in
+    (lemma, at, subst (λ s. Tells s lemma.tree (with_pairs lemma.prefix (empty_prefix p)) said) same told)
 
 -- the lemmas before one that holds, and that one
 pub each_lemma : (P : ℕ → Piece → Type 0) (lemmas : List Piece) (n : ℕ) (lemma : Piece) → ((k : ℕ) (x : Piece) → k < n → slice_get lemmas k ≡ Some x → P k x) → slice_get lemmas n ≡ Some lemma → P n lemma →
@@ -240,21 +236,6 @@ first_listing question (faults.Symmetry number fault) told = absurd told
 first_listing question (faults.Prefix number fault) told = absurd told
 first_listing question faults.Root told = absurd told
 first_listing question (faults.Tree number fault) told = absurd told
-
--- what holds of lemmas holds of them as plain data
-pub have_prefixes : (p : Task) (listed : List (List Placement)) (certificate : Contents) → BeginWithPrefixes p certificate.lemmas → HavePrefixes (question_of p listed certificate)
-have_prefixes p listed certificate all number lemma at =
-    let w = mapped_at flat_piece certificate.lemmas number lemma at in
-    subst (λ (piece : Piece). IsPairList p piece.prefix) (sym w.2) (all number w.0 w.1)
-
--- the first lemma with a bad prefix, as plain data
-pub first_bad_prefix : (p : Task) (lemmas : List FlatLemma) (number : ℕ) (fault : PrefixFault) →
-    IsFirstBadPrefix p lemmas number fault →
-    IsFirstBad (λ n (lemma : Piece). IsPairList p lemma.prefix) (λ n (lemma : Piece) f. IsPrefixFault p lemma.prefix f) (map flat_piece lemmas) number fault
-first_bad_prefix p lemmas number fault is = record {
-  occurs = (flat_piece is.occurs.0, slice_get-map flat_piece lemmas number ∙ ap (option_map flat_piece) is.occurs.1, is.occurs.2);
-  before = λ earlier lemma lt at. let w = mapped_at flat_piece lemmas earlier lemma at in subst (λ (piece : Piece). IsPairList p piece.prefix) (sym w.2) (is.before earlier w.0 lt w.1);
-}
 
 -- the first line that is none
 pub first_line : (p : Task) (lines : List SymmetryLine) (number : ℕ) (g : SymmetryLine) (fault : SymmetriesFault) → slice_get lines number ≡ Some g →

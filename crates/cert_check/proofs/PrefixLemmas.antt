@@ -1,9 +1,8 @@
 -- What stands in prefixes and arrangements.
 use Rattle.std.proofs.Common.{◌≡◌, ◌⊎◌, ◌<◌, ◌+◌, ◌-◌, ◌==◌, ℕ, zero, suc, Bool, false, List, [], ◌∷◌, Some, None, Contains, MatchBool, length, length-set, slice_get, map, arith, refl, ap, sym, ◌∙◌, subst, inl, inr, ⊎_elim}
-use Rattle.std.specs.Option.{option_map}
-use Rattle.std.proofs.lemmas.Option.{slice_get_within, slice_get-map}
+use Rattle.std.proofs.lemmas.Option.{slice_get_within}
 use Rattle.std.proofs.lemmas.Bool.{ne_eqb}
-use Rattle.std.proofs.lemmas.List.{length-map, length-replicate}
+use Rattle.std.proofs.lemmas.List.{length-replicate}
 use Rattle.match_board.specs.Board.{cell_count}
 use Rattle.match_puzzle.specs.Puzzle.{Task}
 use Rattle.match_puzzle.specs.Arrangement.{Stands}
@@ -14,8 +13,6 @@ use Rattle.match_puzzle.proofs.Prefixes.{inside}
 use Rattle.match_puzzle.proofs.Kept.{has_none}
 use Rattle.match_symmetry.specs.Images.{HasPairs}
 use Rattle.cert_tree.specs.Certificate.{Piece}
-use Rattle.cert_tree.specs.declared.certificates.FlatLemma.{FlatLemma}
-use Rattle.cert_tree.specs.Certificate.{flat_piece}
 use Rattle.cert_check.specs.Setting.{prefix_of}
 use Rattle.cert_check.specs.Derivation.{start_of, HasRoot}
 use Rattle.cert_check.proofs.ListLemmas.{none≢some}
@@ -73,22 +70,18 @@ extends_pairs p pairs a has = extends_with a pairs (empty_prefix p) (λ cell x t
 
 -- ---- the root
 
-last_is : {X Y : Type 0} (f : X → Y) (xs : List X) (x : X) → slice_get xs (length xs - 1) ≡ Some x → (length (map f xs) ≡ (length xs - 1) + 1) × (slice_get (map f xs) (length xs - 1) ≡ Some (f x))
-last_is f xs x at =
-    let lt = slice_get_within xs (length xs - 1) x at in
-    (omega (arith, length-map xs f, lt), slice_get-map f xs (length xs - 1) ∙ ap (option_map f) at)
+last_is : {X : Type 0} (xs : List X) (x : X) → slice_get xs (length xs - 1) ≡ Some x → length xs ≡ (length xs - 1) + 1
+last_is xs x at = let lt = slice_get_within xs (length xs - 1) x at in omega (arith, lt)
 
 -- Whether the last lemma begins with nothing placed tells whether there is a root.
-pub tells_root : (lemmas : List FlatLemma) (root : FlatLemma) (pairs : List Pair) (empty : Bool) → slice_get lemmas (length lemmas - 1) ≡ Some root → pairs ≡ root.prefix → empty ≡ (length pairs == 0) →
-    MatchBool empty (HasRoot (map flat_piece lemmas)) (HasRoot (map flat_piece lemmas) → ⊥)
+pub tells_root : (lemmas : List Piece) (root : Piece) (pairs : List Pair) (empty : Bool) → slice_get lemmas (length lemmas - 1) ≡ Some root → pairs ≡ root.prefix → empty ≡ (length pairs == 0) →
+    MatchBool empty (HasRoot lemmas) (HasRoot lemmas → ⊥)
 tells_root lemmas root [] empty at same is =
-    let w = last_is flat_piece lemmas root at in
-    subst (λ b. MatchBool b (HasRoot (map flat_piece lemmas)) (HasRoot (map flat_piece lemmas) → ⊥)) (sym is) (length lemmas - 1, flat_piece root, w.0, w.1, sym same)
+    subst (λ b. MatchBool b (HasRoot lemmas) (HasRoot lemmas → ⊥)) (sym is) (length lemmas - 1, root, last_is lemmas root at, at, sym same)
 tells_root lemmas root (x ∷ pairs) empty at same is =
     let some : (length (x ∷ pairs) == 0) ≡ false = ne_eqb (suc (length pairs)) 0 (λ e. omega (arith, e)) in
-    subst (λ b. MatchBool b (HasRoot (map flat_piece lemmas)) (HasRoot (map flat_piece lemmas) → ⊥)) (sym (is ∙ some))
+    subst (λ b. MatchBool b (HasRoot lemmas) (HasRoot lemmas → ⊥)) (sym (is ∙ some))
     (λ has.
-    let w = last_is flat_piece lemmas root at in
-    let k : has.0 ≡ length lemmas - 1 = omega (arith, w.0, has.2) in
-    let e : has.1 ≡ flat_piece root = inside (sym has.3 ∙ ap (slice_get (map flat_piece lemmas)) k ∙ w.1) in
+    let k : has.0 ≡ length lemmas - 1 = omega (arith, last_is lemmas root at, has.2) in
+    let e : has.1 ≡ root = inside (sym has.3 ∙ ap (slice_get lemmas) k ∙ at) in
     omega (arith, ap length (same ∙ sym (ap prefix_of e) ∙ has.4)))

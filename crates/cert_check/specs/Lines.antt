@@ -6,7 +6,7 @@ use Rattle.match_puzzle.specs.declared.faults.PrefixFault.{PrefixFault}
 use Rattle.match_symmetry.specs.Symmetry.{IsSymmetry}
 use Rattle.match_symmetry.specs.SymmetryFaults.{IsSymmetryFault}
 use Rattle.match_symmetry.specs.declared.lines.SymmetryLine.{SymmetryLine}
-use Rattle.cert_tree.specs.declared.certificates.FlatLemma.{FlatLemma}
+use Rattle.cert_tree.specs.Certificate.{Piece}
 use Rattle.cert_check.specs.declared.symmetries.SymmetriesFault.{SymmetriesFault}
 use Rattle.cert_check.specs.declared.symmetries.SymmetriesFault.TheVariants.{Line, Memory}
 use Rattle.cert_check.specs.Lists.{IsFirstBad}
@@ -22,5 +22,5 @@ LinesFail p lines (Line number fault) = IsFirstBad (λ n g. IsSymmetry p g) (λ 
 LinesFail p lines Memory = Unit {0}
 
 -- The lemma with this number does not begin with a prefix, and it is the first.
-abbrev pub IsFirstBadPrefix : Task → List FlatLemma → ℕ → PrefixFault → Type 0
-IsFirstBadPrefix p = IsFirstBad (λ n (lemma : FlatLemma). IsPairList p lemma.prefix) (λ n (lemma : FlatLemma) fault. IsPrefixFault p lemma.prefix fault)
+abbrev pub IsFirstBadPrefix : Task → List Piece → ℕ → PrefixFault → Type 0
+IsFirstBadPrefix p = IsFirstBad (λ n (lemma : Piece). IsPairList p lemma.prefix) (λ n (lemma : Piece) fault. IsPrefixFault p lemma.prefix fault)

@@ -6,8 +6,7 @@ use Rattle.match_puzzle.specs.declared.placements.Placement.{Placement}
 use Rattle.match_puzzle.specs.declared.placements.Pair.{Pair}
 use Rattle.match_symmetry.specs.declared.lines.SymmetryLine.{SymmetryLine}
 use Rattle.match_symmetry.specs.Motion.{Motion}
-use Rattle.cert_tree.specs.declared.certificates.FlatLemma.{FlatLemma}
-use Rattle.cert_tree.specs.Certificate.{Contents, Piece, flat_piece}
+use Rattle.cert_tree.specs.Certificate.{Contents, Piece}
 
 -- what is asked of the checker: whether these are all arrangements of the puzzle, by these symmetries and lemmas
 pub record Question : Type 0 where
@@ -28,7 +27,7 @@ question_of puzzle listed certificate = record {
   puzzle = puzzle;
   listed = listed;
   symmetries = certificate.symmetries;
-  lemmas = map flat_piece certificate.lemmas;
+  lemmas = certificate.lemmas;
 }
 
 -- the pairs that a lemma begins with
@@ -48,16 +47,12 @@ setting_at question number = record {
 abbrev pub line_of : Motion → SymmetryLine
 line_of m = m.line
 
--- the pairs that a lemma of the code begins with
-abbrev pub pairs_of : FlatLemma → List Pair
-pairs_of lemma = lemma.prefix
-
-abbrev pub setting_of : Task → List (List Placement) → List Motion → List FlatLemma → Setting
+abbrev pub setting_of : Task → List (List Placement) → List Motion → List Piece → Setting
 setting_of puzzle listed motions earlier = record {
   puzzle = puzzle;
   listed = listed;
   symmetries = map line_of motions;
-  earlier = map pairs_of earlier;
+  earlier = map prefix_of earlier;
 }
 
 -- Each symmetry was made of this puzzle.
@@ -65,10 +60,10 @@ abbrev pub AreOfPuzzle : Task → List Motion → Type 0
 AreOfPuzzle p motions = (number : ℕ) (m : Motion) → slice_get motions number ≡ Some m → m.puzzle ≡ p
 
 -- Each lemma begins with a prefix.
-abbrev pub BeginWithPrefixes : Task → List FlatLemma → Type 0
-BeginWithPrefixes p lemmas = (number : ℕ) (lemma : FlatLemma) → slice_get lemmas number ≡ Some lemma → IsPairList p lemma.prefix
+abbrev pub BeginWithPrefixes : Task → List Piece → Type 0
+BeginWithPrefixes p lemmas = (number : ℕ) (lemma : Piece) → slice_get lemmas number ≡ Some lemma → IsPairList p lemma.prefix
 
 -- what holds of each setting that the code makes
-pub record IsSetting (p : Task) (motions : List Motion) (earlier : List FlatLemma) : Type 0 where
+pub record IsSetting (p : Task) (motions : List Motion) (earlier : List Piece) : Type 0 where
   pub symmetries : AreOfPuzzle p motions
   pub prefixes : BeginWithPrefixes p earlier

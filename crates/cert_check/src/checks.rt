@@ -134,9 +134,9 @@ fn lemma_fault(
 {
     let lemmas = certificate.lemmas();
     let number = lemma as usize;
-    let lemma = &lemmas[number];
-    let pairs = lemma.prefix.as_slice();
-    let setting = Setting::new(puzzle, listed, symmetries, &lemmas[..number]);
+    let lemma = lemmas.at(number);
+    let pairs = lemma.prefix;
+    let setting = Setting::new(puzzle, listed, symmetries, lemmas, number);
     partial.place_all(pairs);
     let mut trees = lemma.tree.trees();
     let mut fault = None;

@@ -1,10 +1,10 @@
 // What the tree of a lemma may name.
 
-ghost use Rattle.std.specs.Prelude.{◌≡◌, ◌≤◌, ℕ, IfSome, None, Some, length, map, slice_get};
+ghost use Rattle.std.specs.Prelude.{◌≡◌, ◌≤◌, ℕ, IfSome, None, Some, length, map, take, slice_get};
 ghost use Rattle.match_puzzle.specs.PrefixFaults.{IsPairList};
-ghost use Rattle.cert_check.specs.Setting.{setting_of, line_of, pairs_of, AreOfPuzzle, BeginWithPrefixes};
+ghost use Rattle.cert_check.specs.Setting.{setting_of, line_of, prefix_of, AreOfPuzzle, BeginWithPrefixes};
 
-use cert_tree::FlatLemma;
+use cert_tree::Lemmas;
 use match_puzzle::{Arrangement, Pair, Puzzle};
 use match_symmetry::Symmetry;
 use std::marker::Model;
@@ -15,35 +15,41 @@ pub(crate) struct Setting<'a> {
     puzzle: &'a Puzzle,
     listed: &'a [Arrangement],
     symmetries: &'a [Symmetry<'a>],
-    earlier: &'a [FlatLemma],
+    lemmas: &'a Lemmas,
+    // how many of the lemmas come before the lemma
+    earlier: usize,
 }
 
 impl<'a> Model for Setting<'a> {
+    ghost use Rattle.std.specs.Prelude.{◌≤◌, length, take};
     ghost use Rattle.cert_check.specs.Setting.{Setting, setting_of, IsSetting};
 
     ghost Value = { Setting };
 
-    ghost view = { λ s. setting_of s.puzzle.now s.listed.now s.symmetries.now s.earlier.now };
+    ghost view = { λ s. setting_of s.puzzle.now s.listed.now s.symmetries.now (take s.earlier s.lemmas.now) };
 
-    ghost invariant = { λ s. IsSetting s.puzzle.now s.symmetries.now s.earlier.now };
+    ghost invariant = { λ s. IsSetting s.puzzle.now s.symmetries.now s.lemmas.now × (s.earlier ≤ length s.lemmas.now) };
 }
 
 impl<'a> Setting<'a> {
-    // The symmetries are of the puzzle, and the lemmas begin with prefixes.
+    // Of the lemma that so many lemmas come before. The symmetries are of the puzzle, and the lemmas begin with prefixes.
     pub(crate) fn new(
         puzzle: &'a Puzzle,
         listed: &'a [Arrangement],
         symmetries: &'a [Symmetry<'a>],
-        earlier: &'a [FlatLemma],
+        lemmas: &'a Lemmas,
+        earlier: usize,
     ) -> Setting<'a>
         requires symmetries { AreOfPuzzle puzzle.now symmetries.now }
-        requires prefixes { BeginWithPrefixes puzzle.now earlier.now }
-        ensures { result ≡ setting_of puzzle.now listed.now symmetries.now earlier.now }
+        requires prefixes { BeginWithPrefixes puzzle.now lemmas.now }
+        requires earlier { earlier ≤ length lemmas.now }
+        ensures { result ≡ setting_of puzzle.now listed.now symmetries.now (take earlier lemmas.now) }
     {
         Setting {
             puzzle,
             listed,
             symmetries,
+            lemmas,
             earlier,
         }
     }
@@ -66,8 +72,11 @@ impl<'a> Setting<'a> {
         ensures right { IfSome result (λ pairs. IsPairList self.now.puzzle pairs.now) }
         ensures none { result ≡ None → length self.now.earlier ≤ lemma }
     {
-        let cited = self.earlier.get(lemma as usize)?;
-        Some(cited.prefix.as_slice())
+        let number = lemma as usize;
+        if number >= self.earlier {
+            return None;
+        }
+        Some(self.lemmas.at(number).prefix)
     }
 
     pub(crate) fn symmetry(&self, number: u16) -> Option<&'a Symmetry<'a>>

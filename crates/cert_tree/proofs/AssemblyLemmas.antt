@@ -7,8 +7,8 @@ use Rattle.match_board.specs.First.{AtMost, IsLeast, IsFirst}
 use Rattle.cert_tree.specs.declared.faults.AssembleFault.TheVariants.{Stranger, Double, Missing, Memory}
 use Rattle.cert_tree.specs.Assembly.{how_often, IsOnly, IsAssembly, AssemblyFails, assembly_rank, Assembles, TellsLeast}
 use Rattle.cert_tree.specs.Slots.{lesser_of, stranger_of, IsFilled, IsEntered, IsPut, IsTaken, IsFirstEmpty}
-use Rattle.cert_tree.specs.Certificate.{number_of}
-use Rattle.cert_tree.specs.declared.certificates.FlatLemma.{FlatLemma}
+use Rattle.cert_tree.specs.Spans.{number_of}
+use Rattle.cert_tree.specs.declared.flat_lemmas.LemmaSpan.{LemmaSpan}
 use Rattle.match_puzzle.proofs.Prefixes.{inside, slice_get-set_same, slice_get-set_other, slice_get-replicate}
 use Rattle.std.proofs.lemmas.Option.{slice_get_within, slice_get-map, slice_get-get_or}
 use Rattle.std.proofs.lemmas.List.{length-map}
@@ -131,11 +131,11 @@ first_contained x xs = (0, omega arith, refl)
 pub later_contained : {X : Type 0} (x y : X) (xs : List X) → Contains xs x → Contains (y ∷ xs) x
 later_contained x y xs at = (suc at.0, omega (arith, at.1), at.2)
 
-filled_on : (pieces : List FlatLemma) (piece : FlatLemma) (n : ℕ) (slot : Option FlatLemma) → piece.number ≢ n → IsFilled pieces n slot → IsFilled (piece ∷ pieces) n slot
+filled_on : (pieces : List LemmaSpan) (piece : LemmaSpan) (n : ℕ) (slot : Option LemmaSpan) → piece.number ≢ n → IsFilled pieces n slot → IsFilled (piece ∷ pieces) n slot
 filled_on pieces piece n None other filled = often-other number_of piece pieces n other ∙ filled
 filled_on pieces piece n (Some lemma) other filled = (later_contained lemma piece pieces filled.0, filled.1)
 
-pub put_entered : (pieces : List FlatLemma) (piece : FlatLemma) (before after : List (Option FlatLemma)) (double : Option ℕ) → IsPut before after piece → IsEntered pieces before double → IsEntered (piece ∷ pieces) after double
+pub put_entered : (pieces : List LemmaSpan) (piece : LemmaSpan) (before after : List (Option LemmaSpan)) (double : Option ℕ) → IsPut before after piece → IsEntered pieces before double → IsEntered (piece ∷ pieces) after double
 put_entered pieces piece before after double put entered =
     let none : how_often number_of pieces piece.number ≡ 0 = entered.filled piece.number None put.0 in
     let within : piece.number < length before = slice_get_within before piece.number None put.0 in
@@ -158,7 +158,7 @@ put_entered pieces piece before after double put entered =
           ]);
     }
 
-pub taken_entered : (pieces : List FlatLemma) (piece : FlatLemma) (before after : List (Option FlatLemma)) (double : Option ℕ) → IsTaken before after piece → IsEntered pieces before double → IsEntered (piece ∷ pieces) after (Some (lesser_of double piece.number))
+pub taken_entered : (pieces : List LemmaSpan) (piece : LemmaSpan) (before after : List (Option LemmaSpan)) (double : Option ℕ) → IsTaken before after piece → IsEntered pieces before double → IsEntered (piece ∷ pieces) after (Some (lesser_of double piece.number))
 taken_entered pieces piece before after double taken entered =
     let other = entered.filled piece.number (Some taken.0) taken.1 in
     let some : how_often number_of pieces piece.number ≢ 0 = subst (λ k. how_often number_of pieces k ≢ 0) other.1 (often_contained number_of pieces taken.0 other.0) in
@@ -179,7 +179,7 @@ taken_entered pieces piece before after double taken entered =
           ]);
     }
   where
-    filled_again : (slot : Option FlatLemma) (n : ℕ) → piece.number ≡ n → IsFilled pieces n slot → slice_get after n ≡ Some slot → IsFilled (piece ∷ pieces) n slot
+    filled_again : (slot : Option LemmaSpan) (n : ℕ) → piece.number ≡ n → IsFilled pieces n slot → slice_get after n ≡ Some slot → IsFilled (piece ∷ pieces) n slot
     filled_again None n same filled at =
         let is : Some None ≡ Some (Some taken.0) = sym at ∙ ap (λ s. slice_get s n) taken.2 ∙ ap (slice_get before) (sym same) ∙ taken.1 in
         absurd cc
@@ -210,7 +210,7 @@ slice_get-take (x ∷ xs) (suc n) zero lt = refl
 slice_get-take (x ∷ xs) (suc n) (suc m) lt = slice_get-take xs n m (omega (arith, lt))
 
 -- a place that was reached is not empty
-pub not_before : (lemmas : List FlatLemma) (slots : List (Option FlatLemma)) (number m : ℕ) → number ≤ length slots → map Some lemmas ≡ take number slots → slice_get slots m ≡ Some None → number ≤ m
+pub not_before : (lemmas : List LemmaSpan) (slots : List (Option LemmaSpan)) (number m : ℕ) → number ≤ length slots → map Some lemmas ≡ take number slots → slice_get slots m ≡ Some None → number ≤ m
 not_before lemmas slots number m few taken none = elim (cases_lt m number) [
   | inl lt ↦
       let at : slice_get (take number slots) m ≡ Some None = slice_get-take slots number m lt ∙ none in
@@ -218,7 +218,7 @@ not_before lemmas slots number m few taken none = elim (cases_lt m number) [
   | inr ge ↦ ge
 ]
   where
-    is_some_none : (o : Option FlatLemma) → option_map Some o ≡ Some None → ⊥
+    is_some_none : (o : Option LemmaSpan) → option_map Some o ≡ Some None → ⊥
     is_some_none None e = absurd cc
     is_some_none (Some l) e = absurd cc
 
@@ -231,10 +231,10 @@ empty_entered count = record {
 }
 
 -- there is no piece at or past the count
-abbrev pub NoStranger : ℕ → List FlatLemma → Type 0
+abbrev pub NoStranger : ℕ → List LemmaSpan → Type 0
 NoStranger count pieces = (n : ℕ) → count ≤ n → how_often number_of pieces n ≡ 0
 
-pub all_below : (count : ℕ) (pieces : List FlatLemma) → NoStranger count pieces → (piece : FlatLemma) → Contains pieces piece → piece.number < count
+pub all_below : (count : ℕ) (pieces : List LemmaSpan) → NoStranger count pieces → (piece : LemmaSpan) → Contains pieces piece → piece.number < count
 all_below count pieces none piece at = elim (cases_lt piece.number count) [
   | inl lt ↦ lt
   | inr ge ↦ absurd (often_contained number_of pieces piece at (none piece.number ge))
@@ -244,7 +244,7 @@ all_below count pieces none piece at = elim (cases_lt piece.number count) [
 earlier : (f g : AssembleFault) → (assembly_rank f).first < (assembly_rank g).first → AtMost (assembly_rank f) (assembly_rank g)
 earlier f g lt = record { first = omega (arith, lt); second = λ same. absurd (omega (arith, same, lt)); third = λ same b. absurd (omega (arith, same, lt)) }
 
-module _ (count : ℕ) (pieces : List FlatLemma) where
+module _ (count : ℕ) (pieces : List LemmaSpan) where
   abbrev Fails : AssembleFault → Type 0
   Fails = AssemblyFails number_of count pieces
 
@@ -281,8 +281,8 @@ module _ (count : ℕ) (pieces : List FlatLemma) where
 
     -- ---- each number at most once
 
-    module _ (slots : List (Option FlatLemma)) (long : length slots ≡ count) (entered : IsEntered pieces slots None) where
-      once_at : (n : ℕ) (lemma : FlatLemma) → slice_get slots n ≡ Some (Some lemma) → IsOnly number_of pieces n lemma
+    module _ (slots : List (Option LemmaSpan)) (long : length slots ≡ count) (entered : IsEntered pieces slots None) where
+      once_at : (n : ℕ) (lemma : LemmaSpan) → slice_get slots n ≡ Some (Some lemma) → IsOnly number_of pieces n lemma
       once_at n lemma at =
           let filled = entered.filled n (Some lemma) at in
           let some : how_often number_of pieces n ≢ 0 = subst (λ k. how_often number_of pieces k ≢ 0) filled.1 (often_contained number_of pieces lemma filled.0) in
@@ -295,7 +295,7 @@ module _ (count : ℕ) (pieces : List FlatLemma) where
             | inr few ↦ few
           ]
 
-      pub assembled : (lemmas : List FlatLemma) → map Some lemmas ≡ slots → IsAssembly number_of count pieces lemmas
+      pub assembled : (lemmas : List LemmaSpan) → map Some lemmas ≡ slots → IsAssembly number_of count pieces lemmas
       assembled lemmas all = record {
         many = sym (length-map lemmas Some) ∙ ap length all ∙ long;
         only = λ n lemma at. once_at n lemma (ap (λ s. slice_get s n) (sym all) ∙ slice_get-map Some lemmas n ∙ ap (option_map Some) at);
@@ -303,7 +303,7 @@ module _ (count : ℕ) (pieces : List FlatLemma) where
       }
 
       module _ (n : ℕ) (empty : slice_get slots n ≡ Some None) (first : (m : ℕ) → slice_get slots m ≡ Some None → n ≤ m) where
-        not_empty : (m : ℕ) (slot : Option FlatLemma) → slice_get slots m ≡ Some slot → how_often number_of pieces m ≡ 0 → n ≤ m
+        not_empty : (m : ℕ) (slot : Option LemmaSpan) → slice_get slots m ≡ Some slot → how_often number_of pieces m ≡ 0 → n ≤ m
         not_empty m None at none = first m at
         not_empty m (Some lemma) at none = absurd (omega (arith, (once_at m lemma at).once, none))
 
@@ -325,7 +325,7 @@ module _ (count : ℕ) (pieces : List FlatLemma) where
       missing_of (Double n) is = absurd is
 
 -- what is true of each piece is true of each that was assembled
-pub assembled_all : (P : FlatLemma → Type 0) (count : ℕ) (pieces lemmas : List FlatLemma) → All P pieces → IsAssembly number_of count pieces lemmas → (n : ℕ) (lemma : FlatLemma) → slice_get lemmas n ≡ Some lemma → P lemma
-assembled_all P count pieces lemmas all is n lemma at =
+pub assembled_all : {X : Type 0} (number_of : X → ℕ) (P : X → Type 0) (count : ℕ) (pieces lemmas : List X) → All P pieces → IsAssembly number_of count pieces lemmas → (n : ℕ) (lemma : X) → slice_get lemmas n ≡ Some lemma → P lemma
+assembled_all number_of P count pieces lemmas all is n lemma at =
     let among = (is.only n lemma at).among in
     subst P among.2 (all among.0 lemma among.1)

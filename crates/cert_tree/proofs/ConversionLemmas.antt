@@ -1,20 +1,16 @@
 -- Lemmas that are laid out flat, and built again.
-use Rattle.std.proofs.Common.{◌≡◌, ◌<◌, ◌≤◌, ◌+◌, ◌^◌, ℕ, zero, suc, List, [], ◌∷◌, ◌++◌, Result, Ok, Err, length, map, drop, get_or, refl, ap, sym, subst, ◌∙◌, arith, append_assoc, length-append}
-use Rattle.std.specs.Prelude.{All, IfOk, IfErr}
+use Rattle.std.proofs.Common.{◌≡◌, ◌<◌, ◌≤◌, ◌+◌, ◌^◌, ℕ, zero, suc, List, [], ◌∷◌, ◌++◌, length, map, drop, get_or, refl, ap, sym, subst, ◌∙◌, arith, append_assoc, length-append}
+use Rattle.std.specs.Prelude.{All}
 use Rattle.match_puzzle.specs.declared.items.Item.{Item}
 use Rattle.cert_tree.specs.declared.heads.Head.{Head}
 use Rattle.cert_tree.specs.declared.nodes.Node.{Node}
 use Rattle.cert_tree.specs.declared.certificates.Lemma.{Lemma}
-use Rattle.cert_tree.specs.declared.certificates.FlatLemma.{FlatLemma}
-use Rattle.cert_tree.specs.declared.faults.AssembleFault.{AssembleFault}
-use Rattle.cert_tree.specs.Certificate.{Contents, Piece, piece_of, flat_piece, number_of, piece_number}
-use Rattle.cert_tree.specs.Assembly.{Assembles}
+use Rattle.cert_tree.specs.Certificate.{Piece, piece_of}
 use Rattle.cert_tree.specs.Tree.{Forest, branch, more, count, tree_of, forest_of, IsNarrow, AreNarrow}
 use Rattle.cert_tree.specs.Heads.{branch_head, heads_of, heads_in, join, first, front, past}
 use Rattle.cert_tree.specs.HeadCode.{join-none}
 use Rattle.cert_tree.proofs.HeadLemmas.{front_first}
 use Rattle.cert_tree.proofs.TreeLemmas.{count-forest_of, forest_of-drop}
-use Rattle.cert_tree.proofs.ReadingLemmas.{assembles_map, assembled_map}
 
 -- the children of a narrow branch
 pub narrow_children : (node : Node) (item : Item) (nodes children : List Node) → tree_of node ≡ branch item (forest_of nodes) → children ≡ nodes → IsNarrow (tree_of node) → (length children < 2 ^ 32) × AreNarrow (forest_of children)
@@ -74,25 +70,7 @@ all_built nodes trees left whole none so_far = sym (join-none (forest_of nodes))
 
 -- ---- lemmas
 
-pub short_flat : (flat : List FlatLemma) (lemmas : List Lemma) → map flat_piece flat ≡ map piece_of lemmas → All (λ (l : Lemma). length l.prefix < 2 ^ 32) lemmas → All (λ (l : FlatLemma). length l.prefix < 2 ^ 32) flat
-short_flat [] lemmas same short k d lt = absurd (omega (arith, lt))
-short_flat (f ∷ flat) [] same short k d lt = absurd cc
-short_flat (f ∷ flat) (l ∷ lemmas) same short zero d lt =
-    let one : flat_piece f ≡ piece_of l = cc in
-    let e = ap (λ (p : Piece). length p.prefix) one in
-    let h : length l.prefix < 2 ^ 32 = short 0 l (omega arith) in
-    omega arith
-short_flat (f ∷ flat) (l ∷ lemmas) same short (suc k) d lt =
-    let others : map flat_piece flat ≡ map piece_of lemmas = cc in
-    short_flat flat lemmas others (λ j e less. short (suc j) e (omega (arith, less))) k d (omega (arith, lt))
-
--- what is assembled of flat lemmas is assembled of their pieces
-pub flat_assembled : (count : ℕ) (pieces : List Lemma) (flat : List FlatLemma) (result : Result Contents AssembleFault) → map flat_piece flat ≡ map piece_of pieces → IfOk result (λ c. Assembles number_of count flat (Ok c.lemmas)) →
-    IfOk result (λ c. Assembles piece_number count (map piece_of pieces) (Ok (map flat_piece c.lemmas)))
-flat_assembled count pieces flat (Ok c) same is = subst (λ ps. Assembles piece_number count ps (Ok (map flat_piece c.lemmas))) same (assembled_map count flat c.lemmas is)
-flat_assembled count pieces flat (Err fault) same is = tt
-
-pub flat_failed : (count : ℕ) (pieces : List Lemma) (flat : List FlatLemma) (result : Result Contents AssembleFault) → map flat_piece flat ≡ map piece_of pieces → IfErr result (λ fault. Assembles number_of count flat (Err fault)) →
-    IfErr result (λ fault. Assembles piece_number count (map piece_of pieces) (Err fault))
-flat_failed count pieces flat (Ok c) same is = tt
-flat_failed count pieces flat (Err fault) same is = subst (λ ps. Assembles piece_number count ps (Err fault)) same (assembles_map count flat fault is)
+pub short_pieces : (lemmas : List Lemma) → All (λ (lemma : Lemma). length lemma.prefix < 2 ^ 32) lemmas → All (λ (piece : Piece). length piece.prefix < 2 ^ 32) (map piece_of lemmas)
+short_pieces [] short k d lt = absurd (omega (arith, lt))
+short_pieces (l ∷ lemmas) short zero d lt = short 0 l (omega arith)
+short_pieces (l ∷ lemmas) short (suc k) d lt = short_pieces lemmas (λ j e less. short (suc j) e (omega (arith, less))) k d (omega (arith, lt))

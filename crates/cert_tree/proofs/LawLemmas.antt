@@ -1,5 +1,5 @@
 -- What follows for texts and certificates from the laws of reading and of assembly.
-use Rattle.std.proofs.Common.{◌≡◌, ◌≢◌, ℕ, Bool, true, false, List, length, map, Result, Ok, Err, refl, sym, ap, subst, ◌∙◌}
+use Rattle.std.proofs.Common.{◌≡◌, ◌≢◌, ℕ, Bool, true, false, List, length, Result, Ok, Err, refl, sym, ap, subst, ◌∙◌}
 use Rattle.std.specs.Prelude.{MatchBool}
 use Rattle.std.specs.List.Sorted.{IsPermutation}
 use Rattle.std.proofs.lemmas.List.Sorted.{length_permutation}
@@ -9,7 +9,7 @@ use Rattle.cert_tree.specs.declared.faults.AssembleFault.{AssembleFault}
 use Rattle.cert_tree.specs.declared.faults.AssembleFault.TheVariants as assemble
 use Rattle.cert_tree.specs.declared.faults.CertTextFault.{CertTextFault}
 use Rattle.cert_tree.specs.declared.faults.CertTextFault.TheVariants.{Text, Assemble, Memory}
-use Rattle.cert_tree.specs.Certificate.{Contents, Piece, flat_piece, piece_number}
+use Rattle.cert_tree.specs.Certificate.{Contents, Piece, piece_number}
 use Rattle.cert_tree.specs.Assembly.{Assembles, IsSettled}
 use Rattle.cert_tree.specs.CertificateText.{Said, Makes}
 use Rattle.cert_tree.specs.Laws.{IsSame, MakesOneInAnyOrder}
@@ -25,7 +25,7 @@ spelled_by_limits read Within spelling alone each x false not = λ text e. not (
 
 -- what is made of a certificate's lines, as what is assembled
 outcome_of : (said : Said) → Result Contents CertTextFault → Result (List Piece) AssembleFault
-outcome_of said (Ok c) = Ok (map flat_piece c.lemmas)
+outcome_of said (Ok c) = Ok c.lemmas
 outcome_of said (Err (Text fault)) = Err assemble.Memory
 outcome_of said (Err (Assemble fault)) = Err fault
 outcome_of said (Err Memory) = Err assemble.Memory
@@ -63,10 +63,10 @@ module _ (said other : Said) (symmetries : said.symmetries ≡ other.symmetries)
 
   pub same_made : (a b : Result Contents CertTextFault) → a ≢ Err Memory → b ≢ Err Memory → Makes said a → Makes other b → IsSame a b
   same_made (Ok c) (Ok d) s t x y =
-      let lemmas = ok_is (map flat_piece c.lemmas) (map flat_piece d.lemmas) (same_outcome (Ok (map flat_piece c.lemmas)) (Ok (map flat_piece d.lemmas)) (settled_ok (map flat_piece c.lemmas)) (settled_ok (map flat_piece d.lemmas)) x.1 y.1) in
-      ap (λ gs. record { symmetries = gs; pieces = map flat_piece c.lemmas }) (x.0 ∙ symmetries ∙ sym y.0) ∙ ap (λ ps. record { symmetries = d.symmetries; pieces = ps }) lemmas
-  same_made (Ok c) (Err (Assemble g)) s t x y = apart (map flat_piece c.lemmas) g (same_outcome (Ok (map flat_piece c.lemmas)) (Err g) (settled_ok (map flat_piece c.lemmas)) (settled_fault g y.0) x.1 y.1)
-  same_made (Err (Assemble f)) (Ok d) s t x y = apart_back (map flat_piece d.lemmas) f (same_outcome (Err f) (Ok (map flat_piece d.lemmas)) (settled_fault f x.0) (settled_ok (map flat_piece d.lemmas)) x.1 y.1)
+      let lemmas = ok_is c.lemmas d.lemmas (same_outcome (Ok c.lemmas) (Ok d.lemmas) (settled_ok c.lemmas) (settled_ok d.lemmas) x.1 y.1) in
+      ap (λ gs. record { symmetries = gs; pieces = c.lemmas }) (x.0 ∙ symmetries ∙ sym y.0) ∙ ap (λ ps. record { symmetries = d.symmetries; pieces = ps }) lemmas
+  same_made (Ok c) (Err (Assemble g)) s t x y = apart c.lemmas g (same_outcome (Ok c.lemmas) (Err g) (settled_ok c.lemmas) (settled_fault g y.0) x.1 y.1)
+  same_made (Err (Assemble f)) (Ok d) s t x y = apart_back d.lemmas f (same_outcome (Err f) (Ok d.lemmas) (settled_fault f x.0) (settled_ok d.lemmas) x.1 y.1)
   same_made (Err (Assemble f)) (Err (Assemble g)) s t x y = ap (λ h. Assemble h) (err_is f g (same_outcome (Err f) (Err g) (settled_fault f x.0) (settled_fault g y.0) x.1 y.1))
   same_made (Err (Text f)) b s t x y = absurd x
   same_made a (Err (Text g)) s t x y = absurd y

@@ -1,6 +1,6 @@
 pub mod TreeLemmas
 pub mod HeadLemmas
-pub mod ConversionLemmas
+pub mod SpanLemmas
 pub mod HeadSpellingLemmas
 pub mod AssemblyLemmas
 pub mod NumberedLemmas
@@ -12,6 +12,7 @@ pub mod TreeTextLemmas
 pub mod LemmaTextLemmas
 pub mod CertificateTextLemmas
 pub mod ReadingLemmas
+pub mod ConversionLemmas
 pub mod TreeLimitLemmas
 pub mod SpacedLemmas
 pub mod WholeLemmas

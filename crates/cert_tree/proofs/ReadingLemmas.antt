@@ -10,13 +10,16 @@ use Rattle.match_text.specs.declared.faults.TextKind.TheVariants.{Ends}
 use Rattle.match_text.specs.Bytes.{line_ends}
 use Rattle.match_text.specs.Place.{fail}
 use Rattle.cert_tree.specs.declared.certificates.Lemma.{Lemma}
-use Rattle.cert_tree.specs.declared.certificates.FlatLemma.{FlatLemma}
+use Rattle.cert_tree.specs.declared.flat_lemmas.LemmaSpan.{LemmaSpan}
 use Rattle.cert_tree.specs.declared.faults.AssembleFault.{AssembleFault}
 use Rattle.cert_tree.specs.declared.faults.AssembleFault.TheVariants.{Stranger, Double, Missing, Memory}
 use Rattle.cert_tree.specs.declared.faults.LemmaTextFault.{LemmaTextFault}
 use Rattle.cert_tree.specs.declared.faults.CertTextFault.{CertTextFault}
 use Rattle.cert_tree.specs.Faults.{of_assembly}
-use Rattle.cert_tree.specs.Certificate.{Contents, Piece, piece_of, flat_piece, number_of, piece_number}
+use Rattle.cert_tree.specs.Certificate.{Contents, Piece, piece_of, piece_number}
+use Rattle.cert_tree.specs.Spans.{piece_in, number_of, AreSpans}
+use Rattle.cert_tree.specs.declared.heads.Head.{Head}
+use Rattle.match_puzzle.specs.declared.placements.Pair.{Pair}
 use Rattle.cert_tree.specs.Assembly.{how_often, IsOnly, IsAssembly, AssemblyFails, assembly_rank, Assembles}
 use Rattle.cert_tree.specs.CertificateText.{Said, lemma_of, LemmaGives, certificate_of, Makes, CertificateGives}
 use Rattle.cert_tree.specs.CertificateSpelling.{lemma_spelling, certificate_spelling, IsSymmetryWithin, IsLemmaWithin, IsCertificateWithin}
@@ -38,62 +41,82 @@ pub cut_of : (text : List ℕ) (result : Result Lemma LemmaTextFault) → LemmaG
 cut_of text result gives piece k fits lt e =
     subst (λ outcome. LemmaGives result outcome) (ap lemma_of e ∙ lemma_short (lemma_spelling piece) piece k (lemma_only piece fits) lt ∙ ap (λ t. fail (line_ends t + 1) Ends) (sym e)) gives
 
-pub short_lemmas : (lemmas : List FlatLemma) → AllByRecursion IsLemmaWithin (map flat_piece lemmas) → All (λ lemma. length lemma.prefix < 2 ^ 32) lemmas
-short_lemmas [] fits k d lt = absurd (omega (arith, lt))
-short_lemmas (l ∷ lemmas) fits zero d lt = omega (arith, fits.0.few_pairs)
-short_lemmas (l ∷ lemmas) fits (suc k) d lt = short_lemmas lemmas fits.1 k d (omega (arith, lt))
+contained_at : {X : Type 0} (xs : List X) (x : X) (at : Contains xs x) → slice_get xs at.0 ≡ Some x
+contained_at [] x at = absurd (omega (arith, at.1))
+contained_at (y ∷ xs) x (zero, lt, is) = ap Some is
+contained_at (y ∷ xs) x (suc k, lt, is) = contained_at xs x (k, omega (arith, lt), is)
+
+pub short_within : (pieces : List Piece) → AllByRecursion IsLemmaWithin pieces → All (λ piece. length piece.prefix < 2 ^ 32) pieces
+short_within [] fits k d lt = absurd (omega (arith, lt))
+short_within (piece ∷ pieces) fits zero d lt = omega (arith, fits.0.few_pairs)
+short_within (piece ∷ pieces) fits (suc k) d lt = short_within pieces fits.1 k d (omega (arith, lt))
 
 -- ---- lemmas are assembled as their pieces are
 
-often-map : (lemmas : List FlatLemma) (n : ℕ) → how_often piece_number (map flat_piece lemmas) n ≡ how_often number_of lemmas n
-often-map [] n = refl
-often-map (lemma ∷ lemmas) n =
-    often-cons piece_number (flat_piece lemma) (map flat_piece lemmas) n ∙ ap (λ m. cond (eqb lemma.number n) 1 0 + m) (often-map lemmas n) ∙ sym (often-cons number_of lemma lemmas n)
+module _ (pairs : List Pair) (heads : List Head) where
+  abbrev to_piece : LemmaSpan → Piece
+  to_piece span = piece_in pairs heads span
 
-contained_map : (lemmas : List FlatLemma) (lemma : FlatLemma) → Contains lemmas lemma → Contains (map flat_piece lemmas) (flat_piece lemma)
-contained_map [] lemma at = absurd (omega (arith, at.1))
-contained_map (l ∷ lemmas) lemma (zero, at, is) = (0, omega arith, ap flat_piece is)
-contained_map (l ∷ lemmas) lemma (suc k, at, is) = later_contained (flat_piece lemma) (flat_piece l) (map flat_piece lemmas) (contained_map lemmas lemma (k, omega (arith, at), is))
+  often-map : (lemmas : List LemmaSpan) (n : ℕ) → how_often piece_number (map to_piece lemmas) n ≡ how_often number_of lemmas n
+  often-map [] n = refl
+  often-map (lemma ∷ lemmas) n =
+      often-cons piece_number (to_piece lemma) (map to_piece lemmas) n ∙ ap (λ m. cond (eqb lemma.number n) 1 0 + m) (often-map lemmas n) ∙ sym (often-cons number_of lemma lemmas n)
 
--- what stands at a place of the pieces
-pub piece_at : (lemmas : List FlatLemma) (n : ℕ) (piece : Piece) → slice_get (map flat_piece lemmas) n ≡ Some piece → (lemma : FlatLemma) × (slice_get lemmas n ≡ Some lemma) × (piece ≡ flat_piece lemma)
-piece_at [] n piece e = absurd cc
-piece_at (l ∷ lemmas) zero piece e = (l, refl, inside (sym e))
-piece_at (l ∷ lemmas) (suc n) piece e = piece_at lemmas n piece e
+  contained_map : (lemmas : List LemmaSpan) (lemma : LemmaSpan) → Contains lemmas lemma → Contains (map to_piece lemmas) (to_piece lemma)
+  contained_map [] lemma at = absurd (omega (arith, at.1))
+  contained_map (l ∷ lemmas) lemma (zero, at, is) = (0, omega arith, ap to_piece is)
+  contained_map (l ∷ lemmas) lemma (suc k, at, is) = later_contained (to_piece lemma) (to_piece l) (map to_piece lemmas) (contained_map lemmas lemma (k, omega (arith, at), is))
 
-only_map : (pieces : List FlatLemma) (n : ℕ) (lemma : FlatLemma) → IsOnly number_of pieces n lemma → IsOnly piece_number (map flat_piece pieces) n (flat_piece lemma)
-only_map pieces n lemma is = record { among = contained_map pieces lemma is.among; number = is.number; once = often-map pieces n ∙ is.once }
+  -- what stands at a place of the pieces
+  piece_at : (lemmas : List LemmaSpan) (n : ℕ) (piece : Piece) → slice_get (map to_piece lemmas) n ≡ Some piece → (lemma : LemmaSpan) × (slice_get lemmas n ≡ Some lemma) × (piece ≡ to_piece lemma)
+  piece_at [] n piece e = absurd cc
+  piece_at (l ∷ lemmas) zero piece e = (l, refl, inside (sym e))
+  piece_at (l ∷ lemmas) (suc n) piece e = piece_at lemmas n piece e
 
-assembly_map : (count : ℕ) (pieces lemmas : List FlatLemma) → IsAssembly number_of count pieces lemmas → IsAssembly piece_number count (map flat_piece pieces) (map flat_piece lemmas)
-assembly_map count pieces lemmas is = record {
-  many = length-map lemmas flat_piece ∙ is.many;
-  only = λ n piece at. let l = piece_at lemmas n piece at in subst (IsOnly piece_number (map flat_piece pieces) n) (sym l.2) (only_map pieces n l.0 (is.only n l.0 l.1));
-  no_stranger = λ n past. often-map pieces n ∙ is.no_stranger n past;
-}
+  only_map : (pieces : List LemmaSpan) (n : ℕ) (lemma : LemmaSpan) → IsOnly number_of pieces n lemma → IsOnly piece_number (map to_piece pieces) n (to_piece lemma)
+  only_map pieces n lemma is = record { among = contained_map pieces lemma is.among; number = is.number; once = often-map pieces n ∙ is.once }
 
-fails_map : (count : ℕ) (pieces : List FlatLemma) (fault : AssembleFault) → AssemblyFails number_of count pieces fault → AssemblyFails piece_number count (map flat_piece pieces) fault
-fails_map count pieces (Stranger n) fails = (fails.0, λ e. fails.1 (sym (often-map pieces n) ∙ e))
-fails_map count pieces (Double n) fails = omega (arith, fails, often-map pieces n)
-fails_map count pieces (Missing n) fails = (fails.0, often-map pieces n ∙ fails.1)
-fails_map count pieces Memory fails = fails
+  assembly_map : (count : ℕ) (pieces lemmas : List LemmaSpan) → IsAssembly number_of count pieces lemmas → IsAssembly piece_number count (map to_piece pieces) (map to_piece lemmas)
+  assembly_map count pieces lemmas is = record {
+    many = length-map lemmas to_piece ∙ is.many;
+    only = λ n piece at. let l = piece_at lemmas n piece at in subst (IsOnly piece_number (map to_piece pieces) n) (sym l.2) (only_map pieces n l.0 (is.only n l.0 l.1));
+    no_stranger = λ n past. often-map pieces n ∙ is.no_stranger n past;
+  }
 
-fails_back : (count : ℕ) (pieces : List FlatLemma) (fault : AssembleFault) → AssemblyFails piece_number count (map flat_piece pieces) fault → AssemblyFails number_of count pieces fault
-fails_back count pieces (Stranger n) fails = (fails.0, λ e. fails.1 (often-map pieces n ∙ e))
-fails_back count pieces (Double n) fails = omega (arith, fails, often-map pieces n)
-fails_back count pieces (Missing n) fails = (fails.0, sym (often-map pieces n) ∙ fails.1)
-fails_back count pieces Memory fails = fails
+  fails_map : (count : ℕ) (pieces : List LemmaSpan) (fault : AssembleFault) → AssemblyFails number_of count pieces fault → AssemblyFails piece_number count (map to_piece pieces) fault
+  fails_map count pieces (Stranger n) fails = (fails.0, λ e. fails.1 (sym (often-map pieces n) ∙ e))
+  fails_map count pieces (Double n) fails = omega (arith, fails, often-map pieces n)
+  fails_map count pieces (Missing n) fails = (fails.0, often-map pieces n ∙ fails.1)
+  fails_map count pieces Memory fails = fails
 
-first_map : (count : ℕ) (pieces : List FlatLemma) (fault : AssembleFault) → IsFirst assembly_rank (AssemblyFails number_of count pieces) fault → IsFirst assembly_rank (AssemblyFails piece_number count (map flat_piece pieces)) fault
-first_map count pieces fault is = record { occurs = fails_map count pieces fault is.occurs; first = λ other fails. is.first other (fails_back count pieces other fails) }
+  fails_back : (count : ℕ) (pieces : List LemmaSpan) (fault : AssembleFault) → AssemblyFails piece_number count (map to_piece pieces) fault → AssemblyFails number_of count pieces fault
+  fails_back count pieces (Stranger n) fails = (fails.0, λ e. fails.1 (often-map pieces n ∙ e))
+  fails_back count pieces (Double n) fails = omega (arith, fails, often-map pieces n)
+  fails_back count pieces (Missing n) fails = (fails.0, sym (often-map pieces n) ∙ fails.1)
+  fails_back count pieces Memory fails = fails
 
-pub assembles_map : (count : ℕ) (pieces : List FlatLemma) (fault : AssembleFault) → Assembles number_of count pieces (Err fault) → Assembles piece_number count (map flat_piece pieces) (Err fault)
-assembles_map count pieces (Stranger n) is = first_map count pieces (Stranger n) is
-assembles_map count pieces (Double n) is = first_map count pieces (Double n) is
-assembles_map count pieces (Missing n) is = first_map count pieces (Missing n) is
-assembles_map count pieces Memory is = tt
+  first_map : (count : ℕ) (pieces : List LemmaSpan) (fault : AssembleFault) → IsFirst assembly_rank (AssemblyFails number_of count pieces) fault → IsFirst assembly_rank (AssemblyFails piece_number count (map to_piece pieces)) fault
+  first_map count pieces fault is = record { occurs = fails_map count pieces fault is.occurs; first = λ other fails. is.first other (fails_back count pieces other fails) }
 
-pub assembled_map : (count : ℕ) (pieces lemmas : List FlatLemma) → Assembles number_of count pieces (Ok lemmas) → Assembles piece_number count (map flat_piece pieces) (Ok (map flat_piece lemmas))
-assembled_map count pieces lemmas is = assembly_map count pieces lemmas is
+  assembles_map : (count : ℕ) (pieces : List LemmaSpan) (fault : AssembleFault) → Assembles number_of count pieces (Err fault) → Assembles piece_number count (map to_piece pieces) (Err fault)
+  assembles_map count pieces (Stranger n) is = first_map count pieces (Stranger n) is
+  assembles_map count pieces (Double n) is = first_map count pieces (Double n) is
+  assembles_map count pieces (Missing n) is = first_map count pieces (Missing n) is
+  assembles_map count pieces Memory is = tt
+
+  -- what is assembled lies there still
+  pub assembled_spans : (count : ℕ) (pieces lemmas : List LemmaSpan) → AreSpans pairs heads pieces → Assembles number_of count pieces (Ok lemmas) → AreSpans pairs heads lemmas
+  assembled_spans count pieces lemmas are is span at =
+      let there : slice_get lemmas at.0 ≡ Some span = contained_at lemmas span at in
+      are span (is.only at.0 span there).among
+
+  -- the same of lemmas and where they lie
+  pub assembled_lemmas : (count : ℕ) (spans sorted : List LemmaSpan) (pieces lemmas : List Piece) → pieces ≡ map to_piece spans → lemmas ≡ map to_piece sorted → Assembles number_of count spans (Ok sorted) → IsAssembly piece_number count pieces lemmas
+  assembled_lemmas count spans sorted pieces lemmas are made is =
+      subst (λ ps. IsAssembly piece_number count ps lemmas) (sym are) (subst (λ ls. IsAssembly piece_number count (map to_piece spans) ls) (sym made) (assembly_map count spans sorted is))
+
+  pub failed_lemmas : (count : ℕ) (spans : List LemmaSpan) (pieces : List Piece) (fault : AssembleFault) → pieces ≡ map to_piece spans → Assembles number_of count spans (Err fault) → Assembles piece_number count pieces (Err fault)
+  failed_lemmas count spans pieces fault are is = subst (λ ps. Assembles piece_number count ps (Err fault)) (sym are) (assembles_map count spans fault is)
 
 -- ---- a certificate
 
@@ -136,7 +159,7 @@ made_within said c fits made = record {
   few_symmetries = subst (λ gs. length gs ≤ 1024) (sym made.0) fits.few_symmetries;
   symmetries = subst (AllByRecursion IsSymmetryWithin) (sym made.0) fits.symmetries;
   few_pieces = omega (arith, made.1.many, fits.few_pieces);
-  pieces = all_within (map flat_piece c.lemmas) (λ n piece at. contained_within said.pieces fits.pieces piece (made.1.only n piece at).among);
+  pieces = all_within (c.lemmas) (λ n piece at. contained_within said.pieces fits.pieces piece (made.1.only n piece at).among);
 }
 
 pub certificate_within_of : (text : List ℕ) (result : Result Contents CertTextFault) → CertificateGives result (certificate_of text) → IfOk result (λ c. IsCertificateWithin (said_by c))

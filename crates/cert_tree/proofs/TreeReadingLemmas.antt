@@ -1,5 +1,6 @@
 -- Trees that are read head by head.
-use Rattle.std.proofs.Common.{◌≡◌, ◌≢◌, ℕ, zero, suc, ◌-◌, List, [], ◌∷◌, ◌++◌, length, Result, Ok, Err, refl, ap, sym, ◌∙◌, arith, append_assoc}
+use Rattle.std.proofs.Common.{◌≡◌, ◌≢◌, ℕ, zero, suc, ◌-◌, List, [], ◌∷◌, ◌++◌, length, drop, Result, Ok, Err, refl, ap, sym, ◌∙◌, arith, append_assoc}
+use Rattle.std.specs.Prelude.{OnOk}
 use Rattle.std.proofs.lemmas.List.{append-nil}
 use Rattle.match_puzzle.specs.declared.items.Item.{Item}
 use Rattle.match_puzzle.specs.declared.items.Item.TheVariants as items
@@ -7,7 +8,7 @@ use Rattle.match_text.specs.declared.faults.TextFault.{TextFault}
 use Rattle.match_text.specs.declared.faults.ReadFault.{ReadFault}
 use Rattle.match_text.specs.declared.faults.ReadFault.TheVariants as faults
 use Rattle.match_text.specs.Words.{number_in}
-use Rattle.match_text.specs.Place.{Place, Read, go_on, ◌>>=◌, give, word_by, times}
+use Rattle.match_text.specs.Place.{Place, Read, Reads, go_on, ◌>>=◌, give, word_by, times}
 use Rattle.cert_tree.specs.declared.heads.Head.{Head}
 use Rattle.cert_tree.specs.declared.heads.Head.TheVariants as heads
 use Rattle.cert_tree.specs.declared.tree_readers.NodeKind.{NodeKind}
@@ -17,6 +18,7 @@ use Rattle.cert_tree.specs.Heads.{heads_of, heads_in, trees_in, arity, first, Ar
 use Rattle.cert_tree.specs.HeadReading.{most_of, rest_by, head_by, ReadsOnto, ReadAllOnto}
 use Rattle.cert_tree.specs.TreeText.{node_kind_in, forest, children_by, node_by, tree_by}
 use Rattle.cert_tree.proofs.HeadLemmas.{of_tree}
+use Rattle.cert_tree.proofs.SpanLemmas.{IsBehind, behind_is, is_behind}
 
 -- ---- a head, and then its children
 
@@ -163,7 +165,23 @@ node_onto child head a (Err (faults.Text f)) after old now new is h = ap (λ rea
 
 -- ---- the tree alone
 
-pub tree_alone : (after : Place) (old list : List Head) (read : Result (Tree × Place) TextFault) → old ≡ [] → ReadsOnto (Ok tt) after old list read → AreOfTree list × (read ≡ Ok (first (trees_in list), after))
-tree_alone after old list read nothing h =
-    let is = of_tree h.0 list (h.2 ∙ ap (λ xs. xs ++ heads_of h.0) nothing) in
-    (is.0, h.1 ∙ ap (λ tree. Ok (tree, after)) (sym is.1))
+-- ---- a tree behind other heads
+
+-- what was put behind the old heads
+abbrev Added : List Head → List Head → List Head
+Added old new = drop (length old) new
+
+alone : (old new : List Head) (tree : Tree) → new ≡ old ++ heads_of tree → AreOfTree (Added old new) × (first (trees_in (Added old new)) ≡ tree)
+alone old new tree is = of_tree tree (Added old new) (behind_is old new (heads_of tree) is)
+
+pub tree_reads : (result : Result (Unit {0}) ReadFault) (after : Place) (old new : List Head) (read : Result (Tree × Place) TextFault) → ReadsOnto result after old new read → Reads (λ _. first (trees_in (Added old new))) result after read
+tree_reads (Ok _) after old new read h = h.1 ∙ ap (λ tree. Ok (tree, after)) (sym (alone old new h.0 h.2).1)
+tree_reads (Err e) after old new read h = h
+
+pub tree_whole : (result : Result (Unit {0}) ReadFault) (after : Place) (old new : List Head) (read : Result (Tree × Place) TextFault) → ReadsOnto result after old new read → OnOk result (AreOfTree (Added old new))
+tree_whole (Ok _) after old new read h = (alone old new h.0 h.2).0
+tree_whole (Err e) after old new read h = tt
+
+pub tree_behind : (result : Result (Unit {0}) ReadFault) (after : Place) (old new : List Head) (read : Result (Tree × Place) TextFault) → ReadsOnto result after old new read → OnOk result (IsBehind old new)
+tree_behind (Ok _) after old new read h = is_behind old new (heads_of h.0) h.2
+tree_behind (Err e) after old new read h = tt

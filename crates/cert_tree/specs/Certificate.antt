@@ -3,13 +3,8 @@ use Rattle.std.specs.Prelude.{◌≡◌, ◌≤◌, ◌<◌, ◌^◌, ℕ, List,
 use Rattle.match_puzzle.specs.declared.placements.Pair.{Pair}
 use Rattle.match_symmetry.specs.declared.lines.SymmetryLine.{SymmetryLine}
 use Rattle.cert_tree.specs.declared.certificates.Lemma.{Lemma}
-use Rattle.cert_tree.specs.declared.certificates.FlatLemma.{FlatLemma}
+use Rattle.cert_tree.specs.declared.flat_lemmas.FlatLemma.{FlatLemma}
 use Rattle.cert_tree.specs.Tree.{Tree, tree_of}
-
--- a certificate: its symmetries and its lemmas, each by number
-pub record Contents : Type 0 where
-  pub symmetries : List SymmetryLine
-  pub lemmas : List FlatLemma
 
 -- a lemma without where it lies in memory
 pub record Piece : Type 0 where
@@ -17,22 +12,24 @@ pub record Piece : Type 0 where
   pub prefix : List Pair
   pub tree : Tree
 
+-- a certificate: its symmetries and its lemmas, each by number
+pub record Contents : Type 0 where
+  pub symmetries : List SymmetryLine
+  pub lemmas : List Piece
+
 abbrev pub piece_of : Lemma → Piece
 piece_of lemma = record { number = lemma.number; prefix = lemma.prefix; tree = tree_of lemma.tree }
 
--- the same of a lemma whose tree is flat
+-- the same of a lemma of a certificate
 abbrev pub flat_piece : FlatLemma → Piece
-flat_piece lemma = record { number = lemma.number; prefix = lemma.prefix; tree = lemma.tree }
-
-abbrev pub number_of : FlatLemma → ℕ
-number_of lemma = lemma.number
+flat_piece lemma = record { number = lemma.number; prefix = lemma.prefix.now; tree = lemma.tree }
 
 abbrev pub piece_number : Piece → ℕ
 piece_number piece = piece.number
 
 -- Each lemma has the number of its place, and there are no more of anything than its number can say.
 pub record IsNumbered (c : Contents) : Type 0 where
-  pub numbered : (number : ℕ) (lemma : FlatLemma) → slice_get c.lemmas number ≡ Some lemma → lemma.number ≡ number
+  pub numbered : (number : ℕ) (lemma : Piece) → slice_get c.lemmas number ≡ Some lemma → lemma.number ≡ number
   pub few_lemmas : length c.lemmas ≤ 1000000
   pub few_symmetries : length c.symmetries < 2 ^ 32
-  pub prefixes : (number : ℕ) (lemma : FlatLemma) → slice_get c.lemmas number ≡ Some lemma → length lemma.prefix < 2 ^ 32
+  pub prefixes : (number : ℕ) (lemma : Piece) → slice_get c.lemmas number ≡ Some lemma → length lemma.prefix < 2 ^ 32

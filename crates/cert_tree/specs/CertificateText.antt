@@ -1,5 +1,5 @@
 -- The texts of lemmas and of certificates.
-use Rattle.std.specs.Prelude.{◌≡◌, ◌≢◌, ℕ, List, Bool, true, false, Result, Ok, Err, codes, map, length, if◌then◌else◌}
+use Rattle.std.specs.Prelude.{◌≡◌, ◌≢◌, ℕ, List, Bool, true, false, Result, Ok, Err, codes, length, if◌then◌else◌}
 use Rattle.std.specs.Str.{bytes_eq}
 use Rattle.match_symmetry.specs.declared.lines.SymmetryLine.{SymmetryLine}
 use Rattle.match_text.specs.declared.faults.TextFault.{TextFault}
@@ -13,7 +13,7 @@ use Rattle.cert_tree.specs.declared.faults.LemmaTextFault.{LemmaTextFault}
 use Rattle.cert_tree.specs.declared.faults.LemmaTextFault.TheVariants as lemma_text_faults
 use Rattle.cert_tree.specs.declared.faults.CertTextFault.{CertTextFault}
 use Rattle.cert_tree.specs.declared.faults.CertTextFault.TheVariants as faults
-use Rattle.cert_tree.specs.Certificate.{Contents, Piece, piece_of, flat_piece, piece_number}
+use Rattle.cert_tree.specs.Certificate.{Contents, Piece, piece_of, piece_number}
 use Rattle.cert_tree.specs.Assembly.{Assembles}
 use Rattle.cert_tree.specs.Entries.{entries_before}
 use Rattle.cert_tree.specs.TreeText.{tree_by}
@@ -92,7 +92,7 @@ LemmaGives (Err lemma_text_faults.Memory) outcome = Unit {0}
 -- The certificate that is assembled of what a text says, or the first fault of its lemmas. Of want of memory nothing is
 -- said.
 abbrev pub Makes : Said → Result Contents CertTextFault → Type 0
-Makes said (Ok c) = (c.symmetries ≡ said.symmetries) × Assembles piece_number (length said.pieces) said.pieces (Ok (map flat_piece c.lemmas))
+Makes said (Ok c) = (c.symmetries ≡ said.symmetries) × Assembles piece_number (length said.pieces) said.pieces (Ok c.lemmas)
 Makes said (Err (faults.Text fault)) = ⊥
 Makes said (Err (faults.Assemble fault)) = (fault ≢ Memory) × Assembles piece_number (length said.pieces) said.pieces (Err fault)
 Makes said (Err faults.Memory) = Unit {0}

@@ -2,6 +2,7 @@ pub mod Tree
 pub mod Heads
 pub mod HeadCode
 pub mod Certificate
+pub mod Spans
 pub mod Assembly
 pub mod TurnedAssembly
 pub mod Slots

@@ -1,8 +1,6 @@
 -- The lines of a certificate's text, without where they lie in memory.
-use Rattle.std.specs.Prelude.{map}
 use Rattle.cert_tree.specs.declared.readers.CertificateLines.{CertificateLines}
-use Rattle.cert_tree.specs.Certificate.{flat_piece}
 use Rattle.cert_tree.specs.CertificateText.{Said}
 
 abbrev pub said_of : CertificateLines → Said
-said_of lines = record { symmetries = lines.symmetries.items; pieces = map flat_piece lines.lemmas.items }
+said_of lines = record { symmetries = lines.symmetries.items; pieces = lines.lemmas }

@@ -1,15 +1,17 @@
 //! Certificates are assembled of numbered pieces.
 
 ghost use Rattle.std.specs.Prelude.{◌≡◌, ◌↔◌, ◌≢◌, ◌≤◌, ◌<◌, ◌^◌, ◌∷◌, [], ℕ, List, None, Some, Ok, Err, All, Contains, IfOk, IfErr, IsTrue, MatchBool, length, map, replicate};
-ghost use Rattle.cert_tree.specs.declared.certificates.FlatLemma.{FlatLemma as LemmaOf};
-ghost use Rattle.cert_tree.specs.Certificate.{number_of, piece_number, piece_of, flat_piece};
+ghost use Rattle.cert_tree.specs.declared.flat_lemmas.LemmaSpan.{LemmaSpan as Span};
+ghost use Rattle.cert_tree.specs.Certificate.{piece_number, piece_of};
+ghost use Rattle.cert_tree.specs.Spans.{number_of};
 ghost use Rattle.cert_tree.specs.Tree.{tree_of, IsNarrow};
 ghost use Rattle.cert_tree.specs.Assembly.{how_often, Assembles, TellsLeast, IsOneInAnyOrder};
 ghost use Rattle.cert_tree.specs.Slots.{lesser_of, stranger_of, IsPut, IsTaken, IsEntered, IsFirstEmpty};
 
-use crate::certificates::{Certificate, FlatLemma, Lemma};
+use crate::certificates::{Certificate, Lemma};
 use crate::conversions::flat_lemmas;
 use crate::faults::AssembleFault;
+use crate::flat_lemmas::{LemmaSpan, Lemmas};
 use match_symmetry::SymmetryLine;
 use std::alloc::{AllocError, Global};
 
@@ -34,7 +36,7 @@ fn stranger_so_far(count: u32, least: Option<u32>, number: u32) -> Option<u32>
 }
 
 // The least number at or past the count that a piece has.
-fn least_stranger(pieces: &[FlatLemma], count: u32) -> Option<u32>
+fn least_stranger(pieces: &[LemmaSpan], count: u32) -> Option<u32>
     ensures { TellsLeast (λ n. (count ≤ n) × (how_often number_of pieces.now n ≢ 0)) result }
 {
     let mut least = None;
@@ -45,7 +47,7 @@ fn least_stranger(pieces: &[FlatLemma], count: u32) -> Option<u32>
 }
 
 // A place for each number below the count, with nothing in it.
-fn empty_slots(alloc: Global, count: u32) -> Result<Vec<Option<FlatLemma>>, AllocError>
+fn empty_slots(alloc: Global, count: u32) -> Result<Vec<Option<LemmaSpan>>, AllocError>
     ensures { IfOk result (λ slots. slots.items ≡ replicate count None) }
 {
     let mut slots = Vec::with_capacity(alloc, count as usize)?;
@@ -56,7 +58,7 @@ fn empty_slots(alloc: Global, count: u32) -> Result<Vec<Option<FlatLemma>>, Allo
 }
 
 // Puts the piece into the place of its number, if nothing is there; whether it did.
-fn put(slots: &mut Vec<Option<FlatLemma>>, piece: FlatLemma) -> bool
+fn put(slots: &mut Vec<Option<LemmaSpan>>, piece: LemmaSpan) -> bool
     requires { piece.number < length slots.old.items }
     ensures { MatchBool result (IsPut slots.old.items slots.new.items piece) (IsTaken slots.old.items slots.new.items piece) }
 {
@@ -69,10 +71,10 @@ fn put(slots: &mut Vec<Option<FlatLemma>>, piece: FlatLemma) -> bool
 }
 
 // The same, and answers the least number that more than one piece has, by that of the pieces before.
-fn enter(slots: &mut Vec<Option<FlatLemma>>, double: Option<u32>, piece: FlatLemma) -> Option<u32>
+fn enter(slots: &mut Vec<Option<LemmaSpan>>, double: Option<u32>, piece: LemmaSpan) -> Option<u32>
     requires { piece.number < length slots.old.items }
     ensures long { length slots.new.items ≡ length slots.old.items }
-    ensures entered { (before : List LemmaOf) → IsEntered before slots.old.items double → IsEntered (piece ∷ before) slots.new.items result }
+    ensures entered { (before : List Span) → IsEntered before slots.old.items double → IsEntered (piece ∷ before) slots.new.items result }
 {
     let number = piece.number;
     if put(slots, piece) {
@@ -82,9 +84,9 @@ fn enter(slots: &mut Vec<Option<FlatLemma>>, double: Option<u32>, piece: FlatLem
 }
 
 // Puts each piece into the place of its number, and answers the least number that more than one piece has.
-fn fill(slots: &mut Vec<Option<FlatLemma>>, mut pieces: Vec<FlatLemma>) -> Option<u32>
+fn fill(slots: &mut Vec<Option<LemmaSpan>>, mut pieces: Vec<LemmaSpan>) -> Option<u32>
     requires empty { IsEntered [] slots.old.items None }
-    requires below { (piece : LemmaOf) → Contains pieces.items piece → piece.number < length slots.old.items }
+    requires below { (piece : Span) → Contains pieces.items piece → piece.number < length slots.old.items }
     ensures long { length slots.new.items ≡ length slots.old.items }
     ensures entered { IsEntered pieces.items slots.new.items result }
 {
@@ -98,8 +100,8 @@ fn fill(slots: &mut Vec<Option<FlatLemma>>, mut pieces: Vec<FlatLemma>) -> Optio
 // What stands in the places, in order. Missing, where one is empty.
 fn take_each(
     alloc: Global,
-    mut slots: Vec<Option<FlatLemma>>,
-) -> Result<Vec<FlatLemma>, AssembleFault>
+    mut slots: Vec<Option<LemmaSpan>>,
+) -> Result<Vec<LemmaSpan>, AssembleFault>
     requires { length slots.items < 2 ^ 32 }
     ensures all { IfOk result (λ lemmas. map Some lemmas.items ≡ slots.items) }
     ensures missing { IfErr result (IsFirstEmpty slots.items) }
@@ -118,8 +120,8 @@ fn take_each(
 fn in_order(
     alloc: Global,
     count: u32,
-    pieces: Vec<FlatLemma>,
-) -> Result<Vec<FlatLemma>, AssembleFault>
+    pieces: Vec<LemmaSpan>,
+) -> Result<Vec<LemmaSpan>, AssembleFault>
     requires { (n : ℕ) → count ≤ n → how_often number_of pieces.items n ≡ 0 }
     ensures ok { IfOk result (λ lemmas. Assembles number_of count pieces.items (Ok lemmas.items)) }
     ensures err { IfErr result (λ fault. Assembles number_of count pieces.items (Err fault)) }
@@ -132,7 +134,7 @@ fn in_order(
 }
 
 // Whether the pieces stand in the order of their numbers, and none below the count is missing.
-fn are_assembled(pieces: &[FlatLemma], count: u32) -> bool
+fn are_assembled(pieces: &[LemmaSpan], count: u32) -> bool
     ensures { IsTrue result ↔ Assembles number_of count pieces.now (Ok pieces.now) }
 {
     if pieces.len() != count as usize {
@@ -146,28 +148,42 @@ fn are_assembled(pieces: &[FlatLemma], count: u32) -> bool
     true
 }
 
-// The certificate of these symmetries, whose lemma i is the only piece with number i. Pieces in the order of their
-// numbers, as a certificate is written, are the lemmas as they stand; others are put into a table first.
-pub(crate) fn assemble_flat(
+// The pieces by number. Those in the order of their numbers, as a certificate is written, stay as they stand; others are
+// put into a table first.
+fn assembled(
     alloc: Global,
     count: u32,
-    symmetries: Vec<SymmetryLine>,
-    pieces: Vec<FlatLemma>,
-) -> Result<Certificate, AssembleFault>
-    requires count { count ≤ 1000000 }
-    requires symmetries { length symmetries.items < 2 ^ 32 }
-    requires prefixes { All (λ piece. length piece.prefix < 2 ^ 32) pieces.items }
-    ensures symmetries { IfOk result (λ certificate. certificate.symmetries ≡ symmetries.items) }
-    ensures lemmas { IfOk result (λ certificate. Assembles number_of count pieces.items (Ok certificate.lemmas)) }
-    ensures fault { IfErr result (λ fault. Assembles number_of count pieces.items (Err fault)) }
+    pieces: Vec<LemmaSpan>,
+) -> Result<Vec<LemmaSpan>, AssembleFault>
+    ensures ok { IfOk result (λ spans. Assembles number_of count pieces.items (Ok spans.items)) }
+    ensures err { IfErr result (λ fault. Assembles number_of count pieces.items (Err fault)) }
 {
     if are_assembled(&pieces, count) {
-        return Ok(Certificate::of(symmetries, pieces));
+        return Ok(pieces);
     }
     if let Some(number) = least_stranger(&pieces, count) {
         return Err(AssembleFault::Stranger(number));
     }
-    let lemmas = in_order(alloc, count, pieces)?;
+    in_order(alloc, count, pieces)
+}
+
+// The certificate of these symmetries, whose lemma i is the only piece with number i. Pairs and heads stay where they lie.
+pub(crate) fn assemble_flat(
+    alloc: Global,
+    count: u32,
+    symmetries: Vec<SymmetryLine>,
+    pieces: Lemmas,
+) -> Result<Certificate, AssembleFault>
+    requires count { count ≤ 1000000 }
+    requires symmetries { length symmetries.items < 2 ^ 32 }
+    requires prefixes { All (λ piece. length piece.prefix < 2 ^ 32) pieces }
+    ensures symmetries { IfOk result (λ certificate. certificate.symmetries ≡ symmetries.items) }
+    ensures lemmas { IfOk result (λ certificate. Assembles piece_number count pieces (Ok certificate.lemmas)) }
+    ensures fault { IfErr result (λ fault. Assembles piece_number count pieces (Err fault)) }
+{
+    let (pairs, heads, spans) = pieces.apart();
+    let spans = assembled(alloc, count, spans)?;
+    let lemmas = Lemmas::of(pairs, heads, spans);
     Ok(Certificate::of(symmetries, lemmas))
 }
 
@@ -189,7 +205,7 @@ pub fn assemble(
     requires prefixes { All (λ piece. length piece.prefix < 2 ^ 32) pieces.items }
     requires narrow { All (λ piece. IsNarrow (tree_of piece.tree)) pieces.items }
     ensures symmetries { IfOk result (λ certificate. certificate.symmetries ≡ symmetries.items) }
-    ensures lemmas { IfOk result (λ certificate. Assembles piece_number count (map piece_of pieces.items) (Ok (map flat_piece certificate.lemmas))) }
+    ensures lemmas { IfOk result (λ certificate. Assembles piece_number count (map piece_of pieces.items) (Ok certificate.lemmas)) }
     ensures fault { IfErr result (λ fault. Assembles piece_number count (map piece_of pieces.items) (Err fault)) }
 {
     let flat = flat_lemmas(alloc, &pieces)?;
@@ -199,6 +215,5 @@ pub fn assemble(
 /// A law: the same lemmas, in whatever order they come, make the same certificate, or have the same first fault. The
 /// call does nothing.
 pub fn assembly_laws()
-    ensures lemmas { IsOneInAnyOrder number_of }
     ensures pieces { IsOneInAnyOrder piece_number }
 {}

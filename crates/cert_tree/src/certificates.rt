@@ -1,6 +1,6 @@
 //! Lemmas, and certificates that are made of them.
 
-use crate::flat_trees::FlatTree;
+use crate::flat_lemmas::Lemmas;
 use crate::nodes::Node;
 use match_puzzle::Pair;
 use match_symmetry::SymmetryLine;
@@ -42,7 +42,7 @@ impl Pairs {
 /// A claim that each arrangement which extends the prefix is listed, or has an image that is, and a tree that shows it.
 ///
 /// The nodes own their children, so that a tree can be built from its leaves or from its root. A certificate keeps its
-/// lemmas as [`FlatLemma`].
+/// lemmas as [`Lemmas`].
 #[derive(Drop)]
 pub struct Lemma {
     /// Which lemma of its certificate it is, from 0.
@@ -52,16 +52,6 @@ pub struct Lemma {
     pub tree: Node,
 }
 
-/// A lemma of a certificate: the same claim, with a tree that lies in one piece of memory.
-#[derive(Drop)]
-pub struct FlatLemma {
-    /// Which lemma of its certificate it is, from 0.
-    pub number: u32,
-    /// What is placed where the tree begins.
-    pub prefix: Pairs,
-    pub tree: FlatTree,
-}
-
 /// Symmetries by number, from 0, and lemmas by number, from 0; the last lemma is the root, which is to show that the
 /// list is complete.
 ///
@@ -69,7 +59,7 @@ pub struct FlatLemma {
 #[derive(Drop)]
 pub struct Certificate {
     symmetries: Vec<SymmetryLine>,
-    lemmas: Vec<FlatLemma>,
+    lemmas: Lemmas,
 }
 
 impl Model for Certificate {
@@ -82,9 +72,9 @@ impl Model for Certificate {
 
     ghost coded = { Prim.hlevel (codes, tree_code head.the_row.coded) };
 
-    ghost view = { λ c. record { symmetries = c.symmetries.items; lemmas = c.lemmas.items } };
+    ghost view = { λ c. record { symmetries = c.symmetries.items; lemmas = c.lemmas } };
 
-    ghost invariant = { λ c. IsNumbered (record { symmetries = c.symmetries.items; lemmas = c.lemmas.items }) };
+    ghost invariant = { λ c. IsNumbered (record { symmetries = c.symmetries.items; lemmas = c.lemmas }) };
 }
 
 impl Certificate {
@@ -92,9 +82,9 @@ impl Certificate {
     ghost use Rattle.cert_tree.specs.Certificate.{IsNumbered};
 
     /// The certificate of these symmetries and lemmas, each in the order of its numbers.
-    pub(crate) fn of(symmetries: Vec<SymmetryLine>, lemmas: Vec<FlatLemma>) -> Certificate
-        requires { IsNumbered (record { symmetries = symmetries.items; lemmas = lemmas.items }) }
-        ensures { result ≡ record { symmetries = symmetries.items; lemmas = lemmas.items } }
+    pub(crate) fn of(symmetries: Vec<SymmetryLine>, lemmas: Lemmas) -> Certificate
+        requires { IsNumbered (record { symmetries = symmetries.items; lemmas = lemmas }) }
+        ensures { result ≡ record { symmetries = symmetries.items; lemmas = lemmas } }
     {
         Certificate { symmetries, lemmas }
     }
@@ -108,7 +98,7 @@ impl Certificate {
     }
 
     /// The lemmas, by number.
-    pub fn lemmas(&self) -> &[FlatLemma]
+    pub fn lemmas(&self) -> &Lemmas
         ensures lemmas { result.now ≡ self.now.lemmas }
         ensures numbered { IsNumbered self.now }
     {

@@ -1,15 +1,17 @@
 //! Lemmas in their two forms: of nodes that own their children, and flat.
 
-ghost use Rattle.std.specs.Prelude.{◌≡◌, ◌≢◌, ◌<◌, ◌≤◌, ◌^◌, ◌++◌, ◌∷◌, [], All, IfOk, OnOk, length, map};
+ghost use Rattle.std.specs.Prelude.{◌≡◌, ◌≢◌, ◌<◌, ◌≤◌, ◌^◌, ◌++◌, ◌∷◌, [], All, IfOk, OnOk, length, map, drop};
 ghost use Rattle.cert_tree.specs.Tree.{branch, count, none, tree_of, forest_of, IsNarrow, AreNarrow};
 ghost use Rattle.cert_tree.specs.Certificate.{piece_of, flat_piece};
+ghost use Rattle.cert_tree.specs.Spans.{piece_in, IsSpan};
 ghost use Rattle.cert_tree.specs.Heads.{first, front, heads_of, past};
 
-use crate::certificates::{FlatLemma, Lemma, Pairs};
-use crate::flat_trees::{FlatTree, Trees};
+use crate::certificates::{Lemma, Pairs};
+use crate::flat_lemmas::{FlatLemma, LemmaSpan, Lemmas};
+use crate::flat_trees::Trees;
 use crate::heads::Head;
 use crate::nodes::{Children, Node};
-use match_puzzle::Item;
+use match_puzzle::{Item, Pair};
 use std::alloc::{AllocError, Global};
 
 // The heads of the node's tree go behind these, in preorder.
@@ -59,48 +61,38 @@ fn put_branch(heads: &mut Vec<Head>, item: Item, nodes: &[Node]) -> Result<(), A
     Ok(())
 }
 
-// The same tree flat. Its heads are collected in `heads`, where they take the place of what was there.
-fn flat_tree(alloc: Global, heads: &mut Vec<Head>, node: &Node) -> Result<FlatTree, AllocError>
-    requires { IsNarrow (tree_of node.now) }
-    ensures { IfOk result (λ tree. tree ≡ tree_of node.now) }
-{
-    heads.clear();
-    put_node(heads, node)?;
-    let tree = FlatTree::taken(alloc, heads)?;
-    Ok(tree)
-}
-
-/// The same lemma with a flat tree, by a recursion that is as deep as the tree. The tree's heads are collected in
-/// `heads`, where they take the place of what was there.
-pub(crate) fn flat_lemma(
-    alloc: Global,
+// The pairs and heads of the lemma go behind these, by a recursion that is as deep as its tree. Where it lies there.
+fn put_lemma(
+    pairs: &mut Vec<Pair>,
     heads: &mut Vec<Head>,
     lemma: &Lemma,
-) -> Result<FlatLemma, AllocError>
+) -> Result<LemmaSpan, AllocError>
     requires { IsNarrow (tree_of lemma.now.tree) }
-    ensures { IfOk result (λ flat. flat_piece flat ≡ piece_of lemma.now) }
+    ensures span { IfOk result (IsSpan pairs.new.items heads.new.items) }
+    ensures lemma { IfOk result (λ span. piece_in pairs.new.items heads.new.items span ≡ piece_of lemma.now) }
+    ensures pairs { OnOk result (pairs.new.items ≡ pairs.old.items ++ drop (length pairs.old.items) pairs.new.items) }
+    ensures heads { OnOk result (heads.new.items ≡ heads.old.items ++ drop (length heads.old.items) heads.new.items) }
 {
-    let prefix = Pairs::new(Vec::from_slice(alloc, lemma.prefix.as_slice())?);
-    let tree = flat_tree(alloc, heads, &lemma.tree)?;
-    Ok(FlatLemma {
-        number: lemma.number,
-        prefix,
-        tree,
-    })
+    let pairs_start = pairs.len();
+    let heads_start = heads.len();
+    pairs.extend_from_slice(lemma.prefix.as_slice())?;
+    put_node(heads, &lemma.tree)?;
+    Ok(LemmaSpan::of_last(lemma.number, pairs, pairs_start, heads, heads_start))
 }
 
-/// The same lemmas with flat trees, in order.
-pub(crate) fn flat_lemmas(alloc: Global, lemmas: &[Lemma]) -> Result<Vec<FlatLemma>, AllocError>
+/// The same lemmas laid out flat, in order, by a recursion that is as deep as a tree.
+pub(crate) fn flat_lemmas(alloc: Global, lemmas: &[Lemma]) -> Result<Lemmas, AllocError>
     requires { All (λ lemma. IsNarrow (tree_of lemma.tree)) lemmas.now }
-    ensures { IfOk result (λ flat. map flat_piece flat.items ≡ map piece_of lemmas.now) }
+    ensures { IfOk result (λ flat. flat ≡ map piece_of lemmas.now) }
 {
-    let mut flat = Vec::with_capacity(alloc, lemmas.len())?;
+    let mut pairs = Vec::new(alloc);
     let mut heads = Vec::new(alloc);
+    let mut spans = Vec::with_capacity(alloc, lemmas.len())?;
     for lemma in lemmas {
-        let lemma = flat_lemma(alloc, &mut heads, lemma)?;
-        flat.push(lemma)?;
+        let span = put_lemma(&mut pairs, &mut heads, lemma)?;
+        spans.push(span)?;
     }
-    Ok(flat)
+    Ok(Lemmas::of(pairs, heads, spans))
 }
 
 // The first tree as a node, and the walk goes past it.
@@ -148,13 +140,14 @@ fn first_children(
 }
 
 /// The same lemma with nodes that own their children, by a recursion that is as deep as the tree.
-pub(crate) fn owned_lemma(alloc: Global, flat: FlatLemma) -> Result<Lemma, AllocError>
-    ensures { IfOk result (λ lemma. piece_of lemma ≡ flat_piece flat) }
+pub(crate) fn owned_lemma(alloc: Global, flat: &FlatLemma<'_>) -> Result<Lemma, AllocError>
+    ensures { IfOk result (λ lemma. piece_of lemma ≡ flat_piece flat.now) }
 {
+    let prefix = Pairs::new(Vec::from_slice(alloc, flat.prefix)?);
     let tree = first_node(alloc, &mut flat.tree.trees())?;
     Ok(Lemma {
         number: flat.number,
-        prefix: flat.prefix,
+        prefix,
         tree,
     })
 }

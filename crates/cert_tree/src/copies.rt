@@ -5,8 +5,9 @@ ghost use Rattle.cert_tree.specs.Certificate.{piece_of};
 ghost use Rattle.cert_tree.specs.CertificateSpelling.{IsLemmaWithin};
 
 use crate::certificates::Lemma;
-use crate::conversions::{flat_lemma, owned_lemma};
+use crate::conversions::{flat_lemmas, owned_lemma};
 use std::alloc::{AllocError, Global};
+use std::slice::from_ref;
 
 impl Lemma {
     /// An equal lemma, by a recursion that is as deep as the tree.
@@ -14,7 +15,7 @@ impl Lemma {
         requires { IsLemmaWithin (piece_of self.now) }
         ensures { IfOk result (λ copy. piece_of copy ≡ piece_of self.now) }
     {
-        let flat = flat_lemma(alloc, &mut Vec::new(alloc), self)?;
-        owned_lemma(alloc, flat)
+        let flat = flat_lemmas(alloc, from_ref(self))?;
+        owned_lemma(alloc, &flat.at(0))
     }
 }

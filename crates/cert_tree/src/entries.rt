@@ -1,11 +1,10 @@
 //! Entries of a line, up to a word or to its end.
 
-ghost use Rattle.std.specs.Prelude.{◌≡◌, ◌+◌, ◌<◌, codes};
+ghost use Rattle.std.specs.Prelude.{◌≡◌, ◌+◌, ◌<◌, ◌++◌, codes, length, drop};
 ghost use Rattle.match_text.specs.Words.{number_in, colour_in, pair_in};
 ghost use Rattle.match_text.specs.Place.{Reads, entries};
 ghost use Rattle.cert_tree.specs.Entries.{goes_on, entries_before};
 
-use crate::certificates::Pairs;
 use match_puzzle::Pair;
 use match_text::{ReadFault, Scan};
 use std::alloc::Global;
@@ -68,24 +67,14 @@ pub fn tile_images(alloc: Global, scan: &mut Scan) -> Result<Vec<u16>, ReadFault
     Ok(images)
 }
 
-/// The pairs of a prefix, up to the word `tree`, in no more memory than they take.
-///
-/// They are collected in `pairs`, where they take the place of what was there, so that one vector serves one prefix
-/// after the other.
-pub fn prefix(alloc: Global, scan: &mut Scan, pairs: &mut Vec<Pair>) -> Result<Pairs, ReadFault>
-    ensures { Reads (λ prefix. prefix) result scan.new (entries_before (codes "tree") 100 pair_in scan.old) }
+/// The pairs of a prefix, up to the word `tree`, go behind these.
+pub fn prefix(scan: &mut Scan, pairs: &mut Vec<Pair>) -> Result<(), ReadFault>
+    ensures reads { Reads (λ _. drop (length pairs.old.items) pairs.new.items) result scan.new (entries_before (codes "tree") 100 pair_in scan.old) }
+    ensures behind { pairs.new.items ≡ pairs.old.items ++ drop (length pairs.old.items) pairs.new.items }
 {
-    collect_pairs(scan, pairs)?;
-    let copy = Vec::from_slice(alloc, pairs)?;
-    Ok(Pairs::new(copy))
-}
-
-fn collect_pairs(scan: &mut Scan, pairs: &mut Vec<Pair>) -> Result<(), ReadFault>
-    ensures { Reads (λ _. pairs.new.items) result scan.new (entries_before (codes "tree") 100 pair_in scan.old) }
-{
-    pairs.clear();
+    let start = pairs.len();
     while has_other(scan, b"tree") {
-        scan.further_entry(pairs.len(), MOST_PAIRS)?;
+        scan.further_entry(pairs.len() - start, MOST_PAIRS)?;
         let pair = scan.pair()?;
         pairs.push(pair)?;
     }

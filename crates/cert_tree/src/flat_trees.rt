@@ -3,20 +3,15 @@
 ghost use Rattle.std.specs.Prelude.{◌≡◌, ◌≢◌};
 
 use crate::heads::Head;
-use std::alloc::{AllocError, Global};
 use std::marker::Model;
-use std::mem::replace;
-
-// From so many nodes on a tree is large.
-const LARGE: usize = 4_096;
 
 /// A tree as the heads of its nodes in preorder, each node before its children, in one piece of memory: 8 bytes a node.
 #[derive(Drop)]
-pub struct FlatTree {
-    heads: Vec<Head>,
+pub struct FlatTree<'a> {
+    heads: &'a [Head],
 }
 
-impl Model for FlatTree {
+impl<'a> Model for FlatTree<'a> {
     ghost use Rattle.cert_tree.specs.contracts.heads.Head as head;
     ghost use Rattle.cert_tree.specs.Tree.{Tree};
     ghost use Rattle.cert_tree.specs.HeadCode.{tree_code};
@@ -27,9 +22,9 @@ impl Model for FlatTree {
 
     ghost use Rattle.cert_tree.specs.Heads.{trees_in, first, AreOfTree};
 
-    ghost view = { λ t. first (trees_in t.heads.items) };
+    ghost view = { λ t. first (trees_in t.heads.now) };
 
-    ghost invariant = { λ t. AreOfTree t.heads.items };
+    ghost invariant = { λ t. AreOfTree t.heads.now };
 }
 
 /// The trees that are left of a walk in preorder.
@@ -57,46 +52,31 @@ impl<'a> Model for Trees<'a> {
     ghost invariant = { λ t. AreWhole t.heads.now };
 }
 
-impl FlatTree {
-    ghost use Rattle.std.specs.Prelude.{◌≡◌, IfOk};
+impl<'a> FlatTree<'a> {
+    ghost use Rattle.std.specs.Prelude.{◌≡◌};
     ghost use Rattle.cert_tree.specs.Tree.{more, none};
     ghost use Rattle.cert_tree.specs.Heads.{heads_of, trees_in, first, AreOfTree};
 
     // The tree with these heads.
-    pub(crate) fn of(heads: Vec<Head>) -> FlatTree
-        requires { AreOfTree heads.items }
-        ensures { result ≡ first (trees_in heads.items) }
+    pub(crate) fn of(heads: &'a [Head]) -> FlatTree<'a>
+        requires { AreOfTree heads.now }
+        ensures { result ≡ first (trees_in heads.now) }
     {
         FlatTree { heads }
     }
 
-    // The tree with these heads, in no more memory than they take. Those of a small tree are copied, and the vector
-    // keeps its room for the next one; a large tree takes the vector itself, since a copy would double the memory.
-    pub(crate) fn taken(alloc: Global, heads: &mut Vec<Head>) -> Result<FlatTree, AllocError>
-        requires { AreOfTree heads.old.items }
-        ensures { IfOk result (λ tree. tree ≡ first (trees_in heads.old.items)) }
-    {
-        if heads.len() < LARGE {
-            let copy = Vec::from_slice(alloc, heads)?;
-            return Ok(FlatTree::of(copy));
-        }
-        let mut heads = replace(heads, Vec::new(alloc));
-        heads.shrink_to_fit();
-        Ok(FlatTree::of(heads))
-    }
-
     // The heads of its nodes.
-    pub(crate) fn heads(&self) -> &[Head]
+    pub(crate) fn heads(&self) -> &'a [Head]
         ensures { result.now ≡ heads_of self.now }
     {
-        &self.heads
+        self.heads
     }
 
     /// The tree alone, to be walked in preorder.
-    pub fn trees(&self) -> Trees<'_>
+    pub fn trees(&self) -> Trees<'a>
         ensures { result ≡ more self.now none }
     {
-        Trees::of(&self.heads)
+        Trees::of(self.heads)
     }
 }
 

@@ -7,6 +7,7 @@ mod conversions;
 mod copies;
 mod entries;
 mod faults;
+mod flat_lemmas;
 mod flat_trees;
 mod heads;
 mod laws;
@@ -19,8 +20,9 @@ mod tests;
 mod tree_readers;
 
 pub use assemblies::{assemble, assembly_laws};
-pub use certificates::{Certificate, FlatLemma, Lemma, Pairs};
+pub use certificates::{Certificate, Lemma, Pairs};
 pub use faults::{AssembleFault, CertTextFault, LemmaTextFault};
+pub use flat_lemmas::{FlatLemma, Lemmas};
 pub use flat_trees::{FlatTree, Trees};
 pub use heads::Head;
 pub use laws::{certificate_laws, head_laws, lemma_laws};

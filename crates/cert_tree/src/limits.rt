@@ -10,7 +10,8 @@ ghost use Rattle.cert_tree.specs.TreeSpelling.{IsTreeWithin, AreTreesWithin, Are
 ghost use Rattle.cert_tree.specs.CertificateSpelling.{AreImagesWithin, AreColourImagesWithin, IsSymmetryWithin, IsPairWithin, IsLemmaWithin, IsCertificateWithin};
 ghost use Rattle.cert_tree.specs.Writing.{said_by};
 
-use crate::certificates::{Certificate, FlatLemma, Lemma};
+use crate::certificates::{Certificate, Lemma};
+use crate::flat_lemmas::{FlatLemma, Lemmas};
 use crate::flat_trees::Trees;
 use crate::heads::Head;
 use crate::nodes::Node;
@@ -165,20 +166,20 @@ fn are_first_within(trees: &mut Trees<'_>, room: u8, children: u32) -> bool
     true
 }
 
-fn is_flat_lemma_within(lemma: &FlatLemma) -> bool
+fn is_flat_lemma_within(lemma: &FlatLemma<'_>) -> bool
     ensures { MatchBool result (IsLemmaWithin (flat_piece lemma.now)) (IsLemmaWithin (flat_piece lemma.now) → ⊥) }
 {
-    let pairs = lemma.prefix.as_slice();
     lemma.number <= MOST_NUMBER
-        && (pairs.len() <= MOST_PAIRS
-            && (are_pairs_within(pairs) && is_first_within(&mut lemma.tree.trees(), MOST_LEVELS)))
+        && (lemma.prefix.len() <= MOST_PAIRS
+            && (are_pairs_within(lemma.prefix)
+                && is_first_within(&mut lemma.tree.trees(), MOST_LEVELS)))
 }
 
-fn are_lemmas_within(lemmas: &[FlatLemma]) -> bool
-    ensures { MatchBool result (AllByRecursion IsLemmaWithin (map flat_piece lemmas.now)) (AllByRecursion IsLemmaWithin (map flat_piece lemmas.now) → ⊥) }
+fn are_lemmas_within(lemmas: &Lemmas) -> bool
+    ensures { MatchBool result (AllByRecursion IsLemmaWithin lemmas.now) (AllByRecursion IsLemmaWithin lemmas.now → ⊥) }
 {
-    for lemma in lemmas {
-        if !is_flat_lemma_within(lemma) {
+    for number in 0..lemmas.len() {
+        if !is_flat_lemma_within(&lemmas.at(number)) {
             return false;
         }
     }

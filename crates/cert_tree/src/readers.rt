@@ -1,9 +1,10 @@
 //! Lemmas and certificates are read.
 
-ghost use Rattle.std.specs.Prelude.{◌≡◌, ◌+◌, ◌<◌, ◌≤◌, ◌^◌, ℕ, List, Contains, Ok, Err, IfOk, IfErr, length, map, take};
+ghost use Rattle.std.specs.Prelude.{◌≡◌, ◌+◌, ◌<◌, ◌≤◌, ◌^◌, ℕ, List, Contains, Ok, Err, IfOk, IfErr, OnOk, ◌++◌, length, take, drop};
 ghost use Rattle.match_text.specs.Words.{Judges};
 ghost use Rattle.match_text.specs.Place.{Gives, Reads, Says, fail, times, word_by};
-ghost use Rattle.cert_tree.specs.Certificate.{Piece, piece_of, flat_piece};
+ghost use Rattle.cert_tree.specs.Certificate.{Piece, piece_of};
+ghost use Rattle.cert_tree.specs.Spans.{piece_in, IsSpan};
 ghost use Rattle.match_text.specs.declared.faults.TextKind.TheVariants as kinds;
 ghost use Rattle.match_text.specs.Bytes.{line_ends};
 ghost use Rattle.cert_tree.specs.Lines.{said_of};
@@ -12,10 +13,11 @@ ghost use Rattle.cert_tree.specs.Writing.{said_by};
 ghost use Rattle.cert_tree.specs.CertificateSpelling.{lemma_spelling, certificate_spelling, IsLemmaWithin, IsCertificateWithin};
 
 use crate::assemblies::assemble_flat;
-use crate::certificates::{Certificate, FlatLemma, Lemma};
+use crate::certificates::{Certificate, Lemma};
 use crate::conversions::owned_lemma;
 use crate::entries::{cell_images, colour_images, prefix, tile_images};
 use crate::faults::{CertTextFault, LemmaTextFault};
+use crate::flat_lemmas::{FlatLemma, LemmaSpan, Lemmas};
 use crate::heads::Head;
 use crate::limits::MOST_LEVELS;
 use crate::tree_readers::tree;
@@ -79,61 +81,54 @@ fn symmetries(alloc: Global, scan: &mut Scan, count: u32) -> Result<Vec<Symmetry
     Ok(lines)
 }
 
-// What the lines of lemmas are read into, one after the other, so that nothing that is kept of a line has spare room.
-#[derive(Drop)]
-struct Buffers {
-    pairs: Vec<Pair>,
-    heads: Vec<Head>,
-}
-
-impl Buffers {
-    fn new(alloc: Global) -> Buffers {
-        Buffers {
-            pairs: Vec::new(alloc),
-            heads: Vec::new(alloc),
-        }
-    }
-}
-
+// A lemma, whose pairs and heads go behind these, and where it lies there.
 #[tactic(auto, unfolding(crate::specs::CertificateText::lemma_line))]
-fn lemma(alloc: Global, scan: &mut Scan, buffers: &mut Buffers) -> Result<FlatLemma, ReadFault>
-    ensures { Reads flat_piece result scan.new (lemma_line scan.old) }
+fn lemma(
+    scan: &mut Scan,
+    pairs: &mut Vec<Pair>,
+    heads: &mut Vec<Head>,
+) -> Result<LemmaSpan, ReadFault>
+    ensures reads { Reads (λ span. piece_in pairs.new.items heads.new.items span) result scan.new (lemma_line scan.old) }
+    ensures span { IfOk result (IsSpan pairs.new.items heads.new.items) }
+    ensures pairs { OnOk result (pairs.new.items ≡ pairs.old.items ++ drop (length pairs.old.items) pairs.new.items) }
+    ensures heads { OnOk result (heads.new.items ≡ heads.old.items ++ drop (length heads.old.items) heads.new.items) }
 {
     scan.next_line()?;
     scan.word(b"lemma")?;
     let number = scan.number(0, 999_999)?;
     scan.word(b"prefix")?;
-    let prefix = prefix(alloc, scan, &mut buffers.pairs)?;
+    let pairs_start = pairs.len();
+    prefix(scan, pairs)?;
     scan.word(b"tree")?;
-    let tree = tree(alloc, scan, &mut buffers.heads, MOST_LEVELS)?;
+    let heads_start = heads.len();
+    tree(scan, heads, MOST_LEVELS)?;
     scan.end_of_line()?;
-    Ok(FlatLemma {
-        number,
-        prefix,
-        tree,
-    })
+    Ok(LemmaSpan::of_last(number, pairs, pairs_start, heads, heads_start))
 }
 
-fn lemmas(alloc: Global, scan: &mut Scan, count: u32) -> Result<Vec<FlatLemma>, ReadFault>
-    ensures { Reads (λ lemmas. map flat_piece lemmas.items) result scan.new (times count lemma_line scan.old) }
+fn lemmas(alloc: Global, scan: &mut Scan, count: u32) -> Result<Lemmas, ReadFault>
+    ensures { Reads (λ lemmas. lemmas) result scan.new (times count lemma_line scan.old) }
 {
-    let mut buffers = Buffers::new(alloc);
-    let mut lemmas = Vec::new(alloc);
+    let mut pairs = Vec::new(alloc);
+    let mut heads = Vec::new(alloc);
+    let mut spans = Vec::new(alloc);
     for _ in 0..count {
-        let lemma = lemma(alloc, scan, &mut buffers)?;
-        lemmas.push(lemma)?;
+        let span = lemma(scan, &mut pairs, &mut heads)?;
+        spans.push(span)?;
     }
-    lemmas.shrink_to_fit();
-    Ok(lemmas)
+    Ok(Lemmas::of(pairs, heads, spans))
 }
 
+// One lemma, and nothing after it.
 #[tactic(auto, unfolding(crate::specs::CertificateText::lemma_text))]
-fn whole_lemma(alloc: Global, scan: &mut Scan) -> Result<FlatLemma, ReadFault>
-    ensures { Reads flat_piece result scan.new (lemma_text scan.old) }
+fn whole_lemma(alloc: Global, scan: &mut Scan) -> Result<Lemma, ReadFault>
+    ensures { Reads piece_of result scan.new (lemma_text scan.old) }
 {
-    let mut buffers = Buffers::new(alloc);
-    let lemma = lemma(alloc, scan, &mut buffers)?;
+    let mut pairs = Vec::new(alloc);
+    let mut heads = Vec::new(alloc);
+    let span = lemma(scan, &mut pairs, &mut heads)?;
     scan.end_of_text()?;
+    let lemma = owned_lemma(alloc, &FlatLemma::of(&pairs, &heads, span))?;
     Ok(lemma)
 }
 
@@ -143,8 +138,7 @@ fn read_lemma_text(alloc: Global, text: &[u8]) -> Result<Lemma, LemmaTextFault>
     ensures { LemmaGives result (lemma_of text.now) }
 {
     let mut scan = Scan::new(text);
-    let flat = whole_lemma(alloc, &mut scan)?;
-    let lemma = owned_lemma(alloc, flat)?;
+    let lemma = whole_lemma(alloc, &mut scan)?;
     Ok(lemma)
 }
 
@@ -169,7 +163,7 @@ pub fn read_lemma(alloc: Global, text: &[u8]) -> Result<Lemma, LemmaTextFault>
 #[derive(Drop)]
 struct CertificateLines {
     symmetries: Vec<SymmetryLine>,
-    lemmas: Vec<FlatLemma>,
+    lemmas: Lemmas,
 }
 
 #[tactic(auto, unfolding(crate::specs::CertificateText::certificate_text))]

@@ -8,15 +8,17 @@ ghost use Rattle.cert_tree.specs.HeadSpelling.{head_words};
 ghost use Rattle.std.specs.List.{flat_map};
 ghost use Rattle.cert_tree.specs.CertificateText.{lemma_of, certificate_of, Makes};
 ghost use Rattle.cert_tree.specs.CertificateSpelling.{mirrored_word, symmetry_words, pair_word, lemma_words, lemma_spelling, certificate_spelling, IsSymmetryWithin, IsLemmaWithin, IsCertificateWithin};
-ghost use Rattle.cert_tree.specs.Writing.{spaced, words_of, said_by};
+ghost use Rattle.cert_tree.specs.Writing.{spaced, said_by};
 
-use crate::certificates::{Certificate, FlatLemma, Lemma};
-use crate::conversions::flat_lemma;
+use crate::certificates::{Certificate, Lemma};
+use crate::conversions::flat_lemmas;
+use crate::flat_lemmas::{FlatLemma, Lemmas};
 use crate::heads::Head;
 use match_puzzle::Pair;
 use match_symmetry::SymmetryLine;
 use match_text::{character, put_end, put_number, put_number_line, put_placement};
 use std::alloc::{AllocError, Global};
+use std::slice::from_ref;
 
 // The number behind these bytes.
 fn put_behind(text: &mut Vec<u8>, bytes: &[u8], number: u32) -> Result<(), AllocError>
@@ -77,23 +79,23 @@ fn put_pairs(text: &mut Vec<u8>, pairs: &[Pair]) -> Result<(), AllocError>
     Ok(())
 }
 
-fn put_lemma(text: &mut Vec<u8>, lemma: &FlatLemma) -> Result<(), AllocError>
+fn put_lemma(text: &mut Vec<u8>, lemma: &FlatLemma<'_>) -> Result<(), AllocError>
     ensures { OnOk result (text.new.items ≡ text.old.items ++ line_text (lemma_words (flat_piece lemma.now))) }
 {
     put_behind(text, b"lemma ", lemma.number)?;
     text.extend_from_slice(b" prefix")?;
-    put_pairs(text, lemma.prefix.as_slice())?;
+    put_pairs(text, lemma.prefix)?;
     text.extend_from_slice(b" tree")?;
     put_heads(text, lemma.tree.heads())?;
     text.push(b'\n')?;
     Ok(())
 }
 
-fn put_lemmas(text: &mut Vec<u8>, lemmas: &[FlatLemma]) -> Result<(), AllocError>
-    ensures { OnOk result (text.new.items ≡ text.old.items ++ text_of (map words_of lemmas.now)) }
+fn put_lemmas(text: &mut Vec<u8>, lemmas: &Lemmas) -> Result<(), AllocError>
+    ensures { OnOk result (text.new.items ≡ text.old.items ++ text_of (map lemma_words lemmas.now)) }
 {
-    for lemma in lemmas {
-        put_lemma(text, lemma)?;
+    for number in 0..lemmas.len() {
+        put_lemma(text, &lemmas.at(number))?;
     }
     Ok(())
 }
@@ -157,9 +159,9 @@ pub fn write_lemma(alloc: Global, lemma: &Lemma) -> Result<Vec<u8>, AllocError>
     ensures spelling { IfOk result (λ text. text.items ≡ lemma_spelling (piece_of lemma.now)) }
     ensures reads { IfOk result (λ text. lemma_of text.items ≡ Ok (piece_of lemma.now)) }
 {
-    let flat = flat_lemma(alloc, &mut Vec::new(alloc), lemma)?;
+    let flat = flat_lemmas(alloc, from_ref(lemma))?;
     let mut text = Vec::new(alloc);
-    put_lemma(&mut text, &flat)?;
+    put_lemma(&mut text, &flat.at(0))?;
     Ok(text)
 }
 

@@ -2,8 +2,8 @@ ghost use Rattle.std.specs.Prelude.{◌≡◌, ◌<◌, ◌^◌, ◌∷◌, [], 
 ghost use Rattle.cert_tree.specs.Tree.{tree_of, IsNarrow};
 
 use crate::{
-    AssembleFault, CertTextFault, Certificate, Children, FlatTree, Head, Lemma, LemmaTextFault,
-    Node, Pairs, assemble, assembly_laws, certificate_laws, head_laws, lemma_laws,
+    AssembleFault, CertTextFault, Certificate, Children, FlatLemma, FlatTree, Head, Lemma,
+    LemmaTextFault, Node, Pairs, assemble, assembly_laws, certificate_laws, head_laws, lemma_laws,
     read_certificate, read_lemma, write_certificate, write_lemma,
 };
 use match_puzzle::{Pair, Placement};
@@ -103,8 +103,18 @@ fn writes_large_trees_that_were_read(rt: HostRuntime) -> Result<(), Fail> {
     Ok(())
 }
 
+// The lemma with this number, if there is one.
+fn lemma_at(certificate: &Certificate, number: usize) -> Option<FlatLemma<'_>> {
+    let lemmas = certificate.lemmas();
+    if number < lemmas.len() {
+        Some(lemmas.at(number))
+    } else {
+        None
+    }
+}
+
 // The second child of a branch of two.
-fn second_child(tree: &FlatTree) -> Option<Head> {
+fn second_child(tree: &FlatTree<'_>) -> Option<Head> {
     let mut trees = tree.trees();
     let children = match trees.next() {
         Head::Tile { children, .. } => children,
@@ -121,7 +131,7 @@ fn second_child(tree: &FlatTree) -> Option<Head> {
 fn skips_a_tree(rt: HostRuntime) -> Result<(), Fail> {
     if EACH_NODE.len() < 1000 {
         let certificate = read_certificate(rt.alloc(), EACH_NODE)?;
-        let lemma = certificate.lemmas().first().ok_or("no lemma")?;
+        let lemma = lemma_at(&certificate, 0).ok_or("no lemma")?;
         assert_eq!(rt; second_child(&lemma.tree), Some(Head::Same(999_999)));
     }
     head_laws();
@@ -539,10 +549,10 @@ fn assembles_lemmas(rt: HostRuntime) -> Result<(), Fail> {
     let certificate = assembled(rt.alloc(), 3, &[2, 0, 1])?;
     assert!(rt; certificate.symmetries().is_empty());
     for (number, place) in [(0, 1), (1, 2), (2, 0)] {
-        let lemma = certificate.lemmas().get(number).ok_or("missing")?;
+        let lemma = lemma_at(&certificate, number).ok_or("missing")?;
         assert!(rt; matches!(lemma.tree.trees().next(), Head::Found(found) if found == place));
     }
-    assert!(rt; assembled(rt.alloc(), 0, &[])?.lemmas().is_empty());
+    assert_eq!(rt; assembled(rt.alloc(), 0, &[])?.lemmas().len(), 0);
     Ok(())
 }
 

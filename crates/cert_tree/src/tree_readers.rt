@@ -1,15 +1,14 @@
 //! Trees are read, node by node in preorder.
 
-ghost use Rattle.std.specs.Prelude.{◌≡◌, ◌+◌, ◌<◌, ◌≤◌, ◌^◌, Err};
+ghost use Rattle.std.specs.Prelude.{◌≡◌, ◌+◌, ◌<◌, ◌≤◌, ◌^◌, ◌++◌, Err, OnOk, length, drop};
 ghost use Rattle.match_text.specs.Words.{Judges};
 ghost use Rattle.match_text.specs.Place.{Gives, Reads, times, word_by};
+ghost use Rattle.cert_tree.specs.Heads.{trees_in, first, AreOfTree};
 ghost use Rattle.cert_tree.specs.TreeText.{node_kind_in, tree_by};
 ghost use Rattle.cert_tree.specs.HeadReading.{most_of, rest_by, head_by, ReadsOnto, ReadAllOnto};
 
-use crate::flat_trees::FlatTree;
 use crate::heads::Head;
 use match_text::{ReadFault, Scan, TextFault, TextKind};
-use std::alloc::Global;
 
 // The kinds of node that have a letter.
 #[derive(Clone, Copy)]
@@ -134,20 +133,11 @@ fn nodes(scan: &mut Scan, heads: &mut Vec<Head>, room: u8, count: u32) -> Result
     Ok(())
 }
 
-/// A tree of up to so many levels, by a recursion that is no deeper than that.
-///
-/// Its heads are collected in `heads`, where they take the place of what was there, so that one vector serves one tree
-/// after the other.
-pub fn tree(
-    alloc: Global,
-    scan: &mut Scan,
-    heads: &mut Vec<Head>,
-    room: u8,
-) -> Result<FlatTree, ReadFault>
-    ensures { Reads (λ tree. tree) result scan.new (tree_by room scan.old) }
+/// A tree of up to so many levels, by a recursion that is no deeper than that. Its heads go behind these.
+pub fn tree(scan: &mut Scan, heads: &mut Vec<Head>, room: u8) -> Result<(), ReadFault>
+    ensures reads { Reads (λ _. first (trees_in (drop (length heads.old.items) heads.new.items))) result scan.new (tree_by room scan.old) }
+    ensures tree { OnOk result (AreOfTree (drop (length heads.old.items) heads.new.items)) }
+    ensures behind { OnOk result (heads.new.items ≡ heads.old.items ++ drop (length heads.old.items) heads.new.items) }
 {
-    heads.clear();
-    node(scan, heads, room)?;
-    let tree = FlatTree::taken(alloc, heads)?;
-    Ok(tree)
+    node(scan, heads, room)
 }

@@ -57,10 +57,15 @@ absent_is : (t : Bool) (i : ℕ) → cond t (Some i) None ≡ None → t ≡ fal
 absent_is true i e = absurd cc
 absent_is false i e = refl
 
+-- no byte is c, where none is found
+pub lacks_each : (c : ℕ) (bytes : List ℕ) → None ≡ position (λ b. eqb b c) bytes → (k : ℕ) → k < length bytes → eqb (get_or bytes k 0) c ≡ false
+lacks_each c bytes e k lt =
+    let past : length bytes ≤ position_or_len (λ b. eqb b c) bytes = ltb-false _ _ (absent_is _ _ (sym e)) in
+    fails_before_first (λ b. eqb b c) bytes k 0 (omega arith)
+
 pub cut_at-absent : (c : ℕ) (bytes : List ℕ) → None ≡ position (λ b. eqb b c) bytes → cut_at c bytes ≡ None
 cut_at-absent c bytes e =
-    let past : length bytes ≤ position_or_len (λ b. eqb b c) bytes = ltb-false _ _ (absent_is _ _ (sym e)) in
-    none_of c bytes (λ k lt. fails_before_first (λ b. eqb b c) bytes k 0 (omega arith))
+    none_of c bytes (lacks_each c bytes e)
 
 pub cut_at-found : (c : ℕ) (bytes : List ℕ) (i : ℕ) → Some i ≡ position (λ b. eqb b c) bytes → cut_at c bytes ≡ Some (take i bytes, drop (i + 1) bytes)
 cut_at-found c bytes i e =

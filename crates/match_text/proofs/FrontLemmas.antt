@@ -1,6 +1,9 @@
 -- What a line begins with: a word, or a number of one digit or two and a space.
-use Rattle.std.proofs.Common.{◌≡◌, ◌≢◌, ℕ, ◌+◌, ◌-◌, ◌*◌, ◌<◌, ◌≤◌, ◌||◌, Bool, true, false, not, eqb, ltb, List, [], ◌∷◌, ◌++◌, length, get_or, take, drop, Option, Some, None, Ok, refl, sym, ◌∙◌, append_assoc, arith}
+use Rattle.std.proofs.Common.{◌≡◌, ◌≢◌, ℕ, suc, ◌+◌, ◌-◌, ◌*◌, ◌<◌, ◌≤◌, ◌||◌, Bool, true, false, not, eqb, ltb, List, [], ◌∷◌, ◌++◌, length, get_or, position, take, drop, Option, Some, None, Ok, refl, sym, ◌∙◌, append_assoc, arith}
 use Rattle.std.specs.List.{onto_first}
+use Rattle.std.specs.Str.{bytes_eq}
+use Rattle.std.specs.Option.{is_some}
+use Rattle.std.proofs.lemmas.Slice.Eq.{bytes_eq-Decides}
 use Rattle.std.specs.Char.{is_ascii_digit, digit_value}
 use Rattle.std.specs.Str.Parse.{digits_value}
 use Rattle.std.proofs.lemmas.Bool.{eq-eqb, ne_eqb, lt-ltb, le-leb}
@@ -8,9 +11,9 @@ use Rattle.std.proofs.lemmas.Grind.{common_steps}
 use Rattle.std.proofs.lemmas.Str.{digit_value_digit}
 use Rattle.match_text.specs.declared.faults.TextKind.TheVariants.{Word}
 use Rattle.match_text.specs.Bytes.{cut_at, words_of}
-use Rattle.match_text.specs.Words.{is_number, number_in, placement_in}
+use Rattle.match_text.specs.Words.{is_number, fixed_in, number_in, placement_in}
 use Rattle.match_text.specs.Place.{Place, fail, end_of_line, some_word, word_by}
-use Rattle.match_text.proofs.BytesLemmas.{words_by, words_of-cut, words_of-is}
+use Rattle.match_text.proofs.BytesLemmas.{words_by, words_of-cut, words_of-is, lacks_each}
 use Rattle.match_text.proofs.WordLemmas.{both, has_no, number_lacks, cut_dot}
 use Rattle.match_puzzle.specs.declared.placements.Placement.{Placement}
 
@@ -103,6 +106,29 @@ words_after word others clean = words_of-is (word ++ 32 ∷ others) (Some (word,
 has_no-append : (c : ℕ) (a b : List ℕ) → has_no c a ≡ true → has_no c b ≡ true → has_no c (a ++ b) ≡ true
 has_no-append c [] b none others = others
 has_no-append c (x ∷ a) b none others = let parts = both (not (eqb x c)) (has_no c a) none in rw (parts.0, has_no-append c a b parts.1 others) refl
+
+has_none : (c : ℕ) (word : List ℕ) → ((k : ℕ) → k < length word → eqb (get_or word k 0) c ≡ false) → has_no c word ≡ true
+has_none c [] lacks = refl
+has_none c (b ∷ word) lacks = rw (lacks 0 (omega arith), has_none c word (λ k lt. lacks (suc k) (omega (arith, lt)))) refl
+
+pub none_found : (place : Option ℕ) → is_some place ≡ false → None ≡ place
+none_found None e = refl
+none_found (Some place) e = absurd cc
+
+pub word_front : (line after word : List ℕ) → line ≡ word ++ after → 1 ≤ length after → get_or after 0 0 ≡ 32 → None ≡ position (λ byte. eqb byte 32) word → words_of line ≡ word ∷ words_of (take (length after - 1) (drop 1 after))
+word_front line [] word is long space none = absurd (omega (arith, long))
+word_front line (b ∷ others) word is long space none =
+    let left = all_left others (length (b ∷ others) - 1) (omega arith) in
+    rw (left, is, space) (words_after word others (has_none 32 word (lacks_each 32 word none)))
+
+bytes_same : (bytes : List ℕ) → bytes_eq bytes bytes ≡ true
+bytes_same bytes = (bytes_eq-Decides bytes bytes).1 refl
+
+-- where reading goes on after a fixed word
+pub at_fixed_word : (wanted : List ℕ) (p : Place) (line others : List ℕ) → words_of line ≡ wanted ∷ words_of others → p.words ≡ words_of line
+    → word_by (fixed_in wanted) p ≡ Ok (tt, record { line = p.line; words = words_of others; ahead = p.ahead })
+unfolding word_by
+at_fixed_word wanted p line others front at = rw (at, front, bytes_same wanted) refl
 
 -- ---- a short number
 

@@ -9,8 +9,8 @@ ghost use Rattle.match_text.specs.Place.{Place, start, first_word, other_words, 
 
 use crate::faults::{TextFault, TextKind};
 use crate::words::{
-    colour_word, cut_line, fixed_word, front, number_word, pair_word, placement_word, rule_word,
-    short_number, short_placement, tile_word, version_word,
+    after_word, colour_word, cut_line, fixed_word, front, number_word, pair_word, placement_word,
+    rule_word, short_number, short_placement, tile_word, version_word,
 };
 use match_board::Tile;
 use match_puzzle::{Pair, Placement};
@@ -196,14 +196,32 @@ impl<'a> Scan<'a> {
         }
     }
 
-    /// This word.
+    // This word, whatever stands after it.
+    #[inline(never)]
     #[tactic(auto, unfolding(crate::specs::Place::word_by))]
-    pub fn word(&mut self, wanted: &[u8]) -> Result<(), TextFault>
+    fn any_word(&mut self, wanted: &[u8]) -> Result<(), TextFault>
         ensures gives { Gives (λ _. tt) result self.new (word_by (fixed_in wanted.now) self.old) }
         ensures err { OnErr result (self.new ≡ self.old) }
     {
         let word = self.next_word()?;
         self.accept(fixed_word(word, wanted))
+    }
+
+    /// This word.
+    #[inline]
+    #[tactic(auto, unfolding(crate::specs::Place::word_by))]
+    pub fn word(&mut self, wanted: &[u8]) -> Result<(), TextFault>
+        ensures gives { Gives (λ _. tt) result self.new (word_by (fixed_in wanted.now) self.old) }
+        ensures err { OnErr result (self.new ≡ self.old) }
+    {
+        // Nearly every wanted word stands there, with a further one after it.
+        if let Some(rest) = self.rest
+            && let Some(others) = after_word(rest, wanted)
+        {
+            self.rest = Some(others);
+            return Ok(());
+        }
+        self.any_word(wanted)
     }
 
     /// The version.

@@ -57,6 +57,18 @@ pub fn front(line: &[u8]) -> (&[u8], Option<&[u8]>)
     }
 }
 
+/// What stands after this word and the space that ends it; none, where the line begins with something
+/// else, or the word ends it.
+#[inline]
+pub fn after_word<'a>(line: &'a [u8], word: &[u8]) -> Option<&'a [u8]>
+    ensures { IfSome result (λ others. words_of line.now ≡ word.now ∷ words_of others.now) }
+{
+    match line.strip_prefix(word)? {
+        [b' ', others @ ..] if place_of(word, b' ').is_none() => Some(others),
+        _ => None,
+    }
+}
+
 /// The wanted word and no other.
 pub fn fixed_word(word: &[u8], wanted: &[u8]) -> Result<(), TextKind>
     ensures { Judges (λ _. tt) result (fixed_in wanted.now word.now) }

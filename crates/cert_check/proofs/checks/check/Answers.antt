@@ -1,13 +1,11 @@
-use Rattle.std.proofs.Common.{◌<◌, List, MatchBool, length, map, arith, ap, subst}
-use Rattle.std.proofs.lemmas.List.{length-map}
-use Rattle.cert_tree.specs.Certificate.{flat_piece}
-use Rattle.cert_tree.specs.declared.certificates.FlatLemma.{FlatLemma}
+use Rattle.std.proofs.Common.{◌<◌, List, MatchBool, length, arith, ap, subst}
+use Rattle.cert_tree.specs.Certificate.{Piece}
 use Rattle.cert_check.specs.Setting.{question_of, BeginWithPrefixes}
 use Rattle.cert_check.specs.Derivation.{HasRoot}
 use Rattle.cert_check.specs.Answer.{AreSymmetries}
 use Rattle.cert_check.specs.Lines.{LinesFail, IsFirstBadPrefix}
 use Rattle.cert_check.specs.Walk.{TellsOfListing, TellsOfTrees}
-use Rattle.cert_check.proofs.CheckLemmas.{first_listing, first_symmetry, first_prefix, first_bad_prefix, first_root, first_tree, have_prefixes, all_shown}
+use Rattle.cert_check.proofs.CheckLemmas.{first_listing, first_symmetry, first_prefix, first_root, first_tree, all_shown}
 use Rattle.cert_check.proofs.Soundness.{complete, all_covered}
 use Rattle.cert_check.proofs.checks.check.Goals as goal
 
@@ -33,16 +31,16 @@ returns-in-Some-prefixes_fault-clause-answer c =
     let symmetric = subst (AreSymmetries question.puzzle) c.symmetries.ensures.symmetries c.in-Ok.ensures.moves in
     let number = c.in-Some-prefixes_fault.number in
     let fault = c.in-Some-prefixes_fault.fault in
-    let is = subst (λ (ls : List FlatLemma). IsFirstBadPrefix question.puzzle ls number fault) c.lemmas.ensures.lemmas c.in-Some-prefixes_fault.ensures in
-    first_prefix question told.0 told.1 symmetric number fault (first_bad_prefix question.puzzle c.args.certificate.now.lemmas number fault is)
+    let is = subst (λ (ls : List Piece). IsFirstBadPrefix question.puzzle ls number fault) c.lemmas.ensures.lemmas c.in-Some-prefixes_fault.ensures in
+    first_prefix question told.0 told.1 symmetric number fault is
 
 pub returns-then-not-ends_at_a_root-clause-answer : goal.returns-then-not-ends_at_a_root-clause-answer
 returns-then-not-ends_at_a_root-clause-answer c =
     let question = question_of c.args.puzzle.now c.args.listed.now c.args.certificate.now in
     let told = subst (TellsOfListing question.puzzle question.listed) c.in_default.is c.in_ok-fault.ensures in
     let symmetric = subst (AreSymmetries question.puzzle) c.symmetries.ensures.symmetries c.in-Ok.ensures.moves in
-    let prefixes = have_prefixes question.puzzle question.listed c.args.certificate.now (subst (BeginWithPrefixes question.puzzle) c.lemmas.ensures.lemmas c.in_default-prefixes_fault.ensures) in
-    let none = subst (λ (ls : List FlatLemma). HasRoot (map flat_piece ls) → ⊥) c.lemmas-2.ensures.lemmas (subst (λ b. MatchBool b (HasRoot (map flat_piece c.lemmas-2.result.now)) (HasRoot (map flat_piece c.lemmas-2.result.now) → ⊥)) c.if-not-ends_at_a_root.true c.ends_at_a_root.ensures) in
+    let prefixes = (subst (BeginWithPrefixes question.puzzle) c.lemmas.ensures.lemmas c.in_default-prefixes_fault.ensures) in
+    let none = subst (λ (ls : List Piece). HasRoot ls → ⊥) c.lemmas-2.ensures.lemmas (subst (λ b. MatchBool b (HasRoot c.lemmas-2.result.now) (HasRoot c.lemmas-2.result.now → ⊥)) c.if-not-ends_at_a_root.true c.ends_at_a_root.ensures) in
     first_root question told.0 told.1 symmetric prefixes none
 
 pub returns-in-None-clause-answer : goal.returns-in-None-clause-answer
@@ -50,8 +48,8 @@ returns-in-None-clause-answer c =
     let question = question_of c.args.puzzle.now c.args.listed.now c.args.certificate.now in
     let told = subst (TellsOfListing question.puzzle question.listed) c.in_default.is c.in_ok-fault.ensures in
     let symmetric = subst (AreSymmetries question.puzzle) c.symmetries.ensures.symmetries c.in-Ok.ensures.moves in
-    let prefixes = have_prefixes question.puzzle question.listed c.args.certificate.now (subst (BeginWithPrefixes question.puzzle) c.lemmas.ensures.lemmas c.in_default-prefixes_fault.ensures) in
-    let root = subst (λ (ls : List FlatLemma). HasRoot (map flat_piece ls)) c.lemmas-2.ensures.lemmas (subst (λ b. MatchBool b (HasRoot (map flat_piece c.lemmas-2.result.now)) (HasRoot (map flat_piece c.lemmas-2.result.now) → ⊥)) c.if-not-ends_at_a_root.false c.ends_at_a_root.ensures) in
+    let prefixes = (subst (BeginWithPrefixes question.puzzle) c.lemmas.ensures.lemmas c.in_default-prefixes_fault.ensures) in
+    let root = subst (λ (ls : List Piece). HasRoot ls) c.lemmas-2.ensures.lemmas (subst (λ b. MatchBool b (HasRoot c.lemmas-2.result.now) (HasRoot c.lemmas-2.result.now → ⊥)) c.if-not-ends_at_a_root.false c.ends_at_a_root.ensures) in
     all_shown question told.0 told.1 symmetric prefixes root (subst (TellsOfTrees question) c.in-None.is c.in_ok-trees_fault.ensures.trees)
 
 pub returns-in-None-clause-complete : goal.returns-in-None-clause-complete
@@ -59,10 +57,10 @@ returns-in-None-clause-complete c = λ _.
     let question = question_of c.args.puzzle.now c.args.listed.now c.args.certificate.now in
     let told = subst (TellsOfListing question.puzzle question.listed) c.in_default.is c.in_ok-fault.ensures in
     let symmetric = subst (AreSymmetries question.puzzle) c.symmetries.ensures.symmetries c.in-Ok.ensures.moves in
-    let prefixes = have_prefixes question.puzzle question.listed c.args.certificate.now (subst (BeginWithPrefixes question.puzzle) c.lemmas.ensures.lemmas c.in_default-prefixes_fault.ensures) in
-    let root = subst (λ (ls : List FlatLemma). HasRoot (map flat_piece ls)) c.lemmas-2.ensures.lemmas (subst (λ b. MatchBool b (HasRoot (map flat_piece c.lemmas-2.result.now)) (HasRoot (map flat_piece c.lemmas-2.result.now) → ⊥)) c.if-not-ends_at_a_root.false c.ends_at_a_root.ensures) in
+    let prefixes = (subst (BeginWithPrefixes question.puzzle) c.lemmas.ensures.lemmas c.in_default-prefixes_fault.ensures) in
+    let root = subst (λ (ls : List Piece). HasRoot ls) c.lemmas-2.ensures.lemmas (subst (λ b. MatchBool b (HasRoot c.lemmas-2.result.now) (HasRoot c.lemmas-2.result.now → ⊥)) c.if-not-ends_at_a_root.false c.ends_at_a_root.ensures) in
     let shown = all_shown question told.0 told.1 symmetric prefixes root (subst (TellsOfTrees question) c.in-None.is c.in_ok-trees_fault.ensures.trees) in
-    let some : 0 < length c.args.certificate.now.lemmas = omega (arith, root.2, length-map c.args.certificate.now.lemmas flat_piece) in
+    let some : 0 < length c.args.certificate.now.lemmas = omega (arith, root.2) in
     complete question (c.in_ok-trees_fault.ensures.made some) shown
 
 pub returns-in-None-clause-covered : goal.returns-in-None-clause-covered
@@ -70,10 +68,10 @@ returns-in-None-clause-covered c = λ _.
     let question = question_of c.args.puzzle.now c.args.listed.now c.args.certificate.now in
     let told = subst (TellsOfListing question.puzzle question.listed) c.in_default.is c.in_ok-fault.ensures in
     let symmetric = subst (AreSymmetries question.puzzle) c.symmetries.ensures.symmetries c.in-Ok.ensures.moves in
-    let prefixes = have_prefixes question.puzzle question.listed c.args.certificate.now (subst (BeginWithPrefixes question.puzzle) c.lemmas.ensures.lemmas c.in_default-prefixes_fault.ensures) in
-    let root = subst (λ (ls : List FlatLemma). HasRoot (map flat_piece ls)) c.lemmas-2.ensures.lemmas (subst (λ b. MatchBool b (HasRoot (map flat_piece c.lemmas-2.result.now)) (HasRoot (map flat_piece c.lemmas-2.result.now) → ⊥)) c.if-not-ends_at_a_root.false c.ends_at_a_root.ensures) in
+    let prefixes = (subst (BeginWithPrefixes question.puzzle) c.lemmas.ensures.lemmas c.in_default-prefixes_fault.ensures) in
+    let root = subst (λ (ls : List Piece). HasRoot ls) c.lemmas-2.ensures.lemmas (subst (λ b. MatchBool b (HasRoot c.lemmas-2.result.now) (HasRoot c.lemmas-2.result.now → ⊥)) c.if-not-ends_at_a_root.false c.ends_at_a_root.ensures) in
     let shown = all_shown question told.0 told.1 symmetric prefixes root (subst (TellsOfTrees question) c.in-None.is c.in_ok-trees_fault.ensures.trees) in
-    let some : 0 < length c.args.certificate.now.lemmas = omega (arith, root.2, length-map c.args.certificate.now.lemmas flat_piece) in
+    let some : 0 < length c.args.certificate.now.lemmas = omega (arith, root.2) in
     all_covered question (c.in_ok-trees_fault.ensures.made some) shown
 
 pub returns-clause-answer : goal.returns-clause-answer
@@ -81,7 +79,7 @@ returns-clause-answer c =
     let question = question_of c.args.puzzle.now c.args.listed.now c.args.certificate.now in
     let told = subst (TellsOfListing question.puzzle question.listed) c.in_default.is c.in_ok-fault.ensures in
     let symmetric = subst (AreSymmetries question.puzzle) c.symmetries.ensures.symmetries c.in-Ok.ensures.moves in
-    let prefixes = have_prefixes question.puzzle question.listed c.args.certificate.now (subst (BeginWithPrefixes question.puzzle) c.lemmas.ensures.lemmas c.in_default-prefixes_fault.ensures) in
-    let root = subst (λ (ls : List FlatLemma). HasRoot (map flat_piece ls)) c.lemmas-2.ensures.lemmas (subst (λ b. MatchBool b (HasRoot (map flat_piece c.lemmas-2.result.now)) (HasRoot (map flat_piece c.lemmas-2.result.now) → ⊥)) c.if-not-ends_at_a_root.false c.ends_at_a_root.ensures) in
+    let prefixes = (subst (BeginWithPrefixes question.puzzle) c.lemmas.ensures.lemmas c.in_default-prefixes_fault.ensures) in
+    let root = subst (λ (ls : List Piece). HasRoot ls) c.lemmas-2.ensures.lemmas (subst (λ b. MatchBool b (HasRoot c.lemmas-2.result.now) (HasRoot c.lemmas-2.result.now → ⊥)) c.if-not-ends_at_a_root.false c.ends_at_a_root.ensures) in
     let is = subst (TellsOfTrees question) c.in-Some-2.is c.in_ok-trees_fault.ensures.trees in
     first_tree question told.0 told.1 symmetric prefixes root c.in-Some-2.number c.in-Some-2.fault is

@@ -1,6 +1,10 @@
-use Rattle.std.proofs.Common.{sym}
+use Rattle.std.proofs.Common.{◌≡◌, ◌-◌, Some, slice_get, refl, subst}
+use Rattle.cert_tree.specs.Certificate.{flat_piece}
 use Rattle.cert_check.proofs.PrefixLemmas.{tells_root}
 use Rattle.cert_check.proofs.prefixes.ends_at_a_root.Goals as goal
 
-pub returns-in-Some : goal.returns-in-Some
-returns-in-Some c = tells_root c.args.lemmas.now c.in-Some.root.now c.as_slice.result.now c.is_empty.result (sym c.in-Some.ensures.value) c.as_slice.ensures c.is_empty.ensures
+pub returns : goal.returns
+returns c =
+    let root = flat_piece c.at.result in
+    let last = subst (λ n. slice_get c.args.lemmas.now (n - 1) ≡ Some root) c.len-count.ensures c.at.ensures in
+    tells_root c.args.lemmas.now root c.at.result.prefix.now c.is_empty.result last refl c.is_empty.ensures

@@ -1,6 +1,6 @@
 use Rattle.std.proofs.Common.{refl, subst, arith}
 use Rattle.std.proofs.lemmas.Option.{slice_get_within}
-use Rattle.cert_tree.specs.Certificate.{number_of}
+use Rattle.cert_tree.specs.Spans.{number_of}
 use Rattle.cert_tree.specs.Assembly.{IsAssembly}
 use Rattle.cert_tree.proofs.NumberedLemmas.{numbered_assembly}
 use Rattle.cert_tree.proofs.assemblies.are_assembled.Goals as goal

@@ -1,41 +1,33 @@
-use Rattle.std.proofs.Common.{ℕ, List, ◌<◌, ◌^◌, length, arith, ◌≢◌, ◌≤◌, subst}
+use Rattle.std.proofs.Common.{ℕ, List, ◌<◌, ◌≤◌, ◌^◌, length, sym, subst, arith}
 use Rattle.std.specs.Prelude.{All}
 use Rattle.match_symmetry.specs.declared.lines.SymmetryLine.{SymmetryLine}
-use Rattle.cert_tree.specs.declared.certificates.FlatLemma.{FlatLemma}
-use Rattle.cert_tree.specs.Certificate.{number_of, IsNumbered}
-use Rattle.cert_tree.specs.Assembly.{how_often, IsAssembly, TellsLeast}
-use Rattle.cert_tree.proofs.AssemblyLemmas.{assembled_all, first_stranger, no_strangers}
+use Rattle.cert_tree.specs.Certificate.{Contents, Piece, IsNumbered, piece_number}
+use Rattle.cert_tree.specs.Assembly.{IsAssembly}
+use Rattle.cert_tree.proofs.AssemblyLemmas.{assembled_all}
+use Rattle.cert_tree.proofs.ReadingLemmas.{assembled_spans, assembled_lemmas}
 use Rattle.cert_tree.proofs.assemblies.assemble_flat.Goals as goal
-
-pub returns-in-Some-clause-fault : goal.returns-in-Some-clause-fault
-returns-in-Some-clause-fault c =
-    let least = subst (λ xs. TellsLeast (λ n. (c.args.count ≤ n) × (how_often number_of xs n ≢ 0)) c.least_stranger.result) c.deref-2.ensures.value c.least_stranger.ensures in
-    first_stranger c.args.count c.args.pieces.items c.in-Some.number (subst (TellsLeast (λ n. (c.args.count ≤ n) × (how_often number_of c.args.pieces.items n ≢ 0))) c.in-Some.is least)
-
-pub in_order-requires : goal.in_order-requires
-in_order-requires c =
-    let least = subst (λ xs. TellsLeast (λ n. (c.args.count ≤ n) × (how_often number_of xs n ≢ 0)) c.least_stranger.result) c.deref-2.ensures.value c.least_stranger.ensures in
-    no_strangers c.args.count c.args.pieces.items (subst (TellsLeast (λ n. (c.args.count ≤ n) × (how_often number_of c.args.pieces.items n ≢ 0))) c.in_default.is least)
+use Rattle.cert_tree.proofs.assemblies.assemble_flat.Goals.{After-of-lemmas}
 
 -- a certificate may be made of what was assembled
-numbered : (count : ℕ) (symmetries : List SymmetryLine) (pieces lemmas : List FlatLemma) → count ≤ 1000000 → length symmetries < 2 ^ 32 → All (λ piece. length piece.prefix < 2 ^ 32) pieces → IsAssembly number_of count pieces lemmas
+numbered : (count : ℕ) (symmetries : List SymmetryLine) (pieces lemmas : List Piece) → count ≤ 1000000 → length symmetries < 2 ^ 32 → All (λ piece. length piece.prefix < 2 ^ 32) pieces → IsAssembly piece_number count pieces lemmas
     → IsNumbered (record { symmetries = symmetries; lemmas = lemmas })
 numbered count symmetries pieces lemmas few few_symmetries prefixes is = record {
   numbered = λ number lemma at. (is.only number lemma at).number;
   few_lemmas = omega (arith, is.many, few);
   few_symmetries = few_symmetries;
-  prefixes = assembled_all (λ piece. length piece.prefix < 2 ^ 32) count pieces lemmas prefixes is;
+  prefixes = assembled_all piece_number (λ piece. length piece.prefix < 2 ^ 32) count pieces lemmas prefixes is;
 }
 
+pub of-lemmas-requires : goal.of-lemmas-requires
+of-lemmas-requires c =
+    assembled_spans c.apart-pairs.result.0.items c.apart-pairs.result.1.items c.args.count c.apart-pairs.result.2.items c.in_ok-spans.spans.items c.apart-pairs.ensures.spans c.in_ok-spans.ensures.ok
+
+assembled : (c : After-of-lemmas) → IsAssembly piece_number c.args.count c.args.pieces c.of-lemmas.result
+assembled c =
+    assembled_lemmas c.apart-pairs.result.0.items c.apart-pairs.result.1.items c.args.count c.apart-pairs.result.2.items c.in_ok-spans.spans.items c.args.pieces c.of-lemmas.result c.apart-pairs.ensures.lemmas c.of-lemmas.ensures c.in_ok-spans.ensures.ok
+
 pub of-requires : goal.of-requires
-of-requires c =
-    let is = subst (λ pieces. IsAssembly number_of c.args.count pieces pieces) c.deref.ensures.value (c.are_assembled.ensures.0 c.if-are_assembled.true) in
-    numbered c.args.count c.args.symmetries.items c.args.pieces.items c.args.pieces.items c.requires.count c.requires.symmetries c.requires.prefixes is
+of-requires c = numbered c.args.count c.args.symmetries.items c.args.pieces c.of-lemmas.result c.requires.count c.requires.symmetries c.requires.prefixes (assembled c)
 
-pub returns-then-are_assembled-clause-lemmas : goal.returns-then-are_assembled-clause-lemmas
-returns-then-are_assembled-clause-lemmas c =
-    rw c.of.ensures (subst (λ pieces. IsAssembly number_of c.args.count pieces pieces) c.deref.ensures.value (c.are_assembled.ensures.0 c.if-are_assembled.true))
-
-pub of-requires-2 : goal.of-requires-2
-of-requires-2 c =
-    numbered c.args.count c.args.symmetries.items c.args.pieces.items c.in_ok-lemmas.lemmas.items c.requires.count c.requires.symmetries c.requires.prefixes c.in_ok-lemmas.ensures.ok
+pub returns-clause-lemmas : goal.returns-clause-lemmas
+returns-clause-lemmas c = subst (λ (contents : Contents). IsAssembly piece_number c.args.count c.args.pieces contents.lemmas) (sym c.of.ensures) (assembled (goal.at.returns-clause-lemmas c).After-of-lemmas)

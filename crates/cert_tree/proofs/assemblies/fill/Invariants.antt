@@ -1,12 +1,12 @@
 use Rattle.std.proofs.Common.{◌≡◌, ◌++◌, List, length}
-use Rattle.cert_tree.specs.declared.certificates.FlatLemma.{FlatLemma}
+use Rattle.cert_tree.specs.declared.flat_lemmas.LemmaSpan.{LemmaSpan}
 use Rattle.cert_tree.specs.Slots.{IsEntered}
 use Rattle.cert_tree.proofs.assemblies.fill.Given as goal
 
 -- the pieces that were put into their places are the last ones
 abbrev pub invariant-loop-piece : goal.invariant-loop-piece
 invariant-loop-piece l =
-    (before : List FlatLemma) × (l.fn.pieces.items ≡ l.pieces.items ++ before) × (length l.slots.items ≡ length l.fn.slots.items) × IsEntered before l.slots.items l.double
+    (before : List LemmaSpan) × (l.fn.pieces.items ≡ l.pieces.items ++ before) × (length l.slots.items ≡ length l.fn.slots.items) × IsEntered before l.slots.items l.double
 
 abbrev pub decreases-loop-piece : goal.decreases-loop-piece
 decreases-loop-piece l = goal.left-loop-piece l

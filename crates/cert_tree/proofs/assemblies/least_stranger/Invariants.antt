@@ -1,5 +1,5 @@
 use Rattle.std.proofs.Common.{◌≢◌, ◌≤◌, take}
-use Rattle.cert_tree.specs.Certificate.{number_of}
+use Rattle.cert_tree.specs.Spans.{number_of}
 use Rattle.cert_tree.specs.Assembly.{how_often, TellsLeast}
 use Rattle.cert_tree.proofs.assemblies.least_stranger.Given as goal
 

@@ -1,14 +1,14 @@
 use Rattle.std.proofs.Common.{◌≡◌, true, false, Option, Some, None, refl, sym, ap, ◌∙◌}
 use Rattle.std.specs.Option.{is_some}
 use Rattle.std.proofs.lemmas.Option.{slice_get-get_or}
-use Rattle.cert_tree.specs.declared.certificates.FlatLemma.{FlatLemma}
+use Rattle.cert_tree.specs.declared.flat_lemmas.LemmaSpan.{LemmaSpan}
 use Rattle.cert_tree.proofs.assemblies.put.Goals as goal
 
-taken : (o : Option FlatLemma) → is_some o ≡ true → (lemma : FlatLemma) × (o ≡ Some lemma)
+taken : (o : Option LemmaSpan) → is_some o ≡ true → (lemma : LemmaSpan) × (o ≡ Some lemma)
 taken None e = absurd cc
 taken (Some lemma) e = (lemma, refl)
 
-free : (o : Option FlatLemma) → is_some o ≡ false → o ≡ None
+free : (o : Option LemmaSpan) → is_some o ≡ false → o ≡ None
 free None e = refl
 free (Some lemma) e = absurd cc
 

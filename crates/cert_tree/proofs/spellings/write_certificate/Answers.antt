@@ -7,7 +7,7 @@ use Rattle.cert_tree.proofs.spellings.write_certificate.Goals as goal
 
 pub returns-clause-spelling : goal.returns-clause-spelling
 returns-clause-spelling c =
-    rw (c.in_ok-put_end.ensures, c.in_ok-put_lemmas.ensures, c.in_ok-put_number_line-2.ensures, c.in_ok-put_symmetries.ensures, c.in_ok-put_number_line.ensures, c.in_ok-put_first.ensures, c.new-text.ensures.items, c.symmetries-symmetries.ensures.symmetries, c.lemmas-lemmas.ensures.lemmas) (sym (certificate_parts c.args.certificate.now))
+    rw (c.in_ok-put_end.ensures, c.in_ok-put_lemmas.ensures, c.in_ok-put_number_line-2.ensures, c.in_ok-put_symmetries.ensures, c.in_ok-put_number_line.ensures, c.in_ok-put_first.ensures, c.new-text.ensures.items, c.symmetries-symmetries.ensures.symmetries, c.len.ensures, c.lemmas-lemmas.ensures.lemmas) (sym (certificate_parts c.args.certificate.now))
 
 pub returns-clause-reads : goal.returns-clause-reads
 returns-clause-reads c =

@@ -1,10 +1,12 @@
-use Rattle.std.proofs.Common.{Ok, ap, sym, ◌∙◌}
 use Rattle.cert_tree.specs.TreeText.{tree_by}
-use Rattle.cert_tree.proofs.TreeReadingLemmas.{tree_alone}
+use Rattle.cert_tree.proofs.TreeReadingLemmas.{tree_reads, tree_whole, tree_behind}
 use Rattle.cert_tree.proofs.tree_readers.tree.Goals as goal
 
-pub taken-requires : goal.taken-requires
-taken-requires c = (tree_alone c.node.new.scan c.clear.new.self.items c.node.new.heads.items (tree_by c.args.room c.args.scan.now) c.clear.ensures.items c.in_ok-node.ensures).0
+pub returns-clause-reads : goal.returns-clause-reads
+returns-clause-reads c = tree_reads c.node.result c.node.new.scan c.args.heads.now.items c.node.new.heads.items (tree_by c.args.room c.args.scan.now) c.node.ensures
 
-pub returns : goal.returns
-returns c = (tree_alone c.node.new.scan c.clear.new.self.items c.node.new.heads.items (tree_by c.args.room c.args.scan.now) c.clear.ensures.items c.in_ok-node.ensures).1 ∙ ap (λ tree. Ok (tree, c.node.new.scan)) (sym c.in_ok-tree.ensures)
+pub returns-clause-tree : goal.returns-clause-tree
+returns-clause-tree c = tree_whole c.node.result c.node.new.scan c.args.heads.now.items c.node.new.heads.items (tree_by c.args.room c.args.scan.now) c.node.ensures
+
+pub returns-clause-behind : goal.returns-clause-behind
+returns-clause-behind c = tree_behind c.node.result c.node.new.scan c.args.heads.now.items c.node.new.heads.items (tree_by c.args.room c.args.scan.now) c.node.ensures

@@ -2,7 +2,6 @@ use Rattle.std.proofs.Common.{List, map, ap, sym, ◌∙◌, subst}
 use Rattle.std.proofs.lemmas.Result.{err_from_is_err_and}
 use Rattle.match_puzzle.specs.declared.placements.Placement.{Placement}
 use Rattle.match_text.specs.ListSpelling.{list_spelling, IsListWithin}
-use Rattle.cert_tree.specs.Certificate.{flat_piece}
 use Rattle.cert_check.specs.Setting.{question_of, line_of, AreOfPuzzle}
 use Rattle.cert_check.specs.Answer.{IsCompleteList}
 use Rattle.cert_check.specs.Lines.{LinesFail}
@@ -68,7 +67,7 @@ returns-clause-all c =
     let of = subst (AreOfPuzzle p) (sym c.deref-2.ensures.value) c.in-Ok.ensures.puzzle in
     let are = are_of p listed motions lines c.requires.puzzle complete same of in
     let all = c.in_ok-all.all.keys in
-    let ordered = all_in_order p listed motions lines c.requires.puzzle complete same of all (c.in_ok-all.ensures.reached p are) (map flat_piece c.args.question.now.certificate.lemmas) c.in_ok-all.ensures.expansion in (
+    let ordered = all_in_order p listed motions lines c.requires.puzzle complete same of all (c.in_ok-all.ensures.reached p are) c.args.question.now.certificate.lemmas c.in_ok-all.ensures.expansion in (
       all,
       subst (λ (l : List (List Placement)). AreAllInOrder (question_of p l c.args.question.now.certificate) all) c.deref.ensures.value ordered,
       c.in_ok-text.ensures.spelling ∙ ap list_spelling c.as_slice.ensures.keys,

@@ -1,6 +1,15 @@
+use Rattle.std.proofs.Common.{◌≡◌, subst}
+use Rattle.std.specs.Prelude.{IfOk}
 use Rattle.cert_tree.specs.Tree.{tree_of}
+use Rattle.cert_tree.specs.Certificate.{Piece, piece_of, flat_piece}
 use Rattle.cert_tree.proofs.TreeLimitLemmas.{narrow_within}
+use Rattle.cert_tree.proofs.SpanLemmas.{alone_at, alone_narrow}
 use Rattle.cert_tree.proofs.certificates.Lemma.copy.Goals as goal
 
-pub flat_lemma-requires : goal.flat_lemma-requires
-flat_lemma-requires c = narrow_within 101 (tree_of c.args.self.now.tree) c.requires.tree
+pub flat_lemmas-requires : goal.flat_lemmas-requires
+flat_lemmas-requires c = alone_narrow c.from_ref.result.now c.args.self.now c.from_ref.ensures.value (narrow_within 101 (tree_of c.args.self.now.tree) c.requires.tree)
+
+pub returns : goal.returns
+returns c =
+    let same = alone_at c.in_ok-flat.flat c.from_ref.result.now c.args.self.now (flat_piece c.at.result) c.in_ok-flat.ensures c.from_ref.ensures.value c.at.ensures in
+    subst (λ (piece : Piece). IfOk c.owned_lemma.result (λ copy. piece_of copy ≡ piece)) same c.owned_lemma.ensures

@@ -1,0 +1,111 @@
+-- Lemmas that lie among others, and stay where they are while more are put behind them.
+use Rattle.std.proofs.Common.{◌≡◌, ◌≤◌, ◌-◌, ◌++◌, ◌∷◌, ◌+◌, ℕ, zero, suc, List, [], Some, Contains, get_or, slice_get, length, take, drop, map, refl, sym, ap, subst, ◌∙◌, arith, ⊎_elim}
+use Rattle.std.specs.List.{slice_range}
+use Rattle.std.proofs.lemmas.List.{take-append-le, drop-append-le, length-append, length-drop, map-append, take_rest}
+use Rattle.std.proofs.lemmas.List.Elements.{Contains-push_cases}
+use Rattle.std.proofs.Math.Seq.{drop-append_seam}
+use Rattle.match_puzzle.specs.declared.placements.Pair.{Pair}
+use Rattle.cert_tree.specs.declared.heads.Head.{Head}
+use Rattle.cert_tree.specs.declared.flat_lemmas.LemmaSpan.{LemmaSpan}
+use Rattle.cert_tree.specs.Heads.{AreOfTree}
+use Rattle.std.specs.Prelude.{All}
+use Rattle.match_puzzle.proofs.Prefixes.{inside}
+use Rattle.cert_tree.specs.declared.certificates.Lemma.{Lemma}
+use Rattle.cert_tree.specs.Tree.{tree_of, IsNarrow}
+use Rattle.cert_tree.specs.Certificate.{Piece, piece_of}
+use Rattle.cert_tree.specs.Spans.{piece_in, IsSpan, AreSpans}
+
+-- ---- what stands behind other things
+
+-- These stand behind those.
+abbrev pub IsBehind : {X : Type 0} → (old new : List X) → Type 0
+IsBehind old new = new ≡ old ++ drop (length old) new
+
+pub behind_is : {X : Type 0} (old new more : List X) → new ≡ old ++ more → drop (length old) new ≡ more
+behind_is old new more is = ap (drop (length old)) is ∙ drop-append_seam old more
+
+pub is_behind : {X : Type 0} (old new more : List X) → new ≡ old ++ more → IsBehind old new
+is_behind old new more is = is ∙ ap (λ xs. old ++ xs) (sym (behind_is old new more is))
+
+pub length_behind : {X : Type 0} (old new : List X) → IsBehind old new → length old ≤ length new
+length_behind old new behind = let e = ap length behind ∙ length-append old (drop (length old) new) in omega (arith, e)
+
+-- a part of the old ones is the same part of the new ones
+pub same_part : {X : Type 0} (old new : List X) (start end : ℕ) → IsBehind old new → start ≤ end → end ≤ length old → slice_range new start end ≡ slice_range old start end
+same_part old new start end behind some within =
+    let more = drop (length old) new in
+    let long : end - start ≤ length (drop start old) = let e = length-drop start old in omega (arith, e, within, some) in
+    ap (λ xs. slice_range xs start end) behind ∙ ap (take (end - start)) (drop-append-le start old more (omega (arith, some, within))) ∙ take-append-le (end - start) (drop start old) more long
+
+-- the part up to the end
+pub last_part : {X : Type 0} (xs : List X) (start : ℕ) → slice_range xs start (length xs) ≡ drop start xs
+last_part xs start = take_rest xs start
+
+-- ---- lemmas
+
+module _ (pairs pairs' : List Pair) (heads heads' : List Head) (more_pairs : IsBehind pairs pairs') (more_heads : IsBehind heads heads') where
+  same_piece : (span : LemmaSpan) → IsSpan pairs heads span → piece_in pairs' heads' span ≡ piece_in pairs heads span
+  same_piece span is =
+      let prefix = same_part pairs pairs' span.pairs_start span.pairs_end more_pairs is.some_pairs is.within_pairs in
+      let tree = same_part heads heads' span.heads_start span.heads_end more_heads is.some_heads is.within_heads in
+      rw (prefix, tree) refl
+
+  still_span : (span : LemmaSpan) → IsSpan pairs heads span → IsSpan pairs' heads' span
+  still_span span is = record {
+    some_pairs = is.some_pairs;
+    within_pairs = let more = length_behind pairs pairs' more_pairs in let old = is.within_pairs in omega (arith, more, old);
+    some_heads = is.some_heads;
+    within_heads = let more = length_behind heads heads' more_heads in let old = is.within_heads in omega (arith, more, old);
+    tree = subst AreOfTree (sym (same_part heads heads' span.heads_start span.heads_end more_heads is.some_heads is.within_heads)) is.tree;
+  }
+
+  same_pieces : (spans : List LemmaSpan) → AreSpans pairs heads spans → map (piece_in pairs' heads') spans ≡ map (piece_in pairs heads) spans
+  same_pieces [] are = refl
+  same_pieces (span ∷ spans) are =
+      let one = same_piece span (are span (0, omega arith, refl)) in
+      let others = same_pieces spans (λ other at. are other (suc at.0, omega (arith, at.1), at.2)) in
+      ap (λ piece. piece ∷ map (piece_in pairs' heads') spans) one ∙ ap (λ pieces. piece_in pairs heads span ∷ pieces) others
+
+  -- one lemma more, behind the others
+  module _ (spans longer : List LemmaSpan) (span : LemmaSpan) (are : AreSpans pairs heads spans) (is : IsSpan pairs' heads' span) (pushed : longer ≡ spans ++ span ∷ []) where
+    pub more_spans : AreSpans pairs' heads' longer
+    more_spans other at =
+        ⊎_elim
+        (λ old. still_span other (are other old))
+        (λ e. subst (IsSpan pairs' heads') e is)
+        (Contains-push_cases spans span other (subst (λ (xs : List LemmaSpan). Contains xs other) pushed at))
+
+    pub more_pieces : map (piece_in pairs' heads') longer ≡ map (piece_in pairs heads) spans ++ piece_in pairs' heads' span ∷ []
+    more_pieces =
+        ap (map (piece_in pairs' heads')) pushed ∙ map-append (piece_in pairs' heads') spans (span ∷ [])
+        ∙ ap (λ pieces. pieces ++ piece_in pairs' heads' span ∷ []) (same_pieces spans are)
+
+-- ---- lemmas by number
+
+-- what is read at a place
+pub read_at : {X : Type 0} (xs : List X) (i : ℕ) (x : X) → slice_get xs i ≡ Some x → x ≡ get_or xs i x
+read_at [] i x at = absurd cc
+read_at (y ∷ xs) zero x at = sym (inside at)
+read_at (y ∷ xs) (suc i) x at = read_at xs i x at
+
+-- those from a place on are the one there, and the others
+pub from_place : {X : Type 0} (xs : List X) (i : ℕ) (x : X) → slice_get xs i ≡ Some x → drop i xs ≡ x ∷ drop (i + 1) xs
+from_place [] i x at = absurd cc
+from_place (y ∷ xs) zero x at = ap (λ z. z ∷ xs) (inside at)
+from_place (y ∷ xs) (suc i) x at = from_place xs i x at ∙ ap (λ n. x ∷ drop n (y ∷ xs)) (let e : suc (i + 1) ≡ suc i + 1 = omega arith in e)
+
+-- a lemma that was laid out alone
+pub alone_at : (flat : List Piece) (lemmas : List Lemma) (lemma : Lemma) (piece : Piece) → flat ≡ map piece_of lemmas → lemmas ≡ lemma ∷ [] → slice_get flat 0 ≡ Some piece → piece ≡ piece_of lemma
+alone_at flat lemmas lemma piece are one at =
+    let first : slice_get flat 0 ≡ Some (piece_of lemma) = ap (λ ps. slice_get ps 0) (are ∙ ap (map piece_of) one) in
+    inside (sym at ∙ first)
+
+pub alone_narrow : (lemmas : List Lemma) (lemma : Lemma) → lemmas ≡ lemma ∷ [] → IsNarrow (tree_of lemma.tree) → All (λ (l : Lemma). IsNarrow (tree_of l.tree)) lemmas
+alone_narrow lemmas lemma one narrow = subst (λ (ls : List Lemma). All (λ (l : Lemma). IsNarrow (tree_of l.tree)) ls) (sym one) each
+  where
+    each : All (λ (l : Lemma). IsNarrow (tree_of l.tree)) (lemma ∷ [])
+    each zero d lt = narrow
+    each (suc k) d lt = absurd (omega (arith, lt))
+
+pub no_spans : (pairs : List Pair) (heads : List Head) → AreSpans pairs heads []
+no_spans pairs heads span at = absurd (omega (arith, at.1))
