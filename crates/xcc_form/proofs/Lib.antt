@@ -1,0 +1,12 @@
+pub mod ListingMore
+pub mod EdgeLemmas
+pub mod ShownLemmas
+pub mod LayoutLemmas
+pub mod PairsLemmas
+pub mod ChoiceLemmas
+pub mod OptionLemmas
+pub mod FaultLemmas
+pub mod SolutionLemmas
+pub mod WholeLemmas
+pub mod ConversionLemmas
+pub mod CoverLemmas

@@ -1,0 +1,5 @@
+pub mod ExactCover
+pub mod Options
+pub mod Correspondence
+pub mod Laws
+pub mod Layout

@@ -1,0 +1,92 @@
+-- The exact cover of a puzzle: its primary items are the cells, then the tiles, its secondary items the shared edges.
+use Rattle.std.specs.Prelude.{◌≡◌, ◌⊎◌, ◌<◌, ◌+◌, ℕ, List, [], ◌∷◌, Some, length, map, slice_get}
+use Rattle.match_board.specs.Board.{Shape, cell_count, Meets}
+use Rattle.match_board.specs.Listing.{IsListing, ComesBefore, ByKey}
+use Rattle.match_puzzle.specs.Puzzle.{Task, IsPuzzle, IsLegal, HasRule, colour_of}
+use Rattle.match_puzzle.specs.Fitting.{tile_turn}
+use Rattle.match_puzzle.specs.declared.placements.Pair.{Pair}
+use Rattle.xcc_form.specs.ExactCover.{ItemSet, Cover, entry_count}
+use Rattle.xcc_form.specs.declared.edges.Edge.{Edge}
+use Rattle.xcc_form.specs.declared.edges.SharedEdge.{SharedEdge}
+
+-- the lesser (cell, side) of a shared edge
+abbrev pub least_place : SharedEdge → ℕ × ℕ
+least_place e = (e.cell, e.side)
+
+-- The two sides meet, and the lesser (cell, side) is named first.
+abbrev pub IsSharedEdge : Shape → SharedEdge → Type 0
+IsSharedEdge s e = Meets s e.cell e.side e.other_cell e.other_side × ComesBefore (e.cell, e.side) (e.other_cell, e.other_side)
+
+-- all shared edges of the board, by their lesser (cell, side)
+abbrev pub AreSharedEdges : Shape → List SharedEdge → Type 0
+AreSharedEdges s edges = IsListing (ByKey least_place) (IsSharedEdge s) edges
+
+-- The side of the cell is one of the two that meet there.
+abbrev pub IsSideOf : SharedEdge → (cell side : ℕ) → Type 0
+IsSideOf e cell side = ((e.cell ≡ cell) × (e.side ≡ side)) ⊎ ((e.other_cell ≡ cell) × (e.other_side ≡ side))
+
+-- a legal placement at a cell, which shows what the border asks there
+pub record IsOptionPair (p : Task) (x : Pair) : Type 0 where
+  pub cell : x.cell < cell_count p.board
+  pub legal : IsLegal p x.placement
+  pub border : (side colour : ℕ) → HasRule p x.cell side colour → colour_of p x.placement side ≡ colour
+
+-- by cell, then by tile, then by turn
+abbrev pub PairComesBefore : (x y : Pair) → Type 0
+PairComesBefore x y = (x.cell < y.cell) ⊎ ((x.cell ≡ y.cell) × ByKey tile_turn x.placement y.placement)
+
+-- how many primary items there are
+abbrev pub primary_count : Task → ℕ
+primary_count p = cell_count p.board + length p.words
+
+-- The item is that of a shared edge of the pair's cell, with the colour that the placement shows there.
+pub record IsShownEdge (p : Task) (shared : List SharedEdge) (x : Pair) (e : Edge) : Type 0 where
+  pub number : ℕ
+  pub edge : SharedEdge
+  pub side : ℕ
+  pub numbered : slice_get shared number ≡ Some edge
+  pub side_of : IsSideOf edge x.cell side
+  pub item : e.item ≡ primary_count p + number
+  pub colour : e.colour ≡ colour_of p x.placement side
+
+-- all shared edges of the pair's cell with the colours shown, by item
+abbrev pub AreShownEdges : Task → List SharedEdge → Pair → List Edge → Type 0
+AreShownEdges p shared x edges = IsListing (λ e f. e.item < f.item) (IsShownEdge p shared x) edges
+
+-- an option: its cell and its tile, as the pair, and its shared edges
+pub record Choice : Type 0 where
+  pub pair : Pair
+  pub edges : List Edge
+
+-- a puzzle with its shared edges and options, by number
+pub record Compiled : Type 0 where
+  pub puzzle : Task
+  pub shared : List SharedEdge
+  pub options : List Choice
+
+-- an option's cell and placement
+abbrev pub pair_of : Choice → Pair
+pair_of c = c.pair
+
+-- The options are those of the puzzle: one for each legal placement at each cell that shows what the border asks there.
+pub record IsCompiled (x : Compiled) : Type 0 where
+  pub puzzle : IsPuzzle x.puzzle
+  pub shared : AreSharedEdges x.puzzle.board x.shared
+  pub pairs : IsListing PairComesBefore (IsOptionPair x.puzzle) (map pair_of x.options)
+  pub edges : (option : ℕ) (c : Choice) → slice_get x.options option ≡ Some c → AreShownEdges x.puzzle x.shared c.pair c.edges
+
+-- an option as the items that it has, where there are so many cells
+abbrev pub items_of : ℕ → Choice → ItemSet
+items_of cells c = record { primary = c.pair.cell ∷ (cells + c.pair.placement.tile) ∷ []; coloured = c.edges }
+
+-- the exact cover
+abbrev pub cover_of : Compiled → Cover
+cover_of x = record { primaries = primary_count x.puzzle; secondaries = length x.shared; options = map (items_of (cell_count x.puzzle.board)) x.options }
+
+-- how many items its options have
+abbrev pub entries_of : Compiled → ℕ
+entries_of x = entry_count (cover_of x).options
+
+-- The options of the puzzle have over 200,000 items.
+abbrev pub HasTooManyEntries : Task → Type 0
+HasTooManyEntries p = (x : Compiled) × (x.puzzle ≡ p) × IsCompiled x × (200000 < entries_of x)

@@ -1,0 +1,94 @@
+//! The shared edges of a board, which are the secondary items of its puzzles.
+
+ghost use Rattle.std.specs.Prelude.{◌≡◌, ◌<◌, ◌≤◌, ◌+◌, ◌*◌, ℕ, IfOk, MatchOption, length};
+ghost use Rattle.match_board.specs.Board.{cell_count, side_count};
+ghost use Rattle.match_board.specs.Listing.{IsListing, ByKey, HoldsBefore};
+ghost use Rattle.match_puzzle.specs.Puzzle.{IsPuzzle};
+ghost use Rattle.xcc_form.specs.Options.{IsSharedEdge, AreSharedEdges, IsSideOf, least_place};
+
+use match_puzzle::Puzzle;
+use std::alloc::{AllocError, Global};
+
+/// A secondary item of an option, with the colour that it has there.
+#[derive(Clone, Copy, PartialEq, Eq, Debug)]
+pub struct Edge {
+    /// The number of the item: secondary items follow the primary ones.
+    pub item: u32,
+    /// The colour, from 0 to 35.
+    pub colour: u8,
+}
+
+/// Two sides that meet: the lesser (cell, side), and the other.
+#[derive(Clone, Copy, PartialEq, Eq, Debug)]
+pub(crate) struct SharedEdge {
+    pub(crate) cell: u16,
+    pub(crate) side: u8,
+    pub(crate) other_cell: u16,
+    pub(crate) other_side: u8,
+}
+
+impl SharedEdge {
+    /// The side of the cell that this edge is, if it is one.
+    pub(crate) fn side_at(self, cell: u16) -> Option<u8>
+        ensures { MatchOption result
+            ((side : ℕ) → IsSideOf self cell side → ⊥)
+            (IsSideOf self cell) }
+    {
+        if self.cell == cell {
+            Some(self.side)
+        } else if self.other_cell == cell {
+            Some(self.other_side)
+        } else {
+            None
+        }
+    }
+}
+
+/// The shared edges of a puzzle's board, by their lesser (cell, side).
+pub(crate) fn shared_edges(alloc: Global, puzzle: &Puzzle) -> Result<Vec<SharedEdge>, AllocError>
+    ensures edges { IfOk result (λ v. AreSharedEdges puzzle.now.board v.items) }
+    ensures few { IfOk result (λ v. length v.items ≤ 400) }
+{
+    let mut edges = Vec::new(alloc);
+    for cell in 0..puzzle.board().cells() {
+        add_edges_of(&mut edges, puzzle, cell)?;
+    }
+    Ok(edges)
+}
+
+// Adds the shared edges whose lesser (cell, side) is of this cell.
+fn add_edges_of(edges: &mut Vec<SharedEdge>, puzzle: &Puzzle, cell: u16) -> Result<(), AllocError>
+    requires cell { cell < cell_count puzzle.now.board }
+    requires before { IsListing (ByKey least_place) (HoldsBefore least_place (IsSharedEdge puzzle.now.board) (cell, 0)) edges.old.items }
+    ensures edges { IfOk result (λ _. IsListing (ByKey least_place) (HoldsBefore least_place (IsSharedEdge puzzle.now.board) (cell + 1, 0)) edges.new.items) }
+    ensures few { IfOk result (λ _. length edges.new.items ≤ length edges.old.items + 4) }
+{
+    for side in 0..puzzle.board().sides() {
+        if let Some(edge) = edge_from(puzzle, cell, side) {
+            edges.push(edge)?;
+        }
+    }
+    Ok(())
+}
+
+// The shared edge whose lesser (cell, side) this is, if there is one.
+fn edge_from(puzzle: &Puzzle, cell: u16, side: u8) -> Option<SharedEdge>
+    requires cell { cell < cell_count puzzle.now.board }
+    requires side { side < side_count puzzle.now.board }
+    ensures { MatchOption result
+        ((e : SharedEdge) → IsSharedEdge puzzle.now.board e → e.cell ≡ cell → e.side ≡ side → ⊥)
+        (λ e. IsSharedEdge puzzle.now.board e × (e.cell ≡ cell) × (e.side ≡ side)
+        × ((f : SharedEdge) → IsSharedEdge puzzle.now.board f → f.cell ≡ cell → f.side ≡ side → f ≡ e)) }
+{
+    let (other_cell, other_side) = puzzle.meets(cell, side)?;
+    if cell < other_cell {
+        Some(SharedEdge {
+            cell,
+            side,
+            other_cell,
+            other_side,
+        })
+    } else {
+        None
+    }
+}

@@ -1,0 +1,16 @@
+//! Puzzles compiled to exact covers with colours (Knuth, TAOCP 4B, 7.2.2.1).
+#![tactic(auto)]
+
+mod arrangements;
+mod edges;
+mod faults;
+mod laws;
+mod lists;
+#[cfg(test)]
+mod tests;
+mod xccs;
+
+pub use edges::Edge;
+pub use faults::{CompileFault, FormFault};
+pub use laws::{compiled_in_one_way, options_are_sets, solutions_are_arrangements};
+pub use xccs::{MOST_ENTRIES, Xcc, compile};

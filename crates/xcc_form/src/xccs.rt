@@ -1,0 +1,132 @@
+//! Compiled puzzles.
+
+ghost use Rattle.std.specs.Prelude.{◌≡◌, ◌<◌, ◌≤◌, ℕ, IfOk, IsErrOf, Some, length, slice_get};
+ghost use Rattle.match_board.specs.Board.{cell_count};
+ghost use Rattle.match_puzzle.specs.Puzzle.{IsPuzzle};
+ghost use Rattle.xcc_form.specs.Options.{IsCompiled, HasTooManyEntries, Choice, entries_of, primary_count};
+ghost use Rattle.xcc_form.specs.Correspondence.{IsPairOf};
+
+use crate::edges::{Edge, SharedEdge, shared_edges};
+use crate::faults::CompileFault;
+use crate::lists::OptionLists;
+use match_puzzle::{Pair, Puzzle};
+use std::alloc::Global;
+use std::marker::Model;
+
+/// The most items that the options of a compiled puzzle have together.
+pub const MOST_ENTRIES: usize = 200_000;
+
+/// A puzzle as an exact cover with colours (Knuth, TAOCP 4B, 7.2.2.1). It borrows the puzzle that it was compiled from.
+///
+/// Items are numbered from 0. The primary ones are the cells, then the tiles; the secondary ones, after them, are the
+/// shared edges, by their lesser (cell, side). There is one option for each cell and legal placement that shows there
+/// what the border asks; they are numbered from 0 by cell, then by tile, then by turn. An option has its cell, its
+/// tile, and each shared edge of the cell with the colour that the placement shows on that side.
+#[derive(Drop)]
+pub struct Xcc<'a> {
+    puzzle: &'a Puzzle,
+    shared: Vec<SharedEdge>,
+    options: OptionLists,
+}
+
+impl<'a> Model for Xcc<'a> {
+    ghost use Rattle.xcc_form.specs.Options.{Compiled};
+    ghost use Rattle.xcc_form.specs.Layout.{choices_from, IsKept};
+
+    ghost Value = { Compiled };
+
+    ghost view = { λ x. record { puzzle = x.puzzle.now; shared = x.shared.items; options = choices_from 0 x.options.pairs.items x.options.starts.items x.options.edges.items } };
+
+    ghost invariant = { λ x. IsKept x.puzzle.now x.shared.items x.options.pairs.items x.options.starts.items x.options.edges.items };
+}
+
+/// The puzzle as an exact cover with colours.
+///
+/// `TooMany` where the options have over 200,000 items together, and `Memory` where a vector cannot grow before that
+/// is known.
+pub fn compile(alloc: Global, puzzle: &Puzzle) -> Result<Xcc<'_>, CompileFault>
+    ensures puzzle { IfOk result (λ x. x.puzzle ≡ puzzle.now) }
+    ensures compiled { IfOk result IsCompiled }
+    ensures few { IfOk result (λ x. entries_of x ≤ 200000) }
+    ensures too_many { IsErrOf result CompileFault.TooMany → HasTooManyEntries puzzle.now }
+{
+    let shared = shared_edges(alloc, puzzle)?;
+    let options = OptionLists::new(alloc, puzzle, &shared)?;
+    if 2 * options.pairs.len() + options.edges.len() > MOST_ENTRIES {
+        return Err(CompileFault::TooMany);
+    }
+    Ok(Xcc {
+        puzzle,
+        shared,
+        options,
+    })
+}
+
+impl<'a> Xcc<'a> {
+    /// The puzzle that it was compiled from.
+    pub fn puzzle(&self) -> &'a Puzzle
+        ensures value { result.now ≡ self.now.puzzle }
+        ensures compiled { IsCompiled self.now }
+    {
+        self.puzzle
+    }
+
+    /// How many cells there are: they are the first items.
+    pub fn cells(&self) -> u16
+        ensures count { result ≡ cell_count self.now.puzzle.board }
+        ensures most { result ≤ 100 }
+        ensures puzzle { IsPuzzle self.now.puzzle }
+    {
+        self.puzzle.board().cells()
+    }
+
+    /// How many primary items there are: cells and tiles, at most 200.
+    pub fn primaries(&self) -> u32
+        ensures count { result ≡ primary_count self.now.puzzle }
+        ensures few { result ≤ 200 }
+    {
+        2 * u32::from(self.cells())
+    }
+
+    /// How many secondary items there are: shared edges, at most 400.
+    pub fn secondaries(&self) -> u32
+        ensures count { result ≡ length self.now.shared }
+        ensures few { result ≤ 400 }
+    {
+        self.shared.len() as u32
+    }
+
+    /// How many options there are, at most 100,000.
+    pub fn options(&self) -> u32
+        ensures count { result ≡ length self.now.options }
+        ensures few { result ≤ 100000 }
+    {
+        self.options.pairs.len() as u32
+    }
+
+    /// How many items all options have together, at most 200,000.
+    pub fn entries(&self) -> u32
+        ensures count { result ≡ entries_of self.now }
+        ensures few { result ≤ 200000 }
+    {
+        (2 * self.options.pairs.len() + self.options.edges.len()) as u32
+    }
+
+    /// The cell and the placement of an option.
+    pub fn pair(&self, option: u32) -> Pair
+        requires { option < length self.now.options }
+        ensures { IsPairOf self.now option result }
+    {
+        self.options.pairs[option as usize]
+    }
+
+    /// The secondary items of an option with their colours, by item.
+    pub fn edges(&self, option: u32) -> &[Edge]
+        requires { option < length self.now.options }
+        ensures { (c : Choice) × (slice_get self.now.options option ≡ Some c) × (c.edges ≡ result.now) }
+    {
+        let starts = &self.options.starts;
+        let option = option as usize;
+        &self.options.edges[starts[option] as usize..starts[option + 1] as usize]
+    }
+}
