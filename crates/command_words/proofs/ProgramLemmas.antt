@@ -1,12 +1,16 @@
 -- What the program's commands have, where they take words.
-use Rattle.std.proofs.Common.{◌≡◌, ◌≢◌, ◌∙◌, ◌&&◌, ◌||◌, ◌⊎◌, ℕ, Bool, true, false, not, cond, List, [], ◌∷◌, Option, Some, None, refl, sym, ap, ap₂, subst, codes, arith, inl, inr, is_some, option_map}
-use Rattle.std.specs.Prelude.{fold, find, slice_index, slice_index_or}
-use Rattle.std.specs.List.{AllByRecursion}
+use Rattle.std.proofs.Common.{◌≡◌, ◌≢◌, ◌∙◌, ◌&&◌, ◌||◌, ℕ, Bool, true, false, not, cond, List, [], ◌∷◌, Option, Some, None, refl, sym, ap, ap₂, subst, codes, is_some, option_map}
+use Rattle.std.specs.Prelude.{fold, find, nat_lt, slice_index_or, unwrap_or}
+use Rattle.std.specs.List.{AllByRecursion, list_all}
 use Rattle.std.specs.Option.{option_map_or}
 use Rattle.std.specs.Str.{bytes_eq}
 use Rattle.std.proofs.lemmas.Slice.Eq.{bytes_eq-Decides}
+use Rattle.clap.specs.Facts.{parser_of_value, unwrap_or_range}
+use Rattle.clap.specs.ValueTests.{accepts}
+use Rattle.clap.specs.Words.{IsUnsignedIn}
+use Rattle.clap.specs.declared.builder.value_parser.ValueParser.{ValueParser}
 use Rattle.clap.specs.Lexer.{long_of, short_of}
-use Rattle.clap.specs.Walk.{Held, Names, Outcome, Row, Rule, Step, Text, Waiting, Walk, after_flag, after_step, answers_to, arg_by_index, bundle, arg_by_long, done, first_of, idle, long_met, long_or_other, next, nothing_held, option, plain, plain_word, positional, refused, rows_after, short_or_plain, subcommand, subcommand_met, subcommand_or_other, to_positional, trailing, value, waits, walk, walk_from, walked, walked_from, word_met}
+use Rattle.clap.specs.Walk.{Held, Names, Outcome, Row, Rule, Step, Text, Waiting, Walk, action_of, after_flag, after_step, answers_to, arg_by_id, arg_by_index, bundle, arg_by_long, done, first_of, idle, long_met, long_or_other, next, nothing_held, option, plain, plain_word, positional, refused, rows_after, short_or_plain, subcommand, subcommand_met, subcommand_or_other, to_positional, trailing, value, waits, walk, walk_from, walked, walked_from, word_met}
 use Rattle.clap.specs.Simple.{App, HasMatchesOf, Shape, app_of, built, entered, is_simple, label_of, names_of, new_rule, new_shape, rows_at, subcommand_of, subcommand_rows}
 use Rattle.clap.specs.Faults.{entered_fault, fault_of, is_simple_and_free, level_fault, other_fault, step_fault, turn_fault, walk_fault, word_fault}
 use Rattle.clap.specs.Takes.{value_passes}
@@ -22,13 +26,16 @@ use Rattle.clap.specs.declared.error.kind.ErrorKind.TheVariants as kinds
 use Rattle.clap.proofs.OnLiterals.{clap_on_literals}
 use Rattle.clap.proofs.ValueTestLemmas.{accepts-Accepts}
 use Rattle.command_words.specs.Commands.{whole_app}
-use Rattle.command_words.specs.Orders.{HasFiles, HasNumber, IsFaultOf}
+use Rattle.command_words.specs.Orders.{HasFiles, HasNumber, HasText, IsFaultOf}
 use Rattle.command_words.specs.declared.faults.WordsFault.{WordsFault}
 use Rattle.command_words.specs.declared.faults.WordsFault.TheVariants.{Words, Memory}
-use Rattle.command_words.proofs.FaultlessWalk.{IsValued, found_has, none_of_both, required_given}
+use Rattle.command_words.proofs.FaultlessWalk.{IsValued, found_has, none_of_both, puts_values, required_given}
 
 pub some_is : {A : Type 0} {x y : A} → Some x ≡ Some y → x ≡ y
 some_is e = cc
+
+pub none_is_some : {A : Type 0} {x : A} → None ≡ Some x → ⊥
+none_is_some e = absurd cc
 
 -- ---- where the walk stops
 
@@ -118,93 +125,159 @@ module _ (s : Shape) (helps : s.disable_help_subcommand ≡ false) (names : Name
       let parts = none_of_both (turn_fault s names w word) _ e in
       walk_stops (walked s.rules names w word) words parts.1 (turn_stops w word parts.0 stops)
 
+-- ---- what is found by a name
+
+-- the things have different names
+abbrev pub names_differ : {X : Type 0} → (X → Text) → List X → Bool
+names_differ name [] = true
+names_differ name (x ∷ xs) = list_all (λ y. not (bytes_eq (name x) (name y))) xs && names_differ name xs
+
+abbrev named : {X : Type 0} → (X → Text) → List X → Text → Option X
+named name xs id = find (λ x. bytes_eq (name x) id) xs
+
+both_true : (a b : Bool) → (a && b) ≡ true → (a ≡ true) × (b ≡ true)
+both_true true b e = (refl, e)
+both_true false b e = absurd cc
+
+same_text : (t : Text) → bytes_eq t t ≡ true
+same_text t = (bytes_eq-Decides t t).1 refl
+
+found_behind : {X : Type 0} (name : X → Text) (x : X) (xs ys : List X) → list_all (λ y. not (bytes_eq (name x) (name y))) ys ≡ true
+    → AllByRecursion (λ y. named name xs (name y) ≡ Some y) ys → AllByRecursion (λ y. named name (x ∷ xs) (name y) ≡ Some y) ys
+found_behind name x xs [] differ found = tt
+found_behind name x xs (y ∷ ys) differ found =
+    let parts = both_true (not (bytes_eq (name x) (name y))) _ differ in
+    (go (bytes_eq (name x) (name y)) parts.0, found_behind name x xs ys parts.1 found.1)
+  where
+    go : (b : Bool) → not b ≡ true → cond b (Some x) (named name xs (name y)) ≡ Some y
+    go true e = absurd cc
+    go false e = found.0
+
+-- things of different names are found by their names
+each_found : {X : Type 0} (name : X → Text) (xs : List X) → names_differ name xs ≡ true → AllByRecursion (λ x. named name xs (name x) ≡ Some x) xs
+each_found name [] differ = tt
+each_found name (x ∷ xs) differ =
+    let parts = both_true (list_all (λ y. not (bytes_eq (name x) (name y))) xs) _ differ in
+    (rw (same_text (name x)) refl, found_behind name x xs xs parts.0 (each_found name xs parts.1))
+
+found_passes : {X : Type 0} (test : X → Bool) (xs : List X) (x : X) → find test xs ≡ Some x → test x ≡ true
+found_passes test [] x e = absurd cc
+found_passes test (y ∷ ys) x e = go (test y) refl (found_passes test ys x) e
+  where
+    go : (b : Bool) → test y ≡ b → (find test ys ≡ Some x → test x ≡ true) → cond b (Some y) (find test ys) ≡ Some x → test x ≡ true
+    go true is later e = subst (λ z. test z ≡ true) (some_is e) is
+    go false is later e = later e
+
 -- ---- the commands
 
--- what a command that takes its words has
-abbrev pub HasOwn : Text → List Row → Type 0
-HasOwn name rows = ((name ≡ codes "check") × HasFiles rows)
-    ⊎ ((name ≡ codes "expand") × HasFiles rows)
-    ⊎ ((name ≡ codes "tiles") × HasNumber (codes "SIDES") 3 4 rows × HasNumber (codes "COLOURS") 1 36 rows)
+-- a use of the argument puts values in
+abbrev takes_a_value : Rule → Bool
+takes_a_value a = puts_values (action_of a) (nat_lt 0 (unwrap_or_range a.range).start_inclusive)
 
-abbrev HasOwnWhere : Shape → Type 0
-HasOwnWhere s = (word : Text) → answers_to word (label_of s) ≡ true → bytes_eq word (codes "help") ≡ false
-    → (words : List Text) → level_fault s [] nothing_held words false [] ≡ [] → HasOwn s.name (rows_after s.rules [] words)
+-- the command's arguments have different names and take values
+abbrev is_ready : Shape → Bool
+is_ready s = names_differ (λ a. a.id) s.rules && (list_all takes_a_value s.rules && not s.subcommand_negates_reqs)
 
-abbrev command_at : ℕ → Shape
-command_at n = slice_index_or (built whole_app).subs n (new_shape [])
+abbrev is_none : List Text → Bool
+is_none [] = true
+is_none (alias ∷ aliases) = false
 
-check_valued : AllByRecursion (IsValued (command_at 0).rules) (command_at 0).rules
-check_valued = (record { own = refl; puts = refl }, (record { own = refl; puts = refl }, (record { own = refl; puts = refl }, (record { own = refl; puts = refl }, tt))))
+-- the command has one name alone, and is ready unless that is `help`
+abbrev is_usual : Shape → Bool
+is_usual s = is_none s.aliases && (bytes_eq s.name (codes "help") || is_ready s)
 
-expand_valued : AllByRecursion (IsValued (command_at 1).rules) (command_at 1).rules
-expand_valued = (record { own = refl; puts = refl }, (record { own = refl; puts = refl }, (record { own = refl; puts = refl }, (record { own = refl; puts = refl }, tt))))
+all_valued : (c rules : List Rule) → AllByRecursion (λ a. arg_by_id c a.id ≡ Some a) rules → list_all takes_a_value rules ≡ true → AllByRecursion (IsValued c) rules
+all_valued c [] own puts = tt
+all_valued c (a ∷ rules) own puts = let parts = both_true _ _ puts in (record { own = own.0; puts = parts.0 }, all_valued c rules own.1 parts.1)
 
-tiles_valued : AllByRecursion (IsValued (command_at 2).rules) (command_at 2).rules
-tiles_valued = (record { own = refl; puts = refl }, (record { own = refl; puts = refl }, (record { own = refl; puts = refl }, tt)))
+-- Each word that a command needs has a value, which passes its parser.
+abbrev pub HasNeeded : Shape → List Row → Type 0
+HasNeeded s rows = (a : Rule) → arg_by_id s.rules a.id ≡ Some a → a.required ≡ true → (text : Text) × (first_of a.id rows ≡ Some text) × (value_passes a text ≡ true)
 
-abbrev rule_at : Shape → ℕ → Rule
-rule_at s n = slice_index_or s.rules n (new_rule [])
+-- the command of this name
+abbrev pub command_named : Text → Option Shape
+command_named name = named (λ s. s.name) (built whole_app).subs name
 
--- a required argument of a command that takes its words
-abbrev Given : Shape → List Text → Text → Rule → Type 0
-Given s words id a = (text : Text) × (first_of id (rows_after s.rules [] words) ≡ Some text) × (value_passes a text ≡ true)
+-- The program has a command of this name other than `help`, and its matches have what it needs.
+pub record IsEntered (name : Text) (rows : List Row) : Type 0 where
+  pub shape : Shape
+  pub is_named : command_named name ≡ Some shape
+  pub no_help : name ≢ codes "help"
+  pub needed : HasNeeded shape rows
 
-check_has : HasOwnWhere (command_at 0)
-check_has word answers elsewhere words e =
-    let s = command_at 0 in
-    let puzzle : Given s words (codes "PUZZLE") (rule_at s 0) = required_given s check_valued refl words e (rule_at s 0) refl refl in
-    let list : Given s words (codes "LIST") (rule_at s 1) = required_given s check_valued refl words e (rule_at s 1) refl refl in
-    let certificate : Given s words (codes "CERTIFICATE") (rule_at s 2) = required_given s check_valued refl words e (rule_at s 2) refl refl in
-    inl (refl, ((puzzle.0, puzzle.1), (list.0, list.1), (certificate.0, certificate.1)))
+-- a command that takes its words is entered
+abbrev IsEnteredWhere : Shape → Type 0
+IsEnteredWhere s = (word : Text) → answers_to word (label_of s) ≡ true → bytes_eq word (codes "help") ≡ false
+    → (words : List Text) → level_fault s [] nothing_held words false [] ≡ [] → IsEntered s.name (rows_after s.rules [] words)
 
-expand_has : HasOwnWhere (command_at 1)
-expand_has word answers elsewhere words e =
-    let s = command_at 1 in
-    let puzzle : Given s words (codes "PUZZLE") (rule_at s 0) = required_given s expand_valued refl words e (rule_at s 0) refl refl in
-    let list : Given s words (codes "LIST") (rule_at s 1) = required_given s expand_valued refl words e (rule_at s 1) refl refl in
-    let certificate : Given s words (codes "CERTIFICATE") (rule_at s 2) = required_given s expand_valued refl words e (rule_at s 2) refl refl in
-    inr (inl (refl, ((puzzle.0, puzzle.1), (list.0, list.1), (certificate.0, certificate.1))))
+true_is_false : true ≡ false → ⊥
+true_is_false e = absurd cc
 
-tiles_has : HasOwnWhere (command_at 2)
-tiles_has word answers elsewhere words e =
-    let s = command_at 2 in
-    let sides : Given s words (codes "SIDES") (rule_at s 0) = required_given s tiles_valued refl words e (rule_at s 0) refl refl in
-    let colours : Given s words (codes "COLOURS") (rule_at s 1) = required_given s tiles_valued refl words e (rule_at s 1) refl refl in
-    inr (inr (
-      refl,
-      (sides.0, sides.1, accepts-Accepts false (parsers.Unsigned 3 4) sides.0 sides.2),
-      (colours.0, colours.1, accepts-Accepts false (parsers.Unsigned 1 36) colours.0 colours.2),
-    ))
+strict : (b : Bool) → not b ≡ true → b ≡ false
+strict true e = absurd cc
+strict false e = refl
 
-help_has : HasOwnWhere (command_at 3)
-help_has word answers elsewhere words e = go (bytes_eq (codes "help") word) refl answers
+-- a word that a command with one name answers to is its name
+own_name : (word name : Text) (aliases : List Text) → is_none aliases ≡ true → answers_to word (name, aliases) ≡ true → name ≡ word
+own_name word name [] none answers = by (bytes_eq name word) refl answers
   where
-    go : (b : Bool) → bytes_eq (codes "help") word ≡ b → (b || false) ≡ true → HasOwn (codes "help") (rows_after (command_at 3).rules [] words)
-    go false is any = absurd cc
-    go true is any =
-        let same : codes "help" ≡ word = (bytes_eq-Decides (codes "help") word).0 is in
-        let bad : true ≡ false = subst (λ w. bytes_eq w (codes "help") ≡ false) (sym same) elsewhere in
-        absurd cc
+    by : (b : Bool) → bytes_eq name word ≡ b → (b || false) ≡ true → name ≡ word
+    by true is any = (bytes_eq-Decides name word).0 is
+    by false is any = absurd cc
+own_name word name (a ∷ aliases) none answers = absurd (true_is_false (sym none))
 
-each_has : AllByRecursion HasOwnWhere (built whole_app).subs
-each_has = (check_has, (expand_has, (tiles_has, (help_has, tt))))
+usual_has : (s : Shape) → command_named s.name ≡ Some s → is_usual s ≡ true → IsEnteredWhere s
+usual_has s is usual word answers elsewhere words e = go (bytes_eq s.name (codes "help")) refl (both_true (is_none s.aliases) _ usual).1
+  where
+    named_so : s.name ≡ word
+    named_so = own_name word s.name s.aliases (both_true (is_none s.aliases) _ usual).0 answers
+
+    not_help : bytes_eq s.name (codes "help") ≡ false
+    not_help = subst (λ w. bytes_eq w (codes "help") ≡ false) (sym named_so) elsewhere
+
+    go : (b : Bool) → bytes_eq s.name (codes "help") ≡ b → (b || is_ready s) ≡ true → IsEntered s.name (rows_after s.rules [] words)
+    go true help ready = absurd (true_is_false (sym help ∙ not_help))
+    go false other ready =
+        let parts = both_true (names_differ (λ a. a.id) s.rules) _ ready in
+        let rest = both_true (list_all takes_a_value s.rules) _ parts.1 in
+        let valued = all_valued s.rules s.rules (each_found (λ a. a.id) s.rules parts.0) rest.0 in
+        record {
+          shape = s;
+          is_named = is;
+          no_help = λ same. true_is_false (sym ((bytes_eq-Decides s.name (codes "help")).1 same) ∙ other);
+          needed = λ a own required. required_given s valued (strict s.subcommand_negates_reqs rest.1) words e a own required;
+        }
+
+each_usual : (all subs : List Shape) → AllByRecursion (λ s. named (λ t. t.name) all s.name ≡ Some s) subs → list_all is_usual subs ≡ true
+    → ((s : Shape) → named (λ t. t.name) all s.name ≡ Some s → is_usual s ≡ true → IsEnteredWhere s) → AllByRecursion IsEnteredWhere subs
+each_usual all [] found ready has = tt
+each_usual all (s ∷ subs) found ready has = let parts = both_true (is_usual s) _ ready in (has s found.0 parts.0, each_usual all subs found.1 parts.1 has)
+
+commands_differ : names_differ (λ s. s.name) (built whole_app).subs ≡ true
+commands_differ = refl
+
+commands_usual : list_all is_usual (built whole_app).subs ≡ true
+commands_usual = refl
+
+each_has : AllByRecursion IsEnteredWhere (built whole_app).subs
+each_has = each_usual (built whole_app).subs (built whole_app).subs (each_found (λ s. s.name) (built whole_app).subs commands_differ) commands_usual usual_has
 
 -- the command that a walk entered, where it takes its words
-entered_has : (commands : App) → AllByRecursion HasOwnWhere commands.subs → (stop : Option (Text × List Text)) → StopsElsewhere stop → entered_fault commands stop ≡ []
-    → (name : Text) (rows : List Row) → entered commands stop ≡ Some (name, rows) → HasOwn name rows
+entered_has : (commands : App) → AllByRecursion IsEnteredWhere commands.subs → (stop : Option (Text × List Text)) → StopsElsewhere stop → entered_fault commands stop ≡ []
+    → (name : Text) (rows : List Row) → entered commands stop ≡ Some (name, rows) → IsEntered name rows
 entered_has commands each None elsewhere none name rows e = absurd cc
 entered_has commands each (Some p) elsewhere none name rows e = go (find (λ s. answers_to p.0 (label_of s)) commands.subs) refl none e
   where
     go : (o : Option Shape) → find (λ s. answers_to p.0 (label_of s)) commands.subs ≡ o → option_map_or (λ s. level_fault s [] nothing_held p.1 false []) o [] ≡ []
-        → option_map (λ s. rows_at s p.1) o ≡ Some (name, rows) → HasOwn name rows
+        → option_map (λ s. rows_at s p.1) o ≡ Some (name, rows) → IsEntered name rows
     go None is none e = absurd cc
     go (Some s) is none e =
-        let found = found_has HasOwnWhere (λ s. answers_to p.0 (label_of s)) commands.subs each s is in
+        let found = found_has IsEnteredWhere (λ s. answers_to p.0 (label_of s)) commands.subs each s is in
         let same : (s.name, rows_after s.rules [] p.1) ≡ (name, rows) = some_is e in
-        subst (λ (w : Text × List Row). HasOwn w.0 w.1) same (found.0 p.0 found.1 elsewhere p.1 none)
+        subst (λ (w : Text × List Row). IsEntered w.0 w.1) same (found.0 p.0 found.1 elsewhere p.1 none)
 
--- a command that the program enters has its own, where the words are taken
-pub program_has : (words : List Text) → fault_of whole_app words ≡ [] → (name : Text) (rows : List Row) → subcommand_of whole_app words ≡ Some (name, rows) → HasOwn name rows
+-- a command that the program enters has what it needs, where the words are taken
+pub program_has : (words : List Text) → fault_of whole_app words ≡ [] → (name : Text) (rows : List Row) → subcommand_of whole_app words ≡ Some (name, rows) → IsEntered name rows
 program_has words none name rows e =
     let top = (built whole_app).top in
     let names = names_of (built whole_app) in
@@ -225,9 +298,9 @@ both_parts : {B : Type 0} (f : B → Text) (g : B → List Row) (o : Option B) (
 both_parts f g None name rows e h = absurd cc
 both_parts f g (Some b) name rows e h = ap₂ (λ n r. Some (n, r)) (sym (some_is e)) (sym (some_is h))
 
--- a command that a parse entered has its own
+-- a command that a parse entered has what it needs
 pub parse_has : (command : Command) (m : ArgMatches) (words : List Text) → app_of command ≡ whole_app → (is_simple_and_free (app_of command) ≡ true → fault_of (app_of command) words ≡ []) → HasMatchesOf (app_of command) words m
-    → (name : Text) (rows : List Row) → Some name ≡ subcommand_name_of m → Some rows ≡ option_map (λ p. p.1) (subcommand_rows (out-ArgMatches m).subcommand) → HasOwn name rows
+    → (name : Text) (rows : List Row) → Some name ≡ subcommand_name_of m → Some rows ≡ option_map (λ p. p.1) (subcommand_rows (out-ArgMatches m).subcommand) → IsEntered name rows
 parse_has command m words is none matches name rows named rowed =
     let free = ap is_simple_and_free is ∙ whole_is_simple in
     let none_whole = ap (λ (a : App). fault_of a words) (sym is) ∙ none free in
@@ -239,25 +312,50 @@ parse_has command m words is none matches name rows named rowed =
     and_left true b e = refl
     and_left false b e = absurd cc
 
-pub check_own : (name : Text) (rows : List Row) → HasOwn name rows → name ≡ codes "check" → HasFiles rows
-check_own name rows (inl own) is = own.1
-check_own name rows (inr (inl own)) is = own.1
-check_own name rows (inr (inr own)) is = let bad : 116 ≡ 99 = ap (λ (t : Text). slice_index t 0) (sym own.0 ∙ is) in absurd (omega (arith, bad))
+-- ---- what a command has, by its name
 
-pub expand_own : (name : Text) (rows : List Row) → HasOwn name rows → name ≡ codes "expand" → HasFiles rows
-expand_own name rows (inl own) is = own.1
-expand_own name rows (inr (inl own)) is = own.1
-expand_own name rows (inr (inr own)) is = let bad : 116 ≡ 101 = ap (λ (t : Text). slice_index t 0) (sym own.0 ∙ is) in absurd (omega (arith, bad))
+-- the command of a name that is written out
+abbrev pub command_at : Text → Shape
+command_at name = unwrap_or (command_named name) (new_shape [])
 
-pub tiles_own : (name : Text) (rows : List Row) → HasOwn name rows → name ≡ codes "tiles" → HasNumber (codes "SIDES") 3 4 rows × HasNumber (codes "COLOURS") 1 36 rows
-tiles_own name rows (inl own) is = let bad : 99 ≡ 116 = ap (λ (t : Text). slice_index t 0) (sym own.0 ∙ is) in absurd (omega (arith, bad))
-tiles_own name rows (inr (inl own)) is = let bad : 101 ≡ 116 = ap (λ (t : Text). slice_index t 0) (sym own.0 ∙ is) in absurd (omega (arith, bad))
-tiles_own name rows (inr (inr own)) is = (own.1, own.2)
+pub needed_at : (at name : Text) (rows : List Row) → IsEntered name rows → name ≡ at → command_named at ≡ Some (command_at at) → HasNeeded (command_at at) rows
+needed_at at name rows is same at_is = subst (λ s. HasNeeded s rows) (some_is (sym is.is_named ∙ ap command_named same ∙ at_is)) is.needed
 
-pub no_other_own : (name : Text) (rows : List Row) → HasOwn name rows → name ≢ codes "check" → name ≢ codes "expand" → name ≢ codes "tiles" → ⊥
-no_other_own name rows (inl own) one two three = one own.0
-no_other_own name rows (inr (inl own)) one two three = two own.0
-no_other_own name rows (inr (inr own)) one two three = three own.0
+abbrev pub rule_at : Shape → ℕ → Rule
+rule_at s n = slice_index_or s.rules n (new_rule [])
+
+-- a command needs the word
+abbrev pub needs : Shape → Text → Bool
+needs s id = option_map_or (λ a. a.required) (arg_by_id s.rules id) false
+
+pub has_text : (s : Shape) (rows : List Row) (id : Text) → HasNeeded s rows → needs s id ≡ true → HasText id rows
+has_text s rows id has wants = go (arg_by_id s.rules id) refl wants
+  where
+    go : (o : Option Rule) → arg_by_id s.rules id ≡ o → option_map_or (λ a. a.required) o false ≡ true → HasText id rows
+    go None is none = absurd cc
+    go (Some a) is required =
+        let same = (bytes_eq-Decides a.id id).0 (found_passes (λ b. bytes_eq b.id id) s.rules a is) in
+        let given = has a (subst (λ t. arg_by_id s.rules t ≡ Some a) (sym same) is) required in
+        (given.0, subst (λ t. first_of t rows ≡ Some given.0) same given.1)
+
+-- a number that a command needs
+pub has_number : (s : Shape) (rows : List Row) (a : Rule) (least most : ℕ) → HasNeeded s rows → arg_by_id s.rules a.id ≡ Some a → a.required ≡ true → a.parser ≡ Some (parsers.Unsigned least most) → HasNumber a.id least most rows
+has_number s rows a least most has own required number =
+    let given = has a own required in
+    (given.0, given.1, read a.ignore_case a.parser given.0 number given.2)
+  where
+    read : (ignores : Bool) (parser : Option ValueParser) (text : Text) → parser ≡ Some (parsers.Unsigned least most) → accepts ignores (parser_of_value parser) text ≡ true → IsUnsignedIn least most text
+    read ignores parser text is passes = accepts-Accepts ignores (parsers.Unsigned least most) text (rw is at passes)
+
+pub has_files : (s : Shape) (rows : List Row) → HasNeeded s rows → needs s (codes "PUZZLE") ≡ true → needs s (codes "LIST") ≡ true → needs s (codes "CERTIFICATE") ≡ true → HasFiles rows
+has_files s rows has puzzle list certificate = (has_text s rows _ has puzzle, has_text s rows _ has list, has_text s rows _ has certificate)
+
+pub differs : (name other : Text) → name ≢ other → bytes_eq other name ≡ false
+differs name other ne = go (bytes_eq other name) refl
+  where
+    go : (b : Bool) → bytes_eq other name ≡ b → b ≡ false
+    go true is = absurd (ne (sym ((bytes_eq-Decides other name).0 is)))
+    go false is = refl
 
 pub only_memory : (e : Error) (fault : WordsFault) → IsFaultOf e fault → kind_of e ≡ kinds.OutOfMemory → fault ≡ Memory
 only_memory e (Words other) gives is = absurd (gives.1 is)

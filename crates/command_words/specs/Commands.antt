@@ -32,4 +32,4 @@ abbrev pub tiles_app : App
 tiles_app = with_rule (with_rule (new_app (codes "tiles")) (wanted_number (codes "SIDES") 3 4)) (wanted_number (codes "COLOURS") 1 36)
 
 abbrev pub whole_app : App
-whole_app = with_subcommand (with_subcommand (with_subcommand (on_top (λ s. record s { no_binary_name = true }) (new_app (codes "edgematch"))) check_app.top) expand_app.top) tiles_app.top
+whole_app = with_subcommand (with_subcommand (with_subcommand (on_top (λ s. record s { no_binary_name = true; has_version = true }) (new_app (codes "edgematch"))) check_app.top) expand_app.top) tiles_app.top

@@ -1,14 +1,18 @@
-// The program's commands, with their help.
+//! The program's commands, with their help.
 
 ghost use Rattle.std.specs.Prelude.{◌≡◌, IfOk, false};
 ghost use Rattle.clap.specs.Words.{app_of, rule_of};
-ghost use Rattle.command_words.specs.Commands.{IsLocal, wanted, wanted_number, with_files, check_app, expand_app, tiles_app, whole_app};
+ghost use Rattle.command_words.specs.Commands.{IsLocal, wanted, wanted_number, with_files};
+ghost use Rattle.command_words.specs.Commands.{check_app, expand_app, tiles_app, whole_app};
 
 use clap::builder::ValueParser;
 use clap::{Arg, Command};
 use std::alloc::{AllocError, Global};
 
 const NAME: &str = "edgematch";
+
+// The program's version, and the toolchain that it is proved with (the line of `rt version`).
+const VERSION: &str = "0.1.0 (proved with rattle-kit-13b logic dac8208d650f15bf)";
 
 const WITHOUT_COMMAND: &str = "\
 Without a command it reads a puzzle, a list and a certificate from standard input, one after the \
@@ -116,6 +120,7 @@ pub fn program<'a>(alloc: Global) -> Result<Command<'a>, AllocError>
     let command = Command::new(alloc, NAME)
         .about("Checks that lists of arrangements of edge-matching puzzles are complete")
         .after_help(WITHOUT_COMMAND)
+        .version(VERSION)
         .no_binary_name(true)
         .bin_name(NAME)?
         .subcommand(check)?

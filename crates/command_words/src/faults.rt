@@ -1,4 +1,4 @@
-// Why words order nothing.
+//! Why words order nothing.
 
 ghost use Rattle.std.specs.Prelude.{◌≡◌};
 ghost use Rattle.command_words.specs.Orders.{IsFaultOf};

@@ -1,4 +1,4 @@
-// What the program is to do.
+//! What the program is to do.
 
 /// Three files by their names.
 #[derive(PartialEq, Eq, Debug, Drop)]

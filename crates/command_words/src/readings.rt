@@ -1,10 +1,11 @@
-// Words are read.
+//! Words are read.
 
 ghost use Rattle.std.specs.Prelude.{◌≡◌, Some, true, codes, map, IfOk, IfErr};
 ghost use Rattle.std.specs.String.{string_bytes};
 ghost use Rattle.clap.specs.Words.{fault_of, first_of, found_of, rows_of, takes};
 ghost use Rattle.command_words.specs.Commands.{whole_app};
-ghost use Rattle.command_words.specs.Orders.{HasFiles, HasNumber, HasText, IsInRange, IsOrder, IsOrderOf, IsRefusedBy, NameFiles, number_of};
+ghost use Rattle.command_words.specs.Orders.{HasFiles, HasNumber, HasText, IsInRange};
+ghost use Rattle.command_words.specs.Orders.{IsOrder, IsOrderOf, IsRefusedBy, NameFiles, number_of};
 
 use crate::commands::program;
 use crate::faults::WordsFault;
@@ -72,22 +73,19 @@ pub fn order(alloc: Global, words: &[String]) -> Result<Order, WordsFault>
     ensures range { IfOk result IsInRange }
 
     // Words that `clap` takes are refused for want of memory alone, and others by a kind that it has for them.
-    ensures memory { takes whole_app (map string_bytes words.now) ≡ true → IfErr result (λ fault. fault ≡ WordsFault.Memory) }
+    ensures memory { takes whole_app (map string_bytes words.now) ≡ true
+        → IfErr result (λ fault. fault ≡ WordsFault.Memory) }
     ensures refused { IfErr result (IsRefusedBy (fault_of whole_app (map string_bytes words.now))) }
 {
     let matches = program(alloc)?.try_get_matches_from(words)?;
     let Some((name, matches)) = matches.subcommand() else {
         return Ok(Order::Joined);
     };
-    if name == "check" {
-        return Ok(Order::Check(files(alloc, matches)?));
+    match name {
+        "check" => Ok(Order::Check(files(alloc, matches)?)),
+        "expand" => Ok(Order::Expand(files(alloc, matches)?)),
+        "tiles" => Ok(tiles(matches)),
+        // `clap` answers the words of `help` itself, by an error.
+        _ => unreachable!(),
     }
-    if name == "expand" {
-        return Ok(Order::Expand(files(alloc, matches)?));
-    }
-    if name == "tiles" {
-        return Ok(tiles(matches));
-    }
-    // `clap` answers the words of `help` itself, by an error.
-    unreachable!();
 }

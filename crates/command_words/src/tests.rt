@@ -79,7 +79,8 @@ Commands:
   help    Print this message or the help of the given subcommand(s)
 
 Options:
-  -h, --help  Print help
+  -h, --help     Print help
+  -V, --version  Print version
 
 Without a command it reads a puzzle, a list and a certificate from standard input, one after the \
 other, and checks them.
@@ -89,6 +90,12 @@ Exit status:
   1  the certificate does not show that the list is complete
   2  anything else, which is said on standard error
 "
+    );
+    assert!(rt; !on_errors);
+    let (text, on_errors) = refusal(rt.alloc(), &["--version"])?;
+    assert_eq!(rt;
+        text.as_str(),
+        "edgematch 0.1.0 (proved with rattle-kit-13b logic dac8208d650f15bf)\n"
     );
     assert!(rt; !on_errors);
     let (text, on_errors) = refusal(rt.alloc(), &["tiles", "--help"])?;

@@ -1,3 +1,4 @@
 pub mod CutLemmas
 pub mod StreamLemmas
+pub mod RepetitionLemmas
 pub mod RunLemmas

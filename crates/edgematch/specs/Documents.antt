@@ -32,3 +32,13 @@ second_of input = (cut_document (cut_document input).1).0
 
 abbrev pub third_of : List ℕ → List ℕ
 third_of input = (cut_document (cut_document input).1).1
+
+-- the texts of the three documents
+pub record Texts : Type 0 where
+  pub puzzle : List ℕ
+  pub list : List ℕ
+  pub certificate : List ℕ
+
+-- the three texts in one input
+abbrev pub texts_in : List ℕ → Texts
+texts_in input = record { puzzle = first_of input; list = second_of input; certificate = third_of input }

@@ -1,4 +1,5 @@
 pub mod Streams
+pub mod Moves
 pub mod Documents
 pub mod FaultText
 pub mod Runs

@@ -1,33 +1,36 @@
-// Runs that print all arrangements.
+//! Runs that print all arrangements.
 
-ghost use Rattle.std.specs.Prelude.{◌≡◌, ◌≢◌, ◌⊎◌, ◌+◌, ◌<◌, ◌≤◌, ◌^◌, ℕ, List, Err, true, IfOk, IfErr, IsErrOf, length};
-ghost use Rattle.std.specs.Io.KnownBytes.{Appends};
+ghost use Rattle.std.specs.Prelude.{◌≡◌, ◌≢◌, ◌⊎◌, List, Err, IfOk, IfErr, IsErrOf};
 ghost use Rattle.match_puzzle.specs.Puzzle.{IsPuzzle};
 ghost use Rattle.match_puzzle.specs.declared.placements.Placement.{Placement};
 ghost use Rattle.match_text.specs.ListSpelling.{list_spelling};
 ghost use Rattle.cert_check.specs.Setting.{question_of};
 ghost use Rattle.cert_check.specs.Answer.{IsCompleteList};
 ghost use Rattle.match_report.specs.Expansion.{AreMoreReached};
-ghost use Rattle.edgematch.specs.Streams.{AppendsFront, AppendsWhole, GrowsPast};
-ghost use Rattle.edgematch.specs.Runs.{RunGives, AreAllInOrder, ExpansionGives, SpellTooMany, IsOfDocuments, IsOfExpanding, IsOfPrinting, OfDocument};
+ghost use Rattle.edgematch.specs.Moves.{WritesFront, WritesWhole, reading_of, writing_of};
+ghost use Rattle.edgematch.specs.Runs.{IsOfDocuments, IsOfExpanding, IsOfPrinting};
+ghost use Rattle.edgematch.specs.Runs.{AreShort, ReadToEnds, StopsReading, texts_of};
+ghost use Rattle.edgematch.specs.Runs.{AreAllInOrder, ExpansionGives, RunGives, SpellTooMany};
 
 use crate::faults::{Document, RunFault};
 use crate::questions::{Question, read_question};
+use crate::repetitions::distinct_symmetries;
 use crate::runs::{Status, read_document, status_for};
 use crate::streams::documents::Documents;
 use crate::streams::sinks::{Sink, write_whole};
 use crate::streams::sources::Source;
-use cert_check::{Answer, SymmetriesFault, check, make_symmetries};
+use cert_check::{Answer, check};
 use match_report::{expand, write_answer};
 use match_text::write_list;
 use std::alloc::Global;
 
-/// Reads a puzzle, a list and a certificate, each to its end and in this order, and checks them. Where the list is
-/// complete, writes the list of all arrangements of the puzzle, each once: the listed ones and then their images, in the
-/// order of the closure. Where it is refused, writes the answer.
+/// Reads a puzzle, a list and a certificate, each to its end and in this order, and checks them. Where
+/// the list is complete, writes the list of all arrangements of the puzzle, each once: the listed ones
+/// and then their images, in the order of the closure. Where it is refused, writes the answer.
 ///
-/// `Expand` where there are over 1,000,000. The other faults are those of [`run_check`](crate::runs::run_check). Where a
-/// fault other than `Write` is answered, nothing was written.
+/// `Expand` where there are over 1,000,000. The other faults are those of
+/// [`run_check`](crate::runs::run_check). Where a fault other than `Write` is answered, nothing was
+/// written.
 pub fn run_expand<P: Source, L: Source, C: Source, W: Sink>(
     alloc: Global,
     puzzle: &mut P,
@@ -35,47 +38,30 @@ pub fn run_expand<P: Source, L: Source, C: Source, W: Sink>(
     certificate: &mut C,
     writer: &mut W,
 ) -> Result<Status, RunFault>
-    // What was written is what the bytes that came ask for, each document up to its end.
-    ensures ok { IfOk result (λ status. (p l c text : List ℕ)
-        × AppendsWhole (P.taken puzzle.old) (P.taken puzzle.new) (P.ended puzzle.new) p
-        × AppendsWhole (L.taken list.old) (L.taken list.new) (L.ended list.new) l
-        × AppendsWhole (C.taken certificate.old) (C.taken certificate.new) (C.ended certificate.new) c
-        × ExpansionGives p l c text status
-        × Appends (W.written writer.old) (W.written writer.new) text) }
-    // A fault of a document is what the bytes come to.
-    ensures document { IfErr result (λ fault. IsOfDocuments fault → (p l c : List ℕ)
-        × AppendsWhole (P.taken puzzle.old) (P.taken puzzle.new) (P.ended puzzle.new) p
-        × AppendsWhole (L.taken list.old) (L.taken list.new) (L.ended list.new) l
-        × AppendsWhole (C.taken certificate.old) (C.taken certificate.new) (C.ended certificate.new) c
-        × RunGives p l c (Err fault)) }
-    ensures expand { IsErrOf result RunFault.Expand → (p l c : List ℕ)
-        × AppendsWhole (P.taken puzzle.old) (P.taken puzzle.new) (P.ended puzzle.new) p
-        × AppendsWhole (L.taken list.old) (L.taken list.new) (L.ended list.new) l
-        × AppendsWhole (C.taken certificate.old) (C.taken certificate.new) (C.ended certificate.new) c
-        × SpellTooMany p l c }
+    // What was written is what the texts that came ask for.
+    ensures ok { IfOk result (λ status. ReadToEnds (reading_of P.Source puzzle.old puzzle.new)
+        (reading_of L.Source list.old list.new) (reading_of C.Source certificate.old certificate.new)
+        (λ texts. WritesWhole (writing_of W.Sink writer.old writer.new) (λ text. ExpansionGives texts text status))) }
+    // A fault of a document is what the texts come to.
+    ensures document { IfErr result (λ fault. IsOfDocuments fault
+        → ReadToEnds (reading_of P.Source puzzle.old puzzle.new) (reading_of L.Source list.old list.new)
+        (reading_of C.Source certificate.old certificate.new) (λ texts. RunGives texts (Err fault))) }
+    ensures expand { IsErrOf result RunFault.Expand
+        → ReadToEnds (reading_of P.Source puzzle.old puzzle.new) (reading_of L.Source list.old list.new)
+        (reading_of C.Source certificate.old certificate.new) SpellTooMany }
     ensures fault { IfErr result IsOfExpanding }
     ensures untouched { IfErr result (λ fault. fault ≢ RunFault.Write → writer.new ≡ writer.old) }
 
     // Reading fails only where the document's source answered an error, or more bytes came than are
     // read. The documents before it were read to their ends, and the ones after it not at all.
-    ensures read { IfErr result (λ fault. (of : Document) → fault ≡ RunFault.Read of → OfDocument
-        ((P.errors puzzle.new ≡ P.errors puzzle.old + 1) × (list.new ≡ list.old) × (certificate.new ≡ certificate.old))
-        ((P.ended puzzle.new ≡ true) × (L.errors list.new ≡ L.errors list.old + 1) × (certificate.new ≡ certificate.old))
-        ((P.ended puzzle.new ≡ true) × (L.ended list.new ≡ true) × (C.errors certificate.new ≡ C.errors certificate.old + 1))
-        of) }
-    ensures too_long { IfErr result (λ fault. (of : Document) → fault ≡ RunFault.TooLong of → OfDocument
-        (GrowsPast 1073741824 (P.taken puzzle.old) (P.taken puzzle.new) × (P.errors puzzle.new ≡ P.errors puzzle.old) × (list.new ≡ list.old) × (certificate.new ≡ certificate.old))
-        ((P.ended puzzle.new ≡ true) × GrowsPast 1073741824 (L.taken list.old) (L.taken list.new) × (L.errors list.new ≡ L.errors list.old) × (certificate.new ≡ certificate.old))
-        ((P.ended puzzle.new ≡ true) × (L.ended list.new ≡ true) × GrowsPast 1073741824 (C.taken certificate.old) (C.taken certificate.new) × (C.errors certificate.new ≡ C.errors certificate.old))
-        of) }
+    ensures reading { IfErr result (StopsReading (reading_of P.Source puzzle.old puzzle.new)
+        (reading_of L.Source list.old list.new) (reading_of C.Source certificate.old certificate.new)) }
     // Writing fails only where the sink answered an error, or took nothing; then a front of the text went out.
-    ensures write { IsErrOf result RunFault.Write → (p l c text : List ℕ) × (status : Status)
-        × AppendsWhole (P.taken puzzle.old) (P.taken puzzle.new) (P.ended puzzle.new) p
-        × AppendsWhole (L.taken list.old) (L.taken list.new) (L.ended list.new) l
-        × AppendsWhole (C.taken certificate.old) (C.taken certificate.new) (C.ended certificate.new) c
-        × ExpansionGives p l c text status
-        × AppendsFront (W.written writer.old) (W.written writer.new) text
-        × ((W.errors writer.new ≡ W.errors writer.old + 1) ⊎ (W.idle writer.new ≡ true)) }
+    ensures write { IsErrOf result RunFault.Write
+        → ReadToEnds (reading_of P.Source puzzle.old puzzle.new) (reading_of L.Source list.old list.new)
+        (reading_of C.Source certificate.old certificate.new)
+        (λ texts. WritesFront (writing_of W.Sink writer.old writer.new)
+        (λ text. (status : Status) × ExpansionGives texts text status)) }
 {
     let puzzle = read_document(alloc, puzzle, Document::Puzzle)?;
     let list = read_document(alloc, list, Document::List)?;
@@ -94,18 +80,16 @@ fn write_expansion_of<W: Sink>(
     documents: &Documents<'_>,
     writer: &mut W,
 ) -> Result<Status, RunFault>
-    requires { length documents.now.puzzle.now + length documents.now.list.now + length documents.now.certificate.now + 1 < 2 ^ 32 }
-    ensures ok { IfOk result (λ status. (text : List ℕ)
-        × ExpansionGives documents.now.puzzle.now documents.now.list.now documents.now.certificate.now text status
-        × Appends (W.written writer.old) (W.written writer.new) text) }
-    ensures document { IfErr result (λ fault. IsOfDocuments fault → RunGives documents.now.puzzle.now documents.now.list.now documents.now.certificate.now (Err fault)) }
-    ensures expand { IsErrOf result RunFault.Expand → SpellTooMany documents.now.puzzle.now documents.now.list.now documents.now.certificate.now }
+    requires { AreShort (texts_of documents.now) }
+    ensures ok { IfOk result (λ status. WritesWhole (writing_of W.Sink writer.old writer.new)
+        (λ text. ExpansionGives (texts_of documents.now) text status)) }
+    ensures document { IfErr result (λ fault. IsOfDocuments fault → RunGives (texts_of documents.now) (Err fault)) }
+    ensures expand { IsErrOf result RunFault.Expand → SpellTooMany (texts_of documents.now) }
     ensures fault { IfErr result IsOfPrinting }
     ensures untouched { IfErr result (λ fault. fault ≢ RunFault.Write → writer.new ≡ writer.old) }
-    ensures write { IsErrOf result RunFault.Write → (text : List ℕ) × (status : Status)
-        × ExpansionGives documents.now.puzzle.now documents.now.list.now documents.now.certificate.now text status
-        × AppendsFront (W.written writer.old) (W.written writer.new) text
-        × ((W.errors writer.new ≡ W.errors writer.old + 1) ⊎ (W.idle writer.new ≡ true)) }
+    ensures write { IsErrOf result RunFault.Write
+        → WritesFront (writing_of W.Sink writer.old writer.new)
+        (λ text. (status : Status) × ExpansionGives (texts_of documents.now) text status) }
 {
     let printed = make_text(alloc, documents)?;
     match write_whole(writer, &printed.text) {
@@ -123,10 +107,11 @@ struct Printed {
 
 // What is printed for the documents.
 fn make_text(alloc: Global, documents: &Documents<'_>) -> Result<Printed, RunFault>
-    requires { length documents.now.puzzle.now + length documents.now.list.now + length documents.now.certificate.now + 1 < 2 ^ 32 }
-    ensures printed { IfOk result (λ printed. ExpansionGives documents.now.puzzle.now documents.now.list.now documents.now.certificate.now printed.text.items printed.status) }
-    ensures document { IfErr result (λ fault. IsOfDocuments fault → RunGives documents.now.puzzle.now documents.now.list.now documents.now.certificate.now (Err fault)) }
-    ensures expand { IsErrOf result RunFault.Expand → SpellTooMany documents.now.puzzle.now documents.now.list.now documents.now.certificate.now }
+    requires { AreShort (texts_of documents.now) }
+    ensures printed { IfOk result (λ printed.
+        ExpansionGives (texts_of documents.now) printed.text.items printed.status) }
+    ensures document { IfErr result (λ fault. IsOfDocuments fault → RunGives (texts_of documents.now) (Err fault)) }
+    ensures expand { IsErrOf result RunFault.Expand → SpellTooMany (texts_of documents.now) }
     ensures kind { IfErr result IsOfPrinting }
     ensures write { IfErr result (λ fault. fault ≢ RunFault.Write) }
 {
@@ -152,17 +137,14 @@ fn all_text(alloc: Global, question: &Question) -> Result<Vec<u8>, RunFault>
     requires puzzle { IsPuzzle question.now.puzzle }
     requires complete { IsCompleteList question.now.puzzle question.now.certificate.symmetries question.now.listed.items }
     ensures all { IfOk result (λ text. (all : List (List Placement))
-        × AreAllInOrder (question_of question.now.puzzle question.now.listed.items question.now.certificate) all × (text.items ≡ list_spelling all)) }
-    ensures expand { IsErrOf result RunFault.Expand → AreMoreReached 1000000 question.now.puzzle question.now.certificate.symmetries question.now.listed.items }
+        × AreAllInOrder (question_of question.now.puzzle question.now.listed.items question.now.certificate) all
+        × (text.items ≡ list_spelling all)) }
+    ensures expand { IsErrOf result RunFault.Expand
+        → AreMoreReached 1000000 question.now.puzzle question.now.certificate.symmetries question.now.listed.items }
     ensures kind { IfErr result (λ fault. (fault ≡ RunFault.Expand) ⊎ (fault ≡ RunFault.Memory)) }
 {
     let lines = question.certificate.symmetries();
-    let symmetries = match make_symmetries(alloc, &question.puzzle, lines) {
-        Ok(symmetries) => symmetries,
-        // Each line of a complete list's certificate is a symmetry.
-        Err(SymmetriesFault::Line(..)) => unreachable!(),
-        Err(SymmetriesFault::Memory) => return Err(RunFault::Memory),
-    };
+    let symmetries = distinct_symmetries(alloc, &question.puzzle, lines)?;
     let all = expand(alloc, &question.listed, &symmetries)?;
     let text = write_list(alloc, all.as_slice())?;
     Ok(text)

@@ -1,10 +1,13 @@
-// What may go wrong with a run, and how that is printed.
+//! What may go wrong with a run, and how that is printed.
 
 ghost use Rattle.std.specs.Prelude.{◌≡◌, ◌++◌, ◌∷◌, [], codes, decimal, IfOk};
 ghost use Rattle.match_report.specs.Line.{line_text, label};
-ghost use Rattle.edgematch.specs.FaultText.{document_word, kind_word, board_fault_word, memory_words, text_fault_words, puzzle_fault_words, puzzle_text_fault_words, list_text_fault_words, assemble_fault_words, cert_text_fault_words, fault_line};
+ghost use Rattle.edgematch.specs.FaultText.{document_word, kind_word, board_fault_word, memory_words, fault_line};
+ghost use Rattle.edgematch.specs.FaultText.{text_fault_words, puzzle_fault_words, puzzle_text_fault_words};
+ghost use Rattle.edgematch.specs.FaultText.{list_text_fault_words, assemble_fault_words, cert_text_fault_words};
 ghost use Rattle.edgematch.specs.declared.faults.RunFault.TheVariants as run_fault;
-ghost use Rattle.edgematch.specs.FaultText.{run_of_puzzle, run_of_list, run_of_certificate, run_of_expand, run_of_tiles};
+ghost use Rattle.edgematch.specs.FaultText.{run_of_puzzle, run_of_list, run_of_certificate};
+ghost use Rattle.edgematch.specs.FaultText.{run_of_expand, run_of_tiles};
 
 use cert_tree::{AssembleFault, CertTextFault};
 use match_board::{BoardFault, TilesFault};

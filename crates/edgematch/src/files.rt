@@ -1,4 +1,4 @@
-// The files of documents.
+//! The files of documents.
 
 ghost use Rattle.std.specs.Prelude.{◌≡◌, false, IfOk, IfErr};
 

@@ -5,6 +5,7 @@ mod expansion_runs;
 mod faults;
 mod files;
 mod questions;
+mod repetitions;
 mod runs;
 mod streams;
 mod tile_runs;
@@ -106,10 +107,11 @@ fn stopped(rt: &HostRuntime, fault: &RunFault) -> ExitCode {
     ExitCode::from(OTHER)
 }
 
-// Prints help where it was asked for, else what is wrong with the words.
+// Prints help or the version where it was asked for, else what is wrong with the words.
 fn explained(rt: &HostRuntime, error: &clap::Error) -> ExitCode {
     match error.print(rt) {
         Ok(()) if !error.use_stderr() => ExitCode::SUCCESS,
+        Err(_) if !error.use_stderr() => stopped(rt, &RunFault::Write),
         _ => ExitCode::from(OTHER),
     }
 }

@@ -1,9 +1,9 @@
-// What documents ask.
+//! What documents ask.
 
-ghost use Rattle.std.specs.Prelude.{◌≢◌, ◌+◌, ◌<◌, ◌≤◌, ◌^◌, Err, IfOk, IfErr, length};
+ghost use Rattle.std.specs.Prelude.{◌≢◌, ◌≤◌, Err, IfOk, IfErr, length};
 ghost use Rattle.match_puzzle.specs.Puzzle.{IsPuzzle};
 ghost use Rattle.cert_check.specs.Setting.{question_of};
-ghost use Rattle.edgematch.specs.Runs.{RunGives, Spells, IsOfDocuments};
+ghost use Rattle.edgematch.specs.Runs.{AreShort, IsOfDocuments, RunGives, Spells, texts_of};
 
 use crate::faults::RunFault;
 use crate::streams::documents::Documents;
@@ -20,14 +20,15 @@ pub struct Question {
     pub certificate: Certificate,
 }
 
-/// The question that the documents spell, or their first fault, in the order of the documents; `Memory` only where that
-/// is refused.
+/// The question that the documents spell, or their first fault, in the order of the documents;
+/// `Memory` only where that is refused.
 pub fn read_question(alloc: Global, documents: &Documents<'_>) -> Result<Question, RunFault>
-    requires { length documents.now.puzzle.now + length documents.now.list.now + length documents.now.certificate.now + 1 < 2 ^ 32 }
-    ensures question { IfOk result (λ q. Spells documents.now.puzzle.now documents.now.list.now documents.now.certificate.now (question_of q.puzzle q.listed.items q.certificate)) }
+    requires { AreShort (texts_of documents.now) }
+    ensures question { IfOk result (λ q.
+        Spells (texts_of documents.now) (question_of q.puzzle q.listed.items q.certificate)) }
     ensures puzzle { IfOk result (λ q. IsPuzzle q.puzzle) }
     ensures few { IfOk result (λ q. length q.listed.items ≤ 1000000) }
-    ensures fault { IfErr result (λ fault. fault ≢ RunFault.Memory → RunGives documents.now.puzzle.now documents.now.list.now documents.now.certificate.now (Err fault)) }
+    ensures fault { IfErr result (λ fault. fault ≢ RunFault.Memory → RunGives (texts_of documents.now) (Err fault)) }
     ensures kind { IfErr result (λ fault. fault ≢ RunFault.Memory → IsOfDocuments fault) }
 {
     let puzzle = read_puzzle(alloc, documents.puzzle)?;

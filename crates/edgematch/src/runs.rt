@@ -1,11 +1,11 @@
-// Runs of the checker.
+//! Runs of the checker.
 
-ghost use Rattle.std.specs.Prelude.{◌≡◌, ◌≢◌, ◌⊎◌, ◌+◌, ◌<◌, ◌≤◌, ◌^◌, ℕ, List, Some, Ok, Err, true, IfOk, IfErr, MatchResult, IsErrOf, length};
-ghost use Rattle.std.specs.Io.KnownBytes.{Appends};
-ghost use Rattle.match_report.specs.AnswerText.{answer_line};
-ghost use Rattle.edgematch.specs.Documents.{first_of, second_of, third_of};
-ghost use Rattle.edgematch.specs.Streams.{AppendsFront, AppendsWhole, GrowsPast};
-ghost use Rattle.edgematch.specs.Runs.{RunGives, SpellCompleteList, Outcome, IsOfAnswering, IsOfChecking, IsOfDocuments, IsOfReading, OfDocument, status_of};
+ghost use Rattle.std.specs.Prelude.{◌≡◌, ◌≢◌, ◌≤◌, Err, IfOk, IfErr, IsErrOf, length};
+ghost use Rattle.edgematch.specs.Moves.{FailsToRead, ReadsPast, ReadsWhole};
+ghost use Rattle.edgematch.specs.Moves.{WritesFront, WritesWhole, reading_of, writing_of};
+ghost use Rattle.edgematch.specs.Runs.{IsOfAnswering, IsOfChecking, IsOfDocuments, IsOfReading};
+ghost use Rattle.edgematch.specs.Runs.{AreShort, InputReadToEnd, ReadToEnds, StopsReading, StopsReadingInput, texts_of};
+ghost use Rattle.edgematch.specs.Runs.{CheckGives, RunGives, SpellCompleteList, status_of};
 
 use crate::faults::{Document, RunFault};
 use crate::questions::read_question;
@@ -46,49 +46,32 @@ pub fn run_check<P: Source, L: Source, C: Source, W: Sink>(
     requires workers { workers ≡ 1 }
     requires forks { forks ≡ 0 }
 
-    // What was written is the answer's line on the bytes that came, each document up to its end.
-    ensures ok { IfOk result (λ status. (p l c : List ℕ) × (outcome : Outcome)
-        × AppendsWhole (P.taken puzzle.old) (P.taken puzzle.new) (P.ended puzzle.new) p
-        × AppendsWhole (L.taken list.old) (L.taken list.new) (L.ended list.new) l
-        × AppendsWhole (C.taken certificate.old) (C.taken certificate.new) (C.ended certificate.new) c
-        × RunGives p l c (Ok outcome)
-        × Appends (W.written writer.old) (W.written writer.new) (answer_line outcome.answer outcome.listed)
-        × (status ≡ status_of outcome.answer)) }
-    // Where the status is Complete, the symmetries of the certificate reach every arrangement of the puzzle from the list.
-    ensures complete { IfOk result (λ status. status ≡ Status.Complete → (p l c : List ℕ)
-        × AppendsWhole (P.taken puzzle.old) (P.taken puzzle.new) (P.ended puzzle.new) p
-        × AppendsWhole (L.taken list.old) (L.taken list.new) (L.ended list.new) l
-        × AppendsWhole (C.taken certificate.old) (C.taken certificate.new) (C.ended certificate.new) c
-        × SpellCompleteList p l c) }
-    // A fault of a document is what the bytes come to.
-    ensures document { IfErr result (λ fault. IsOfDocuments fault → (p l c : List ℕ)
-        × AppendsWhole (P.taken puzzle.old) (P.taken puzzle.new) (P.ended puzzle.new) p
-        × AppendsWhole (L.taken list.old) (L.taken list.new) (L.ended list.new) l
-        × AppendsWhole (C.taken certificate.old) (C.taken certificate.new) (C.ended certificate.new) c
-        × RunGives p l c (Err fault)) }
+    // What was written is the answer's line on the texts that came.
+    ensures ok { IfOk result (λ status. ReadToEnds (reading_of P.Source puzzle.old puzzle.new)
+        (reading_of L.Source list.old list.new) (reading_of C.Source certificate.old certificate.new)
+        (λ texts. WritesWhole (writing_of W.Sink writer.old writer.new) (λ text. CheckGives texts text status))) }
+    // Where the status is Complete, the symmetries of the certificate reach every arrangement of
+    // the puzzle from the list.
+    ensures complete { IfOk result (λ status. status ≡ Status.Complete
+        → ReadToEnds (reading_of P.Source puzzle.old puzzle.new) (reading_of L.Source list.old list.new)
+        (reading_of C.Source certificate.old certificate.new) SpellCompleteList) }
+    // A fault of a document is what the texts come to.
+    ensures document { IfErr result (λ fault. IsOfDocuments fault
+        → ReadToEnds (reading_of P.Source puzzle.old puzzle.new) (reading_of L.Source list.old list.new)
+        (reading_of C.Source certificate.old certificate.new) (λ texts. RunGives texts (Err fault))) }
     ensures fault { IfErr result IsOfChecking }
     ensures untouched { IfErr result (λ fault. fault ≢ RunFault.Write → writer.new ≡ writer.old) }
 
     // Reading fails only where the document's source answered an error, or more bytes came than are
     // read. The documents before it were read to their ends, and the ones after it not at all.
-    ensures read { IfErr result (λ fault. (of : Document) → fault ≡ RunFault.Read of → OfDocument
-        ((P.errors puzzle.new ≡ P.errors puzzle.old + 1) × (list.new ≡ list.old) × (certificate.new ≡ certificate.old))
-        ((P.ended puzzle.new ≡ true) × (L.errors list.new ≡ L.errors list.old + 1) × (certificate.new ≡ certificate.old))
-        ((P.ended puzzle.new ≡ true) × (L.ended list.new ≡ true) × (C.errors certificate.new ≡ C.errors certificate.old + 1))
-        of) }
-    ensures too_long { IfErr result (λ fault. (of : Document) → fault ≡ RunFault.TooLong of → OfDocument
-        (GrowsPast 1073741824 (P.taken puzzle.old) (P.taken puzzle.new) × (P.errors puzzle.new ≡ P.errors puzzle.old) × (list.new ≡ list.old) × (certificate.new ≡ certificate.old))
-        ((P.ended puzzle.new ≡ true) × GrowsPast 1073741824 (L.taken list.old) (L.taken list.new) × (L.errors list.new ≡ L.errors list.old) × (certificate.new ≡ certificate.old))
-        ((P.ended puzzle.new ≡ true) × (L.ended list.new ≡ true) × GrowsPast 1073741824 (C.taken certificate.old) (C.taken certificate.new) × (C.errors certificate.new ≡ C.errors certificate.old))
-        of) }
+    ensures reading { IfErr result (StopsReading (reading_of P.Source puzzle.old puzzle.new)
+        (reading_of L.Source list.old list.new) (reading_of C.Source certificate.old certificate.new)) }
     // Writing fails only where the sink answered an error, or took nothing; then a front of the line went out.
-    ensures write { IsErrOf result RunFault.Write → (p l c : List ℕ) × (outcome : Outcome)
-        × AppendsWhole (P.taken puzzle.old) (P.taken puzzle.new) (P.ended puzzle.new) p
-        × AppendsWhole (L.taken list.old) (L.taken list.new) (L.ended list.new) l
-        × AppendsWhole (C.taken certificate.old) (C.taken certificate.new) (C.ended certificate.new) c
-        × RunGives p l c (Ok outcome)
-        × AppendsFront (W.written writer.old) (W.written writer.new) (answer_line outcome.answer outcome.listed)
-        × ((W.errors writer.new ≡ W.errors writer.old + 1) ⊎ (W.idle writer.new ≡ true)) }
+    ensures write { IsErrOf result RunFault.Write
+        → ReadToEnds (reading_of P.Source puzzle.old puzzle.new) (reading_of L.Source list.old list.new)
+        (reading_of C.Source certificate.old certificate.new)
+        (λ texts. WritesFront (writing_of W.Sink writer.old writer.new)
+        (λ text. (status : Status) × CheckGives texts text status)) }
 {
     let _one_thread = (workers, forks);
     let puzzle = read_document(alloc, puzzle, Document::Puzzle)?;
@@ -116,33 +99,25 @@ pub fn run_joined<R: Source, W: Sink>(
     requires workers { workers ≡ 1 }
     requires forks { forks ≡ 0 }
 
-    // What was written is the answer's line on the bytes that came, up to the end.
-    ensures ok { IfOk result (λ status. (input : List ℕ) × (outcome : Outcome)
-        × AppendsWhole (R.taken reader.old) (R.taken reader.new) (R.ended reader.new) input
-        × RunGives (first_of input) (second_of input) (third_of input) (Ok outcome)
-        × Appends (W.written writer.old) (W.written writer.new) (answer_line outcome.answer outcome.listed)
-        × (status ≡ status_of outcome.answer)) }
-    // Where the status is Complete, the symmetries of the certificate reach every arrangement of the puzzle from the list.
-    ensures complete { IfOk result (λ status. status ≡ Status.Complete → (input : List ℕ)
-        × AppendsWhole (R.taken reader.old) (R.taken reader.new) (R.ended reader.new) input
-        × SpellCompleteList (first_of input) (second_of input) (third_of input)) }
-    // A fault of a document is what the bytes come to.
-    ensures document { IfErr result (λ fault. IsOfDocuments fault → (input : List ℕ)
-        × AppendsWhole (R.taken reader.old) (R.taken reader.new) (R.ended reader.new) input
-        × RunGives (first_of input) (second_of input) (third_of input) (Err fault)) }
+    // What was written is the answer's line on the texts in what came.
+    ensures ok { IfOk result (λ status. InputReadToEnd (reading_of R.Source reader.old reader.new)
+        (λ texts. WritesWhole (writing_of W.Sink writer.old writer.new) (λ text. CheckGives texts text status))) }
+    // Where the status is Complete, the symmetries of the certificate reach every arrangement of
+    // the puzzle from the list.
+    ensures complete { IfOk result (λ status. status ≡ Status.Complete
+        → InputReadToEnd (reading_of R.Source reader.old reader.new) SpellCompleteList) }
+    // A fault of a document is what the texts come to.
+    ensures document { IfErr result (λ fault. IsOfDocuments fault
+        → InputReadToEnd (reading_of R.Source reader.old reader.new) (λ texts. RunGives texts (Err fault))) }
     ensures fault { IfErr result IsOfChecking }
     ensures untouched { IfErr result (λ fault. fault ≢ RunFault.Write → writer.new ≡ writer.old) }
 
     // Reading fails only where the source answered an error, or more bytes came than are read.
-    ensures read { IfErr result (λ fault. (of : Document) → fault ≡ RunFault.Read of → (of ≡ Document.Input) × (R.errors reader.new ≡ R.errors reader.old + 1)) }
-    ensures too_long { IfErr result (λ fault. (of : Document) → fault ≡ RunFault.TooLong of → (of ≡ Document.Input)
-        × GrowsPast 1073741824 (R.taken reader.old) (R.taken reader.new) × (R.errors reader.new ≡ R.errors reader.old)) }
+    ensures reading { IfErr result (StopsReadingInput (reading_of R.Source reader.old reader.new)) }
     // Writing fails only where the sink answered an error, or took nothing; then a front of the line went out.
-    ensures write { IsErrOf result RunFault.Write → (input : List ℕ) × (outcome : Outcome)
-        × AppendsWhole (R.taken reader.old) (R.taken reader.new) (R.ended reader.new) input
-        × RunGives (first_of input) (second_of input) (third_of input) (Ok outcome)
-        × AppendsFront (W.written writer.old) (W.written writer.new) (answer_line outcome.answer outcome.listed)
-        × ((W.errors writer.new ≡ W.errors writer.old + 1) ⊎ (W.idle writer.new ≡ true)) }
+    ensures write { IsErrOf result RunFault.Write → InputReadToEnd (reading_of R.Source reader.old reader.new)
+        (λ texts. WritesFront (writing_of W.Sink writer.old writer.new)
+        (λ text. (status : Status) × CheckGives texts text status)) }
 {
     let _one_thread = (workers, forks);
     let input = read_document(alloc, reader, Document::Input)?;
@@ -156,12 +131,12 @@ pub(crate) fn read_document<R: Source>(
     reader: &mut R,
     document: Document,
 ) -> Result<Vec<u8>, RunFault>
-    ensures whole { IfOk result (λ text. AppendsWhole (R.taken reader.old) (R.taken reader.new) (R.ended reader.new) text.items) }
+    ensures whole { IfOk result (λ text. ReadsWhole (reading_of R.Source reader.old reader.new) text.items) }
     ensures bounded { IfOk result (λ text. length text.items ≤ MOST_BYTES) }
     ensures fault { IfErr result (λ fault. IsOfReading fault document) }
-    ensures read { IsErrOf result (RunFault.Read document) → R.errors reader.new ≡ R.errors reader.old + 1 }
+    ensures read { IsErrOf result (RunFault.Read document) → FailsToRead (reading_of R.Source reader.old reader.new) }
     ensures too_long { IsErrOf result (RunFault.TooLong document)
-        → GrowsPast MOST_BYTES (R.taken reader.old) (R.taken reader.new) × (R.errors reader.new ≡ R.errors reader.old) }
+        → ReadsPast MOST_BYTES (reading_of R.Source reader.old reader.new) }
 {
     match read_whole(alloc, reader, MOST_BYTES) {
         Ok(text) => Ok(text),
@@ -177,19 +152,16 @@ fn write_answer_to<W: Sink>(
     documents: &Documents<'_>,
     writer: &mut W,
 ) -> Result<Status, RunFault>
-    requires { length documents.now.puzzle.now + length documents.now.list.now + length documents.now.certificate.now + 1 < 2 ^ 32 }
-    ensures ok { IfOk result (λ status. (outcome : Outcome)
-        × RunGives documents.now.puzzle.now documents.now.list.now documents.now.certificate.now (Ok outcome)
-        × Appends (W.written writer.old) (W.written writer.new) (answer_line outcome.answer outcome.listed)
-        × (status ≡ status_of outcome.answer)) }
-    ensures complete { IfOk result (λ status. status ≡ Status.Complete → SpellCompleteList documents.now.puzzle.now documents.now.list.now documents.now.certificate.now) }
-    ensures document { IfErr result (λ fault. IsOfDocuments fault → RunGives documents.now.puzzle.now documents.now.list.now documents.now.certificate.now (Err fault)) }
+    requires { AreShort (texts_of documents.now) }
+    ensures ok { IfOk result (λ status. WritesWhole (writing_of W.Sink writer.old writer.new)
+        (λ text. CheckGives (texts_of documents.now) text status)) }
+    ensures complete { IfOk result (λ status. status ≡ Status.Complete → SpellCompleteList (texts_of documents.now)) }
+    ensures document { IfErr result (λ fault. IsOfDocuments fault → RunGives (texts_of documents.now) (Err fault)) }
     ensures fault { IfErr result IsOfAnswering }
     ensures untouched { IfErr result (λ fault. fault ≢ RunFault.Write → writer.new ≡ writer.old) }
-    ensures write { IsErrOf result RunFault.Write → (outcome : Outcome)
-        × RunGives documents.now.puzzle.now documents.now.list.now documents.now.certificate.now (Ok outcome)
-        × AppendsFront (W.written writer.old) (W.written writer.new) (answer_line outcome.answer outcome.listed)
-        × ((W.errors writer.new ≡ W.errors writer.old + 1) ⊎ (W.idle writer.new ≡ true)) }
+    ensures write { IsErrOf result RunFault.Write
+        → WritesFront (writing_of W.Sink writer.old writer.new)
+        (λ text. (status : Status) × CheckGives (texts_of documents.now) text status) }
 {
     let question = read_question(alloc, documents)?;
     let answer = check(

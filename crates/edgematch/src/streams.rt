@@ -1,6 +1,7 @@
-// Where bytes come from and where they go.
+//! Where bytes come from and where they go.
 
 pub mod documents;
+#[cfg(test)]
 pub mod fakes;
 pub mod sinks;
 pub mod sources;

@@ -1,11 +1,9 @@
-// Lists of tiles.
+//! Lists of tiles.
 
-ghost use Rattle.std.specs.Prelude.{◌≡◌, ◌≢◌, ◌≤◌, ◌⊎◌, ◌+◌, ℕ, List, true, OnOk, IfErr, IsErrOf};
-ghost use Rattle.std.specs.Io.KnownBytes.{Appends};
+ghost use Rattle.std.specs.Prelude.{◌≡◌, ◌≢◌, ◌≤◌, ◌⊎◌, OnOk, IfErr, IsErrOf};
 ghost use Rattle.match_board.specs.Turns.{HasMoreLeastWords};
-ghost use Rattle.match_text.specs.PuzzleSpelling.{tiles_spelling};
-ghost use Rattle.edgematch.specs.Streams.{AppendsFront};
-ghost use Rattle.edgematch.specs.Runs.{AreTileWords, IsOfTiles};
+ghost use Rattle.edgematch.specs.Moves.{WritesFront, WritesWhole, writing_of};
+ghost use Rattle.edgematch.specs.Runs.{IsOfTiles, TilesGive};
 
 use crate::faults::RunFault;
 use crate::streams::sinks::{Sink, write_whole};
@@ -27,16 +25,14 @@ pub fn run_tiles<W: Sink>(
     requires sides { (sides ≡ 3) ⊎ (sides ≡ 4) }
     requires colours { (1 ≤ colours) × (colours ≤ 36) }
 
-    ensures ok { OnOk result ((words : List (List ℕ)) × AreTileWords sides colours words
-        × Appends (W.written writer.old) (W.written writer.new) (tiles_spelling words)) }
+    ensures ok { OnOk result (WritesWhole (writing_of W.Sink writer.old writer.new) (TilesGive sides colours)) }
 
     ensures fault { IfErr result IsOfTiles }
     ensures tiles { IsErrOf result RunFault.Tiles → HasMoreLeastWords sides colours 100 }
     ensures untouched { IfErr result (λ fault. fault ≢ RunFault.Write → writer.new ≡ writer.old) }
     // Writing fails only where the sink answered an error, or took nothing; then a front of the words went out.
-    ensures write { IsErrOf result RunFault.Write → (words : List (List ℕ)) × AreTileWords sides colours words
-        × AppendsFront (W.written writer.old) (W.written writer.new) (tiles_spelling words)
-        × ((W.errors writer.new ≡ W.errors writer.old + 1) ⊎ (W.idle writer.new ≡ true)) }
+    ensures write { IsErrOf result RunFault.Write
+        → WritesFront (writing_of W.Sink writer.old writer.new) (TilesGive sides colours) }
 {
     let tiles = all_tiles(alloc, sides, colours)?;
     let text = write_tiles(alloc, &tiles)?;

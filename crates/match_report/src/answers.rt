@@ -1,4 +1,4 @@
-// How an answer is printed.
+//! How an answer is printed.
 
 ghost use Rattle.std.specs.Prelude.{◌≡◌, ◌≢◌, ◌++◌, [], ◌∷◌, ℕ, decimal, IfOk, OnOk};
 ghost use Rattle.match_report.specs.Line.{spaced};

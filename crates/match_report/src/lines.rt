@@ -1,4 +1,4 @@
-// Lines of words, as they are printed.
+//! Lines of words, as they are printed.
 
 ghost use Rattle.std.specs.Prelude.{◌≡◌, ◌++◌, ◌∷◌, [], ℕ, List, IfOk, OnOk, decimal};
 ghost use Rattle.match_report.specs.Line.{spaced, dotted, label, path_text};

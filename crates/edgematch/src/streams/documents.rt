@@ -1,4 +1,4 @@
-// An input cut into its documents.
+//! An input cut into its documents.
 
 ghost use Rattle.std.specs.Prelude.{◌≡◌, ◌==◌, ◌≤◌, ◌++◌, ◌∷◌, All, false, length, take, drop, IfSome, IfNone};
 ghost use Rattle.edgematch.specs.Documents.{cut_document, first_of, second_of, third_of};

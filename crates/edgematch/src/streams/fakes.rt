@@ -1,4 +1,4 @@
-// A source and a sink over memory, for tests.
+//! A source and a sink over memory, for tests.
 
 ghost use Rattle.std.specs.Prelude.{◌≡◌, ◌≤◌, ◌+◌, [], Some, length, take};
 

@@ -1,6 +1,7 @@
-// Where bytes go.
+//! Where bytes go.
 
-ghost use Rattle.std.specs.Prelude.{◌≡◌, ◌≤◌, ◌<◌, ◌+◌, ◌↔◌, ◌⊎◌, ℕ, Bool, List, Option, true, false, length, take, IfOk, OnOk, OnErr};
+ghost use Rattle.std.specs.Prelude.{◌≡◌, ◌≤◌, ◌<◌, ◌+◌, ◌↔◌, ◌⊎◌};
+ghost use Rattle.std.specs.Prelude.{ℕ, Bool, List, Option, true, false, length, take, IfOk, OnOk, OnErr};
 ghost use Rattle.std.specs.Io.KnownBytes.{Appends, Keeps};
 ghost use Rattle.edgematch.specs.Streams.{AppendsFront};
 

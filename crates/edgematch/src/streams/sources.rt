@@ -1,6 +1,7 @@
-// Where bytes come from.
+//! Where bytes come from.
 
-ghost use Rattle.std.specs.Prelude.{◌≡◌, ◌≤◌, ◌<◌, ◌+◌, ◌-◌, ◌↔◌, ℕ, Bool, List, Option, true, false, length, take, IfOk, OnOk, OnErr, IsErrOf};
+ghost use Rattle.std.specs.Prelude.{◌≡◌, ◌≤◌, ◌<◌, ◌+◌, ◌-◌};
+ghost use Rattle.std.specs.Prelude.{◌↔◌, ℕ, Bool, List, Option, true, false, length, take, IfOk, OnOk, OnErr, IsErrOf};
 ghost use Rattle.std.specs.Io.KnownBytes.{Appends, Keeps};
 ghost use Rattle.edgematch.specs.Streams.{Grows, GrowsPast, GrowsUpTo};
 ghost use Rattle.edgematch.specs.declared.streams.sources.ReadWholeFault.TheVariants.{Memory};

@@ -1,4 +1,4 @@
-// Readers and writers of the system, as sources and sinks.
+//! Readers and writers of the system, as sources and sinks.
 
 ghost use Rattle.std.specs.Prelude.{◌≡◌, ◌≤◌, ◌<◌, false, None, IfSome, IfNone, length, take};
 ghost use Rattle.std.specs.Io.KnownBytes.{Appends, Consumes, IsAtEnd, Keeps};
@@ -39,7 +39,8 @@ impl<R: Read> Input<R> {
 // A read that is tried again while it is interrupted; none where it fails.
 fn count_read<R: Read>(reader: &mut R, buffer: &mut [u8]) -> Option<usize>
     ensures count { IfSome result (λ n. n ≤ length buffer.new) }
-    ensures bytes { IfSome result (λ n. Consumes (R.remaining reader.old) (R.remaining reader.new) (take n buffer.new)) }
+    ensures bytes { IfSome result (λ n.
+        Consumes (R.remaining reader.old) (R.remaining reader.new) (take n buffer.new)) }
     ensures end { IfSome result (λ n. n ≡ 0 → 0 < length buffer.old → IsAtEnd (R.remaining reader.new)) }
     ensures kept { IfNone result (Keeps (R.remaining reader.old) (R.remaining reader.new)) }
 {

@@ -7,11 +7,14 @@ use Rattle.command_words.proofs.commands.program.Goals as goal
 abbrev nameless : App → App
 nameless = on_top (λ (s : Shape). record s { no_binary_name = true })
 
+abbrev versioned : App → App
+versioned = on_top (λ (s : Shape). record s { has_version = true })
+
 pub returns : goal.returns
 returns c =
-    let top : app_of c.in_ok-bin_name.field-0 ≡ nameless (app_of c.new.result) =
-    ap app_of_fields c.in_ok-bin_name.ensures.0 ∙ ap app_of_fields c.no_binary_name.ensures ∙ ap nameless (ap app_of_fields c.after_help.ensures ∙ ap app_of_fields c.about.ensures) in
+    let top : app_of c.in_ok-bin_name.field-0 ≡ nameless (versioned (app_of c.new.result)) =
+    ap app_of_fields c.in_ok-bin_name.ensures.0 ∙ ap app_of_fields c.no_binary_name.ensures ∙ ap nameless (ap app_of_fields c.version.ensures ∙ ap versioned (ap app_of_fields c.after_help.ensures ∙ ap app_of_fields c.about.ensures)) in
     let with_check = c.in_ok-subcommand.ensures.shape c.in_ok-check.ensures.local
-    ∙ ap₂ with_subcommand (top ∙ ap nameless c.new.ensures.app) (ap (λ (a : App). a.top) c.in_ok-check.ensures.app) in
+    ∙ ap₂ with_subcommand (top ∙ ap (λ (a : App). nameless (versioned a)) c.new.ensures.app) (ap (λ (a : App). a.top) c.in_ok-check.ensures.app) in
     let with_expand = c.in_ok-subcommand-2.ensures.shape c.in_ok-expand.ensures.local ∙ ap₂ with_subcommand with_check (ap (λ (a : App). a.top) c.in_ok-expand.ensures.app) in
     c.in_ok-command.ensures.shape c.in_ok-tiles.ensures.local ∙ ap₂ with_subcommand with_expand (ap (λ (a : App). a.top) c.in_ok-tiles.ensures.app)

@@ -1,8 +1,11 @@
-use Rattle.std.proofs.Common.{◌≡◌, ◌≢◌, sym, subst, map, codes, true, rules}
+use Rattle.std.proofs.Common.{◌≡◌, ◌≢◌, Some, sym, subst, map, codes, true, false, refl, rules}
 use Rattle.std.specs.String.{string_bytes}
 use Rattle.std.proofs.lemmas.Result.{err_from_is_err_and}
 use Rattle.clap.specs.Words.{App, app_of, found_of, rows_of, takes}
-use Rattle.command_words.proofs.ProgramLemmas.{check_own, expand_own, no_other_own, only_memory, parse_has, tiles_own}
+use Rattle.clap.specs.Walk.{Text}
+use Rattle.std.specs.Str.{bytes_eq}
+use Rattle.command_words.proofs.ProgramLemmas.{HasNeeded, IsEntered, command_at, command_named, has_number, differs, has_files, needed_at, none_is_some, only_memory, parse_has, rule_at}
+use Rattle.command_words.proofs.readings.order.Goals.{In-Some}
 use Rattle.command_words.proofs.readings.order.Goals as goal
 
 pub returns-in_err-matches-clause-memory : goal.returns-in_err-matches-clause-memory
@@ -11,45 +14,30 @@ returns-in_err-matches-clause-memory c = λ taken.
     let takes_them : takes (app_of c.in_ok-program.field-0) (map string_bytes c.args.words.now) ≡ true = subst (λ (a : App). takes a (map string_bytes c.args.words.now) ≡ true) (sym c.in_ok-program.ensures) taken in
     rw p.1 (only_memory c.in_err-matches.field-0.0 p.0 p.2 (c.in_err-matches.ensures.passes takes_them))
 
-pub files-requires : goal.files-requires
-files-requires c =
-    let name = c.in-Some.name.now in
-    let rows = rows_of (found_of c.in-Some.matches.now) in
-    let own = parse_has c.in_ok-program.field-0 c.in_ok-matches.matches (map string_bytes c.args.words.now) c.in_ok-program.ensures c.in_ok-matches.ensures.kinds c.in_ok-matches.ensures.matches
-    name rows c.in-Some.ensures.name c.in-Some.ensures.rows in
-    check_own name rows own (search rules)
+-- the command that the words name was entered
+entered : (c : In-Some) → IsEntered c.in-Some.name.now (rows_of (found_of c.in-Some.matches.now))
+entered c =
+    parse_has c.in_ok-program.field-0 c.in_ok-matches.matches (map string_bytes c.args.words.now) c.in_ok-program.ensures c.in_ok-matches.ensures.kinds c.in_ok-matches.ensures.matches
+    c.in-Some.name.now (rows_of (found_of c.in-Some.matches.now)) c.in-Some.ensures.name c.in-Some.ensures.rows
 
-pub files-requires-then-eq-2 : goal.files-requires-then-eq-2
-files-requires-then-eq-2 c =
-    let name = c.in-Some.name.now in
-    let rows = rows_of (found_of c.in-Some.matches.now) in
-    let own = parse_has c.in_ok-program.field-0 c.in_ok-matches.matches (map string_bytes c.args.words.now) c.in_ok-program.ensures c.in_ok-matches.ensures.kinds c.in_ok-matches.ensures.matches
-    name rows c.in-Some.ensures.name c.in-Some.ensures.rows in
-    expand_own name rows own (search rules)
+-- its matches have what the command of this name needs
+needed : (c : In-Some) (name : Text) → c.in-Some.name.now ≡ name → command_named name ≡ Some (command_at name) → HasNeeded (command_at name) (rows_of (found_of c.in-Some.matches.now))
+needed c name is = needed_at name c.in-Some.name.now (rows_of (found_of c.in-Some.matches.now)) (entered c) is
+
+pub files-requires : goal.files-requires
+files-requires c = has_files (command_at (codes "check")) (rows_of (found_of c.in-Some.matches.now)) (needed (goal.at.files-requires c).In-Some (codes "check") (search rules) refl) refl refl refl
+
+pub files-requires-in-expand : goal.files-requires-in-expand
+files-requires-in-expand c = has_files (command_at (codes "expand")) (rows_of (found_of c.in-Some.matches.now)) (needed (goal.at.files-requires-in-expand c).In-Some (codes "expand") (search rules) refl) refl refl refl
 
 pub tiles-requires-clause-sides : goal.tiles-requires-clause-sides
-tiles-requires-clause-sides c =
-    let name = c.in-Some.name.now in
-    let rows = rows_of (found_of c.in-Some.matches.now) in
-    let own = parse_has c.in_ok-program.field-0 c.in_ok-matches.matches (map string_bytes c.args.words.now) c.in_ok-program.ensures c.in_ok-matches.ensures.kinds c.in_ok-matches.ensures.matches
-    name rows c.in-Some.ensures.name c.in-Some.ensures.rows in
-    (tiles_own name rows own (search rules)).0
+tiles-requires-clause-sides c = has_number (command_at (codes "tiles")) (rows_of (found_of c.in-Some.matches.now)) (rule_at (command_at (codes "tiles")) 0) 3 4 (needed (goal.at.tiles-requires-clause-sides c).In-Some (codes "tiles") (search rules) refl) refl refl refl
 
 pub tiles-requires-clause-colours : goal.tiles-requires-clause-colours
-tiles-requires-clause-colours c =
-    let name = c.in-Some.name.now in
-    let rows = rows_of (found_of c.in-Some.matches.now) in
-    let own = parse_has c.in_ok-program.field-0 c.in_ok-matches.matches (map string_bytes c.args.words.now) c.in_ok-program.ensures c.in_ok-matches.ensures.kinds c.in_ok-matches.ensures.matches
-    name rows c.in-Some.ensures.name c.in-Some.ensures.rows in
-    (tiles_own name rows own (search rules)).1
+tiles-requires-clause-colours c = has_number (command_at (codes "tiles")) (rows_of (found_of c.in-Some.matches.now)) (rule_at (command_at (codes "tiles")) 1) 1 36 (needed (goal.at.tiles-requires-clause-colours c).In-Some (codes "tiles") (search rules) refl) refl refl refl
 
 pub unreachable-requires : goal.unreachable-requires
 unreachable-requires c =
-    let name = c.in-Some.name.now in
-    let rows = rows_of (found_of c.in-Some.matches.now) in
-    let own = parse_has c.in_ok-program.field-0 c.in_ok-matches.matches (map string_bytes c.args.words.now) c.in_ok-program.ensures c.in_ok-matches.ensures.kinds c.in_ok-matches.ensures.matches
-    name rows c.in-Some.ensures.name c.in-Some.ensures.rows in
-    let no_check : name ≢ codes "check" = search rules in
-    let no_expand : name ≢ codes "expand" = search rules in
-    let no_tiles : name ≢ codes "tiles" = search rules in
-    no_other_own name rows own no_check no_expand no_tiles
+    let own = entered (goal.at.unreachable-requires c).In-Some in
+    let other : (name : Text) → c.in-Some.name.now ≢ name → bytes_eq name c.in-Some.name.now ≡ false = differs c.in-Some.name.now in
+    none_is_some (rw (other (codes "check") (search rules), other (codes "expand") (search rules), other (codes "tiles") (search rules), other (codes "help") own.no_help) at own.is_named)

@@ -1,73 +1,64 @@
-use Rattle.std.proofs.Common.{List, map, ap, sym, ◌∙◌, subst}
+use Rattle.std.proofs.Common.{List, [], map, ap, sym, ◌∙◌, subst}
 use Rattle.std.proofs.lemmas.Result.{err_from_is_err_and}
 use Rattle.match_puzzle.specs.declared.placements.Placement.{Placement}
 use Rattle.match_text.specs.ListSpelling.{list_spelling, IsListWithin}
-use Rattle.cert_check.specs.Setting.{question_of, line_of, AreOfPuzzle}
-use Rattle.cert_check.specs.Answer.{IsCompleteList}
-use Rattle.cert_check.specs.Lines.{LinesFail}
-use Rattle.match_report.specs.Expansion.{AreMoreReached}
-use Rattle.edgematch.specs.Runs.{AreAllInOrder}
-use Rattle.edgematch.proofs.RunLemmas.{no_line, are_of, all_within, all_in_order, expand_fails}
+use Rattle.cert_check.specs.Setting.{question_of}
+use Rattle.cert_check.specs.Answer.{AreSymmetries, IsCompleteList}
+use Rattle.match_report.specs.Closure.{AddsEach}
+use Rattle.match_report.specs.Expansion.{AreMoreReached, IsExpansion, Takes}
+use Rattle.edgematch.specs.Runs.{AreAllInOrder, motion_of}
+use Rattle.edgematch.proofs.RepetitionLemmas.{closure_all}
+use Rattle.edgematch.proofs.RunLemmas.{all_in_order, all_within, expand_fails, kept_are, kept_reach}
+use Rattle.edgematch.proofs.expansion_runs.all_text.Goals.{After-deref-2}
 use Rattle.edgematch.proofs.expansion_runs.all_text.Goals as goal
 
-pub unreachable-requires : goal.unreachable-requires
-unreachable-requires c =
-    let p = c.args.question.now.puzzle in
-    let is = subst (λ ls. LinesFail p ls c.in-Err-Line.field-0) c.symmetries-lines.ensures.symmetries c.in-Err-Line.ensures.fault in
-    no_line p c.args.question.now.certificate.symmetries c.in-Err-Line.field-0-0 c.in-Err-Line.field-0-1 c.requires.complete.symmetries (subst (LinesFail p c.args.question.now.certificate.symmetries) c.in-Err-Line.field-0-is is)
+-- ---- what is expanded: the list, by the symmetries that are kept of the lines
+
+complete : (c : After-deref-2) → IsCompleteList c.args.question.now.puzzle c.args.question.now.certificate.symmetries c.deref.result.now
+complete c = subst (IsCompleteList c.args.question.now.puzzle c.args.question.now.certificate.symmetries) (sym c.deref.ensures.value) c.requires.complete
+
+kept : (c : After-deref-2) → AddsEach [] (map (motion_of c.args.question.now.puzzle) c.args.question.now.certificate.symmetries) c.deref-2.result.now
+kept c = subst (AddsEach [] (map (motion_of c.args.question.now.puzzle) c.args.question.now.certificate.symmetries)) (sym c.deref-2.ensures.value)
+    (subst (λ lines. AddsEach [] (map (motion_of c.args.question.now.puzzle) lines) c.in_ok-symmetries.symmetries.items) c.symmetries-lines.ensures.symmetries c.in_ok-symmetries.ensures)
+
+-- ---- the goals
+
+pub distinct_symmetries-requires-clause-symmetries : goal.distinct_symmetries-requires-clause-symmetries
+distinct_symmetries-requires-clause-symmetries c = subst (AreSymmetries c.args.question.now.puzzle) (sym c.symmetries-lines.ensures.symmetries) c.requires.complete.symmetries
 
 pub expand-requires : goal.expand-requires
 expand-requires c =
+    let at = (goal.at.expand-requires c).After-deref-2 in
     let p = c.args.question.now.puzzle in
-    let lines = c.args.question.now.certificate.symmetries in
-    let listed = c.deref.result.now in
-    let motions = c.deref-2.result.now in
-    let complete = subst (IsCompleteList p lines) (sym c.deref.ensures.value) c.requires.complete in
-    let same = ap (map line_of) c.deref-2.ensures.value ∙ c.in-Ok.ensures.lines ∙ c.symmetries-lines.ensures.symmetries in
-    let of = subst (AreOfPuzzle p) (sym c.deref-2.ensures.value) c.in-Ok.ensures.puzzle in
-    let are = are_of p listed motions lines c.requires.puzzle complete same of in
-    (p, are)
+    (p, kept_are p c.deref.result.now c.args.question.now.certificate.symmetries c.requires.puzzle (complete at) c.deref-2.result.now (kept at))
 
 pub returns-in_err-all-clause-expand : goal.returns-in_err-all-clause-expand
 returns-in_err-all-clause-expand c =
+    let at = (goal.at.returns-in_err-all-clause-expand c).After-deref-2 in
     let p = c.args.question.now.puzzle in
     let lines = c.args.question.now.certificate.symmetries in
     let listed = c.deref.result.now in
-    let motions = c.deref-2.result.now in
-    let complete = subst (IsCompleteList p lines) (sym c.deref.ensures.value) c.requires.complete in
-    let same = ap (map line_of) c.deref-2.ensures.value ∙ c.in-Ok.ensures.lines ∙ c.symmetries-lines.ensures.symmetries in
-    let of = subst (AreOfPuzzle p) (sym c.deref-2.ensures.value) c.in-Ok.ensures.puzzle in
-    let are = are_of p listed motions lines c.requires.puzzle complete same of in
-    let w = err_from_is_err_and c.from_residual.result c.from_residual.ensures.1 in
+    let are = kept_are p listed lines c.requires.puzzle (complete at) c.deref-2.result.now (kept at) in
+    let w = err_from_is_err_and c.from_residual-in_err-all.result c.from_residual-in_err-all.ensures.1 in
     rw (w.1, w.2)
-    (λ e. subst (λ (l : List (List Placement)). AreMoreReached 1000000 p lines l) c.deref.ensures.value
-    (subst (λ gs. AreMoreReached 1000000 p gs listed) same (c.in_err-all.ensures.too_many (expand_fails e) p are)))
+    (λ e. subst (AreMoreReached 1000000 p lines) c.deref.ensures.value (kept_reach p listed lines c.requires.puzzle (complete at) 1000000 c.deref-2.result.now (kept at) (c.in_err-all.ensures.too_many (expand_fails e) p are)))
+
+expansion : (c : After-deref-2) (all : List (List Placement)) → IsExpansion c.deref-2.result.now c.deref.result.now all → IsExpansion (map (motion_of c.args.question.now.puzzle) c.args.question.now.certificate.symmetries) c.deref.result.now all
+expansion c all is = closure_all Takes (map (motion_of c.args.question.now.puzzle) c.args.question.now.certificate.symmetries) c.deref-2.result.now (kept c) c.deref.result.now all is
 
 pub write_list-requires : goal.write_list-requires
 write_list-requires c =
-    let p = c.args.question.now.puzzle in
-    let lines = c.args.question.now.certificate.symmetries in
-    let listed = c.deref.result.now in
-    let motions = c.deref-2.result.now in
-    let complete = subst (IsCompleteList p lines) (sym c.deref.ensures.value) c.requires.complete in
-    let same = ap (map line_of) c.deref-2.ensures.value ∙ c.in-Ok.ensures.lines ∙ c.symmetries-lines.ensures.symmetries in
-    let of = subst (AreOfPuzzle p) (sym c.deref-2.ensures.value) c.in-Ok.ensures.puzzle in
-    let are = are_of p listed motions lines c.requires.puzzle complete same of in
+    let at = (goal.at.write_list-requires c).After-deref-2 in
     let all = c.in_ok-all.all.keys in
-    subst IsListWithin (sym c.as_slice.ensures.keys) (all_within p listed motions lines c.requires.puzzle complete same of all (c.in_ok-all.ensures.reached p are) c.in_ok-all.ensures.few)
+    subst IsListWithin (sym c.as_slice.ensures.keys)
+    (all_within c.args.question.now.puzzle c.deref.result.now c.args.question.now.certificate.symmetries c.requires.puzzle (complete at) all (expansion at all c.in_ok-all.ensures.expansion) c.in_ok-all.ensures.few)
 
 pub returns-clause-all : goal.returns-clause-all
 returns-clause-all c =
+    let at = (goal.at.returns-clause-all c).After-deref-2 in
     let p = c.args.question.now.puzzle in
-    let lines = c.args.question.now.certificate.symmetries in
-    let listed = c.deref.result.now in
-    let motions = c.deref-2.result.now in
-    let complete = subst (IsCompleteList p lines) (sym c.deref.ensures.value) c.requires.complete in
-    let same = ap (map line_of) c.deref-2.ensures.value ∙ c.in-Ok.ensures.lines ∙ c.symmetries-lines.ensures.symmetries in
-    let of = subst (AreOfPuzzle p) (sym c.deref-2.ensures.value) c.in-Ok.ensures.puzzle in
-    let are = are_of p listed motions lines c.requires.puzzle complete same of in
     let all = c.in_ok-all.all.keys in
-    let ordered = all_in_order p listed motions lines c.requires.puzzle complete same of all (c.in_ok-all.ensures.reached p are) c.args.question.now.certificate.lemmas c.in_ok-all.ensures.expansion in (
+    let ordered = all_in_order p c.deref.result.now c.args.question.now.certificate.symmetries c.requires.puzzle (complete at) all (expansion at all c.in_ok-all.ensures.expansion) c.args.question.now.certificate.lemmas in (
       all,
       subst (λ (l : List (List Placement)). AreAllInOrder (question_of p l c.args.question.now.certificate) all) c.deref.ensures.value ordered,
       c.in_ok-text.ensures.spelling ∙ ap list_spelling c.as_slice.ensures.keys,

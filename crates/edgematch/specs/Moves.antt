@@ -1,0 +1,66 @@
+-- What a source and a sink tell before a run and after it.
+use Rattle.std.specs.Prelude.{◌≡◌, ◌⊎◌, ◌+◌, ℕ, Bool, true, List, Option}
+use Rattle.std.specs.Io.KnownBytes.{Appends}
+use Rattle.edgematch.specs.Streams.{AppendsFront, AppendsWhole, GrowsPast}
+use Rattle.edgematch.specs.declared.streams.sources.Source.{Ghosts as SourceMembers}
+use Rattle.edgematch.specs.declared.streams.sinks.Sink.{Ghosts as SinkMembers}
+
+-- ---- sources
+
+pub record Reading : Type 1 where
+  pub before : Option (List ℕ)
+  pub after : Option (List ℕ)
+  pub ended : Bool
+  pub errors_before : ℕ
+  pub errors_after : ℕ
+  pub Untouched : Type 0
+
+abbrev pub reading_of : {S : Type 0} → SourceMembers S → (old new : S) → Reading
+reading_of source old new = record {
+  before = source.taken old;
+  after = source.taken new;
+  ended = source.ended new;
+  errors_before = source.errors old;
+  errors_after = source.errors new;
+  Untouched = new ≡ old;
+}
+
+-- its text came whole, and then its end
+abbrev pub ReadsWhole : Reading → List ℕ → Type 0
+ReadsWhole source text = AppendsWhole source.before source.after source.ended text
+
+-- it answered an error
+abbrev pub FailsToRead : Reading → Type 0
+FailsToRead source = source.errors_after ≡ source.errors_before + 1
+
+-- more bytes came, and no error
+abbrev pub ReadsPast : ℕ → Reading → Type 0
+ReadsPast bound source = GrowsPast bound source.before source.after × (source.errors_after ≡ source.errors_before)
+
+-- ---- sinks
+
+pub record Writing : Type 0 where
+  pub before : Option (List ℕ)
+  pub after : Option (List ℕ)
+  pub idle : Bool
+  pub errors_before : ℕ
+  pub errors_after : ℕ
+
+abbrev pub writing_of : {S : Type 0} → SinkMembers S → (old new : S) → Writing
+writing_of sink old new = record {
+  before = sink.written old;
+  after = sink.written new;
+  idle = sink.idle new;
+  errors_before = sink.errors old;
+  errors_after = sink.errors new;
+}
+
+-- a text that is so was written whole
+abbrev pub WritesWhole : Writing → (List ℕ → Type 0) → Type 0
+WritesWhole sink Is = (text : List ℕ) × Is text × Appends sink.before sink.after text
+
+-- a front of a text that is so was written, until the sink answered an error or took nothing
+abbrev pub WritesFront : Writing → (List ℕ → Type 0) → Type 0
+WritesFront sink Is =
+    (text : List ℕ) × Is text × AppendsFront sink.before sink.after text
+    × ((sink.errors_after ≡ sink.errors_before + 1) ⊎ (sink.idle ≡ true))
