@@ -1,0 +1,76 @@
+-- A tree that grows child by child, and what is found with it.
+use Rattle.std.proofs.Common.{◌≡◌, ◌⊎◌, ◌≤◌, ◌+◌, ◌-◌, ◌++◌, ◌∷◌, [], ℕ, List, Option, None, Some, Contains, MatchOption, ◌<◌, ap, ◌∙◌, length, length-append, take, arith, inl, inr, subst, ⊎_elim}
+use Rattle.std.proofs.lemmas.List.Elements.{Contains-push_cases, Contains-append_left}
+use Rattle.std.proofs.lemmas.List.{take-append-le, take_all}
+use Rattle.xcc_form.specs.ExactCover.{Cover}
+use Rattle.xcc_form.specs.Options.{Compiled, cover_of}
+use Rattle.xcc_dance.specs.Clashes.{IsOpenAt}
+use Rattle.match_puzzle.specs.declared.placements.Placement.{Placement}
+use Rattle.cert_tree.specs.Tree.{Tree, Forest, branch, dead, found, same, image, none, more, tree_of, forest_of}
+use Rattle.cert_tree.specs.declared.nodes.Node.{Node}
+use Rattle.xcc_dance.specs.Chosen.{Selection, with_option, without_last, IsNext, IsLast}
+use Rattle.xcc_dance.specs.Found.{IsFoundFrom, branch_count, branch_total, IsFoundBelow, AreFoundBelow}
+
+-- how far it is from the next option to the last; nothing, where there is none
+abbrev pub left_after : (options : ℕ) → (next : Option ℕ) → ℕ
+left_after options None = 0
+left_after options (Some option) = options - option
+
+pub total_more : (nodes : List Node) (node : Node) → branch_total (forest_of (nodes ++ node ∷ [])) ≡ branch_total (forest_of nodes) + branch_count (tree_of node)
+total_more [] node = omega arith
+total_more (x ∷ nodes) node = let h = total_more nodes node in omega (arith, h)
+
+mutual
+  pub below_up : (m n : ℕ) → m ≤ n → (t : Tree) → IsFoundBelow m t → IsFoundBelow n t
+  below_up m n le (branch item children) h = all_up m n le children h
+  below_up m n le (dead item) h = tt
+  below_up m n le (found number) h = omega (arith, h, le)
+  below_up m n le (same lemma) h = tt
+  below_up m n le (image lemma symmetry) h = tt
+
+  pub all_up : (m n : ℕ) → m ≤ n → (ts : Forest) → AreFoundBelow m ts → AreFoundBelow n ts
+  all_up m n le none h = tt
+  all_up m n le (more t ts) h = (below_up m n le t h.0, all_up m n le ts h.1)
+
+pub all_more : (n : ℕ) (nodes : List Node) (node : Node) → AreFoundBelow n (forest_of nodes) → IsFoundBelow n (tree_of node) → AreFoundBelow n (forest_of (nodes ++ node ∷ []))
+all_more n [] node h b = (b, tt)
+all_more n (x ∷ nodes) node h b = (h.0, all_more n nodes node h.1 b)
+
+pub one_found : {X : Type 0} (P : X → Type 0) (xs ys : List X) (y : X) → ys ≡ xs ++ y ∷ [] → P y → (x : X) → Contains ys x → Contains xs x ⊎ P x
+one_found P xs ys y e p x c = ⊎_elim (λ old. inl old) (λ now. inr (subst P now p)) (Contains-push_cases xs y x (subst (λ l. Contains l x) e c))
+
+-- what is found after one more choice is found before it
+pub found_before : (s : Selection) (option : ℕ) (a : List Placement) → IsFoundFrom (with_option s option) a → IsFoundFrom s a
+found_before s option a f = record { solution = f.solution; is_solution = f.is_solution; has_chosen = λ o c. f.has_chosen o (Contains-append_left s.chosen (option ∷ []) o c) }
+
+-- what is found from one more choice, behind what was found before
+pub found_later : (start here chosen : Selection) (option : ℕ) (first before after : List (List Placement)) → here ≡ start → chosen ≡ with_option here option
+    → ((a : List Placement) → Contains after a → Contains before a ⊎ IsFoundFrom chosen a) → ((a : List Placement) → Contains before a → Contains first a ⊎ IsFoundFrom start a)
+    → (a : List Placement) → Contains after a → Contains first a ⊎ IsFoundFrom start a
+found_later start here chosen option first before after e f new old a h =
+    ⊎_elim
+    (λ b. old a b)
+    (λ b. inr (subst (λ s. IsFoundFrom s a) e (found_before here option a (subst (λ s. IsFoundFrom s a) f b))))
+    (new a h)
+
+-- an option that is chosen and taken back leaves what was before
+pub taken_back : (here chosen walked back : Selection) (option : ℕ) → chosen ≡ with_option here option → walked ≡ chosen → back ≡ without_last walked → back ≡ here
+taken_back here chosen walked back option e w u =
+    let long = length-append here.chosen (option ∷ []) in
+    let one : length (here.chosen ++ option ∷ []) - 1 ≡ length here.chosen = omega (arith, long) in
+    u ∙ ap without_last (w ∙ e)
+    ∙ ap (λ n. at here.compiled (take n (here.chosen ++ option ∷ []))) one
+    ∙ ap (at here.compiled) (take-append-le (length here.chosen) here.chosen (option ∷ []) (omega arith) ∙ take_all (length here.chosen) here.chosen (omega arith))
+  where
+    at : Compiled → List ℕ → Selection
+    at x xs = record { compiled = x; chosen = xs }
+
+-- the next option is open
+pub next_open : (s start : Selection) (item : ℕ) (after next : Option ℕ) → s ≡ start → MatchOption next (IsLast (cover_of s.compiled) s.chosen item after) (IsNext (cover_of s.compiled) s.chosen item after) → MatchOption next (Unit {0}) (IsOpenAt (cover_of start.compiled) start.chosen item)
+next_open s start item after None e h = tt
+next_open s start item after (Some option) e h = subst (λ (v : Selection). IsOpenAt (cover_of v.compiled) v.chosen item option) e h.open_option
+
+-- and nearer to the last
+pub next_nearer : (x : Cover) (chosen : List ℕ) (item option n : ℕ) (next : Option ℕ) → option < n → MatchOption next (IsLast x chosen item (Some option)) (IsNext x chosen item (Some option)) → left_after n next < left_after n (Some option)
+next_nearer x chosen item option n None lt h = omega (arith, lt)
+next_nearer x chosen item option n (Some later) lt h = let after = h.after_it in omega (arith, lt, after)

@@ -1,0 +1,53 @@
+-- What a search finds, and its tree.
+use Rattle.std.specs.Prelude.{◌≡◌, ℕ, ◌+◌, ◌<◌, List, Contains}
+use Rattle.match_puzzle.specs.declared.placements.Placement.{Placement}
+use Rattle.match_puzzle.specs.declared.items.Item.{Item}
+use Rattle.match_puzzle.specs.declared.items.Item.TheVariants.{Cell, Tile}
+use Rattle.cert_tree.specs.Tree.{Tree, Forest, branch, dead, found, same, image, none, more}
+use Rattle.xcc_form.specs.Correspondence.{IsSolutionOf}
+use Rattle.xcc_dance.specs.Chosen.{Selection}
+
+-- The arrangement is that of a solution that has all chosen options.
+pub record IsFoundFrom (s : Selection) (a : List Placement) : Type 0 where
+  pub solution : List ℕ
+  pub is_solution : IsSolutionOf s.compiled a solution
+  pub has_chosen : (option : ℕ) → Contains s.chosen option → Contains solution option
+
+-- The item has this number, where there are so many cells: tiles follow the cells.
+abbrev pub IsNumberOf : (cells : ℕ) → (number : ℕ) → Item → Type 0
+IsNumberOf cells number (Cell cell) = (number ≡ cell) × (cell < cells)
+IsNumberOf cells number (Tile tile) = number ≡ cells + tile
+
+-- The tree is a dead end at the item with this number.
+abbrev pub IsDeadAt : (cells item : ℕ) → Tree → Type 0
+IsDeadAt cells item tree = (i : Item) × IsNumberOf cells item i × (tree ≡ dead i)
+
+-- The tree is a branch on the item with this number, with these children.
+abbrev pub IsBranchOn : (cells item : ℕ) → Forest → Tree → Type 0
+IsBranchOn cells item children tree = (i : Item) × IsNumberOf cells item i × (tree ≡ branch i children)
+
+abbrev mutual
+  -- how many branch nodes a tree has
+  pub branch_count : Tree → ℕ
+  branch_count (branch item children) = branch_total children + 1
+  branch_count (dead item) = 0
+  branch_count (found number) = 0
+  branch_count (same lemma) = 0
+  branch_count (image lemma symmetry) = 0
+
+  pub branch_total : Forest → ℕ
+  branch_total none = 0
+  branch_total (more tree trees) = branch_count tree + branch_total trees
+
+abbrev mutual
+  -- Each found number is below this one.
+  pub IsFoundBelow : ℕ → Tree → Type 0
+  IsFoundBelow n (branch item children) = AreFoundBelow n children
+  IsFoundBelow n (dead item) = Unit {0}
+  IsFoundBelow n (found number) = number < n
+  IsFoundBelow n (same lemma) = Unit {0}
+  IsFoundBelow n (image lemma symmetry) = Unit {0}
+
+  pub AreFoundBelow : ℕ → Forest → Type 0
+  AreFoundBelow n none = Unit {0}
+  AreFoundBelow n (more tree trees) = IsFoundBelow n tree × AreFoundBelow n trees

@@ -1,0 +1,3 @@
+pub mod Clashes
+pub mod Chosen
+pub mod Found
