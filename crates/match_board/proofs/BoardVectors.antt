@@ -1,7 +1,8 @@
 -- Small boards and words, worked out.
 use Rattle.std.proofs.Common.{◌≡◌, ◌<◌, ◌≤◌, ℕ, zero, suc, [], ◌∷◌, arith, refl, inl, inr}
 use Rattle.std.proofs.lemmas.Bool.{cases_lt}
-use Rattle.match_board.specs.Board.{Rectangle, Triangle, Hexagon, cell_count, StandsAt, Meets, IsBorderPair}
+use Rattle.match_board.specs.Board.{cell_count, StandsAt, Meets, IsBorderPair}
+use Rattle.match_board.specs.declared.figures.Figure.TheVariants.{Rectangle, Triangle, Hexagon}
 use Rattle.match_board.specs.Turns.{shown, IsSameAfter, IsPeriod}
 use Rattle.match_board.proofs.Places.{met_place}
 

@@ -1,13 +1,14 @@
 -- How the border pairs are counted.
 use Rattle.std.proofs.Common.{◌≡◌, ◌+◌, ◌++◌, ◌∷◌, [], ℕ, List, length, length-append, arith, refl, ap, ◌∙◌, subst}
-use Rattle.match_board.specs.Board.{Shape, IsBorderPair, IsBorderBefore, IsBorderOrder, cell_count, side_count}
+use Rattle.match_board.specs.Board.{IsBorderPair, IsBorderBefore, IsBorderOrder, cell_count, side_count}
+use Rattle.match_board.specs.declared.figures.Figure.{Figure}
 use Rattle.match_board.proofs.Listings.{listing_none, listing_skip, listing_push, listing_row, listing_all}
 
 -- a pair of given parts
 as_pair : (x n : ℕ × ℕ) → x.0 ≡ n.0 → x.1 ≡ n.1 → x ≡ n
 as_pair x n p q = ap (λ a. (a, x.1)) p ∙ ap (λ b. (n.0, b)) q
 
-module _ (s : Shape) (cell : ℕ) where
+module _ (s : Figure) (cell : ℕ) where
   pub border_next : (side : ℕ) (pairs : List (ℕ × ℕ)) → IsBorderPair s cell side → IsBorderBefore s (cell, side) pairs → (more : List (ℕ × ℕ)) × IsBorderBefore s (cell, side + 1) more × (length more ≡ length pairs + 1)
   border_next side pairs is h = (
     pairs ++ (cell, side) ∷ [],
@@ -22,8 +23,8 @@ module _ (s : Shape) (cell : ℕ) where
   pub border_row : (pairs : List (ℕ × ℕ)) → IsBorderBefore s (cell, side_count s) pairs → IsBorderBefore s (cell + 1, 0) pairs
   border_row pairs h = listing_row (λ pair. pair) (λ pair. IsBorderPair s pair.0 pair.1) cell (side_count s) pairs (λ x holds. holds.side_in) h
 
-pub border_none : (s : Shape) → IsBorderBefore s (0, 0) []
+pub border_none : (s : Figure) → IsBorderBefore s (0, 0) []
 border_none s = listing_none (λ pair. pair) (λ pair. IsBorderPair s pair.0 pair.1)
 
-pub border_all : (s : Shape) (pairs : List (ℕ × ℕ)) → IsBorderBefore s (cell_count s, 0) pairs → IsBorderOrder s pairs
+pub border_all : (s : Figure) (pairs : List (ℕ × ℕ)) → IsBorderBefore s (cell_count s, 0) pairs → IsBorderOrder s pairs
 border_all s pairs h = listing_all (λ pair. pair) (λ pair. IsBorderPair s pair.0 pair.1) (cell_count s) pairs (λ x holds. holds.cell_in) h

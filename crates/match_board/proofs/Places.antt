@@ -1,7 +1,9 @@
 -- Where cells stand.
 use Rattle.std.proofs.Common.{◌≡◌, ◌<◌, ◌≤◌, ◌+◌, ◌-◌, ◌*◌, ℕ, zero, suc, arith, refl, ap, subst, inl, inr, ⊎_elim}
 use Rattle.std.proofs.lemmas.Bool.{cases_lt}
-use Rattle.match_board.specs.Board.{Shape, side_count, Rectangle, Triangle, Hexagon, cell_count, row_count, row_length, cells_above, StandsAt, Meets, LiesAgainst}
+use Rattle.match_board.specs.Board.{side_count, cell_count, row_count, row_length, cells_above, StandsAt, Meets, LiesAgainst}
+use Rattle.match_board.specs.declared.figures.Figure.{Figure}
+use Rattle.match_board.specs.declared.figures.Figure.TheVariants.{Rectangle, Triangle, Hexagon}
 
 -- the rows above a row of a rectangle
 pub above_in_rectangle : (width height row : ℕ) → cells_above (Rectangle width height) row ≡ row * width
@@ -44,7 +46,7 @@ empty_hexagon zero e = refl
 empty_hexagon (suc size) e = absurd (omega (arith, cells_in_hexagon (suc size), e))
 
 -- the rows above a lower row have all cells of this one
-above_later : (s : Shape) (row more row' : ℕ) → row' ≡ suc (row + more) → cells_above s row + row_length s row ≤ cells_above s row'
+above_later : (s : Figure) (row more row' : ℕ) → row' ≡ suc (row + more) → cells_above s row + row_length s row ≤ cells_above s row'
 above_later s row more zero e = absurd (omega arith)
 above_later s row zero (suc row') e =
     let same : row' ≡ row = omega arith in
@@ -52,37 +54,37 @@ above_later s row zero (suc row') e =
 above_later s row (suc more) (suc row') e = omega (arith, above_later s row more row' (omega arith))
 
 -- the cells of a row come before the next row's
-pub whole_row : (s : Shape) (row row' : ℕ) → row < row' → cells_above s row + row_length s row ≤ cells_above s row'
+pub whole_row : (s : Figure) (row row' : ℕ) → row < row' → cells_above s row + row_length s row ≤ cells_above s row'
 whole_row s row row' lt = above_later s row (row' - suc row) row' (omega (arith, lt))
 
 -- a cell of a lower row has a greater number
-later : {s : Shape} {cell row place cell' row' place' : ℕ} → StandsAt s cell row place → StandsAt s cell' row' place' → row < row' → cell < cell'
+later : {s : Figure} {cell row place cell' row' place' : ℕ} → StandsAt s cell row place → StandsAt s cell' row' place' → row < row' → cell < cell'
 later {s} {cell} {row} {place} {cell'} {row'} {place'} a b lt =
     omega (arith, whole_row s row row' lt, a.place_in, a.number, b.number)
 
 -- a cell stands in one row
-one_row : {s : Shape} {cell row place row' place' : ℕ} → StandsAt s cell row place → StandsAt s cell row' place' → row ≡ row'
+one_row : {s : Figure} {cell row place row' place' : ℕ} → StandsAt s cell row place → StandsAt s cell row' place' → row ≡ row'
 one_row {s} {cell} {row} {place} {row'} {place'} a b =
     let le : (row < row' → ⊥) = λ lt. omega (arith, later a b lt) in
     let ge : (row' < row → ⊥) = λ lt. omega (arith, later b a lt) in
     grind arith
 
 -- a cell stands at one place
-pub one_place : {s : Shape} {cell row place row' place' : ℕ} → StandsAt s cell row place → StandsAt s cell row' place' → (row ≡ row') × (place ≡ place')
+pub one_place : {s : Figure} {cell row place row' place' : ℕ} → StandsAt s cell row place → StandsAt s cell row' place' → (row ≡ row') × (place ≡ place')
 one_place {s} {cell} {row} {place} {row'} {place'} a b =
     let same = one_row a b in
     (same, omega (arith, ap (λ r. cells_above s r) same, a.number, b.number))
 
 -- a place is within the board
-pub StandsAt-in_range : {s : Shape} {cell row place : ℕ} → StandsAt s cell row place → cell < cell_count s
+pub StandsAt-in_range : {s : Figure} {cell row place : ℕ} → StandsAt s cell row place → cell < cell_count s
 StandsAt-in_range {s} {cell} {row} {place} a =
     omega (arith, whole_row s row (row_count s) a.row_in, a.place_in, a.number)
 
 -- a place has one number
-pub one_number : {s : Shape} {cell cell' row place row' place' : ℕ} → StandsAt s cell row place → StandsAt s cell' row' place' → row ≡ row' → place ≡ place' → cell ≡ cell'
+pub one_number : {s : Figure} {cell cell' row place row' place' : ℕ} → StandsAt s cell row place → StandsAt s cell' row' place' → row ≡ row' → place ≡ place' → cell ≡ cell'
 one_number {s} a b same_row same_place = omega (arith, a.number, b.number, ap (λ r. cells_above s r) same_row, same_place)
 
-pub Meets-turned : {s : Shape} {cell side cell' side' : ℕ} → Meets s cell side cell' side' → Meets s cell' side' cell side
+pub Meets-turned : {s : Figure} {cell side cell' side' : ℕ} → Meets s cell side cell' side' → Meets s cell' side' cell side
 Meets-turned {s} m = record {
   row = m.row';
   place = m.place';
@@ -94,14 +96,14 @@ Meets-turned {s} m = record {
 }
 
 -- what a cell's side meets lies against the place where the cell stands
-pub met_place : {s : Shape} {cell side cell' side' row place : ℕ} → Meets s cell side cell' side' → StandsAt s cell row place → (row' place' : ℕ) × StandsAt s cell' row' place' × LiesAgainst s row place side row' place' side'
+pub met_place : {s : Figure} {cell side cell' side' row place : ℕ} → Meets s cell side cell' side' → StandsAt s cell row place → (row' place' : ℕ) × StandsAt s cell' row' place' × LiesAgainst s row place side row' place' side'
 met_place {s} {cell} {side} {cell'} {side'} {row} {place} m at =
     let same = one_place m.here at in
     let against = subst (λ r. LiesAgainst s r m.place side m.row' m.place' side') same.0 m.against in
     (m.row', m.place', m.there, subst (λ p. LiesAgainst s row p side m.row' m.place' side') same.1 against)
 
 -- a side that lies against another is one of a cell's
-pub against_in_range : (s : Shape) (row place side row' place' side' : ℕ) → LiesAgainst s row place side row' place' side' → side < side_count s
+pub against_in_range : (s : Figure) (row place side row' place' side' : ℕ) → LiesAgainst s row place side row' place' side' → side < side_count s
 against_in_range (Rectangle width height) row place side row' place' side' h = grind arith
 against_in_range (Triangle size) row place side row' place' side' h = grind arith
 against_in_range (Hexagon size) row place side row' place' side' h = grind arith

@@ -1,8 +1,8 @@
 // A board: its cells, and which of their sides meet.
 
 ghost use Rattle.std.specs.Prelude.{◌≡◌, ◌↔◌, ◌<◌, ◌≤◌, ◌*◌, ℕ, ◌+◌, List, length, IfOk, IfSome, MatchBool};
-ghost use Rattle.match_board.specs.Board.{Rectangle, Triangle, Hexagon, cell_count, side_count, Meets, IsBoard, IsBorderOrder, IsBorderPair, IsBorderBefore};
-ghost use Rattle.match_board.specs.Figure.{shape_of};
+ghost use Rattle.match_board.specs.Board.{cell_count, side_count, Meets, IsBoard, IsBorderOrder, IsBorderPair, IsBorderBefore};
+ghost use Rattle.match_board.specs.declared.figures.Figure.TheVariants.{Rectangle, Triangle, Hexagon};
 
 use crate::figures::Figure;
 use std::marker::Model;
@@ -29,16 +29,16 @@ pub struct Board {
 }
 
 impl Model for Board {
-    ghost use Rattle.match_board.specs.Board.{Shape, IsBoard};
-    ghost use Rattle.match_board.specs.Figure.{shape_of, figure_of};
+    ghost use Rattle.match_board.specs.Board.{IsBoard};
+    ghost use Rattle.match_board.specs.declared.figures.Figure.{Figure};
 
-    ghost Value = { Shape };
+    ghost Value = { Figure };
 
-    ghost view = { λ b. shape_of b.figure };
+    ghost view = { λ b. b.figure };
 
-    ghost invariant = { λ b. IsBoard (shape_of b.figure) };
+    ghost invariant = { λ b. IsBoard b.figure };
 
-    ghost inverse = { λ s. record { figure = figure_of s } };
+    ghost inverse = { λ s. record { figure = s } };
 }
 
 /// The most cells of a board.
@@ -89,10 +89,10 @@ impl Board {
     ///
     /// `Empty` where it has no cells, and `TooLarge` where it has over 100.
     pub fn of(figure: Figure) -> Result<Board, BoardFault>
-        ensures board { IfOk result (λ b. b ≡ shape_of figure) }
+        ensures board { IfOk result (λ b. b ≡ figure) }
         ensures fits { IfOk result IsBoard }
-        ensures empty { (result ≡ Err BoardFault.Empty) ↔ (cell_count (shape_of figure) ≡ 0) }
-        ensures too_large { (result ≡ Err BoardFault.TooLarge) ↔ (100 < cell_count (shape_of figure)) }
+        ensures empty { (result ≡ Err BoardFault.Empty) ↔ (cell_count figure ≡ 0) }
+        ensures too_large { (result ≡ Err BoardFault.TooLarge) ↔ (100 < cell_count figure) }
     {
         let cells = figure.cells();
         if cells == 0 {
@@ -106,7 +106,7 @@ impl Board {
 
     /// The figure that the board covers.
     pub fn figure(&self) -> Figure
-        ensures { shape_of result ≡ self.now }
+        ensures { result ≡ self.now }
     {
         self.figure
     }

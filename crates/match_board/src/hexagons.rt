@@ -1,7 +1,8 @@
 // The cells of a hexagon, which are triangles.
 
 ghost use Rattle.std.specs.Prelude.{◌≡◌, ◌<◌, ◌≤◌, ◌+◌, ◌*◌, ℕ, IfSome};
-ghost use Rattle.match_board.specs.Board.{Hexagon, row_length, IsPlace, PointsUp, PointsDown, LiesBelow, LiesAgainst};
+ghost use Rattle.match_board.specs.Board.{row_length, IsPlace, PointsUp, PointsDown, LiesBelow, LiesAgainst};
+ghost use Rattle.match_board.specs.declared.figures.Figure.TheVariants.{Hexagon};
 
 /// How many cells the row has.
 pub fn row_length(size: u16, row: u16) -> u16

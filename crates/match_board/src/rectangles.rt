@@ -1,7 +1,8 @@
 // The cells of a rectangle, which are squares.
 
 ghost use Rattle.std.specs.Prelude.{◌≡◌, ◌<◌, ◌≤◌, ℕ, IfSome};
-ghost use Rattle.match_board.specs.Board.{Rectangle, IsPlace, LiesAgainst};
+ghost use Rattle.match_board.specs.Board.{IsPlace, LiesAgainst};
+ghost use Rattle.match_board.specs.declared.figures.Figure.TheVariants.{Rectangle};
 
 /// The place that a side of this place lies against, and its side there.
 pub fn beside(width: u16, height: u16, row: u16, place: u16, side: u8) -> Option<(u16, u16, u8)>

@@ -6,7 +6,8 @@ use Rattle.std.proofs.lemmas.Bool.{eqb-true, false≢true}
 use Rattle.std.proofs.lemmas.Bool.Decides.{eqb_tells}
 use Rattle.match_puzzle.proofs.Prefixes.{inside}
 use Rattle.match_board.proofs.Places.{against_in_range}
-use Rattle.match_board.specs.Board.{Shape, cell_count, side_count, Meets}
+use Rattle.match_board.specs.Board.{cell_count, side_count, Meets}
+use Rattle.match_board.specs.declared.figures.Figure.{Figure}
 use Rattle.match_board.specs.First.{IsLeast, IsLeastPair, Rank, AtMost}
 use Rattle.match_puzzle.specs.Puzzle.{Task, HasRule, colour_of}
 use Rattle.match_puzzle.specs.Arrangement.{Stands, HaveTiles, AreLegal, StandOnce, ObeyBorder, MatchesEdgeAt, MatchEdges}
@@ -215,7 +216,7 @@ by_test m n P Q yes_case no_case = by_result (eqb m n) refl
     by_result false e = no_case (λ same. false≢true (sym e ∙ eq-eqb m n same))
 
 -- a side that meets another is one of the cell's
-pub side_in_range : {s : Shape} {cell side cell' side' : ℕ} → Meets s cell side cell' side' → side < side_count s
+pub side_in_range : {s : Figure} {cell side cell' side' : ℕ} → Meets s cell side cell' side' → side < side_count s
 side_in_range {s} m = against_in_range s _ _ _ _ _ _ m.against
 
 -- the least side that breaks the border, for what stands at the cell

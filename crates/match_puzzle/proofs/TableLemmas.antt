@@ -1,7 +1,8 @@
 -- What is looked up.
 use Rattle.std.proofs.Common.{◌≡◌, ◌≢◌, ◌⊎◌, ◌<◌, ◌≤◌, ◌+◌, ◌++◌, ◌∷◌, [], ◌↔◌, ℕ, zero, suc, Bool, List, Option, Some, None, MatchBool, IfSome, Contains, All, length, map, get_or, set, slice_get, arith, refl, ap, sym, ◌∙◌, subst, inl, inr, ⊎_elim}
 use Rattle.std.proofs.lemmas.List.{length-map}
-use Rattle.match_board.specs.Board.{Shape, cell_count, side_count, Meets, IsBorderPair, IsBorderOrder}
+use Rattle.match_board.specs.Board.{cell_count, side_count, Meets, IsBorderPair, IsBorderOrder}
+use Rattle.match_board.specs.declared.figures.Figure.{Figure}
 use Rattle.match_board.specs.declared.tiles.Tile.{Tile}
 use Rattle.match_puzzle.specs.declared.borders.Border.{Border}
 use Rattle.match_board.specs.Tile.{word}
@@ -24,11 +25,11 @@ same_pair : {a b c d : ℕ} → ◌≡◌ {A = Option (ℕ × ℕ)} (Some (a, b)
 same_pair e = (ap (λ (n : ℕ × ℕ). n.0) (inside e), ap (λ (n : ℕ × ℕ). n.1) (inside e))
 
 -- what is met, by the one answer of a look-up
-pub met_is : {s : Shape} {cell side c k : ℕ} → ((c' k' : ℕ) → Meets s cell side c' k' → ◌≡◌ {A = Option (ℕ × ℕ)} (Some (c, k)) (Some (c', k'))) → (c' k' : ℕ) → Meets s cell side c' k' → (c' ≡ c) × (k' ≡ k)
+pub met_is : {s : Figure} {cell side c k : ℕ} → ((c' k' : ℕ) → Meets s cell side c' k' → ◌≡◌ {A = Option (ℕ × ℕ)} (Some (c, k)) (Some (c', k'))) → (c' k' : ℕ) → Meets s cell side c' k' → (c' ≡ c) × (k' ≡ k)
 met_is only c' k' m = let e = same_pair (only c' k' m) in (sym e.0, sym e.1)
 
 -- a side that no answer meets
-pub border_is : (s : Shape) (cell side : ℕ) → cell < cell_count s → side < side_count s → ((c k : ℕ) → Meets s cell side c k → ◌≡◌ {A = Option (ℕ × ℕ)} None (Some (c, k))) → IsBorderPair s cell side
+pub border_is : (s : Figure) (cell side : ℕ) → cell < cell_count s → side < side_count s → ((c k : ℕ) → Meets s cell side c k → ◌≡◌ {A = Option (ℕ × ℕ)} None (Some (c, k))) → IsBorderPair s cell side
 border_is s cell side cell_in side_in only = record { cell_in = cell_in; side_in = side_in; meets_nothing = λ c k m. none_some (only c k m) }
 
 -- ---- the number of a border pair
@@ -81,7 +82,7 @@ one_place_in_order P all i j n is at_i at_j =
 -- ---- what the border asks of a border pair
 
 -- what is asked of the border pair with this number
-pub asks_numbered : (s : Shape) (rule : BorderRule) (cell side number colour : ℕ) → IsAsLongAsBorder s rule → IsBorderPair s cell side → IsNextNumber s (cell, side) number → Asks s rule cell side colour ↔ AsksAt rule number colour
+pub asks_numbered : (s : Figure) (rule : BorderRule) (cell side number colour : ℕ) → IsAsLongAsBorder s rule → IsBorderPair s cell side → IsNextNumber s (cell, side) number → Asks s rule cell side colour ↔ AsksAt rule number colour
 asks_numbered s free cell side number colour long pair next = (λ h. h, λ h. h)
 asks_numbered s (one c) cell side number colour long pair next = (λ h. h, λ h. h)
 asks_numbered s (each rules) cell side number colour long pair next =
@@ -95,7 +96,7 @@ asks_numbered s (each rules) cell side number colour long pair next =
     )
 
 -- a border pair by its rule
-pub border_side : (board : Shape) (turns : Bool) (border : Border) (tiles : List Tile) (cell side number : ℕ) (rule : Option ℕ) → IsAsLongAsBorder board (rule_of border) → IsBorderPair board cell side → IsNextNumber board (cell, side) number →
+pub border_side : (board : Figure) (turns : Bool) (border : Border) (tiles : List Tile) (cell side number : ℕ) (rule : Option ℕ) → IsAsLongAsBorder board (rule_of border) → IsBorderPair board cell side → IsNextNumber board (cell, side) number →
     ((colour : ℕ) → (rule ≡ Some colour) ↔ AsksAt (rule_of border) number colour) → IsSide (task_of board turns border tiles) cell side (TableBorder rule)
 border_side board turns border tiles cell side number rule long pair next is = (
   pair,
@@ -105,7 +106,7 @@ border_side board turns border tiles cell side number rule long pair next is = (
 )
 
 -- The colours that the border asks for are colours.
-stands_in_rule : (s : Shape) (rule : BorderRule) (cell side colour : ℕ) → Asks s rule cell side colour → (place : ℕ) × StandsInRule rule place colour
+stands_in_rule : (s : Figure) (rule : BorderRule) (cell side colour : ℕ) → Asks s rule cell side colour → (place : ℕ) × StandsInRule rule place colour
 stands_in_rule s free cell side colour asked = absurd asked
 stands_in_rule s (one c) cell side colour asked = (0, (refl, asked))
 stands_in_rule s (each rules) cell side colour asked = (asked.2, asked.4)
@@ -115,19 +116,19 @@ rule_below p cell side None puzzle is = tt
 rule_below p cell side (Some colour) puzzle is = let at = stands_in_rule p.board p.border cell side colour (is colour refl).asked in puzzle.border_colours at.0 colour at.1
 
 -- one border pair more
-pub number_after_border : (s : Shape) (cell side number : ℕ) → IsBorderPair s cell side → IsNextNumber s (cell, side) number → IsNextNumber s (cell, side + 1) (number + 1)
+pub number_after_border : (s : Figure) (cell side number : ℕ) → IsBorderPair s cell side → IsNextNumber s (cell, side) number → IsNextNumber s (cell, side + 1) (number + 1)
 number_after_border s cell side number pair next =
     let more = border_next s cell side next.pairs pair next.before in
     record { pairs = more.0; before = more.1; count = omega (arith, more.2, next.count); small = omega (arith, next.small) }
 
 -- no border pair more
-pub number_after_edge : (s : Shape) (cell side number : ℕ) → (IsBorderPair s cell side → ⊥) → IsNextNumber s (cell, side) number → IsNextNumber s (cell, side + 1) number
+pub number_after_edge : (s : Figure) (cell side number : ℕ) → (IsBorderPair s cell side → ⊥) → IsNextNumber s (cell, side) number → IsNextNumber s (cell, side + 1) number
 number_after_edge s cell side number inner next = record { pairs = next.pairs; before = inner_next s cell side next.pairs inner next.before; count = next.count; small = omega (arith, next.small) }
 
-pub number_after_cell : (s : Shape) (cell number : ℕ) → side_count s ≤ 4 → IsNextNumber s (cell, side_count s) number → IsNextNumber s (cell + 1, 0) number
+pub number_after_cell : (s : Figure) (cell number : ℕ) → side_count s ≤ 4 → IsNextNumber s (cell, side_count s) number → IsNextNumber s (cell + 1, 0) number
 number_after_cell s cell number few next = record { pairs = next.pairs; before = border_row s cell next.pairs next.before; count = next.count; small = omega (arith, next.small, few) }
 
-pub number_at_first : (s : Shape) → IsNextNumber s (0, 0) 0
+pub number_at_first : (s : Figure) → IsNextNumber s (0, 0) 0
 number_at_first s = record { pairs = []; before = border_none s; count = refl; small = omega arith }
 
 -- what a list has after a push
@@ -150,7 +151,7 @@ word_there : (tiles : List Tile) (k : ℕ) → k < length (map word tiles) → (
 word_there tiles k lt = tile_of_word tiles k (omega (arith, length-map tiles word, lt))
 
 -- the number that is above all colours and the least such
-pub colour_count_is : (board : Shape) (turns : Bool) (border : Border) (tiles : List Tile) (count : ℕ) →
+pub colour_count_is : (board : Figure) (turns : Bool) (border : Border) (tiles : List Tile) (count : ℕ) →
     ((place colour : ℕ) → StandsInRule (rule_of border) place colour → colour < count) →
     ((k colour : ℕ) → k < length tiles → Contains (get_or (map word tiles) k []) colour → colour < count) →
     ((other : ℕ) → ((colour : ℕ) → HasColour (task_of board turns border tiles) colour → colour < other) → count ≤ other) →
@@ -161,7 +162,7 @@ colour_count_is board turns border tiles count of_border of_tiles least = record
 }
 
 -- What a push adds to the numbers of legal turns.
-pub turn_counts_more : (board : Shape) (turns : Bool) (border : Border) (tiles : List Tile) (table : List ℕ) (n : ℕ) →
+pub turn_counts_more : (board : Figure) (turns : Bool) (border : Border) (tiles : List Tile) (table : List ℕ) (n : ℕ) →
     ((tile count : ℕ) → slice_get table tile ≡ Some count → IsTurnCount (task_of board turns border tiles) tile count) →
     IsTurnCount (task_of board turns border tiles) (length table) n →
     (tile count : ℕ) → slice_get (table ++ n ∷ []) tile ≡ Some count → IsTurnCount (task_of board turns border tiles) tile count
@@ -170,7 +171,7 @@ turn_counts_more board turns border tiles table n so_far here tile count get =
     ⊎_elim (λ w. so_far tile count w.1) (λ w. subst (λ t. Is t count) (sym w.0) (subst (λ k. Is (length table) k) (sym w.1) here)) (pushed_is table n tile count get)
 
 -- how many turns of a tile that was read are legal
-pub turn_count_is : (board : Shape) (turns : Bool) (border : Border) (tiles : List Tile) (i : ℕ) (t : Tile) (n : ℕ) → i < length tiles → t ≡ get_or tiles i t → MatchBool turns (IsPeriod (word t) n) (n ≡ 1) → IsTurnCount (task_of board turns border tiles) i n
+pub turn_count_is : (board : Figure) (turns : Bool) (border : Border) (tiles : List Tile) (i : ℕ) (t : Tile) (n : ℕ) → i < length tiles → t ≡ get_or tiles i t → MatchBool turns (IsPeriod (word t) n) (n ≡ 1) → IsTurnCount (task_of board turns border tiles) i n
 turn_count_is board turns border tiles i t n lt at is = subst (λ w. MatchBool turns (IsPeriod w n) (n ≡ 1)) (sym (word_at tiles i t lt at)) is
 
 -- The words of tiles have colours below 36.
@@ -179,7 +180,7 @@ unfolding word
 words_coloured tiles i lt = let at = word_there tiles i lt in subst (λ w. All (λ colour. colour < 36) w) (sym at.2) at.0.in_range
 
 -- A list of rules is as long as the border exactly where it has as many as were counted.
-pub long_rules : (s : Shape) (rules : List (Option ℕ)) (count : ℕ) → (pairs : List (ℕ × ℕ)) × IsBorderOrder s pairs × (length pairs ≡ count) →
+pub long_rules : (s : Figure) (rules : List (Option ℕ)) (count : ℕ) → (pairs : List (ℕ × ℕ)) × IsBorderOrder s pairs × (length pairs ≡ count) →
     (length rules ≡ count → IsAsLongAsBorder s (each rules)) × (IsAsLongAsBorder s (each rules) → length rules ≡ count)
 long_rules s rules count all = (
   λ e. (all.0, all.1, e ∙ sym all.2),

@@ -5,7 +5,9 @@ use Rattle.std.proofs.lemmas.Bool.{ltb-true}
 use borrow.Author.Tests.{ltb-true}
 use Rattle.std.proofs.lemmas.List.{get_or-map, length-map}
 use Rattle.match_board.proofs.TurnsLemmas.{whole_turn}
-use Rattle.match_board.specs.Board.{Shape, Rectangle, Triangle, Hexagon, side_count}
+use Rattle.match_board.specs.Board.{side_count}
+use Rattle.match_board.specs.declared.figures.Figure.{Figure}
+use Rattle.match_board.specs.declared.figures.Figure.TheVariants.{Rectangle, Triangle, Hexagon}
 use Rattle.match_board.specs.Tile.{word}
 use Rattle.match_board.specs.Turns.{IsPeriod}
 use Rattle.match_board.specs.declared.tiles.Tile.{Tile}
@@ -18,13 +20,13 @@ pub word_at : (ts : List Tile) (i : ℕ) (t : Tile) → i < length ts → t ≡ 
 word_at ts i t lt e = get_or-map word ts i t [] lt ∙ ap word (sym e)
 
 -- a cell has sides
-pub some_sides : (s : Shape) → 1 ≤ side_count s
+pub some_sides : (s : Figure) → 1 ≤ side_count s
 some_sides (Rectangle width height) = omega arith
 some_sides (Triangle size) = omega arith
 some_sides (Hexagon size) = omega arith
 
 -- a cell has at most four sides
-pub few_sides : (s : Shape) → side_count s ≤ 4
+pub few_sides : (s : Figure) → side_count s ≤ 4
 few_sides (Rectangle width height) = omega arith
 few_sides (Triangle size) = omega arith
 few_sides (Hexagon size) = omega arith

@@ -1,6 +1,7 @@
 -- What a puzzle asks.
 use Rattle.std.specs.Prelude.{◌≡◌, ◌<◌, ◌^◌, ℕ, Bool, true, List, [], Option, Some, MatchBool, All, map, length, slice_get, slice_index_or}
-use Rattle.match_board.specs.Board.{Shape, cell_count, side_count, IsBoard, IsBorderPair, IsBorderOrder}
+use Rattle.match_board.specs.Board.{cell_count, side_count, IsBoard, IsBorderPair, IsBorderOrder}
+use Rattle.match_board.specs.declared.figures.Figure.{Figure}
 use Rattle.match_board.specs.Turns.{shown, IsPeriod}
 use Rattle.match_board.specs.Tile.{word}
 use Rattle.match_board.specs.declared.tiles.Tile.{Tile}
@@ -24,7 +25,7 @@ rule_of (Each rules) = each rules
 
 -- a puzzle: its board, whether tiles may be turned, what the border asks, and the tiles' words
 pub record Task : Type 0 where
-  pub board : Shape
+  pub board : Figure
   pub turns : Bool
   pub border : BorderRule
   pub words : List (List ℕ)
@@ -51,7 +52,7 @@ pub record IsLegal (p : Task) (x : Placement) : Type 0 where
   pub turn : IsLegalTurn p x
 
 -- what a border rule asks of a border pair
-abbrev pub Asks : Shape → BorderRule → (cell side colour : ℕ) → Type 0
+abbrev pub Asks : Figure → BorderRule → (cell side colour : ℕ) → Type 0
 Asks s free cell side colour = ⊥
 Asks s (one c) cell side colour = colour ≡ c
 Asks s (each rules) cell side colour =
@@ -70,7 +71,7 @@ StandsInRule (one c) place colour = (place ≡ 0) × (colour ≡ c)
 StandsInRule (each rules) place colour = slice_get rules place ≡ Some (Some colour)
 
 -- A list of rules has one for each border pair.
-abbrev pub IsAsLongAsBorder : Shape → BorderRule → Type 0
+abbrev pub IsAsLongAsBorder : Figure → BorderRule → Type 0
 IsAsLongAsBorder s free = Unit {0}
 IsAsLongAsBorder s (one c) = Unit {0}
 IsAsLongAsBorder s (each rules) = (pairs : List (ℕ × ℕ)) × IsBorderOrder s pairs × (length rules ≡ length pairs)
@@ -86,7 +87,7 @@ pub record IsPuzzle (p : Task) : Type 0 where
   pub border : IsAsLongAsBorder p.board p.border
 
 -- the puzzle of a board and tiles
-abbrev pub task_of : Shape → Bool → Border → List Tile → Task
+abbrev pub task_of : Figure → Bool → Border → List Tile → Task
 task_of board turns border tiles = record { board = board; turns = turns; border = rule_of border; words = map word tiles }
 
 -- The rule asks for the colour on the border pair with this number, in border order.

@@ -1,6 +1,7 @@
 -- What a puzzle keeps looked up.
 use Rattle.std.specs.Prelude.{◌≡◌, ◌<◌, ◌≤◌, ◌+◌, ◌*◌, ◌↔◌, ℕ, List, Some, MatchBool, length, slice_get}
-use Rattle.match_board.specs.Board.{Shape, cell_count, side_count, Meets, IsBorderPair, IsBorderBefore}
+use Rattle.match_board.specs.Board.{cell_count, side_count, Meets, IsBorderPair, IsBorderBefore}
+use Rattle.match_board.specs.declared.figures.Figure.{Figure}
 use Rattle.match_board.specs.Turns.{IsPeriod}
 use Rattle.match_puzzle.specs.Puzzle.{Task, IsPuzzle, word_of, HasRule}
 use Rattle.match_puzzle.specs.Colours.{IsColourCount}
@@ -39,7 +40,7 @@ pub record IsMade (p : Task) (sides_table : List CellSides) (turns_table : List 
   pub showing : AreShowingSets p.words showing_sets
 
 -- So many border pairs come before this pair.
-pub record IsNextNumber (s : Shape) (n : ℕ × ℕ) (number : ℕ) : Type 0 where
+pub record IsNextNumber (s : Figure) (n : ℕ × ℕ) (number : ℕ) : Type 0 where
   pub pairs : List (ℕ × ℕ)
   pub before : IsBorderBefore s n pairs
   pub count : length pairs ≡ number

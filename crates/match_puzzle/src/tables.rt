@@ -1,7 +1,8 @@
 // What a puzzle looks up and does not work out anew.
 
 ghost use Rattle.std.specs.Prelude.{◌≡◌, ◌≢◌, ◌<◌, ◌≤◌, ◌+◌, ◌^◌, ℕ, Bool, List, IfOk, MatchOption, MatchBool, Contains, Some, [], length, map, slice_get, slice_index_or};
-ghost use Rattle.match_board.specs.Board.{Shape, cell_count, side_count};
+ghost use Rattle.match_board.specs.Board.{cell_count, side_count};
+ghost use Rattle.match_board.specs.declared.figures.Figure.{Figure};
 ghost use Rattle.match_board.specs.First.{IsLeast};
 ghost use Rattle.match_board.specs.Tile.{word};
 ghost use Rattle.match_board.specs.Turns.{IsPeriod};
@@ -84,7 +85,7 @@ fn side_at(board: Board, border: &Border, cell: u16, side: u8, number: &mut u16)
 
 /// How many turns of each tile are legal.
 pub(crate) fn turn_counts(alloc: Global, turns: bool, tiles: &[Tile]) -> Result<Vec<u8>, AllocError>
-    ensures { IfOk result (λ v. (board : Shape) (border : BorderRules) → AreTurnCounts (task_of board turns border tiles.now) v.items) }
+    ensures { IfOk result (λ v. (board : Figure) (border : BorderRules) → AreTurnCounts (task_of board turns border tiles.now) v.items) }
 {
     let mut table = Vec::with_capacity(alloc, tiles.len())?;
     for tile in tiles {
@@ -103,7 +104,7 @@ fn turn_count(turns: bool, tile: &Tile) -> u8
 /// One more than the greatest colour on a tile or in the border's rule.
 pub(crate) fn colour_count(border: &Border, tiles: &[Tile]) -> u8
     requires { (place colour : ℕ) → StandsInRule (rule_of border.now) place colour → colour < 36 }
-    ensures { (board : Shape) (turns : Bool) → IsColourCount (task_of board turns border.now tiles.now) result }
+    ensures { (board : Figure) (turns : Bool) → IsColourCount (task_of board turns border.now tiles.now) result }
 {
     let mut count = border.colour_count();
     for tile in tiles {

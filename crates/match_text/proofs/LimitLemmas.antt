@@ -3,10 +3,12 @@ use Rattle.std.proofs.Common.{◌≡◌, ◌⊎◌, ◌<◌, ◌≤◌, ◌+◌,
 use Rattle.std.specs.Prelude.{slice_get, slice_index_or}
 use Rattle.std.specs.List.{AllByRecursion}
 use Rattle.std.proofs.lemmas.List.Elements.{All-contains_itself}
-use Rattle.match_board.specs.Board.{Shape, Rectangle, Triangle, Hexagon, cell_count, side_count, row_length, IsBoard, IsBorderPair, IsBorderOrder, StandsAt, LiesAgainst}
+use Rattle.match_board.specs.Board.{cell_count, side_count, row_length, IsBoard, IsBorderPair, IsBorderOrder, StandsAt, LiesAgainst}
+use Rattle.match_board.specs.declared.figures.Figure.{Figure}
+use Rattle.match_board.specs.declared.figures.Figure.TheVariants.{Rectangle, Triangle, Hexagon}
 use Rattle.match_board.proofs.Places.{above_in_rectangle, above_in_triangle, cells_in_hexagon, met_place}
 use Rattle.match_puzzle.specs.Puzzle.{Task, BorderRule, free, one, each, IsPuzzle, IsAsLongAsBorder, StandsInRule}
-use Rattle.match_text.specs.PuzzleSpelling.{IsShapeWithin, IsRuleWithin, IsBorderWithin, IsWordWithin, IsTaskWithin}
+use Rattle.match_text.specs.PuzzleSpelling.{IsFigureWithin, IsRuleWithin, IsBorderWithin, IsWordWithin, IsTaskWithin}
 
 -- ---- boards
 
@@ -15,19 +17,19 @@ factors_within zero b low high = absurd (omega (arith, low))
 factors_within (suc a) zero low high = absurd (omega (arith, low))
 factors_within (suc a) (suc b) low high = (omega (arith, high), omega (arith, high))
 
-shape_within : (s : Shape) → IsBoard s → IsShapeWithin s
-shape_within (Rectangle width height) is =
+figure_within : (s : Figure) → IsBoard s → IsFigureWithin s
+figure_within (Rectangle width height) is =
     let cells = above_in_rectangle width height height in
     let both = factors_within height width (omega (arith, cells, is.0)) (omega (arith, cells, is.1)) in
     (both.1, both.0)
-shape_within (Triangle size) is =
+figure_within (Triangle size) is =
     let cells = above_in_triangle size size in
     (factors_within size size (omega (arith, cells, is.0)) (omega (arith, cells, is.1))).0
-shape_within (Hexagon size) is =
+figure_within (Hexagon size) is =
     let cells = cells_in_hexagon size in
     (factors_within (6 * size) size (omega (arith, cells, is.0)) (omega (arith, cells, is.1))).1
 
-three_or_four : (s : Shape) → (side_count s ≡ 3) ⊎ (side_count s ≡ 4)
+three_or_four : (s : Figure) → (side_count s ≡ 3) ⊎ (side_count s ≡ 4)
 three_or_four (Rectangle width height) = inr refl
 three_or_four (Triangle size) = inl refl
 three_or_four (Hexagon size) = inl refl
@@ -35,17 +37,17 @@ three_or_four (Hexagon size) = inl refl
 -- ---- the first cell is at the border
 
 -- the number of a side of the first cell that meets nothing
-abbrev outer_side : Shape → ℕ
+abbrev outer_side : Figure → ℕ
 outer_side (Rectangle width height) = 0
 outer_side (Triangle size) = 0
 outer_side (Hexagon size) = 2
 
-outer_in : (s : Shape) → outer_side s < side_count s
+outer_in : (s : Figure) → outer_side s < side_count s
 outer_in (Rectangle width height) = omega arith
 outer_in (Triangle size) = omega arith
 outer_in (Hexagon size) = omega arith
 
-first_place : (s : Shape) → 1 ≤ cell_count s → StandsAt s 0 0 0
+first_place : (s : Figure) → 1 ≤ cell_count s → StandsAt s 0 0 0
 first_place (Rectangle width zero) some = absurd (omega (arith, some))
 first_place (Rectangle zero (suc height)) some = absurd (omega (arith, above_in_rectangle 0 (suc height) (suc height), some))
 first_place (Rectangle (suc width) (suc height)) some = record { row_in = omega arith; place_in = omega arith; number = refl }
@@ -54,13 +56,13 @@ first_place (Triangle (suc size)) some = record { row_in = omega arith; place_in
 first_place (Hexagon zero) some = absurd (omega (arith, some))
 first_place (Hexagon (suc size)) some = record { row_in = omega arith; place_in = omega arith; number = refl }
 
-outer_against : (s : Shape) (row' place' side' : ℕ) → 1 ≤ cell_count s → place' < row_length s row' → LiesAgainst s 0 0 (outer_side s) row' place' side' → ⊥
+outer_against : (s : Figure) (row' place' side' : ℕ) → 1 ≤ cell_count s → place' < row_length s row' → LiesAgainst s 0 0 (outer_side s) row' place' side' → ⊥
 outer_against (Rectangle width height) row' place' side' some lt h = grind arith
 outer_against (Triangle size) row' place' side' some lt h = grind arith
 outer_against (Hexagon zero) row' place' side' some lt h = omega (arith, some)
 outer_against (Hexagon (suc size)) row' place' side' some lt h = grind arith
 
-outer_pair : (s : Shape) → 1 ≤ cell_count s → IsBorderPair s 0 (outer_side s)
+outer_pair : (s : Figure) → 1 ≤ cell_count s → IsBorderPair s 0 (outer_side s)
 outer_pair s some = record {
   cell_in = omega (arith, some);
   side_in = outer_in s;
@@ -69,7 +71,7 @@ outer_pair s some = record {
 
 -- ---- as many border pairs as a line has rules
 
-rises : (s : Shape) (pairs : List (ℕ × ℕ)) → IsBorderOrder s pairs → (i : ℕ) → i < length pairs → i ≤ 4 * (get_or pairs i (0, 0)).0 + (get_or pairs i (0, 0)).1
+rises : (s : Figure) (pairs : List (ℕ × ℕ)) → IsBorderOrder s pairs → (i : ℕ) → i < length pairs → i ≤ 4 * (get_or pairs i (0, 0)).0 + (get_or pairs i (0, 0)).1
 rises s pairs order zero lt = omega arith
 rises s pairs order (suc i) lt =
     let before : i < length pairs = omega (arith, lt) in
@@ -78,7 +80,7 @@ rises s pairs order (suc i) lt =
     let few : side_count s ≤ 4 = ⊎_elim (λ e. omega (arith, e)) (λ e. omega (arith, e)) (three_or_four s) in
     ⊎_elim (λ less. omega (arith, so_far, pair.side_in, few, less)) (λ same. omega (arith, so_far, same.0, same.1)) (order.rising i (suc i) (0, 0) (omega arith) lt)
 
-few_pairs : (s : Shape) → cell_count s ≤ 100 → (pairs : List (ℕ × ℕ)) → IsBorderOrder s pairs → (n : ℕ) → length pairs ≡ n → n ≤ 400
+few_pairs : (s : Figure) → cell_count s ≤ 100 → (pairs : List (ℕ × ℕ)) → IsBorderOrder s pairs → (n : ℕ) → length pairs ≡ n → n ≤ 400
 few_pairs s most pairs order zero e = omega arith
 few_pairs s most pairs order (suc n) e =
     let last : n < length pairs = omega (arith, e) in
@@ -87,7 +89,7 @@ few_pairs s most pairs order (suc n) e =
     let few : side_count s ≤ 4 = ⊎_elim (λ e. omega (arith, e)) (λ e. omega (arith, e)) (three_or_four s) in
     omega (arith, so_far, pair.side_in, pair.cell_in, few, most)
 
-some_pair : (s : Shape) → 1 ≤ cell_count s → (pairs : List (ℕ × ℕ)) → IsBorderOrder s pairs → 0 < length pairs
+some_pair : (s : Figure) → 1 ≤ cell_count s → (pairs : List (ℕ × ℕ)) → IsBorderOrder s pairs → 0 < length pairs
 some_pair s some pairs order = let at = order.all (0, outer_side s) (outer_pair s some) in omega (arith, at.1)
 
 -- ---- rules and words
@@ -97,7 +99,7 @@ rules_within [] h = tt
 rules_within (None ∷ rules) h = (tt, rules_within rules (λ place colour e. h (suc place) colour e))
 rules_within (Some c ∷ rules) h = (h 0 c refl, rules_within rules (λ place colour e. h (suc place) colour e))
 
-border_within : (s : Shape) → IsBoard s → (border : BorderRule) → IsAsLongAsBorder s border → ((place colour : ℕ) → StandsInRule border place colour → colour < 36) → IsBorderWithin border
+border_within : (s : Figure) → IsBoard s → (border : BorderRule) → IsAsLongAsBorder s border → ((place colour : ℕ) → StandsInRule border place colour → colour < 36) → IsBorderWithin border
 border_within s is free long colours = tt
 border_within s is (one c) long colours = colours 0 c (refl, refl)
 border_within s is (each rules) long colours =
@@ -119,7 +121,7 @@ words_within sides few (word ∷ words) long colours = (
 
 pub puzzle_within : (p : Task) → IsPuzzle p → IsTaskWithin p
 puzzle_within p is = record {
-  board = shape_within p.board is.board;
+  board = figure_within p.board is.board;
   border = border_within p.board is.board p.border is.border is.border_colours;
   some_tiles = omega (arith, is.tiles, is.board.0);
   few_tiles = omega (arith, is.tiles, is.board.1);

@@ -3,7 +3,7 @@ use Rattle.std.proofs.Common.{◌≡◌, ℕ, ◌+◌, ◌<◌, ◌≤◌, Bool,
 use Rattle.std.specs.List.{flat_map, AllByRecursion}
 use Rattle.std.proofs.lemmas.List.{append-nil}
 use Rattle.std.proofs.lemmas.List.Concat.{flat_map_single}
-use Rattle.match_board.specs.Board.{Shape}
+use Rattle.match_board.specs.declared.figures.Figure.{Figure}
 use Rattle.match_puzzle.specs.Puzzle.{Task, BorderRule}
 use Rattle.match_text.specs.declared.faults.TextKind.TheVariants.{Ends}
 use Rattle.match_text.specs.Bytes.{line_ends}
@@ -16,24 +16,24 @@ use Rattle.match_text.proofs.LineLemmas.{takes_opening, takes_counted, closing_i
 use Rattle.match_text.proofs.PuzzleLineLemmas.{takes_board, takes_turns, takes_border, takes_tile, cuts_board, cuts_turns, cuts_border, cuts_tile}
 use Rattle.match_text.proofs.WritingLemmas.{text_of-append, seven_parts}
 
-abbrev task : Shape → Bool → BorderRule → List (List ℕ) → Task
+abbrev task : Figure → Bool → BorderRule → List (List ℕ) → Task
 task board turns border words = record { board = board; turns = turns; border = border; words = words }
 
 -- ---- what is still read behind each line
 
-abbrev after_tiles : Shape → Bool → BorderRule → List (List ℕ) → Read Task
+abbrev after_tiles : Figure → Bool → BorderRule → List (List ℕ) → Read Task
 after_tiles board turns border words = closing >>= λ _. give (task board turns border words)
 
-abbrev after_count : Shape → Bool → BorderRule → ℕ → Read Task
+abbrev after_count : Figure → Bool → BorderRule → ℕ → Read Task
 after_count board turns border count = times count tile_line >>= λ words. after_tiles board turns border words
 
-abbrev after_border : Shape → Bool → BorderRule → Read Task
+abbrev after_border : Figure → Bool → BorderRule → Read Task
 after_border board turns border = counted (codes "tiles") 1 100 >>= λ count. after_count board turns border count
 
-abbrev after_turns : Shape → Bool → Read Task
+abbrev after_turns : Figure → Bool → Read Task
 after_turns board turns = border_line >>= λ border. after_border board turns border
 
-abbrev after_board : Shape → Read Task
+abbrev after_board : Figure → Read Task
 after_board board = turns_line >>= λ turns. after_turns board turns
 
 abbrev after_opening : Read Task
@@ -56,7 +56,7 @@ from_border border words = (border_words border ∷ []) ++ from_count words
 abbrev from_turns : Bool → BorderRule → List (List ℕ) → List (List (List ℕ))
 from_turns turns border words = (turns_words turns ∷ []) ++ from_border border words
 
-abbrev from_board : Shape → Bool → BorderRule → List (List ℕ) → List (List (List ℕ))
+abbrev from_board : Figure → Bool → BorderRule → List (List ℕ) → List (List (List ℕ))
 from_board board turns border words = (board_words board ∷ []) ++ from_turns turns border words
 
 lines_are : (p : Task) → first_line ++ from_board p.board p.turns p.border p.words ≡ puzzle_lines p
@@ -64,7 +64,7 @@ lines_are p = ap (λ ls. first_line ++ ((board_words p.board ∷ []) ++ ((turns_
 
 -- ---- reading
 
-tiles_is : (board : Shape) (turns : Bool) (border : BorderRule) (p : Place) (x : Task × Place) → after_border board turns border p ≡ Ok x
+tiles_is : (board : Figure) (turns : Bool) (border : BorderRule) (p : Place) (x : Task × Place) → after_border board turns border p ≡ Ok x
     → (words : List (List ℕ)) × (x.0 ≡ task board turns border words) × (p.ahead ≡ text_of (from_count words) ++ []) × (1 ≤ length words) × (length words ≤ 100) × AllByRecursion IsWordWithin words
 tiles_is board turns border p x e =
     let n = bind_ok (counted (codes "tiles") 1 100 p) (after_count board turns border) x e in

@@ -4,8 +4,8 @@ use Rattle.std.specs.Fmt.{decimal}
 use Rattle.std.specs.List.{AllByRecursion}
 use Rattle.std.specs.Str.{bytes_eq}
 use Rattle.std.proofs.lemmas.Slice.Eq.{bytes_eq-Decides}
-use Rattle.match_board.specs.Board.{Shape}
-use Rattle.match_board.specs.Board as shapes
+use Rattle.match_board.specs.declared.figures.Figure.{Figure}
+use Rattle.match_board.specs.declared.figures.Figure.TheVariants as figures
 use Rattle.match_puzzle.specs.Puzzle.{BorderRule, free, one, each}
 use Rattle.match_text.specs.declared.faults.TextKind.TheVariants.{Word}
 use Rattle.match_text.specs.declared.puzzles.BoardKind.{BoardKind}
@@ -16,7 +16,7 @@ use Rattle.match_text.specs.Words.{fixed_in, number_in, colour_in, rule_in, tile
 use Rattle.match_text.specs.Place.{Place, Read, ◌>>=◌, give, word_by, some_entries}
 use Rattle.match_text.specs.Puzzles.{board_kind_in, board_size, board_line, turns_in, turns_line, border_kind_in, border_rule, border_line, tile_line}
 use Rattle.match_text.specs.Spelling.{colour_word, rule_word, tile_word}
-use Rattle.match_text.specs.PuzzleSpelling.{size_words, board_words, turns_word, turns_words, border_words, tile_words, IsShapeWithin, IsRuleWithin, IsBorderWithin, IsWordWithin}
+use Rattle.match_text.specs.PuzzleSpelling.{size_words, board_words, turns_word, turns_words, border_words, tile_words, IsFigureWithin, IsRuleWithin, IsBorderWithin, IsWordWithin}
 use Rattle.match_text.proofs.CutLemmas.{CutsShort, place, bind_ok, ok_is, cuts_bind, cuts_give, cuts_word, cuts_some_entries, cuts_word_line}
 use Rattle.match_text.proofs.WordLemmas.{Spells, judged_ok, judged_ok_is, spells_fixed, spells_number, clean-decimal, clean-words, is_clean, are_clean}
 use Rattle.match_text.proofs.ColourLemmas.{spells_colour, spells_rule, spells_tile, clean-colour, clean-rule, clean-tile}
@@ -24,10 +24,10 @@ use Rattle.match_text.proofs.LineLemmas.{TakesWords, TakesRest, TakesLines, take
 
 -- ---- the board
 
-kind_of : Shape → BoardKind
-kind_of (shapes.Rectangle width height) = Rectangle
-kind_of (shapes.Triangle size) = Triangle
-kind_of (shapes.Hexagon size) = Hexagon
+kind_of : Figure → BoardKind
+kind_of (figures.Rectangle width height) = Rectangle
+kind_of (figures.Triangle size) = Triangle
+kind_of (figures.Hexagon size) = Hexagon
 
 abbrev kind_word : BoardKind → List ℕ
 kind_word Rectangle = codes "rect"
@@ -56,46 +56,46 @@ takes_size : TakesWords (word_by (number_in 0 100)) (λ n. decimal n ∷ []) (λ
 takes_size = takes_word (number_in 0 100) decimal (λ n. (0 ≤ n) × (n ≤ 100)) (spells_number 0 100 (omega arith))
 
 -- what a board's numbers were read from
-abbrev IsOfKind : BoardKind → Shape → Type 0
-IsOfKind kind s = (kind_of s ≡ kind) × IsShapeWithin s
+abbrev IsOfKind : BoardKind → Figure → Type 0
+IsOfKind kind s = (kind_of s ≡ kind) × IsFigureWithin s
 
-abbrev IsBoardRead : BoardKind → Place → Shape × Place → Type 0
+abbrev IsBoardRead : BoardKind → Place → Figure × Place → Type 0
 IsBoardRead kind p z = (p.words ≡ size_words z.0 ++ z.1.words) × (p.ahead ≡ z.1.ahead) × IsOfKind kind z.0
 
-rectangle_is : (p : Place) (x : Shape) (q : Place) → board_size Rectangle p ≡ Ok (x, q) → IsBoardRead Rectangle p (x, q)
+rectangle_is : (p : Place) (x : Figure) (q : Place) → board_size Rectangle p ≡ Ok (x, q) → IsBoardRead Rectangle p (x, q)
 unfolding board_size kind_of
 rectangle_is p x q e =
-    let a = bind_ok (word_by (number_in 0 100) p) (λ width. word_by (number_in 0 100) >>= λ height. give (shapes.Rectangle width height)) (x, q) e in
-    let b = bind_ok (word_by (number_in 0 100) a.0.1) (λ height. give (shapes.Rectangle a.0.0 height)) (x, q) a.2 in
+    let a = bind_ok (word_by (number_in 0 100) p) (λ width. word_by (number_in 0 100) >>= λ height. give (figures.Rectangle width height)) (x, q) e in
+    let b = bind_ok (word_by (number_in 0 100) a.0.1) (λ height. give (figures.Rectangle a.0.0 height)) (x, q) a.2 in
     let w = takes_size.is p a.0.0 a.0.1 a.1 in
     let h = takes_size.is a.0.1 b.0.0 b.0.1 b.1 in
-    subst (IsBoardRead Rectangle p) (ok_is (shapes.Rectangle a.0.0 b.0.0, b.0.1) (x, q) b.2) (w.0 ∙ ap (λ ws. decimal a.0.0 ∷ ws) h.0, w.1 ∙ h.1, (refl, (w.2.1, h.2.1)))
+    subst (IsBoardRead Rectangle p) (ok_is (figures.Rectangle a.0.0 b.0.0, b.0.1) (x, q) b.2) (w.0 ∙ ap (λ ws. decimal a.0.0 ∷ ws) h.0, w.1 ∙ h.1, (refl, (w.2.1, h.2.1)))
 
-triangle_is : (p : Place) (x : Shape) (q : Place) → board_size Triangle p ≡ Ok (x, q) → IsBoardRead Triangle p (x, q)
+triangle_is : (p : Place) (x : Figure) (q : Place) → board_size Triangle p ≡ Ok (x, q) → IsBoardRead Triangle p (x, q)
 unfolding board_size kind_of
 triangle_is p x q e =
-    let a = bind_ok (word_by (number_in 0 100) p) (λ size. give (shapes.Triangle size)) (x, q) e in
+    let a = bind_ok (word_by (number_in 0 100) p) (λ size. give (figures.Triangle size)) (x, q) e in
     let n = takes_size.is p a.0.0 a.0.1 a.1 in
-    subst (IsBoardRead Triangle p) (ok_is (shapes.Triangle a.0.0, a.0.1) (x, q) a.2) (n.0, n.1, (refl, n.2.1))
+    subst (IsBoardRead Triangle p) (ok_is (figures.Triangle a.0.0, a.0.1) (x, q) a.2) (n.0, n.1, (refl, n.2.1))
 
-hexagon_is : (p : Place) (x : Shape) (q : Place) → board_size Hexagon p ≡ Ok (x, q) → IsBoardRead Hexagon p (x, q)
+hexagon_is : (p : Place) (x : Figure) (q : Place) → board_size Hexagon p ≡ Ok (x, q) → IsBoardRead Hexagon p (x, q)
 unfolding board_size kind_of
 hexagon_is p x q e =
-    let a = bind_ok (word_by (number_in 0 100) p) (λ size. give (shapes.Hexagon size)) (x, q) e in
+    let a = bind_ok (word_by (number_in 0 100) p) (λ size. give (figures.Hexagon size)) (x, q) e in
     let n = takes_size.is p a.0.0 a.0.1 a.1 in
-    subst (IsBoardRead Hexagon p) (ok_is (shapes.Hexagon a.0.0, a.0.1) (x, q) a.2) (n.0, n.1, (refl, n.2.1))
+    subst (IsBoardRead Hexagon p) (ok_is (figures.Hexagon a.0.0, a.0.1) (x, q) a.2) (n.0, n.1, (refl, n.2.1))
 
-size_is : (kind : BoardKind) (p : Place) (x : Shape) (q : Place) → board_size kind p ≡ Ok (x, q) → IsBoardRead kind p (x, q)
+size_is : (kind : BoardKind) (p : Place) (x : Figure) (q : Place) → board_size kind p ≡ Ok (x, q) → IsBoardRead kind p (x, q)
 size_is Rectangle p x q e = rectangle_is p x q e
 size_is Triangle p x q e = triangle_is p x q e
 size_is Hexagon p x q e = hexagon_is p x q e
 
-size_again : (x : Shape) → IsShapeWithin x → (line : ℕ) (others : List (List ℕ)) (ahead : List ℕ) → board_size (kind_of x) (place line (size_words x ++ others) ahead) ≡ Ok (x, place line others ahead)
+size_again : (x : Figure) → IsFigureWithin x → (line : ℕ) (others : List (List ℕ)) (ahead : List ℕ) → board_size (kind_of x) (place line (size_words x ++ others) ahead) ≡ Ok (x, place line others ahead)
 unfolding board_size kind_of
-size_again (shapes.Rectangle width height) fits line others ahead =
+size_again (figures.Rectangle width height) fits line others ahead =
     rw (takes_size.passes width (omega arith, fits.0) line (decimal height ∷ others) ahead, takes_size.passes height (omega arith, fits.1) line others ahead) refl
-size_again (shapes.Triangle size) fits line others ahead = rw (takes_size.passes size (omega arith, fits) line others ahead) refl
-size_again (shapes.Hexagon size) fits line others ahead = rw (takes_size.passes size (omega arith, fits) line others ahead) refl
+size_again (figures.Triangle size) fits line others ahead = rw (takes_size.passes size (omega arith, fits) line others ahead) refl
+size_again (figures.Hexagon size) fits line others ahead = rw (takes_size.passes size (omega arith, fits) line others ahead) refl
 
 takes_board_size : (kind : BoardKind) → TakesWords (board_size kind) size_words (IsOfKind kind)
 takes_board_size kind = record {
@@ -106,16 +106,16 @@ takes_board_size kind = record {
 abbrev kind_words : BoardKind → List (List ℕ)
 kind_words kind = kind_word kind ∷ []
 
-shape_words_are : (x : Shape) → codes "board" ∷ (kind_words (kind_of x) ++ size_words x) ≡ board_words x
+figure_words_are : (x : Figure) → codes "board" ∷ (kind_words (kind_of x) ++ size_words x) ≡ board_words x
 unfolding kind_of
-shape_words_are (shapes.Rectangle width height) = refl
-shape_words_are (shapes.Triangle size) = refl
-shape_words_are (shapes.Hexagon size) = refl
+figure_words_are (figures.Rectangle width height) = refl
+figure_words_are (figures.Triangle size) = refl
+figure_words_are (figures.Hexagon size) = refl
 
-clean-board : (x : Shape) → IsShapeWithin x → are_clean (board_words x) ≡ true
-clean-board (shapes.Rectangle width height) fits = rw (clean-decimal width (omega (arith, fits.0)), clean-decimal height (omega (arith, fits.1))) refl
-clean-board (shapes.Triangle size) fits = rw (clean-decimal size (omega (arith, fits))) refl
-clean-board (shapes.Hexagon size) fits = rw (clean-decimal size (omega (arith, fits))) refl
+clean-board : (x : Figure) → IsFigureWithin x → are_clean (board_words x) ≡ true
+clean-board (figures.Rectangle width height) fits = rw (clean-decimal width (omega (arith, fits.0)), clean-decimal height (omega (arith, fits.1))) refl
+clean-board (figures.Triangle size) fits = rw (clean-decimal size (omega (arith, fits))) refl
+clean-board (figures.Hexagon size) fits = rw (clean-decimal size (omega (arith, fits))) refl
 
 -- the same words by another name
 takes_same : {X : Type 0} (r : Read X) (words_of others_of : X → List (List ℕ)) (Fits : X → Type 0) → ((x : X) → words_of x ≡ others_of x) → TakesRest r words_of Fits → TakesRest r others_of Fits
@@ -124,23 +124,23 @@ takes_same r words_of others_of Fits same takes = record {
   passes = λ x fits line ahead. subst (λ (ws : List (List ℕ)). r (place line ws ahead) ≡ Ok (x, place line [] ahead)) (same x) (takes.passes x fits line ahead);
 }
 
-abbrev board_rest : Read Shape
+abbrev board_rest : Read Figure
 board_rest = word_by board_kind_in >>= λ kind. board_size kind
 
-pub takes_board : TakesLines board_line (λ x. board_words x ∷ []) IsShapeWithin
+pub takes_board : TakesLines board_line (λ x. board_words x ∷ []) IsFigureWithin
 unfolding board_line
 takes_board =
-    let kind = takes_choice (word_by board_kind_in) kind_words board_size kind_of size_words IsShapeWithin (takes_word board_kind_in kind_word (λ _. Unit {0}) spells_board_kind) (λ k. takes_all (board_size k) size_words (IsOfKind k) (takes_board_size k)) in
-    let line = takes_then_rest (word_by (fixed_in (codes "board"))) (codes "board" ∷ []) board_rest (λ x. kind_words (kind_of x) ++ size_words x) IsShapeWithin (takes_word (fixed_in (codes "board")) (λ _. codes "board") (λ _. Unit {0}) (spells_fixed (codes "board"))) kind in
-    takes_line (word_by (fixed_in (codes "board")) >>= λ _. board_rest) board_words IsShapeWithin
-    (takes_same (word_by (fixed_in (codes "board")) >>= λ _. board_rest) (λ x. codes "board" ∷ (kind_words (kind_of x) ++ size_words x)) board_words IsShapeWithin shape_words_are line) clean-board
+    let kind = takes_choice (word_by board_kind_in) kind_words board_size kind_of size_words IsFigureWithin (takes_word board_kind_in kind_word (λ _. Unit {0}) spells_board_kind) (λ k. takes_all (board_size k) size_words (IsOfKind k) (takes_board_size k)) in
+    let line = takes_then_rest (word_by (fixed_in (codes "board"))) (codes "board" ∷ []) board_rest (λ x. kind_words (kind_of x) ++ size_words x) IsFigureWithin (takes_word (fixed_in (codes "board")) (λ _. codes "board") (λ _. Unit {0}) (spells_fixed (codes "board"))) kind in
+    takes_line (word_by (fixed_in (codes "board")) >>= λ _. board_rest) board_words IsFigureWithin
+    (takes_same (word_by (fixed_in (codes "board")) >>= λ _. board_rest) (λ x. codes "board" ∷ (kind_words (kind_of x) ++ size_words x)) board_words IsFigureWithin figure_words_are line) clean-board
 
 cuts_size : (kind : BoardKind) → CutsShort (board_size kind)
 unfolding board_size
-cuts_size Rectangle = cuts_bind (word_by (number_in 0 100)) (λ width. word_by (number_in 0 100) >>= λ height. give (shapes.Rectangle width height)) (cuts_word (number_in 0 100))
-    (λ width. cuts_bind (word_by (number_in 0 100)) (λ height. give (shapes.Rectangle width height)) (cuts_word (number_in 0 100)) (λ height. cuts_give (shapes.Rectangle width height)))
-cuts_size Triangle = cuts_bind (word_by (number_in 0 100)) (λ size. give (shapes.Triangle size)) (cuts_word (number_in 0 100)) (λ size. cuts_give (shapes.Triangle size))
-cuts_size Hexagon = cuts_bind (word_by (number_in 0 100)) (λ size. give (shapes.Hexagon size)) (cuts_word (number_in 0 100)) (λ size. cuts_give (shapes.Hexagon size))
+cuts_size Rectangle = cuts_bind (word_by (number_in 0 100)) (λ width. word_by (number_in 0 100) >>= λ height. give (figures.Rectangle width height)) (cuts_word (number_in 0 100))
+    (λ width. cuts_bind (word_by (number_in 0 100)) (λ height. give (figures.Rectangle width height)) (cuts_word (number_in 0 100)) (λ height. cuts_give (figures.Rectangle width height)))
+cuts_size Triangle = cuts_bind (word_by (number_in 0 100)) (λ size. give (figures.Triangle size)) (cuts_word (number_in 0 100)) (λ size. cuts_give (figures.Triangle size))
+cuts_size Hexagon = cuts_bind (word_by (number_in 0 100)) (λ size. give (figures.Hexagon size)) (cuts_word (number_in 0 100)) (λ size. cuts_give (figures.Hexagon size))
 
 pub cuts_board : CutsShort board_line
 unfolding board_line

@@ -1,22 +1,23 @@
 -- The one spelling of a puzzle.
 use Rattle.std.specs.Prelude.{◌≡◌, ◌⊎◌, ◌<◌, ◌≤◌, ℕ, Bool, true, false, List, [], ◌∷◌, ◌++◌, Option, Some, None, length, map, codes, decimal}
 use Rattle.std.specs.List.{AllByRecursion}
-use Rattle.match_board.specs.Board.{Shape, Rectangle, Triangle, Hexagon}
+use Rattle.match_board.specs.declared.figures.Figure.{Figure}
+use Rattle.match_board.specs.declared.figures.Figure.TheVariants.{Rectangle, Triangle, Hexagon}
 use Rattle.match_puzzle.specs.Puzzle.{Task, BorderRule, free, one, each}
 use Rattle.match_text.specs.Spelling.{text_of, colour_word, rule_word, tile_word, first_words, count_words, end_lines}
 
-abbrev pub size_words : Shape → List (List ℕ)
+abbrev pub size_words : Figure → List (List ℕ)
 size_words (Rectangle width height) = decimal width ∷ decimal height ∷ []
 size_words (Triangle size) = decimal size ∷ []
 size_words (Hexagon size) = decimal size ∷ []
 
-abbrev pub shape_word : Shape → List ℕ
-shape_word (Rectangle width height) = codes "rect"
-shape_word (Triangle size) = codes "triangle"
-shape_word (Hexagon size) = codes "hexagon"
+abbrev pub figure_word : Figure → List ℕ
+figure_word (Rectangle width height) = codes "rect"
+figure_word (Triangle size) = codes "triangle"
+figure_word (Hexagon size) = codes "hexagon"
 
-abbrev pub board_words : Shape → List (List ℕ)
-board_words board = codes "board" ∷ shape_word board ∷ size_words board
+abbrev pub board_words : Figure → List (List ℕ)
+board_words board = codes "board" ∷ figure_word board ∷ size_words board
 
 abbrev pub turns_word : Bool → List ℕ
 turns_word true = codes "yes"
@@ -51,10 +52,10 @@ puzzle_spelling p = text_of (puzzle_lines p)
 
 -- ---- what has a spelling
 
-abbrev pub IsShapeWithin : Shape → Type 0
-IsShapeWithin (Rectangle width height) = (width ≤ 100) × (height ≤ 100)
-IsShapeWithin (Triangle size) = size ≤ 100
-IsShapeWithin (Hexagon size) = size ≤ 100
+abbrev pub IsFigureWithin : Figure → Type 0
+IsFigureWithin (Rectangle width height) = (width ≤ 100) × (height ≤ 100)
+IsFigureWithin (Triangle size) = size ≤ 100
+IsFigureWithin (Hexagon size) = size ≤ 100
 
 abbrev pub IsRuleWithin : Option ℕ → Type 0
 IsRuleWithin None = Unit {0}
@@ -71,7 +72,7 @@ IsWordWithin word = ((length word ≡ 3) ⊎ (length word ≡ 4)) × AllByRecurs
 
 -- The puzzle is within the limits of its text; there may be no such puzzle.
 pub record IsTaskWithin (p : Task) : Type 0 where
-  pub board : IsShapeWithin p.board
+  pub board : IsFigureWithin p.board
   pub border : IsBorderWithin p.border
   pub some_tiles : 1 ≤ length p.words
   pub few_tiles : length p.words ≤ 100

@@ -1,9 +1,9 @@
 -- The text of a puzzle.
 use Rattle.std.specs.Prelude.{◌≡◌, ◌<◌, ℕ, Bool, true, false, List, Result, Ok, Err, codes, map, if◌then◌else◌}
 use Rattle.std.specs.Str.{bytes_eq}
-use Rattle.match_board.specs.Board.{Shape, cell_count, IsBoard}
-use Rattle.match_board.specs.Board as shapes
-use Rattle.match_board.specs.Figure.{shape_of}
+use Rattle.match_board.specs.Board.{cell_count, IsBoard}
+use Rattle.match_board.specs.declared.figures.Figure.{Figure}
+use Rattle.match_board.specs.declared.figures.Figure.TheVariants as figures
 use Rattle.match_board.specs.First.{IsFirst}
 use Rattle.match_board.specs.Tile.{word}
 use Rattle.match_board.specs.declared.boards.BoardFault.{BoardFault}
@@ -32,19 +32,19 @@ board_kind_in word =
     else (if bytes_eq word (codes "triangle") then Ok Triangle else (if bytes_eq word (codes "hexagon") then Ok Hexagon else Err Word))
 
 -- how large a board of this kind is
-unfoldable pub board_size : BoardKind → Read Shape
+unfoldable pub board_size : BoardKind → Read Figure
 board_size Rectangle = do
   width ← word_by (number_in 0 100)
   height ← word_by (number_in 0 100)
-  give (shapes.Rectangle width height)
+  give (figures.Rectangle width height)
 board_size Triangle = do
   size ← word_by (number_in 0 100)
-  give (shapes.Triangle size)
+  give (figures.Triangle size)
 board_size Hexagon = do
   size ← word_by (number_in 0 100)
-  give (shapes.Hexagon size)
+  give (figures.Hexagon size)
 
-unfoldable pub board_line : Read Shape
+unfoldable pub board_line : Read Figure
 board_line = line_of (do
   _ ← word_by (fixed_in (codes "board"))
   kind ← word_by board_kind_in
@@ -109,12 +109,12 @@ puzzle_of text = value_of (puzzle_text (start text))
 
 -- what was read, without where it lies in memory
 abbrev pub view_of : code.PuzzleText → Task
-view_of t = record { board = shape_of t.figure; turns = t.turns; border = rule_of t.border; words = map word t.tiles.items }
+view_of t = record { board = t.figure; turns = t.turns; border = rule_of t.border; words = map word t.tiles.items }
 
 -- ---- boards and puzzles that there are
 
 -- There is no such board.
-abbrev pub BoardFails : Shape → BoardFault → Type 0
+abbrev pub BoardFails : Figure → BoardFault → Type 0
 BoardFails s Empty = cell_count s ≡ 0
 BoardFails s TooLarge = 100 < cell_count s
 

@@ -2,8 +2,8 @@
 
 ghost use Rattle.std.specs.Prelude.{◌≡◌, ◌<◌, ◌≤◌, ◌++◌, ◌∷◌, [], Ok, length, map, codes, IfOk, OnOk};
 ghost use Rattle.std.specs.List.{AllByRecursion};
-ghost use Rattle.match_board.specs.Board.{Shape, Rectangle, Triangle, Hexagon};
-ghost use Rattle.match_board.specs.Figure.{shape_of};
+ghost use Rattle.match_board.specs.declared.figures.Figure.{Figure};
+ghost use Rattle.match_board.specs.declared.figures.Figure.TheVariants.{Rectangle, Triangle, Hexagon};
 ghost use Rattle.match_board.specs.Tile.{word as colours_of};
 ghost use Rattle.match_puzzle.specs.Puzzle.{rule_of, each, one, free};
 ghost use Rattle.match_text.specs.Puzzles.{PuzzleReads};

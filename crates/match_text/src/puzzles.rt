@@ -1,7 +1,6 @@
 // Puzzles.
 
 ghost use Rattle.std.specs.Prelude.{◌≡◌, ◌+◌, ◌<◌, ◌≤◌, ◌^◌, ℕ, Ok, IfOk, length, map, take};
-ghost use Rattle.match_board.specs.Figure.{shape_of};
 ghost use Rattle.match_board.specs.Tile.{word as tile_colours};
 ghost use Rattle.match_puzzle.specs.Puzzle.{Task, IsPuzzle, rule_of};
 ghost use Rattle.match_text.specs.declared.faults.TextKind.TheVariants as kinds;
@@ -73,7 +72,7 @@ fn board_kind(scan: &mut Scan) -> Result<BoardKind, TextFault>
 
 #[tactic(auto, unfolding(crate::specs::Puzzles::board_size))]
 fn board_size(scan: &mut Scan, kind: BoardKind) -> Result<Figure, TextFault>
-    ensures { Gives shape_of result scan.new (board_size kind scan.old) }
+    ensures { Gives (λ figure. figure) result scan.new (board_size kind scan.old) }
 {
     match kind {
         BoardKind::Rectangle => {
@@ -94,7 +93,7 @@ fn board_size(scan: &mut Scan, kind: BoardKind) -> Result<Figure, TextFault>
 
 #[tactic(auto, unfolding(crate::specs::Puzzles::board_line))]
 fn board_line(scan: &mut Scan) -> Result<Figure, TextFault>
-    ensures { Gives shape_of result scan.new (board_line scan.old) }
+    ensures { Gives (λ figure. figure) result scan.new (board_line scan.old) }
 {
     scan.next_line()?;
     scan.word(b"board")?;

@@ -4,7 +4,8 @@ use Rattle.std.proofs.lemmas.List.{append-nil, length_push}
 use Rattle.std.proofs.lemmas.Option.{slice_get_within, slice_get-get_or}
 use Rattle.std.proofs.lemmas.List.Elements.{Contains-get_or}
 use Rattle.std.proofs.lemmas.Bool.Decides.{eqb_tells}
-use Rattle.match_board.specs.Board.{Shape, side_count}
+use Rattle.match_board.specs.Board.{side_count}
+use Rattle.match_board.specs.declared.figures.Figure.{Figure}
 use Rattle.match_board.specs.Listing.{IsListing}
 use Rattle.match_board.proofs.Places.{Meets-turned}
 use Rattle.match_puzzle.specs.Puzzle.{Task, colour_of}
@@ -28,18 +29,18 @@ same_colours {e} {f} i c =
     ap (λ a. of a e.colour) i ∙ ap (λ b. of f.item b) c
 
 -- an edge is at most one side of a cell
-pub one_side : (s : Shape) (e : SharedEdge) (cell side side' : ℕ) → IsSharedEdge s e → IsSideOf e cell side → IsSideOf e cell side' → side ≡ side'
+pub one_side : (s : Figure) (e : SharedEdge) (cell side side' : ℕ) → IsSharedEdge s e → IsSideOf e cell side → IsSideOf e cell side' → side ≡ side'
 one_side s e cell side side' is (inl a) (inl b) = sym a.1 ∙ b.1
 one_side s e cell side side' is (inl a) (inr b) = absurd (other_cell is.0 (a.0 ∙ sym b.0))
 one_side s e cell side side' is (inr a) (inl b) = absurd (other_cell is.0 (b.0 ∙ sym a.0))
 one_side s e cell side side' is (inr a) (inr b) = sym a.1 ∙ b.1
 
-pub side_of_in_range : (s : Shape) (e : SharedEdge) (cell side : ℕ) → IsSharedEdge s e → IsSideOf e cell side → side < side_count s
+pub side_of_in_range : (s : Figure) (e : SharedEdge) (cell side : ℕ) → IsSharedEdge s e → IsSideOf e cell side → side < side_count s
 side_of_in_range s e cell side is (inl a) = let lt = side_in_range is.0 in omega (arith, lt, a.1)
 side_of_in_range s e cell side is (inr a) = let lt = side_in_range (Meets-turned is.0) in omega (arith, lt, a.1)
 
 -- what is in a list of shared edges is one
-pub shared_at : (s : Shape) (shared : List SharedEdge) (number : ℕ) (e : SharedEdge) → AreSharedEdges s shared → slice_get shared number ≡ Some e → IsSharedEdge s e
+pub shared_at : (s : Figure) (shared : List SharedEdge) (number : ℕ) (e : SharedEdge) → AreSharedEdges s shared → slice_get shared number ≡ Some e → IsSharedEdge s e
 shared_at s shared number e are at =
     let lt = slice_get_within shared number e at in
     let read = inside (sym (slice_get-get_or shared number e lt) ∙ at) in

@@ -1,6 +1,7 @@
 -- The exact cover of a puzzle: its primary items are the cells, then the tiles, its secondary items the shared edges.
 use Rattle.std.specs.Prelude.{◌≡◌, ◌⊎◌, ◌<◌, ◌+◌, ℕ, List, [], ◌∷◌, Some, length, map, slice_get}
-use Rattle.match_board.specs.Board.{Shape, cell_count, Meets}
+use Rattle.match_board.specs.Board.{cell_count, Meets}
+use Rattle.match_board.specs.declared.figures.Figure.{Figure}
 use Rattle.match_board.specs.Listing.{IsListing, ComesBefore, ByKey}
 use Rattle.match_puzzle.specs.Puzzle.{Task, IsPuzzle, IsLegal, HasRule, colour_of}
 use Rattle.match_puzzle.specs.Fitting.{tile_turn}
@@ -14,11 +15,11 @@ abbrev pub least_place : SharedEdge → ℕ × ℕ
 least_place e = (e.cell, e.side)
 
 -- The two sides meet, and the lesser (cell, side) is named first.
-abbrev pub IsSharedEdge : Shape → SharedEdge → Type 0
+abbrev pub IsSharedEdge : Figure → SharedEdge → Type 0
 IsSharedEdge s e = Meets s e.cell e.side e.other_cell e.other_side × ComesBefore (e.cell, e.side) (e.other_cell, e.other_side)
 
 -- all shared edges of the board, by their lesser (cell, side)
-abbrev pub AreSharedEdges : Shape → List SharedEdge → Type 0
+abbrev pub AreSharedEdges : Figure → List SharedEdge → Type 0
 AreSharedEdges s edges = IsListing (ByKey least_place) (IsSharedEdge s) edges
 
 -- The side of the cell is one of the two that meet there.

@@ -1,6 +1,6 @@
 use Rattle.std.proofs.Common.{◌<◌, ◌≤◌, ℕ, Bool, Contains, [], map, get_or, arith, sym, subst, inl, inr, below_more}
 use Rattle.std.proofs.lemmas.List.{length-map}
-use Rattle.match_board.specs.Board.{Shape}
+use Rattle.match_board.specs.declared.figures.Figure.{Figure}
 use Rattle.match_board.specs.Tile.{word}
 use Rattle.match_puzzle.specs.Puzzle.{task_of}
 use Rattle.match_puzzle.specs.Colours.{HasColour}
@@ -23,7 +23,7 @@ loop-tile-preserved c =
     let at = word_at tiles i c.tile-item.result c.loop-tile-test.true c.tile-item.is in
     let of_tile = c.tile_colour_count-of_tile.result in
     let here : (colour : ℕ) → Contains (get_or (map word tiles) i []) colour → colour < of_tile = λ colour among. c.tile_colour_count-of_tile.ensures.above colour (subst (λ w. Contains w colour) at among) in
-    let bounds : (board : Shape) (turns : Bool) (other : ℕ) → ((colour : ℕ) → HasColour (task_of board turns c.args.border.now tiles) colour → colour < other) → of_tile ≤ other =
+    let bounds : (board : Figure) (turns : Bool) (other : ℕ) → ((colour : ℕ) → HasColour (task_of board turns c.args.border.now tiles) colour → colour < other) → of_tile ≤ other =
     λ board turns other bound. c.tile_colour_count-of_tile.ensures.least other (λ colour among. bound colour (inl (i, omega (arith, c.loop-tile-test.true, length-map tiles word), subst (λ w. Contains w colour) (sym at) among))) in
     elim c.if-of_tile-count.branch [
       | then-of_tile-count v ↦ record {

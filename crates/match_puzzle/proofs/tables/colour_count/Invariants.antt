@@ -1,5 +1,5 @@
 use Rattle.std.proofs.Common.{◌<◌, ◌≤◌, ℕ, Bool, Contains, slice_index_or, [], map}
-use Rattle.match_board.specs.Board.{Shape}
+use Rattle.match_board.specs.declared.figures.Figure.{Figure}
 use Rattle.match_board.specs.Tile.{word}
 use Rattle.match_puzzle.specs.Puzzle.{task_of, rule_of, StandsInRule}
 use Rattle.match_puzzle.specs.Colours.{HasColour}
@@ -9,5 +9,5 @@ abbrev pub invariant-loop-tile : goal.invariant-loop-tile
 invariant-loop-tile l = record {
   border : (place colour : ℕ) → StandsInRule (rule_of l.border) place colour → colour < l.count;
   above : (k colour : ℕ) → k < l.tile-index → Contains (slice_index_or (map word l.tiles) k []) colour → colour < l.count;
-  least : (board : Shape) (turns : Bool) (other : ℕ) → ((colour : ℕ) → HasColour (task_of board turns l.border l.tiles) colour → colour < other) → l.count ≤ other;
+  least : (board : Figure) (turns : Bool) (other : ℕ) → ((colour : ℕ) → HasColour (task_of board turns l.border l.tiles) colour → colour < other) → l.count ≤ other;
 }
