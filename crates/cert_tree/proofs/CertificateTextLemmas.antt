@@ -1,5 +1,6 @@
 -- The lemma and the certificate that are read are those that were written, and what was written is read again.
 use Rattle.std.proofs.Common.{◌≡◌, ℕ, List, [], ◌∷◌, ◌++◌, length, map, Ok, refl, sym, ap, subst, ◌∙◌, zero-add, arith, codes}
+use Rattle.match_board.specs.declared.limits.TheConstants.{MOST_SYMMETRIES, MOST_LEMMAS}
 use Rattle.std.specs.List.{flat_map}
 use Rattle.std.proofs.lemmas.List.{append-nil}
 use Rattle.std.proofs.lemmas.List.Concat.{flat_map_single}
@@ -98,28 +99,28 @@ abbrev pieces_then : List SymmetryLine → ℕ → Read Said
 pieces_then symmetries count = times count lemma_line >>= λ pieces. closing >>= λ _. give (said_of symmetries pieces)
 
 abbrev count_then : List SymmetryLine → Read Said
-count_then symmetries = counted (codes "lemmas") 0 1000000 >>= pieces_then symmetries
+count_then symmetries = counted (codes "lemmas") 0 MOST_LEMMAS >>= pieces_then symmetries
 
 abbrev symmetries_then : ℕ → Read Said
 symmetries_then many = times many symmetry_line >>= count_then
 
 abbrev many_then : Read Said
-many_then = counted (codes "symmetries") 0 1024 >>= symmetries_then
+many_then = counted (codes "symmetries") 0 MOST_SYMMETRIES >>= symmetries_then
 
 certificate_is : (p : Place) (x : Said × Place) → certificate_text p ≡ Ok x → (p.ahead ≡ text_of (certificate_lines x.0)) × IsCertificateWithin x.0
 unfolding certificate_text
 certificate_is p x e =
     let o = bind_ok (opening (codes "certificate") p) (λ _. many_then) x e in
-    let a = bind_ok (counted (codes "symmetries") 0 1024 o.0.1) symmetries_then x o.2 in
+    let a = bind_ok (counted (codes "symmetries") 0 MOST_SYMMETRIES o.0.1) symmetries_then x o.2 in
     let b = bind_ok (times a.0.0 symmetry_line a.0.1) count_then x a.2 in
-    let c = bind_ok (counted (codes "lemmas") 0 1000000 b.0.1) (pieces_then b.0.0) x b.2 in
+    let c = bind_ok (counted (codes "lemmas") 0 MOST_LEMMAS b.0.1) (pieces_then b.0.0) x b.2 in
     let d = bind_ok (times c.0.0 lemma_line c.0.1) (λ pieces. closing >>= λ _. give (said_of b.0.0 pieces)) x c.2 in
     let g = bind_ok (closing d.0.1) (λ _. give (said_of b.0.0 d.0.0)) x d.2 in
     let said = said_of b.0.0 d.0.0 in
     let first = (takes_opening (codes "certificate") refl).is p o.0.0 o.0.1 o.1 in
-    let many = (takes_counted (codes "symmetries") 0 1024 refl (omega arith)).is o.0.1 a.0.0 a.0.1 a.1 in
+    let many = (takes_counted (codes "symmetries") 0 MOST_SYMMETRIES refl (omega arith)).is o.0.1 a.0.0 a.0.1 a.1 in
     let symmetries = times_is symmetry_line (λ s. symmetry_words s ∷ []) IsSymmetryWithin takes_symmetry a.0.0 a.0.1 b.0.0 b.0.1 b.1 in
-    let count = (takes_counted (codes "lemmas") 0 1000000 refl (omega arith)).is b.0.1 c.0.0 c.0.1 c.1 in
+    let count = (takes_counted (codes "lemmas") 0 MOST_LEMMAS refl (omega arith)).is b.0.1 c.0.0 c.0.1 c.1 in
     let pieces = times_is lemma_line (λ s. lemma_words s ∷ []) IsLemmaWithin takes_lemma c.0.0 c.0.1 d.0.0 d.0.1 d.1 in
     let last : d.0.1.ahead ≡ text_of end_lines ++ [] = closing_is d.0.1 g.0 g.1 ∙ sym (append-nil (text_of end_lines)) in
     let five = lines_then c.0.1.ahead (all_lemma_lines d.0.0) end_lines d.0.1.ahead [] pieces.0 last in
@@ -161,9 +162,9 @@ certificate_again said fits =
     let three = text_of (all_symmetry_lines said.symmetries) ++ four in
     let two = text_of (symmetries_line many) ++ three in
     let a = (takes_opening (codes "certificate") refl).passes tt tt 0 [] two in
-    let b = (takes_counted (codes "symmetries") 0 1024 refl (omega arith)).passes many (omega arith, fits.few_symmetries) a.0 [] three in
+    let b = (takes_counted (codes "symmetries") 0 MOST_SYMMETRIES refl (omega arith)).passes many (omega arith, fits.few_symmetries) a.0 [] three in
     let c = times_again symmetry_line (λ s. symmetry_words s ∷ []) IsSymmetryWithin takes_symmetry said.symmetries fits.symmetries b.0 four in
-    let d = (takes_counted (codes "lemmas") 0 1000000 refl (omega arith)).passes count (omega arith, fits.few_pieces) c.0 [] five in
+    let d = (takes_counted (codes "lemmas") 0 MOST_LEMMAS refl (omega arith)).passes count (omega arith, fits.few_pieces) c.0 [] five in
     let g = times_again lemma_line (λ s. lemma_words s ∷ []) IsLemmaWithin takes_lemma said.pieces fits.pieces d.0 last in
     let h = closing_again g.0 [] in
     (h.0, rw (parts said, a.1, b.1, c.1, d.1, g.1, h.1) refl)
@@ -173,18 +174,18 @@ certificate_again said fits =
 cuts_certificate : CutsShort certificate_text
 unfolding certificate_text
 cuts_certificate = cuts_bind (opening (codes "certificate")) (λ _. many_then) (cuts_opening (codes "certificate"))
-    (λ _. cuts_bind (counted (codes "symmetries") 0 1024) symmetries_then (cuts_counted (codes "symmetries") 0 1024)
+    (λ _. cuts_bind (counted (codes "symmetries") 0 MOST_SYMMETRIES) symmetries_then (cuts_counted (codes "symmetries") 0 MOST_SYMMETRIES)
     (λ many. cuts_bind (times many symmetry_line) count_then (cuts_times many symmetry_line cuts_symmetry)
-    (λ symmetries. cuts_bind (counted (codes "lemmas") 0 1000000) (pieces_then symmetries) (cuts_counted (codes "lemmas") 0 1000000)
+    (λ symmetries. cuts_bind (counted (codes "lemmas") 0 MOST_LEMMAS) (pieces_then symmetries) (cuts_counted (codes "lemmas") 0 MOST_LEMMAS)
     (λ count. cuts_bind (times count lemma_line) (λ pieces. closing >>= λ _. give (said_of symmetries pieces)) (cuts_times count lemma_line cuts_lemma)
     (λ pieces. cuts_bind closing (λ _. give (said_of symmetries pieces)) cuts_closing (λ _. cuts_give (said_of symmetries pieces)))))))
 
 certificate_leaves : LeavesNothing certificate_text
 unfolding certificate_text
 certificate_leaves = leaves_after (opening (codes "certificate")) (λ _. many_then)
-    (λ _. leaves_after (counted (codes "symmetries") 0 1024) symmetries_then
+    (λ _. leaves_after (counted (codes "symmetries") 0 MOST_SYMMETRIES) symmetries_then
     (λ many. leaves_after (times many symmetry_line) count_then
-    (λ symmetries. leaves_after (counted (codes "lemmas") 0 1000000) (pieces_then symmetries)
+    (λ symmetries. leaves_after (counted (codes "lemmas") 0 MOST_LEMMAS) (pieces_then symmetries)
     (λ count. leaves_after (times count lemma_line) (λ pieces. closing >>= λ _. give (said_of symmetries pieces)) (λ pieces. leaves_closing (said_of symmetries pieces))))))
 
 -- ---- the laws of `certificate_of`

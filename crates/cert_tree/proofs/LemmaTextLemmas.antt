@@ -1,5 +1,6 @@
 -- The lines of symmetries and of lemmas: what is read is what was written, and what was written is read again.
 use Rattle.std.proofs.Common.{◌≡◌, ℕ, ◌<◌, ◌≤◌, ◌^◌, Bool, true, false, cond, eqb, zero, suc, List, [], ◌∷◌, ◌++◌, length, map, Result, Ok, Err, refl, sym, ap, subst, ◌∙◌, arith, codes}
+use Rattle.match_board.specs.declared.limits.TheConstants.{MOST_CELLS, LAST_CELL, MOST_TILES, LAST_TILE, LAST_SIDE, LAST_TURN, MOST_COLOURS, LAST_LEMMA, MOST_CHILDREN, MOST_LEVELS}
 use Rattle.std.specs.Fmt.{decimal}
 use Rattle.std.specs.List.{AllByRecursion}
 use Rattle.std.specs.Str.{bytes_eq}
@@ -51,14 +52,14 @@ decimal_lacks_colon n lt = digits_lack_colon (decimal n) (own.to (decimal n) (di
 pair_is : (word : List ℕ) (x : Pair) → pair_in word ≡ judged_ok x → (word ≡ pair_word x) × IsPairWithin x
 unfolding pair_in
 pair_is word x e =
-    let a = judged_bind (or_word (cut_at 58 word)) (λ parts. after_word (or_word (cut_at 46 parts.1)) (λ placed. after_word (number_in 0 99 parts.0) (λ cell. after_word (number_in 0 99 placed.0) (λ tile. after_word (number_in 0 3 placed.1) (λ turn. judged_ok (pair_of cell tile turn)))))) x e in
-    let b = judged_bind (or_word (cut_at 46 a.0.1)) (λ placed. after_word (number_in 0 99 a.0.0) (λ cell. after_word (number_in 0 99 placed.0) (λ tile. after_word (number_in 0 3 placed.1) (λ turn. judged_ok (pair_of cell tile turn))))) x a.2 in
-    let d = judged_bind (number_in 0 99 a.0.0) (λ cell. after_word (number_in 0 99 b.0.0) (λ tile. after_word (number_in 0 3 b.0.1) (λ turn. judged_ok (pair_of cell tile turn)))) x b.2 in
-    let g = judged_bind (number_in 0 99 b.0.0) (λ tile. after_word (number_in 0 3 b.0.1) (λ turn. judged_ok (pair_of d.0 tile turn))) x d.2 in
-    let h = judged_bind (number_in 0 3 b.0.1) (λ turn. judged_ok (pair_of d.0 g.0 turn)) x g.2 in
-    let cell = (spells_number 0 99 (omega arith)).is a.0.0 d.0 d.1 in
-    let tile = (spells_number 0 99 (omega arith)).is b.0.0 g.0 g.1 in
-    let turn = (spells_number 0 3 (omega arith)).is b.0.1 h.0 h.1 in
+    let a = judged_bind (or_word (cut_at 58 word)) (λ parts. after_word (or_word (cut_at 46 parts.1)) (λ placed. after_word (number_in 0 LAST_CELL parts.0) (λ cell. after_word (number_in 0 LAST_TILE placed.0) (λ tile. after_word (number_in 0 LAST_TURN placed.1) (λ turn. judged_ok (pair_of cell tile turn)))))) x e in
+    let b = judged_bind (or_word (cut_at 46 a.0.1)) (λ placed. after_word (number_in 0 LAST_CELL a.0.0) (λ cell. after_word (number_in 0 LAST_TILE placed.0) (λ tile. after_word (number_in 0 LAST_TURN placed.1) (λ turn. judged_ok (pair_of cell tile turn))))) x a.2 in
+    let d = judged_bind (number_in 0 LAST_CELL a.0.0) (λ cell. after_word (number_in 0 LAST_TILE b.0.0) (λ tile. after_word (number_in 0 LAST_TURN b.0.1) (λ turn. judged_ok (pair_of cell tile turn)))) x b.2 in
+    let g = judged_bind (number_in 0 LAST_TILE b.0.0) (λ tile. after_word (number_in 0 LAST_TURN b.0.1) (λ turn. judged_ok (pair_of d.0 tile turn))) x d.2 in
+    let h = judged_bind (number_in 0 LAST_TURN b.0.1) (λ turn. judged_ok (pair_of d.0 g.0 turn)) x g.2 in
+    let cell = (spells_number 0 LAST_CELL (omega arith)).is a.0.0 d.0 d.1 in
+    let tile = (spells_number 0 LAST_TILE (omega arith)).is b.0.0 g.0 g.1 in
+    let turn = (spells_number 0 LAST_TURN (omega arith)).is b.0.1 h.0 h.1 in
     let placed : a.0.1 ≡ decimal g.0 ++ 46 ∷ decimal h.0 = cut_parts 46 a.0.1 b.0 (or_word_is (cut_at 46 a.0.1) b.0 b.1) ∙ ap (λ w. w ++ 46 ∷ b.0.1) tile.0 ∙ ap (λ w. decimal g.0 ++ 46 ∷ w) turn.0 in
     let whole : word ≡ decimal d.0 ++ 58 ∷ (decimal g.0 ++ 46 ∷ decimal h.0) = cut_parts 58 word a.0 (or_word_is (cut_at 58 word) a.0 a.1) ∙ ap (λ w. w ++ 58 ∷ a.0.1) cell.0 ∙ ap (λ w. decimal d.0 ++ 58 ∷ w) placed in
     subst (λ (z : Pair). (word ≡ pair_word z) × IsPairWithin z) (judged_ok_is (pair_of d.0 g.0 h.0) x h.2) (whole, (cell.1.1, (tile.1.1, turn.1.1)))
@@ -70,9 +71,9 @@ pair_again x fits =
     rw (
       cut_dot 58 (decimal x.cell) (placement_word placed) (decimal_lacks_colon x.cell (omega (arith, fits.0))),
       cut_dot 46 (decimal placed.tile) (decimal placed.turn) (decimal_lacks 46 placed.tile (omega arith) (omega (arith, fits.1.0))),
-      (spells_number 0 99 (omega arith)).passes x.cell (omega arith, fits.0),
-      (spells_number 0 99 (omega arith)).passes placed.tile (omega arith, fits.1.0),
-      (spells_number 0 3 (omega arith)).passes placed.turn (omega arith, fits.1.1),
+      (spells_number 0 LAST_CELL (omega arith)).passes x.cell (omega arith, fits.0),
+      (spells_number 0 LAST_TILE (omega arith)).passes placed.tile (omega arith, fits.1.0),
+      (spells_number 0 LAST_TURN (omega arith)).passes placed.turn (omega arith, fits.1.1),
     ) refl
 
 pub spells_pair : Spells pair_in pair_word IsPairWithin
@@ -114,7 +115,7 @@ apart_of test word_of Fits stop kind spells refused x fits = by_test (bytes_eq (
     by_test true is = absurd (clash (sym (spells.passes x fits) ∙ ap test ((bytes_eq-Decides (word_of x) stop).0 is) ∙ refused))
     by_test false is = refl
 
-no_number : number_in 0 99 (codes "colours") ≡ Err Number
+no_number : number_in 0 LAST_CELL (codes "colours") ≡ Err Number
 unfolding number_in
 no_number = refl
 
@@ -132,39 +133,39 @@ abbrev symmetry_of : ℕ → Bool → List ℕ → List ℕ → List ℕ → Sym
 symmetry_of shift mirrored cells colours tiles = record { shift = shift; mirrored = mirrored; cells = cells; colours = colours; tiles = tiles }
 
 abbrev tiles_then : ℕ → Bool → List ℕ → List ℕ → Read SymmetryLine
-tiles_then shift mirrored cells colours = entries 100 (number_in 0 99) >>= λ tiles. give (symmetry_of shift mirrored cells colours tiles)
+tiles_then shift mirrored cells colours = entries MOST_TILES (number_in 0 LAST_TILE) >>= λ tiles. give (symmetry_of shift mirrored cells colours tiles)
 
 abbrev colours_then : ℕ → Bool → List ℕ → Read SymmetryLine
-colours_then shift mirrored cells = entries_before (codes "tiles") 36 colour_in >>= λ colours. word_by (fixed_in (codes "tiles")) >>= λ _. tiles_then shift mirrored cells colours
+colours_then shift mirrored cells = entries_before (codes "tiles") MOST_COLOURS colour_in >>= λ colours. word_by (fixed_in (codes "tiles")) >>= λ _. tiles_then shift mirrored cells colours
 
 abbrev cells_then : ℕ → Bool → Read SymmetryLine
-cells_then shift mirrored = entries_before (codes "colours") 100 (number_in 0 99) >>= λ cells. word_by (fixed_in (codes "colours")) >>= λ _. colours_then shift mirrored cells
+cells_then shift mirrored = entries_before (codes "colours") MOST_CELLS (number_in 0 LAST_CELL) >>= λ cells. word_by (fixed_in (codes "colours")) >>= λ _. colours_then shift mirrored cells
 
 abbrev WithColours : ℕ → Bool → List ℕ → List ℕ → SymmetryLine → Type 0
-WithColours shift mirrored cells colours g = ((length g.tiles ≤ 100) × AllByRecursion (λ n. n ≤ 99) g.tiles) × (g ≡ symmetry_of shift mirrored cells colours g.tiles)
+WithColours shift mirrored cells colours g = ((length g.tiles ≤ MOST_TILES) × AllByRecursion (λ n. n ≤ LAST_TILE) g.tiles) × (g ≡ symmetry_of shift mirrored cells colours g.tiles)
 
 abbrev WithCells : ℕ → Bool → List ℕ → SymmetryLine → Type 0
-WithCells shift mirrored cells g = ((length g.colours ≤ 36) × AllByRecursion (λ n. n < 36) g.colours) × WithColours shift mirrored cells g.colours g
+WithCells shift mirrored cells g = ((length g.colours ≤ MOST_COLOURS) × AllByRecursion (λ n. n < MOST_COLOURS) g.colours) × WithColours shift mirrored cells g.colours g
 
 abbrev WithSign : ℕ → Bool → SymmetryLine → Type 0
-WithSign shift mirrored g = ((length g.cells ≤ 100) × AllByRecursion (λ n. n ≤ 99) g.cells) × WithCells shift mirrored g.cells g
+WithSign shift mirrored g = ((length g.cells ≤ MOST_CELLS) × AllByRecursion (λ n. n ≤ LAST_CELL) g.cells) × WithCells shift mirrored g.cells g
 
 abbrev WithShift : ℕ → SymmetryLine → Type 0
 WithShift shift g = Unit {0} × WithSign shift g.mirrored g
 
 takes_tiles : (shift : ℕ) (mirrored : Bool) (cells colours : List ℕ) → TakesRest (tiles_then shift mirrored cells colours) (λ g. map decimal g.tiles) (WithColours shift mirrored cells colours)
 takes_tiles shift mirrored cells colours =
-    takes_last (entries 100 (number_in 0 99)) (map decimal) (λ xs. (length xs ≤ 100) × AllByRecursion (λ n. n ≤ 99) xs) (symmetry_of shift mirrored cells colours) (λ g. g.tiles)
-    (takes_few (number_in 0 99) decimal (λ n. n ≤ 99) (spells_up_to 99 (omega arith)) 100) (λ xs. refl)
+    takes_last (entries MOST_TILES (number_in 0 LAST_TILE)) (map decimal) (λ xs. (length xs ≤ MOST_CELLS) × AllByRecursion (λ n. n ≤ LAST_CELL) xs) (symmetry_of shift mirrored cells colours) (λ g. g.tiles)
+    (takes_few (number_in 0 LAST_CELL) decimal (λ n. n ≤ LAST_CELL) (spells_up_to LAST_CELL (omega arith)) MOST_CELLS) (λ xs. refl)
 
 takes_colours : (shift : ℕ) (mirrored : Bool) (cells : List ℕ) → TakesRest (colours_then shift mirrored cells) (λ g. map colour_word g.colours ++ (codes "tiles" ∷ map decimal g.tiles)) (WithCells shift mirrored cells)
 takes_colours shift mirrored cells =
-    takes_until colour_in colour_word (λ n. n < 36) spells_colour (codes "tiles") (apart_of colour_in colour_word (λ n. n < 36) (codes "tiles") Word spells_colour no_colour) 36
+    takes_until colour_in colour_word (λ n. n < MOST_COLOURS) spells_colour (codes "tiles") (apart_of colour_in colour_word (λ n. n < MOST_COLOURS) (codes "tiles") Word spells_colour no_colour) MOST_COLOURS
     (tiles_then shift mirrored cells) (λ g. g.colours) (λ g. map decimal g.tiles) (WithColours shift mirrored cells) (takes_tiles shift mirrored cells) (λ colours g fits. ap (λ (h : SymmetryLine). h.colours) fits.1)
 
 takes_cells : (shift : ℕ) (mirrored : Bool) → TakesRest (cells_then shift mirrored) (λ g. map decimal g.cells ++ (codes "colours" ∷ (map colour_word g.colours ++ (codes "tiles" ∷ map decimal g.tiles)))) (WithSign shift mirrored)
 takes_cells shift mirrored =
-    takes_until (number_in 0 99) decimal (λ n. n ≤ 99) (spells_up_to 99 (omega arith)) (codes "colours") (apart_of (number_in 0 99) decimal (λ n. n ≤ 99) (codes "colours") Number (spells_up_to 99 (omega arith)) no_number) 100
+    takes_until (number_in 0 LAST_CELL) decimal (λ n. n ≤ LAST_CELL) (spells_up_to LAST_CELL (omega arith)) (codes "colours") (apart_of (number_in 0 LAST_CELL) decimal (λ n. n ≤ LAST_CELL) (codes "colours") Number (spells_up_to LAST_CELL (omega arith)) no_number) MOST_CELLS
     (colours_then shift mirrored) (λ g. g.cells) (λ g. map colour_word g.colours ++ (codes "tiles" ∷ map decimal g.tiles)) (WithCells shift mirrored) (takes_colours shift mirrored) (λ cells g fits. ap (λ (h : SymmetryLine). h.cells) fits.1.1)
 
 abbrev sign_then : ℕ → Read SymmetryLine
@@ -182,17 +183,17 @@ takes_sign shift =
     (λ mirrored g fits. ap (λ (h : SymmetryLine). h.mirrored) fits.1.1.1)
 
 abbrev symmetry_rest : Read SymmetryLine
-symmetry_rest = word_by (fixed_in (codes "symmetry")) >>= λ _. word_by (number_in 0 3) >>= λ shift. sign_then shift
+symmetry_rest = word_by (fixed_in (codes "symmetry")) >>= λ _. word_by (number_in 0 LAST_SIDE) >>= λ shift. sign_then shift
 
 takes_symmetry_rest : TakesRest symmetry_rest symmetry_words IsSymmetryWithin
 takes_symmetry_rest =
-    takes_rest_as symmetry_rest (λ g. (codes "symmetry" ∷ []) ++ ((decimal g.shift ∷ []) ++ (mirrored_word g.mirrored ∷ after_sign g))) symmetry_words (λ g. (g.shift ≤ 3) × WithShift g.shift g) IsSymmetryWithin (λ g. refl)
+    takes_rest_as symmetry_rest (λ g. (codes "symmetry" ∷ []) ++ ((decimal g.shift ∷ []) ++ (mirrored_word g.mirrored ∷ after_sign g))) symmetry_words (λ g. (g.shift ≤ LAST_SIDE) × WithShift g.shift g) IsSymmetryWithin (λ g. refl)
     (λ g fits. record { shift = fits.0; cells = fits.1.1.0; colours = fits.1.1.1.0; tiles = fits.1.1.1.1.0 })
     (λ g fits. (fits.shift, (tt, (fits.cells, (fits.colours, (fits.tiles, refl))))))
-    (takes_then_rest (word_by (fixed_in (codes "symmetry"))) (codes "symmetry" ∷ []) (word_by (number_in 0 3) >>= sign_then) (λ g. (decimal g.shift ∷ []) ++ (mirrored_word g.mirrored ∷ after_sign g)) (λ g. (g.shift ≤ 3) × WithShift g.shift g)
+    (takes_then_rest (word_by (fixed_in (codes "symmetry"))) (codes "symmetry" ∷ []) (word_by (number_in 0 LAST_SIDE) >>= sign_then) (λ g. (decimal g.shift ∷ []) ++ (mirrored_word g.mirrored ∷ after_sign g)) (λ g. (g.shift ≤ LAST_SIDE) × WithShift g.shift g)
     (takes_fixed (codes "symmetry"))
-    (takes_field_rest (word_by (number_in 0 3)) (λ n. decimal n ∷ []) (λ n. n ≤ 3) sign_then (λ g. g.shift) (λ g. mirrored_word g.mirrored ∷ after_sign g) WithShift
-    (takes_word (number_in 0 3) decimal (λ n. n ≤ 3) (spells_up_to 3 (omega arith))) takes_sign (λ shift g fits. ap (λ (h : SymmetryLine). h.shift) fits.1.1.1.1)))
+    (takes_field_rest (word_by (number_in 0 LAST_SIDE)) (λ n. decimal n ∷ []) (λ n. n ≤ LAST_SIDE) sign_then (λ g. g.shift) (λ g. mirrored_word g.mirrored ∷ after_sign g) WithShift
+    (takes_word (number_in 0 LAST_SIDE) decimal (λ n. n ≤ LAST_SIDE) (spells_up_to LAST_SIDE (omega arith))) takes_sign (λ shift g fits. ap (λ (h : SymmetryLine). h.shift) fits.1.1.1.1)))
 
 -- ---- words with no space and no LF
 
@@ -211,7 +212,7 @@ clean_each : {X : Type 0} (word_of : X → List ℕ) (Fits : X → Type 0) → (
 clean_each word_of Fits clean [] fits = tt
 clean_each word_of Fits clean (x ∷ xs) fits = (clean x fits.0, clean_each word_of Fits clean xs fits.1)
 
-clean_number : (n : ℕ) → n ≤ 999999 → is_clean (decimal n) ≡ true
+clean_number : (n : ℕ) → n ≤ LAST_LEMMA → is_clean (decimal n) ≡ true
 clean_number n few = clean-decimal n (omega (arith, few))
 
 clean_mirrored : (mirrored : Bool) → is_clean (mirrored_word mirrored) ≡ true
@@ -221,17 +222,17 @@ clean_mirrored true = refl
 clean_pair : (x : Pair) → IsPairWithin x → is_clean (pair_word x) ≡ true
 clean_pair x fits = clean-append (decimal x.cell) (58 ∷ placement_word x.placement) (clean_number x.cell (omega (arith, fits.0))) (rw (clean-placement x.placement fits.1) refl)
 
-clean_images : (images : List ℕ) → AllByRecursion (λ n. n ≤ 99) images → AreClean (map decimal images)
-clean_images images fits = clean_each decimal (λ n. n ≤ 99) (λ n few. clean_number n (omega (arith, few))) images fits
+clean_images : (images : List ℕ) → AllByRecursion (λ n. n ≤ LAST_CELL) images → AreClean (map decimal images)
+clean_images images fits = clean_each decimal (λ n. n ≤ LAST_CELL) (λ n few. clean_number n (omega (arith, few))) images fits
 
 clean_symmetry : (g : SymmetryLine) → IsSymmetryWithin g → are_clean (symmetry_words g) ≡ true
 clean_symmetry g fits =
     let tiles = clean_images g.tiles fits.tiles.1 in
-    let colours = clean_both (map colour_word g.colours) (codes "tiles" ∷ map decimal g.tiles) (clean_each colour_word (λ n. n < 36) (λ n lt. clean-colour n) g.colours fits.colours.1) (refl, tiles) in
+    let colours = clean_both (map colour_word g.colours) (codes "tiles" ∷ map decimal g.tiles) (clean_each colour_word (λ n. n < MOST_COLOURS) (λ n lt. clean-colour n) g.colours fits.colours.1) (refl, tiles) in
     let cells = clean_both (map decimal g.cells) (codes "colours" ∷ (map colour_word g.colours ++ (codes "tiles" ∷ map decimal g.tiles))) (clean_images g.cells fits.cells.1) (refl, colours) in
     clean_line (codes "symmetry") (decimal g.shift ∷ mirrored_word g.mirrored ∷ after_sign g) refl (clean_number g.shift (omega (arith, fits.shift)), (clean_mirrored g.mirrored, (refl, cells)))
 
-clean_branch : (item : Item) (children : Forest) → IsItemWithin item → count children ≤ 400 → AreClean (forest_words children) → AreClean (tree_words (branch item children))
+clean_branch : (item : Item) (children : Forest) → IsItemWithin item → count children ≤ MOST_CHILDREN → AreClean (forest_words children) → AreClean (tree_words (branch item children))
 clean_branch (items.Cell cell) children fits few others = (refl, (clean_number cell (omega (arith, fits)), (clean_number (count children) (omega (arith, few)), others)))
 clean_branch (items.Tile tile) children fits few others = (refl, (clean_number tile (omega (arith, fits)), (clean_number (count children) (omega (arith, few)), others)))
 
@@ -254,7 +255,7 @@ mutual
 
 clean_lemma : (piece : Piece) → IsLemmaWithin piece → are_clean (lemma_words piece) ≡ true
 clean_lemma piece fits =
-    let pairs = clean_both (map pair_word piece.prefix) (codes "tree" ∷ tree_words piece.tree) (clean_each pair_word IsPairWithin clean_pair piece.prefix fits.pairs) (refl, clean_tree 101 piece.tree fits.tree) in
+    let pairs = clean_both (map pair_word piece.prefix) (codes "tree" ∷ tree_words piece.tree) (clean_each pair_word IsPairWithin clean_pair piece.prefix fits.pairs) (refl, clean_tree MOST_LEVELS piece.tree fits.tree) in
     clean_line (codes "lemma") (decimal piece.number ∷ codes "prefix" ∷ (map pair_word piece.prefix ++ (codes "tree" ∷ tree_words piece.tree))) refl (clean_number piece.number fits.number, (refl, pairs))
 
 -- ---- a lemma's line
@@ -263,22 +264,22 @@ abbrev piece : ℕ → List Pair → Tree → Piece
 piece number prefix tree = record { number = number; prefix = prefix; tree = tree }
 
 abbrev tree_then : ℕ → List Pair → Read Piece
-tree_then number prefix = tree_by 101 >>= λ tree. give (piece number prefix tree)
+tree_then number prefix = tree_by MOST_LEVELS >>= λ tree. give (piece number prefix tree)
 
 abbrev pairs_then : ℕ → Read Piece
-pairs_then number = entries_before (codes "tree") 100 pair_in >>= λ prefix. word_by (fixed_in (codes "tree")) >>= λ _. tree_then number prefix
+pairs_then number = entries_before (codes "tree") MOST_CELLS pair_in >>= λ prefix. word_by (fixed_in (codes "tree")) >>= λ _. tree_then number prefix
 
 abbrev number_then : ℕ → Read Piece
 number_then number = word_by (fixed_in (codes "prefix")) >>= λ _. pairs_then number
 
 abbrev WithPairs : ℕ → List Pair → Piece → Type 0
-WithPairs number prefix x = IsTreeWithin 101 x.tree × (x ≡ piece number prefix x.tree)
+WithPairs number prefix x = IsTreeWithin MOST_LEVELS x.tree × (x ≡ piece number prefix x.tree)
 
 abbrev WithNumber : ℕ → Piece → Type 0
-WithNumber number x = ((length x.prefix ≤ 100) × AllByRecursion IsPairWithin x.prefix) × WithPairs number x.prefix x
+WithNumber number x = ((length x.prefix ≤ MOST_CELLS) × AllByRecursion IsPairWithin x.prefix) × WithPairs number x.prefix x
 
 takes_tree_rest : (number : ℕ) (prefix : List Pair) → TakesRest (tree_then number prefix) (λ x. tree_words x.tree) (WithPairs number prefix)
-takes_tree_rest number prefix = takes_last (tree_by 101) tree_words (IsTreeWithin 101) (piece number prefix) (λ x. x.tree) (takes_all (tree_by 101) tree_words (IsTreeWithin 101) (takes_tree 101)) (λ tree. refl)
+takes_tree_rest number prefix = takes_last (tree_by MOST_LEVELS) tree_words (IsTreeWithin MOST_LEVELS) (piece number prefix) (λ x. x.tree) (takes_all (tree_by MOST_LEVELS) tree_words (IsTreeWithin MOST_LEVELS) (takes_tree MOST_LEVELS)) (λ tree. refl)
 
 abbrev after_number : Piece → List (List ℕ)
 after_number x = codes "prefix" ∷ (map pair_word x.prefix ++ (codes "tree" ∷ tree_words x.tree))
@@ -287,21 +288,21 @@ takes_pairs : (number : ℕ) → TakesRest (number_then number) after_number (Wi
 takes_pairs number =
     takes_then_rest (word_by (fixed_in (codes "prefix"))) (codes "prefix" ∷ []) (pairs_then number) (λ x. map pair_word x.prefix ++ (codes "tree" ∷ tree_words x.tree)) (WithNumber number)
     (takes_fixed (codes "prefix"))
-    (takes_until pair_in pair_word IsPairWithin spells_pair (codes "tree") (apart_of pair_in pair_word IsPairWithin (codes "tree") Word spells_pair no_pair) 100
+    (takes_until pair_in pair_word IsPairWithin spells_pair (codes "tree") (apart_of pair_in pair_word IsPairWithin (codes "tree") Word spells_pair no_pair) MOST_CELLS
     (tree_then number) (λ x. x.prefix) (λ x. tree_words x.tree) (WithPairs number) (takes_tree_rest number) (λ prefix x fits. ap (λ (y : Piece). y.prefix) fits.1))
 
 abbrev lemma_rest : Read Piece
-lemma_rest = word_by (fixed_in (codes "lemma")) >>= λ _. word_by (number_in 0 999999) >>= λ number. number_then number
+lemma_rest = word_by (fixed_in (codes "lemma")) >>= λ _. word_by (number_in 0 LAST_LEMMA) >>= λ number. number_then number
 
 takes_lemma_rest : TakesRest lemma_rest lemma_words IsLemmaWithin
 takes_lemma_rest =
-    takes_rest_as lemma_rest (λ x. (codes "lemma" ∷ []) ++ ((decimal x.number ∷ []) ++ after_number x)) lemma_words (λ x. (x.number ≤ 999999) × WithNumber x.number x) IsLemmaWithin (λ x. refl)
+    takes_rest_as lemma_rest (λ x. (codes "lemma" ∷ []) ++ ((decimal x.number ∷ []) ++ after_number x)) lemma_words (λ x. (x.number ≤ LAST_LEMMA) × WithNumber x.number x) IsLemmaWithin (λ x. refl)
     (λ x fits. record { number = fits.0; few_pairs = fits.1.0.0; pairs = fits.1.0.1; tree = fits.1.1.0 })
     (λ x fits. (fits.number, ((fits.few_pairs, fits.pairs), (fits.tree, refl))))
-    (takes_then_rest (word_by (fixed_in (codes "lemma"))) (codes "lemma" ∷ []) (word_by (number_in 0 999999) >>= number_then) (λ x. (decimal x.number ∷ []) ++ after_number x) (λ x. (x.number ≤ 999999) × WithNumber x.number x)
+    (takes_then_rest (word_by (fixed_in (codes "lemma"))) (codes "lemma" ∷ []) (word_by (number_in 0 LAST_LEMMA) >>= number_then) (λ x. (decimal x.number ∷ []) ++ after_number x) (λ x. (x.number ≤ LAST_LEMMA) × WithNumber x.number x)
     (takes_fixed (codes "lemma"))
-    (takes_field_rest (word_by (number_in 0 999999)) (λ n. decimal n ∷ []) (λ n. n ≤ 999999) number_then (λ x. x.number) after_number WithNumber
-    (takes_word (number_in 0 999999) decimal (λ n. n ≤ 999999) (spells_up_to 999999 (omega arith))) takes_pairs (λ number x fits. ap (λ (y : Piece). y.number) fits.1.1)))
+    (takes_field_rest (word_by (number_in 0 LAST_LEMMA)) (λ n. decimal n ∷ []) (λ n. n ≤ LAST_LEMMA) number_then (λ x. x.number) after_number WithNumber
+    (takes_word (number_in 0 LAST_LEMMA) decimal (λ n. n ≤ LAST_LEMMA) (spells_up_to LAST_LEMMA (omega arith))) takes_pairs (λ number x fits. ap (λ (y : Piece). y.number) fits.1.1)))
 
 -- ---- whole lines
 
@@ -321,22 +322,22 @@ cuts_fixed wanted r cuts = cuts_bind (word_by (fixed_in wanted)) (λ _. r) (cuts
 pub cuts_symmetry : CutsShort symmetry_line
 unfolding symmetry_line
 cuts_symmetry =
-    cuts_line symmetry_rest (cuts_fixed (codes "symmetry") (word_by (number_in 0 3) >>= sign_then)
-    (cuts_bind (word_by (number_in 0 3)) sign_then (cuts_word (number_in 0 3)) (λ shift.
+    cuts_line symmetry_rest (cuts_fixed (codes "symmetry") (word_by (number_in 0 LAST_SIDE) >>= sign_then)
+    (cuts_bind (word_by (number_in 0 LAST_SIDE)) sign_then (cuts_word (number_in 0 LAST_SIDE)) (λ shift.
     cuts_bind (word_by mirrored_in) (λ mirrored. word_by (fixed_in (codes "cells")) >>= λ _. cells_then shift mirrored) (cuts_word mirrored_in) (λ mirrored.
     cuts_fixed (codes "cells") (cells_then shift mirrored)
-    (cuts_bind (entries_before (codes "colours") 100 (number_in 0 99)) (λ cells. word_by (fixed_in (codes "colours")) >>= λ _. colours_then shift mirrored cells) (cuts_before (codes "colours") 100 (number_in 0 99)) (λ cells.
+    (cuts_bind (entries_before (codes "colours") MOST_CELLS (number_in 0 LAST_CELL)) (λ cells. word_by (fixed_in (codes "colours")) >>= λ _. colours_then shift mirrored cells) (cuts_before (codes "colours") MOST_CELLS (number_in 0 LAST_CELL)) (λ cells.
     cuts_fixed (codes "colours") (colours_then shift mirrored cells)
-    (cuts_bind (entries_before (codes "tiles") 36 colour_in) (λ colours. word_by (fixed_in (codes "tiles")) >>= λ _. tiles_then shift mirrored cells colours) (cuts_before (codes "tiles") 36 colour_in) (λ colours.
+    (cuts_bind (entries_before (codes "tiles") MOST_COLOURS colour_in) (λ colours. word_by (fixed_in (codes "tiles")) >>= λ _. tiles_then shift mirrored cells colours) (cuts_before (codes "tiles") MOST_COLOURS colour_in) (λ colours.
     cuts_fixed (codes "tiles") (tiles_then shift mirrored cells colours)
-    (cuts_bind (entries 100 (number_in 0 99)) (λ tiles. give (symmetry_of shift mirrored cells colours tiles)) (cuts_entries 100 (number_in 0 99)) (λ tiles. cuts_give (symmetry_of shift mirrored cells colours tiles)))))))))))
+    (cuts_bind (entries MOST_TILES (number_in 0 LAST_TILE)) (λ tiles. give (symmetry_of shift mirrored cells colours tiles)) (cuts_entries MOST_TILES (number_in 0 LAST_TILE)) (λ tiles. cuts_give (symmetry_of shift mirrored cells colours tiles)))))))))))
 
 pub cuts_lemma : CutsShort lemma_line
 unfolding lemma_line
 cuts_lemma =
-    cuts_line lemma_rest (cuts_fixed (codes "lemma") (word_by (number_in 0 999999) >>= number_then)
-    (cuts_bind (word_by (number_in 0 999999)) number_then (cuts_word (number_in 0 999999)) (λ number.
+    cuts_line lemma_rest (cuts_fixed (codes "lemma") (word_by (number_in 0 LAST_LEMMA) >>= number_then)
+    (cuts_bind (word_by (number_in 0 LAST_LEMMA)) number_then (cuts_word (number_in 0 LAST_LEMMA)) (λ number.
     cuts_fixed (codes "prefix") (pairs_then number)
-    (cuts_bind (entries_before (codes "tree") 100 pair_in) (λ prefix. word_by (fixed_in (codes "tree")) >>= λ _. tree_then number prefix) (cuts_before (codes "tree") 100 pair_in) (λ prefix.
+    (cuts_bind (entries_before (codes "tree") MOST_CELLS pair_in) (λ prefix. word_by (fixed_in (codes "tree")) >>= λ _. tree_then number prefix) (cuts_before (codes "tree") MOST_CELLS pair_in) (λ prefix.
     cuts_fixed (codes "tree") (tree_then number prefix)
-    (cuts_bind (tree_by 101) (λ tree. give (piece number prefix tree)) (cuts_tree 101) (λ tree. cuts_give (piece number prefix tree))))))))
+    (cuts_bind (tree_by MOST_LEVELS) (λ tree. give (piece number prefix tree)) (cuts_tree MOST_LEVELS) (λ tree. cuts_give (piece number prefix tree))))))))

@@ -1,5 +1,6 @@
 -- What calls that read have returned, by the laws of the texts.
 use Rattle.std.proofs.Common.{◌≡◌, ℕ, ◌^◌, ◌≤◌, zero, suc, ◌+◌, ◌<◌, List, [], ◌∷◌, Some, length, take, map, Result, Ok, Err, cond, eqb, refl, sym, ap, subst, ◌∙◌, arith}
+use Rattle.match_board.specs.declared.limits.TheConstants.{MOST_SYMMETRIES}
 use Rattle.std.specs.Prelude.{IfOk, All, Contains, slice_get}
 use Rattle.std.specs.List.{AllByRecursion}
 use Rattle.std.proofs.lemmas.List.{length-map}
@@ -156,7 +157,7 @@ contained_within (x ∷ pieces) all piece (suc k, at, is) = contained_within pie
 
 made_within : (said : Said) (c : Contents) → IsCertificateWithin said → Makes said (Ok c) → IsCertificateWithin (said_by c)
 made_within said c fits made = record {
-  few_symmetries = subst (λ gs. length gs ≤ 1024) (sym made.0) fits.few_symmetries;
+  few_symmetries = subst (λ gs. length gs ≤ MOST_SYMMETRIES) (sym made.0) fits.few_symmetries;
   symmetries = subst (AllByRecursion IsSymmetryWithin) (sym made.0) fits.symmetries;
   few_pieces = omega (arith, made.1.many, fits.few_pieces);
   pieces = all_within (c.lemmas) (λ n piece at. contained_within said.pieces fits.pieces piece (made.1.only n piece at).among);

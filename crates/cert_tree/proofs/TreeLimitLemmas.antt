@@ -1,5 +1,6 @@
 -- Trees within limits, level by level and child by child.
 use Rattle.std.proofs.Common.{◌≡◌, ◌≢◌, ℕ, zero, suc, ◌+◌, ◌-◌, ◌<◌, ◌≤◌, Bool, true, false, List, length, get_or, drop, refl, sym, subst, arith}
+use Rattle.match_board.specs.declared.limits.TheConstants.{MOST_CHILDREN}
 use Rattle.std.specs.Prelude.{MatchBool}
 use Rattle.match_puzzle.specs.declared.items.Item.{Item}
 use Rattle.cert_tree.specs.declared.nodes.Node.{Node}
@@ -51,12 +52,12 @@ pub more_children : (room : ℕ) (nodes : List Node) (i : ℕ) (d : Node) → i 
 more_children room nodes i d lt one others = subst (AreTreesWithin room) (sym (forest_of-drop nodes i d lt)) (one, others)
 
 -- so many nodes are children by their limits
-pub children_by_nodes : (room : ℕ) (nodes : List Node) (b : Bool) → 0 < length nodes → length nodes ≤ 400 → MatchBool b (AreTreesWithin room (forest_of nodes)) (AreTreesWithin room (forest_of nodes) → ⊥)
+pub children_by_nodes : (room : ℕ) (nodes : List Node) (b : Bool) → 0 < length nodes → length nodes ≤ MOST_CHILDREN → MatchBool b (AreTreesWithin room (forest_of nodes)) (AreTreesWithin room (forest_of nodes) → ⊥)
     → MatchBool b (AreChildrenWithin room (forest_of nodes)) (AreChildrenWithin room (forest_of nodes) → ⊥)
 children_by_nodes room nodes true some few all = (omega (arith, some, count-forest_of nodes), omega (arith, few, count-forest_of nodes), all)
 children_by_nodes room nodes false some few not = λ within. not within.2
 
-pub too_many : (room : ℕ) (nodes : List Node) → 400 < length nodes → AreChildrenWithin room (forest_of nodes) → ⊥
+pub too_many : (room : ℕ) (nodes : List Node) → MOST_CHILDREN < length nodes → AreChildrenWithin room (forest_of nodes) → ⊥
 too_many room nodes many within = omega (arith, many, within.1, count-forest_of nodes)
 
 pub too_few : (room : ℕ) (nodes : List Node) → length nodes ≤ 0 → AreChildrenWithin room (forest_of nodes) → ⊥

@@ -1,5 +1,6 @@
 -- Trees that are read head by head.
 use Rattle.std.proofs.Common.{◌≡◌, ◌≢◌, ℕ, zero, suc, ◌-◌, List, [], ◌∷◌, ◌++◌, length, drop, Result, Ok, Err, refl, ap, sym, ◌∙◌, arith, append_assoc}
+use Rattle.match_board.specs.declared.limits.TheConstants.{LAST_CELL, LAST_TILE, LAST_ARRANGEMENT, LAST_SYMMETRY, LAST_LEMMA, MOST_CHILDREN}
 use Rattle.std.specs.Prelude.{OnOk}
 use Rattle.std.proofs.lemmas.List.{append-nil}
 use Rattle.match_puzzle.specs.declared.items.Item.{Item}
@@ -61,20 +62,20 @@ module _ (child : Read Tree) where
   -- the same, from what its first number is
   node_apart : (kind : NodeKind) (p : Place) → IsApart kind p
   unfolding node_by children_by rest_by times
-  node_apart Cell p = elim (word_by (number_in 0 99) p) as (λ r. go_on r (λ cell. children_by child >>= λ children. give (branch (items.Cell cell) children)) ≡ go_on (go_on r (rest_by Cell)) (below child)) [
-    | Ok x ↦ cell_apart x.0 (word_by (number_in 1 400) x.1)
+  node_apart Cell p = elim (word_by (number_in 0 LAST_CELL) p) as (λ r. go_on r (λ cell. children_by child >>= λ children. give (branch (items.Cell cell) children)) ≡ go_on (go_on r (rest_by Cell)) (below child)) [
+    | Ok x ↦ cell_apart x.0 (word_by (number_in 1 MOST_CHILDREN) x.1)
     | Err e ↦ refl
   ]
-  node_apart Tile p = elim (word_by (number_in 0 99) p) as (λ r. go_on r (λ tile. children_by child >>= λ children. give (branch (items.Tile tile) children)) ≡ go_on (go_on r (rest_by Tile)) (below child)) [
-    | Ok x ↦ tile_apart x.0 (word_by (number_in 1 400) x.1)
+  node_apart Tile p = elim (word_by (number_in 0 LAST_TILE) p) as (λ r. go_on r (λ tile. children_by child >>= λ children. give (branch (items.Tile tile) children)) ≡ go_on (go_on r (rest_by Tile)) (below child)) [
+    | Ok x ↦ tile_apart x.0 (word_by (number_in 1 MOST_CHILDREN) x.1)
     | Err e ↦ refl
   ]
-  node_apart DeadCell p = elim (word_by (number_in 0 99) p) as (λ r. go_on r (λ cell. give (dead (items.Cell cell))) ≡ go_on (go_on r (rest_by DeadCell)) (below child)) [ Ok x ↦ refl | Err e ↦ refl ]
-  node_apart DeadTile p = elim (word_by (number_in 0 99) p) as (λ r. go_on r (λ tile. give (dead (items.Tile tile))) ≡ go_on (go_on r (rest_by DeadTile)) (below child)) [ Ok x ↦ refl | Err e ↦ refl ]
-  node_apart Found p = elim (word_by (number_in 0 999999) p) as (λ r. go_on r (λ number. give (found number)) ≡ go_on (go_on r (rest_by Found)) (below child)) [ Ok x ↦ refl | Err e ↦ refl ]
-  node_apart Same p = elim (word_by (number_in 0 999999) p) as (λ r. go_on r (λ lemma. give (same lemma)) ≡ go_on (go_on r (rest_by Same)) (below child)) [ Ok x ↦ refl | Err e ↦ refl ]
-  node_apart Image p = elim (word_by (number_in 0 999999) p) as (λ r. go_on r (λ lemma. word_by (number_in 0 1023) >>= λ symmetry. give (image lemma symmetry)) ≡ go_on (go_on r (rest_by Image)) (below child)) [
-    | Ok x ↦ image_apart x.0 (word_by (number_in 0 1023) x.1)
+  node_apart DeadCell p = elim (word_by (number_in 0 LAST_CELL) p) as (λ r. go_on r (λ cell. give (dead (items.Cell cell))) ≡ go_on (go_on r (rest_by DeadCell)) (below child)) [ Ok x ↦ refl | Err e ↦ refl ]
+  node_apart DeadTile p = elim (word_by (number_in 0 LAST_TILE) p) as (λ r. go_on r (λ tile. give (dead (items.Tile tile))) ≡ go_on (go_on r (rest_by DeadTile)) (below child)) [ Ok x ↦ refl | Err e ↦ refl ]
+  node_apart Found p = elim (word_by (number_in 0 LAST_ARRANGEMENT) p) as (λ r. go_on r (λ number. give (found number)) ≡ go_on (go_on r (rest_by Found)) (below child)) [ Ok x ↦ refl | Err e ↦ refl ]
+  node_apart Same p = elim (word_by (number_in 0 LAST_LEMMA) p) as (λ r. go_on r (λ lemma. give (same lemma)) ≡ go_on (go_on r (rest_by Same)) (below child)) [ Ok x ↦ refl | Err e ↦ refl ]
+  node_apart Image p = elim (word_by (number_in 0 LAST_LEMMA) p) as (λ r. go_on r (λ lemma. word_by (number_in 0 LAST_SYMMETRY) >>= λ symmetry. give (image lemma symmetry)) ≡ go_on (go_on r (rest_by Image)) (below child)) [
+    | Ok x ↦ image_apart x.0 (word_by (number_in 0 LAST_SYMMETRY) x.1)
     | Err e ↦ refl
   ]
 

@@ -1,5 +1,6 @@
 -- The tree that is read is the one that was written, and what was written is read again.
 use Rattle.std.proofs.Common.{◌≡◌, ℕ, zero, suc, ◌<◌, ◌≤◌, ◌^◌, Bool, true, false, cond, List, [], ◌∷◌, ◌++◌, length, Ok, Err, refl, sym, ap, subst, ◌∙◌, append_assoc, arith, codes}
+use Rattle.match_board.specs.declared.limits.TheConstants.{LAST_CELL, LAST_TILE, LAST_ARRANGEMENT, LAST_SYMMETRY, LAST_LEMMA, MOST_CHILDREN}
 use Rattle.std.specs.Fmt.{decimal}
 use Rattle.std.specs.List.{AllByRecursion, flat_map}
 use Rattle.std.specs.Str.{bytes_eq}
@@ -91,8 +92,8 @@ words_are (image lemma symmetry) = refl
 takes_number : (most : ℕ) → most < 2 ^ 64 → TakesWords (word_by (number_in 0 most)) (λ n. decimal n ∷ []) (λ n. (0 ≤ n) × (n ≤ most))
 takes_number most small = takes_word (number_in 0 most) decimal (λ n. (0 ≤ n) × (n ≤ most)) (spells_number 0 most small)
 
-takes_count : TakesWords (word_by (number_in 1 400)) (λ n. decimal n ∷ []) (λ n. (1 ≤ n) × (n ≤ 400))
-takes_count = takes_word (number_in 1 400) decimal (λ n. (1 ≤ n) × (n ≤ 400)) (spells_number 1 400 (omega arith))
+takes_count : TakesWords (word_by (number_in 1 MOST_CHILDREN)) (λ n. decimal n ∷ []) (λ n. (1 ≤ n) × (n ≤ MOST_CHILDREN))
+takes_count = takes_word (number_in 1 MOST_CHILDREN) decimal (λ n. (1 ≤ n) × (n ≤ MOST_CHILDREN)) (spells_number 1 MOST_CHILDREN (omega arith))
 
 -- ---- the children
 
@@ -119,7 +120,7 @@ forest-trees_in (more tree trees) = ap (more tree) (forest-trees_in trees)
 -- ---- a node, by what its children are read by
 
 abbrev AreChildren : ℕ → Forest → Type 0
-AreChildren room children = (1 ≤ count children) × (count children ≤ 400) × AreTreesWithin room children
+AreChildren room children = (1 ≤ count children) × (count children ≤ MOST_CHILDREN) × AreTreesWithin room children
 
 module _ (room : ℕ) (child : Read Tree) (takes_child : TakesWords child tree_words (IsTreeWithin room)) where
   trees_again : (trees : Forest) (n : ℕ) → count trees ≡ n → AreTreesWithin room trees → (line : ℕ) (others : List (List ℕ)) (ahead : List ℕ)
@@ -135,7 +136,7 @@ module _ (room : ℕ) (child : Read Tree) (takes_child : TakesWords child tree_w
   children_is : (p : Place) (children : Forest) (q : Place) → children_by child p ≡ Ok (children, q) → (p.words ≡ decimal (count children) ∷ (forest_words children ++ q.words)) × (p.ahead ≡ q.ahead) × AreChildren room children
   unfolding children_by
   children_is p children q e =
-      let a = bind_ok (word_by (number_in 1 400) p) (λ n. times n child >>= λ trees. give (forest trees)) (children, q) e in
+      let a = bind_ok (word_by (number_in 1 MOST_CHILDREN) p) (λ n. times n child >>= λ trees. give (forest trees)) (children, q) e in
       let b = bind_ok (times a.0.0 child a.0.1) (λ trees. give (forest trees)) (children, q) a.2 in
       let trees = b.0.0 in
       let n = takes_count.is p a.0.0 a.0.1 a.1 in
@@ -162,52 +163,52 @@ module _ (room : ℕ) (child : Read Tree) (takes_child : TakesWords child tree_w
   node_is : (kind : NodeKind) (p : Place) (tree : Tree) (q : Place) → node_by child kind p ≡ Ok (tree, q) → IsNodeRead kind p (tree, q)
   unfolding node_by kind_of
   node_is Cell p tree q e =
-      let a = bind_ok (word_by (number_in 0 99) p) (λ cell. children_by child >>= λ children. give (branch (items.Cell cell) children)) (tree, q) e in
+      let a = bind_ok (word_by (number_in 0 LAST_CELL) p) (λ cell. children_by child >>= λ children. give (branch (items.Cell cell) children)) (tree, q) e in
       let b = bind_ok (children_by child a.0.1) (λ children. give (branch (items.Cell a.0.0) children)) (tree, q) a.2 in
-      let n = (takes_number 99 (omega arith)).is p a.0.0 a.0.1 a.1 in
+      let n = (takes_number LAST_CELL (omega arith)).is p a.0.0 a.0.1 a.1 in
       let all = children_is a.0.1 b.0.0 b.0.1 b.1 in
       subst (IsNodeRead Cell p) (ok_is (branch (items.Cell a.0.0) b.0.0, b.0.1) (tree, q) b.2) (n.0 ∙ ap (λ ws. decimal a.0.0 ∷ ws) all.0, n.1 ∙ all.1, (refl, (n.2.1, all.2.0, all.2.1, all.2.2)))
   node_is Tile p tree q e =
-      let a = bind_ok (word_by (number_in 0 99) p) (λ tile. children_by child >>= λ children. give (branch (items.Tile tile) children)) (tree, q) e in
+      let a = bind_ok (word_by (number_in 0 LAST_TILE) p) (λ tile. children_by child >>= λ children. give (branch (items.Tile tile) children)) (tree, q) e in
       let b = bind_ok (children_by child a.0.1) (λ children. give (branch (items.Tile a.0.0) children)) (tree, q) a.2 in
-      let n = (takes_number 99 (omega arith)).is p a.0.0 a.0.1 a.1 in
+      let n = (takes_number LAST_CELL (omega arith)).is p a.0.0 a.0.1 a.1 in
       let all = children_is a.0.1 b.0.0 b.0.1 b.1 in
       subst (IsNodeRead Tile p) (ok_is (branch (items.Tile a.0.0) b.0.0, b.0.1) (tree, q) b.2) (n.0 ∙ ap (λ ws. decimal a.0.0 ∷ ws) all.0, n.1 ∙ all.1, (refl, (n.2.1, all.2.0, all.2.1, all.2.2)))
   node_is DeadCell p tree q e =
-      let a = bind_ok (word_by (number_in 0 99) p) (λ cell. give (dead (items.Cell cell))) (tree, q) e in
-      let n = (takes_number 99 (omega arith)).is p a.0.0 a.0.1 a.1 in
+      let a = bind_ok (word_by (number_in 0 LAST_CELL) p) (λ cell. give (dead (items.Cell cell))) (tree, q) e in
+      let n = (takes_number LAST_CELL (omega arith)).is p a.0.0 a.0.1 a.1 in
       subst (IsNodeRead DeadCell p) (ok_is (dead (items.Cell a.0.0), a.0.1) (tree, q) a.2) (n.0, n.1, (refl, n.2.1))
   node_is DeadTile p tree q e =
-      let a = bind_ok (word_by (number_in 0 99) p) (λ tile. give (dead (items.Tile tile))) (tree, q) e in
-      let n = (takes_number 99 (omega arith)).is p a.0.0 a.0.1 a.1 in
+      let a = bind_ok (word_by (number_in 0 LAST_TILE) p) (λ tile. give (dead (items.Tile tile))) (tree, q) e in
+      let n = (takes_number LAST_CELL (omega arith)).is p a.0.0 a.0.1 a.1 in
       subst (IsNodeRead DeadTile p) (ok_is (dead (items.Tile a.0.0), a.0.1) (tree, q) a.2) (n.0, n.1, (refl, n.2.1))
   node_is Found p tree q e =
-      let a = bind_ok (word_by (number_in 0 999999) p) (λ number. give (found number)) (tree, q) e in
-      let n = (takes_number 999999 (omega arith)).is p a.0.0 a.0.1 a.1 in
+      let a = bind_ok (word_by (number_in 0 LAST_ARRANGEMENT) p) (λ number. give (found number)) (tree, q) e in
+      let n = (takes_number LAST_LEMMA (omega arith)).is p a.0.0 a.0.1 a.1 in
       subst (IsNodeRead Found p) (ok_is (found a.0.0, a.0.1) (tree, q) a.2) (n.0, n.1, (refl, n.2.1))
   node_is Same p tree q e =
-      let a = bind_ok (word_by (number_in 0 999999) p) (λ lemma. give (same lemma)) (tree, q) e in
-      let n = (takes_number 999999 (omega arith)).is p a.0.0 a.0.1 a.1 in
+      let a = bind_ok (word_by (number_in 0 LAST_LEMMA) p) (λ lemma. give (same lemma)) (tree, q) e in
+      let n = (takes_number LAST_LEMMA (omega arith)).is p a.0.0 a.0.1 a.1 in
       subst (IsNodeRead Same p) (ok_is (same a.0.0, a.0.1) (tree, q) a.2) (n.0, n.1, (refl, n.2.1))
   node_is Image p tree q e =
-      let a = bind_ok (word_by (number_in 0 999999) p) (λ lemma. word_by (number_in 0 1023) >>= λ symmetry. give (image lemma symmetry)) (tree, q) e in
-      let b = bind_ok (word_by (number_in 0 1023) a.0.1) (λ symmetry. give (image a.0.0 symmetry)) (tree, q) a.2 in
-      let n = (takes_number 999999 (omega arith)).is p a.0.0 a.0.1 a.1 in
-      let m = (takes_number 1023 (omega arith)).is a.0.1 b.0.0 b.0.1 b.1 in
+      let a = bind_ok (word_by (number_in 0 LAST_LEMMA) p) (λ lemma. word_by (number_in 0 LAST_SYMMETRY) >>= λ symmetry. give (image lemma symmetry)) (tree, q) e in
+      let b = bind_ok (word_by (number_in 0 LAST_SYMMETRY) a.0.1) (λ symmetry. give (image a.0.0 symmetry)) (tree, q) a.2 in
+      let n = (takes_number LAST_LEMMA (omega arith)).is p a.0.0 a.0.1 a.1 in
+      let m = (takes_number LAST_SYMMETRY (omega arith)).is a.0.1 b.0.0 b.0.1 b.1 in
       subst (IsNodeRead Image p) (ok_is (image a.0.0 b.0.0, b.0.1) (tree, q) b.2) (n.0 ∙ ap (λ ws. decimal a.0.0 ∷ ws) m.0, n.1 ∙ m.1, (refl, (n.2.1, m.2.1)))
 
   node_again : (tree : Tree) → IsTreeWithin (suc room) tree → (line : ℕ) (others : List (List ℕ)) (ahead : List ℕ) → node_by child (kind_of tree) (place line (rest_words tree ++ others) ahead) ≡ Ok (tree, place line others ahead)
   unfolding node_by kind_of
   node_again (branch (items.Cell cell) children) fits line others ahead =
-      rw ((takes_number 99 (omega arith)).passes cell (omega arith, fits.0) line (decimal (count children) ∷ (forest_words children ++ others)) ahead, children_again children (fits.1, fits.2, fits.3) line others ahead) refl
+      rw ((takes_number LAST_CELL (omega arith)).passes cell (omega arith, fits.0) line (decimal (count children) ∷ (forest_words children ++ others)) ahead, children_again children (fits.1, fits.2, fits.3) line others ahead) refl
   node_again (branch (items.Tile tile) children) fits line others ahead =
-      rw ((takes_number 99 (omega arith)).passes tile (omega arith, fits.0) line (decimal (count children) ∷ (forest_words children ++ others)) ahead, children_again children (fits.1, fits.2, fits.3) line others ahead) refl
-  node_again (dead (items.Cell cell)) fits line others ahead = rw ((takes_number 99 (omega arith)).passes cell (omega arith, fits) line others ahead) refl
-  node_again (dead (items.Tile tile)) fits line others ahead = rw ((takes_number 99 (omega arith)).passes tile (omega arith, fits) line others ahead) refl
-  node_again (found number) fits line others ahead = rw ((takes_number 999999 (omega arith)).passes number (omega arith, fits) line others ahead) refl
-  node_again (same lemma) fits line others ahead = rw ((takes_number 999999 (omega arith)).passes lemma (omega arith, fits) line others ahead) refl
+      rw ((takes_number LAST_TILE (omega arith)).passes tile (omega arith, fits.0) line (decimal (count children) ∷ (forest_words children ++ others)) ahead, children_again children (fits.1, fits.2, fits.3) line others ahead) refl
+  node_again (dead (items.Cell cell)) fits line others ahead = rw ((takes_number LAST_CELL (omega arith)).passes cell (omega arith, fits) line others ahead) refl
+  node_again (dead (items.Tile tile)) fits line others ahead = rw ((takes_number LAST_TILE (omega arith)).passes tile (omega arith, fits) line others ahead) refl
+  node_again (found number) fits line others ahead = rw ((takes_number LAST_ARRANGEMENT (omega arith)).passes number (omega arith, fits) line others ahead) refl
+  node_again (same lemma) fits line others ahead = rw ((takes_number LAST_LEMMA (omega arith)).passes lemma (omega arith, fits) line others ahead) refl
   node_again (image lemma symmetry) fits line others ahead =
-      rw ((takes_number 999999 (omega arith)).passes lemma (omega arith, fits.0) line (decimal symmetry ∷ others) ahead, (takes_number 1023 (omega arith)).passes symmetry (omega arith, fits.1) line others ahead) refl
+      rw ((takes_number LAST_LEMMA (omega arith)).passes lemma (omega arith, fits.0) line (decimal symmetry ∷ others) ahead, (takes_number LAST_SYMMETRY (omega arith)).passes symmetry (omega arith, fits.1) line others ahead) refl
 
   takes_node : (kind : NodeKind) → TakesWords (node_by child kind) rest_words (IsOfKind kind)
   takes_node kind = record {
@@ -239,21 +240,21 @@ takes_tree (suc room) = takes_level room (tree_by room) (takes_tree room)
 
 cuts_children : (child : Read Tree) → CutsShort child → CutsShort (children_by child)
 unfolding children_by
-cuts_children child cuts = cuts_bind (word_by (number_in 1 400)) (λ n. times n child >>= λ trees. give (forest trees)) (cuts_word (number_in 1 400))
+cuts_children child cuts = cuts_bind (word_by (number_in 1 MOST_CHILDREN)) (λ n. times n child >>= λ trees. give (forest trees)) (cuts_word (number_in 1 MOST_CHILDREN))
     (λ n. cuts_bind (times n child) (λ trees. give (forest trees)) (cuts_times n child cuts) (λ trees. cuts_give (forest trees)))
 
 cuts_node : (child : Read Tree) → CutsShort child → (kind : NodeKind) → CutsShort (node_by child kind)
 unfolding node_by
-cuts_node child cuts Cell = cuts_bind (word_by (number_in 0 99)) (λ cell. children_by child >>= λ children. give (branch (items.Cell cell) children)) (cuts_word (number_in 0 99))
+cuts_node child cuts Cell = cuts_bind (word_by (number_in 0 LAST_CELL)) (λ cell. children_by child >>= λ children. give (branch (items.Cell cell) children)) (cuts_word (number_in 0 LAST_CELL))
     (λ cell. cuts_bind (children_by child) (λ children. give (branch (items.Cell cell) children)) (cuts_children child cuts) (λ children. cuts_give (branch (items.Cell cell) children)))
-cuts_node child cuts Tile = cuts_bind (word_by (number_in 0 99)) (λ tile. children_by child >>= λ children. give (branch (items.Tile tile) children)) (cuts_word (number_in 0 99))
+cuts_node child cuts Tile = cuts_bind (word_by (number_in 0 LAST_TILE)) (λ tile. children_by child >>= λ children. give (branch (items.Tile tile) children)) (cuts_word (number_in 0 LAST_TILE))
     (λ tile. cuts_bind (children_by child) (λ children. give (branch (items.Tile tile) children)) (cuts_children child cuts) (λ children. cuts_give (branch (items.Tile tile) children)))
-cuts_node child cuts DeadCell = cuts_bind (word_by (number_in 0 99)) (λ cell. give (dead (items.Cell cell))) (cuts_word (number_in 0 99)) (λ cell. cuts_give (dead (items.Cell cell)))
-cuts_node child cuts DeadTile = cuts_bind (word_by (number_in 0 99)) (λ tile. give (dead (items.Tile tile))) (cuts_word (number_in 0 99)) (λ tile. cuts_give (dead (items.Tile tile)))
-cuts_node child cuts Found = cuts_bind (word_by (number_in 0 999999)) (λ number. give (found number)) (cuts_word (number_in 0 999999)) (λ number. cuts_give (found number))
-cuts_node child cuts Same = cuts_bind (word_by (number_in 0 999999)) (λ lemma. give (same lemma)) (cuts_word (number_in 0 999999)) (λ lemma. cuts_give (same lemma))
-cuts_node child cuts Image = cuts_bind (word_by (number_in 0 999999)) (λ lemma. word_by (number_in 0 1023) >>= λ symmetry. give (image lemma symmetry)) (cuts_word (number_in 0 999999))
-    (λ lemma. cuts_bind (word_by (number_in 0 1023)) (λ symmetry. give (image lemma symmetry)) (cuts_word (number_in 0 1023)) (λ symmetry. cuts_give (image lemma symmetry)))
+cuts_node child cuts DeadCell = cuts_bind (word_by (number_in 0 LAST_CELL)) (λ cell. give (dead (items.Cell cell))) (cuts_word (number_in 0 LAST_CELL)) (λ cell. cuts_give (dead (items.Cell cell)))
+cuts_node child cuts DeadTile = cuts_bind (word_by (number_in 0 LAST_TILE)) (λ tile. give (dead (items.Tile tile))) (cuts_word (number_in 0 LAST_TILE)) (λ tile. cuts_give (dead (items.Tile tile)))
+cuts_node child cuts Found = cuts_bind (word_by (number_in 0 LAST_ARRANGEMENT)) (λ number. give (found number)) (cuts_word (number_in 0 LAST_ARRANGEMENT)) (λ number. cuts_give (found number))
+cuts_node child cuts Same = cuts_bind (word_by (number_in 0 LAST_LEMMA)) (λ lemma. give (same lemma)) (cuts_word (number_in 0 LAST_LEMMA)) (λ lemma. cuts_give (same lemma))
+cuts_node child cuts Image = cuts_bind (word_by (number_in 0 LAST_LEMMA)) (λ lemma. word_by (number_in 0 LAST_SYMMETRY) >>= λ symmetry. give (image lemma symmetry)) (cuts_word (number_in 0 LAST_LEMMA))
+    (λ lemma. cuts_bind (word_by (number_in 0 LAST_SYMMETRY)) (λ symmetry. give (image lemma symmetry)) (cuts_word (number_in 0 LAST_SYMMETRY)) (λ symmetry. cuts_give (image lemma symmetry)))
 
 too_deep_only : LineOnly (tree_by 0)
 unfolding tree_by

@@ -1,5 +1,6 @@
 -- Certificates as plain data.
 use Rattle.std.specs.Prelude.{◌≡◌, ◌≤◌, ◌<◌, ◌^◌, ℕ, List, Some, length, slice_get}
+use Rattle.match_board.specs.declared.limits.TheConstants.{MOST_LEMMAS}
 use Rattle.match_puzzle.specs.declared.placements.Pair.{Pair}
 use Rattle.match_symmetry.specs.declared.lines.SymmetryLine.{SymmetryLine}
 use Rattle.cert_tree.specs.declared.certificates.Lemma.{Lemma}
@@ -30,6 +31,6 @@ piece_number piece = piece.number
 -- Each lemma has the number of its place, and there are no more of anything than its number can say.
 pub record IsNumbered (c : Contents) : Type 0 where
   pub numbered : (number : ℕ) (lemma : Piece) → slice_get c.lemmas number ≡ Some lemma → lemma.number ≡ number
-  pub few_lemmas : length c.lemmas ≤ 1000000
+  pub few_lemmas : length c.lemmas ≤ MOST_LEMMAS
   pub few_symmetries : length c.symmetries < 2 ^ 32
   pub prefixes : (number : ℕ) (lemma : Piece) → slice_get c.lemmas number ≡ Some lemma → length lemma.prefix < 2 ^ 32

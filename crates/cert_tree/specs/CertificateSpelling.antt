@@ -1,5 +1,6 @@
 -- The one spelling of a lemma, and of a certificate's symmetries and lemmas in their order.
 use Rattle.std.specs.Prelude.{◌≤◌, ◌<◌, ℕ, Bool, true, false, List, [], ◌∷◌, ◌++◌, length, map, codes, decimal}
+use Rattle.match_board.specs.declared.limits.TheConstants.{MOST_CELLS, LAST_CELL, LAST_SIDE, MOST_COLOURS, MOST_SYMMETRIES, MOST_LEMMAS, LAST_LEMMA, MOST_LEVELS}
 use Rattle.std.specs.List.{AllByRecursion}
 use Rattle.match_puzzle.specs.declared.placements.Pair.{Pair}
 use Rattle.match_symmetry.specs.declared.lines.SymmetryLine.{SymmetryLine}
@@ -44,34 +45,34 @@ certificate_spelling said = text_of (certificate_lines said)
 
 -- ---- what has a spelling
 
--- up to 100 images of cells or of tiles
+-- images of cells, or of tiles, of which there are as many
 abbrev pub AreImagesWithin : List ℕ → Type 0
-AreImagesWithin images = (length images ≤ 100) × AllByRecursion (λ n. n ≤ 99) images
+AreImagesWithin images = (length images ≤ MOST_CELLS) × AllByRecursion (λ n. n ≤ LAST_CELL) images
 
--- up to 36 images of colours
+-- images of colours
 abbrev pub AreColourImagesWithin : List ℕ → Type 0
-AreColourImagesWithin images = (length images ≤ 36) × AllByRecursion (λ n. n < 36) images
+AreColourImagesWithin images = (length images ≤ MOST_COLOURS) × AllByRecursion (λ n. n < MOST_COLOURS) images
 
 -- The symmetry's line is within the limits of its text.
 pub record IsSymmetryWithin (g : SymmetryLine) : Type 0 where
-  pub shift : g.shift ≤ 3
+  pub shift : g.shift ≤ LAST_SIDE
   pub cells : AreImagesWithin g.cells
   pub colours : AreColourImagesWithin g.colours
   pub tiles : AreImagesWithin g.tiles
 
 abbrev pub IsPairWithin : Pair → Type 0
-IsPairWithin x = (x.cell ≤ 99) × IsPlacementWithin x.placement
+IsPairWithin x = (x.cell ≤ LAST_CELL) × IsPlacementWithin x.placement
 
 -- The lemma is within the limits of its text.
 pub record IsLemmaWithin (piece : Piece) : Type 0 where
-  pub number : piece.number ≤ 999999
-  pub few_pairs : length piece.prefix ≤ 100
+  pub number : piece.number ≤ LAST_LEMMA
+  pub few_pairs : length piece.prefix ≤ MOST_CELLS
   pub pairs : AllByRecursion IsPairWithin piece.prefix
-  pub tree : IsTreeWithin 101 piece.tree
+  pub tree : IsTreeWithin MOST_LEVELS piece.tree
 
 -- The symmetries and lemmas are within the limits of their text.
 pub record IsCertificateWithin (said : Said) : Type 0 where
-  pub few_symmetries : length said.symmetries ≤ 1024
+  pub few_symmetries : length said.symmetries ≤ MOST_SYMMETRIES
   pub symmetries : AllByRecursion IsSymmetryWithin said.symmetries
-  pub few_pieces : length said.pieces ≤ 1000000
+  pub few_pieces : length said.pieces ≤ MOST_LEMMAS
   pub pieces : AllByRecursion IsLemmaWithin said.pieces

@@ -1,5 +1,6 @@
 -- The texts of lemmas and of certificates.
 use Rattle.std.specs.Prelude.{◌≡◌, ◌≢◌, ℕ, List, Bool, true, false, Result, Ok, Err, codes, length, if◌then◌else◌}
+use Rattle.match_board.specs.declared.limits.TheConstants.{MOST_CELLS, LAST_CELL, MOST_TILES, LAST_TILE, LAST_SIDE, MOST_COLOURS, MOST_SYMMETRIES, MOST_LEMMAS, LAST_LEMMA, MOST_LEVELS}
 use Rattle.std.specs.Str.{bytes_eq}
 use Rattle.match_symmetry.specs.declared.lines.SymmetryLine.{SymmetryLine}
 use Rattle.match_text.specs.declared.faults.TextFault.{TextFault}
@@ -27,14 +28,14 @@ mirrored_in word = if bytes_eq word (codes "+") then Ok false else (if bytes_eq 
 unfoldable pub symmetry_line : Read SymmetryLine
 symmetry_line = line_of (do
   _ ← word_by (fixed_in (codes "symmetry"))
-  shift ← word_by (number_in 0 3)
+  shift ← word_by (number_in 0 LAST_SIDE)
   mirrored ← word_by mirrored_in
   _ ← word_by (fixed_in (codes "cells"))
-  cells ← entries_before (codes "colours") 100 (number_in 0 99)
+  cells ← entries_before (codes "colours") MOST_CELLS (number_in 0 LAST_CELL)
   _ ← word_by (fixed_in (codes "colours"))
-  colours ← entries_before (codes "tiles") 36 colour_in
+  colours ← entries_before (codes "tiles") MOST_COLOURS colour_in
   _ ← word_by (fixed_in (codes "tiles"))
-  tiles ← entries 100 (number_in 0 99)
+  tiles ← entries MOST_TILES (number_in 0 LAST_TILE)
   give (record { shift = shift; mirrored = mirrored; cells = cells; colours = colours; tiles = tiles }))
 
 -- ---- lemmas
@@ -42,11 +43,11 @@ symmetry_line = line_of (do
 unfoldable pub lemma_line : Read Piece
 lemma_line = line_of (do
   _ ← word_by (fixed_in (codes "lemma"))
-  number ← word_by (number_in 0 999999)
+  number ← word_by (number_in 0 LAST_LEMMA)
   _ ← word_by (fixed_in (codes "prefix"))
-  prefix ← entries_before (codes "tree") 100 pair_in
+  prefix ← entries_before (codes "tree") MOST_CELLS pair_in
   _ ← word_by (fixed_in (codes "tree"))
-  tree ← tree_by 101
+  tree ← tree_by MOST_LEVELS
   give (record { number = number; prefix = prefix; tree = tree }))
 
 -- one such line and nothing after it
@@ -70,9 +71,9 @@ pub record Said : Type 0 where
 unfoldable pub certificate_text : Read Said
 certificate_text = do
   _ ← opening (codes "certificate")
-  many ← counted (codes "symmetries") 0 1024
+  many ← counted (codes "symmetries") 0 MOST_SYMMETRIES
   symmetries ← times many symmetry_line
-  count ← counted (codes "lemmas") 0 1000000
+  count ← counted (codes "lemmas") 0 MOST_LEMMAS
   pieces ← times count lemma_line
   _ ← closing
   give (record { symmetries = symmetries; pieces = pieces })

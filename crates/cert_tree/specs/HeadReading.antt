@@ -1,5 +1,6 @@
 -- Trees that are read head by head.
 use Rattle.std.specs.Prelude.{◌≡◌, ℕ, List, ◌++◌, Result, Ok, Err}
+use Rattle.match_board.specs.declared.limits.TheConstants.{LAST_CELL, LAST_TILE, LAST_ARRANGEMENT, LAST_SYMMETRY, LAST_LEMMA, MOST_CHILDREN}
 use Rattle.match_text.specs.declared.faults.TextFault.{TextFault}
 use Rattle.match_text.specs.declared.faults.ReadFault.{ReadFault}
 use Rattle.match_text.specs.Words.{number_in}
@@ -16,28 +17,28 @@ use Rattle.cert_tree.specs.TreeText.{node_kind_in, forest}
 
 -- the greatest number that may follow the letter
 abbrev pub most_of : NodeKind → ℕ
-most_of Cell = 99
-most_of Tile = 99
-most_of DeadCell = 99
-most_of DeadTile = 99
-most_of Found = 999999
-most_of Same = 999999
-most_of Image = 999999
+most_of Cell = LAST_CELL
+most_of Tile = LAST_TILE
+most_of DeadCell = LAST_CELL
+most_of DeadTile = LAST_TILE
+most_of Found = LAST_ARRANGEMENT
+most_of Same = LAST_LEMMA
+most_of Image = LAST_LEMMA
 
 -- the rest of a head behind that number
 unfoldable pub rest_by : NodeKind → ℕ → Read Head
 rest_by Cell cell = do
-  children ← word_by (number_in 1 400)
+  children ← word_by (number_in 1 MOST_CHILDREN)
   give (heads.Cell cell children)
 rest_by Tile tile = do
-  children ← word_by (number_in 1 400)
+  children ← word_by (number_in 1 MOST_CHILDREN)
   give (heads.Tile tile children)
 rest_by DeadCell cell = give (heads.DeadCell cell)
 rest_by DeadTile tile = give (heads.DeadTile tile)
 rest_by Found number = give (heads.Found number)
 rest_by Same lemma = give (heads.Same lemma)
 rest_by Image lemma = do
-  symmetry ← word_by (number_in 0 1023)
+  symmetry ← word_by (number_in 0 LAST_SYMMETRY)
   give (heads.Image symmetry lemma)
 
 -- a node without its children

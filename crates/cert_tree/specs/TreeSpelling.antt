@@ -1,5 +1,6 @@
 -- The one spelling of a tree.
 use Rattle.std.specs.Prelude.{◌≤◌, ℕ, zero, suc, List, [], ◌∷◌, ◌++◌, codes, decimal}
+use Rattle.match_board.specs.declared.limits.TheConstants.{LAST_CELL, LAST_TILE, LAST_ARRANGEMENT, LAST_SYMMETRY, LAST_LEMMA, MOST_CHILDREN}
 use Rattle.match_puzzle.specs.declared.items.Item.{Item}
 use Rattle.match_puzzle.specs.declared.items.Item.TheVariants as items
 use Rattle.cert_tree.specs.Tree.{Tree, Forest, branch, dead, found, same, image, none, more, count}
@@ -30,18 +31,18 @@ abbrev mutual
 -- ---- what has a spelling
 
 abbrev pub IsItemWithin : Item → Type 0
-IsItemWithin (items.Cell cell) = cell ≤ 99
-IsItemWithin (items.Tile tile) = tile ≤ 99
+IsItemWithin (items.Cell cell) = cell ≤ LAST_CELL
+IsItemWithin (items.Tile tile) = tile ≤ LAST_TILE
 
 abbrev mutual
   -- The tree has at most so many levels, and its numbers are within the limits of its text.
   pub IsTreeWithin : ℕ → Tree → Type 0
   IsTreeWithin zero tree = ⊥
-  IsTreeWithin (suc room) (branch item children) = IsItemWithin item × (1 ≤ count children) × (count children ≤ 400) × AreTreesWithin room children
+  IsTreeWithin (suc room) (branch item children) = IsItemWithin item × (1 ≤ count children) × (count children ≤ MOST_CHILDREN) × AreTreesWithin room children
   IsTreeWithin (suc room) (dead item) = IsItemWithin item
-  IsTreeWithin (suc room) (found number) = number ≤ 999999
-  IsTreeWithin (suc room) (same lemma) = lemma ≤ 999999
-  IsTreeWithin (suc room) (image lemma symmetry) = (lemma ≤ 999999) × (symmetry ≤ 1023)
+  IsTreeWithin (suc room) (found number) = number ≤ LAST_ARRANGEMENT
+  IsTreeWithin (suc room) (same lemma) = lemma ≤ LAST_LEMMA
+  IsTreeWithin (suc room) (image lemma symmetry) = (lemma ≤ LAST_LEMMA) × (symmetry ≤ LAST_SYMMETRY)
 
   pub AreTreesWithin : ℕ → Forest → Type 0
   AreTreesWithin room none = Unit {0}
@@ -49,4 +50,4 @@ abbrev mutual
 
 -- The same of the children of a branch, of which there are 1 to 400.
 abbrev pub AreChildrenWithin : ℕ → Forest → Type 0
-AreChildrenWithin room children = (1 ≤ count children) × (count children ≤ 400) × AreTreesWithin room children
+AreChildrenWithin room children = (1 ≤ count children) × (count children ≤ MOST_CHILDREN) × AreTreesWithin room children

@@ -1,5 +1,6 @@
 -- How a tree is read.
 use Rattle.std.specs.Prelude.{ℕ, zero, suc, List, [], ◌∷◌, Result, Ok, Err, codes, if◌then◌else◌}
+use Rattle.match_board.specs.declared.limits.TheConstants.{LAST_CELL, LAST_TILE, LAST_ARRANGEMENT, LAST_SYMMETRY, LAST_LEMMA, MOST_CHILDREN}
 use Rattle.std.specs.Str.{bytes_eq}
 use Rattle.match_puzzle.specs.declared.items.Item.TheVariants as items
 use Rattle.match_text.specs.declared.faults.TextFault.{TextFault}
@@ -30,35 +31,35 @@ forest (tree ∷ trees) = more tree (forest trees)
 -- how many children there are, and the children
 unfoldable pub children_by : Read Tree → Read Forest
 children_by child = do
-  count ← word_by (number_in 1 400)
+  count ← word_by (number_in 1 MOST_CHILDREN)
   trees ← times count child
   give (forest trees)
 
 -- the rest of a node of this kind
 unfoldable pub node_by : Read Tree → NodeKind → Read Tree
 node_by child Cell = do
-  cell ← word_by (number_in 0 99)
+  cell ← word_by (number_in 0 LAST_CELL)
   children ← children_by child
   give (branch (items.Cell cell) children)
 node_by child Tile = do
-  tile ← word_by (number_in 0 99)
+  tile ← word_by (number_in 0 LAST_TILE)
   children ← children_by child
   give (branch (items.Tile tile) children)
 node_by child DeadCell = do
-  cell ← word_by (number_in 0 99)
+  cell ← word_by (number_in 0 LAST_CELL)
   give (dead (items.Cell cell))
 node_by child DeadTile = do
-  tile ← word_by (number_in 0 99)
+  tile ← word_by (number_in 0 LAST_TILE)
   give (dead (items.Tile tile))
 node_by child Found = do
-  number ← word_by (number_in 0 999999)
+  number ← word_by (number_in 0 LAST_ARRANGEMENT)
   give (found number)
 node_by child Same = do
-  lemma ← word_by (number_in 0 999999)
+  lemma ← word_by (number_in 0 LAST_LEMMA)
   give (same lemma)
 node_by child Image = do
-  lemma ← word_by (number_in 0 999999)
-  symmetry ← word_by (number_in 0 1023)
+  lemma ← word_by (number_in 0 LAST_LEMMA)
+  symmetry ← word_by (number_in 0 LAST_SYMMETRY)
   give (image lemma symmetry)
 
 -- a node below the last level

@@ -12,6 +12,7 @@ use crate::certificates::{Certificate, Lemma};
 use crate::conversions::flat_lemmas;
 use crate::faults::AssembleFault;
 use crate::flat_lemmas::{LemmaSpan, Lemmas};
+use match_board::limits::MOST_LEMMAS;
 use match_symmetry::SymmetryLine;
 use std::alloc::{AllocError, Global};
 
@@ -174,7 +175,7 @@ pub(crate) fn assemble_flat(
     symmetries: Vec<SymmetryLine>,
     pieces: Lemmas,
 ) -> Result<Certificate, AssembleFault>
-    requires count { count ≤ 1000000 }
+    requires count { count ≤ MOST_LEMMAS }
     requires symmetries { length symmetries.items < 2 ^ 32 }
     requires prefixes { All (λ piece. length piece.prefix < 2 ^ 32) pieces }
     ensures symmetries { IfOk result (λ certificate. certificate.symmetries ≡ symmetries.items) }
@@ -200,7 +201,7 @@ pub fn assemble(
     symmetries: Vec<SymmetryLine>,
     pieces: Vec<Lemma>,
 ) -> Result<Certificate, AssembleFault>
-    requires count { count ≤ 1000000 }
+    requires count { count ≤ MOST_LEMMAS }
     requires symmetries { length symmetries.items < 2 ^ 32 }
     requires prefixes { All (λ piece. length piece.prefix < 2 ^ 32) pieces.items }
     requires narrow { All (λ piece. IsNarrow (tree_of piece.tree)) pieces.items }

@@ -15,45 +15,17 @@ use crate::flat_lemmas::{FlatLemma, Lemmas};
 use crate::flat_trees::Trees;
 use crate::heads::Head;
 use crate::nodes::Node;
+use match_board::limits::{
+    LAST_ARRANGEMENT, LAST_CELL, LAST_LEMMA, LAST_SIDE, LAST_SYMMETRY, LAST_TILE, LAST_TURN,
+    MOST_CELLS, MOST_CHILDREN, MOST_COLOURS, MOST_LEMMAS, MOST_LEVELS, MOST_SYMMETRIES,
+};
 use match_puzzle::Pair;
 use match_symmetry::SymmetryLine;
-
-/// The most levels of a tree.
-pub const MOST_LEVELS: u8 = 101;
-
-const MOST_CHILDREN: usize = 400;
-
-// The greatest numbers of a cell, a tile, a turn, a lemma or a listed arrangement, and a symmetry.
-const MOST_CELL: u16 = 99;
-
-const MOST_TILE: u16 = 99;
-
-const MOST_TURN: u8 = 3;
-
-const MOST_NUMBER: u32 = 999_999;
-
-const MOST_SYMMETRY: u16 = 1_023;
-
-// The most images of cells or of tiles, and of colours, and the greatest colour and shift.
-const MOST_IMAGES: usize = 100;
-
-const MOST_COLOURS: usize = 36;
-
-const MOST_COLOUR: u8 = 35;
-
-const MOST_SHIFT: u8 = 3;
-
-// The most pairs of a prefix, symmetries and lemmas.
-const MOST_PAIRS: usize = 100;
-
-const MOST_SYMMETRIES: usize = 1_024;
-
-const MOST_LEMMAS: usize = 1_000_000;
 
 // Stops below the last level.
 #[cycle(limits)]
 #[tactic(auto, using(crate::proofs::TreeLemmas::tree_laws))]
-fn is_node_within(node: &Node, room: u8) -> bool
+fn is_node_within(node: &Node, room: u16) -> bool
     ensures { MatchBool result (IsTreeWithin room (tree_of node.now)) (IsTreeWithin room (tree_of node.now) → ⊥) }
 {
     if room == 0 {
@@ -61,29 +33,29 @@ fn is_node_within(node: &Node, room: u8) -> bool
     }
     match node {
         Node::Cell { cell, children } => {
-            *cell <= MOST_CELL && are_children_within(children.as_slice(), room - 1)
+            *cell <= LAST_CELL && are_children_within(children.as_slice(), room - 1)
         }
         Node::Tile { tile, children } => {
-            *tile <= MOST_TILE && are_children_within(children.as_slice(), room - 1)
+            *tile <= LAST_TILE && are_children_within(children.as_slice(), room - 1)
         }
-        Node::DeadCell(cell) => *cell <= MOST_CELL,
-        Node::DeadTile(tile) => *tile <= MOST_TILE,
-        Node::Found(number) => *number <= MOST_NUMBER,
-        Node::Same(lemma) => *lemma <= MOST_NUMBER,
-        Node::Image { lemma, symmetry } => *lemma <= MOST_NUMBER && *symmetry <= MOST_SYMMETRY,
+        Node::DeadCell(cell) => *cell <= LAST_CELL,
+        Node::DeadTile(tile) => *tile <= LAST_TILE,
+        Node::Found(number) => *number <= LAST_ARRANGEMENT,
+        Node::Same(lemma) => *lemma <= LAST_LEMMA,
+        Node::Image { lemma, symmetry } => *lemma <= LAST_LEMMA && *symmetry <= LAST_SYMMETRY,
     }
 }
 
 #[cycle(limits)]
-fn are_children_within(nodes: &[Node], room: u8) -> bool
+fn are_children_within(nodes: &[Node], room: u16) -> bool
     ensures { MatchBool result (AreChildrenWithin room (forest_of nodes.now)) (AreChildrenWithin room (forest_of nodes.now) → ⊥) }
 {
     let count = nodes.len();
-    count > 0 && (count <= MOST_CHILDREN && are_nodes_within(nodes, room))
+    count > 0 && (count <= MOST_CHILDREN as usize && are_nodes_within(nodes, room))
 }
 
 #[cycle(limits)]
-fn are_nodes_within(nodes: &[Node], room: u8) -> bool
+fn are_nodes_within(nodes: &[Node], room: u16) -> bool
     ensures { MatchBool result (AreTreesWithin room (forest_of nodes.now)) (AreTreesWithin room (forest_of nodes.now) → ⊥) }
 {
     for node in nodes {
@@ -97,7 +69,7 @@ fn are_nodes_within(nodes: &[Node], room: u8) -> bool
 fn is_pair_within(pair: &Pair) -> bool
     ensures { MatchBool result (IsPairWithin pair.now) (IsPairWithin pair.now → ⊥) }
 {
-    pair.cell <= MOST_CELL && (pair.placement.tile <= MOST_TILE && pair.placement.turn <= MOST_TURN)
+    pair.cell <= LAST_CELL && (pair.placement.tile <= LAST_TILE && pair.placement.turn <= LAST_TURN)
 }
 
 fn are_pairs_within(pairs: &[Pair]) -> bool
@@ -115,14 +87,14 @@ fn is_lemma_within(lemma: &Lemma) -> bool
     ensures { MatchBool result (IsLemmaWithin (piece_of lemma.now)) (IsLemmaWithin (piece_of lemma.now) → ⊥) }
 {
     let pairs = lemma.prefix.as_slice();
-    lemma.number <= MOST_NUMBER
-        && (pairs.len() <= MOST_PAIRS
+    lemma.number <= LAST_LEMMA
+        && (pairs.len() <= usize::from(MOST_CELLS)
             && (are_pairs_within(pairs) && is_node_within(&lemma.tree, MOST_LEVELS)))
 }
 
 // The same of the first tree, which is then gone past.
 #[cycle(flat_limits)]
-fn is_first_within(trees: &mut Trees<'_>, room: u8) -> bool
+fn is_first_within(trees: &mut Trees<'_>, room: u16) -> bool
     requires { trees.old ≢ none }
     ensures within { MatchBool result (IsTreeWithin room (first trees.old)) (IsTreeWithin room (first trees.old) → ⊥) }
     ensures past { IsTrue result → trees.new ≡ past 1 trees.old }
@@ -132,22 +104,22 @@ fn is_first_within(trees: &mut Trees<'_>, room: u8) -> bool
     }
     match trees.next() {
         Head::Cell { cell, children } => {
-            cell <= MOST_CELL && are_first_within(trees, room - 1, children)
+            cell <= LAST_CELL && are_first_within(trees, room - 1, children)
         }
         Head::Tile { tile, children } => {
-            tile <= MOST_TILE && are_first_within(trees, room - 1, children)
+            tile <= LAST_TILE && are_first_within(trees, room - 1, children)
         }
-        Head::DeadCell(cell) => cell <= MOST_CELL,
-        Head::DeadTile(tile) => tile <= MOST_TILE,
-        Head::Found(number) => number <= MOST_NUMBER,
-        Head::Same(lemma) => lemma <= MOST_NUMBER,
-        Head::Image { symmetry, lemma } => lemma <= MOST_NUMBER && symmetry <= MOST_SYMMETRY,
+        Head::DeadCell(cell) => cell <= LAST_CELL,
+        Head::DeadTile(tile) => tile <= LAST_TILE,
+        Head::Found(number) => number <= LAST_ARRANGEMENT,
+        Head::Same(lemma) => lemma <= LAST_LEMMA,
+        Head::Image { symmetry, lemma } => lemma <= LAST_LEMMA && symmetry <= LAST_SYMMETRY,
     }
 }
 
 // The same of the first so many trees, as the children of a branch.
 #[cycle(flat_limits)]
-fn are_first_within(trees: &mut Trees<'_>, room: u8, children: u32) -> bool
+fn are_first_within(trees: &mut Trees<'_>, room: u16, children: u32) -> bool
     requires { children ≤ count trees.old }
     ensures within { MatchBool result (AreChildrenWithin room (front children trees.old)) (AreChildrenWithin room (front children trees.old) → ⊥) }
     ensures past { IsTrue result → trees.new ≡ past children trees.old }
@@ -155,7 +127,7 @@ fn are_first_within(trees: &mut Trees<'_>, room: u8, children: u32) -> bool
     if children == 0 {
         return false;
     }
-    if children as usize > MOST_CHILDREN {
+    if children > MOST_CHILDREN {
         return false;
     }
     for _ in 0..children {
@@ -169,8 +141,8 @@ fn are_first_within(trees: &mut Trees<'_>, room: u8, children: u32) -> bool
 fn is_flat_lemma_within(lemma: &FlatLemma<'_>) -> bool
     ensures { MatchBool result (IsLemmaWithin (flat_piece lemma.now)) (IsLemmaWithin (flat_piece lemma.now) → ⊥) }
 {
-    lemma.number <= MOST_NUMBER
-        && (lemma.prefix.len() <= MOST_PAIRS
+    lemma.number <= LAST_LEMMA
+        && (lemma.prefix.len() <= usize::from(MOST_CELLS)
             && (are_pairs_within(lemma.prefix)
                 && is_first_within(&mut lemma.tree.trees(), MOST_LEVELS)))
 }
@@ -187,10 +159,10 @@ fn are_lemmas_within(lemmas: &Lemmas) -> bool
 }
 
 fn are_numbers_within(numbers: &[u16]) -> bool
-    ensures { MatchBool result (AllByRecursion (λ n. n ≤ 99) numbers.now) (AllByRecursion (λ n. n ≤ 99) numbers.now → ⊥) }
+    ensures { MatchBool result (AllByRecursion (λ n. n ≤ LAST_CELL) numbers.now) (AllByRecursion (λ n. n ≤ LAST_CELL) numbers.now → ⊥) }
 {
     for number in numbers {
-        if *number > MOST_CELL {
+        if *number > LAST_CELL {
             return false;
         }
     }
@@ -198,10 +170,10 @@ fn are_numbers_within(numbers: &[u16]) -> bool
 }
 
 fn are_colours_within(colours: &[u8]) -> bool
-    ensures { MatchBool result (AllByRecursion (λ n. n < 36) colours.now) (AllByRecursion (λ n. n < 36) colours.now → ⊥) }
+    ensures { MatchBool result (AllByRecursion (λ n. n < MOST_COLOURS) colours.now) (AllByRecursion (λ n. n < MOST_COLOURS) colours.now → ⊥) }
 {
     for colour in colours {
-        if *colour > MOST_COLOUR {
+        if *colour >= MOST_COLOURS {
             return false;
         }
     }
@@ -211,19 +183,19 @@ fn are_colours_within(colours: &[u8]) -> bool
 fn are_images_within(images: &[u16]) -> bool
     ensures { MatchBool result (AreImagesWithin images.now) (AreImagesWithin images.now → ⊥) }
 {
-    images.len() <= MOST_IMAGES && are_numbers_within(images)
+    images.len() <= usize::from(MOST_CELLS) && are_numbers_within(images)
 }
 
 fn are_colour_images_within(images: &[u8]) -> bool
     ensures { MatchBool result (AreColourImagesWithin images.now) (AreColourImagesWithin images.now → ⊥) }
 {
-    images.len() <= MOST_COLOURS && are_colours_within(images)
+    images.len() <= usize::from(MOST_COLOURS) && are_colours_within(images)
 }
 
 fn is_symmetry_within(line: &SymmetryLine) -> bool
     ensures { MatchBool result (IsSymmetryWithin line.now) (IsSymmetryWithin line.now → ⊥) }
 {
-    line.shift <= MOST_SHIFT
+    line.shift <= LAST_SIDE
         && (are_images_within(line.cells.as_slice())
             && (are_colour_images_within(line.colours.as_slice())
                 && are_images_within(line.tiles.as_slice())))
@@ -245,9 +217,9 @@ fn is_certificate_within(certificate: &Certificate) -> bool
 {
     let symmetries = certificate.symmetries();
     let lemmas = certificate.lemmas();
-    symmetries.len() <= MOST_SYMMETRIES
+    symmetries.len() <= usize::from(MOST_SYMMETRIES)
         && (are_symmetries_within(symmetries)
-            && (lemmas.len() <= MOST_LEMMAS && are_lemmas_within(lemmas)))
+            && (lemmas.len() <= MOST_LEMMAS as usize && are_lemmas_within(lemmas)))
 }
 
 impl Lemma {

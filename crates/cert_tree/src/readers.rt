@@ -19,8 +19,8 @@ use crate::entries::{cell_images, colour_images, prefix, tile_images};
 use crate::faults::{CertTextFault, LemmaTextFault};
 use crate::flat_lemmas::{FlatLemma, LemmaSpan, Lemmas};
 use crate::heads::Head;
-use crate::limits::MOST_LEVELS;
 use crate::tree_readers::tree;
+use match_board::limits::{LAST_LEMMA, LAST_SIDE, MOST_LEMMAS, MOST_LEVELS, MOST_SYMMETRIES};
 use match_puzzle::Pair;
 use match_symmetry::{ColourImages, Images, SymmetryLine};
 use match_text::{ReadFault, Scan, TextFault, TextKind};
@@ -52,7 +52,7 @@ fn symmetry(alloc: Global, scan: &mut Scan) -> Result<SymmetryLine, ReadFault>
 {
     scan.next_line()?;
     scan.word(b"symmetry")?;
-    let shift = scan.number(0, 3)? as u8;
+    let shift = scan.number(0, u32::from(LAST_SIDE))? as u8;
     let mirrored = mirrored(scan)?;
     scan.word(b"cells")?;
     let cells = Images::new(cell_images(alloc, scan)?);
@@ -95,7 +95,7 @@ fn lemma(
 {
     scan.next_line()?;
     scan.word(b"lemma")?;
-    let number = scan.number(0, 999_999)?;
+    let number = scan.number(0, LAST_LEMMA)?;
     scan.word(b"prefix")?;
     let pairs_start = pairs.len();
     prefix(scan, pairs)?;
@@ -171,9 +171,9 @@ fn whole(alloc: Global, scan: &mut Scan) -> Result<CertificateLines, ReadFault>
     ensures { Reads said_of result scan.new (certificate_text scan.old) }
 {
     scan.opening(b"certificate")?;
-    let many = scan.counted(b"symmetries", 0, 1_024)?;
+    let many = scan.counted(b"symmetries", 0, u32::from(MOST_SYMMETRIES))?;
     let symmetries = symmetries(alloc, scan, many)?;
-    let count = scan.counted(b"lemmas", 0, 1_000_000)?;
+    let count = scan.counted(b"lemmas", 0, MOST_LEMMAS)?;
     let lemmas = lemmas(alloc, scan, count)?;
     scan.closing()?;
     Ok(CertificateLines { symmetries, lemmas })

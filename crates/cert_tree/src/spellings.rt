@@ -14,6 +14,7 @@ use crate::certificates::{Certificate, Lemma};
 use crate::conversions::flat_lemmas;
 use crate::flat_lemmas::{FlatLemma, Lemmas};
 use crate::heads::Head;
+use match_board::limits::MOST_COLOURS;
 use match_puzzle::Pair;
 use match_symmetry::SymmetryLine;
 use match_text::{character, put_end, put_number, put_number_line, put_placement};
@@ -110,7 +111,7 @@ fn put_numbers(text: &mut Vec<u8>, numbers: &[u16]) -> Result<(), AllocError>
 }
 
 fn put_colours(text: &mut Vec<u8>, colours: &[u8]) -> Result<(), AllocError>
-    requires { AllByRecursion (λ colour. colour < 36) colours.now }
+    requires { AllByRecursion (λ colour. colour < MOST_COLOURS) colours.now }
     ensures { OnOk result (text.new.items ≡ text.old.items ++ spaced (map colour_word colours.now)) }
 {
     for colour in colours {

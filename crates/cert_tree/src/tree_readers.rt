@@ -8,6 +8,9 @@ ghost use Rattle.cert_tree.specs.TreeText.{node_kind_in, tree_by};
 ghost use Rattle.cert_tree.specs.HeadReading.{most_of, rest_by, head_by, ReadsOnto, ReadAllOnto};
 
 use crate::heads::Head;
+use match_board::limits::{
+    LAST_ARRANGEMENT, LAST_CELL, LAST_LEMMA, LAST_SYMMETRY, LAST_TILE, MOST_CHILDREN,
+};
 use match_text::{ReadFault, Scan, TextFault, TextKind};
 
 // The kinds of node that have a letter.
@@ -65,8 +68,10 @@ fn most_number(kind: NodeKind) -> u32
     ensures { result ≡ most_of kind }
 {
     match kind {
-        NodeKind::Cell | NodeKind::Tile | NodeKind::DeadCell | NodeKind::DeadTile => 99,
-        NodeKind::Found | NodeKind::Same | NodeKind::Image => 999_999,
+        NodeKind::Cell | NodeKind::DeadCell => u32::from(LAST_CELL),
+        NodeKind::Tile | NodeKind::DeadTile => u32::from(LAST_TILE),
+        NodeKind::Found => LAST_ARRANGEMENT,
+        NodeKind::Same | NodeKind::Image => LAST_LEMMA,
     }
 }
 
@@ -78,12 +83,12 @@ fn rest(scan: &mut Scan, kind: NodeKind, number: u32) -> Result<Head, TextFault>
 {
     match kind {
         NodeKind::Cell => {
-            let children = scan.number(1, 400)?;
+            let children = scan.number(1, MOST_CHILDREN)?;
             let cell = number as u16;
             Ok(Head::Cell { cell, children })
         }
         NodeKind::Tile => {
-            let children = scan.number(1, 400)?;
+            let children = scan.number(1, MOST_CHILDREN)?;
             let tile = number as u16;
             Ok(Head::Tile { tile, children })
         }
@@ -92,7 +97,7 @@ fn rest(scan: &mut Scan, kind: NodeKind, number: u32) -> Result<Head, TextFault>
         NodeKind::Found => Ok(Head::Found(number)),
         NodeKind::Same => Ok(Head::Same(number)),
         NodeKind::Image => {
-            let symmetry = scan.number(0, 1_023)? as u16;
+            let symmetry = scan.number(0, u32::from(LAST_SYMMETRY))? as u16;
             let lemma = number;
             Ok(Head::Image { symmetry, lemma })
         }
@@ -111,7 +116,7 @@ fn head(scan: &mut Scan) -> Result<Head, TextFault>
 
 // The heads of a tree of up to so many levels go behind these.
 #[cycle(trees)]
-fn node(scan: &mut Scan, heads: &mut Vec<Head>, room: u8) -> Result<(), ReadFault>
+fn node(scan: &mut Scan, heads: &mut Vec<Head>, room: u16) -> Result<(), ReadFault>
     ensures { ReadsOnto result scan.new heads.old.items heads.new.items (tree_by room scan.old) }
 {
     if room == 0 {
@@ -124,7 +129,7 @@ fn node(scan: &mut Scan, heads: &mut Vec<Head>, room: u8) -> Result<(), ReadFaul
 
 // The same of so many trees, the children of a node.
 #[cycle(trees)]
-fn nodes(scan: &mut Scan, heads: &mut Vec<Head>, room: u8, count: u32) -> Result<(), ReadFault>
+fn nodes(scan: &mut Scan, heads: &mut Vec<Head>, room: u16, count: u32) -> Result<(), ReadFault>
     ensures { ReadAllOnto result scan.new heads.old.items heads.new.items (times count (tree_by room) scan.old) }
 {
     for _ in 0..count {
@@ -134,7 +139,7 @@ fn nodes(scan: &mut Scan, heads: &mut Vec<Head>, room: u8, count: u32) -> Result
 }
 
 /// A tree of up to so many levels, by a recursion that is no deeper than that. Its heads go behind these.
-pub fn tree(scan: &mut Scan, heads: &mut Vec<Head>, room: u8) -> Result<(), ReadFault>
+pub fn tree(scan: &mut Scan, heads: &mut Vec<Head>, room: u16) -> Result<(), ReadFault>
     ensures reads { Reads (λ _. first (trees_in (drop (length heads.old.items) heads.new.items))) result scan.new (tree_by room scan.old) }
     ensures tree { OnOk result (AreOfTree (drop (length heads.old.items) heads.new.items)) }
     ensures behind { OnOk result (heads.new.items ≡ heads.old.items ++ drop (length heads.old.items) heads.new.items) }

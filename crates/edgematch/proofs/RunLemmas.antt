@@ -1,5 +1,6 @@
 -- What the parts of a run read.
 use Rattle.std.proofs.Common.{◌≡◌, ◌≤◌, ℕ, suc, List, [], ◌∷◌, Some, Result, Ok, Err, IsErrOf, Contains, length, map, slice_get, arith, refl, ap, sym, ◌∙◌, subst, ⊎_elim}
+use Rattle.match_board.specs.declared.limits.TheConstants.{MOST_ARRANGEMENTS}
 use Rattle.std.specs.List.{AllByRecursion}
 use Rattle.match_puzzle.specs.Puzzle.{Task, IsPuzzle}
 use Rattle.match_puzzle.specs.Arrangement.{IsArrangement}
@@ -119,7 +120,7 @@ module _ (p : Task) (listed : List (List Placement)) (lines : List SymmetryLine)
     are_arrangements : (a : List Placement) → Contains all a → IsArrangement p a
     are_arrangements a among = reached_is p lines listed puzzle complete.symmetries listed_are a ((all_reached.just a).0 among)
 
-    pub all_within : length all ≤ 1000000 → IsListWithin all
+    pub all_within : length all ≤ MOST_ARRANGEMENTS → IsListWithin all
     all_within few = (few, all_by_place IsRowWithin all (λ i a at. row_within p a puzzle (are_arrangements a (contains_at all i a at))))
 
     pub all_in_order : (lemmas : List Piece) → AreAllInOrder (record { puzzle = p; listed = listed; symmetries = lines; lemmas = lemmas }) all

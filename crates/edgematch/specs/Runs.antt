@@ -1,5 +1,6 @@
 -- What a run comes to.
 use Rattle.std.specs.Prelude.{◌≡◌, ◌≢◌, ◌+◌, ◌<◌, ◌≤◌, ◌^◌, ◌↔◌, ℕ, List, Result, Ok, Err, Contains, length, map, true}
+use Rattle.match_board.specs.declared.limits.TheConstants.{MOST_CLASSES, MOST_ARRANGEMENTS, MOST_BYTES}
 use Rattle.match_board.specs.Turns.{AreLeastWords}
 use Rattle.match_puzzle.specs.Puzzle.{Task}
 use Rattle.match_puzzle.specs.Arrangement.{IsArrangement}
@@ -27,7 +28,6 @@ use Rattle.match_report.specs.Expansion.{IsExpansion, AreMoreReached}
 use Rattle.edgematch.specs.Documents.{Texts, texts_in}
 use Rattle.edgematch.specs.Moves.{FailsToRead, Reading, ReadsPast, ReadsWhole}
 use Rattle.edgematch.specs.declared.streams.documents.Documents.{Documents}
-use Rattle.edgematch.specs.declared.runs.TheConstants.{MOST_BYTES}
 use Rattle.edgematch.specs.declared.faults.Document.{Document}
 use Rattle.edgematch.specs.declared.faults.Document.TheVariants as documents
 use Rattle.edgematch.specs.declared.faults.RunFault.{RunFault}
@@ -124,7 +124,7 @@ ExpansionGives texts text ends =
 abbrev pub SpellTooMany : Texts → Type 0
 SpellTooMany texts =
     (question : Question) × Spells texts question × IsAnswer question Complete
-    × AreMoreReached 1000000 question.puzzle question.symmetries question.listed
+    × AreMoreReached MOST_ARRANGEMENTS question.puzzle question.symmetries question.listed
 
 -- an outcome by its parts
 abbrev pub outcome_of : Answer → ℕ → Outcome
@@ -213,7 +213,7 @@ IsOfReading fault document = ⊥
 
 -- The words are those of the tiles, one for each class of words that turn into each other, and few enough to be listed.
 abbrev pub AreTileWords : (sides colours : ℕ) → List (List ℕ) → Type 0
-AreTileWords sides colours words = AreLeastWords sides colours words × (length words ≤ 100)
+AreTileWords sides colours words = AreLeastWords sides colours words × (length words ≤ MOST_CLASSES)
 
 -- What a list of tiles prints.
 abbrev pub TilesGive : (sides colours : ℕ) → (text : List ℕ) → Type 0

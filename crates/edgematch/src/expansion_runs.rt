@@ -20,6 +20,7 @@ use crate::streams::documents::Documents;
 use crate::streams::sinks::{Sink, write_whole};
 use crate::streams::sources::Source;
 use cert_check::{Answer, check};
+use match_board::limits::MOST_ARRANGEMENTS;
 use match_report::{expand, write_answer};
 use match_text::write_list;
 use std::alloc::Global;
@@ -140,7 +141,7 @@ fn all_text(alloc: Global, question: &Question) -> Result<Vec<u8>, RunFault>
         × AreAllInOrder (question_of question.now.puzzle question.now.listed.items question.now.certificate) all
         × (text.items ≡ list_spelling all)) }
     ensures expand { IsErrOf result RunFault.Expand
-        → AreMoreReached 1000000 question.now.puzzle question.now.certificate.symmetries question.now.listed.items }
+        → AreMoreReached MOST_ARRANGEMENTS question.now.puzzle question.now.certificate.symmetries question.now.listed.items }
     ensures kind { IfErr result (λ fault. (fault ≡ RunFault.Expand) ⊎ (fault ≡ RunFault.Memory)) }
 {
     let lines = question.certificate.symmetries();

@@ -8,6 +8,7 @@ ghost use Rattle.edgematch.specs.Runs.{AreShort, IsOfDocuments, RunGives, Spells
 use crate::faults::RunFault;
 use crate::streams::documents::Documents;
 use cert_tree::{Certificate, read_certificate};
+use match_board::limits::MOST_ARRANGEMENTS;
 use match_puzzle::{Arrangement, Puzzle};
 use match_text::{read_list, read_puzzle};
 use std::alloc::Global;
@@ -27,7 +28,7 @@ pub fn read_question(alloc: Global, documents: &Documents<'_>) -> Result<Questio
     ensures question { IfOk result (λ q.
         Spells (texts_of documents.now) (question_of q.puzzle q.listed.items q.certificate)) }
     ensures puzzle { IfOk result (λ q. IsPuzzle q.puzzle) }
-    ensures few { IfOk result (λ q. length q.listed.items ≤ 1000000) }
+    ensures few { IfOk result (λ q. length q.listed.items ≤ MOST_ARRANGEMENTS) }
     ensures fault { IfErr result (λ fault. fault ≢ RunFault.Memory → RunGives (texts_of documents.now) (Err fault)) }
     ensures kind { IfErr result (λ fault. fault ≢ RunFault.Memory → IsOfDocuments fault) }
 {

@@ -13,6 +13,7 @@ use crate::streams::documents::{Documents, cut_joined};
 use crate::streams::sinks::{Sink, write_whole};
 use crate::streams::sources::{ReadWholeFault, Source, read_whole};
 use cert_check::{Answer, check};
+use match_board::limits::MOST_BYTES;
 use match_report::write_answer;
 use std::alloc::Global;
 
@@ -24,9 +25,6 @@ pub enum Status {
     /// The certificate does not show that it is.
     Refused,
 }
-
-/// The most bytes of a document.
-pub const MOST_BYTES: u32 = 1_073_741_824;
 
 /// Reads a puzzle, a list and a certificate, each to its end and in this order, and writes the
 /// answer to them and nothing else.

@@ -8,6 +8,7 @@ ghost use Rattle.edgematch.specs.Runs.{IsOfTiles, TilesGive};
 use crate::faults::RunFault;
 use crate::streams::sinks::{Sink, write_whole};
 use match_board::all_tiles;
+use match_board::limits::{MOST_CLASSES, MOST_COLOURS};
 use match_text::write_tiles;
 use std::alloc::Global;
 
@@ -23,12 +24,12 @@ pub fn run_tiles<W: Sink>(
     writer: &mut W,
 ) -> Result<(), RunFault>
     requires sides { (sides ≡ 3) ⊎ (sides ≡ 4) }
-    requires colours { (1 ≤ colours) × (colours ≤ 36) }
+    requires colours { (1 ≤ colours) × (colours ≤ MOST_COLOURS) }
 
     ensures ok { OnOk result (WritesWhole (writing_of W.Sink writer.old writer.new) (TilesGive sides colours)) }
 
     ensures fault { IfErr result IsOfTiles }
-    ensures tiles { IsErrOf result RunFault.Tiles → HasMoreLeastWords sides colours 100 }
+    ensures tiles { IsErrOf result RunFault.Tiles → HasMoreLeastWords sides colours MOST_CLASSES }
     ensures untouched { IfErr result (λ fault. fault ≢ RunFault.Write → writer.new ≡ writer.old) }
     // Writing fails only where the sink answered an error, or took nothing; then a front of the words went out.
     ensures write { IsErrOf result RunFault.Write

@@ -2,6 +2,7 @@
 use Rattle.std.specs.Prelude.{◌≡◌, ◌⊎◌, ◌<◌, ◌≤◌, ◌+◌, ◌-◌, ◌*◌, ◌%◌, ℕ, zero, suc, List, min}
 use Rattle.match_board.specs.declared.figures.Figure.{Figure}
 use Rattle.match_board.specs.declared.figures.Figure.TheVariants.{Rectangle, Triangle, Hexagon}
+use Rattle.match_board.specs.declared.limits.TheConstants.{MOST_CELLS}
 use Rattle.match_board.specs.Listing.{IsListing, ComesBefore, HoldsBefore}
 
 -- how many sides a cell has
@@ -112,6 +113,6 @@ IsBorderOrder s pairs = IsListing ComesBefore (λ pair. IsBorderPair s pair.0 pa
 abbrev pub IsBorderBefore : Figure → ℕ × ℕ → List (ℕ × ℕ) → Type 0
 IsBorderBefore s n pairs = IsListing ComesBefore (HoldsBefore (λ pair. pair) (λ pair. IsBorderPair s pair.0 pair.1) n) pairs
 
--- from 1 to 100 cells
+-- at least one cell, and not too many
 abbrev pub IsBoard : Figure → Type 0
-IsBoard s = (1 ≤ cell_count s) × (cell_count s ≤ 100)
+IsBoard s = (1 ≤ cell_count s) × (cell_count s ≤ MOST_CELLS)

@@ -5,6 +5,7 @@ ghost use Rattle.match_board.specs.Board.{cell_count, side_count, Meets, IsBoard
 ghost use Rattle.match_board.specs.declared.figures.Figure.TheVariants.{Rectangle, Triangle, Hexagon};
 
 use crate::figures::Figure;
+use crate::limits::MOST_CELLS;
 use std::marker::Model;
 use thiserror::Error;
 
@@ -41,46 +42,43 @@ impl Model for Board {
     ghost inverse = { λ s. record { figure = s } };
 }
 
-/// The most cells of a board.
-pub const MOST_CELLS: u32 = 100;
-
 impl Board {
-    #[tactic(auto, using(crate::proofs::Places::above_in_rectangle))]
     /// The rectangle of this width and height.
     ///
     /// `Empty` where either is 0, and `TooLarge` where there are over 100 cells.
+    #[tactic(auto, using(crate::proofs::Places::above_in_rectangle))]
     pub fn rect(width: u16, height: u16) -> Result<Board, BoardFault>
         ensures board { IfOk result (λ b. b ≡ Rectangle width height) }
         ensures fits { IfOk result IsBoard }
         ensures empty { (result ≡ Err BoardFault.Empty) ↔ (width * height ≡ 0) }
-        ensures too_large { (result ≡ Err BoardFault.TooLarge) ↔ (100 < width * height) }
+        ensures too_large { (result ≡ Err BoardFault.TooLarge) ↔ (MOST_CELLS < width * height) }
     {
         Board::of(Figure::Rectangle { width, height })
     }
 
-    #[tactic(auto, using(crate::proofs::Places::empty_triangle))]
     /// The triangle that points up, with this many cells at each side: `size * size` cells in all.
     ///
     /// `Empty` where the size is 0, and `TooLarge` where there are over 100 cells.
+    #[tactic(auto, using(crate::proofs::Places::empty_triangle))]
     pub fn triangle(size: u16) -> Result<Board, BoardFault>
         ensures board { IfOk result (λ b. b ≡ Triangle size) }
         ensures fits { IfOk result IsBoard }
         ensures empty { (result ≡ Err BoardFault.Empty) ↔ (size ≡ 0) }
-        ensures too_large { (result ≡ Err BoardFault.TooLarge) ↔ (100 < cell_count (Triangle size)) }
+        ensures too_large { (result ≡ Err BoardFault.TooLarge) ↔ (MOST_CELLS < cell_count (Triangle size)) }
     {
         Board::of(Figure::Triangle { size })
     }
 
-    #[tactic(auto, using(crate::proofs::Places::empty_hexagon))]
     /// The hexagon with level top and bottom, with this many cells at each side: `6 * size * size`
     /// cells in all.
     ///
     /// `Empty` where the size is 0, and `TooLarge` where there are over 100 cells.
+    #[tactic(auto, using(crate::proofs::Places::empty_hexagon))]
     pub fn hexagon(size: u16) -> Result<Board, BoardFault>
         ensures board { IfOk result (λ b. b ≡ Hexagon size) }
         ensures fits { IfOk result IsBoard }
         ensures empty { (result ≡ Err BoardFault.Empty) ↔ (size ≡ 0) }
-        ensures too_large { (result ≡ Err BoardFault.TooLarge) ↔ (100 < cell_count (Hexagon size)) }
+        ensures too_large { (result ≡ Err BoardFault.TooLarge) ↔ (MOST_CELLS < cell_count (Hexagon size)) }
     {
         Board::of(Figure::Hexagon { size })
     }
@@ -92,7 +90,7 @@ impl Board {
         ensures board { IfOk result (λ b. b ≡ figure) }
         ensures fits { IfOk result IsBoard }
         ensures empty { (result ≡ Err BoardFault.Empty) ↔ (cell_count figure ≡ 0) }
-        ensures too_large { (result ≡ Err BoardFault.TooLarge) ↔ (100 < cell_count figure) }
+        ensures too_large { (result ≡ Err BoardFault.TooLarge) ↔ (MOST_CELLS < cell_count figure) }
     {
         let cells = figure.cells();
         if cells == 0 {
@@ -115,7 +113,7 @@ impl Board {
     pub fn cells(&self) -> u16
         ensures count { result ≡ cell_count self.now }
         ensures some { 1 ≤ result }
-        ensures most { result ≤ 100 }
+        ensures most { result ≤ MOST_CELLS }
     {
         self.figure.cells() as u16
     }

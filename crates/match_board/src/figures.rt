@@ -17,8 +17,8 @@ pub enum Figure {
 }
 
 impl Figure {
-    #[tactic(auto, using(crate::proofs::Places::above_in_rectangle, crate::proofs::Places::above_in_triangle, crate::proofs::Places::cells_in_hexagon))]
     /// How many cells there are.
+    #[tactic(auto, using(crate::proofs::Places::above_in_rectangle, crate::proofs::Places::above_in_triangle, crate::proofs::Places::cells_in_hexagon))]
     pub(crate) fn cells(self) -> u64
         ensures { result ≡ cell_count self }
     {

@@ -4,9 +4,11 @@ ghost use Rattle.std.specs.Prelude.{◌≡◌, ◌<◌, ◌≤◌, ◌+◌, ◌*
 ghost use Rattle.match_board.specs.Board.{row_length, IsPlace, PointsUp, PointsDown, LiesBelow, LiesAgainst};
 ghost use Rattle.match_board.specs.declared.figures.Figure.TheVariants.{Hexagon};
 
+use crate::limits::MOST_LENGTH;
+
 /// How many cells the row has.
 pub fn row_length(size: u16, row: u16) -> u16
-    requires size { size ≤ 100 }
+    requires size { size ≤ MOST_LENGTH }
     requires row { row < 2 * size }
     ensures { result ≡ row_length (Hexagon size) row }
 {
@@ -15,7 +17,7 @@ pub fn row_length(size: u16, row: u16) -> u16
 
 /// The place that a side of this place lies against, and its side there.
 pub fn beside(size: u16, row: u16, place: u16, side: u8) -> Option<(u16, u16, u8)>
-    requires size { size ≤ 100 }
+    requires size { size ≤ MOST_LENGTH }
     requires here { IsPlace (Hexagon size) row place }
     requires side { side < 3 }
     ensures side { IfSome result (λ n. n.2 < 3) }
@@ -47,7 +49,7 @@ pub fn beside(size: u16, row: u16, place: u16, side: u8) -> Option<(u16, u16, u8
 
 // The place below a triangle that points up.
 fn below(size: u16, row: u16, place: u16) -> Option<(u16, u16)>
-    requires size { size ≤ 100 }
+    requires size { size ≤ MOST_LENGTH }
     requires here { IsPlace (Hexagon size) row place }
     requires up { PointsUp (Hexagon size) row place }
     ensures found { IfSome result
@@ -70,7 +72,7 @@ fn below(size: u16, row: u16, place: u16) -> Option<(u16, u16)>
 
 // The place above a triangle that points down.
 fn above(size: u16, row: u16, place: u16) -> Option<(u16, u16)>
-    requires size { size ≤ 100 }
+    requires size { size ≤ MOST_LENGTH }
     requires here { IsPlace (Hexagon size) row place }
     requires down { PointsDown (Hexagon size) row place }
     ensures found { IfSome result

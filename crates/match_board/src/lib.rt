@@ -5,13 +5,14 @@ mod boards;
 mod classes;
 mod figures;
 mod hexagons;
+pub mod limits;
 mod rectangles;
 #[cfg(test)]
 mod tests;
 mod tiles;
 mod triangles;
 
-pub use boards::{Board, BoardFault, MOST_CELLS};
+pub use boards::{Board, BoardFault};
 pub use classes::{TilesFault, all_tiles};
 pub use figures::Figure;
-pub use tiles::{COLOURS, Tile, TileFault};
+pub use tiles::{Tile, TileFault};

@@ -1,6 +1,6 @@
 // Boards and tiles whose numbers are known.
 
-use crate::{Board, BoardFault, Tile, TilesFault, all_tiles};
+use crate::{Board, BoardFault, Tile, TilesFault, all_tiles, limits};
 use std::test::Fail;
 
 #[test]
@@ -116,4 +116,29 @@ fn most_tiles(rt: HostRuntime) -> Result<(), Fail> {
     assert_eq!(rt; all_tiles(rt.alloc(), 3, 6)?.len(), 76);
     assert_eq!(rt; all_tiles(rt.alloc(), 4, 1)?.len(), 1);
     Ok(())
+}
+
+// The numbers are those of docs/FORMATS.md, but for that of entries.
+#[test]
+fn limits_of_formats(rt: HostRuntime) {
+    assert_eq!(rt; limits::MOST_CELLS, 100);
+    assert_eq!(rt; limits::LAST_CELL, 99);
+    assert_eq!(rt; limits::MOST_TILES, 100);
+    assert_eq!(rt; limits::LAST_TILE, 99);
+    assert_eq!(rt; limits::MOST_LENGTH, 100);
+    assert_eq!(rt; limits::LAST_SIDE, 3);
+    assert_eq!(rt; limits::LAST_TURN, 3);
+    assert_eq!(rt; limits::MOST_RULES, 400);
+    assert_eq!(rt; limits::MOST_COLOURS, 36);
+    assert_eq!(rt; limits::MOST_CLASSES, 100);
+    assert_eq!(rt; limits::MOST_ENTRIES, 200_000);
+    assert_eq!(rt; limits::MOST_ARRANGEMENTS, 1_000_000);
+    assert_eq!(rt; limits::LAST_ARRANGEMENT, 999_999);
+    assert_eq!(rt; limits::MOST_SYMMETRIES, 1_024);
+    assert_eq!(rt; limits::LAST_SYMMETRY, 1_023);
+    assert_eq!(rt; limits::MOST_LEMMAS, 1_000_000);
+    assert_eq!(rt; limits::LAST_LEMMA, 999_999);
+    assert_eq!(rt; limits::MOST_CHILDREN, 400);
+    assert_eq!(rt; limits::MOST_LEVELS, 101);
+    assert_eq!(rt; limits::MOST_BYTES, 1_073_741_824);
 }

@@ -4,9 +4,11 @@ ghost use Rattle.std.specs.Prelude.{◌≡◌, ◌<◌, ◌≤◌, ℕ, IfSome};
 ghost use Rattle.match_board.specs.Board.{IsPlace, LiesAgainst};
 ghost use Rattle.match_board.specs.declared.figures.Figure.TheVariants.{Triangle};
 
+use crate::limits::MOST_LENGTH;
+
 /// The place that a side of this place lies against, and its side there.
 pub fn beside(size: u16, row: u16, place: u16, side: u8) -> Option<(u16, u16, u8)>
-    requires size { size ≤ 100 }
+    requires size { size ≤ MOST_LENGTH }
     requires here { IsPlace (Triangle size) row place }
     requires side { side < 3 }
     ensures side { IfSome result (λ n. n.2 < 3) }

@@ -1,5 +1,6 @@
 -- The first fault of a list of placements.
 use Rattle.std.proofs.Common.{eqb, eq-eqb, ◌≡◌, ◌≢◌, ◌<◌, ◌+◌, ℕ, Bool, true, false, MatchBool, List, Option, length, set, get_or, arith, refl, sym, ap, ◌∙◌, subst, ⊎_elim}
+use Rattle.match_board.specs.declared.limits.TheConstants.{MOST_TILES}
 use Rattle.std.proofs.lemmas.Option.{slice_get-get_or, get_or_from_slice_get}
 use Rattle.std.proofs.lemmas.List.{get_or-set_same, get_or-set_other}
 use Rattle.std.proofs.lemmas.Bool.{eqb-true, false≢true}
@@ -173,9 +174,9 @@ module _ (a : List Placement) where
 
   -- The table says of each tile whether it stands at an earlier cell.
   abbrev pub AreSeen : (cell : ℕ) → List Bool → Type 0
-  AreSeen cell seen = (tile : ℕ) → tile < 100 → MatchBool (get_or seen tile false) (StandsBefore cell tile) (NotBefore cell tile)
+  AreSeen cell seen = (tile : ℕ) → tile < MOST_TILES → MatchBool (get_or seen tile false) (StandsBefore cell tile) (NotBefore cell tile)
 
-  pub seen_none : (seen : List Bool) → ((tile : ℕ) → tile < 100 → get_or seen tile false ≡ false) → AreSeen 0 seen
+  pub seen_none : (seen : List Bool) → ((tile : ℕ) → tile < MOST_TILES → get_or seen tile false ≡ false) → AreSeen 0 seen
   seen_none seen none = λ tile lt. subst (λ b. MatchBool b (StandsBefore 0 tile) (NotBefore 0 tile)) (sym (none tile lt)) (λ k x before. absurd (omega arith))
 
   seen_on : (cell : ℕ) (x : Placement) → Stands a cell x → (b : Bool) (tile : ℕ) → tile ≢ x.tile → MatchBool b (StandsBefore cell tile) (NotBefore cell tile) → MatchBool b (StandsBefore (cell + 1) tile) (NotBefore (cell + 1) tile)
@@ -186,7 +187,7 @@ module _ (a : List Placement) where
       (λ ne. h k y (omega (arith, ne.1)) stands same)
       (eqb_tells k cell)
 
-  pub seen_more : (cell : ℕ) (x : Placement) (seen : List Bool) → Stands a cell x → length seen ≡ 100 → AreSeen cell seen → AreSeen (cell + 1) (set seen x.tile true)
+  pub seen_more : (cell : ℕ) (x : Placement) (seen : List Bool) → Stands a cell x → length seen ≡ MOST_TILES → AreSeen cell seen → AreSeen (cell + 1) (set seen x.tile true)
   seen_more cell x seen here long so_far = λ tile lt.
       ⊎_elim
       (λ e. subst (λ b. MatchBool b (StandsBefore (cell + 1) tile) (NotBefore (cell + 1) tile)) (sym (ap (λ t. get_or (set seen x.tile true) t false) e.1 ∙ get_or-set_same seen x.tile true false (omega (arith, e.1, long))))
@@ -195,13 +196,13 @@ module _ (a : List Placement) where
       (eqb_tells tile x.tile)
 
   -- a tile that was seen is repeated
-  pub seen_repeats : (p : Task) (cell : ℕ) (x : Placement) (seen : List Bool) → Stands a cell x → x.tile < 100 → AreSeen cell seen → get_or seen x.tile false ≡ true → RepeatsTileAt p a cell
+  pub seen_repeats : (p : Task) (cell : ℕ) (x : Placement) (seen : List Bool) → Stands a cell x → x.tile < MOST_TILES → AreSeen cell seen → get_or seen x.tile false ≡ true → RepeatsTileAt p a cell
   seen_repeats p cell x seen here lt so_far is =
       let w : StandsBefore cell x.tile = subst (λ b. MatchBool b (StandsBefore cell x.tile) (NotBefore cell x.tile)) is (so_far x.tile lt) in
       (x, w.0, w.1, here, w.2, w.3, sym w.4)
 
   -- a tile that was not seen is not repeated
-  pub unseen_once : (p : Task) (cell : ℕ) (x : Placement) (seen : List Bool) → Stands a cell x → x.tile < 100 → AreSeen cell seen → get_or seen x.tile false ≡ false → RepeatsTileAt p a cell → ⊥
+  pub unseen_once : (p : Task) (cell : ℕ) (x : Placement) (seen : List Bool) → Stands a cell x → x.tile < MOST_TILES → AreSeen cell seen → get_or seen x.tile false ≡ false → RepeatsTileAt p a cell → ⊥
   unseen_once p cell x seen here lt so_far is o =
       let w : NotBefore cell x.tile = subst (λ b. MatchBool b (StandsBefore cell x.tile) (NotBefore cell x.tile)) is (so_far x.tile lt) in
       let at : o.0 ≡ x = inside (sym o.3 ∙ here) in
@@ -233,7 +234,7 @@ pub border_obeyed : (p : Task) (a : List Placement) (cell : ℕ) (x : Placement)
 border_obeyed p a cell x here obeyed side colour y there rule = ap (λ z. colour_of p z side) (inside (sym there ∙ here)) ∙ obeyed side colour rule
 
 -- what the table says of a tile
-pub seen_tells : (a : List Placement) (cell tile : ℕ) (seen : List Bool) → tile < 100 → AreSeen a cell seen → (get_or seen tile false ≡ true → StandsBefore a cell tile) × (get_or seen tile false ≡ false → NotBefore a cell tile)
+pub seen_tells : (a : List Placement) (cell tile : ℕ) (seen : List Bool) → tile < MOST_TILES → AreSeen a cell seen → (get_or seen tile false ≡ true → StandsBefore a cell tile) × (get_or seen tile false ≡ false → NotBefore a cell tile)
 seen_tells a cell tile seen lt so_far = (
   λ is. subst (λ b. MatchBool b (StandsBefore a cell tile) (NotBefore a cell tile)) is (so_far tile lt),
   λ is. subst (λ b. MatchBool b (StandsBefore a cell tile) (NotBefore a cell tile)) is (so_far tile lt),

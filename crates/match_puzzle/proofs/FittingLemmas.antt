@@ -1,5 +1,6 @@
 -- What fits at a cell.
 use Rattle.std.proofs.Common.{◌≡◌, ◌<◌, ◌≤◌, ◌+◌, ◌*◌, ◌/◌, ◌%◌, ◌∷◌, [], ◌↔◌, ℕ, zero, suc, List, Contains, Option, Some, None, IfSome, unwrap_or, length, map, get_or, IsTrue, eqb, eq-eqb, ◌^◌, bit_and, arith, refl, sym, ap, ◌∙◌, subst, inl, inr, ⊎_elim}
+use Rattle.match_board.specs.declared.limits.TheConstants.{MOST_COLOURS}
 use Rattle.std.specs.Int.{bit_at}
 use Rattle.std.proofs.lemmas.Nat.Bits.{shr_and_one}
 use Rattle.std.proofs.lemmas.Bool.{eqb-true}
@@ -26,24 +27,24 @@ none_some e = cc
 
 -- ---- what is asked of a side
 
-pub at_most_36 : (rule : Option ℕ) → IfSome rule (λ colour. colour < 36) → unwrap_or rule 36 ≤ 36
+pub at_most_36 : (rule : Option ℕ) → IfSome rule (λ colour. colour < MOST_COLOURS) → unwrap_or rule MOST_COLOURS ≤ MOST_COLOURS
 at_most_36 None few = omega arith
 at_most_36 (Some rule) few = omega (arith, few)
 
 -- The number is the colour that is asked of the side, or 36 where none is.
 abbrev pub AsksBelow : Task → Prefix → (cell side asked : ℕ) → Type 0
-AsksBelow p q cell side asked = (colour : ℕ) → IsAsked p q cell side colour ↔ ((asked ≡ colour) × (colour < 36))
+AsksBelow p q cell side asked = (colour : ℕ) → IsAsked p q cell side colour ↔ ((asked ≡ colour) × (colour < MOST_COLOURS))
 
 module _ (p : Task) (q : Prefix) (cell side : ℕ) where
   -- where a cell has no such side, nothing is asked of it
-  pub outside_asks : side_count p.board ≤ side → AsksBelow p q cell side 36
+  pub outside_asks : side_count p.board ≤ side → AsksBelow p q cell side MOST_COLOURS
   outside_asks past colour = (
     λ asked. absurd (⊎_elim (λ r. let lt = r.border_pair.side_in in omega (arith, past, lt)) (λ w. let lt = side_in_range w.3 in omega (arith, past, lt)) asked),
     λ h. absurd (omega (arith, h.0, h.1)),
   )
 
   -- a border pair asks what the border asks
-  pub border_asks : (rule : Option ℕ) (asked : ℕ) → IsSide p cell side (Border rule) → IfSome rule (λ colour. colour < 36) → asked ≡ unwrap_or rule 36 → AsksBelow p q cell side asked
+  pub border_asks : (rule : Option ℕ) (asked : ℕ) → IsSide p cell side (Border rule) → IfSome rule (λ colour. colour < MOST_COLOURS) → asked ≡ unwrap_or rule MOST_COLOURS → AsksBelow p q cell side asked
   border_asks None asked is few same colour = (
     λ other. absurd (⊎_elim (λ r. none_some ((is.1 colour).1 r)) (λ w. is.0.meets_nothing w.0 w.1 w.3) other),
     λ h. absurd (omega (arith, h.0, h.1, same)),
@@ -54,14 +55,14 @@ module _ (p : Task) (q : Prefix) (cell side : ℕ) where
   )
 
   -- a side that meets an empty cell asks nothing
-  pub empty_asks : (c k asked : ℕ) → IsSide p cell side (Edge c k) → IsFree q c → asked ≡ 36 → AsksBelow p q cell side asked
+  pub empty_asks : (c k asked : ℕ) → IsSide p cell side (Edge c k) → IsFree q c → asked ≡ MOST_COLOURS → AsksBelow p q cell side asked
   empty_asks c k asked is free none colour = (
     λ other. absurd (⊎_elim (λ r. r.border_pair.meets_nothing c k is.0) (λ w. none_some (inside (sym free ∙ subst (λ n. Has q n w.2) (is.1 w.0 w.1 w.3).0 w.4))) other),
     λ h. absurd (omega (arith, h.0, h.1, none)),
   )
 
   -- a side that meets a placement asks what that shows
-  pub neighbour_asks : (c k asked : ℕ) (y : Placement) → IsSide p cell side (Edge c k) → Has q c y → asked ≡ colour_of p y k → asked < 36 → AsksBelow p q cell side asked
+  pub neighbour_asks : (c k asked : ℕ) (y : Placement) → IsSide p cell side (Edge c k) → Has q c y → asked ≡ colour_of p y k → asked < MOST_COLOURS → AsksBelow p q cell side asked
   neighbour_asks c k asked y is has shows few colour = (
     λ other. ⊎_elim
         (λ r. absurd (r.border_pair.meets_nothing c k is.0))
@@ -75,7 +76,7 @@ module _ (p : Task) (q : Prefix) (cell side : ℕ) where
   )
 
   -- a side that meets another asks what stands there shows
-  pub edge_asks : (c k asked : ℕ) → IsSide p cell side (Edge c k) → c < length q → ((y : Placement) → Has q c y → (asked ≡ colour_of p y k) × (asked < 36)) → (IsFree q c → asked ≡ 36) → (asked ≤ 36) × AsksBelow p q cell side asked
+  pub edge_asks : (c k asked : ℕ) → IsSide p cell side (Edge c k) → c < length q → ((y : Placement) → Has q c y → (asked ≡ colour_of p y k) × (asked < MOST_COLOURS)) → (IsFree q c → asked ≡ MOST_COLOURS) → (asked ≤ MOST_COLOURS) × AsksBelow p q cell side asked
   edge_asks c k asked is within shows none =
       ⊎_elim
       (λ free. let e = none free in (omega (arith, e), empty_asks c k asked is free e))

@@ -1,5 +1,6 @@
 -- Sets of placements, a group of four for each tile.
 use Rattle.std.proofs.Common.{◌≡◌, ◌⊎◌, ◌<◌, ◌≤◌, ◌+◌, ◌-◌, ◌*◌, ◌/◌, ◌%◌, ◌^◌, ℕ, zero, suc, List, [], Bool, true, false, MatchBool, All, Contains, length, get_or, lt-ltb, bit_or, arith, refl, ap, sym, ◌∙◌, subst, inl, inr, ⊎_elim}
+use Rattle.match_board.specs.declared.limits.TheConstants.{MOST_TILES}
 use Rattle.std.specs.Int.{bit_at, w8}
 use Rattle.std.proofs.lemmas.Bool.Decides.{eqb_tells}
 use Rattle.std.proofs.lemmas.Nat.{or_lt, one_shl, pow_below}
@@ -108,7 +109,7 @@ module _ (p : Task) (puzzle : IsPuzzle p) (table : List ℕ) (counts : AreTurnCo
       let few = few_turn k (omega (arith, lt, long)) in
       subst (λ n. n ≤ 4) (get_or_default table k 0 d lt) few
 
-  pub few_counts : length table ≤ 100
+  pub few_counts : length table ≤ MOST_TILES
   few_counts = let long = counts.long in let tiles = puzzle.tiles in let cells = puzzle.board.1 in omega (arith, long, tiles, cells)
 
   legal_is : (tile turn : ℕ) → tile < length p.words → (turn < get_or table tile 0 → IsLegal p (turned_tile tile turn)) × (IsLegal p (turned_tile tile turn) → turn < get_or table tile 0)

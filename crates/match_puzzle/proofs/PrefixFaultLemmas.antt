@@ -1,5 +1,6 @@
 -- The first fault of a list of pairs.
 use Rattle.std.proofs.Common.{◌≡◌, ◌≢◌, ◌⊎◌, ◌<◌, ◌≤◌, ◌+◌, ℕ, zero, suc, Bool, true, false, List, Some, length, length-set, map, set, get_or, slice_get, arith, refl, sym, ap, ◌∙◌, subst, inl, inr, ⊎_elim}
+use Rattle.match_board.specs.declared.limits.TheConstants.{MOST_CELLS, MOST_TILES}
 use Rattle.std.proofs.lemmas.Bool.Decides.{eqb_tells}
 use Rattle.std.proofs.lemmas.List.{length-map, get_or-map}
 use Rattle.std.proofs.lemmas.Option.{slice_get_within, slice_get-get_or, get_or_from_slice_get}
@@ -43,12 +44,12 @@ pub record AreRight (p : Task) (pairs : List Pair) (n least : ℕ) (marks : List
   pub last : (i : ℕ) (x : Pair) → n ≡ i + 1 → slice_get pairs i ≡ Some x → least ≡ x.cell + 1
   pub first : n ≡ 0 → least ≡ 0
   pub small : least ≤ cell_count p.board
-  pub few : (n ≤ least) × (least ≤ 100)
-  pub long : length marks ≡ 100
+  pub few : (n ≤ least) × (least ≤ MOST_CELLS)
+  pub long : length marks ≡ MOST_TILES
   pub seen : AreSeen (placed pairs) n marks
 
 module _ (p : Task) (pairs : List Pair) where
-  pub right_none : (seen : List Bool) → length seen ≡ 100 → ((tile : ℕ) → tile < 100 → get_or seen tile false ≡ false) → AreRight p pairs 0 0 seen
+  pub right_none : (seen : List Bool) → length seen ≡ MOST_TILES → ((tile : ℕ) → tile < MOST_TILES → get_or seen tile false ≡ false) → AreRight p pairs 0 0 seen
   right_none seen long none = record {
     cells = λ i x lt. absurd (omega (arith, lt));
     rising = λ i j x y lt in_range. absurd (omega (arith, in_range));
@@ -69,10 +70,10 @@ module _ (p : Task) (pairs : List Pair) where
     same y at = inside (sym at ∙ there)
 
     -- no tile of an earlier pair
-    new_tile : IsNewTile p seen x.placement.tile → x.placement.tile < 100 → (i : ℕ) (y : Pair) → i < n → slice_get pairs i ≡ Some y → y.placement.tile ≢ x.placement.tile
+    new_tile : IsNewTile p seen x.placement.tile → x.placement.tile < MOST_TILES → (i : ℕ) (y : Pair) → i < n → slice_get pairs i ≡ Some y → y.placement.tile ≢ x.placement.tile
     new_tile new small i y lt at = (seen_tells (placed pairs) n x.placement.tile seen small right.seen).1 new.2 i y.placement lt (at_mapped pairs i y at)
 
-    pub right_more : IsNextCell p least x.cell → IsNewTile p seen x.placement.tile → x.placement.tile < 100 → IsLegal p x.placement → AreRight p pairs (n + 1) (x.cell + 1) (set seen x.placement.tile true)
+    pub right_more : IsNextCell p least x.cell → IsNewTile p seen x.placement.tile → x.placement.tile < MOST_TILES → IsLegal p x.placement → AreRight p pairs (n + 1) (x.cell + 1) (set seen x.placement.tile true)
     right_more next new small legal = record {
       cells = λ i y lt at. ⊎_elim (λ e. subst (λ (z : Pair). z.cell < cell_count p.board) (sym (same y (subst (λ k. slice_get pairs k ≡ Some y) e.1 at))) next.1) (λ ne. right.cells i y (omega (arith, lt, ne.1)) at) (eqb_tells i n);
       rising = λ i j y z lt in_range at_i at_j.
@@ -113,7 +114,7 @@ module _ (p : Task) (pairs : List Pair) where
         let is = ap (λ (w : Pair). w.cell) (same o.0 o.1) in
         ⊎_elim (λ w. omega (arith, w, is, next.1)) (λ w. omega (arith, w.4, is, next.0, right.last w.0 w.1 w.2 w.3)) o.2
 
-    tile_right : IsNewTile p seen x.placement.tile → x.placement.tile < 100 → PrefixFails p pairs (Tile n) → ⊥
+    tile_right : IsNewTile p seen x.placement.tile → x.placement.tile < MOST_TILES → PrefixFails p pairs (Tile n) → ⊥
     tile_right new small o =
         let is = ap (λ (w : Pair). w.placement.tile) (same o.0 o.1) in
         ⊎_elim (λ w. omega (arith, w, is, new.0)) (λ w. new_tile new small w.0 w.1 w.2 w.3 (sym w.4 ∙ is)) o.2
@@ -136,10 +137,10 @@ module _ (p : Task) (pairs : List Pair) where
         by_kind (Tile m) o = at_most 1 m 2 (λ lt. (none_before m lt).1 o) (λ e. omega arith)
         by_kind (Turn m) o = at_most 1 m 3 (λ lt. (none_before m lt).2 o) (λ e. omega arith)
 
-    pub first_tile : IsNextCell p least x.cell → ((length p.words ≤ x.placement.tile) ⊎ ((x.placement.tile < 100) × (get_or seen x.placement.tile false ≡ true))) → IsPrefixFault p pairs (Tile n)
+    pub first_tile : IsNextCell p least x.cell → ((length p.words ≤ x.placement.tile) ⊎ ((x.placement.tile < MOST_TILES) × (get_or seen x.placement.tile false ≡ true))) → IsPrefixFault p pairs (Tile n)
     first_tile next wrong = record { occurs = (x, there, ⊎_elim (λ le. inl le) (λ w. inr (earlier w.0 w.1)) wrong); first = by_kind }
       where
-        earlier : x.placement.tile < 100 → get_or seen x.placement.tile false ≡ true → (before : ℕ) × (y : Pair) × (before < n) × (slice_get pairs before ≡ Some y) × (x.placement.tile ≡ y.placement.tile)
+        earlier : x.placement.tile < MOST_TILES → get_or seen x.placement.tile false ≡ true → (before : ℕ) × (y : Pair) × (before < n) × (slice_get pairs before ≡ Some y) × (x.placement.tile ≡ y.placement.tile)
         earlier small is =
             let w = (seen_tells (placed pairs) n x.placement.tile seen small right.seen).0 is in
             let y = from_mapped pairs w.0 w.1 w.3 in
@@ -150,7 +151,7 @@ module _ (p : Task) (pairs : List Pair) where
         by_kind (Tile m) o = at_most 2 m 2 (λ lt. (none_before m lt).1 o) (λ e. omega arith)
         by_kind (Turn m) o = at_most 2 m 3 (λ lt. (none_before m lt).2 o) (λ e. omega arith)
 
-    pub first_turn : IsNextCell p least x.cell → IsNewTile p seen x.placement.tile → x.placement.tile < 100 → (IsLegalTurn p x.placement → ⊥) → IsPrefixFault p pairs (Turn n)
+    pub first_turn : IsNextCell p least x.cell → IsNewTile p seen x.placement.tile → x.placement.tile < MOST_TILES → (IsLegalTurn p x.placement → ⊥) → IsPrefixFault p pairs (Turn n)
     first_turn next new small wrong = record { occurs = (x, there, wrong); first = by_kind }
       where
         by_kind : (g : PrefixFault) → PrefixFails p pairs g → AtMost (prefix_rank (Turn n)) (prefix_rank g)

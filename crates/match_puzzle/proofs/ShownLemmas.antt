@@ -1,5 +1,6 @@
 -- What each cell shows, four places to a cell.
 use Rattle.std.proofs.Common.{◌≡◌, ◌≢◌, ◌⊎◌, ◌<◌, ◌≤◌, ◌+◌, ◌*◌, ℕ, List, Some, None, length, set, get_or, replicate, below_more, arith, sym, ◌∙◌, subst, inl, inr, ⊎_elim}
+use Rattle.match_board.specs.declared.limits.TheConstants.{MOST_COLOURS}
 use Rattle.std.proofs.lemmas.Option.{slice_get_within}
 use Rattle.std.proofs.lemmas.List.{get_or-set_same, get_or-set_other, get_or-replicate, length-replicate}
 use Rattle.std.proofs.lemmas.Bool.Decides.{eqb_tells}
@@ -36,12 +37,12 @@ nothing_some : {X : Type 0} {x : X} → Some (Some x) ≡ Some None → ⊥
 nothing_some e = cc
 
 module _ (p : Task) (q : Prefix) (cell : ℕ) (x : Placement) (old new : List ℕ) (is : AreShown p q old) (long : length new ≡ length old) (kept : AreOthersKept cell old new) where
-  pub shown_placed : ((side : ℕ) → side < side_count p.board → (get_or new (4 * cell + side) 0 ≡ colour_of p x side) × (get_or new (4 * cell + side) 0 < 36)) → IsFree q cell → AreShown p (with_pair q cell x) new
+  pub shown_placed : ((side : ℕ) → side < side_count p.board → (get_or new (4 * cell + side) 0 ≡ colour_of p x side) × (get_or new (4 * cell + side) 0 < MOST_COLOURS)) → IsFree q cell → AreShown p (with_pair q cell x) new
   shown_placed shows free = record {
     long = long ∙ is.long;
     placed = λ cell' side y has side_in.
         ⊎_elim
-        (λ w. subst (λ z. (get_or new (4 * cell' + side) 0 ≡ colour_of p z side) × (get_or new (4 * cell' + side) 0 < 36)) (sym w.1) (subst (λ k. (get_or new (4 * k + side) 0 ≡ colour_of p x side) × (get_or new (4 * k + side) 0 < 36)) (sym w.0) (shows side side_in)))
+        (λ w. subst (λ z. (get_or new (4 * cell' + side) 0 ≡ colour_of p z side) × (get_or new (4 * cell' + side) 0 < MOST_COLOURS)) (sym w.1) (subst (λ k. (get_or new (4 * k + side) 0 ≡ colour_of p x side) × (get_or new (4 * k + side) 0 < MOST_COLOURS)) (sym w.0) (shows side side_in)))
         (λ w.
         let same = other_cell cell old new kept cell' side w.0 (omega (arith, side_in, few_sides p.board)) in
         let before = is.placed cell' side y w.1 side_in in
@@ -54,7 +55,7 @@ module _ (p : Task) (q : Prefix) (cell : ℕ) (x : Placement) (old new : List �
         (eqb_tells cell' cell);
   }
 
-  pub shown_lifted : Has q cell x → ((side : ℕ) → side < 4 → get_or new (4 * cell + side) 0 ≡ 36) → AreShown p (set q cell None) new
+  pub shown_lifted : Has q cell x → ((side : ℕ) → side < 4 → get_or new (4 * cell + side) 0 ≡ MOST_COLOURS) → AreShown p (set q cell None) new
   shown_lifted here any = record {
     long = long ∙ is.long;
     placed = λ cell' side y has side_in.
@@ -64,20 +65,20 @@ module _ (p : Task) (q : Prefix) (cell : ℕ) (x : Placement) (old new : List �
         (same ∙ before.0, let few = before.1 in omega (arith, same, few));
     empty = λ cell' side free' side_in.
         ⊎_elim
-        (λ e. subst (λ k. get_or new (4 * k + side) 0 ≡ 36) (sym e.1) (any side side_in))
+        (λ e. subst (λ k. get_or new (4 * k + side) 0 ≡ MOST_COLOURS) (sym e.1) (any side side_in))
         (λ ne. other_cell cell old new kept cell' side ne.1 side_in ∙ is.empty cell' side (sym (slice_get-set_other q cell cell' None ne.1) ∙ free') side_in)
         (eqb_tells cell' cell);
   }
 
 -- ---- nothing stands
 
-pub shown_none : (p : Task) → AreShown p (replicate (cell_count p.board) None) (replicate (4 * cell_count p.board) 36)
+pub shown_none : (p : Task) → AreShown p (replicate (cell_count p.board) None) (replicate (4 * cell_count p.board) MOST_COLOURS)
 shown_none p = record {
-  long = length-replicate (4 * cell_count p.board) 36;
+  long = length-replicate (4 * cell_count p.board) MOST_COLOURS;
   placed = λ cell side x has side_in. absurd (has_none (cell_count p.board) cell x has);
   empty = λ cell side free side_in.
       let none : Prefix = replicate (cell_count p.board) None in
       let within = slice_get_within none cell None free in
       let many : length none ≡ cell_count p.board = length-replicate (cell_count p.board) None in
-      get_or-replicate (4 * cell_count p.board) (4 * cell + side) 36 0 (omega (arith, within, many, side_in));
+      get_or-replicate (4 * cell_count p.board) (4 * cell + side) MOST_COLOURS 0 (omega (arith, within, many, side_in));
 }

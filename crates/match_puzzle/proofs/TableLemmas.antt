@@ -1,5 +1,6 @@
 -- What is looked up.
 use Rattle.std.proofs.Common.{◌≡◌, ◌≢◌, ◌⊎◌, ◌<◌, ◌≤◌, ◌+◌, ◌++◌, ◌∷◌, [], ◌↔◌, ℕ, zero, suc, Bool, List, Option, Some, None, MatchBool, IfSome, Contains, All, length, map, get_or, set, slice_get, arith, refl, ap, sym, ◌∙◌, subst, inl, inr, ⊎_elim}
+use Rattle.match_board.specs.declared.limits.TheConstants.{MOST_COLOURS}
 use Rattle.std.proofs.lemmas.List.{length-map}
 use Rattle.match_board.specs.Board.{cell_count, side_count, Meets, IsBorderPair, IsBorderOrder}
 use Rattle.match_board.specs.declared.figures.Figure.{Figure}
@@ -111,7 +112,7 @@ stands_in_rule s free cell side colour asked = absurd asked
 stands_in_rule s (one c) cell side colour asked = (0, (refl, asked))
 stands_in_rule s (each rules) cell side colour asked = (asked.2, asked.4)
 
-pub rule_below : (p : Task) (cell side : ℕ) (rule : Option ℕ) → IsPuzzle p → ((colour : ℕ) → rule ≡ Some colour → HasRule p cell side colour) → IfSome rule (λ colour. colour < 36)
+pub rule_below : (p : Task) (cell side : ℕ) (rule : Option ℕ) → IsPuzzle p → ((colour : ℕ) → rule ≡ Some colour → HasRule p cell side colour) → IfSome rule (λ colour. colour < MOST_COLOURS)
 rule_below p cell side None puzzle is = tt
 rule_below p cell side (Some colour) puzzle is = let at = stands_in_rule p.board p.border cell side colour (is colour refl).asked in puzzle.border_colours at.0 colour at.1
 
@@ -175,9 +176,9 @@ pub turn_count_is : (board : Figure) (turns : Bool) (border : Border) (tiles : L
 turn_count_is board turns border tiles i t n lt at is = subst (λ w. MatchBool turns (IsPeriod w n) (n ≡ 1)) (sym (word_at tiles i t lt at)) is
 
 -- The words of tiles have colours below 36.
-pub words_coloured : (tiles : List Tile) (i : ℕ) → i < length (map word tiles) → All (λ colour. colour < 36) (get_or (map word tiles) i [])
+pub words_coloured : (tiles : List Tile) (i : ℕ) → i < length (map word tiles) → All (λ colour. colour < MOST_COLOURS) (get_or (map word tiles) i [])
 unfolding word
-words_coloured tiles i lt = let at = word_there tiles i lt in subst (λ w. All (λ colour. colour < 36) w) (sym at.2) at.0.in_range
+words_coloured tiles i lt = let at = word_there tiles i lt in subst (λ w. All (λ colour. colour < MOST_COLOURS) w) (sym at.2) at.0.in_range
 
 -- A list of rules is as long as the border exactly where it has as many as were counted.
 pub long_rules : (s : Figure) (rules : List (Option ℕ)) (count : ℕ) → (pairs : List (ℕ × ℕ)) × IsBorderOrder s pairs × (length pairs ≡ count) →

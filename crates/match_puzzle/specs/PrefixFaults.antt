@@ -1,5 +1,6 @@
 -- Pairs that are listed as a prefix.
 use Rattle.std.specs.Prelude.{◌≡◌, ◌⊎◌, ◌<◌, ◌≤◌, ◌+◌, ℕ, Bool, true, false, List, Option, Some, None, length, slice_get, slice_index_or}
+use Rattle.match_board.specs.declared.limits.TheConstants.{MOST_CELLS, MOST_TILES}
 use Rattle.match_board.specs.Board.{cell_count}
 use Rattle.match_board.specs.First.{Rank, IsFirst}
 use Rattle.match_puzzle.specs.Puzzle.{Task, IsLegal, IsLegalTurn}
@@ -34,18 +35,18 @@ prefix_rank (Turn place) = record { first = place; second = 3; third = 0 }
 abbrev pub IsPrefixFault : Task → List Pair → PrefixFault → Type 0
 IsPrefixFault p pairs = IsFirst prefix_rank (PrefixFails p pairs)
 
--- The cell is one of the board, which has at most 100, from the least on.
+-- The cell is one of the board, which has at most `MOST_CELLS`, from the least on.
 abbrev pub IsNextCell : Task → (least cell : ℕ) → Type 0
-IsNextCell p least cell = (least ≤ cell) × (cell < cell_count p.board) × (cell < 100)
+IsNextCell p least cell = (least ≤ cell) × (cell < cell_count p.board) × (cell < MOST_CELLS)
 
--- The tile is one of the puzzle, which has at most 100, and was not seen.
+-- The tile is one of the puzzle, which has at most `MOST_TILES`, and was not seen.
 abbrev pub IsNewTile : Task → List Bool → (tile : ℕ) → Type 0
-IsNewTile p seen tile = (tile < length p.words) × (tile < 100) × (slice_index_or seen tile false ≡ false)
+IsNewTile p seen tile = (tile < length p.words) × (tile < MOST_TILES) × (slice_index_or seen tile false ≡ false)
 
 -- What is said of the pair at a place: the first kind of fault, by the least cell that it may have and the tiles that were seen.
 abbrev pub TellsOfPair : Task → (place : ℕ) → Pair → (least : ℕ) → List Bool → Option PrefixFault → Type 0
 TellsOfPair p place x least seen None = IsNextCell p least x.cell × IsNewTile p seen x.placement.tile × IsLegal p x.placement
 TellsOfPair p place x least seen (Some (Cell n)) = (n ≡ place) × ((x.cell < least) ⊎ (cell_count p.board ≤ x.cell))
 TellsOfPair p place x least seen (Some (Tile n)) =
-    (n ≡ place) × IsNextCell p least x.cell × ((length p.words ≤ x.placement.tile) ⊎ ((x.placement.tile < 100) × (slice_index_or seen x.placement.tile false ≡ true)))
+    (n ≡ place) × IsNextCell p least x.cell × ((length p.words ≤ x.placement.tile) ⊎ ((x.placement.tile < MOST_TILES) × (slice_index_or seen x.placement.tile false ≡ true)))
 TellsOfPair p place x least seen (Some (Turn n)) = (n ≡ place) × IsNextCell p least x.cell × IsNewTile p seen x.placement.tile × (IsLegalTurn p x.placement → ⊥)

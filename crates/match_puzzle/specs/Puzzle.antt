@@ -1,5 +1,6 @@
 -- What a puzzle asks.
 use Rattle.std.specs.Prelude.{◌≡◌, ◌<◌, ◌^◌, ℕ, Bool, true, List, [], Option, Some, MatchBool, All, map, length, slice_get, slice_index_or}
+use Rattle.match_board.specs.declared.limits.TheConstants.{MOST_COLOURS}
 use Rattle.match_board.specs.Board.{cell_count, side_count, IsBoard, IsBorderPair, IsBorderOrder}
 use Rattle.match_board.specs.declared.figures.Figure.{Figure}
 use Rattle.match_board.specs.Turns.{shown, IsPeriod}
@@ -76,14 +77,14 @@ IsAsLongAsBorder s free = Unit {0}
 IsAsLongAsBorder s (one c) = Unit {0}
 IsAsLongAsBorder s (each rules) = (pairs : List (ℕ × ℕ)) × IsBorderOrder s pairs × (length rules ≡ length pairs)
 
--- as many tiles as cells, with as many sides; triangles may be turned; 36 colours; a rule for each border pair
+-- as many tiles as cells, with as many sides; triangles may be turned; colours that there are; a rule for each border pair
 pub record IsPuzzle (p : Task) : Type 0 where
   pub board : IsBoard p.board
   pub triangles : side_count p.board ≡ 3 → p.turns ≡ true
   pub tiles : length p.words ≡ cell_count p.board
   pub sides : (tile : ℕ) → tile < length p.words → length (word_of p tile) ≡ side_count p.board
-  pub tile_colours : (tile : ℕ) → tile < length p.words → All (λ colour. colour < 36) (word_of p tile)
-  pub border_colours : (place colour : ℕ) → StandsInRule p.border place colour → colour < 36
+  pub tile_colours : (tile : ℕ) → tile < length p.words → All (λ colour. colour < MOST_COLOURS) (word_of p tile)
+  pub border_colours : (place colour : ℕ) → StandsInRule p.border place colour → colour < MOST_COLOURS
   pub border : IsAsLongAsBorder p.board p.border
 
 -- the puzzle of a board and tiles

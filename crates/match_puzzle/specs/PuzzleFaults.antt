@@ -1,5 +1,6 @@
 -- What may be wrong with a puzzle.
 use Rattle.std.specs.Prelude.{◌≡◌, ◌≢◌, ◌<◌, ◌≤◌, ℕ, false, length}
+use Rattle.match_board.specs.declared.limits.TheConstants.{MOST_COLOURS}
 use Rattle.match_board.specs.Board.{cell_count, side_count}
 use Rattle.match_board.specs.First.{Rank}
 use Rattle.match_puzzle.specs.Puzzle.{Task, word_of, StandsInRule, IsAsLongAsBorder}
@@ -11,7 +12,7 @@ abbrev pub PuzzleFails : Task → PuzzleFault → Type 0
 PuzzleFails p FixedTriangles = (side_count p.board ≡ 3) × (p.turns ≡ false)
 PuzzleFails p TileCount = length p.words ≢ cell_count p.board
 PuzzleFails p (TileSides tile) = (tile < length p.words) × (length (word_of p tile) ≢ side_count p.board)
-PuzzleFails p (BadColour place) = (colour : ℕ) × StandsInRule p.border place colour × (36 ≤ colour)
+PuzzleFails p (BadColour place) = (colour : ℕ) × StandsInRule p.border place colour × (MOST_COLOURS ≤ colour)
 PuzzleFails p BorderLength = IsAsLongAsBorder p.board p.border → ⊥
 PuzzleFails p Memory = ⊥
 

@@ -11,7 +11,7 @@ use crate::faults::ArrangementFault;
 use crate::placements::Placement;
 use crate::puzzles::Puzzle;
 use crate::tables::Side;
-use match_board::MOST_CELLS;
+use match_board::limits::MOST_TILES;
 
 impl Puzzle {
     /// The first fault of a list of placements, one for each cell in order, or none where it is an arrangement.
@@ -75,7 +75,7 @@ impl Puzzle {
         requires tiles { HaveTiles self.now placements.now }
         ensures { MatchOption result (StandOnce placements.now) (IsLeast (RepeatsTileAt self.now placements.now)) }
     {
-        let mut seen = [false; MOST_CELLS as usize];
+        let mut seen = [false; MOST_TILES as usize];
         for cell in 0..self.board().cells() {
             let tile = placements[cell as usize].tile as usize;
             if seen[tile] {

@@ -3,7 +3,8 @@
 ghost use Rattle.std.specs.Prelude.{◌≡◌, ◌<◌, ◌≤◌, ◌↔◌, ◌^◌, ℕ, IfOk, MatchOption, MatchBool, Some, length, slice_get};
 ghost use Rattle.match_board.specs.First.{IsLeast};
 
-use match_board::{Board, COLOURS};
+use match_board::Board;
+use match_board::limits::MOST_COLOURS;
 use std::alloc::{AllocError, Global};
 use std::marker::Model;
 
@@ -51,15 +52,15 @@ impl BorderRules {
     fn bad_colour(&self) -> Option<u32>
         requires { length self.now < 2 ^ 32 }
         ensures { MatchOption result
-            ((place colour : ℕ) → slice_get self.now place ≡ Some (Some colour) → colour < 36)
-            (IsLeast (λ place. (colour : ℕ) × (slice_get self.now place ≡ Some (Some colour)) × (36 ≤ colour))) }
+            ((place colour : ℕ) → slice_get self.now place ≡ Some (Some colour) → colour < MOST_COLOURS)
+            (IsLeast (λ place. (colour : ℕ) × (slice_get self.now place ≡ Some (Some colour)) × (MOST_COLOURS ≤ colour))) }
     {
         first_bad_colour(&self.rules)
     }
 
     // One more than the greatest colour.
     fn colour_count(&self) -> u8
-        requires { (place colour : ℕ) → slice_get self.now place ≡ Some (Some colour) → colour < 36 }
+        requires { (place colour : ℕ) → slice_get self.now place ≡ Some (Some colour) → colour < MOST_COLOURS }
         ensures above { (place colour : ℕ) → slice_get self.now place ≡ Some (Some colour) → colour < result }
         ensures least { (other : ℕ) → ((place colour : ℕ) → slice_get self.now place ≡ Some (Some colour) → colour < other) → result ≤ other }
     {
@@ -79,12 +80,12 @@ impl BorderRules {
 fn first_bad_colour(rules: &[Option<u8>]) -> Option<u32>
     requires { length rules.now < 2 ^ 32 }
     ensures { MatchOption result
-        ((place colour : ℕ) → slice_get rules.now place ≡ Some (Some colour) → colour < 36)
-        (IsLeast (λ place. (colour : ℕ) × (slice_get rules.now place ≡ Some (Some colour)) × (36 ≤ colour))) }
+        ((place colour : ℕ) → slice_get rules.now place ≡ Some (Some colour) → colour < MOST_COLOURS)
+        (IsLeast (λ place. (colour : ℕ) × (slice_get rules.now place ≡ Some (Some colour)) × (MOST_COLOURS ≤ colour))) }
 {
     for (place, rule) in rules.iter().enumerate() {
         if let Some(colour) = *rule
-            && colour >= COLOURS
+            && colour >= MOST_COLOURS
         {
             return Some(place as u32);
         }
@@ -94,7 +95,7 @@ fn first_bad_colour(rules: &[Option<u8>]) -> Option<u32>
 
 // One more than the greatest colour of the rules.
 fn colour_count_of(rules: &[Option<u8>]) -> u8
-    requires { (place colour : ℕ) → slice_get rules.now place ≡ Some (Some colour) → colour < 36 }
+    requires { (place colour : ℕ) → slice_get rules.now place ≡ Some (Some colour) → colour < MOST_COLOURS }
     ensures above { (place colour : ℕ) → slice_get rules.now place ≡ Some (Some colour) → colour < result }
     ensures least { (other : ℕ) → ((place colour : ℕ) → slice_get rules.now place ≡ Some (Some colour) → colour < other) → result ≤ other }
 {
@@ -107,7 +108,7 @@ fn colour_count_of(rules: &[Option<u8>]) -> u8
 
 // One more than the greatest colour, with one rule more.
 fn count_with(count: u8, rule: Option<u8>) -> u8
-    requires { (colour : ℕ) → rule ≡ Some colour → colour < 36 }
+    requires { (colour : ℕ) → rule ≡ Some colour → colour < MOST_COLOURS }
     ensures more { count ≤ result }
     ensures above { (colour : ℕ) → rule ≡ Some colour → colour < result }
     ensures least { (other : ℕ) → count ≤ other → ((colour : ℕ) → rule ≡ Some colour → colour < other) → result ≤ other }
@@ -158,19 +159,25 @@ impl Border {
     pub(crate) fn bad_colour(&self) -> Option<u32>
         requires { IsShortRule (rule_of self.now) }
         ensures { MatchOption result
-            ((place colour : ℕ) → StandsInRule (rule_of self.now) place colour → colour < 36)
-            (IsLeast (λ place. (colour : ℕ) × StandsInRule (rule_of self.now) place colour × (36 ≤ colour))) }
+            ((place colour : ℕ) → StandsInRule (rule_of self.now) place colour → colour < MOST_COLOURS)
+            (IsLeast (λ place. (colour : ℕ) × StandsInRule (rule_of self.now) place colour × (MOST_COLOURS ≤ colour))) }
     {
         match self {
             Border::Free => None,
-            Border::One(colour) => { if *colour < COLOURS { None } else { Some(0) } }
+            Border::One(colour) => {
+                if *colour < MOST_COLOURS {
+                    None
+                } else {
+                    Some(0)
+                }
+            }
             Border::Each(rules) => rules.bad_colour(),
         }
     }
 
     // One more than the greatest colour that is asked for.
     pub(crate) fn colour_count(&self) -> u8
-        requires { (place colour : ℕ) → StandsInRule (rule_of self.now) place colour → colour < 36 }
+        requires { (place colour : ℕ) → StandsInRule (rule_of self.now) place colour → colour < MOST_COLOURS }
         ensures above { (place colour : ℕ) → StandsInRule (rule_of self.now) place colour → colour < result }
         ensures least { (other : ℕ) → ((place colour : ℕ) → StandsInRule (rule_of self.now) place colour → colour < other) → result ≤ other }
     {

@@ -18,6 +18,7 @@ use crate::placement_sets::ANY_COLOUR;
 use crate::placements::{Pair, Placement};
 use crate::puzzles::Puzzle;
 use crate::tables::Side;
+use match_board::limits::MOST_COLOURS;
 use std::alloc::{AllocError, Global};
 
 impl<'a> Partial<'a> {
@@ -98,8 +99,8 @@ impl<'a> Partial<'a> {
     fn asked(&self, cell: u16, side: u8) -> u8
         requires cell { cell < cell_count self.now.puzzle.board }
         requires side { side < 4 }
-        ensures most { result ≤ 36 }
-        ensures asked { (colour : ℕ) → IsAsked self.now.puzzle self.now.placed cell side colour ↔ ((result ≡ colour) × (colour < 36)) }
+        ensures most { result ≤ ANY_COLOUR }
+        ensures asked { (colour : ℕ) → IsAsked self.now.puzzle self.now.placed cell side colour ↔ ((result ≡ colour) × (colour < MOST_COLOURS)) }
         ensures puzzle { IsPuzzle self.now.puzzle }
     {
         if side >= self.puzzle().board().sides() {

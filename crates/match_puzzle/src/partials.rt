@@ -9,6 +9,7 @@ use crate::number_sets::NumberSet;
 use crate::placement_sets::ANY_COLOUR;
 use crate::placements::{Pair, Placement};
 use crate::puzzles::Puzzle;
+use match_board::limits::MOST_COLOURS;
 use std::alloc::{AllocError, Global};
 use std::marker::Model;
 
@@ -102,8 +103,8 @@ impl<'a> Partial<'a> {
     pub(crate) fn shown(&self, cell: u16, side: u8) -> u8
         requires cell { cell < cell_count self.now.puzzle.board }
         requires side { side < side_count self.now.puzzle.board }
-        ensures placed { (x : Placement) → Has self.now.placed cell x → (result ≡ colour_of self.now.puzzle x side) × (result < 36) }
-        ensures empty { IsFree self.now.placed cell → result ≡ 36 }
+        ensures placed { (x : Placement) → Has self.now.placed cell x → (result ≡ colour_of self.now.puzzle x side) × (result < MOST_COLOURS) }
+        ensures empty { IsFree self.now.placed cell → result ≡ ANY_COLOUR }
         ensures long { length self.now.placed ≡ cell_count self.now.puzzle.board }
     {
         self.shown[4 * usize::from(cell) + usize::from(side)]
@@ -207,7 +208,7 @@ fn show(shown: &mut Vec<u8>, puzzle: &Puzzle, cell: u16, placement: Placement)
     requires tile { placement.tile < length puzzle.now.words }
     requires cell { 4 * cell + 4 ≤ length shown.old.items }
     ensures long { length shown.new.items ≡ length shown.old.items }
-    ensures shows { (side : ℕ) → side < side_count puzzle.now.board → (slice_index shown.new.items (4 * cell + side) ≡ colour_of puzzle.now placement side) × (slice_index shown.new.items (4 * cell + side) < 36) }
+    ensures shows { (side : ℕ) → side < side_count puzzle.now.board → (slice_index shown.new.items (4 * cell + side) ≡ colour_of puzzle.now placement side) × (slice_index shown.new.items (4 * cell + side) < MOST_COLOURS) }
     ensures others { (place : ℕ) → (place < 4 * cell) ⊎ (4 * cell + 4 ≤ place) → slice_index shown.new.items place ≡ slice_index shown.old.items place }
 {
     for side in 0..puzzle.board().sides() {
@@ -219,7 +220,7 @@ fn show(shown: &mut Vec<u8>, puzzle: &Puzzle, cell: u16, placement: Placement)
 fn hide(shown: &mut Vec<u8>, cell: u16)
     requires { 4 * cell + 4 ≤ length shown.old.items }
     ensures long { length shown.new.items ≡ length shown.old.items }
-    ensures any { (side : ℕ) → side < 4 → slice_index shown.new.items (4 * cell + side) ≡ 36 }
+    ensures any { (side : ℕ) → side < 4 → slice_index shown.new.items (4 * cell + side) ≡ ANY_COLOUR }
     ensures others { (place : ℕ) → (place < 4 * cell) ⊎ (4 * cell + 4 ≤ place) → slice_index shown.new.items place ≡ slice_index shown.old.items place }
 {
     for side in 0..4 {

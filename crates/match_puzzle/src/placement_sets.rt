@@ -7,7 +7,8 @@ ghost use Rattle.match_board.specs.Tile.{word};
 ghost use Rattle.match_puzzle.specs.PlacementSets.{Shows, AreShowing, AreShowingSets};
 
 use crate::number_sets::NumberSet;
-use match_board::{COLOURS, Tile};
+use match_board::Tile;
+use match_board::limits::{MOST_COLOURS, MOST_TILES};
 use std::alloc::{AllocError, Global};
 
 /// What a puzzle keeps of its placements.
@@ -21,11 +22,11 @@ pub(crate) struct PlacementSets {
 }
 
 /// What stands for no colour in particular, where a colour is asked.
-pub(crate) const ANY_COLOUR: u8 = COLOURS;
+pub(crate) const ANY_COLOUR: u8 = MOST_COLOURS;
 
 // For each colour, and for any, and each of four sides the placements that show it there.
 fn showing_sets(alloc: Global, tiles: &[Tile]) -> Result<Vec<NumberSet>, AllocError>
-    requires { length tiles.now ≤ 100 }
+    requires { length tiles.now ≤ MOST_TILES }
     ensures { IfOk result (λ v. AreShowingSets (map word tiles.now) v.items) }
 {
     let places = 4 * (ANY_COLOUR + 1);
@@ -38,7 +39,7 @@ fn showing_sets(alloc: Global, tiles: &[Tile]) -> Result<Vec<NumberSet>, AllocEr
 
 // The placements that show on the side what is asked.
 fn showing_set(tiles: &[Tile], asked: u8, side: u8) -> NumberSet
-    requires { length tiles.now ≤ 100 }
+    requires { length tiles.now ≤ MOST_TILES }
     ensures { AreShowing (map word tiles.now) asked side result }
 {
     let mut set = NumberSet::new();
@@ -51,7 +52,7 @@ fn showing_set(tiles: &[Tile], asked: u8, side: u8) -> NumberSet
 // The turns after which the tile shows on the side what is asked, as bits.
 fn turns_as_asked(tile: &Tile, asked: u8, side: u8) -> u8
     ensures few { result < 16 }
-    ensures turns { (turn : ℕ) → turn < 4 → (bit_at result turn ≡ 1 → asked < 36 → Shows (word tile.now) asked side turn) × ((asked < 36 → Shows (word tile.now) asked side turn) → bit_at result turn ≡ 1) }
+    ensures turns { (turn : ℕ) → turn < 4 → (bit_at result turn ≡ 1 → asked < MOST_COLOURS → Shows (word tile.now) asked side turn) × ((asked < MOST_COLOURS → Shows (word tile.now) asked side turn) → bit_at result turn ≡ 1) }
 {
     if asked >= ANY_COLOUR {
         return 15;
@@ -78,7 +79,7 @@ fn showing_turns(tile: &Tile, colour: u8, side: u8) -> u8
 
 // The placements of each tile with turns below its number of legal ones, at most four.
 fn legal_set(turn_counts: &[u8]) -> NumberSet
-    requires tiles { length turn_counts.now ≤ 100 }
+    requires tiles { length turn_counts.now ≤ MOST_TILES }
     requires turns { All (λ count. count ≤ 4) turn_counts.now }
     ensures { IsListing ◌<◌ (λ n. n % 4 < slice_index turn_counts.now (n / 4)) result }
 {
@@ -96,8 +97,8 @@ impl PlacementSets {
         tiles: &[Tile],
         turn_counts: &[u8],
     ) -> Result<PlacementSets, AllocError>
-        requires tiles { length tiles.now ≤ 100 }
-        requires as_many { length turn_counts.now ≤ 100 }
+        requires tiles { length tiles.now ≤ MOST_TILES }
+        requires as_many { length turn_counts.now ≤ MOST_TILES }
         requires turns { All (λ count. count ≤ 4) turn_counts.now }
         ensures legal { IfOk result (λ sets. IsListing ◌<◌ (λ n. n % 4 < slice_index turn_counts.now (n / 4)) sets.legal) }
         ensures showing { IfOk result (λ sets. AreShowingSets (map word tiles.now) sets.showing.items) }

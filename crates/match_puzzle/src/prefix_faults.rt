@@ -6,7 +6,7 @@ ghost use Rattle.match_puzzle.specs.PrefixFaults.{IsPairList, IsPrefixFault, Tel
 use crate::faults::PrefixFault;
 use crate::placements::Pair;
 use crate::puzzles::Puzzle;
-use match_board::MOST_CELLS;
+use match_board::limits::MOST_TILES;
 
 impl Puzzle {
     /// The first fault of a list of pairs, at its least place, or none where it is a prefix with cells rising.
@@ -14,7 +14,7 @@ impl Puzzle {
     pub fn prefix_fault(&self, pairs: &[Pair]) -> Option<PrefixFault>
         ensures { MatchOption result (IsPairList self.now pairs.now) (IsPrefixFault self.now pairs.now) }
     {
-        let mut seen = [false; MOST_CELLS as usize];
+        let mut seen = [false; MOST_TILES as usize];
         let mut least = 0;
         for (place, pair) in pairs.iter().enumerate() {
             if let Some(fault) = self.pair_fault(place as u32, *pair, least, &seen) {
@@ -28,7 +28,7 @@ impl Puzzle {
 
     // What is wrong with the pair at this place, where these tiles were seen and its cell has to be one from the least on.
     fn pair_fault(&self, place: u32, pair: Pair, least: u16, seen: &[bool]) -> Option<PrefixFault>
-        requires { length seen.now ≡ 100 }
+        requires { length seen.now ≡ MOST_TILES }
         ensures { TellsOfPair self.now place pair least seen.now result }
     {
         let cells = self.board().cells();

@@ -9,9 +9,10 @@ ghost use Rattle.match_puzzle.specs.PuzzleFaults.{PuzzleFails, puzzle_rank};
 use crate::borders::Border;
 use crate::faults::PuzzleFault;
 use crate::number_sets::NumberSet;
-use crate::placement_sets::PlacementSets;
+use crate::placement_sets::{ANY_COLOUR, PlacementSets};
 use crate::placements::Placement;
 use crate::tables::{CellSides, Side, colour_count, odd_tile, sides_table, turn_counts};
+use match_board::limits::MOST_COLOURS;
 use match_board::{Board, Tile};
 use std::alloc::Global;
 use std::marker::Model;
@@ -182,7 +183,7 @@ impl Puzzle {
 
     // The placements that show on the side what is asked, by number.
     pub(crate) fn showing(&self, asked: u8, side: u8) -> &NumberSet
-        requires asked { asked ≤ 36 }
+        requires asked { asked ≤ ANY_COLOUR }
         requires side { side < 4 }
         ensures { AreShowing self.now.words asked side result.now }
     {
@@ -195,7 +196,7 @@ impl Puzzle {
         requires tile { placement.tile < length self.now.words }
         requires side { side < side_count self.now.board }
         ensures colour { result ≡ colour_of self.now placement side }
-        ensures below { result < 36 }
+        ensures below { result < MOST_COLOURS }
     {
         self.tile(placement.tile).shows(placement.turn, side)
     }

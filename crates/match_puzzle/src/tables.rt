@@ -13,6 +13,7 @@ ghost use Rattle.match_puzzle.specs.Colours.{IsColourCount};
 ghost use Rattle.match_puzzle.specs.Tables.{IsSide, AreSides, AreTurnCounts, IsNextNumber};
 
 use crate::borders::Border;
+use match_board::limits::MOST_COLOURS;
 use match_board::{Board, Tile};
 use std::alloc::{AllocError, Global};
 
@@ -103,7 +104,7 @@ fn turn_count(turns: bool, tile: &Tile) -> u8
 
 /// One more than the greatest colour on a tile or in the border's rule.
 pub(crate) fn colour_count(border: &Border, tiles: &[Tile]) -> u8
-    requires { (place colour : ℕ) → StandsInRule (rule_of border.now) place colour → colour < 36 }
+    requires { (place colour : ℕ) → StandsInRule (rule_of border.now) place colour → colour < MOST_COLOURS }
     ensures { (board : Figure) (turns : Bool) → IsColourCount (task_of board turns border.now tiles.now) result }
 {
     let mut count = border.colour_count();

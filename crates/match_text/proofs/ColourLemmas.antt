@@ -1,5 +1,6 @@
 -- Words of colours: a colour, a rule of the border, a tile.
 use Rattle.std.proofs.Common.{◌≡◌, ◌⊎◌, ℕ, ◌+◌, ◌-◌, ◌<◌, ◌≤◌, Bool, true, false, cond, eqb, leb, ◌&&◌, ◌||◌, List, [], ◌∷◌, length, Option, Some, None, Ok, refl, ap, subst, ◌∙◌, arith, codes, inl, inr}
+use Rattle.match_board.specs.declared.limits.TheConstants.{MOST_COLOURS}
 use Rattle.std.specs.List.{AllByRecursion}
 use Rattle.std.specs.Str.{bytes_eq}
 use Rattle.std.proofs.lemmas.Bool.{cases_lt, eqb-true, ne_eqb, lt-ltb, le-ltb, leb-true, le-leb, lt-leb}
@@ -13,7 +14,7 @@ use Rattle.match_text.proofs.WordLemmas.{Spells, judged_ok, judged_ok_is, judged
 
 -- ---- a colour
 
-colour_first : (b c : ℕ) (t u : Bool) → (leb 48 b && leb b 57) ≡ t → (leb 97 b && leb b 122) ≡ u → cond t (some (b - 48)) (cond u (some (b - 87)) None) ≡ some c → (b ≡ colour_character c) × (c < 36)
+colour_first : (b c : ℕ) (t u : Bool) → (leb 48 b && leb b 57) ≡ t → (leb 97 b && leb b 122) ≡ u → cond t (some (b - 48)) (cond u (some (b - 87)) None) ≡ some c → (b ≡ colour_character c) × (c < MOST_COLOURS)
 colour_first b c true u is is' e =
     let range = both (leb 48 b) (leb b 57) is in
     let low : 48 ≤ b = leb-true 48 b range.0 in
@@ -30,10 +31,10 @@ colour_first b c false true is is' e =
     (rw (le-ltb c 10 large) (omega (arith, same, low, high)), omega (arith, same, low, high))
 colour_first b c false false is is' e = absurd cc
 
-colour_is : (b c : ℕ) → colour_of b ≡ some c → (b ≡ colour_character c) × (c < 36)
+colour_is : (b c : ℕ) → colour_of b ≡ some c → (b ≡ colour_character c) × (c < MOST_COLOURS)
 colour_is b c e = colour_first b c (leb 48 b && leb b 57) (leb 97 b && leb b 122) refl refl e
 
-colour_again : (c : ℕ) → c < 36 → colour_of (colour_character c) ≡ some c
+colour_again : (c : ℕ) → c < MOST_COLOURS → colour_of (colour_character c) ≡ some c
 colour_again c fits =
     elim (cases_lt c 10) [
       | inl lt ↦ rw (lt-ltb c 10 lt, le-leb 48 (c + 48) (omega arith), le-leb (c + 48) 57 (omega (arith, lt))) (ap some (omega arith))
@@ -53,17 +54,17 @@ character_other c other lt = ne_eqb (colour_character c) other (omega (arith, lt
 pub clean-colour : (c : ℕ) → is_clean (colour_word c) ≡ true
 clean-colour c = rw (character_other c 32 (omega arith), character_other c 10 (omega arith)) refl
 
-colour_in_is : (word : List ℕ) (c : ℕ) → colour_in word ≡ Ok c → (word ≡ colour_word c) × (c < 36)
+colour_in_is : (word : List ℕ) (c : ℕ) → colour_in word ≡ Ok c → (word ≡ colour_word c) × (c < MOST_COLOURS)
 unfolding colour_in
 colour_in_is [] c e = absurd cc
 colour_in_is (b ∷ []) c e = let h = colour_is b c (or_word_is (colour_of b) c e) in (ap (λ x. x ∷ []) h.0, h.1)
 colour_in_is (b ∷ d ∷ word) c e = absurd cc
 
-colour_in_again : (c : ℕ) → c < 36 → colour_in (colour_word c) ≡ Ok c
+colour_in_again : (c : ℕ) → c < MOST_COLOURS → colour_in (colour_word c) ≡ Ok c
 unfolding colour_in
 colour_in_again c fits = ap or_word (colour_again c fits)
 
-pub spells_colour : Spells colour_in colour_word (λ c. c < 36)
+pub spells_colour : Spells colour_in colour_word (λ c. c < MOST_COLOURS)
 spells_colour = record { is = colour_in_is; passes = colour_in_again }
 
 -- ---- a rule of the border
@@ -93,7 +94,7 @@ clean-rule (Some c) fits = clean-colour c
 -- ---- a tile
 
 abbrev AreColours : List ℕ → Type 0
-AreColours colours = AllByRecursion (λ c. c < 36) colours
+AreColours colours = AllByRecursion (λ c. c < MOST_COLOURS) colours
 
 colours_in_is : (word colours : List ℕ) → colours_in word ≡ Ok colours → (word ≡ tile_word colours) × AreColours colours
 colours_in_is [] colours e = subst (λ (z : List ℕ). ([] ≡ tile_word z) × AreColours z) (judged_ok_is [] colours e) (refl, tt)

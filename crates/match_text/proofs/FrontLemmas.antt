@@ -1,5 +1,6 @@
 -- What a line begins with: a word, or a number of one digit or two and a space.
 use Rattle.std.proofs.Common.{◌≡◌, ◌≢◌, ℕ, suc, ◌+◌, ◌-◌, ◌*◌, ◌<◌, ◌≤◌, ◌||◌, Bool, true, false, not, eqb, ltb, List, [], ◌∷◌, ◌++◌, length, get_or, position, take, drop, Option, Some, None, Ok, refl, sym, ◌∙◌, append_assoc, arith}
+use Rattle.match_board.specs.declared.limits.TheConstants.{LAST_TILE, LAST_TURN}
 use Rattle.std.specs.List.{onto_first}
 use Rattle.std.specs.Str.{bytes_eq}
 use Rattle.std.specs.Option.{is_some}
@@ -159,10 +160,10 @@ abbrev pub IsPlacementFront : List ℕ → List ℕ → Placement → Type 0
 IsPlacementFront line others p = (word : List ℕ) × (words_of line ≡ word ∷ words_of others) × (placement_in word ≡ Ok p)
 
 placement_is : (word tile_word turn_word : List ℕ) (tile turn : ℕ) → cut_at 46 word ≡ Some (tile_word, turn_word) → (is_number tile_word ≡ true) × (digits_value 10 tile_word ≡ tile) → (is_number turn_word ≡ true) × (digits_value 10 turn_word ≡ turn)
-    → tile ≤ 99 → turn ≤ 3 → placement_in word ≡ Ok (record { tile = tile; turn = turn })
+    → tile ≤ LAST_TILE → turn ≤ LAST_TURN → placement_in word ≡ Ok (record { tile = tile; turn = turn })
 unfolding placement_in
 placement_is word tile_word turn_word tile turn cut first second low high =
-    rw (cut, number_in_range 0 99 tile tile_word first.0 first.1 (omega arith) low, number_in_range 0 3 turn turn_word second.0 second.1 (omega arith) high) refl
+    rw (cut, number_in_range 0 LAST_TILE tile tile_word first.0 first.1 (omega arith) low, number_in_range 0 LAST_TURN turn turn_word second.0 second.1 (omega arith) high) refl
 
 pub placement_front : (line after : List ℕ) (tile turn : ℕ) → IsDigitsFront line after tile → tile < 100 → 3 ≤ length after → get_or after 0 0 ≡ 46 → 48 ≤ get_or after 1 0 → get_or after 1 0 ≤ 51 → get_or after 2 0 ≡ 32 → turn + 48 ≡ get_or after 1 0
     → IsPlacementFront line (take (length after - 3) (drop 3 after)) (record { tile = tile; turn = turn })

@@ -1,5 +1,6 @@
 -- Each puzzle is within the limits of its text.
 use Rattle.std.proofs.Common.{◌≡◌, ◌⊎◌, ◌<◌, ◌≤◌, ◌+◌, ◌*◌, ℕ, zero, suc, List, [], ◌∷◌, All, length, get_or, Option, Some, None, arith, refl, sym, subst, inl, inr, ⊎_elim}
+use Rattle.match_board.specs.declared.limits.TheConstants.{MOST_CELLS, MOST_LENGTH, MOST_RULES, MOST_COLOURS}
 use Rattle.std.specs.Prelude.{slice_get, slice_index_or}
 use Rattle.std.specs.List.{AllByRecursion}
 use Rattle.std.proofs.lemmas.List.Elements.{All-contains_itself}
@@ -12,7 +13,7 @@ use Rattle.match_text.specs.PuzzleSpelling.{IsFigureWithin, IsRuleWithin, IsBord
 
 -- ---- boards
 
-factors_within : (a b : ℕ) → 1 ≤ a * b → a * b ≤ 100 → (a ≤ 100) × (b ≤ 100)
+factors_within : (a b : ℕ) → 1 ≤ a * b → a * b ≤ MOST_CELLS → (a ≤ MOST_LENGTH) × (b ≤ MOST_LENGTH)
 factors_within zero b low high = absurd (omega (arith, low))
 factors_within (suc a) zero low high = absurd (omega (arith, low))
 factors_within (suc a) (suc b) low high = (omega (arith, high), omega (arith, high))
@@ -80,7 +81,7 @@ rises s pairs order (suc i) lt =
     let few : side_count s ≤ 4 = ⊎_elim (λ e. omega (arith, e)) (λ e. omega (arith, e)) (three_or_four s) in
     ⊎_elim (λ less. omega (arith, so_far, pair.side_in, few, less)) (λ same. omega (arith, so_far, same.0, same.1)) (order.rising i (suc i) (0, 0) (omega arith) lt)
 
-few_pairs : (s : Figure) → cell_count s ≤ 100 → (pairs : List (ℕ × ℕ)) → IsBorderOrder s pairs → (n : ℕ) → length pairs ≡ n → n ≤ 400
+few_pairs : (s : Figure) → cell_count s ≤ MOST_CELLS → (pairs : List (ℕ × ℕ)) → IsBorderOrder s pairs → (n : ℕ) → length pairs ≡ n → n ≤ MOST_RULES
 few_pairs s most pairs order zero e = omega arith
 few_pairs s most pairs order (suc n) e =
     let last : n < length pairs = omega (arith, e) in
@@ -94,12 +95,12 @@ some_pair s some pairs order = let at = order.all (0, outer_side s) (outer_pair 
 
 -- ---- rules and words
 
-rules_within : (rules : List (Option ℕ)) → ((place colour : ℕ) → slice_get rules place ≡ Some (Some colour) → colour < 36) → AllByRecursion IsRuleWithin rules
+rules_within : (rules : List (Option ℕ)) → ((place colour : ℕ) → slice_get rules place ≡ Some (Some colour) → colour < MOST_COLOURS) → AllByRecursion IsRuleWithin rules
 rules_within [] h = tt
 rules_within (None ∷ rules) h = (tt, rules_within rules (λ place colour e. h (suc place) colour e))
 rules_within (Some c ∷ rules) h = (h 0 c refl, rules_within rules (λ place colour e. h (suc place) colour e))
 
-border_within : (s : Figure) → IsBoard s → (border : BorderRule) → IsAsLongAsBorder s border → ((place colour : ℕ) → StandsInRule border place colour → colour < 36) → IsBorderWithin border
+border_within : (s : Figure) → IsBoard s → (border : BorderRule) → IsAsLongAsBorder s border → ((place colour : ℕ) → StandsInRule border place colour → colour < MOST_COLOURS) → IsBorderWithin border
 border_within s is free long colours = tt
 border_within s is (one c) long colours = colours 0 c (refl, refl)
 border_within s is (each rules) long colours =
@@ -107,12 +108,12 @@ border_within s is (each rules) long colours =
     let few = few_pairs s is.1 long.0 long.1 (length long.0) refl in
     (omega (arith, some, long.2), omega (arith, few, long.2), rules_within rules colours)
 
-colours_within : (word : List ℕ) → All (λ c. c < 36) word → AllByRecursion (λ c. c < 36) word
+colours_within : (word : List ℕ) → All (λ c. c < MOST_COLOURS) word → AllByRecursion (λ c. c < MOST_COLOURS) word
 colours_within [] h = tt
 colours_within (c ∷ word) h = (h 0 0 (omega arith), colours_within word (λ k d lt. h (suc k) d (omega (arith, lt))))
 
 words_within : (sides : ℕ) → (sides ≡ 3) ⊎ (sides ≡ 4) → (words : List (List ℕ)) → ((tile : ℕ) → tile < length words → length (slice_index_or words tile []) ≡ sides)
-    → ((tile : ℕ) → tile < length words → All (λ c. c < 36) (slice_index_or words tile [])) → AllByRecursion IsWordWithin words
+    → ((tile : ℕ) → tile < length words → All (λ c. c < MOST_COLOURS) (slice_index_or words tile [])) → AllByRecursion IsWordWithin words
 words_within sides few [] long colours = tt
 words_within sides few (word ∷ words) long colours = (
   (subst (λ n. (n ≡ 3) ⊎ (n ≡ 4)) (sym (long 0 (omega arith))) few, colours_within word (colours 0 (omega arith))),

@@ -1,5 +1,6 @@
 -- The list that is read is the one that was written, and what was written is read again.
 use Rattle.std.proofs.Common.{◌≡◌, ◌≢◌, ℕ, ◌+◌, ◌<◌, ◌≤◌, List, [], ◌∷◌, ◌++◌, length, take, map, Result, Ok, Err, refl, sym, ap, subst, ◌∙◌, append_assoc, zero-add, arith, codes}
+use Rattle.match_board.specs.declared.limits.TheConstants.{MOST_CELLS, MOST_ARRANGEMENTS}
 use Rattle.std.specs.Prelude.{IfOk}
 use Rattle.std.specs.Global.{Vec}
 use Rattle.std.specs.List.{flat_map}
@@ -21,7 +22,7 @@ use Rattle.match_text.proofs.WritingLemmas.{text_of-append}
 
 takes_arrangement : TakesLines arrangement_line (λ row. arrangement_words row ∷ []) IsRowWithin
 unfolding arrangement_line
-takes_arrangement = takes_line (some_entries 100 placement_in) arrangement_words IsRowWithin (takes_entries placement_in placement_word IsPlacementWithin spells_placement 100) (λ row fits. clean-row row fits.0 fits.2)
+takes_arrangement = takes_line (some_entries MOST_CELLS placement_in) arrangement_words IsRowWithin (takes_entries placement_in placement_word IsPlacementWithin spells_placement MOST_CELLS) (λ row fits. clean-row row fits.0 fits.2)
 
 abbrev row_lines : List (List Placement) → List (List (List ℕ))
 row_lines rows = flat_map (λ row. arrangement_words row ∷ []) rows
@@ -32,13 +33,13 @@ lines_are rows = ap (λ ls. list_head (length rows) ++ (ls ++ end_lines)) (sym (
 list_is : (p : Place) (x : List (List Placement) × Place) → list_text p ≡ Ok x → (p.ahead ≡ text_of (list_lines x.0)) × IsListWithin x.0
 unfolding list_text
 list_is p x e =
-    let o = bind_ok (opening (codes "list") p) (λ _. counted (codes "arrangements") 0 1000000 >>= λ n. times n arrangement_line >>= λ rows. closing >>= λ _. give rows) x e in
-    let a = bind_ok (counted (codes "arrangements") 0 1000000 o.0.1) (λ n. times n arrangement_line >>= λ rows. closing >>= λ _. give rows) x o.2 in
+    let o = bind_ok (opening (codes "list") p) (λ _. counted (codes "arrangements") 0 MOST_ARRANGEMENTS >>= λ n. times n arrangement_line >>= λ rows. closing >>= λ _. give rows) x e in
+    let a = bind_ok (counted (codes "arrangements") 0 MOST_ARRANGEMENTS o.0.1) (λ n. times n arrangement_line >>= λ rows. closing >>= λ _. give rows) x o.2 in
     let b = bind_ok (times a.0.0 arrangement_line a.0.1) (λ rows. closing >>= λ _. give rows) x a.2 in
     let d = bind_ok (closing b.0.1) (λ _. give b.0.0) x b.2 in
     let rows = b.0.0 in
     let zero_th = (takes_opening (codes "list") refl).is p o.0.0 o.0.1 o.1 in
-    let one = (takes_counted (codes "arrangements") 0 1000000 refl (omega arith)).is o.0.1 a.0.0 a.0.1 a.1 in
+    let one = (takes_counted (codes "arrangements") 0 MOST_ARRANGEMENTS refl (omega arith)).is o.0.1 a.0.0 a.0.1 a.1 in
     let two = times_is arrangement_line (λ row. arrangement_words row ∷ []) IsRowWithin takes_arrangement a.0.0 a.0.1 rows b.0.1 b.1 in
     let three : b.0.1.ahead ≡ text_of end_lines ++ [] = closing_is b.0.1 d.0 d.1 ∙ sym (append-nil (text_of end_lines)) in
     let later = lines_then a.0.1.ahead (row_lines rows) end_lines b.0.1.ahead [] two.0 three in
@@ -46,7 +47,7 @@ list_is p x e =
     let first : p.ahead ≡ text_of (list_head (length rows)) ++ a.0.1.ahead = subst (λ n. p.ahead ≡ text_of (list_head n) ++ a.0.1.ahead) (sym two.1) head in
     let whole = lines_then p.ahead (list_head (length rows)) (row_lines rows ++ end_lines) a.0.1.ahead [] first later in
     let spelled : p.ahead ≡ text_of (list_lines rows) = whole ∙ append-nil (text_of (list_head (length rows) ++ (row_lines rows ++ end_lines))) ∙ ap text_of (sym (lines_are rows)) in
-    let small : length rows ≤ 1000000 = omega (arith, one.1.1, two.1) in
+    let small : length rows ≤ MOST_ARRANGEMENTS = omega (arith, one.1.1, two.1) in
     subst (λ (z : List (List Placement) × Place). (p.ahead ≡ text_of (list_lines z.0)) × IsListWithin z.0) (ok_is (rows, d.0.1) x d.2) (spelled, (small, two.2))
 
 list_again : (rows : List (List Placement)) → IsListWithin rows → (end : ℕ) × (list_text (start (text_of (list_lines rows))) ≡ Ok (rows, place end [] []))
@@ -55,7 +56,7 @@ list_again rows fits =
     let last = text_of end_lines in
     let second = count_words (codes "arrangements") (length rows) ∷ [] in
     let zero_th = (takes_opening (codes "list") refl).passes tt tt 0 [] (text_of second ++ (text_of (row_lines rows) ++ last)) in
-    let one = (takes_counted (codes "arrangements") 0 1000000 refl (omega arith)).passes (length rows) (omega arith, fits.0) zero_th.0 [] (text_of (row_lines rows) ++ last) in
+    let one = (takes_counted (codes "arrangements") 0 MOST_ARRANGEMENTS refl (omega arith)).passes (length rows) (omega arith, fits.0) zero_th.0 [] (text_of (row_lines rows) ++ last) in
     let two = times_again arrangement_line (λ row. arrangement_words row ∷ []) IsRowWithin takes_arrangement rows fits.1 one.0 last in
     let three = closing_again two.0 [] in
     let apart : text_of (list_lines rows) ≡ text_of (first_words (codes "list") ∷ []) ++ (text_of second ++ (text_of (row_lines rows) ++ last)) =
@@ -68,19 +69,19 @@ list_again rows fits =
 
 cuts_arrangement : CutsShort arrangement_line
 unfolding arrangement_line
-cuts_arrangement = cuts_line (some_entries 100 placement_in) (cuts_some_entries 100 placement_in)
+cuts_arrangement = cuts_line (some_entries MOST_CELLS placement_in) (cuts_some_entries MOST_CELLS placement_in)
 
 cuts_list : CutsShort list_text
 unfolding list_text
-cuts_list = cuts_bind (opening (codes "list")) (λ _. counted (codes "arrangements") 0 1000000 >>= λ n. times n arrangement_line >>= λ rows. closing >>= λ _. give rows) (cuts_opening (codes "list"))
-    (λ _. cuts_bind (counted (codes "arrangements") 0 1000000) (λ n. times n arrangement_line >>= λ rows. closing >>= λ _. give rows) (cuts_counted (codes "arrangements") 0 1000000)
+cuts_list = cuts_bind (opening (codes "list")) (λ _. counted (codes "arrangements") 0 MOST_ARRANGEMENTS >>= λ n. times n arrangement_line >>= λ rows. closing >>= λ _. give rows) (cuts_opening (codes "list"))
+    (λ _. cuts_bind (counted (codes "arrangements") 0 MOST_ARRANGEMENTS) (λ n. times n arrangement_line >>= λ rows. closing >>= λ _. give rows) (cuts_counted (codes "arrangements") 0 MOST_ARRANGEMENTS)
     (λ n. cuts_bind (times n arrangement_line) (λ rows. closing >>= λ _. give rows) (cuts_times n arrangement_line cuts_arrangement)
     (λ rows. cuts_bind closing (λ _. give rows) cuts_closing (λ _. cuts_give rows))))
 
 list_leaves : LeavesNothing list_text
 unfolding list_text
-list_leaves = leaves_after (opening (codes "list")) (λ _. counted (codes "arrangements") 0 1000000 >>= λ n. times n arrangement_line >>= λ rows. closing >>= λ _. give rows)
-    (λ _. leaves_after (counted (codes "arrangements") 0 1000000) (λ n. times n arrangement_line >>= λ rows. closing >>= λ _. give rows)
+list_leaves = leaves_after (opening (codes "list")) (λ _. counted (codes "arrangements") 0 MOST_ARRANGEMENTS >>= λ n. times n arrangement_line >>= λ rows. closing >>= λ _. give rows)
+    (λ _. leaves_after (counted (codes "arrangements") 0 MOST_ARRANGEMENTS) (λ n. times n arrangement_line >>= λ rows. closing >>= λ _. give rows)
     (λ n. leaves_after (times n arrangement_line) (λ rows. closing >>= λ _. give rows) (λ rows. leaves_closing rows)))
 
 -- ---- the laws of `list_of`

@@ -1,5 +1,6 @@
 -- The puzzle that is read is the one that was written, and what was written is read again.
 use Rattle.std.proofs.Common.{◌≡◌, ℕ, ◌+◌, ◌<◌, ◌≤◌, Bool, List, [], ◌∷◌, ◌++◌, length, take, map, Ok, refl, sym, ap, subst, ◌∙◌, zero-add, arith, codes}
+use Rattle.match_board.specs.declared.limits.TheConstants.{MOST_TILES}
 use Rattle.std.specs.List.{flat_map, AllByRecursion}
 use Rattle.std.proofs.lemmas.List.{append-nil}
 use Rattle.std.proofs.lemmas.List.Concat.{flat_map_single}
@@ -28,7 +29,7 @@ abbrev after_count : Figure → Bool → BorderRule → ℕ → Read Task
 after_count board turns border count = times count tile_line >>= λ words. after_tiles board turns border words
 
 abbrev after_border : Figure → Bool → BorderRule → Read Task
-after_border board turns border = counted (codes "tiles") 1 100 >>= λ count. after_count board turns border count
+after_border board turns border = counted (codes "tiles") 1 MOST_TILES >>= λ count. after_count board turns border count
 
 abbrev after_turns : Figure → Bool → Read Task
 after_turns board turns = border_line >>= λ border. after_border board turns border
@@ -65,13 +66,13 @@ lines_are p = ap (λ ls. first_line ++ ((board_words p.board ∷ []) ++ ((turns_
 -- ---- reading
 
 tiles_is : (board : Figure) (turns : Bool) (border : BorderRule) (p : Place) (x : Task × Place) → after_border board turns border p ≡ Ok x
-    → (words : List (List ℕ)) × (x.0 ≡ task board turns border words) × (p.ahead ≡ text_of (from_count words) ++ []) × (1 ≤ length words) × (length words ≤ 100) × AllByRecursion IsWordWithin words
+    → (words : List (List ℕ)) × (x.0 ≡ task board turns border words) × (p.ahead ≡ text_of (from_count words) ++ []) × (1 ≤ length words) × (length words ≤ MOST_TILES) × AllByRecursion IsWordWithin words
 tiles_is board turns border p x e =
-    let n = bind_ok (counted (codes "tiles") 1 100 p) (after_count board turns border) x e in
+    let n = bind_ok (counted (codes "tiles") 1 MOST_TILES p) (after_count board turns border) x e in
     let w = bind_ok (times n.0.0 tile_line n.0.1) (after_tiles board turns border) x n.2 in
     let d = bind_ok (closing w.0.1) (λ _. give (task board turns border w.0.0)) x w.2 in
     let words = w.0.0 in
-    let one = (takes_counted (codes "tiles") 1 100 refl (omega arith)).is p n.0.0 n.0.1 n.1 in
+    let one = (takes_counted (codes "tiles") 1 MOST_TILES refl (omega arith)).is p n.0.0 n.0.1 n.1 in
     let two = times_is tile_line (λ word. tile_words word ∷ []) IsWordWithin takes_tile n.0.0 n.0.1 words w.0.1 w.1 in
     let three : w.0.1.ahead ≡ text_of end_lines ++ [] = closing_is w.0.1 d.0 d.1 ∙ sym (append-nil (text_of end_lines)) in
     let later = lines_then n.0.1.ahead (lines_of_tiles words) end_lines w.0.1.ahead [] two.0 three in
@@ -133,7 +134,7 @@ puzzle_again p fits =
     let two = takes_board.passes p.board fits.board one.0 [] turns in
     let three = takes_turns.passes p.turns tt two.0 [] border in
     let four = takes_border.passes p.border fits.border three.0 [] count in
-    let five = (takes_counted (codes "tiles") 1 100 refl (omega arith)).passes (length p.words) (fits.some_tiles, fits.few_tiles) four.0 [] tiles in
+    let five = (takes_counted (codes "tiles") 1 MOST_TILES refl (omega arith)).passes (length p.words) (fits.some_tiles, fits.few_tiles) four.0 [] tiles in
     let six = times_again tile_line (λ word. tile_words word ∷ []) IsWordWithin takes_tile p.words fits.words five.0 last in
     let seven = closing_again six.0 [] in
     (seven.0, rw (puzzle_parts p, sym (flat_map_single tile_words p.words), one.1, two.1, three.1, four.1, five.1, six.1, seven.1) refl)
@@ -146,7 +147,7 @@ cuts_puzzle = cuts_bind (opening (codes "match")) (λ _. after_opening) (cuts_op
     (λ _. cuts_bind board_line after_board cuts_board
     (λ board. cuts_bind turns_line (after_turns board) cuts_turns
     (λ turns. cuts_bind border_line (after_border board turns) cuts_border
-    (λ border. cuts_bind (counted (codes "tiles") 1 100) (after_count board turns border) (cuts_counted (codes "tiles") 1 100)
+    (λ border. cuts_bind (counted (codes "tiles") 1 MOST_TILES) (after_count board turns border) (cuts_counted (codes "tiles") 1 MOST_TILES)
     (λ count. cuts_bind (times count tile_line) (after_tiles board turns border) (cuts_times count tile_line cuts_tile)
     (λ words. cuts_bind closing (λ _. give (task board turns border words)) cuts_closing (λ _. cuts_give (task board turns border words))))))))
 
@@ -156,7 +157,7 @@ puzzle_leaves = leaves_after (opening (codes "match")) (λ _. after_opening)
     (λ _. leaves_after board_line after_board
     (λ board. leaves_after turns_line (after_turns board)
     (λ turns. leaves_after border_line (after_border board turns)
-    (λ border. leaves_after (counted (codes "tiles") 1 100) (after_count board turns border)
+    (λ border. leaves_after (counted (codes "tiles") 1 MOST_TILES) (after_count board turns border)
     (λ count. leaves_after (times count tile_line) (after_tiles board turns border)
     (λ words. leaves_closing (task board turns border words)))))))
 

@@ -1,5 +1,6 @@
 -- The lines of a puzzle: what is read is what was written, and what was written is read again.
 use Rattle.std.proofs.Common.{◌≡◌, ℕ, ◌<◌, ◌≤◌, Bool, true, false, cond, List, [], ◌∷◌, ◌++◌, length, map, Ok, Err, refl, ap, subst, ◌∙◌, arith, codes}
+use Rattle.match_board.specs.declared.limits.TheConstants.{MOST_LENGTH, MOST_RULES, MOST_COLOURS}
 use Rattle.std.specs.Fmt.{decimal}
 use Rattle.std.specs.List.{AllByRecursion}
 use Rattle.std.specs.Str.{bytes_eq}
@@ -52,8 +53,8 @@ spells_board_kind = record {
   passes = λ kind fits. board_kind_again kind;
 }
 
-takes_size : TakesWords (word_by (number_in 0 100)) (λ n. decimal n ∷ []) (λ n. (0 ≤ n) × (n ≤ 100))
-takes_size = takes_word (number_in 0 100) decimal (λ n. (0 ≤ n) × (n ≤ 100)) (spells_number 0 100 (omega arith))
+takes_size : TakesWords (word_by (number_in 0 MOST_LENGTH)) (λ n. decimal n ∷ []) (λ n. (0 ≤ n) × (n ≤ MOST_LENGTH))
+takes_size = takes_word (number_in 0 MOST_LENGTH) decimal (λ n. (0 ≤ n) × (n ≤ MOST_LENGTH)) (spells_number 0 MOST_LENGTH (omega arith))
 
 -- what a board's numbers were read from
 abbrev IsOfKind : BoardKind → Figure → Type 0
@@ -65,8 +66,8 @@ IsBoardRead kind p z = (p.words ≡ size_words z.0 ++ z.1.words) × (p.ahead ≡
 rectangle_is : (p : Place) (x : Figure) (q : Place) → board_size Rectangle p ≡ Ok (x, q) → IsBoardRead Rectangle p (x, q)
 unfolding board_size kind_of
 rectangle_is p x q e =
-    let a = bind_ok (word_by (number_in 0 100) p) (λ width. word_by (number_in 0 100) >>= λ height. give (figures.Rectangle width height)) (x, q) e in
-    let b = bind_ok (word_by (number_in 0 100) a.0.1) (λ height. give (figures.Rectangle a.0.0 height)) (x, q) a.2 in
+    let a = bind_ok (word_by (number_in 0 MOST_LENGTH) p) (λ width. word_by (number_in 0 MOST_LENGTH) >>= λ height. give (figures.Rectangle width height)) (x, q) e in
+    let b = bind_ok (word_by (number_in 0 MOST_LENGTH) a.0.1) (λ height. give (figures.Rectangle a.0.0 height)) (x, q) a.2 in
     let w = takes_size.is p a.0.0 a.0.1 a.1 in
     let h = takes_size.is a.0.1 b.0.0 b.0.1 b.1 in
     subst (IsBoardRead Rectangle p) (ok_is (figures.Rectangle a.0.0 b.0.0, b.0.1) (x, q) b.2) (w.0 ∙ ap (λ ws. decimal a.0.0 ∷ ws) h.0, w.1 ∙ h.1, (refl, (w.2.1, h.2.1)))
@@ -74,14 +75,14 @@ rectangle_is p x q e =
 triangle_is : (p : Place) (x : Figure) (q : Place) → board_size Triangle p ≡ Ok (x, q) → IsBoardRead Triangle p (x, q)
 unfolding board_size kind_of
 triangle_is p x q e =
-    let a = bind_ok (word_by (number_in 0 100) p) (λ size. give (figures.Triangle size)) (x, q) e in
+    let a = bind_ok (word_by (number_in 0 MOST_LENGTH) p) (λ size. give (figures.Triangle size)) (x, q) e in
     let n = takes_size.is p a.0.0 a.0.1 a.1 in
     subst (IsBoardRead Triangle p) (ok_is (figures.Triangle a.0.0, a.0.1) (x, q) a.2) (n.0, n.1, (refl, n.2.1))
 
 hexagon_is : (p : Place) (x : Figure) (q : Place) → board_size Hexagon p ≡ Ok (x, q) → IsBoardRead Hexagon p (x, q)
 unfolding board_size kind_of
 hexagon_is p x q e =
-    let a = bind_ok (word_by (number_in 0 100) p) (λ size. give (figures.Hexagon size)) (x, q) e in
+    let a = bind_ok (word_by (number_in 0 MOST_LENGTH) p) (λ size. give (figures.Hexagon size)) (x, q) e in
     let n = takes_size.is p a.0.0 a.0.1 a.1 in
     subst (IsBoardRead Hexagon p) (ok_is (figures.Hexagon a.0.0, a.0.1) (x, q) a.2) (n.0, n.1, (refl, n.2.1))
 
@@ -137,10 +138,10 @@ takes_board =
 
 cuts_size : (kind : BoardKind) → CutsShort (board_size kind)
 unfolding board_size
-cuts_size Rectangle = cuts_bind (word_by (number_in 0 100)) (λ width. word_by (number_in 0 100) >>= λ height. give (figures.Rectangle width height)) (cuts_word (number_in 0 100))
-    (λ width. cuts_bind (word_by (number_in 0 100)) (λ height. give (figures.Rectangle width height)) (cuts_word (number_in 0 100)) (λ height. cuts_give (figures.Rectangle width height)))
-cuts_size Triangle = cuts_bind (word_by (number_in 0 100)) (λ size. give (figures.Triangle size)) (cuts_word (number_in 0 100)) (λ size. cuts_give (figures.Triangle size))
-cuts_size Hexagon = cuts_bind (word_by (number_in 0 100)) (λ size. give (figures.Hexagon size)) (cuts_word (number_in 0 100)) (λ size. cuts_give (figures.Hexagon size))
+cuts_size Rectangle = cuts_bind (word_by (number_in 0 MOST_LENGTH)) (λ width. word_by (number_in 0 MOST_LENGTH) >>= λ height. give (figures.Rectangle width height)) (cuts_word (number_in 0 MOST_LENGTH))
+    (λ width. cuts_bind (word_by (number_in 0 MOST_LENGTH)) (λ height. give (figures.Rectangle width height)) (cuts_word (number_in 0 MOST_LENGTH)) (λ height. cuts_give (figures.Rectangle width height)))
+cuts_size Triangle = cuts_bind (word_by (number_in 0 MOST_LENGTH)) (λ size. give (figures.Triangle size)) (cuts_word (number_in 0 MOST_LENGTH)) (λ size. cuts_give (figures.Triangle size))
+cuts_size Hexagon = cuts_bind (word_by (number_in 0 MOST_LENGTH)) (λ size. give (figures.Hexagon size)) (cuts_word (number_in 0 MOST_LENGTH)) (λ size. cuts_give (figures.Hexagon size))
 
 pub cuts_board : CutsShort board_line
 unfolding board_line
@@ -220,11 +221,11 @@ IsBorderOfKind kind border = (border_kind_of border ≡ kind) × IsBorderWithin 
 abbrev IsBorderRead : BorderKind → Place → BorderRule × Place → Type 0
 IsBorderRead kind p z = (p.words ≡ rest_words z.0) × (p.ahead ≡ z.1.ahead) × IsBorderOfKind kind z.0
 
-takes_colour : TakesRest (word_by colour_in) (λ c. colour_word c ∷ []) (λ c. c < 36)
-takes_colour = takes_all (word_by colour_in) (λ c. colour_word c ∷ []) (λ c. c < 36) (takes_word colour_in colour_word (λ c. c < 36) spells_colour)
+takes_colour : TakesRest (word_by colour_in) (λ c. colour_word c ∷ []) (λ c. c < MOST_COLOURS)
+takes_colour = takes_all (word_by colour_in) (λ c. colour_word c ∷ []) (λ c. c < MOST_COLOURS) (takes_word colour_in colour_word (λ c. c < MOST_COLOURS) spells_colour)
 
-takes_rules : TakesRest (some_entries 400 rule_in) (map rule_word) (λ rules. (0 < length rules) × (length rules ≤ 400) × AllByRecursion IsRuleWithin rules)
-takes_rules = takes_entries rule_in rule_word IsRuleWithin spells_rule 400
+takes_rules : TakesRest (some_entries MOST_RULES rule_in) (map rule_word) (λ rules. (0 < length rules) × (length rules ≤ MOST_RULES) × AllByRecursion IsRuleWithin rules)
+takes_rules = takes_entries rule_in rule_word IsRuleWithin spells_rule MOST_RULES
 
 rule_is : (kind : BorderKind) (p : Place) (x : BorderRule) (q : Place) → border_rule kind p ≡ Ok (x, q) → q.words ≡ [] → IsBorderRead kind p (x, q)
 unfolding border_rule border_kind_of
@@ -237,7 +238,7 @@ rule_is kinds.One p x q e none =
     let h = takes_colour.is p a.0.0 a.0.1 a.1 (ap (λ (z : BorderRule × Place). z.1.words) same ∙ none) in
     subst (IsBorderRead kinds.One p) same (h.0, h.1, (refl, h.2))
 rule_is kinds.Each p x q e none =
-    let a = bind_ok (some_entries 400 rule_in p) (λ rules. give (each rules)) (x, q) e in
+    let a = bind_ok (some_entries MOST_RULES rule_in p) (λ rules. give (each rules)) (x, q) e in
     let same = ok_is (each a.0.0, a.0.1) (x, q) a.2 in
     let h = takes_rules.is p a.0.0 a.0.1 a.1 (ap (λ (z : BorderRule × Place). z.1.words) same ∙ none) in
     subst (IsBorderRead kinds.Each p) same (h.0, h.1, (refl, h.2))
@@ -284,7 +285,7 @@ cuts_rule : (kind : BorderKind) → CutsShort (border_rule kind)
 unfolding border_rule
 cuts_rule kinds.Free = cuts_give free
 cuts_rule kinds.One = cuts_bind (word_by colour_in) (λ colour. give (one colour)) (cuts_word colour_in) (λ colour. cuts_give (one colour))
-cuts_rule kinds.Each = cuts_bind (some_entries 400 rule_in) (λ rules. give (each rules)) (cuts_some_entries 400 rule_in) (λ rules. cuts_give (each rules))
+cuts_rule kinds.Each = cuts_bind (some_entries MOST_RULES rule_in) (λ rules. give (each rules)) (cuts_some_entries MOST_RULES rule_in) (λ rules. cuts_give (each rules))
 
 pub cuts_border : CutsShort border_line
 unfolding border_line

@@ -1,5 +1,6 @@
 -- What reading a puzzle comes to.
 use Rattle.std.proofs.Common.{◌≡◌, ◌<◌, ◌≤◌, ◌+◌, ℕ, List, length, take, Result, Ok, Err, sym, ap, subst, ◌∙◌, arith}
+use Rattle.match_board.specs.declared.limits.TheConstants.{MOST_TILES}
 use Rattle.std.specs.Prelude.{IfOk}
 use Rattle.match_board.specs.declared.boards.BoardFault.{BoardFault}
 use Rattle.match_board.specs.declared.boards.BoardFault.TheVariants.{Empty, TooLarge}
@@ -29,7 +30,7 @@ short_rule (each rules) within = omega (arith, within.1)
 pub said_border : (text : List ℕ) (said : Task) → puzzle_of text ≡ Ok said → IsShortRule said.border
 said_border text said e = short_rule said.border (puzzle_found text said e).0.border
 
-pub said_tiles : (text : List ℕ) (said : Task) → puzzle_of text ≡ Ok said → length said.words ≤ 100
+pub said_tiles : (text : List ℕ) (said : Task) → puzzle_of text ≡ Ok said → length said.words ≤ MOST_TILES
 said_tiles text said e = (puzzle_found text said e).0.few_tiles
 
 -- ---- the laws of what a call returned

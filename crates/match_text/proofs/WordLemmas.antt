@@ -1,5 +1,6 @@
 -- Words that spell a value.
 use Rattle.std.proofs.Common.{◌≡◌, ℕ, ◌^◌, ◌<◌, ◌≤◌, Bool, true, false, cond, eqb, not, ltb, leb, ◌&&◌, ◌||◌, List, [], ◌∷◌, ◌++◌, length, get_or, map, Option, Some, None, Result, Ok, Err, refl, sym, ap, subst, ◌∙◌, arith, codes, inl, inr}
+use Rattle.match_board.specs.declared.limits.TheConstants.{LAST_TILE, LAST_TURN}
 use Rattle.match_text.specs.declared.faults.TextKind.{TextKind}
 use Rattle.std.specs.List.{AllByRecursion}
 use Rattle.std.specs.Fmt.{decimal}
@@ -159,15 +160,15 @@ pub spells_placement : Spells placement_in placement_word IsPlacementWithin
 unfolding placement_in
 spells_placement = record {
   is = λ word x e.
-      let a = judged_bind (or_word (cut_at 46 word)) (λ parts. number_in 0 99 parts.0 >>= λ tile. number_in 0 3 parts.1 >>= λ turn. Ok (placed tile turn)) x e in
-      let b = judged_bind (number_in 0 99 a.0.0) (λ tile. number_in 0 3 a.0.1 >>= λ turn. Ok (placed tile turn)) x a.2 in
-      let d = judged_bind (number_in 0 3 a.0.1) (λ turn. Ok (placed b.0 turn)) x b.2 in
-      let tile = (spells_number 0 99 (omega arith)).is a.0.0 b.0 b.1 in
-      let turn = (spells_number 0 3 (omega arith)).is a.0.1 d.0 d.1 in
+      let a = judged_bind (or_word (cut_at 46 word)) (λ parts. number_in 0 LAST_TILE parts.0 >>= λ tile. number_in 0 LAST_TURN parts.1 >>= λ turn. Ok (placed tile turn)) x e in
+      let b = judged_bind (number_in 0 LAST_TILE a.0.0) (λ tile. number_in 0 LAST_TURN a.0.1 >>= λ turn. Ok (placed tile turn)) x a.2 in
+      let d = judged_bind (number_in 0 LAST_TURN a.0.1) (λ turn. Ok (placed b.0 turn)) x b.2 in
+      let tile = (spells_number 0 LAST_TILE (omega arith)).is a.0.0 b.0 b.1 in
+      let turn = (spells_number 0 LAST_TURN (omega arith)).is a.0.1 d.0 d.1 in
       let whole : word ≡ decimal b.0 ++ 46 ∷ decimal d.0 = cut_parts 46 word a.0 (or_word_is (cut_at 46 word) a.0 a.1) ∙ ap (λ w. w ++ 46 ∷ a.0.1) tile.0 ∙ ap (λ w. decimal b.0 ++ 46 ∷ w) turn.0 in
       subst (λ (z : Placement). (word ≡ placement_word z) × IsPlacementWithin z) (judged_ok_is (placed b.0 d.0) x d.2) (whole, (tile.1.1, turn.1.1));
   passes = λ x fits.
-      rw (cut_dot 46 (decimal x.tile) (decimal x.turn) (decimal_lacks 46 x.tile (omega arith) (omega (arith, fits.0))), (spells_number 0 99 (omega arith)).passes x.tile (omega arith, fits.0), (spells_number 0 3 (omega arith)).passes x.turn (omega arith, fits.1)) refl;
+      rw (cut_dot 46 (decimal x.tile) (decimal x.turn) (decimal_lacks 46 x.tile (omega arith) (omega (arith, fits.0))), (spells_number 0 LAST_TILE (omega arith)).passes x.tile (omega arith, fits.0), (spells_number 0 LAST_TURN (omega arith)).passes x.turn (omega arith, fits.1)) refl;
 }
 
 -- ---- clean words

@@ -1,5 +1,6 @@
 -- The text of a list of arrangements.
 use Rattle.std.specs.Prelude.{◌≡◌, ℕ, List, Result, Ok, Err, codes}
+use Rattle.match_board.specs.declared.limits.TheConstants.{MOST_CELLS, MOST_ARRANGEMENTS}
 use Rattle.std.specs.Global.{Vec}
 use Rattle.match_puzzle.specs.declared.placements.Placement.{Placement}
 use Rattle.match_text.specs.declared.faults.TextFault.{TextFault}
@@ -10,12 +11,12 @@ use Rattle.match_text.specs.Place.{Read, ◌>>=◌, give, line_of, some_entries,
 
 -- a placement for each cell, 1 to 100
 unfoldable pub arrangement_line : Read (List Placement)
-arrangement_line = line_of (some_entries 100 placement_in)
+arrangement_line = line_of (some_entries MOST_CELLS placement_in)
 
 unfoldable pub list_text : Read (List (List Placement))
 list_text = do
   _ ← opening (codes "list")
-  count ← counted (codes "arrangements") 0 1000000
+  count ← counted (codes "arrangements") 0 MOST_ARRANGEMENTS
   arrangements ← times count arrangement_line
   _ ← closing
   give arrangements

@@ -1,5 +1,6 @@
 -- The one spelling of a puzzle.
 use Rattle.std.specs.Prelude.{◌≡◌, ◌⊎◌, ◌<◌, ◌≤◌, ℕ, Bool, true, false, List, [], ◌∷◌, ◌++◌, Option, Some, None, length, map, codes, decimal}
+use Rattle.match_board.specs.declared.limits.TheConstants.{MOST_TILES, MOST_LENGTH, MOST_RULES, MOST_COLOURS}
 use Rattle.std.specs.List.{AllByRecursion}
 use Rattle.match_board.specs.declared.figures.Figure.{Figure}
 use Rattle.match_board.specs.declared.figures.Figure.TheVariants.{Rectangle, Triangle, Hexagon}
@@ -53,27 +54,27 @@ puzzle_spelling p = text_of (puzzle_lines p)
 -- ---- what has a spelling
 
 abbrev pub IsFigureWithin : Figure → Type 0
-IsFigureWithin (Rectangle width height) = (width ≤ 100) × (height ≤ 100)
-IsFigureWithin (Triangle size) = size ≤ 100
-IsFigureWithin (Hexagon size) = size ≤ 100
+IsFigureWithin (Rectangle width height) = (width ≤ MOST_LENGTH) × (height ≤ MOST_LENGTH)
+IsFigureWithin (Triangle size) = size ≤ MOST_LENGTH
+IsFigureWithin (Hexagon size) = size ≤ MOST_LENGTH
 
 abbrev pub IsRuleWithin : Option ℕ → Type 0
 IsRuleWithin None = Unit {0}
-IsRuleWithin (Some colour) = colour < 36
+IsRuleWithin (Some colour) = colour < MOST_COLOURS
 
 abbrev pub IsBorderWithin : BorderRule → Type 0
 IsBorderWithin free = Unit {0}
-IsBorderWithin (one colour) = colour < 36
-IsBorderWithin (each rules) = (0 < length rules) × (length rules ≤ 400) × AllByRecursion IsRuleWithin rules
+IsBorderWithin (one colour) = colour < MOST_COLOURS
+IsBorderWithin (each rules) = (0 < length rules) × (length rules ≤ MOST_RULES) × AllByRecursion IsRuleWithin rules
 
 -- three or four colours
 abbrev pub IsWordWithin : List ℕ → Type 0
-IsWordWithin word = ((length word ≡ 3) ⊎ (length word ≡ 4)) × AllByRecursion (λ colour. colour < 36) word
+IsWordWithin word = ((length word ≡ 3) ⊎ (length word ≡ 4)) × AllByRecursion (λ colour. colour < MOST_COLOURS) word
 
 -- The puzzle is within the limits of its text; there may be no such puzzle.
 pub record IsTaskWithin (p : Task) : Type 0 where
   pub board : IsFigureWithin p.board
   pub border : IsBorderWithin p.border
   pub some_tiles : 1 ≤ length p.words
-  pub few_tiles : length p.words ≤ 100
+  pub few_tiles : length p.words ≤ MOST_TILES
   pub words : AllByRecursion IsWordWithin p.words

@@ -1,5 +1,6 @@
 -- The text of a puzzle.
 use Rattle.std.specs.Prelude.{◌≡◌, ◌<◌, ℕ, Bool, true, false, List, Result, Ok, Err, codes, map, if◌then◌else◌}
+use Rattle.match_board.specs.declared.limits.TheConstants.{MOST_CELLS, MOST_TILES, MOST_LENGTH, MOST_RULES}
 use Rattle.std.specs.Str.{bytes_eq}
 use Rattle.match_board.specs.Board.{cell_count, IsBoard}
 use Rattle.match_board.specs.declared.figures.Figure.{Figure}
@@ -34,14 +35,14 @@ board_kind_in word =
 -- how large a board of this kind is
 unfoldable pub board_size : BoardKind → Read Figure
 board_size Rectangle = do
-  width ← word_by (number_in 0 100)
-  height ← word_by (number_in 0 100)
+  width ← word_by (number_in 0 MOST_LENGTH)
+  height ← word_by (number_in 0 MOST_LENGTH)
   give (figures.Rectangle width height)
 board_size Triangle = do
-  size ← word_by (number_in 0 100)
+  size ← word_by (number_in 0 MOST_LENGTH)
   give (figures.Triangle size)
 board_size Hexagon = do
-  size ← word_by (number_in 0 100)
+  size ← word_by (number_in 0 MOST_LENGTH)
   give (figures.Hexagon size)
 
 unfoldable pub board_line : Read Figure
@@ -76,7 +77,7 @@ border_rule kinds.One = do
   colour ← word_by colour_in
   give (one colour)
 border_rule kinds.Each = do
-  rules ← some_entries 400 rule_in
+  rules ← some_entries MOST_RULES rule_in
   give (each rules)
 
 unfoldable pub border_line : Read BorderRule
@@ -98,7 +99,7 @@ puzzle_text = do
   board ← board_line
   turns ← turns_line
   border ← border_line
-  count ← counted (codes "tiles") 1 100
+  count ← counted (codes "tiles") 1 MOST_TILES
   words ← times count tile_line
   _ ← closing
   give (record { board = board; turns = turns; border = border; words = words })
@@ -116,7 +117,7 @@ view_of t = record { board = t.figure; turns = t.turns; border = rule_of t.borde
 -- There is no such board.
 abbrev pub BoardFails : Figure → BoardFault → Type 0
 BoardFails s Empty = cell_count s ≡ 0
-BoardFails s TooLarge = 100 < cell_count s
+BoardFails s TooLarge = MOST_CELLS < cell_count s
 
 -- What reading a puzzle comes to: the puzzle, or the first fault of the text, else of the board, else of the puzzle.
 -- Of want of memory nothing is said.

@@ -1,5 +1,6 @@
 -- What a word has to be, and what is wrong with one that isn't.
 use Rattle.std.specs.Prelude.{◌≡◌, ℕ, zero, suc, codes, ◌-◌, List, [], ◌∷◌, length, Option, Some, None, Result, Ok, Err, Bool, ◌&&◌, ◌||◌, nat_lt, nat_le, ◌==◌, if◌then◌else◌, slice_index}
+use Rattle.match_board.specs.declared.limits.TheConstants.{LAST_CELL, LAST_TILE, LAST_TURN}
 use Rattle.std.specs.Str.{all_ascii_digits, bytes_eq}
 use Rattle.std.specs.Str.Parse.{digits_value}
 use Rattle.match_puzzle.specs.declared.placements.Pair.{Pair}
@@ -67,8 +68,8 @@ rule_in word = if bytes_eq word (codes "-") then Ok None else (do
 unfoldable pub placement_in : List ℕ → Result Placement TextKind
 placement_in word = do
   parts ← or_word (cut_at 46 word)
-  tile ← number_in 0 99 parts.0
-  turn ← number_in 0 3 parts.1
+  tile ← number_in 0 LAST_TILE parts.0
+  turn ← number_in 0 LAST_TURN parts.1
   Ok (record { tile = tile; turn = turn })
 
 -- a cell, with a colon before the tile and its turn
@@ -76,9 +77,9 @@ unfoldable pub pair_in : List ℕ → Result Pair TextKind
 pair_in word = do
   parts ← or_word (cut_at 58 word)
   placed ← or_word (cut_at 46 parts.1)
-  cell ← number_in 0 99 parts.0
-  tile ← number_in 0 99 placed.0
-  turn ← number_in 0 3 placed.1
+  cell ← number_in 0 LAST_CELL parts.0
+  tile ← number_in 0 LAST_TILE placed.0
+  turn ← number_in 0 LAST_TURN placed.1
   Ok (record { cell = cell; placement = record { tile = tile; turn = turn } })
 
 -- each of these words is an entry, and there are at most so many

@@ -7,22 +7,14 @@ ghost use Rattle.match_text.specs.Spelling.{line_text, text_of, first_words, spa
 ghost use Rattle.match_text.specs.ListSpelling.{arrangement_words, list_head, list_spelling, IsPlacementWithin, IsRowWithin, IsListWithin};
 
 use crate::spellings::{put_end, put_number, put_number_line};
+use match_board::limits::{LAST_TILE, LAST_TURN, MOST_ARRANGEMENTS, MOST_CELLS};
 use match_puzzle::{Arrangement, Placement};
 use std::alloc::{AllocError, Global};
-
-// The most arrangements of a list, placements of an arrangement, number of a tile and turn.
-const MOST_ARRANGEMENTS: usize = 1_000_000;
-
-const MOST_PLACEMENTS: usize = 100;
-
-const MOST_TILE: u16 = 99;
-
-const MOST_TURN: u8 = 3;
 
 fn is_placement_within(placement: &Placement) -> bool
     ensures { MatchBool result (IsPlacementWithin placement.now) (IsPlacementWithin placement.now → ⊥) }
 {
-    placement.tile <= MOST_TILE && placement.turn <= MOST_TURN
+    placement.tile <= LAST_TILE && placement.turn <= LAST_TURN
 }
 
 fn are_placements_within(row: &[Placement]) -> bool
@@ -41,7 +33,7 @@ fn is_row_within(row: &Arrangement) -> bool
 {
     let placements = row.placements();
     let count = placements.len();
-    count > 0 && (count <= MOST_PLACEMENTS && are_placements_within(placements))
+    count > 0 && (count <= usize::from(MOST_CELLS) && are_placements_within(placements))
 }
 
 fn are_rows_within(rows: &[Arrangement]) -> bool
@@ -58,7 +50,7 @@ fn are_rows_within(rows: &[Arrangement]) -> bool
 fn is_list_within(rows: &[Arrangement]) -> bool
     ensures { MatchBool result (IsListWithin rows.now) (IsListWithin rows.now → ⊥) }
 {
-    rows.len() <= MOST_ARRANGEMENTS && are_rows_within(rows)
+    rows.len() <= MOST_ARRANGEMENTS as usize && are_rows_within(rows)
 }
 
 /// Whether the list has a spelling: up to 1,000,000 arrangements of 1 to 100 placements, of tiles

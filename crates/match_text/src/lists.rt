@@ -11,22 +11,20 @@ ghost use Rattle.match_text.specs.Lists.{arrangement_line, list_text, list_of, L
 
 use crate::faults::{ListTextFault, ReadFault};
 use crate::scans::Scan;
+use match_board::limits::{MOST_ARRANGEMENTS, MOST_CELLS};
 use match_puzzle::{Arrangement, Placement};
 use std::alloc::Global;
-
-// The most placements of an arrangement.
-const MOST_PLACEMENTS: usize = 100;
 
 // The bytes of a line of two placements.
 const SHORT_LINE: usize = 8;
 
 // The rest of the line, in place of what the row had.
 fn placements(scan: &mut Scan, row: &mut Vec<Placement>) -> Result<(), ReadFault>
-    ensures { Reads (λ _. row.new.items) result scan.new (entries 100 placement_in scan.old) }
+    ensures { Reads (λ _. row.new.items) result scan.new (entries MOST_CELLS placement_in scan.old) }
 {
     row.clear();
     while scan.has_word() {
-        scan.further_entry(row.len(), MOST_PLACEMENTS)?;
+        scan.further_entry(row.len(), MOST_CELLS)?;
         let placement = scan.placement()?;
         row.push(placement)?;
     }
@@ -35,7 +33,7 @@ fn placements(scan: &mut Scan, row: &mut Vec<Placement>) -> Result<(), ReadFault
 
 #[tactic(auto, unfolding(crate::specs::Place::some_entries))]
 fn some_placements(scan: &mut Scan, row: &mut Vec<Placement>) -> Result<(), ReadFault>
-    ensures { Reads (λ _. row.new.items) result scan.new (some_entries 100 placement_in scan.old) }
+    ensures { Reads (λ _. row.new.items) result scan.new (some_entries MOST_CELLS placement_in scan.old) }
 {
     scan.some_word()?;
     placements(scan, row)
@@ -76,7 +74,7 @@ fn whole(alloc: Global, scan: &mut Scan) -> Result<Vec<Arrangement>, ReadFault>
     ensures { Reads (λ rows. rows.items) result scan.new (list_text scan.old) }
 {
     scan.opening(b"list")?;
-    let count = scan.counted(b"arrangements", 0, 1_000_000)?;
+    let count = scan.counted(b"arrangements", 0, MOST_ARRANGEMENTS)?;
     let rows = arrangements(alloc, scan, count)?;
     scan.closing()?;
     Ok(rows)

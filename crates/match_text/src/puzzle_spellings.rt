@@ -11,6 +11,7 @@ ghost use Rattle.match_text.specs.Spelling.{text_of, first_words, colour_charact
 ghost use Rattle.match_text.specs.PuzzleSpelling.{board_words, turns_words, border_words, tile_words, puzzle_spelling, IsRuleWithin, IsBorderWithin};
 
 use crate::spellings::{character, put_end, put_number, put_number_line};
+use match_board::limits::MOST_COLOURS;
 use match_board::{Board, Figure, Tile};
 use match_puzzle::{Border, Puzzle};
 use std::alloc::{AllocError, Global};
@@ -81,7 +82,7 @@ fn put_free(text: &mut Vec<u8>) -> Result<(), AllocError>
 
 #[tactic(auto, unfolding(crate::specs::Spelling::text_of))]
 fn put_one(text: &mut Vec<u8>, colour: u8) -> Result<(), AllocError>
-    requires { colour < 36 }
+    requires { colour < MOST_COLOURS }
     ensures { OnOk result (text.new.items ≡ text.old.items ++ text_of (border_words (one colour) ∷ [])) }
 {
     text.extend_from_slice(b"border one ")?;

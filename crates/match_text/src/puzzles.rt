@@ -6,12 +6,13 @@ ghost use Rattle.match_puzzle.specs.Puzzle.{Task, IsPuzzle, rule_of};
 ghost use Rattle.match_text.specs.declared.faults.TextKind.TheVariants as kinds;
 ghost use Rattle.match_text.specs.Bytes.{line_ends};
 ghost use Rattle.match_text.specs.PuzzleSpelling.{puzzle_spelling, IsTaskWithin};
-ghost use Rattle.match_text.specs.Words.{Judges, rule_in};
+ghost use Rattle.match_text.specs.Words.{Judges, number_in, rule_in};
 ghost use Rattle.match_text.specs.Place.{Gives, Reads, Says, times, entries, some_entries, word_by, fail};
 ghost use Rattle.match_text.specs.Puzzles.{board_kind_in, board_size, board_line, turns_in, turns_line, border_kind_in, border_rule, border_line, tile_line, puzzle_text, puzzle_of, view_of, PuzzleReads, PuzzleGives};
 
 use crate::faults::{PuzzleTextFault, ReadFault, TextFault, TextKind};
 use crate::scans::Scan;
+use match_board::limits::{MOST_LENGTH, MOST_RULES, MOST_TILES};
 use match_board::{Board, Figure, Tile};
 use match_puzzle::{Border, BorderRules, Puzzle};
 use std::alloc::Global;
@@ -19,12 +20,12 @@ use std::alloc::Global;
 // What a text says of a puzzle. There may be no such puzzle.
 #[derive(Drop)]
 struct PuzzleText {
-    // with numbers up to 100
+    // with numbers that a text may give
     figure: Figure,
     turns: bool,
-    // with up to 400 rules
+    // with as many rules as a text may give
     border: Border,
-    // from 1 to 100
+    // at least one, and as many as a text may give
     tiles: Vec<Tile>,
 }
 
@@ -43,9 +44,6 @@ enum BorderKind {
     One,
     Each,
 }
-
-// The most rules of a border.
-const MOST_RULES: usize = 400;
 
 fn board_kind_word(word: &[u8]) -> Result<BoardKind, TextKind>
     ensures { Judges (λ kind. kind) result (board_kind_in word.now) }
@@ -70,22 +68,30 @@ fn board_kind(scan: &mut Scan) -> Result<BoardKind, TextFault>
     scan.accept(board_kind_word(word))
 }
 
+// A width, a height or a size.
+fn side_length(scan: &mut Scan) -> Result<u16, TextFault>
+    ensures { Gives (λ n. n) result scan.new (word_by (number_in 0 MOST_LENGTH) scan.old) }
+{
+    let length = scan.number(0, u32::from(MOST_LENGTH))?;
+    Ok(length as u16)
+}
+
 #[tactic(auto, unfolding(crate::specs::Puzzles::board_size))]
 fn board_size(scan: &mut Scan, kind: BoardKind) -> Result<Figure, TextFault>
     ensures { Gives (λ figure. figure) result scan.new (board_size kind scan.old) }
 {
     match kind {
         BoardKind::Rectangle => {
-            let width = scan.number(0, 100)? as u16;
-            let height = scan.number(0, 100)? as u16;
+            let width = side_length(scan)?;
+            let height = side_length(scan)?;
             Ok(Figure::Rectangle { width, height })
         }
         BoardKind::Triangle => {
-            let size = scan.number(0, 100)? as u16;
+            let size = side_length(scan)?;
             Ok(Figure::Triangle { size })
         }
         BoardKind::Hexagon => {
-            let size = scan.number(0, 100)? as u16;
+            let size = side_length(scan)?;
             Ok(Figure::Hexagon { size })
         }
     }
@@ -159,7 +165,7 @@ fn border_kind(scan: &mut Scan) -> Result<BorderKind, TextFault>
 
 // The rest of the line.
 fn rules(alloc: Global, scan: &mut Scan) -> Result<Vec<Option<u8>>, ReadFault>
-    ensures { Reads (λ rules. rules.items) result scan.new (entries 400 rule_in scan.old) }
+    ensures { Reads (λ rules. rules.items) result scan.new (entries MOST_RULES rule_in scan.old) }
 {
     let mut rules = Vec::new(alloc);
     while scan.has_word() {
@@ -172,7 +178,7 @@ fn rules(alloc: Global, scan: &mut Scan) -> Result<Vec<Option<u8>>, ReadFault>
 
 #[tactic(auto, unfolding(crate::specs::Place::some_entries))]
 fn some_rules(alloc: Global, scan: &mut Scan) -> Result<Vec<Option<u8>>, ReadFault>
-    ensures { Reads (λ rules. rules.items) result scan.new (some_entries 400 rule_in scan.old) }
+    ensures { Reads (λ rules. rules.items) result scan.new (some_entries MOST_RULES rule_in scan.old) }
 {
     scan.some_word()?;
     rules(alloc, scan)
@@ -234,7 +240,7 @@ fn whole(alloc: Global, scan: &mut Scan) -> Result<PuzzleText, ReadFault>
     let figure = board_line(scan)?;
     let turns = turns_line(scan)?;
     let border = border_line(alloc, scan)?;
-    let count = scan.counted(b"tiles", 1, 100)?;
+    let count = scan.counted(b"tiles", 1, u32::from(MOST_TILES))?;
     let tiles = tile_lines(alloc, scan, count)?;
     scan.closing()?;
     Ok(PuzzleText {

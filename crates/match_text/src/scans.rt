@@ -168,12 +168,12 @@ impl<'a> Scan<'a> {
 
     /// A further entry may follow those that were read. Limit, where they are as many as may stand.
     #[inline]
-    pub fn further_entry(&self, read: usize, most: usize) -> Result<(), TextFault>
+    pub fn further_entry(&self, read: usize, most: u16) -> Result<(), TextFault>
         ensures { MatchResult result
             (λ _. read < most)
             (λ e. (most ≤ read) × (e ≡ record { line = self.now.line; kind = TextKind.Limit })) }
     {
-        if read < most {
+        if read < usize::from(most) {
             Ok(())
         } else {
             Err(self.fault(TextKind::Limit))

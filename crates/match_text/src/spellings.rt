@@ -4,11 +4,12 @@ ghost use Rattle.std.specs.Prelude.{◌≡◌, ◌++◌, ◌∷◌, [], ◌<◌,
 ghost use Rattle.match_text.specs.Spelling.{colour_character, count_words, end_lines, first_words, text_of};
 
 use itoa::Buffer;
+use match_board::limits::MOST_COLOURS;
 use std::alloc::AllocError;
 
 /// The character of a colour.
 pub fn character(colour: u8) -> u8
-    requires { colour < 36 }
+    requires { colour < MOST_COLOURS }
     ensures { result ≡ colour_character colour }
 {
     if colour < 10 {

@@ -10,6 +10,7 @@ ghost use Rattle.match_text.specs.Words.{Judges, fixed_in, version_in, is_number
 
 use crate::faults::TextKind;
 use match_board::Tile;
+use match_board::limits::{LAST_CELL, LAST_TILE, LAST_TURN, MOST_COLOURS};
 use match_puzzle::{Pair, Placement};
 use memchr::memchr;
 
@@ -157,7 +158,7 @@ pub fn short_number(line: &[u8]) -> Option<(u32, &[u8])>
 // The colour that a character stands for.
 fn colour(character: u8) -> Result<u8, TextKind>
     ensures judges { Judges (λ n. n) result (or_word (colour_of character)) }
-    ensures few { IfOk result (λ n. n < 36) }
+    ensures few { IfOk result (λ n. n < MOST_COLOURS) }
 {
     match character {
         b'0'..=b'9' => Ok(character - b'0'),
@@ -170,7 +171,7 @@ fn colour(character: u8) -> Result<u8, TextKind>
 #[tactic(auto, unfolding(crate::specs::Words::colour_in))]
 pub fn colour_word(word: &[u8]) -> Result<u8, TextKind>
     ensures judges { Judges (λ n. n) result (colour_in word.now) }
-    ensures few { IfOk result (λ n. n < 36) }
+    ensures few { IfOk result (λ n. n < MOST_COLOURS) }
 {
     match word {
         [character] => colour(*character),
@@ -192,7 +193,7 @@ pub fn rule_word(word: &[u8]) -> Result<Option<u8>, TextKind>
 // The tile of these colours.
 fn tile_of(colours: [u8; 4], sides: u8) -> Tile
     requires sides { (sides ≡ 3) ⊎ (sides ≡ 4) }
-    requires colours { All (λ c. c < 36) (take sides colours) }
+    requires colours { All (λ c. c < MOST_COLOURS) (take sides colours) }
     ensures { tile_colours result ≡ take sides colours }
 {
     let Ok(tile) = Tile::new(colours, sides) else {
@@ -243,8 +244,8 @@ pub fn placement_word(word: &[u8]) -> Result<Placement, TextKind>
     let Some((tile, turn)) = cut(word, b'.') else {
         return Err(TextKind::Word);
     };
-    let tile = number_word(tile, 0, 99)? as u16;
-    let turn = number_word(turn, 0, 3)? as u8;
+    let tile = number_word(tile, 0, u32::from(LAST_TILE))? as u16;
+    let turn = number_word(turn, 0, u32::from(LAST_TURN))? as u8;
     Ok(Placement { tile, turn })
 }
 
@@ -277,9 +278,9 @@ pub fn pair_word(word: &[u8]) -> Result<Pair, TextKind>
     let Some((tile, turn)) = cut(placed, b'.') else {
         return Err(TextKind::Word);
     };
-    let cell = number_word(cell, 0, 99)? as u16;
-    let tile = number_word(tile, 0, 99)? as u16;
-    let turn = number_word(turn, 0, 3)? as u8;
+    let cell = number_word(cell, 0, u32::from(LAST_CELL))? as u16;
+    let tile = number_word(tile, 0, u32::from(LAST_TILE))? as u16;
+    let turn = number_word(turn, 0, u32::from(LAST_TURN))? as u8;
     Ok(Pair {
         cell,
         placement: Placement { tile, turn },

@@ -1,5 +1,6 @@
 -- A compiled puzzle is an exact cover, and the only one of its puzzle.
 use Rattle.std.proofs.Common.{◌≡◌, ◌<◌, ◌+◌, ◌%◌, ℕ, zero, suc, List, [], ◌∷◌, All, Some, length, slice_get, get_or, map, arith, refl, ap, sym, ◌∙◌, subst, ⊎_elim}
+use Rattle.match_board.specs.declared.limits.TheConstants.{MOST_COLOURS}
 use Rattle.std.proofs.lemmas.List.{get_or_past}
 use Rattle.std.proofs.lemmas.List.Elements.{All-get_or}
 use Rattle.std.proofs.lemmas.Option.{slice_get_within, get_or_from_slice_get, none-some}
@@ -22,18 +23,18 @@ use Rattle.xcc_form.proofs.OptionLemmas.{option_pair, pair_at, many_options, pri
 
 -- ---- colours
 
-listed_below : (word : List ℕ) (i : ℕ) → All (λ colour. colour < 36) word → get_or word i 0 < 36
+listed_below : (word : List ℕ) (i : ℕ) → All (λ colour. colour < MOST_COLOURS) word → get_or word i 0 < MOST_COLOURS
 listed_below word i all =
     ⊎_elim
-    (λ lt. All-get_or (λ colour. colour < 36) word i 0 lt all)
+    (λ lt. All-get_or (λ colour. colour < MOST_COLOURS) word i 0 lt all)
     (λ le. let none = get_or_past word i 0 le in omega (arith, none))
     (lt_or_le i (length word))
 
-shown_below : (word : List ℕ) (turn side : ℕ) → All (λ colour. colour < 36) word → shown word turn side < 36
+shown_below : (word : List ℕ) (turn side : ℕ) → All (λ colour. colour < MOST_COLOURS) word → shown word turn side < MOST_COLOURS
 unfolding shown
 shown_below word turn side all = listed_below word ((side + turn) % length word) all
 
-colour_below : (p : Task) (x : Placement) (side : ℕ) → IsPuzzle p → IsLegal p x → colour_of p x side < 36
+colour_below : (p : Task) (x : Placement) (side : ℕ) → IsPuzzle p → IsLegal p x → colour_of p x side < MOST_COLOURS
 unfolding colour_of
 colour_below p x side is legal = shown_below (word_of p x.tile) x.turn side (is.tile_colours x.tile legal.tile)
 

@@ -1,5 +1,6 @@
 -- The layout of options, as one more is added, and the options that it stands for.
-use Rattle.std.proofs.Common.{◌≡◌, ◌<◌, ◌≤◌, ◌+◌, ◌-◌, ℕ, List, [], ◌∷◌, ◌++◌, Some, length, length-append, length-drop, slice_get, slice_range, get_or, take, drop, arith, refl, ap, sym, ◌∙◌, subst, ⊎_elim}
+use Rattle.std.proofs.Common.{◌≡◌, ◌*◌, ◌<◌, ◌≤◌, ◌+◌, ◌-◌, ℕ, List, [], ◌∷◌, ◌++◌, Some, length, length-append, length-drop, slice_get, slice_range, get_or, take, drop, arith, refl, ap, sym, ◌∙◌, subst, ⊎_elim}
+use Rattle.match_board.specs.declared.limits.TheConstants.{MOST_CELLS}
 use Rattle.std.proofs.lemmas.List.{get_or_append_left, get_or_push, length_push, take-append-le, drop-append-le, drop_at, take_all}
 use Rattle.std.proofs.lemmas.Option.{none-some}
 use Rattle.match_board.proofs.Listings.{lt_or_le}
@@ -26,7 +27,7 @@ part_behind edges more a b from to =
     let all = length-append edges more in
     ap (take (b - a)) (drop_at edges more a (sym from)) ∙ take_all (b - a) more (omega (arith, all, from, to))
 
-module _ (p : Task) (shared : List SharedEdge) (pairs : List Pair) (starts : List ℕ) (edges : List Edge) (is : AreLaidOut p shared pairs starts edges) (x : Pair) (more : List Edge) (shown : AreShownEdges p shared x more) (few : length more ≤ 400) where
+module _ (p : Task) (shared : List SharedEdge) (pairs : List Pair) (starts : List ℕ) (edges : List Edge) (is : AreLaidOut p shared pairs starts edges) (x : Pair) (more : List Edge) (shown : AreShownEdges p shared x more) (few : length more ≤ 4 * MOST_CELLS) where
   abbrev new_pairs : List Pair
   new_pairs = pairs ++ x ∷ []
 
@@ -92,7 +93,7 @@ module _ (p : Task) (shared : List SharedEdge) (pairs : List Pair) (starts : Lis
   }
 
 -- the same, with what was pushed
-pub laid_out_pushed : (p : Task) (shared : List SharedEdge) (pairs pairs' : List Pair) (starts starts' : List ℕ) (edges edges' : List Edge) (x : Pair) (more : List Edge) (end : ℕ) → AreLaidOut p shared pairs starts edges → AreShownEdges p shared x more → length more ≤ 400 → edges' ≡ edges ++ more → pairs' ≡ pairs ++ x ∷ [] → end ≡ length edges' → starts' ≡ starts ++ end ∷ [] → AreLaidOut p shared pairs' starts' edges'
+pub laid_out_pushed : (p : Task) (shared : List SharedEdge) (pairs pairs' : List Pair) (starts starts' : List ℕ) (edges edges' : List Edge) (x : Pair) (more : List Edge) (end : ℕ) → AreLaidOut p shared pairs starts edges → AreShownEdges p shared x more → length more ≤ 4 * MOST_CELLS → edges' ≡ edges ++ more → pairs' ≡ pairs ++ x ∷ [] → end ≡ length edges' → starts' ≡ starts ++ end ∷ [] → AreLaidOut p shared pairs' starts' edges'
 laid_out_pushed p shared pairs pairs' starts starts' edges edges' x more end is shown few e q n s =
     subst (λ k. AreLaidOut p shared k starts' edges') (sym q)
     (subst (λ k. AreLaidOut p shared (pairs ++ x ∷ []) k edges') (sym (s ∙ ap (λ m. starts ++ m ∷ []) (n ∙ ap length e)))

@@ -1,5 +1,6 @@
 -- What holds of each compiled puzzle.
 use Rattle.std.specs.Prelude.{◌≡◌, ◌<◌, ℕ, List, Some, Contains, slice_get}
+use Rattle.match_board.specs.declared.limits.TheConstants.{MOST_COLOURS}
 use Rattle.match_puzzle.specs.Arrangement.{IsArrangement}
 use Rattle.match_puzzle.specs.declared.placements.Placement.{Placement}
 use Rattle.xcc_form.specs.ExactCover.{IsSolution, IsCover}
@@ -21,4 +22,4 @@ IsOnlyOne x = (y : Compiled) → IsCompiled y → y.puzzle ≡ x.puzzle → y �
 -- It is an exact cover, with colours below 36.
 pub record IsColouredCover (x : Compiled) : Type 0 where
   pub cover : IsCover (cover_of x)
-  pub colours : (option : ℕ) (c : Choice) (e : Edge) → slice_get x.options option ≡ Some c → Contains c.edges e → e.colour < 36
+  pub colours : (option : ℕ) (c : Choice) (e : Edge) → slice_get x.options option ≡ Some c → Contains c.edges e → e.colour < MOST_COLOURS

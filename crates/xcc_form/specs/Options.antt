@@ -1,5 +1,6 @@
 -- The exact cover of a puzzle: its primary items are the cells, then the tiles, its secondary items the shared edges.
 use Rattle.std.specs.Prelude.{◌≡◌, ◌⊎◌, ◌<◌, ◌+◌, ℕ, List, [], ◌∷◌, Some, length, map, slice_get}
+use Rattle.match_board.specs.declared.limits.TheConstants.{MOST_ENTRIES}
 use Rattle.match_board.specs.Board.{cell_count, Meets}
 use Rattle.match_board.specs.declared.figures.Figure.{Figure}
 use Rattle.match_board.specs.Listing.{IsListing, ComesBefore, ByKey}
@@ -88,6 +89,6 @@ cover_of x = record { primaries = primary_count x.puzzle; secondaries = length x
 abbrev pub entries_of : Compiled → ℕ
 entries_of x = entry_count (cover_of x).options
 
--- The options of the puzzle have over 200,000 items.
+-- The options of the puzzle have too many items.
 abbrev pub HasTooManyEntries : Task → Type 0
-HasTooManyEntries p = (x : Compiled) × (x.puzzle ≡ p) × IsCompiled x × (200000 < entries_of x)
+HasTooManyEntries p = (x : Compiled) × (x.puzzle ≡ p) × IsCompiled x × (MOST_ENTRIES < entries_of x)

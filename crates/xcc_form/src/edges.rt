@@ -6,6 +6,7 @@ ghost use Rattle.match_board.specs.Listing.{IsListing, ByKey, HoldsBefore};
 ghost use Rattle.match_puzzle.specs.Puzzle.{IsPuzzle};
 ghost use Rattle.xcc_form.specs.Options.{IsSharedEdge, AreSharedEdges, IsSideOf, least_place};
 
+use match_board::limits::MOST_CELLS;
 use match_puzzle::Puzzle;
 use std::alloc::{AllocError, Global};
 
@@ -47,7 +48,7 @@ impl SharedEdge {
 /// The shared edges of a puzzle's board, by their lesser (cell, side).
 pub(crate) fn shared_edges(alloc: Global, puzzle: &Puzzle) -> Result<Vec<SharedEdge>, AllocError>
     ensures edges { IfOk result (λ v. AreSharedEdges puzzle.now.board v.items) }
-    ensures few { IfOk result (λ v. length v.items ≤ 400) }
+    ensures few { IfOk result (λ v. length v.items ≤ 4 * MOST_CELLS) }
 {
     let mut edges = Vec::new(alloc);
     for cell in 0..puzzle.board().cells() {

@@ -13,4 +13,4 @@ mod xccs;
 pub use edges::Edge;
 pub use faults::{CompileFault, FormFault};
 pub use laws::{compiled_in_one_way, options_are_sets, solutions_are_arrangements};
-pub use xccs::{MOST_ENTRIES, Xcc, compile};
+pub use xccs::{Xcc, compile};

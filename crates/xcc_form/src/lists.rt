@@ -9,6 +9,7 @@ ghost use Rattle.xcc_form.specs.Options.{AreSharedEdges, IsOptionPair, PairComes
 ghost use Rattle.xcc_form.specs.Layout.{AreLaidOut, AddsEdges};
 
 use crate::edges::{Edge, SharedEdge};
+use match_board::limits::MOST_CELLS;
 use match_puzzle::{FittingPairs, Item, Pair, Partial, Puzzle};
 use std::alloc::{AllocError, Global};
 
@@ -29,7 +30,7 @@ impl OptionLists {
         shared: &[SharedEdge],
     ) -> Result<OptionLists, AllocError>
         requires shared { AreSharedEdges puzzle.now.board shared.now }
-        requires few { length shared.now ≤ 400 }
+        requires few { length shared.now ≤ 4 * MOST_CELLS }
         ensures pairs { IfOk result (λ o. IsListing PairComesBefore (IsOptionPair puzzle.now) o.pairs.items) }
         ensures laid_out { IfOk result (λ o. AreLaidOut puzzle.now shared.now o.pairs.items o.starts.items o.edges.items) }
         ensures puzzle { IfOk result (λ _. IsPuzzle puzzle.now) }
@@ -57,9 +58,9 @@ impl OptionLists {
     ) -> Result<(), AllocError>
         requires legal { (x : StandingPair) → Contains fitting x → IsLegal puzzle.now x.placement }
         requires shared { AreSharedEdges puzzle.now.board shared.now }
-        requires few { length shared.now ≤ 400 }
+        requires few { length shared.now ≤ 4 * MOST_CELLS }
         requires laid_out { AreLaidOut puzzle.now shared.now self.old.pairs.items self.old.starts.items self.old.edges.items }
-        requires short { length self.old.pairs.items + length fitting ≤ 100 * 65535 }
+        requires short { length self.old.pairs.items + length fitting ≤ MOST_CELLS * u16.MAX }
         ensures laid_out { IfOk result (λ _. AreLaidOut puzzle.now shared.now self.new.pairs.items self.new.starts.items self.new.edges.items) }
         ensures pairs { IfOk result (λ _. self.new.pairs.items ≡ self.old.pairs.items ++ fitting) }
     {
@@ -73,9 +74,9 @@ impl OptionLists {
     fn add(&mut self, puzzle: &Puzzle, shared: &[SharedEdge], pair: Pair) -> Result<(), AllocError>
         requires legal { IsLegal puzzle.now pair.placement }
         requires shared { AreSharedEdges puzzle.now.board shared.now }
-        requires few { length shared.now ≤ 400 }
+        requires few { length shared.now ≤ 4 * MOST_CELLS }
         requires laid_out { AreLaidOut puzzle.now shared.now self.old.pairs.items self.old.starts.items self.old.edges.items }
-        requires short { length self.old.pairs.items < 100 * 65535 }
+        requires short { length self.old.pairs.items < MOST_CELLS * u16.MAX }
         ensures laid_out { IfOk result (λ _. AreLaidOut puzzle.now shared.now self.new.pairs.items self.new.starts.items self.new.edges.items) }
         ensures pairs { IfOk result (λ _. self.new.pairs.items ≡ self.old.pairs.items ++ pair ∷ []) }
     {
@@ -95,7 +96,7 @@ fn add_edges(
 ) -> Result<(), AllocError>
     requires legal { IsLegal puzzle.now pair.placement }
     requires shared { AreSharedEdges puzzle.now.board shared.now }
-    requires few { length shared.now ≤ 400 }
+    requires few { length shared.now ≤ 4 * MOST_CELLS }
     ensures { IfOk result (λ _. AddsEdges puzzle.now shared.now pair edges.old.items edges.new.items) }
 {
     let mut item = 2 * u32::from(puzzle.board().cells());

@@ -1,6 +1,6 @@
 //! Compiled puzzles.
 
-ghost use Rattle.std.specs.Prelude.{◌≡◌, ◌<◌, ◌≤◌, ℕ, IfOk, IsErrOf, Some, length, slice_get};
+ghost use Rattle.std.specs.Prelude.{◌≡◌, ◌<◌, ◌≤◌, ◌*◌, ◌/◌, ℕ, IfOk, IsErrOf, Some, length, slice_get};
 ghost use Rattle.match_board.specs.Board.{cell_count};
 ghost use Rattle.match_puzzle.specs.Puzzle.{IsPuzzle};
 ghost use Rattle.xcc_form.specs.Options.{IsCompiled, HasTooManyEntries, Choice, entries_of, primary_count};
@@ -9,12 +9,10 @@ ghost use Rattle.xcc_form.specs.Correspondence.{IsPairOf};
 use crate::edges::{Edge, SharedEdge, shared_edges};
 use crate::faults::CompileFault;
 use crate::lists::OptionLists;
+use match_board::limits::{MOST_CELLS, MOST_ENTRIES};
 use match_puzzle::{Pair, Puzzle};
 use std::alloc::Global;
 use std::marker::Model;
-
-/// The most items that the options of a compiled puzzle have together.
-pub const MOST_ENTRIES: usize = 200_000;
 
 /// A puzzle as an exact cover with colours (Knuth, TAOCP 4B, 7.2.2.1). It borrows the puzzle that it was compiled from.
 ///
@@ -47,7 +45,7 @@ impl<'a> Model for Xcc<'a> {
 pub fn compile(alloc: Global, puzzle: &Puzzle) -> Result<Xcc<'_>, CompileFault>
     ensures puzzle { IfOk result (λ x. x.puzzle ≡ puzzle.now) }
     ensures compiled { IfOk result IsCompiled }
-    ensures few { IfOk result (λ x. entries_of x ≤ 200000) }
+    ensures few { IfOk result (λ x. entries_of x ≤ MOST_ENTRIES) }
     ensures too_many { IsErrOf result CompileFault.TooMany → HasTooManyEntries puzzle.now }
 {
     let shared = shared_edges(alloc, puzzle)?;
@@ -74,7 +72,7 @@ impl<'a> Xcc<'a> {
     /// How many cells there are: they are the first items.
     pub fn cells(&self) -> u16
         ensures count { result ≡ cell_count self.now.puzzle.board }
-        ensures most { result ≤ 100 }
+        ensures most { result ≤ MOST_CELLS }
         ensures puzzle { IsPuzzle self.now.puzzle }
     {
         self.puzzle.board().cells()
@@ -83,7 +81,7 @@ impl<'a> Xcc<'a> {
     /// How many primary items there are: cells and tiles, at most 200.
     pub fn primaries(&self) -> u32
         ensures count { result ≡ primary_count self.now.puzzle }
-        ensures few { result ≤ 200 }
+        ensures few { result ≤ 2 * MOST_CELLS }
     {
         2 * u32::from(self.cells())
     }
@@ -91,7 +89,7 @@ impl<'a> Xcc<'a> {
     /// How many secondary items there are: shared edges, at most 400.
     pub fn secondaries(&self) -> u32
         ensures count { result ≡ length self.now.shared }
-        ensures few { result ≤ 400 }
+        ensures few { result ≤ 4 * MOST_CELLS }
     {
         self.shared.len() as u32
     }
@@ -99,7 +97,7 @@ impl<'a> Xcc<'a> {
     /// How many options there are, at most 100,000.
     pub fn options(&self) -> u32
         ensures count { result ≡ length self.now.options }
-        ensures few { result ≤ 100000 }
+        ensures few { result ≤ MOST_ENTRIES / 2 }
     {
         self.options.pairs.len() as u32
     }
@@ -107,7 +105,7 @@ impl<'a> Xcc<'a> {
     /// How many items all options have together, at most 200,000.
     pub fn entries(&self) -> u32
         ensures count { result ≡ entries_of self.now }
-        ensures few { result ≤ 200000 }
+        ensures few { result ≤ MOST_ENTRIES }
     {
         (2 * self.options.pairs.len() + self.options.edges.len()) as u32
     }

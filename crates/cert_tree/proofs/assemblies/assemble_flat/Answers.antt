@@ -1,4 +1,5 @@
 use Rattle.std.proofs.Common.{ℕ, List, ◌<◌, ◌≤◌, ◌^◌, length, sym, subst, arith}
+use Rattle.match_board.specs.declared.limits.TheConstants.{MOST_LEMMAS}
 use Rattle.std.specs.Prelude.{All}
 use Rattle.match_symmetry.specs.declared.lines.SymmetryLine.{SymmetryLine}
 use Rattle.cert_tree.specs.Certificate.{Contents, Piece, IsNumbered, piece_number}
@@ -9,7 +10,7 @@ use Rattle.cert_tree.proofs.assemblies.assemble_flat.Goals as goal
 use Rattle.cert_tree.proofs.assemblies.assemble_flat.Goals.{After-of-lemmas}
 
 -- a certificate may be made of what was assembled
-numbered : (count : ℕ) (symmetries : List SymmetryLine) (pieces lemmas : List Piece) → count ≤ 1000000 → length symmetries < 2 ^ 32 → All (λ piece. length piece.prefix < 2 ^ 32) pieces → IsAssembly piece_number count pieces lemmas
+numbered : (count : ℕ) (symmetries : List SymmetryLine) (pieces lemmas : List Piece) → count ≤ MOST_LEMMAS → length symmetries < 2 ^ 32 → All (λ piece. length piece.prefix < 2 ^ 32) pieces → IsAssembly piece_number count pieces lemmas
     → IsNumbered (record { symmetries = symmetries; lemmas = lemmas })
 numbered count symmetries pieces lemmas few few_symmetries prefixes is = record {
   numbered = λ number lemma at. (is.only number lemma at).number;

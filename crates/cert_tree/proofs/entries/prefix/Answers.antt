@@ -1,4 +1,5 @@
 use Rattle.std.proofs.Common.{◌≡◌, ◌+◌, ◌-◌, ◌<◌, ◌++◌, ◌∷◌, [], List, length, true, false, sym, ap, refl, ◌∙◌, arith, codes, append_assoc, length-append, Ok}
+use Rattle.match_board.specs.declared.limits.TheConstants.{MOST_CELLS}
 use Rattle.std.proofs.lemmas.Result.{err_from_is_err_and}
 use Rattle.match_puzzle.specs.declared.placements.Pair.{Pair}
 use Rattle.match_text.specs.declared.faults.ReadFault.TheVariants as faults
@@ -23,7 +24,7 @@ returns-in_err-further_entry-clause-reads c =
     let h = c.loop-scan.invariant in
     let on : goes_on (codes "tree") c.loop-scan.scan.words ≡ true = sym c.has_other.ensures ∙ c.loop-scan-test.true in
     let as_many = many (goal.at.returns-in_err-further_entry-clause-reads c).After-len in
-    let limit = before_limit (codes "tree") pair_in c.loop-scan.scan (100 - length h.0) h.0 (entries_before (codes "tree") 100 pair_in c.args.scan.now) (omega (arith, c.in_err-further_entry.ensures.0, as_many)) on h.3 in
+    let limit = before_limit (codes "tree") pair_in c.loop-scan.scan (MOST_CELLS - length h.0) h.0 (entries_before (codes "tree") MOST_CELLS pair_in c.args.scan.now) (omega (arith, c.in_err-further_entry.ensures.0, as_many)) on h.3 in
     rw (p.1, p.2, c.in_err-further_entry.ensures.1) limit
 
 pub returns-in_err-pair-clause-reads : goal.returns-in_err-pair-clause-reads
@@ -32,7 +33,7 @@ returns-in_err-pair-clause-reads c =
     let h = c.loop-scan.invariant in
     let on : goes_on (codes "tree") c.loop-scan.scan.words ≡ true = sym c.has_other.ensures ∙ c.loop-scan-test.true in
     let as_many = many (goal.at.returns-in_err-pair-clause-reads c).After-len in
-    rw (p.1, p.2) (before_fail (codes "tree") pair_in c.loop-scan.scan (100 - length h.0) (100 - (length h.0 + 1)) h.0 (faults.Text c.in_err-pair.field-0.0) (entries_before (codes "tree") 100 pair_in c.args.scan.now) (omega (arith, c.in_ok-further_entry.ensures, as_many)) on c.in_err-pair.ensures.gives h.3)
+    rw (p.1, p.2) (before_fail (codes "tree") pair_in c.loop-scan.scan (MOST_CELLS - length h.0) (MOST_CELLS - (length h.0 + 1)) h.0 (faults.Text c.in_err-pair.field-0.0) (entries_before (codes "tree") MOST_CELLS pair_in c.args.scan.now) (omega (arith, c.in_ok-further_entry.ensures, as_many)) on c.in_err-pair.ensures.gives h.3)
 
 pub loop-scan-smaller : goal.loop-scan-smaller
 loop-scan-smaller c = word_shorter pair_in c.loop-scan.scan c.pair.new.self c.in_ok-pair.pair c.in_ok-pair.ensures.gives
@@ -43,17 +44,17 @@ loop-scan-preserved c =
     let pair = c.in_ok-pair.pair in
     let on : goes_on (codes "tree") c.loop-scan.scan.words ≡ true = sym c.has_other.ensures ∙ c.loop-scan-test.true in
     let as_many = many (goal.at.loop-scan-preserved c).After-len in
-    let room : length h.0 < 100 = omega (arith, c.in_ok-further_entry.ensures, as_many) in
+    let room : length h.0 < MOST_CELLS = omega (arith, c.in_ok-further_entry.ensures, as_many) in
     let long : length (h.0 ++ pair ∷ []) ≡ length h.0 + 1 = length-append h.0 (pair ∷ []) in (
       h.0 ++ pair ∷ [],
       c.in_ok-push.ensures.items ∙ ap (λ (xs : List Pair). xs ++ pair ∷ []) h.1 ∙ append_assoc c.args.pairs.now.items h.0 (pair ∷ []),
       omega (arith, long, room),
-      before_goes_on (codes "tree") pair_in c.loop-scan.scan c.pair.new.self (100 - length h.0) (100 - length (h.0 ++ pair ∷ [])) h.0 (h.0 ++ pair ∷ []) pair (entries_before (codes "tree") 100 pair_in c.args.scan.now) (omega (arith, long, room)) refl on c.in_ok-pair.ensures.gives h.3,
+      before_goes_on (codes "tree") pair_in c.loop-scan.scan c.pair.new.self (MOST_CELLS - length h.0) (MOST_CELLS - length (h.0 ++ pair ∷ [])) h.0 (h.0 ++ pair ∷ []) pair (entries_before (codes "tree") MOST_CELLS pair_in c.args.scan.now) (omega (arith, long, room)) refl on c.in_ok-pair.ensures.gives h.3,
     )
 
 pub returns-clause-reads : goal.returns-clause-reads
 returns-clause-reads c =
     let h = c.loop-scan.invariant in
     let off : goes_on (codes "tree") c.loop-scan.scan.words ≡ false = sym c.has_other.ensures ∙ c.loop-scan-test.false in
-    before_done (codes "tree") pair_in c.loop-scan.scan (100 - length h.0) h.0 (entries_before (codes "tree") 100 pair_in c.args.scan.now) off h.3
+    before_done (codes "tree") pair_in c.loop-scan.scan (MOST_CELLS - length h.0) h.0 (entries_before (codes "tree") MOST_CELLS pair_in c.args.scan.now) off h.3
     ∙ ap (λ (xs : List Pair). Ok (xs, c.loop-scan.scan)) (sym (behind_is c.args.pairs.now.items c.loop-scan.pairs.items h.0 h.1))

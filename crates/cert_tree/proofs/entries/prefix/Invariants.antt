@@ -1,4 +1,5 @@
 use Rattle.std.proofs.Common.{◌≡◌, ◌≤◌, ◌-◌, ◌++◌, List, length, codes}
+use Rattle.match_board.specs.declared.limits.TheConstants.{MOST_CELLS}
 use Rattle.match_puzzle.specs.declared.placements.Pair.{Pair}
 use Rattle.match_text.specs.Words.{pair_in}
 use Rattle.cert_tree.specs.Entries.{entries_before}
@@ -10,8 +11,8 @@ abbrev pub invariant-loop-scan : goal.invariant-loop-scan
 invariant-loop-scan l =
     (read : List Pair)
     × (l.pairs.items ≡ l.fn.pairs.items ++ read)
-    × (length read ≤ 100)
-    × (with_front read (entries_before (codes "tree") (100 - length read) pair_in l.scan) ≡ entries_before (codes "tree") 100 pair_in l.fn.scan)
+    × (length read ≤ MOST_CELLS)
+    × (with_front read (entries_before (codes "tree") (MOST_CELLS - length read) pair_in l.scan) ≡ entries_before (codes "tree") MOST_CELLS pair_in l.fn.scan)
 
 abbrev pub decreases-loop-scan : goal.decreases-loop-scan
 decreases-loop-scan l = length l.scan.words

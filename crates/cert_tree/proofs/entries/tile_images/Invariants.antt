@@ -1,4 +1,5 @@
 use Rattle.std.proofs.Common.{◌≡◌, ◌≤◌, ◌-◌, length}
+use Rattle.match_board.specs.declared.limits.TheConstants.{MOST_TILES, LAST_TILE}
 use Rattle.match_text.specs.Words.{number_in}
 use Rattle.match_text.specs.Place.{entries}
 use Rattle.match_text.proofs.LoopLemmas.{with_front}
@@ -6,8 +7,8 @@ use Rattle.cert_tree.proofs.entries.tile_images.Given as goal
 
 abbrev pub invariant-loop-scan : goal.invariant-loop-scan
 invariant-loop-scan l = record {
-  room : length l.images.items ≤ 100;
-  so_far : with_front l.images.items (entries (100 - length l.images.items) (number_in 0 99) l.scan) ≡ entries 100 (number_in 0 99) l.fn.scan;
+  room : length l.images.items ≤ MOST_TILES;
+  so_far : with_front l.images.items (entries (MOST_TILES - length l.images.items) (number_in 0 LAST_TILE) l.scan) ≡ entries MOST_TILES (number_in 0 LAST_TILE) l.fn.scan;
 }
 
 abbrev pub decreases-loop-scan : goal.decreases-loop-scan

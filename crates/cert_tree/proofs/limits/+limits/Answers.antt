@@ -1,4 +1,5 @@
 use Rattle.std.proofs.Common.{◌≡◌, ◌-◌, length, ap, sym, subst, ◌∙◌}
+use Rattle.match_board.specs.declared.limits.TheConstants.{MOST_CHILDREN}
 use Rattle.std.specs.Prelude.{MatchBool}
 use Rattle.std.proofs.lemmas.Bool.{lt-leb}
 use Rattle.match_puzzle.specs.declared.items.Item.TheVariants as items
@@ -8,13 +9,13 @@ use Rattle.cert_tree.proofs.TreeLemmas.{tree_of-Cell, tree_of-Tile}
 use Rattle.cert_tree.proofs.TreeLimitLemmas.{branch_by_children, first_child, more_children, children_by_nodes, too_many}
 use Rattle.cert_tree.proofs.limits.+limits.Goals as goal
 
-pub are_children_within-returns-then-count-le-MOST_CHILDREN :
-    goal.are_children_within-returns-then-count-le-MOST_CHILDREN
-are_children_within-returns-then-count-le-MOST_CHILDREN t c = children_by_nodes c.args.room c.args.nodes.now c.are_nodes_within.result c.if-count-gt0.true c.if-count-le-MOST_CHILDREN.true c.are_nodes_within.ensures
+pub are_children_within-returns-then-count :
+    goal.are_children_within-returns-then-count
+are_children_within-returns-then-count t c = children_by_nodes c.args.room c.args.nodes.now c.are_nodes_within.result c.if-count-gt0.true c.if-count.true c.are_nodes_within.ensures
 
-pub are_children_within-returns-else-count-le-MOST_CHILDREN :
-    goal.are_children_within-returns-else-count-le-MOST_CHILDREN
-are_children_within-returns-else-count-le-MOST_CHILDREN t c = rw (lt-leb (length c.args.nodes.now) 400 c.if-count-le-MOST_CHILDREN.false) (too_many c.args.room c.args.nodes.now c.if-count-le-MOST_CHILDREN.false)
+pub are_children_within-returns-else-count :
+    goal.are_children_within-returns-else-count
+are_children_within-returns-else-count t c = rw (lt-leb (length c.args.nodes.now) MOST_CHILDREN c.if-count.false) (too_many c.args.room c.args.nodes.now c.if-count.false)
 
 pub are_nodes_within-returns-then-not-is_node_within :
     goal.are_nodes_within-returns-then-not-is_node_within
@@ -30,19 +31,19 @@ are_nodes_within-loop-node-preserved t c =
       on = λ all. (first_child c.args.room c.args.nodes.now c.loop-node.node-index c.node-item.result c.loop-node-test.true (c.loop-node.invariant.on all)).1;
     }
 
-pub is_node_within-returns-then-cell-le-MOST_CELL :
-    goal.is_node_within-returns-then-cell-le-MOST_CELL
-is_node_within-returns-then-cell-le-MOST_CELL t c =
+pub is_node_within-returns-then-cell-le-LAST_CELL :
+    goal.is_node_within-returns-then-cell-le-LAST_CELL
+is_node_within-returns-then-cell-le-LAST_CELL t c =
     let nodes = c.in-Cell.children.nodes.items in
     let is : tree_of c.args.node.now ≡ branch (items.Cell c.in-Cell.cell) (forest_of nodes) = ap tree_of c.in-Cell.is ∙ tree_of-Cell c.in-Cell.cell c.in-Cell.children in
     let children = subst (λ ns. MatchBool c.are_children_within.result (AreChildrenWithin (c.args.room - 1) (forest_of ns)) (AreChildrenWithin (c.args.room - 1) (forest_of ns) → ⊥)) c.as_slice.ensures c.are_children_within.ensures in
-    rw is (branch_by_children c.args.room (items.Cell c.in-Cell.cell) (forest_of nodes) c.are_children_within.result c.if-room-eq0.false c.if-cell-le-MOST_CELL.true children)
+    rw is (branch_by_children c.args.room (items.Cell c.in-Cell.cell) (forest_of nodes) c.are_children_within.result c.if-room-eq0.false c.if-cell-le-LAST_CELL.true children)
 
-pub is_node_within-returns-then-tile-le-MOST_TILE :
-    goal.is_node_within-returns-then-tile-le-MOST_TILE
-is_node_within-returns-then-tile-le-MOST_TILE t c =
+pub is_node_within-returns-then-tile-le-LAST_TILE :
+    goal.is_node_within-returns-then-tile-le-LAST_TILE
+is_node_within-returns-then-tile-le-LAST_TILE t c =
     let nodes = c.in-Tile.children.nodes.items in
     let is : tree_of c.args.node.now ≡ branch (items.Tile c.in-Tile.tile) (forest_of nodes) = ap tree_of c.in-Tile.is ∙ tree_of-Tile c.in-Tile.tile c.in-Tile.children in
-    let checked = c.are_children_within-then-tile-le-MOST_TILE in
-    let children = subst (λ ns. MatchBool checked.result (AreChildrenWithin (c.args.room - 1) (forest_of ns)) (AreChildrenWithin (c.args.room - 1) (forest_of ns) → ⊥)) c.as_slice-then-tile-le-MOST_TILE.ensures checked.ensures in
-    rw is (branch_by_children c.args.room (items.Tile c.in-Tile.tile) (forest_of nodes) checked.result c.if-room-eq0.false c.if-tile-le-MOST_TILE.true children)
+    let checked = c.are_children_within-then-tile-le-LAST_TILE in
+    let children = subst (λ ns. MatchBool checked.result (AreChildrenWithin (c.args.room - 1) (forest_of ns)) (AreChildrenWithin (c.args.room - 1) (forest_of ns) → ⊥)) c.as_slice-then-tile-le-LAST_TILE.ensures checked.ensures in
+    rw is (branch_by_children c.args.room (items.Tile c.in-Tile.tile) (forest_of nodes) checked.result c.if-room-eq0.false c.if-tile-le-LAST_TILE.true children)

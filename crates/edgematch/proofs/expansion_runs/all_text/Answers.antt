@@ -1,4 +1,5 @@
 use Rattle.std.proofs.Common.{List, [], map, ap, sym, ◌∙◌, subst}
+use Rattle.match_board.specs.declared.limits.TheConstants.{MOST_ARRANGEMENTS}
 use Rattle.std.proofs.lemmas.Result.{err_from_is_err_and}
 use Rattle.match_puzzle.specs.declared.placements.Placement.{Placement}
 use Rattle.match_text.specs.ListSpelling.{list_spelling, IsListWithin}
@@ -41,7 +42,7 @@ returns-in_err-all-clause-expand c =
     let are = kept_are p listed lines c.requires.puzzle (complete at) c.deref-2.result.now (kept at) in
     let w = err_from_is_err_and c.from_residual-in_err-all.result c.from_residual-in_err-all.ensures.1 in
     rw (w.1, w.2)
-    (λ e. subst (AreMoreReached 1000000 p lines) c.deref.ensures.value (kept_reach p listed lines c.requires.puzzle (complete at) 1000000 c.deref-2.result.now (kept at) (c.in_err-all.ensures.too_many (expand_fails e) p are)))
+    (λ e. subst (AreMoreReached MOST_ARRANGEMENTS p lines) c.deref.ensures.value (kept_reach p listed lines c.requires.puzzle (complete at) MOST_ARRANGEMENTS c.deref-2.result.now (kept at) (c.in_err-all.ensures.too_many (expand_fails e) p are)))
 
 expansion : (c : After-deref-2) (all : List (List Placement)) → IsExpansion c.deref-2.result.now c.deref.result.now all → IsExpansion (map (motion_of c.args.question.now.puzzle) c.args.question.now.certificate.symmetries) c.deref.result.now all
 expansion c all is = closure_all Takes (map (motion_of c.args.question.now.puzzle) c.args.question.now.certificate.symmetries) c.deref-2.result.now (kept c) c.deref.result.now all is

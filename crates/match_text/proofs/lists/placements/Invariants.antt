@@ -1,4 +1,5 @@
 use Rattle.std.proofs.Common.{◌≡◌, ◌≤◌, ◌-◌, length}
+use Rattle.match_board.specs.declared.limits.TheConstants.{MOST_CELLS}
 use Rattle.match_text.specs.Words.{placement_in}
 use Rattle.match_text.specs.Place.{entries}
 use Rattle.match_text.proofs.LoopLemmas.{with_front}
@@ -6,8 +7,8 @@ use Rattle.match_text.proofs.lists.placements.Given as goal
 
 abbrev pub invariant-loop-scan : goal.invariant-loop-scan
 invariant-loop-scan l = record {
-  room : length l.row.items ≤ 100;
-  so_far : with_front l.row.items (entries (100 - length l.row.items) placement_in l.scan) ≡ entries 100 placement_in l.fn.scan;
+  room : length l.row.items ≤ MOST_CELLS;
+  so_far : with_front l.row.items (entries (MOST_CELLS - length l.row.items) placement_in l.scan) ≡ entries MOST_CELLS placement_in l.fn.scan;
 }
 
 abbrev pub decreases-loop-scan : goal.decreases-loop-scan

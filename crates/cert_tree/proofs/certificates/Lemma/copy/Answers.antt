@@ -1,4 +1,5 @@
 use Rattle.std.proofs.Common.{◌≡◌, subst}
+use Rattle.match_board.specs.declared.limits.TheConstants.{MOST_LEVELS}
 use Rattle.std.specs.Prelude.{IfOk}
 use Rattle.cert_tree.specs.Tree.{tree_of}
 use Rattle.cert_tree.specs.Certificate.{Piece, piece_of, flat_piece}
@@ -7,7 +8,7 @@ use Rattle.cert_tree.proofs.SpanLemmas.{alone_at, alone_narrow}
 use Rattle.cert_tree.proofs.certificates.Lemma.copy.Goals as goal
 
 pub flat_lemmas-requires : goal.flat_lemmas-requires
-flat_lemmas-requires c = alone_narrow c.from_ref.result.now c.args.self.now c.from_ref.ensures.value (narrow_within 101 (tree_of c.args.self.now.tree) c.requires.tree)
+flat_lemmas-requires c = alone_narrow c.from_ref.result.now c.args.self.now c.from_ref.ensures.value (narrow_within MOST_LEVELS (tree_of c.args.self.now.tree) c.requires.tree)
 
 pub returns : goal.returns
 returns c =

@@ -1,4 +1,5 @@
 use Rattle.std.proofs.Common.{◌<◌, ◌≤◌, ℕ, MatchOption, sym, subst}
+use Rattle.match_board.specs.declared.limits.TheConstants.{MOST_COLOURS}
 use Rattle.match_board.specs.First.{IsLeast}
 use Rattle.match_puzzle.specs.declared.borders.Border.{Border}
 use Rattle.match_puzzle.specs.Puzzle.{rule_of, StandsInRule}
@@ -7,6 +8,6 @@ use Rattle.match_puzzle.proofs.borders.Border.bad_colour.Goals as goal
 pub returns-in-Each : goal.returns-in-Each
 returns-in-Each c =
     let P : Border → Type 0 = λ b. MatchOption c.bad_colour.result
-    ((place colour : ℕ) → StandsInRule (rule_of b) place colour → colour < 36)
-    (IsLeast (λ place. (colour : ℕ) × StandsInRule (rule_of b) place colour × (36 ≤ colour))) in
+    ((place colour : ℕ) → StandsInRule (rule_of b) place colour → colour < MOST_COLOURS)
+    (IsLeast (λ place. (colour : ℕ) × StandsInRule (rule_of b) place colour × (MOST_COLOURS ≤ colour))) in
     subst P (sym c.in-Each.is) c.bad_colour.ensures

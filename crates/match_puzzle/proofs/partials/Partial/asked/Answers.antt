@@ -1,4 +1,5 @@
 use Rattle.std.proofs.Common.{IfSome, ◌<◌, ◌≤◌, arith, sym, subst}
+use Rattle.match_board.specs.declared.limits.TheConstants.{MOST_COLOURS}
 use Rattle.match_board.proofs.Places.{StandsAt-in_range}
 use Rattle.match_puzzle.specs.Puzzle.{Task}
 use Rattle.match_puzzle.specs.Tables.{IsSide}
@@ -18,11 +19,11 @@ shown-requires-clause-cell c = StandsAt-in_range (side_is (goal.at.shown-require
 border_is : (c : In-Border) → IsSide c.args.self.now.puzzle c.args.cell c.args.side (Border c.in-Border.rule)
 border_is c = subst (λ (p : Task). IsSide p c.args.cell c.args.side (Border c.in-Border.rule)) c.puzzle-2.ensures.same c.in-Border.ensures
 
-few : (c : In-Border) → IfSome c.in-Border.rule (λ colour. colour < 36)
+few : (c : In-Border) → IfSome c.in-Border.rule (λ colour. colour < MOST_COLOURS)
 few c = rule_below c.args.self.now.puzzle c.args.cell c.args.side c.in-Border.rule c.puzzle-2.ensures.puzzle (λ colour. ((border_is c).1 colour).0)
 
 pub returns-in-Border-clause-most : goal.returns-in-Border-clause-most
-returns-in-Border-clause-most c = let there = (goal.at.returns-in-Border-clause-most c).In-Border in subst (λ n. n ≤ 36) (sym c.unwrap_or.ensures) (at_most_36 c.in-Border.rule (few there))
+returns-in-Border-clause-most c = let there = (goal.at.returns-in-Border-clause-most c).In-Border in subst (λ n. n ≤ MOST_COLOURS) (sym c.unwrap_or.ensures) (at_most_36 c.in-Border.rule (few there))
 
 pub returns-in-Border-clause-asked : goal.returns-in-Border-clause-asked
 returns-in-Border-clause-asked c =

@@ -1,4 +1,5 @@
 use Rattle.std.proofs.Common.{◌≡◌, ◌<◌, ◌+◌, ◌*◌, ◌∙◌, length, slice_index, ap, arith, sym, subst}
+use Rattle.match_board.specs.declared.limits.TheConstants.{MOST_COLOURS}
 use Rattle.std.proofs.lemmas.List.{get_or_default}
 use Rattle.match_board.specs.Board.{cell_count, side_count}
 use Rattle.match_puzzle.specs.Puzzle.{colour_of}
@@ -29,13 +30,13 @@ at c =
 
 pub returns-clause-placed : goal.returns-clause-placed
 returns-clause-placed c =
-    subst (λ (v : Layout). (x : Placement) → Has v.placed c.args.cell x → (c.index.result.now ≡ colour_of v.puzzle x c.args.side) × (c.index.result.now < 36)) c.self.view_is
+    subst (λ (v : Layout). (x : Placement) → Has v.placed c.args.cell x → (c.index.result.now ≡ colour_of v.puzzle x c.args.side) × (c.index.result.now < MOST_COLOURS)) c.self.view_is
     (λ x has.
     let there = (goal.at.returns-clause-placed c).After-index in
     let w = c.self.invariant.shows.placed c.args.cell c.args.side x has (side_in there) in
-    (at there ∙ w.0, subst (λ n. n < 36) (sym (at there)) w.1))
+    (at there ∙ w.0, subst (λ n. n < MOST_COLOURS) (sym (at there)) w.1))
 
 pub returns-clause-empty : goal.returns-clause-empty
 returns-clause-empty c =
-    subst (λ (v : Layout). IsFree v.placed c.args.cell → c.index.result.now ≡ 36) c.self.view_is
+    subst (λ (v : Layout). IsFree v.placed c.args.cell → c.index.result.now ≡ MOST_COLOURS) c.self.view_is
     (λ free. let there = (goal.at.returns-clause-empty c).After-index in let lt = side_in there in at there ∙ c.self.invariant.shows.empty c.args.cell c.args.side free (omega (arith, lt, few_sides c.self.inside.puzzle.now.board)))

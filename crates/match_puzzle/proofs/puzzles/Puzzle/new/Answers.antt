@@ -1,4 +1,5 @@
 use Rattle.std.proofs.Common.{◌≡◌, ◌≤◌, ◌<◌, ◌/◌, ◌%◌, ℕ, List, All, length, slice_index, rules, subst, sym}
+use Rattle.match_board.specs.declared.limits.TheConstants.{MOST_TILES}
 use Rattle.match_board.specs.Listing.{IsListing}
 use Rattle.match_puzzle.specs.Puzzle.{task_of}
 use Rattle.match_puzzle.specs.Tables.{AreTurnCounts}
@@ -10,7 +11,7 @@ counts : (c : After-deref) → AreTurnCounts (task_of c.args.board c.args.turns 
 counts c = c.in_ok-turn_counts.ensures c.args.board c.args.border.now
 
 pub new-requires-clause-as_many : goal.new-requires-clause-as_many
-new-requires-clause-as_many c = subst (λ (xs : List ℕ). length xs ≤ 100) (sym c.deref.ensures.value) (few_counts _ c.in_default.ensures _ (counts (goal.at.new-requires-clause-as_many c).After-deref))
+new-requires-clause-as_many c = subst (λ (xs : List ℕ). length xs ≤ MOST_TILES) (sym c.deref.ensures.value) (few_counts _ c.in_default.ensures _ (counts (goal.at.new-requires-clause-as_many c).After-deref))
 
 pub new-requires-clause-turns : goal.new-requires-clause-turns
 new-requires-clause-turns c = subst (λ (xs : List ℕ). All (λ count. count ≤ 4) xs) (sym c.deref.ensures.value) (few_turns _ c.in_default.ensures _ (counts (goal.at.new-requires-clause-turns c).After-deref))

@@ -1,4 +1,5 @@
 use Rattle.std.proofs.Common.{◌≡◌, ℕ, Bool, List, Some, false, replicate, get_or, slice_get, arith, sym, subst}
+use Rattle.match_board.specs.declared.limits.TheConstants.{MOST_TILES}
 use Rattle.std.proofs.lemmas.List.{get_or-replicate, length-replicate}
 use Rattle.std.proofs.lemmas.Option.{slice_get-get_or}
 use Rattle.match_puzzle.specs.PrefixFaults.{TellsOfPair, IsPrefixFault}
@@ -19,7 +20,7 @@ first_told p pairs n least seen right x there (Tile m) told = subst (λ k. IsPre
 first_told p pairs n least seen right x there (Turn m) told = subst (λ k. IsPrefixFault p pairs (Turn k)) (sym told.0) (first_turn p pairs n least seen right x there told.1 told.2 told.2.1 told.3)
 
 pub loop-place-init : goal.loop-place-init
-loop-place-init c = right_none c.args.self.now c.args.pairs.now (replicate 100 false) (length-replicate 100 false) (λ tile lt. get_or-replicate 100 tile false false lt)
+loop-place-init c = right_none c.args.self.now c.args.pairs.now (replicate MOST_TILES false) (length-replicate MOST_TILES false) (λ tile lt. get_or-replicate MOST_TILES tile false false lt)
 
 -- No more pairs are right than there may be cells.
 pub overflow_cast-place : goal.overflow_cast-place

@@ -1,4 +1,5 @@
 use Rattle.std.proofs.Common.{◌<◌, ◌∙◌, ℕ, true, false, length, length-set, replicate, below_more, arith, ap}
+use Rattle.match_board.specs.declared.limits.TheConstants.{MOST_TILES}
 use Rattle.std.proofs.lemmas.List.{get_or-replicate, length-replicate}
 use Rattle.std.proofs.lemmas.Option.{slice_get_within}
 use Rattle.match_board.specs.Board.{cell_count}
@@ -12,13 +13,13 @@ abbrev first_tile : Placement
 first_tile = record { tile = 0; turn = 0 }
 
 -- a tile of a puzzle is below 100
-small_tile : (p : Task) (tile : ℕ) → IsPuzzle p → tile < length p.words → tile < 100
+small_tile : (p : Task) (tile : ℕ) → IsPuzzle p → tile < length p.words → tile < MOST_TILES
 small_tile p tile is lt = omega (arith, is.tiles, is.board.1)
 
 pub loop-cell-init : goal.loop-cell-init
 loop-cell-init c = record {
-  long = length-replicate 100 false;
-  seen = seen_none c.args.placements.now (replicate 100 false) (λ tile lt. get_or-replicate 100 tile false false lt);
+  long = length-replicate MOST_TILES false;
+  seen = seen_none c.args.placements.now (replicate MOST_TILES false) (λ tile lt. get_or-replicate MOST_TILES tile false false lt);
   once = λ k lt. absurd (omega arith);
 }
 

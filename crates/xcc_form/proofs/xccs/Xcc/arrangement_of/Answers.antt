@@ -1,4 +1,5 @@
 use Rattle.std.proofs.Common.{◌≡◌, ◌∙◌, List, Bool, true, false, not, Some, slice_get, get_or, replicate, set, take, ap, arith, refl, subst, sym}
+use Rattle.match_board.specs.declared.limits.TheConstants.{MOST_CELLS}
 use Rattle.std.proofs.lemmas.Bool.{false≢true}
 use Rattle.std.proofs.lemmas.Option.{slice_get-get_or}
 use Rattle.match_board.specs.Board.{cell_count}
@@ -26,7 +27,7 @@ unturned_first = record { tile = 0; turn = 0 }
 pub loop-option-init : goal.loop-option-init
 loop-option-init c =
     let nothing : Placement = record { tile = c.cells.result; turn = 0 } in
-    none_put c.args.self.now c.puzzle-puzzle.ensures.compiled nothing c.args.options.now (replicate 100 nothing) 100 (omega (arith, c.cells.ensures.count, c.cells.ensures.most)) refl
+    none_put c.args.self.now c.puzzle-puzzle.ensures.compiled nothing c.args.options.now (replicate MOST_CELLS nothing) MOST_CELLS (omega (arith, c.cells.ensures.count, c.cells.ensures.most)) refl
 
 pub returns-then-option-options-clause-refused : goal.returns-then-option-options-clause-refused
 returns-then-option-options-clause-refused c = λ _ solution.

@@ -1,0 +1,62 @@
+//! The limits of boards, puzzles, their texts and certificates, each in this one place. Code, contracts and
+//! specifications name them. Numbers begin at 0, so that of `MOST_CELLS` cells the greatest number is `LAST_CELL`.
+
+/// The most cells of a board, and so the most placements of an arrangement, pairs of a prefix and images of cells.
+pub const MOST_CELLS: u16 = 100;
+
+/// The greatest number of a cell.
+pub const LAST_CELL: u16 = MOST_CELLS - 1;
+
+/// The most tiles of a puzzle: one for each cell.
+pub const MOST_TILES: u16 = MOST_CELLS;
+
+/// The greatest number of a tile.
+pub const LAST_TILE: u16 = MOST_TILES - 1;
+
+/// The greatest width, height and size of a board: a row may have all of its cells.
+pub const MOST_LENGTH: u16 = MOST_CELLS;
+
+/// The greatest number of a side, and so the greatest shift of a symmetry: a square has four sides.
+pub const LAST_SIDE: u8 = 3;
+
+/// The greatest number of turns: as many turns as a tile has sides leave it as it was.
+pub const LAST_TURN: u8 = LAST_SIDE;
+
+/// The most rules of a border, which has one for each border pair: at most four for each cell.
+pub const MOST_RULES: u16 = 4 * MOST_CELLS;
+
+/// How many colours there are: texts write them `0` to `9`, and then `a` to `z`.
+pub const MOST_COLOURS: u8 = 36;
+
+/// The most classes of tiles that turn into each other of which a list of tiles has one for each.
+pub const MOST_CLASSES: usize = 100;
+
+/// The most items that the options of a compiled puzzle have together.
+pub const MOST_ENTRIES: usize = 200_000;
+
+/// The most arrangements of a list, and of an expansion.
+pub const MOST_ARRANGEMENTS: u32 = 1_000_000;
+
+/// The greatest number of a listed arrangement.
+pub const LAST_ARRANGEMENT: u32 = MOST_ARRANGEMENTS - 1;
+
+/// The most symmetries that a certificate names.
+pub const MOST_SYMMETRIES: u16 = 1_024;
+
+/// The greatest number of a symmetry that a certificate names.
+pub const LAST_SYMMETRY: u16 = MOST_SYMMETRIES - 1;
+
+/// The most lemmas of a certificate.
+pub const MOST_LEMMAS: u32 = 1_000_000;
+
+/// The greatest number of a lemma.
+pub const LAST_LEMMA: u32 = MOST_LEMMAS - 1;
+
+/// The most children of a branch: at a cell at most four turns of each tile fit, and of a tile four at each cell.
+pub const MOST_CHILDREN: u32 = 4 * MOST_TILES as u32;
+
+/// The most levels of a tree: a branch for each cell, and below the last of them one node more.
+pub const MOST_LEVELS: u16 = MOST_CELLS + 1;
+
+/// The most bytes of a document that are read.
+pub const MOST_BYTES: u32 = 1_073_741_824;
