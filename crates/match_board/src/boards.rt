@@ -12,9 +12,9 @@ use thiserror::Error;
 /// Why there is no such board: it has no cells, or over 100.
 #[derive(Clone, Copy, PartialEq, Eq, Debug, Error)]
 pub enum BoardFault {
-    #[error("empty")]
+    #[error("board empty")]
     Empty,
-    #[error("too-large")]
+    #[error("board too-large")]
     TooLarge,
 }
 

@@ -118,6 +118,28 @@ fn most_tiles(rt: HostRuntime) -> Result<(), Fail> {
     Ok(())
 }
 
+#[test]
+fn faults_in_the_programs_words(rt: HostRuntime) -> Result<(), Fail> {
+    let alloc = rt.alloc();
+    assert_eq!(rt;
+        format!(in alloc; "{}", BoardFault::Empty)?.as_str(),
+        "board empty"
+    );
+    assert_eq!(rt;
+        format!(in alloc; "{}", BoardFault::TooLarge)?.as_str(),
+        "board too-large"
+    );
+    assert_eq!(rt;
+        format!(in alloc; "{}", TilesFault::TooMany)?.as_str(),
+        "too many tiles"
+    );
+    assert_eq!(rt;
+        format!(in alloc; "{}", TilesFault::Memory)?.as_str(),
+        "out of memory"
+    );
+    Ok(())
+}
+
 // The numbers are those of docs/FORMATS.md, but for that of entries.
 #[test]
 fn limits_of_formats(rt: HostRuntime) {

@@ -83,7 +83,7 @@ pub enum PuzzleTextFault {
     #[error("{0}")]
     Text(TextFault),
     /// There is no such board; the text has no fault.
-    #[error("board {0}")]
+    #[error("{0}")]
     Board(BoardFault),
     /// There is no such puzzle; there is such a board.
     #[error("{0}")]

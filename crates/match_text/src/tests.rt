@@ -253,6 +253,21 @@ fn makes_the_board_and_the_puzzle_last(rt: HostRuntime) {
 }
 
 #[test]
+fn says_faults_in_the_programs_words(rt: HostRuntime) -> Result<(), Fail> {
+    let alloc = rt.alloc();
+    let text = PuzzleTextFault::Text(TextFault {
+        line: 3,
+        kind: TextKind::TooDeep,
+    });
+    let board = PuzzleTextFault::Board(BoardFault::TooLarge);
+    let puzzle = PuzzleTextFault::Puzzle(PuzzleFault::TileSides(3));
+    assert_eq!(rt; format!(in alloc; "{text}")?.as_str(), "line 3: too-deep");
+    assert_eq!(rt; format!(in alloc; "{board}")?.as_str(), "board too-large");
+    assert_eq!(rt; format!(in alloc; "{puzzle}")?.as_str(), "tile-sides 3");
+    Ok(())
+}
+
+#[test]
 fn tells_faults_of_a_lists_head(rt: HostRuntime) {
     let texts = [
         (b"".as_slice(), 1, TextKind::Ends),

@@ -10,7 +10,7 @@ use thiserror::Error;
 /// Why a puzzle is not compiled: its options have over 200,000 items, or memory ran out.
 #[derive(Clone, Copy, PartialEq, Eq, Debug, Error)]
 pub enum CompileFault {
-    #[error("too-many")]
+    #[error("too many options")]
     TooMany,
     #[error("out of memory")]
     Memory,
@@ -28,7 +28,7 @@ impl From<AllocError> for CompileFault {
 #[derive(Clone, Copy, PartialEq, Eq, Debug, Error)]
 pub enum FormFault {
     /// The placements are no arrangement of the puzzle, or the options no solution.
-    #[error("not-a-solution")]
+    #[error("not a solution")]
     NotASolution,
     #[error("out of memory")]
     Memory,
