@@ -1,4 +1,4 @@
-// The check of a certificate.
+//! The check of a certificate.
 
 ghost use Rattle.std.specs.Prelude.{◌≡◌, ◌<◌, ◌^◌, ℕ, IfOk, MatchOption, None, Some, length, map, slice_get};
 ghost use Rattle.match_board.specs.First.{IsFirst};
@@ -9,7 +9,7 @@ ghost use Rattle.cert_check.specs.Walk.{TellsOfLemma, TellsOfTrees, TellsOfListi
 ghost use Rattle.cert_check.specs.Answer.{IsAnswer, IsCompleteList, AreCovered, OneAnswer};
 
 use crate::faults::{Answer, Fault, TreeFault};
-use crate::lists::list_fault;
+use crate::list_faults::list_fault;
 use crate::prefixes::{ends_at_a_root, prefixes_fault};
 use crate::repeats::first_repeated;
 use crate::settings::Setting;

@@ -1,4 +1,4 @@
-// What may be wrong with a list or its certificate.
+//! What may be wrong with a list or its certificate.
 
 use match_puzzle::{ArrangementFault, PrefixFault};
 use match_symmetry::SymmetryFault;

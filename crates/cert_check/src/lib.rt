@@ -3,8 +3,8 @@
 
 mod checks;
 mod faults;
-mod lists;
-mod nodes;
+mod list_faults;
+mod node_faults;
 mod prefixes;
 mod repeats;
 mod settings;

@@ -1,4 +1,4 @@
-// What lemmas begin with.
+//! What is wrong with the prefixes of lemmas.
 
 ghost use Rattle.std.specs.Prelude.{◌≡◌, ◌<◌, ◌^◌, MatchBool, MatchOption, length};
 ghost use Rattle.cert_check.specs.Setting.{BeginWithPrefixes};

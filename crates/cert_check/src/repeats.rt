@@ -1,4 +1,4 @@
-// Repeated entries of a list.
+//! Repeated entries of a list.
 
 ghost use Rattle.std.specs.Prelude.{◌≡◌, ◌<◌, ◌^◌, ◌↔◌, IfOk, IsSorted, IsTrue, MatchOption, length, min, slice_get, option_copied};
 ghost use Rattle.match_board.specs.First.{IsLeast};

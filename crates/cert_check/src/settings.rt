@@ -1,4 +1,4 @@
-// What the tree of a lemma may name.
+//! What the tree of a lemma may name.
 
 ghost use Rattle.std.specs.Prelude.{◌≡◌, ◌≤◌, ℕ, IfSome, None, Some, length, map, take, slice_get};
 ghost use Rattle.match_puzzle.specs.PrefixFaults.{IsPairList};

@@ -1,4 +1,4 @@
-// The walk of a tree by its heads.
+//! The walk of a tree by its heads.
 
 ghost use Rattle.std.specs.Prelude.{◌≡◌, ◌≢◌, ◌<◌, ◌≤◌, ◌^◌, ℕ, List, IfOk, MatchBool, MatchOption, None, length};
 ghost use Rattle.std.specs.Option.{option_map};
@@ -8,7 +8,7 @@ ghost use Rattle.cert_tree.specs.Heads.{first, front, past};
 ghost use Rattle.cert_check.specs.Walk.{Tells, IsAtTop, below};
 
 use crate::faults::{NodeFault, Path, TreeFault};
-use crate::nodes::{branch_pairs, dead_fault, found_fault, image_fault, same_fault};
+use crate::node_faults::{branch_pairs, dead_fault, found_fault, image_fault, same_fault};
 use crate::settings::Setting;
 use cert_tree::{Head, Trees};
 use match_puzzle::{Item, Partial};

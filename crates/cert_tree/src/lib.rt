@@ -11,13 +11,13 @@ mod flat_lemmas;
 mod flat_trees;
 mod heads;
 mod laws;
-mod limits;
 mod nodes;
 mod readers;
 mod spellings;
 #[cfg(test)]
 mod tests;
 mod tree_readers;
+mod within_limits;
 
 pub use assemblies::{assemble, assembly_laws};
 pub use certificates::{Certificate, Lemma, Pairs};

@@ -1,4 +1,4 @@
-// A board: its cells, and which of their sides meet.
+//! A board: its cells, and which of their sides meet.
 
 ghost use Rattle.std.specs.Prelude.{◌≡◌, ◌↔◌, ◌<◌, ◌≤◌, ◌*◌, ℕ, ◌+◌, List, length, IfOk, IfSome, MatchBool};
 ghost use Rattle.match_board.specs.Board.{cell_count, side_count, Meets, IsBoard, IsBorderOrder, IsBorderPair, IsBorderBefore};

@@ -1,4 +1,4 @@
-// The figure that a board covers: where its cells stand, and which of their sides meet.
+//! The figure that a board covers: where its cells stand, and which of their sides meet.
 
 ghost use Rattle.std.specs.Prelude.{◌≡◌, ◌<◌, ◌≤◌, ℕ, IfSome};
 ghost use Rattle.match_board.specs.Board.{cell_count, row_count, row_length, side_count, Meets, StandsAt, IsPlace, LiesAgainst, IsBoard};

@@ -1,4 +1,4 @@
-// The cells of a hexagon, which are triangles.
+//! The cells of a hexagon, which are triangles.
 
 ghost use Rattle.std.specs.Prelude.{◌≡◌, ◌<◌, ◌≤◌, ◌+◌, ◌*◌, ℕ, IfSome};
 ghost use Rattle.match_board.specs.Board.{row_length, IsPlace, PointsUp, PointsDown, LiesBelow, LiesAgainst};

@@ -1,4 +1,4 @@
-// The cells of a rectangle, which are squares.
+//! The cells of a rectangle, which are squares.
 
 ghost use Rattle.std.specs.Prelude.{◌≡◌, ◌<◌, ◌≤◌, ℕ, IfSome};
 ghost use Rattle.match_board.specs.Board.{IsPlace, LiesAgainst};

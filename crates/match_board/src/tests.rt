@@ -1,4 +1,4 @@
-// Boards and tiles whose numbers are known.
+//! Boards and tiles whose numbers are known.
 
 use crate::{Board, BoardFault, Tile, TilesFault, all_tiles, limits};
 use std::test::Fail;

@@ -1,4 +1,4 @@
-// What is wrong with a list of placements that is no arrangement.
+//! What is wrong with a list of placements that is no arrangement.
 
 ghost use Rattle.std.specs.Prelude.{◌≡◌, ◌≢◌, ◌<◌, ◌≤◌, ℕ, MatchOption, MatchBool, length};
 ghost use Rattle.match_board.specs.Board.{cell_count, side_count};

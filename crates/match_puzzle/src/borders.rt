@@ -1,4 +1,4 @@
-// What a puzzle asks of its border.
+//! What a puzzle asks of its border.
 
 ghost use Rattle.std.specs.Prelude.{◌≡◌, ◌<◌, ◌≤◌, ◌↔◌, ◌^◌, ℕ, IfOk, MatchOption, MatchBool, Some, length, slice_get};
 ghost use Rattle.match_board.specs.First.{IsLeast};

@@ -1,4 +1,4 @@
-// What may be wrong with a puzzle or an arrangement.
+//! What may be wrong with a puzzle or an arrangement.
 
 ghost use Rattle.match_puzzle.specs.declared.faults.PuzzleFault.TheVariants.{Memory};
 ghost use Rattle.std.specs.Prelude.{◌≡◌};

@@ -1,4 +1,4 @@
-// What has to be settled in an arrangement.
+//! What has to be settled in an arrangement.
 
 /// What each arrangement settles once: the tile of a cell, or the cell of a tile.
 /// These are the primary items of the exact cover (Knuth, TAOCP 4B, 7.2.2.1).

@@ -1,4 +1,4 @@
-// Partial arrangements.
+//! Partial arrangements.
 
 ghost use Rattle.std.specs.Prelude.{◌≡◌, ◌↔◌, ◌⊎◌, ◌<◌, ◌≤◌, ◌+◌, ◌*◌, ℕ, slice_index, IfOk, IfSome, IsTrue, MatchBool, false, map, None, Some, List, length, slice_get};
 ghost use Rattle.match_board.specs.Board.{cell_count, side_count};

@@ -1,4 +1,4 @@
-// Tiles that are put into place.
+//! Tiles that are put into place.
 
 ghost use Rattle.match_puzzle.specs.Equality as equality;
 

@@ -1,4 +1,4 @@
-// What is wrong with a list of pairs that is no prefix.
+//! What is wrong with a list of pairs that is no prefix.
 
 ghost use Rattle.std.specs.Prelude.{◌≡◌, MatchOption, length};
 ghost use Rattle.match_puzzle.specs.PrefixFaults.{IsPairList, IsPrefixFault, TellsOfPair};

@@ -1,4 +1,4 @@
-// A puzzle: a board, tiles, and a rule for the border.
+//! A puzzle: a board, tiles, and a rule for the border.
 
 ghost use Rattle.std.specs.Prelude.{◌≡◌, ◌≢◌, ◌<◌, ◌≤◌, ◌↔◌, ◌^◌, ℕ, IfOk, IfErr, IsErrOf, IfSome, IsTrue, MatchOption, Some, length, map, []};
 ghost use Rattle.match_board.specs.Board.{cell_count, side_count, Meets};

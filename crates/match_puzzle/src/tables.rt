@@ -1,4 +1,4 @@
-// What a puzzle looks up and does not work out anew.
+//! What a puzzle looks up and does not work out anew.
 
 ghost use Rattle.std.specs.Prelude.{◌≡◌, ◌≢◌, ◌<◌, ◌≤◌, ◌+◌, ◌^◌, ℕ, Bool, List, IfOk, MatchOption, MatchBool, Contains, Some, [], length, map, slice_get, slice_index_or};
 ghost use Rattle.match_board.specs.Board.{cell_count, side_count};

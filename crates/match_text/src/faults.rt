@@ -1,4 +1,4 @@
-// What may be wrong with a text.
+//! What may be wrong with a text.
 
 ghost use Rattle.std.specs.Prelude.{◌≡◌};
 ghost use Rattle.match_text.specs.declared.faults.ReadFault.TheVariants.{Memory, Text};

@@ -1,4 +1,4 @@
-// Laws of texts: nothing is done here, and the contracts say what holds.
+//! Laws of texts: nothing is done here, and the contracts say what holds.
 
 ghost use Rattle.match_text.specs.Laws.{ReadsSpellingsAlone, ReadsEachSpelling, HasOneSpelling, IsOneValue, EndsWhereCut};
 ghost use Rattle.match_text.specs.Lists.{list_of};

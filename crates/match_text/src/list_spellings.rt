@@ -1,4 +1,4 @@
-// Lists of arrangements are written.
+//! Lists of arrangements are written.
 
 ghost use Rattle.std.specs.Prelude.{◌≡◌, ◌≢◌, ◌<◌, ◌≤◌, ◌++◌, ◌∷◌, [], ◌&&◌, ℕ, List, Ok, nat_le, length, map, codes, IfOk, OnOk, MatchBool};
 ghost use Rattle.std.specs.List.{list_all, AllByRecursion};

@@ -1,4 +1,4 @@
-// Lists of arrangements.
+//! Lists of arrangements are read.
 
 ghost use Rattle.std.specs.Prelude.{◌≡◌, ◌+◌, ◌<◌, ◌≤◌, ◌^◌, ℕ, List, Ok, IfOk, length, take};
 ghost use Rattle.match_text.specs.Words.{placement_in};

@@ -1,4 +1,4 @@
-// Puzzles are written.
+//! Puzzles are written.
 
 ghost use Rattle.std.specs.Prelude.{◌≡◌, ◌<◌, ◌≤◌, ◌++◌, ◌∷◌, [], Ok, length, map, codes, IfOk, OnOk};
 ghost use Rattle.std.specs.List.{AllByRecursion};

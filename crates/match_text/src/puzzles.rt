@@ -1,4 +1,4 @@
-// Puzzles.
+//! Puzzles are read.
 
 ghost use Rattle.std.specs.Prelude.{◌≡◌, ◌+◌, ◌<◌, ◌≤◌, ◌^◌, ℕ, Ok, IfOk, length, map, take};
 ghost use Rattle.match_board.specs.Tile.{word as tile_colours};

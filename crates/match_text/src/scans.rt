@@ -1,4 +1,4 @@
-// Lines and words, one after the other.
+//! Lines and words, one after the other.
 
 ghost use Rattle.std.specs.Prelude.{◌≡◌, ◌≢◌, MatchBool, MatchResult, ◌+◌, ◌<◌, ◌≤◌, ◌^◌, [], Some, length, OnErr, IfOk};
 ghost use Rattle.std.specs.Option.{option_copied};

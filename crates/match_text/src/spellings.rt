@@ -1,4 +1,4 @@
-// Words and lines are written one after the other.
+//! Words and lines are written one after the other.
 
 ghost use Rattle.std.specs.Prelude.{◌≡◌, ◌++◌, ◌∷◌, [], ◌<◌, decimal, OnOk};
 ghost use Rattle.match_text.specs.Spelling.{colour_character, count_words, end_lines, first_words, text_of};

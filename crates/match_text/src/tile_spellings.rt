@@ -1,4 +1,4 @@
-// Tiles by themselves are written.
+//! Tiles by themselves are written.
 
 ghost use Rattle.std.specs.Prelude.{◌≡◌, ◌++◌, ◌∷◌, [], map, IfOk, OnOk};
 ghost use Rattle.match_board.specs.Tile.{word as colours_of};

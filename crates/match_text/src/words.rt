@@ -1,4 +1,4 @@
-// Words by themselves: what one has to be, or what is wrong with it.
+//! Words by themselves: what one has to be, or what is wrong with it.
 
 ghost use Rattle.std.specs.Prelude.{ℕ, List, ◌≡◌, ◌==◌, ◌+◌, ◌<◌, ◌≤◌, ◌^◌, ◌∷◌, ◌++◌, ◌⊎◌, length, take, min, true, false, All, IfSome, IfOk, IfErr, OnOk};
 ghost use Rattle.std.specs.Option.{option_map, option_copied};

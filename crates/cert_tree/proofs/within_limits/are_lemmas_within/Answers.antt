@@ -4,7 +4,7 @@ use Rattle.std.proofs.Math.ListN.{drop_of_length-le}
 use Rattle.cert_tree.specs.Certificate.{flat_piece}
 use Rattle.cert_tree.specs.CertificateSpelling.{IsLemmaWithin}
 use Rattle.cert_tree.proofs.SpanLemmas.{from_place}
-use Rattle.cert_tree.proofs.limits.are_lemmas_within.Goals as goal
+use Rattle.cert_tree.proofs.within_limits.are_lemmas_within.Goals as goal
 
 pub loop-number-preserved : goal.loop-number-preserved
 loop-number-preserved c =

@@ -1,7 +1,7 @@
 use Rattle.std.proofs.Common.{drop}
 use Rattle.std.specs.List.{AllByRecursion}
 use Rattle.cert_tree.specs.CertificateSpelling.{IsSymmetryWithin}
-use Rattle.cert_tree.proofs.limits.are_symmetries_within.Given as goal
+use Rattle.cert_tree.proofs.within_limits.are_symmetries_within.Given as goal
 
 abbrev pub invariant-loop-line : goal.invariant-loop-line
 invariant-loop-line l = record {

@@ -3,7 +3,7 @@ use Rattle.cert_tree.specs.Tree.{more, count}
 use Rattle.cert_tree.specs.Heads.{first, front, past}
 use Rattle.cert_tree.specs.TreeSpelling.{IsTreeWithin, AreTreesWithin}
 use Rattle.cert_tree.proofs.HeadLemmas.{count-front, front_first, past_first, count_first}
-use Rattle.cert_tree.proofs.limits.+flat_limits.Goals as goal
+use Rattle.cert_tree.proofs.within_limits.+flat_limits.Goals as goal
 
 pub are_first_within-returns-then-children-gt-MOST_CHILDREN-clause-within :
     goal.are_first_within-returns-then-children-gt-MOST_CHILDREN-clause-within

@@ -1,7 +1,7 @@
 use Rattle.std.proofs.Common.{◌≤◌, drop}
 use Rattle.match_board.specs.declared.limits.TheConstants.{LAST_CELL}
 use Rattle.std.specs.List.{AllByRecursion}
-use Rattle.cert_tree.proofs.limits.are_numbers_within.Given as goal
+use Rattle.cert_tree.proofs.within_limits.are_numbers_within.Given as goal
 
 abbrev pub invariant-loop-number : goal.invariant-loop-number
 invariant-loop-number l = record {

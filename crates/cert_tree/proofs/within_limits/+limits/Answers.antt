@@ -7,7 +7,7 @@ use Rattle.cert_tree.specs.Tree.{branch, tree_of, forest_of}
 use Rattle.cert_tree.specs.TreeSpelling.{IsTreeWithin, AreChildrenWithin}
 use Rattle.cert_tree.proofs.TreeLemmas.{tree_of-Cell, tree_of-Tile}
 use Rattle.cert_tree.proofs.TreeLimitLemmas.{branch_by_children, first_child, more_children, children_by_nodes, too_many}
-use Rattle.cert_tree.proofs.limits.+limits.Goals as goal
+use Rattle.cert_tree.proofs.within_limits.+limits.Goals as goal
 
 pub are_children_within-returns-then-count :
     goal.are_children_within-returns-then-count

@@ -1,4 +1,4 @@
-//! What has a spelling.
+//! Which lemmas and certificates are within the limits of their texts.
 
 ghost use Rattle.std.specs.Prelude.{◌≡◌, ◌≢◌, ◌<◌, ◌≤◌, ℕ, List, Ok, IsTrue, MatchBool, map};
 ghost use Rattle.std.specs.List.{AllByRecursion};

@@ -1,7 +1,7 @@
 use Rattle.std.proofs.Common.{drop}
 use Rattle.std.specs.List.{AllByRecursion}
 use Rattle.cert_tree.specs.CertificateSpelling.{IsLemmaWithin}
-use Rattle.cert_tree.proofs.limits.are_lemmas_within.Given as goal
+use Rattle.cert_tree.proofs.within_limits.are_lemmas_within.Given as goal
 
 abbrev pub invariant-loop-number : goal.invariant-loop-number
 invariant-loop-number l = record {

@@ -4,7 +4,7 @@ use Rattle.match_puzzle.specs.Arrangement.{IsArrangement}
 use Rattle.match_puzzle.specs.ArrangementFaults.{IsArrangementFault}
 use Rattle.match_puzzle.specs.declared.placements.Placement.{Placement}
 use Rattle.cert_check.proofs.ListLemmas.{each_more}
-use Rattle.cert_check.proofs.lists.list_fault.Goals as goal
+use Rattle.cert_check.proofs.list_faults.list_fault.Goals as goal
 
 pub returns-in-Some : goal.returns-in-Some
 returns-in-Some c =

@@ -2,7 +2,7 @@ use Rattle.std.proofs.Common.{◌≡◌, ◌≤◌, ◌+◌, ◌-◌, ◌*◌}
 use Rattle.cert_tree.specs.Tree.{count}
 use Rattle.cert_tree.specs.Heads.{front, past}
 use Rattle.cert_tree.specs.TreeSpelling.{AreTreesWithin}
-use Rattle.cert_tree.proofs.limits.+flat_limits.Given as goal
+use Rattle.cert_tree.proofs.within_limits.+flat_limits.Given as goal
 
 abbrev pub decreases-is_first_within : goal.decreases-is_first_within
 decreases-is_first_within l = 2 * l.room

@@ -1,7 +1,7 @@
 use Rattle.std.proofs.Common.{◌≡◌, ◌<◌, ℕ, List, Some, slice_get}
 use Rattle.match_puzzle.specs.Arrangement.{IsArrangement}
 use Rattle.match_puzzle.specs.declared.placements.Placement.{Placement}
-use Rattle.cert_check.proofs.lists.list_fault.Given as goal
+use Rattle.cert_check.proofs.list_faults.list_fault.Given as goal
 
 -- Those before this one are arrangements.
 abbrev pub invariant-loop-number : goal.invariant-loop-number

@@ -1,7 +1,7 @@
 use Rattle.std.proofs.Common.{drop}
 use Rattle.std.specs.List.{AllByRecursion}
 use Rattle.cert_tree.specs.CertificateSpelling.{IsPairWithin}
-use Rattle.cert_tree.proofs.limits.are_pairs_within.Given as goal
+use Rattle.cert_tree.proofs.within_limits.are_pairs_within.Given as goal
 
 abbrev pub invariant-loop-pair : goal.invariant-loop-pair
 invariant-loop-pair l = record {

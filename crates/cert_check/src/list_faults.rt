@@ -1,4 +1,4 @@
-// What is wrong with a list of arrangements.
+//! What is wrong with a list of arrangements.
 
 ghost use Rattle.std.specs.Prelude.{◌<◌, ◌^◌, MatchOption, length};
 ghost use Rattle.match_puzzle.specs.Arrangement.{IsArrangement};

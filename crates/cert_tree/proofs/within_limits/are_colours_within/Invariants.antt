@@ -1,7 +1,7 @@
 use Rattle.std.proofs.Common.{◌<◌, drop}
 use Rattle.match_board.specs.declared.limits.TheConstants.{MOST_COLOURS}
 use Rattle.std.specs.List.{AllByRecursion}
-use Rattle.cert_tree.proofs.limits.are_colours_within.Given as goal
+use Rattle.cert_tree.proofs.within_limits.are_colours_within.Given as goal
 
 abbrev pub invariant-loop-colour : goal.invariant-loop-colour
 invariant-loop-colour l = record {

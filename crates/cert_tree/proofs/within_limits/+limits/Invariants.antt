@@ -1,7 +1,7 @@
 use Rattle.std.proofs.Common.{◌+◌, ◌*◌, drop}
 use Rattle.cert_tree.specs.Tree.{forest_of}
 use Rattle.cert_tree.specs.TreeSpelling.{AreTreesWithin}
-use Rattle.cert_tree.proofs.limits.+limits.Given as goal
+use Rattle.cert_tree.proofs.within_limits.+limits.Given as goal
 
 -- a node of one level more asks for its children, and those for their nodes
 abbrev pub decreases-is_node_within : goal.decreases-is_node_within
