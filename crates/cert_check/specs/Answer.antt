@@ -1,6 +1,6 @@
 -- What the checker has to answer.
 use Rattle.std.specs.Prelude.{◌≡◌, ◌<◌, ℕ, List, Some, slice_get}
-use Rattle.match_board.specs.First.{Rank, IsFirst}
+use Rattle.match_board.specs.First.{Rank, IsFirst, rank_by, rank_by_two}
 use Rattle.match_puzzle.specs.Puzzle.{Task}
 use Rattle.match_puzzle.specs.Arrangement.{IsArrangement}
 use Rattle.match_puzzle.specs.ArrangementFaults.{IsArrangementFault}
@@ -74,12 +74,12 @@ Occurs question (faults.Tree number fault) =
 
 -- the order of the faults
 abbrev pub fault_rank : Fault → Rank
-fault_rank (faults.List number fault) = record { first = 1; second = number; third = 0 }
-fault_rank (faults.Repeated number) = record { first = 2; second = number; third = 0 }
-fault_rank (faults.Symmetry number fault) = record { first = 3; second = number; third = 0 }
-fault_rank (faults.Prefix number fault) = record { first = 4; second = number; third = 0 }
-fault_rank faults.Root = record { first = 5; second = 0; third = 0 }
-fault_rank (faults.Tree number fault) = record { first = 6; second = number; third = 0 }
+fault_rank (faults.List number fault) = rank_by_two 1 number
+fault_rank (faults.Repeated number) = rank_by_two 2 number
+fault_rank (faults.Symmetry number fault) = rank_by_two 3 number
+fault_rank (faults.Prefix number fault) = rank_by_two 4 number
+fault_rank faults.Root = rank_by 5
+fault_rank (faults.Tree number fault) = rank_by_two 6 number
 
 -- the answer to a question: that all is right, or the first fault
 abbrev pub IsAnswer : Question → Answer → Type 0

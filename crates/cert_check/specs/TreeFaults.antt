@@ -1,7 +1,7 @@
 -- What may be wrong with a tree at a prefix, and where.
 use Rattle.std.specs.Prelude.{◌≡◌, ◌≢◌, ◌⊎◌, ◌≤◌, ℕ, zero, suc, List, [], ◌∷◌, Some, length, map, slice_get}
 use Rattle.match_board.specs.Board.{cell_count}
-use Rattle.match_board.specs.First.{Rank, IsFirst}
+use Rattle.match_board.specs.First.{Rank, IsFirst, rank_by}
 use Rattle.match_puzzle.specs.Puzzle.{Task}
 use Rattle.match_puzzle.specs.Prefix.{Prefix, Has, IsFree, IsUsed, IsWithin, with_pair}
 use Rattle.match_puzzle.specs.Fitting.{AreFitting}
@@ -68,18 +68,18 @@ NodeFails s (image lemma symmetry) q = ImageFails s q lemma symmetry
 
 -- the order of the faults
 abbrev pub node_rank : NodeFault → Rank
-node_rank CellRange = record { first = 1; second = 0; third = 0 }
-node_rank CellTaken = record { first = 2; second = 0; third = 0 }
-node_rank TileRange = record { first = 3; second = 0; third = 0 }
-node_rank TileTaken = record { first = 4; second = 0; third = 0 }
-node_rank (WrongCount fits children) = record { first = 5; second = 0; third = 0 }
-node_rank (NotDead fits) = record { first = 6; second = 0; third = 0 }
-node_rank NotWhole = record { first = 7; second = 0; third = 0 }
-node_rank ListRange = record { first = 8; second = 0; third = 0 }
-node_rank NotListed = record { first = 9; second = 0; third = 0 }
-node_rank NotEarlier = record { first = 10; second = 0; third = 0 }
-node_rank SymmetryRange = record { first = 11; second = 0; third = 0 }
-node_rank NotWithin = record { first = 12; second = 0; third = 0 }
+node_rank CellRange = rank_by 1
+node_rank CellTaken = rank_by 2
+node_rank TileRange = rank_by 3
+node_rank TileTaken = rank_by 4
+node_rank (WrongCount fits children) = rank_by 5
+node_rank (NotDead fits) = rank_by 6
+node_rank NotWhole = rank_by 7
+node_rank ListRange = rank_by 8
+node_rank NotListed = rank_by 9
+node_rank NotEarlier = rank_by 10
+node_rank SymmetryRange = rank_by 11
+node_rank NotWithin = rank_by 12
 
 -- the node's own fault: the first kind that occurs
 abbrev pub IsNodeFault : Setting → Tree → Prefix → NodeFault → Type 0

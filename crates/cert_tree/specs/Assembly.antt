@@ -2,7 +2,7 @@
 use Rattle.std.specs.Prelude.{◌≡◌, ◌≢◌, ◌≤◌, ◌<◌, ℕ, List, Option, Some, None, Result, Ok, Err, Contains, ◌==◌, length, slice_get}
 use Rattle.std.specs.List.{count_by}
 use Rattle.std.specs.List.Sorted.{IsPermutation}
-use Rattle.match_board.specs.First.{Rank, IsLeast, IsFirst}
+use Rattle.match_board.specs.First.{Rank, IsLeast, IsFirst, rank_by, rank_by_two}
 use Rattle.cert_tree.specs.declared.faults.AssembleFault.{AssembleFault}
 use Rattle.cert_tree.specs.declared.faults.AssembleFault.TheVariants.{Stranger, Double, Missing, Memory}
 
@@ -32,10 +32,10 @@ module _ {X : Type 0} (number_of : X → ℕ) where
 
 -- the order of the faults, and of those of a kind by number
 abbrev pub assembly_rank : AssembleFault → Rank
-assembly_rank (Stranger n) = record { first = 1; second = n; third = 0 }
-assembly_rank (Double n) = record { first = 2; second = n; third = 0 }
-assembly_rank (Missing n) = record { first = 3; second = n; third = 0 }
-assembly_rank Memory = record { first = 4; second = 0; third = 0 }
+assembly_rank (Stranger n) = rank_by_two 1 n
+assembly_rank (Double n) = rank_by_two 2 n
+assembly_rank (Missing n) = rank_by_two 3 n
+assembly_rank Memory = rank_by 4
 
 -- The pieces by number, or the first fault. Of want of memory nothing is said.
 abbrev pub Assembles : {X : Type 0} → (X → ℕ) → (count : ℕ) (pieces : List X) → Result (List X) AssembleFault → Type 0

@@ -18,6 +18,16 @@ pub record Rank : Type 0 where
   pub second : ℕ
   pub third : ℕ
 
+-- the rank of one number, of two, of three
+abbrev pub rank_by : ℕ → Rank
+rank_by n = record { first = n; second = 0; third = 0 }
+
+abbrev pub rank_by_two : (n m : ℕ) → Rank
+rank_by_two n m = record { first = n; second = m; third = 0 }
+
+abbrev pub rank_by_three : (n m k : ℕ) → Rank
+rank_by_three n m k = record { first = n; second = m; third = k }
+
 -- The one does not come after the other.
 pub record AtMost (a b : Rank) : Type 0 where
   pub first : a.first ≤ b.first

@@ -1,7 +1,7 @@
 -- What may be wrong with an arrangement.
 use Rattle.std.specs.Prelude.{◌≡◌, ◌≢◌, ◌<◌, ◌≤◌, ℕ, List, length}
 use Rattle.match_board.specs.Board.{cell_count, Meets}
-use Rattle.match_board.specs.First.{Rank, IsFirst}
+use Rattle.match_board.specs.First.{Rank, IsFirst, rank_by, rank_by_two, rank_by_three}
 use Rattle.match_puzzle.specs.Puzzle.{Task, colour_of, IsLegalTurn, HasRule}
 use Rattle.match_puzzle.specs.Arrangement.{Stands}
 use Rattle.match_puzzle.specs.declared.placements.Placement.{Placement}
@@ -42,12 +42,12 @@ module _ (p : Task) (a : List Placement) where
 
 -- the order of the faults
 abbrev pub arrangement_rank : ArrangementFault → Rank
-arrangement_rank Length = record { first = 1; second = 0; third = 0 }
-arrangement_rank (TileRange cell) = record { first = 2; second = cell; third = 0 }
-arrangement_rank (Turn cell) = record { first = 3; second = cell; third = 0 }
-arrangement_rank (TileTwice cell) = record { first = 4; second = cell; third = 0 }
-arrangement_rank (BorderBroken cell side) = record { first = 5; second = cell; third = side }
-arrangement_rank (EdgeBroken cell side) = record { first = 6; second = cell; third = side }
+arrangement_rank Length = rank_by 1
+arrangement_rank (TileRange cell) = rank_by_two 2 cell
+arrangement_rank (Turn cell) = rank_by_two 3 cell
+arrangement_rank (TileTwice cell) = rank_by_two 4 cell
+arrangement_rank (BorderBroken cell side) = rank_by_three 5 cell side
+arrangement_rank (EdgeBroken cell side) = rank_by_three 6 cell side
 
 -- the first kind that occurs, at its least place
 abbrev pub IsArrangementFault : Task → List Placement → ArrangementFault → Type 0

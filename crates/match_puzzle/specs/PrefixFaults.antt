@@ -2,7 +2,7 @@
 use Rattle.std.specs.Prelude.{◌≡◌, ◌⊎◌, ◌<◌, ◌≤◌, ◌+◌, ℕ, Bool, true, false, List, Option, Some, None, length, slice_get, slice_index_or}
 use Rattle.match_board.specs.declared.limits.TheConstants.{MOST_CELLS, MOST_TILES}
 use Rattle.match_board.specs.Board.{cell_count}
-use Rattle.match_board.specs.First.{Rank, IsFirst}
+use Rattle.match_board.specs.First.{Rank, IsFirst, rank_by_two}
 use Rattle.match_puzzle.specs.Puzzle.{Task, IsLegal, IsLegalTurn}
 use Rattle.match_puzzle.specs.declared.placements.Pair.{Pair}
 use Rattle.match_puzzle.specs.declared.faults.PrefixFault.{PrefixFault}
@@ -27,9 +27,9 @@ PrefixFails p pairs (Turn place) = (x : Pair) × (slice_get pairs place ≡ Some
 
 -- the order of the faults
 abbrev pub prefix_rank : PrefixFault → Rank
-prefix_rank (Cell place) = record { first = place; second = 1; third = 0 }
-prefix_rank (Tile place) = record { first = place; second = 2; third = 0 }
-prefix_rank (Turn place) = record { first = place; second = 3; third = 0 }
+prefix_rank (Cell place) = rank_by_two place 1
+prefix_rank (Tile place) = rank_by_two place 2
+prefix_rank (Turn place) = rank_by_two place 3
 
 -- at the least place, the first kind that occurs there
 abbrev pub IsPrefixFault : Task → List Pair → PrefixFault → Type 0

@@ -2,7 +2,7 @@
 use Rattle.std.specs.Prelude.{◌≡◌, ◌≢◌, ◌<◌, ◌≤◌, ℕ, false, length}
 use Rattle.match_board.specs.declared.limits.TheConstants.{MOST_COLOURS}
 use Rattle.match_board.specs.Board.{cell_count, side_count}
-use Rattle.match_board.specs.First.{Rank}
+use Rattle.match_board.specs.First.{Rank, rank_by, rank_by_two}
 use Rattle.match_puzzle.specs.Puzzle.{Task, word_of, StandsInRule, IsAsLongAsBorder}
 use Rattle.match_puzzle.specs.declared.faults.PuzzleFault.{PuzzleFault}
 use Rattle.match_puzzle.specs.declared.faults.PuzzleFault.TheVariants.{FixedTriangles, TileCount, TileSides, BadColour, BorderLength, Memory}
@@ -18,9 +18,9 @@ PuzzleFails p Memory = ⊥
 
 -- the order of the faults
 abbrev pub puzzle_rank : PuzzleFault → Rank
-puzzle_rank FixedTriangles = record { first = 1; second = 0; third = 0 }
-puzzle_rank TileCount = record { first = 2; second = 0; third = 0 }
-puzzle_rank (TileSides tile) = record { first = 3; second = tile; third = 0 }
-puzzle_rank (BadColour place) = record { first = 4; second = place; third = 0 }
-puzzle_rank BorderLength = record { first = 5; second = 0; third = 0 }
-puzzle_rank Memory = record { first = 6; second = 0; third = 0 }
+puzzle_rank FixedTriangles = rank_by 1
+puzzle_rank TileCount = rank_by 2
+puzzle_rank (TileSides tile) = rank_by_two 3 tile
+puzzle_rank (BadColour place) = rank_by_two 4 place
+puzzle_rank BorderLength = rank_by 5
+puzzle_rank Memory = rank_by 6
