@@ -75,12 +75,7 @@ fn is_pair_within(pair: &Pair) -> bool
 fn are_pairs_within(pairs: &[Pair]) -> bool
     ensures { MatchBool result (AllByRecursion IsPairWithin pairs.now) (AllByRecursion IsPairWithin pairs.now → ⊥) }
 {
-    for pair in pairs {
-        if !is_pair_within(pair) {
-            return false;
-        }
-    }
-    true
+    pairs.iter().all(is_pair_within)
 }
 
 fn is_lemma_within(lemma: &Lemma) -> bool
@@ -161,23 +156,13 @@ fn are_lemmas_within(lemmas: &Lemmas) -> bool
 fn are_numbers_within(numbers: &[u16]) -> bool
     ensures { MatchBool result (AllByRecursion (λ n. n ≤ LAST_CELL) numbers.now) (AllByRecursion (λ n. n ≤ LAST_CELL) numbers.now → ⊥) }
 {
-    for number in numbers {
-        if *number > LAST_CELL {
-            return false;
-        }
-    }
-    true
+    numbers.iter().all(|number| *number <= LAST_CELL)
 }
 
 fn are_colours_within(colours: &[u8]) -> bool
     ensures { MatchBool result (AllByRecursion (λ n. n < MOST_COLOURS) colours.now) (AllByRecursion (λ n. n < MOST_COLOURS) colours.now → ⊥) }
 {
-    for colour in colours {
-        if *colour >= MOST_COLOURS {
-            return false;
-        }
-    }
-    true
+    colours.iter().all(|colour| *colour < MOST_COLOURS)
 }
 
 fn are_images_within(images: &[u16]) -> bool

@@ -20,12 +20,7 @@ fn is_placement_within(placement: &Placement) -> bool
 fn are_placements_within(row: &[Placement]) -> bool
     ensures { MatchBool result (AllByRecursion IsPlacementWithin row.now) (AllByRecursion IsPlacementWithin row.now → ⊥) }
 {
-    for placement in row {
-        if !is_placement_within(placement) {
-            return false;
-        }
-    }
-    true
+    row.iter().all(is_placement_within)
 }
 
 fn is_row_within(row: &Arrangement) -> bool
@@ -39,12 +34,7 @@ fn is_row_within(row: &Arrangement) -> bool
 fn are_rows_within(rows: &[Arrangement]) -> bool
     ensures { MatchBool result (AllByRecursion IsRowWithin rows.now) (AllByRecursion IsRowWithin rows.now → ⊥) }
 {
-    for row in rows {
-        if !is_row_within(row) {
-            return false;
-        }
-    }
-    true
+    rows.iter().all(is_row_within)
 }
 
 fn is_list_within(rows: &[Arrangement]) -> bool
