@@ -39,8 +39,10 @@ pub fn check(
     requires { length listed.now < 2 ^ 32 }
     ensures answer { IfOk result (IsAnswer (question_of puzzle.now listed.now certificate.now)) }
     // The main theorem: a list that is called complete is.
-    ensures complete { IfOk result (λ answer. answer ≡ Answer.Complete → IsCompleteList puzzle.now certificate.now.symmetries listed.now) }
-    ensures covered { IfOk result (λ answer. answer ≡ Answer.Complete → AreCovered (question_of puzzle.now listed.now certificate.now)) }
+    ensures complete { IfOk result
+        (λ answer. answer ≡ Answer.Complete → IsCompleteList puzzle.now certificate.now.symmetries listed.now) }
+    ensures covered { IfOk result
+        (λ answer. answer ≡ Answer.Complete → AreCovered (question_of puzzle.now listed.now certificate.now)) }
 {
     if let Some(fault) = listing_fault(alloc, puzzle, listed)? {
         return Ok(Answer::Refused(fault));

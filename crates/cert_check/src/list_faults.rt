@@ -11,7 +11,8 @@ use match_puzzle::{Arrangement, ArrangementFault, Puzzle};
 // The first one that is no arrangement, and what is wrong with it.
 pub(crate) fn list_fault(puzzle: &Puzzle, listed: &[Arrangement]) -> Option<(u32, ArrangementFault)>
     requires { length listed.now < 2 ^ 32 }
-    ensures { MatchOption result (AreArrangements puzzle.now listed.now) (λ r. IsFirstBad (λ n a. IsArrangement puzzle.now a) (λ n a fault. IsArrangementFault puzzle.now a fault) listed.now r.0 r.1) }
+    ensures { MatchOption result (AreArrangements puzzle.now listed.now) (λ r. IsFirstBad
+        (λ n a. IsArrangement puzzle.now a) (λ n a fault. IsArrangementFault puzzle.now a fault) listed.now r.0 r.1) }
 {
     for (number, arrangement) in listed.iter().enumerate() {
         if let Some(fault) = puzzle.arrangement_fault(arrangement.placements()) {

@@ -11,7 +11,8 @@ use match_puzzle::{PrefixFault, Puzzle};
 // The first lemma that does not begin with a prefix, and what is wrong with it.
 pub(crate) fn prefixes_fault(puzzle: &Puzzle, lemmas: &Lemmas) -> Option<(u32, PrefixFault)>
     requires { length lemmas.now < 2 ^ 32 }
-    ensures { MatchOption result (BeginWithPrefixes puzzle.now lemmas.now) (λ r. IsFirstBadPrefix puzzle.now lemmas.now r.0 r.1) }
+    ensures { MatchOption result (BeginWithPrefixes puzzle.now lemmas.now)
+        (λ r. IsFirstBadPrefix puzzle.now lemmas.now r.0 r.1) }
 {
     for number in 0..lemmas.len() {
         if let Some(fault) = puzzle.prefix_fault(lemmas.at(number).prefix) {

@@ -1,6 +1,7 @@
 //! Repeated entries of a list.
 
-ghost use Rattle.std.specs.Prelude.{◌≡◌, ◌<◌, ◌^◌, ◌↔◌, IfOk, IsSorted, IsTrue, MatchOption, length, min, slice_get, option_copied};
+ghost use Rattle.std.specs.Prelude.{◌≡◌, ◌<◌, ◌^◌, ◌↔◌, IfOk, IsSorted, IsTrue, MatchOption, length, min, slice_get};
+ghost use Rattle.std.specs.Prelude.{option_copied};
 ghost use Rattle.match_board.specs.First.{IsLeast};
 ghost use Rattle.cert_check.specs.Answer.{AreDistinct, RepeatsEarlier};
 ghost use Rattle.cert_check.specs.Repeats.{AreEqualAt, AreItsPlaces, key_of, keyed_cmp};

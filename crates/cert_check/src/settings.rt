@@ -32,7 +32,8 @@ impl<'a> Model for Setting<'a> {
 }
 
 impl<'a> Setting<'a> {
-    // Of the lemma that so many lemmas come before. The symmetries are of the puzzle, and the lemmas begin with prefixes.
+    // Of the lemma that so many lemmas come before. The symmetries are of the puzzle, and the lemmas begin with
+    // prefixes.
     pub(crate) fn new(
         puzzle: &'a Puzzle,
         listed: &'a [Arrangement],

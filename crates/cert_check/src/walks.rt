@@ -16,7 +16,8 @@ use std::alloc::{AllocError, Global};
 
 // Whether the first tree holds at what is placed. Then what is placed is as before, and the tree is gone past; else its
 // first fault in preorder is put down. Most trees hold, so a fault has a place of its own and isn't handed from node to
-// node. Each branch fills a cell for its children, so the walk goes no deeper than one level for each cell and one more.
+// node. Each branch fills a cell for its children, so the walk goes no deeper than one level for each cell and one
+// more.
 #[cycle(walk)]
 pub(crate) fn walk(
     alloc: Global,
@@ -68,7 +69,8 @@ fn walk_branch(
     requires counted { children ≤ count trees.old }
     requires no_fault { fault.old ≡ None }
     ensures holds { IfOk result (λ holds. MatchBool holds (fault.new ≡ None) (fault.new ≢ None)) }
-    ensures tells { IfOk result (λ holds. Tells setting.now (branch item (front children trees.old)) partial.old.placed fault.new) }
+    ensures tells { IfOk result
+        (λ holds. Tells setting.now (branch item (front children trees.old)) partial.old.placed fault.new) }
     ensures restored { IfOk result (λ holds. fault.new ≡ None → partial.new ≡ partial.old) }
     ensures past { IfOk result (λ holds. fault.new ≡ None → trees.new ≡ past children trees.old) }
 {

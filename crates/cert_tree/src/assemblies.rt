@@ -1,6 +1,7 @@
 //! Certificates are assembled of numbered pieces.
 
-ghost use Rattle.std.specs.Prelude.{◌≡◌, ◌↔◌, ◌≢◌, ◌≤◌, ◌<◌, ◌^◌, ◌∷◌, [], ℕ, List, None, Some, Ok, Err, All, Contains, IfOk, IfErr, IsTrue, MatchBool, length, map, replicate};
+ghost use Rattle.std.specs.Prelude.{◌≡◌, ◌↔◌, ◌≢◌, ◌≤◌, ◌<◌, ◌^◌, ◌∷◌, [], ℕ, List, None, Some, Ok, Err, All, Contains};
+ghost use Rattle.std.specs.Prelude.{IfOk, IfErr, IsTrue, MatchBool, length, map, replicate};
 ghost use Rattle.cert_tree.specs.declared.flat_lemmas.LemmaSpan.{LemmaSpan as Span};
 ghost use Rattle.cert_tree.specs.Certificate.{piece_number, piece_of};
 ghost use Rattle.cert_tree.specs.Spans.{number_of};
@@ -61,7 +62,8 @@ fn empty_slots(alloc: Global, count: u32) -> Result<Vec<Option<LemmaSpan>>, Allo
 // Puts the piece into the place of its number, if nothing is there; whether it did.
 fn put(slots: &mut Vec<Option<LemmaSpan>>, piece: LemmaSpan) -> bool
     requires { piece.number < length slots.old.items }
-    ensures { MatchBool result (IsPut slots.old.items slots.new.items piece) (IsTaken slots.old.items slots.new.items piece) }
+    ensures { MatchBool result (IsPut slots.old.items slots.new.items piece)
+        (IsTaken slots.old.items slots.new.items piece) }
 {
     let number = piece.number as usize;
     if slots[number].is_some() {
@@ -75,7 +77,8 @@ fn put(slots: &mut Vec<Option<LemmaSpan>>, piece: LemmaSpan) -> bool
 fn enter(slots: &mut Vec<Option<LemmaSpan>>, double: Option<u32>, piece: LemmaSpan) -> Option<u32>
     requires { piece.number < length slots.old.items }
     ensures long { length slots.new.items ≡ length slots.old.items }
-    ensures entered { (before : List Span) → IsEntered before slots.old.items double → IsEntered (piece ∷ before) slots.new.items result }
+    ensures entered { (before : List Span) → IsEntered before slots.old.items double
+        → IsEntered (piece ∷ before) slots.new.items result }
 {
     let number = piece.number;
     if put(slots, piece) {
@@ -149,8 +152,8 @@ fn are_assembled(pieces: &[LemmaSpan], count: u32) -> bool
     true
 }
 
-// The pieces by number. Those in the order of their numbers, as a certificate is written, stay as they stand; others are
-// put into a table first.
+// The pieces by number. Those in the order of their numbers, as a certificate is written, stay as they stand; others
+// are put into a table first.
 fn assembled(
     alloc: Global,
     count: u32,
@@ -168,7 +171,8 @@ fn assembled(
     in_order(alloc, count, pieces)
 }
 
-// The certificate of these symmetries, whose lemma i is the only piece with number i. Pairs and heads stay where they lie.
+// The certificate of these symmetries, whose lemma i is the only piece with number i. Pairs and heads stay where they
+// lie.
 pub(crate) fn assemble_flat(
     alloc: Global,
     count: u32,
@@ -191,7 +195,8 @@ pub(crate) fn assemble_flat(
 /// The certificate of these symmetries, whose lemma i is the only piece with number i.
 ///
 /// An `Err` is the first fault in the order of [`AssembleFault`], with its least number: `Stranger`, `Double`,
-/// `Missing`; `Memory` only where memory is refused. The order of the pieces doesn't matter. On an `Err` all are dropped.
+/// `Missing`; `Memory` only where memory is refused. The order of the pieces doesn't matter. On an `Err` all are
+/// dropped.
 ///
 /// The trees are laid out flat by a recursion that is as deep as they are, into 8 bytes a node beside the pieces. The
 /// rest takes a step for each piece and each number below the count.
@@ -206,7 +211,8 @@ pub fn assemble(
     requires prefixes { All (λ piece. length piece.prefix < 2 ^ 32) pieces.items }
     requires narrow { All (λ piece. IsNarrow (tree_of piece.tree)) pieces.items }
     ensures symmetries { IfOk result (λ certificate. certificate.symmetries ≡ symmetries.items) }
-    ensures lemmas { IfOk result (λ certificate. Assembles piece_number count (map piece_of pieces.items) (Ok certificate.lemmas)) }
+    ensures lemmas { IfOk result
+        (λ certificate. Assembles piece_number count (map piece_of pieces.items) (Ok certificate.lemmas)) }
     ensures fault { IfErr result (λ fault. Assembles piece_number count (map piece_of pieces.items) (Err fault)) }
 {
     let flat = flat_lemmas(alloc, &pieces)?;

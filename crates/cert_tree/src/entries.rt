@@ -38,7 +38,8 @@ fn tile(scan: &mut Scan) -> Result<u16, TextFault>
 
 /// The images of cells, up to the word `colours`.
 pub fn cell_images(alloc: Global, scan: &mut Scan) -> Result<Vec<u16>, ReadFault>
-    ensures { Reads (λ images. images.items) result scan.new (entries_before (codes "colours") MOST_CELLS (number_in 0 LAST_CELL) scan.old) }
+    ensures { Reads (λ images. images.items) result scan.new
+        (entries_before (codes "colours") MOST_CELLS (number_in 0 LAST_CELL) scan.old) }
 {
     let mut images = Vec::new(alloc);
     while has_other(scan, b"colours") {
@@ -51,7 +52,8 @@ pub fn cell_images(alloc: Global, scan: &mut Scan) -> Result<Vec<u16>, ReadFault
 
 /// The images of colours, up to the word `tiles`.
 pub fn colour_images(alloc: Global, scan: &mut Scan) -> Result<Vec<u8>, ReadFault>
-    ensures { Reads (λ images. images.items) result scan.new (entries_before (codes "tiles") MOST_COLOURS colour_in scan.old) }
+    ensures { Reads
+        (λ images. images.items) result scan.new (entries_before (codes "tiles") MOST_COLOURS colour_in scan.old) }
 {
     let mut images = Vec::new(alloc);
     while has_other(scan, b"tiles") {
@@ -77,7 +79,8 @@ pub fn tile_images(alloc: Global, scan: &mut Scan) -> Result<Vec<u16>, ReadFault
 
 /// The pairs of a prefix, up to the word `tree`, go behind these.
 pub fn prefix(scan: &mut Scan, pairs: &mut Vec<Pair>) -> Result<(), ReadFault>
-    ensures reads { Reads (λ _. drop (length pairs.old.items) pairs.new.items) result scan.new (entries_before (codes "tree") MOST_CELLS pair_in scan.old) }
+    ensures reads { Reads (λ _. drop (length pairs.old.items) pairs.new.items) result scan.new
+        (entries_before (codes "tree") MOST_CELLS pair_in scan.old) }
     ensures behind { pairs.new.items ≡ pairs.old.items ++ drop (length pairs.old.items) pairs.new.items }
 {
     let start = pairs.len();

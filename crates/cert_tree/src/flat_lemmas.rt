@@ -27,8 +27,8 @@ pub struct FlatLemma<'a> {
 
 /// The lemmas of a certificate, by number.
 ///
-/// The pairs of all prefixes lie in one piece of memory, and the heads of all trees in another, so that a lemma asks for
-/// none of its own: it takes 40 bytes, 6 for each pair and 8 for each node.
+/// The pairs of all prefixes lie in one piece of memory, and the heads of all trees in another, so that a lemma asks
+/// for none of its own: it takes 40 bytes, 6 for each pair and 8 for each node.
 #[derive(Drop)]
 pub struct Lemmas {
     pairs: Vec<Pair>,
@@ -130,7 +130,11 @@ impl LemmaSpan {
         requires heads { heads_start ≤ length heads.now }
         requires tree { AreOfTree (drop heads_start heads.now) }
         ensures span { IsSpan pairs.now heads.now result }
-        ensures piece { piece_in pairs.now heads.now result ≡ record { number = number; prefix = drop pairs_start pairs.now; tree = first (trees_in (drop heads_start heads.now)) } }
+        ensures piece { piece_in pairs.now heads.now result ≡ record {
+          number = number;
+          prefix = drop pairs_start pairs.now;
+          tree = first (trees_in (drop heads_start heads.now));
+        } }
     {
         LemmaSpan {
             number,

@@ -1,8 +1,10 @@
 //! Laws of texts and of heads: nothing is done here, and the contracts say what holds.
 
-ghost use Rattle.match_text.specs.Laws.{ReadsSpellingsAlone, ReadsEachSpelling, HasOneSpelling, IsOneValue, EndsWhereCut};
+ghost use Rattle.match_text.specs.Laws.{ReadsSpellingsAlone, ReadsEachSpelling, HasOneSpelling, IsOneValue};
+ghost use Rattle.match_text.specs.Laws.{EndsWhereCut};
 ghost use Rattle.cert_tree.specs.CertificateText.{lemma_of, certificate_of};
-ghost use Rattle.cert_tree.specs.CertificateSpelling.{lemma_spelling, certificate_spelling, IsLemmaWithin, IsCertificateWithin};
+ghost use Rattle.cert_tree.specs.CertificateSpelling.{lemma_spelling, certificate_spelling, IsLemmaWithin};
+ghost use Rattle.cert_tree.specs.CertificateSpelling.{IsCertificateWithin};
 ghost use Rattle.cert_tree.specs.Laws.{MakesOneInAnyOrder};
 ghost use Rattle.cert_tree.specs.HeadLaws.{HaveOneReading, AreReadBack, AreOfTheirTrees};
 

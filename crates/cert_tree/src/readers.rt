@@ -1,6 +1,7 @@
 //! Lemmas and certificates are read.
 
-ghost use Rattle.std.specs.Prelude.{◌≡◌, ◌+◌, ◌<◌, ◌≤◌, ◌^◌, ℕ, List, Contains, Ok, Err, IfOk, IfErr, OnOk, ◌++◌, length, take, drop};
+ghost use Rattle.std.specs.Prelude.{◌≡◌, ◌+◌, ◌<◌, ◌≤◌, ◌^◌, ℕ, List, Contains, Ok, Err, IfOk, IfErr, OnOk, ◌++◌};
+ghost use Rattle.std.specs.Prelude.{length, take, drop};
 ghost use Rattle.match_text.specs.Words.{Judges};
 ghost use Rattle.match_text.specs.Place.{Gives, Reads, Says, fail, times, word_by};
 ghost use Rattle.cert_tree.specs.Certificate.{Piece, piece_of};
@@ -8,9 +9,12 @@ ghost use Rattle.cert_tree.specs.Spans.{piece_in, IsSpan};
 ghost use Rattle.match_text.specs.declared.faults.TextKind.TheVariants as kinds;
 ghost use Rattle.match_text.specs.Bytes.{line_ends};
 ghost use Rattle.cert_tree.specs.Lines.{said_of};
-ghost use Rattle.cert_tree.specs.CertificateText.{Said, mirrored_in, symmetry_line, lemma_line, lemma_text, lemma_of, LemmaGives, certificate_text, certificate_of, Makes, CertificateGives};
+ghost use Rattle.cert_tree.specs.CertificateText.{Said, mirrored_in, symmetry_line, lemma_line, lemma_text, lemma_of};
+ghost use Rattle.cert_tree.specs.CertificateText.{LemmaGives, certificate_text, certificate_of, Makes};
+ghost use Rattle.cert_tree.specs.CertificateText.{CertificateGives};
 ghost use Rattle.cert_tree.specs.Writing.{said_by};
-ghost use Rattle.cert_tree.specs.CertificateSpelling.{lemma_spelling, certificate_spelling, IsLemmaWithin, IsCertificateWithin};
+ghost use Rattle.cert_tree.specs.CertificateSpelling.{lemma_spelling, certificate_spelling, IsLemmaWithin};
+ghost use Rattle.cert_tree.specs.CertificateSpelling.{IsCertificateWithin};
 
 use crate::assemblies::assemble_flat;
 use crate::certificates::{Certificate, Lemma};
@@ -88,7 +92,8 @@ fn lemma(
     pairs: &mut Vec<Pair>,
     heads: &mut Vec<Head>,
 ) -> Result<LemmaSpan, ReadFault>
-    ensures reads { Reads (λ span. piece_in pairs.new.items heads.new.items span) result scan.new (lemma_line scan.old) }
+    ensures reads { Reads
+        (λ span. piece_in pairs.new.items heads.new.items span) result scan.new (lemma_line scan.old) }
     ensures span { IfOk result (IsSpan pairs.new.items heads.new.items) }
     ensures pairs { OnOk result (pairs.new.items ≡ pairs.old.items ++ drop (length pairs.old.items) pairs.new.items) }
     ensures heads { OnOk result (heads.new.items ≡ heads.old.items ++ drop (length heads.old.items) heads.new.items) }
@@ -149,11 +154,14 @@ pub fn read_lemma(alloc: Global, text: &[u8]) -> Result<Lemma, LemmaTextFault>
     // Which lemma, and which fault.
     ensures exact { LemmaGives result (lemma_of text.now) }
     // What is read is spelled so.
-    ensures found { IfOk result (λ lemma. IsLemmaWithin (piece_of lemma) × (text.now ≡ lemma_spelling (piece_of lemma))) }
+    ensures found { IfOk result
+        (λ lemma. IsLemmaWithin (piece_of lemma) × (text.now ≡ lemma_spelling (piece_of lemma))) }
     // What is spelled so is read.
-    ensures only { (piece : Piece) → IsLemmaWithin piece → text.now ≡ lemma_spelling piece → LemmaGives result (Ok piece) }
+    ensures only { (piece : Piece) → IsLemmaWithin piece → text.now ≡ lemma_spelling piece
+        → LemmaGives result (Ok piece) }
     // A spelling that is cut short ends at its last line.
-    ensures cut { (piece : Piece) (k : ℕ) → IsLemmaWithin piece → k < length (lemma_spelling piece) → text.now ≡ take k (lemma_spelling piece)
+    ensures cut { (piece : Piece) (k : ℕ) → IsLemmaWithin piece → k < length (lemma_spelling piece)
+        → text.now ≡ take k (lemma_spelling piece)
         → LemmaGives result (fail (line_ends text.now + 1) kinds.Ends) }
 {
     read_lemma_text(alloc, text)
@@ -213,13 +221,16 @@ pub fn read_certificate(alloc: Global, text: &[u8]) -> Result<Certificate, CertT
     // Which certificate, and which fault.
     ensures exact { CertificateGives result (certificate_of text.now) }
     // What is read is spelled so, and assembled of what the text says.
-    ensures found { IfOk result (λ certificate. (said : Said) × IsCertificateWithin said × (text.now ≡ certificate_spelling said) × Makes said (Ok certificate)) }
+    ensures found { IfOk result (λ certificate. (said : Said) × IsCertificateWithin said
+        × (text.now ≡ certificate_spelling said) × Makes said (Ok certificate)) }
     // What is read can be written.
     ensures within { IfOk result (λ certificate. IsCertificateWithin (said_by certificate)) }
     // What is spelled so is read and assembled.
-    ensures only { (said : Said) → IsCertificateWithin said → text.now ≡ certificate_spelling said → CertificateGives result (Ok said) }
+    ensures only { (said : Said) → IsCertificateWithin said → text.now ≡ certificate_spelling said
+        → CertificateGives result (Ok said) }
     // A spelling that is cut short ends at its last line.
-    ensures cut { (said : Said) (k : ℕ) → IsCertificateWithin said → k < length (certificate_spelling said) → text.now ≡ take k (certificate_spelling said)
+    ensures cut { (said : Said) (k : ℕ) → IsCertificateWithin said → k < length (certificate_spelling said)
+        → text.now ≡ take k (certificate_spelling said)
         → CertificateGives result (fail (line_ends text.now + 1) kinds.Ends) }
 {
     read_and_make(alloc, text)

@@ -7,7 +7,9 @@ ghost use Rattle.cert_tree.specs.Certificate.{piece_of, flat_piece};
 ghost use Rattle.cert_tree.specs.HeadSpelling.{head_words};
 ghost use Rattle.std.specs.List.{flat_map};
 ghost use Rattle.cert_tree.specs.CertificateText.{lemma_of, certificate_of, Makes};
-ghost use Rattle.cert_tree.specs.CertificateSpelling.{mirrored_word, symmetry_words, pair_word, lemma_words, lemma_spelling, certificate_spelling, IsSymmetryWithin, IsLemmaWithin, IsCertificateWithin};
+ghost use Rattle.cert_tree.specs.CertificateSpelling.{mirrored_word, symmetry_words, pair_word, lemma_words};
+ghost use Rattle.cert_tree.specs.CertificateSpelling.{lemma_spelling, certificate_spelling, IsSymmetryWithin};
+ghost use Rattle.cert_tree.specs.CertificateSpelling.{IsLemmaWithin, IsCertificateWithin};
 ghost use Rattle.cert_tree.specs.Writing.{spaced, said_by};
 
 use crate::certificates::{Certificate, Lemma};
@@ -178,7 +180,8 @@ fn put_first(text: &mut Vec<u8>) -> Result<(), AllocError>
 pub fn write_certificate(alloc: Global, certificate: &Certificate) -> Result<Vec<u8>, AllocError>
     requires { IsCertificateWithin (said_by certificate.now) }
     ensures spelling { IfOk result (λ text. text.items ≡ certificate_spelling (said_by certificate.now)) }
-    ensures reads { IfOk result (λ text. (certificate_of text.items ≡ Ok (said_by certificate.now)) × Makes (said_by certificate.now) (Ok certificate.now)) }
+    ensures reads { IfOk result (λ text. (certificate_of text.items ≡ Ok (said_by certificate.now))
+        × Makes (said_by certificate.now) (Ok certificate.now)) }
 {
     let symmetries = certificate.symmetries();
     let lemmas = certificate.lemmas();

@@ -140,7 +140,8 @@ fn nodes(scan: &mut Scan, heads: &mut Vec<Head>, room: u16, count: u32) -> Resul
 
 /// A tree of up to so many levels, by a recursion that is no deeper than that. Its heads go behind these.
 pub fn tree(scan: &mut Scan, heads: &mut Vec<Head>, room: u16) -> Result<(), ReadFault>
-    ensures reads { Reads (λ _. first (trees_in (drop (length heads.old.items) heads.new.items))) result scan.new (tree_by room scan.old) }
+    ensures reads { Reads (λ _. first (trees_in (drop (length heads.old.items) heads.new.items))) result scan.new
+        (tree_by room scan.old) }
     ensures tree { OnOk result (AreOfTree (drop (length heads.old.items) heads.new.items)) }
     ensures behind { OnOk result (heads.new.items ≡ heads.old.items ++ drop (length heads.old.items) heads.new.items) }
 {

@@ -7,7 +7,8 @@ ghost use Rattle.cert_tree.specs.Certificate.{piece_of, flat_piece};
 ghost use Rattle.cert_tree.specs.Heads.{first, front, past};
 ghost use Rattle.cert_tree.specs.CertificateText.{lemma_of, certificate_of};
 ghost use Rattle.cert_tree.specs.TreeSpelling.{IsTreeWithin, AreTreesWithin, AreChildrenWithin};
-ghost use Rattle.cert_tree.specs.CertificateSpelling.{AreImagesWithin, AreColourImagesWithin, IsSymmetryWithin, IsPairWithin, IsLemmaWithin, IsCertificateWithin};
+ghost use Rattle.cert_tree.specs.CertificateSpelling.{AreImagesWithin, AreColourImagesWithin, IsSymmetryWithin};
+ghost use Rattle.cert_tree.specs.CertificateSpelling.{IsPairWithin, IsLemmaWithin, IsCertificateWithin};
 ghost use Rattle.cert_tree.specs.Writing.{said_by};
 
 use crate::certificates::{Certificate, Lemma};
@@ -48,7 +49,8 @@ fn is_node_within(node: &Node, room: u16) -> bool
 
 #[cycle(limits)]
 fn are_children_within(nodes: &[Node], room: u16) -> bool
-    ensures { MatchBool result (AreChildrenWithin room (forest_of nodes.now)) (AreChildrenWithin room (forest_of nodes.now) → ⊥) }
+    ensures { MatchBool result (AreChildrenWithin room (forest_of nodes.now))
+        (AreChildrenWithin room (forest_of nodes.now) → ⊥) }
 {
     let count = nodes.len();
     count > 0 && (count <= MOST_CHILDREN as usize && are_nodes_within(nodes, room))
@@ -56,7 +58,8 @@ fn are_children_within(nodes: &[Node], room: u16) -> bool
 
 #[cycle(limits)]
 fn are_nodes_within(nodes: &[Node], room: u16) -> bool
-    ensures { MatchBool result (AreTreesWithin room (forest_of nodes.now)) (AreTreesWithin room (forest_of nodes.now) → ⊥) }
+    ensures { MatchBool result (AreTreesWithin room (forest_of nodes.now))
+        (AreTreesWithin room (forest_of nodes.now) → ⊥) }
 {
     for node in nodes {
         if !is_node_within(node, room) {
@@ -116,7 +119,8 @@ fn is_first_within(trees: &mut Trees<'_>, room: u16) -> bool
 #[cycle(flat_limits)]
 fn are_first_within(trees: &mut Trees<'_>, room: u16, children: u32) -> bool
     requires { children ≤ count trees.old }
-    ensures within { MatchBool result (AreChildrenWithin room (front children trees.old)) (AreChildrenWithin room (front children trees.old) → ⊥) }
+    ensures within { MatchBool result (AreChildrenWithin room (front children trees.old))
+        (AreChildrenWithin room (front children trees.old) → ⊥) }
     ensures past { IsTrue result → trees.new ≡ past children trees.old }
 {
     if children == 0 {
@@ -154,13 +158,15 @@ fn are_lemmas_within(lemmas: &Lemmas) -> bool
 }
 
 fn are_numbers_within(numbers: &[u16]) -> bool
-    ensures { MatchBool result (AllByRecursion (λ n. n ≤ LAST_CELL) numbers.now) (AllByRecursion (λ n. n ≤ LAST_CELL) numbers.now → ⊥) }
+    ensures { MatchBool result (AllByRecursion (λ n. n ≤ LAST_CELL) numbers.now)
+        (AllByRecursion (λ n. n ≤ LAST_CELL) numbers.now → ⊥) }
 {
     numbers.iter().all(|number| *number <= LAST_CELL)
 }
 
 fn are_colours_within(colours: &[u8]) -> bool
-    ensures { MatchBool result (AllByRecursion (λ n. n < MOST_COLOURS) colours.now) (AllByRecursion (λ n. n < MOST_COLOURS) colours.now → ⊥) }
+    ensures { MatchBool result (AllByRecursion (λ n. n < MOST_COLOURS) colours.now)
+        (AllByRecursion (λ n. n < MOST_COLOURS) colours.now → ⊥) }
 {
     colours.iter().all(|colour| *colour < MOST_COLOURS)
 }
@@ -187,7 +193,8 @@ fn is_symmetry_within(line: &SymmetryLine) -> bool
 }
 
 fn are_symmetries_within(lines: &[SymmetryLine]) -> bool
-    ensures { MatchBool result (AllByRecursion IsSymmetryWithin lines.now) (AllByRecursion IsSymmetryWithin lines.now → ⊥) }
+    ensures { MatchBool result (AllByRecursion IsSymmetryWithin lines.now)
+        (AllByRecursion IsSymmetryWithin lines.now → ⊥) }
 {
     for line in lines {
         if !is_symmetry_within(line) {
@@ -198,7 +205,8 @@ fn are_symmetries_within(lines: &[SymmetryLine]) -> bool
 }
 
 fn is_certificate_within(certificate: &Certificate) -> bool
-    ensures { MatchBool result (IsCertificateWithin (said_by certificate.now)) (IsCertificateWithin (said_by certificate.now) → ⊥) }
+    ensures { MatchBool result (IsCertificateWithin (said_by certificate.now))
+        (IsCertificateWithin (said_by certificate.now) → ⊥) }
 {
     let symmetries = certificate.symmetries();
     let lemmas = certificate.lemmas();
@@ -219,7 +227,8 @@ impl Lemma {
     /// tree than that, and takes no memory.
     pub fn within_limits(&self) -> bool
         ensures within { MatchBool result (IsLemmaWithin (piece_of self.now)) (IsLemmaWithin (piece_of self.now) → ⊥) }
-        ensures spelled { MatchBool result ((text : List ℕ) × (lemma_of text ≡ Ok (piece_of self.now))) ((text : List ℕ) → lemma_of text ≢ Ok (piece_of self.now)) }
+        ensures spelled { MatchBool result ((text : List ℕ) × (lemma_of text ≡ Ok (piece_of self.now)))
+            ((text : List ℕ) → lemma_of text ≢ Ok (piece_of self.now)) }
     {
         is_lemma_within(self)
     }
@@ -234,8 +243,10 @@ impl Certificate {
     /// Whether the certificate has a spelling: up to 1,024 symmetries, with shifts below 4, up to 100 cells and tiles
     /// below 100, and up to 36 colours below 36; and lemmas that each have one. It takes no memory.
     pub fn within_limits(&self) -> bool
-        ensures within { MatchBool result (IsCertificateWithin (said_by self.now)) (IsCertificateWithin (said_by self.now) → ⊥) }
-        ensures spelled { MatchBool result ((text : List ℕ) × (certificate_of text ≡ Ok (said_by self.now))) ((text : List ℕ) → certificate_of text ≢ Ok (said_by self.now)) }
+        ensures within { MatchBool result (IsCertificateWithin (said_by self.now))
+            (IsCertificateWithin (said_by self.now) → ⊥) }
+        ensures spelled { MatchBool result ((text : List ℕ) × (certificate_of text ≡ Ok (said_by self.now)))
+            ((text : List ℕ) → certificate_of text ≢ Ok (said_by self.now)) }
     {
         is_certificate_within(self)
     }

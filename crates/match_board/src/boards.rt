@@ -1,7 +1,8 @@
 //! A board: its cells, and which of their sides meet.
 
 ghost use Rattle.std.specs.Prelude.{◌≡◌, ◌↔◌, ◌<◌, ◌≤◌, ◌*◌, ℕ, ◌+◌, List, length, IfOk, IfSome, MatchBool};
-ghost use Rattle.match_board.specs.Board.{cell_count, side_count, Meets, IsBoard, IsBorderOrder, IsBorderPair, IsBorderBefore};
+ghost use Rattle.match_board.specs.Board.{cell_count, side_count, Meets, IsBoard, IsBorderOrder, IsBorderPair};
+ghost use Rattle.match_board.specs.Board.{IsBorderBefore};
 ghost use Rattle.match_board.specs.declared.figures.Figure.TheVariants.{Rectangle, Triangle, Hexagon};
 
 use crate::figures::Figure;

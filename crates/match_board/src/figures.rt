@@ -1,7 +1,8 @@
 //! The figure that a board covers: where its cells stand, and which of their sides meet.
 
 ghost use Rattle.std.specs.Prelude.{◌≡◌, ◌<◌, ◌≤◌, ℕ, IfSome};
-ghost use Rattle.match_board.specs.Board.{cell_count, row_count, row_length, side_count, Meets, StandsAt, IsPlace, LiesAgainst, IsBoard};
+ghost use Rattle.match_board.specs.Board.{cell_count, row_count, row_length, side_count, Meets, StandsAt, IsPlace};
+ghost use Rattle.match_board.specs.Board.{LiesAgainst, IsBoard};
 
 use crate::{hexagons, rectangles, triangles};
 

@@ -11,7 +11,8 @@ pub fn beside(width: u16, height: u16, row: u16, place: u16, side: u8) -> Option
     requires side { side < 4 }
     ensures side { IfSome result (λ n. n.2 < 4) }
     ensures found { IfSome result
-        (λ n. IsPlace (Rectangle width height) n.0 n.1 × LiesAgainst (Rectangle width height) row place side n.0 n.1 n.2) }
+        (λ n. IsPlace (Rectangle width height) n.0 n.1
+        × LiesAgainst (Rectangle width height) row place side n.0 n.1 n.2) }
     ensures only { (r p k : ℕ) → IsPlace (Rectangle width height) r p
         → LiesAgainst (Rectangle width height) row place side r p k → result ≡ Some (r, p, k) }
 {

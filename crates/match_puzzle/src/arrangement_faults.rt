@@ -4,8 +4,10 @@ ghost use Rattle.std.specs.Prelude.{◌≡◌, ◌≢◌, ◌<◌, ◌≤◌, �
 ghost use Rattle.match_board.specs.Board.{cell_count, side_count};
 ghost use Rattle.match_board.specs.First.{IsLeast, IsLeastPair};
 ghost use Rattle.match_puzzle.specs.Puzzle.{HasRule, colour_of};
-ghost use Rattle.match_puzzle.specs.Arrangement.{IsArrangement, MatchesEdgeAt, HaveTiles, AreLegal, StandOnce, ObeyBorder, MatchEdges};
-ghost use Rattle.match_puzzle.specs.ArrangementFaults.{IsArrangementFault, HasNoTileAt, HasNoTurnAt, RepeatsTileAt, BreaksBorderAt, BreaksEdgeAt};
+ghost use Rattle.match_puzzle.specs.Arrangement.{IsArrangement, MatchesEdgeAt, HaveTiles, AreLegal, StandOnce};
+ghost use Rattle.match_puzzle.specs.Arrangement.{ObeyBorder, MatchEdges};
+ghost use Rattle.match_puzzle.specs.ArrangementFaults.{IsArrangementFault, HasNoTileAt, HasNoTurnAt, RepeatsTileAt};
+ghost use Rattle.match_puzzle.specs.ArrangementFaults.{BreaksBorderAt, BreaksEdgeAt};
 
 use crate::faults::ArrangementFault;
 use crate::placements::Placement;
@@ -18,7 +20,8 @@ impl Puzzle {
     ///
     /// It goes over the cells once for each kind of fault, and takes no memory.
     pub fn arrangement_fault(&self, placements: &[Placement]) -> Option<ArrangementFault>
-        ensures { MatchOption result (IsArrangement self.now placements.now) (IsArrangementFault self.now placements.now) }
+        ensures { MatchOption result (IsArrangement self.now placements.now)
+            (IsArrangementFault self.now placements.now) }
     {
         if placements.len() != self.board().cells() as usize {
             return Some(ArrangementFault::Length);
@@ -44,7 +47,8 @@ impl Puzzle {
     // The first cell whose placement names no tile of the puzzle.
     fn tile_out_of_range(&self, placements: &[Placement]) -> Option<u32>
         requires { length placements.now ≡ cell_count self.now.board }
-        ensures { MatchOption result (HaveTiles self.now placements.now) (IsLeast (HasNoTileAt self.now placements.now)) }
+        ensures { MatchOption result (HaveTiles self.now placements.now)
+            (IsLeast (HasNoTileAt self.now placements.now)) }
     {
         let cells = self.board().cells();
         for cell in 0..cells {
@@ -59,7 +63,8 @@ impl Puzzle {
     fn turn_out_of_range(&self, placements: &[Placement]) -> Option<u32>
         requires long { length placements.now ≡ cell_count self.now.board }
         requires tiles { HaveTiles self.now placements.now }
-        ensures { MatchOption result (AreLegal self.now placements.now) (IsLeast (HasNoTurnAt self.now placements.now)) }
+        ensures { MatchOption result (AreLegal self.now placements.now)
+            (IsLeast (HasNoTurnAt self.now placements.now)) }
     {
         for cell in 0..self.board().cells() {
             if !self.legal(placements[cell as usize]) {
@@ -90,7 +95,8 @@ impl Puzzle {
     fn broken_border(&self, placements: &[Placement]) -> Option<(u32, u32)>
         requires long { length placements.now ≡ cell_count self.now.board }
         requires legal { AreLegal self.now placements.now }
-        ensures { MatchOption result (ObeyBorder self.now placements.now) (IsLeastPair (BreaksBorderAt self.now placements.now)) }
+        ensures { MatchOption result (ObeyBorder self.now placements.now)
+            (IsLeastPair (BreaksBorderAt self.now placements.now)) }
     {
         for cell in 0..self.board().cells() {
             if let Some(side) = self.broken_border_at(cell, placements[cell as usize]) {
@@ -106,7 +112,8 @@ impl Puzzle {
         requires tile { placement.tile < length self.now.words }
         ensures { MatchOption result
             ((side colour : ℕ) → HasRule self.now cell side colour → colour_of self.now placement side ≡ colour)
-            (IsLeast (λ side. (colour : ℕ) × HasRule self.now cell side colour × (colour_of self.now placement side ≢ colour))) }
+            (IsLeast
+            (λ side. (colour : ℕ) × HasRule self.now cell side colour × (colour_of self.now placement side ≢ colour))) }
     {
         for side in 0..self.board().sides() {
             if !self.obeys_rule(cell, side, placement) {
@@ -135,7 +142,8 @@ impl Puzzle {
     fn broken_edge(&self, placements: &[Placement]) -> Option<(u32, u32)>
         requires long { length placements.now ≡ cell_count self.now.board }
         requires legal { AreLegal self.now placements.now }
-        ensures { MatchOption result (MatchEdges self.now placements.now) (IsLeastPair (BreaksEdgeAt self.now placements.now)) }
+        ensures { MatchOption result (MatchEdges self.now placements.now)
+            (IsLeastPair (BreaksEdgeAt self.now placements.now)) }
     {
         for cell in 0..self.board().cells() {
             if let Some(side) = self.broken_edge_at(cell, placements) {
@@ -168,7 +176,8 @@ impl Puzzle {
         requires side { side < side_count self.now.board }
         requires long { length placements.now ≡ cell_count self.now.board }
         requires legal { AreLegal self.now placements.now }
-        ensures { MatchBool result (MatchesEdgeAt self.now placements.now cell side) (BreaksEdgeAt self.now placements.now cell side) }
+        ensures { MatchBool result (MatchesEdgeAt self.now placements.now cell side)
+            (BreaksEdgeAt self.now placements.now cell side) }
     {
         match self.side(cell, side) {
             Side::Border(_) => true,

@@ -53,7 +53,8 @@ impl BorderRules {
         requires { length self.now < 2 ^ 32 }
         ensures { MatchOption result
             ((place colour : ℕ) → slice_get self.now place ≡ Some (Some colour) → colour < MOST_COLOURS)
-            (IsLeast (λ place. (colour : ℕ) × (slice_get self.now place ≡ Some (Some colour)) × (MOST_COLOURS ≤ colour))) }
+            (IsLeast
+            (λ place. (colour : ℕ) × (slice_get self.now place ≡ Some (Some colour)) × (MOST_COLOURS ≤ colour))) }
     {
         first_bad_colour(&self.rules)
     }
@@ -62,7 +63,8 @@ impl BorderRules {
     fn colour_count(&self) -> u8
         requires { (place colour : ℕ) → slice_get self.now place ≡ Some (Some colour) → colour < MOST_COLOURS }
         ensures above { (place colour : ℕ) → slice_get self.now place ≡ Some (Some colour) → colour < result }
-        ensures least { (other : ℕ) → ((place colour : ℕ) → slice_get self.now place ≡ Some (Some colour) → colour < other) → result ≤ other }
+        ensures least { (other : ℕ)
+            → ((place colour : ℕ) → slice_get self.now place ≡ Some (Some colour) → colour < other) → result ≤ other }
     {
         colour_count_of(&self.rules)
     }
@@ -97,7 +99,8 @@ fn first_bad_colour(rules: &[Option<u8>]) -> Option<u32>
 fn colour_count_of(rules: &[Option<u8>]) -> u8
     requires { (place colour : ℕ) → slice_get rules.now place ≡ Some (Some colour) → colour < MOST_COLOURS }
     ensures above { (place colour : ℕ) → slice_get rules.now place ≡ Some (Some colour) → colour < result }
-    ensures least { (other : ℕ) → ((place colour : ℕ) → slice_get rules.now place ≡ Some (Some colour) → colour < other) → result ≤ other }
+    ensures least { (other : ℕ) → ((place colour : ℕ) → slice_get rules.now place ≡ Some (Some colour) → colour < other)
+        → result ≤ other }
 {
     let mut count = 0;
     for rule in rules {
@@ -111,7 +114,8 @@ fn count_with(count: u8, rule: Option<u8>) -> u8
     requires { (colour : ℕ) → rule ≡ Some colour → colour < MOST_COLOURS }
     ensures more { count ≤ result }
     ensures above { (colour : ℕ) → rule ≡ Some colour → colour < result }
-    ensures least { (other : ℕ) → count ≤ other → ((colour : ℕ) → rule ≡ Some colour → colour < other) → result ≤ other }
+    ensures least { (other : ℕ) → count ≤ other → ((colour : ℕ) → rule ≡ Some colour → colour < other)
+        → result ≤ other }
 {
     match rule {
         Some(colour) if colour >= count => colour + 1,
@@ -179,7 +183,8 @@ impl Border {
     pub(crate) fn colour_count(&self) -> u8
         requires { (place colour : ℕ) → StandsInRule (rule_of self.now) place colour → colour < MOST_COLOURS }
         ensures above { (place colour : ℕ) → StandsInRule (rule_of self.now) place colour → colour < result }
-        ensures least { (other : ℕ) → ((place colour : ℕ) → StandsInRule (rule_of self.now) place colour → colour < other) → result ≤ other }
+        ensures least { (other : ℕ)
+            → ((place colour : ℕ) → StandsInRule (rule_of self.now) place colour → colour < other) → result ≤ other }
     {
         match self {
             Border::Free => 0,
@@ -190,7 +195,8 @@ impl Border {
 
     // Whether a list of rules has one for each border pair.
     pub(crate) fn is_as_long_as(&self, board: Board) -> bool
-        ensures { MatchBool result (IsAsLongAsBorder board (rule_of self.now)) (IsAsLongAsBorder board (rule_of self.now) → ⊥) }
+        ensures { MatchBool result (IsAsLongAsBorder board (rule_of self.now))
+            (IsAsLongAsBorder board (rule_of self.now) → ⊥) }
     {
         match self {
             Border::Free | Border::One(_) => true,

@@ -39,7 +39,8 @@ impl<'a> Partial<'a> {
     // The placements that fit at the cell: of tile t after turn r by 4 t + r.
     fn fitting_at(&self, cell: u16) -> NumberSet
         requires { cell < cell_count self.now.puzzle.board }
-        ensures fitting { IsListing ◌<◌ (λ n. Fits self.now.puzzle self.now.placed cell (turned_tile (n / 4) (n % 4))) result }
+        ensures fitting { IsListing ◌<◌
+            (λ n. Fits self.now.puzzle self.now.placed cell (turned_tile (n / 4) (n % 4))) result }
         ensures puzzle { IsPuzzle self.now.puzzle }
     {
         if self.at(cell).is_some() {
@@ -56,7 +57,8 @@ impl<'a> Partial<'a> {
     // Where the tile fits: at cell c after turn r by 4 c + r.
     fn fitting_of(&self, tile: u16) -> NumberSet
         requires { tile < length self.now.puzzle.words }
-        ensures fitting { IsListing ◌<◌ (λ n. Fits self.now.puzzle self.now.placed (n / 4) (turned_tile tile (n % 4))) result }
+        ensures fitting { IsListing ◌<◌
+            (λ n. Fits self.now.puzzle self.now.placed (n / 4) (turned_tile tile (n % 4))) result }
         ensures puzzle { IsPuzzle self.now.puzzle }
     {
         let mut numbers = NumberSet::new();
@@ -72,7 +74,9 @@ impl<'a> Partial<'a> {
         requires tile { tile < length self.now.puzzle.words }
         ensures few { result < 16 }
         ensures puzzle { IsPuzzle self.now.puzzle }
-        ensures turns { (turn : ℕ) → turn < 4 → (bit_at result turn ≡ 1 → Fits self.now.puzzle self.now.placed cell (turned_tile tile turn)) × (Fits self.now.puzzle self.now.placed cell (turned_tile tile turn) → bit_at result turn ≡ 1) }
+        ensures turns { (turn : ℕ) → turn < 4
+            → (bit_at result turn ≡ 1 → Fits self.now.puzzle self.now.placed cell (turned_tile tile turn))
+            × (Fits self.now.puzzle self.now.placed cell (turned_tile tile turn) → bit_at result turn ≡ 1) }
     {
         if self.at(cell).is_some() {
             return 0;
@@ -100,7 +104,8 @@ impl<'a> Partial<'a> {
         requires cell { cell < cell_count self.now.puzzle.board }
         requires side { side < 4 }
         ensures most { result ≤ ANY_COLOUR }
-        ensures asked { (colour : ℕ) → IsAsked self.now.puzzle self.now.placed cell side colour ↔ ((result ≡ colour) × (colour < MOST_COLOURS)) }
+        ensures asked { (colour : ℕ) → IsAsked self.now.puzzle self.now.placed cell side colour
+            ↔ ((result ≡ colour) × (colour < MOST_COLOURS)) }
         ensures puzzle { IsPuzzle self.now.puzzle }
     {
         if side >= self.puzzle().board().sides() {
@@ -130,7 +135,8 @@ impl Puzzle {
     pub fn count_cell(&self, partial: &Partial<'_>, cell: u16) -> u16
         requires made { partial.now.puzzle ≡ self.now }
         requires cell { cell < cell_count self.now.board }
-        ensures { (xs : List Standing) × IsListing (ByKey tile_turn) (Fits self.now partial.now.placed cell) xs × (length xs ≡ result) }
+        ensures { (xs : List Standing) × IsListing (ByKey tile_turn) (Fits self.now partial.now.placed cell) xs
+            × (length xs ≡ result) }
     {
         partial.fitting(Item::Cell(cell)).len()
     }
@@ -139,7 +145,8 @@ impl Puzzle {
     pub fn count_tile(&self, partial: &Partial<'_>, tile: u16) -> u16
         requires made { partial.now.puzzle ≡ self.now }
         requires tile { tile < length self.now.words }
-        ensures { (xs : List StandingPair) × AreFitting self.now partial.now.placed (items.Tile tile) xs × (length xs ≡ result) }
+        ensures { (xs : List StandingPair) × AreFitting self.now partial.now.placed (items.Tile tile) xs
+            × (length xs ≡ result) }
     {
         partial.fitting(Item::Tile(tile)).len()
     }

@@ -1,6 +1,7 @@
 //! Sets of numbers below 448, as bits.
 
-ghost use Rattle.std.specs.Prelude.{◌≡◌, ◌≢◌, ◌⊎◌, ◌↔◌, ◌<◌, ◌≤◌, ◌/◌, ◌%◌, ◌*◌, ◌+◌, ℕ, [], ◌∷◌, Contains, MatchOption, length};
+ghost use Rattle.std.specs.Prelude.{◌≡◌, ◌≢◌, ◌⊎◌, ◌↔◌, ◌<◌, ◌≤◌, ◌/◌, ◌%◌, ◌*◌, ◌+◌, ℕ, [], ◌∷◌, Contains};
+ghost use Rattle.std.specs.Prelude.{MatchOption, length};
 ghost use Rattle.std.specs.Int.{bit_at};
 ghost use Rattle.match_board.specs.Listing.{IsListing};
 ghost use Rattle.match_puzzle.specs.NumberSets.{IsGroup};
@@ -88,7 +89,8 @@ impl NumberSet {
         third: &NumberSet,
         fourth: &NumberSet,
     ) -> NumberSet
-        ensures { IsListing ◌<◌ (λ n. Contains self.now n × Contains first.now n × Contains second.now n × Contains third.now n × Contains fourth.now n) result }
+        ensures { IsListing ◌<◌ (λ n. Contains self.now n × Contains first.now n × Contains second.now n
+            × Contains third.now n × Contains fourth.now n) result }
     {
         let mut words = [0; WORDS];
         for i in 0..WORDS {
@@ -115,7 +117,9 @@ impl NumberSet {
     ) -> u8
         requires { group < 112 }
         ensures few { result < 16 }
-        ensures common { (n : ℕ) → n < 4 → (bit_at result n ≡ 1) ↔ (Contains self.now (4 * group + n) × Contains first.now (4 * group + n) × Contains second.now (4 * group + n) × Contains third.now (4 * group + n) × Contains fourth.now (4 * group + n)) }
+        ensures common { (n : ℕ) → n < 4 → (bit_at result n ≡ 1) ↔ (Contains self.now (4 * group + n)
+            × Contains first.now (4 * group + n) × Contains second.now (4 * group + n)
+            × Contains third.now (4 * group + n) × Contains fourth.now (4 * group + n)) }
     {
         let place = usize::from(group / 16);
         let word = self.words[place]

@@ -1,6 +1,7 @@
 //! Partial arrangements.
 
-ghost use Rattle.std.specs.Prelude.{◌≡◌, ◌↔◌, ◌⊎◌, ◌<◌, ◌≤◌, ◌+◌, ◌*◌, ℕ, slice_index, IfOk, IfSome, IsTrue, MatchBool, false, map, None, Some, List, length, slice_get};
+ghost use Rattle.std.specs.Prelude.{◌≡◌, ◌↔◌, ◌⊎◌, ◌<◌, ◌≤◌, ◌+◌, ◌*◌, ℕ, slice_index, IfOk, IfSome, IsTrue, MatchBool};
+ghost use Rattle.std.specs.Prelude.{false, map, None, Some, List, length, slice_get};
 ghost use Rattle.match_board.specs.Board.{cell_count, side_count};
 ghost use Rattle.match_puzzle.specs.Puzzle.{colour_of};
 ghost use Rattle.match_puzzle.specs.Prefix.{IsWithin, Has};
@@ -38,7 +39,8 @@ impl<'a> Model for Partial<'a> {
 impl<'a> Partial<'a> {
     ghost use Rattle.match_puzzle.specs.Puzzle.{IsPuzzle, IsLegal};
     ghost use Rattle.match_puzzle.specs.declared.placements.Placement.{Placement};
-    ghost use Rattle.match_puzzle.specs.Prefix.{Layout, IsPrefix, IsFree, IsUsed, IsUnused, empty_prefix, with_pair, with_pairs, without_cell, Has};
+    ghost use Rattle.match_puzzle.specs.Prefix.{Layout, IsPrefix, IsFree, IsUsed, IsUnused, empty_prefix, with_pair};
+    ghost use Rattle.match_puzzle.specs.Prefix.{with_pairs, without_cell, Has};
     ghost use Rattle.match_puzzle.specs.PrefixFaults.{IsPairList};
     ghost use Rattle.match_puzzle.specs.PlacementSets.{AreFreeNumbers};
 
@@ -61,7 +63,8 @@ impl<'a> Partial<'a> {
     /// Just these pairs are placed.
     pub fn of(alloc: Global, puzzle: &'a Puzzle, pairs: &[Pair]) -> Result<Partial<'a>, AllocError>
         requires { IsPairList puzzle.now pairs.now }
-        ensures pairs { IfOk result (λ q. q ≡ record { puzzle = puzzle.now; placed = with_pairs pairs.now (empty_prefix puzzle.now) }) }
+        ensures pairs { IfOk result
+            (λ q. q ≡ record { puzzle = puzzle.now; placed = with_pairs pairs.now (empty_prefix puzzle.now) }) }
         ensures puzzle { IsPuzzle puzzle.now }
     {
         let mut partial = Partial::new(alloc, puzzle)?;
@@ -103,7 +106,8 @@ impl<'a> Partial<'a> {
     pub(crate) fn shown(&self, cell: u16, side: u8) -> u8
         requires cell { cell < cell_count self.now.puzzle.board }
         requires side { side < side_count self.now.puzzle.board }
-        ensures placed { (x : Placement) → Has self.now.placed cell x → (result ≡ colour_of self.now.puzzle x side) × (result < MOST_COLOURS) }
+        ensures placed { (x : Placement) → Has self.now.placed cell x → (result ≡ colour_of self.now.puzzle x side)
+            × (result < MOST_COLOURS) }
         ensures empty { IsFree self.now.placed cell → result ≡ ANY_COLOUR }
         ensures long { length self.now.placed ≡ cell_count self.now.puzzle.board }
     {
@@ -131,7 +135,8 @@ impl<'a> Partial<'a> {
 
     /// Whether no cell is empty.
     pub fn is_whole(&self) -> bool
-        ensures { MatchBool result ((cell : ℕ) → IsFree self.now.placed cell → ⊥) ((cell : ℕ) × IsFree self.now.placed cell) }
+        ensures { MatchBool result ((cell : ℕ) → IsFree self.now.placed cell → ⊥)
+            ((cell : ℕ) × IsFree self.now.placed cell) }
     {
         is_filled(&self.placed)
     }
@@ -184,7 +189,11 @@ impl<'a> Partial<'a> {
     pub fn place_all(&mut self, pairs: &[Pair])
         requires pairs { IsPairList self.old.puzzle pairs.now }
         requires empty { self.old.placed ≡ empty_prefix self.old.puzzle }
-        ensures { self.new ≡ record { puzzle = self.old.puzzle; placed = with_pairs pairs.now (empty_prefix self.old.puzzle) } }
+        ensures { self.new ≡ record {
+          puzzle = self.old.puzzle;
+          placed = with_pairs pairs.now
+              (empty_prefix self.old.puzzle);
+        } }
     {
         for pair in pairs {
             self.place(pair.cell, pair.placement);
@@ -208,8 +217,11 @@ fn show(shown: &mut Vec<u8>, puzzle: &Puzzle, cell: u16, placement: Placement)
     requires tile { placement.tile < length puzzle.now.words }
     requires cell { 4 * cell + 4 ≤ length shown.old.items }
     ensures long { length shown.new.items ≡ length shown.old.items }
-    ensures shows { (side : ℕ) → side < side_count puzzle.now.board → (slice_index shown.new.items (4 * cell + side) ≡ colour_of puzzle.now placement side) × (slice_index shown.new.items (4 * cell + side) < MOST_COLOURS) }
-    ensures others { (place : ℕ) → (place < 4 * cell) ⊎ (4 * cell + 4 ≤ place) → slice_index shown.new.items place ≡ slice_index shown.old.items place }
+    ensures shows { (side : ℕ) → side < side_count puzzle.now.board
+        → (slice_index shown.new.items (4 * cell + side) ≡ colour_of puzzle.now placement side)
+        × (slice_index shown.new.items (4 * cell + side) < MOST_COLOURS) }
+    ensures others { (place : ℕ) → (place < 4 * cell) ⊎ (4 * cell + 4 ≤ place)
+        → slice_index shown.new.items place ≡ slice_index shown.old.items place }
 {
     for side in 0..puzzle.board().sides() {
         shown[4 * usize::from(cell) + usize::from(side)] = puzzle.colour(placement, side);
@@ -221,7 +233,8 @@ fn hide(shown: &mut Vec<u8>, cell: u16)
     requires { 4 * cell + 4 ≤ length shown.old.items }
     ensures long { length shown.new.items ≡ length shown.old.items }
     ensures any { (side : ℕ) → side < 4 → slice_index shown.new.items (4 * cell + side) ≡ ANY_COLOUR }
-    ensures others { (place : ℕ) → (place < 4 * cell) ⊎ (4 * cell + 4 ≤ place) → slice_index shown.new.items place ≡ slice_index shown.old.items place }
+    ensures others { (place : ℕ) → (place < 4 * cell) ⊎ (4 * cell + 4 ≤ place)
+        → slice_index shown.new.items place ≡ slice_index shown.old.items place }
 {
     for side in 0..4 {
         shown[4 * usize::from(cell) + side] = ANY_COLOUR;
@@ -230,7 +243,8 @@ fn hide(shown: &mut Vec<u8>, cell: u16)
 
 // Whether no place is empty.
 fn is_filled(placed: &[Option<Placement>]) -> bool
-    ensures { MatchBool result ((cell : ℕ) → slice_get placed.now cell ≡ Some None → ⊥) ((cell : ℕ) × (slice_get placed.now cell ≡ Some None)) }
+    ensures { MatchBool result ((cell : ℕ) → slice_get placed.now cell ≡ Some None → ⊥)
+        ((cell : ℕ) × (slice_get placed.now cell ≡ Some None)) }
 {
     for standing in placed {
         if standing.is_none() {

@@ -52,7 +52,9 @@ fn showing_set(tiles: &[Tile], asked: u8, side: u8) -> NumberSet
 // The turns after which the tile shows on the side what is asked, as bits.
 fn turns_as_asked(tile: &Tile, asked: u8, side: u8) -> u8
     ensures few { result < 16 }
-    ensures turns { (turn : ℕ) → turn < 4 → (bit_at result turn ≡ 1 → asked < MOST_COLOURS → Shows (word tile.now) asked side turn) × ((asked < MOST_COLOURS → Shows (word tile.now) asked side turn) → bit_at result turn ≡ 1) }
+    ensures turns { (turn : ℕ) → turn < 4
+        → (bit_at result turn ≡ 1 → asked < MOST_COLOURS → Shows (word tile.now) asked side turn)
+        × ((asked < MOST_COLOURS → Shows (word tile.now) asked side turn) → bit_at result turn ≡ 1) }
 {
     if asked >= ANY_COLOUR {
         return 15;
@@ -63,7 +65,8 @@ fn turns_as_asked(tile: &Tile, asked: u8, side: u8) -> u8
 // The turns after which the tile shows the colour on the side, as bits.
 fn showing_turns(tile: &Tile, colour: u8, side: u8) -> u8
     ensures few { result < 16 }
-    ensures turns { (turn : ℕ) → turn < 4 → (bit_at result turn ≡ 1 → Shows (word tile.now) colour side turn) × (Shows (word tile.now) colour side turn → bit_at result turn ≡ 1) }
+    ensures turns { (turn : ℕ) → turn < 4 → (bit_at result turn ≡ 1 → Shows (word tile.now) colour side turn)
+        × (Shows (word tile.now) colour side turn → bit_at result turn ≡ 1) }
 {
     if side >= tile.sides() {
         return 0;
@@ -100,7 +103,8 @@ impl PlacementSets {
         requires tiles { length tiles.now ≤ MOST_TILES }
         requires as_many { length turn_counts.now ≤ MOST_TILES }
         requires turns { All (λ count. count ≤ 4) turn_counts.now }
-        ensures legal { IfOk result (λ sets. IsListing ◌<◌ (λ n. n % 4 < slice_index turn_counts.now (n / 4)) sets.legal) }
+        ensures legal { IfOk result
+            (λ sets. IsListing ◌<◌ (λ n. n % 4 < slice_index turn_counts.now (n / 4)) sets.legal) }
         ensures showing { IfOk result (λ sets. AreShowingSets (map word tiles.now) sets.showing.items) }
     {
         let showing = showing_sets(alloc, tiles)?;

@@ -26,7 +26,8 @@ impl Puzzle {
         None
     }
 
-    // What is wrong with the pair at this place, where these tiles were seen and its cell has to be one from the least on.
+    // What is wrong with the pair at this place, where these tiles were seen and its cell has to be one from the least
+    // on.
     fn pair_fault(&self, place: u32, pair: Pair, least: u16, seen: &[bool]) -> Option<PrefixFault>
         requires { length seen.now ≡ MOST_TILES }
         ensures { TellsOfPair self.now place pair least seen.now result }

@@ -1,6 +1,7 @@
 //! A puzzle: a board, tiles, and a rule for the border.
 
-ghost use Rattle.std.specs.Prelude.{◌≡◌, ◌≢◌, ◌<◌, ◌≤◌, ◌↔◌, ◌^◌, ℕ, IfOk, IfErr, IsErrOf, IfSome, IsTrue, MatchOption, Some, length, map, []};
+ghost use Rattle.std.specs.Prelude.{◌≡◌, ◌≢◌, ◌<◌, ◌≤◌, ◌↔◌, ◌^◌, ℕ, IfOk, IfErr, IsErrOf, IfSome, IsTrue, MatchOption};
+ghost use Rattle.std.specs.Prelude.{Some, length, map, []};
 ghost use Rattle.match_board.specs.Board.{cell_count, side_count, Meets};
 ghost use Rattle.match_board.specs.First.{IsFirst};
 ghost use Rattle.match_puzzle.specs.Puzzle.{Task, task_of, rule_of, IsPuzzle, IsShortRule};
@@ -38,7 +39,8 @@ impl Model for Puzzle {
 
     ghost view = { λ p. task_of p.board p.turns p.border p.tiles.items };
 
-    ghost invariant = { λ p. IsMade (task_of p.board p.turns p.border p.tiles.items) p.sides.items p.turn_counts.items p.colours p.sets.legal p.sets.showing.items };
+    ghost invariant = { λ p. IsMade (task_of p.board p.turns p.border p.tiles.items)
+        p.sides.items p.turn_counts.items p.colours p.sets.legal p.sets.showing.items };
 }
 
 impl Puzzle {
@@ -61,7 +63,8 @@ impl Puzzle {
         requires tiles { length tiles.now < 2 ^ 32 }
         requires border { IsShortRule (rule_of border.now) }
         ensures puzzle { IfOk result (λ p. (p ≡ task_of board turns border.now tiles.now) × IsPuzzle p) }
-        ensures fault { IfErr result (λ f. f ≢ PuzzleFault.Memory → IsFirst puzzle_rank (PuzzleFails (task_of board turns border.now tiles.now)) f) }
+        ensures fault { IfErr result (λ f. f ≢ PuzzleFault.Memory
+            → IsFirst puzzle_rank (PuzzleFails (task_of board turns border.now tiles.now)) f) }
         ensures memory { IsErrOf result PuzzleFault.Memory → IsPuzzle (task_of board turns border.now tiles.now) }
     {
         if let Some(fault) = puzzle_fault(board, turns, border, tiles) {
@@ -215,7 +218,8 @@ impl Puzzle {
 fn puzzle_fault(board: Board, turns: bool, border: &Border, tiles: &[Tile]) -> Option<PuzzleFault>
     requires tiles { length tiles.now < 2 ^ 32 }
     requires border { IsShortRule (rule_of border.now) }
-    ensures { MatchOption result (IsPuzzle (task_of board turns border.now tiles.now)) (IsFirst puzzle_rank (PuzzleFails (task_of board turns border.now tiles.now))) }
+    ensures { MatchOption result (IsPuzzle (task_of board turns border.now tiles.now))
+        (IsFirst puzzle_rank (PuzzleFails (task_of board turns border.now tiles.now))) }
 {
     if board.sides() == 3 && !turns {
         return Some(PuzzleFault::FixedTriangles);

@@ -1,6 +1,7 @@
 //! What a puzzle looks up and does not work out anew.
 
-ghost use Rattle.std.specs.Prelude.{◌≡◌, ◌≢◌, ◌<◌, ◌≤◌, ◌+◌, ◌^◌, ℕ, Bool, List, IfOk, MatchOption, MatchBool, Contains, Some, [], length, map, slice_get, slice_index_or};
+ghost use Rattle.std.specs.Prelude.{◌≡◌, ◌≢◌, ◌<◌, ◌≤◌, ◌+◌, ◌^◌, ℕ, Bool, List, IfOk, MatchOption, MatchBool};
+ghost use Rattle.std.specs.Prelude.{Contains, Some, [], length, map, slice_get, slice_index_or};
 ghost use Rattle.match_board.specs.Board.{cell_count, side_count};
 ghost use Rattle.match_board.specs.declared.figures.Figure.{Figure};
 ghost use Rattle.match_board.specs.First.{IsLeast};
@@ -39,7 +40,8 @@ pub(crate) fn sides_table(
     border: &Border,
 ) -> Result<Vec<CellSides>, AllocError>
     requires { IsAsLongAsBorder board (rule_of border.now) }
-    ensures { IfOk result (λ v. (turns : Bool) (tiles : List BoardTile) → AreSides (task_of board turns border.now tiles) v.items) }
+    ensures { IfOk result
+        (λ v. (turns : Bool) (tiles : List BoardTile) → AreSides (task_of board turns border.now tiles) v.items) }
 {
     let mut table = Vec::with_capacity(alloc, board.cells() as usize)?;
     let mut number = 0;
@@ -55,7 +57,8 @@ fn cell_sides(board: Board, border: &Border, cell: u16, number: &mut u16) -> Cel
     requires cell { cell < cell_count board }
     requires border { IsAsLongAsBorder board (rule_of border.now) }
     requires number { IsNextNumber board (cell, 0) number.old }
-    ensures sides { (turns : Bool) (tiles : List BoardTile) (side : ℕ) (x : Side) → side < side_count board → slice_get result.sides side ≡ Some x → IsSide (task_of board turns border.now tiles) cell side x }
+    ensures sides { (turns : Bool) (tiles : List BoardTile) (side : ℕ) (x : Side) → side < side_count board
+        → slice_get result.sides side ≡ Some x → IsSide (task_of board turns border.now tiles) cell side x }
     ensures number { IsNextNumber board (cell + 1, 0) number.new }
 {
     let mut sides = [Side::Border(None); 4];
@@ -71,7 +74,8 @@ fn side_at(board: Board, border: &Border, cell: u16, side: u8, number: &mut u16)
     requires side { side < side_count board }
     requires border { IsAsLongAsBorder board (rule_of border.now) }
     requires number { IsNextNumber board (cell, side) number.old }
-    ensures side { (turns : Bool) (tiles : List BoardTile) → IsSide (task_of board turns border.now tiles) cell side result }
+    ensures side { (turns : Bool) (tiles : List BoardTile)
+        → IsSide (task_of board turns border.now tiles) cell side result }
     ensures number { IsNextNumber board (cell, side + 1) number.new }
 {
     match board.meets(cell, side) {
@@ -86,7 +90,8 @@ fn side_at(board: Board, border: &Border, cell: u16, side: u8, number: &mut u16)
 
 /// How many turns of each tile are legal.
 pub(crate) fn turn_counts(alloc: Global, turns: bool, tiles: &[Tile]) -> Result<Vec<u8>, AllocError>
-    ensures { IfOk result (λ v. (board : Figure) (border : BorderRules) → AreTurnCounts (task_of board turns border tiles.now) v.items) }
+    ensures { IfOk result
+        (λ v. (board : Figure) (border : BorderRules) → AreTurnCounts (task_of board turns border tiles.now) v.items) }
 {
     let mut table = Vec::with_capacity(alloc, tiles.len())?;
     for tile in tiles {
@@ -136,8 +141,10 @@ fn tile_colour_count(tile: &Tile) -> u8
 pub(crate) fn odd_tile(board: Board, tiles: &[Tile]) -> Option<u32>
     requires { length tiles.now < 2 ^ 32 }
     ensures { MatchOption result
-        ((tile : ℕ) → tile < length (map word tiles.now) → length (slice_index_or (map word tiles.now) tile []) ≡ side_count board)
-        (IsLeast (λ tile. (tile < length (map word tiles.now)) × (length (slice_index_or (map word tiles.now) tile []) ≢ side_count board))) }
+        ((tile : ℕ) → tile < length (map word tiles.now)
+        → length (slice_index_or (map word tiles.now) tile []) ≡ side_count board)
+        (IsLeast (λ tile. (tile < length (map word tiles.now))
+        × (length (slice_index_or (map word tiles.now) tile []) ≢ side_count board))) }
 {
     for (number, tile) in tiles.iter().enumerate() {
         if tile.sides() != board.sides() {

@@ -1,6 +1,7 @@
 //! Laws of texts: nothing is done here, and the contracts say what holds.
 
-ghost use Rattle.match_text.specs.Laws.{ReadsSpellingsAlone, ReadsEachSpelling, HasOneSpelling, IsOneValue, EndsWhereCut};
+ghost use Rattle.match_text.specs.Laws.{ReadsSpellingsAlone, ReadsEachSpelling, HasOneSpelling, IsOneValue};
+ghost use Rattle.match_text.specs.Laws.{EndsWhereCut};
 ghost use Rattle.match_text.specs.Lists.{list_of};
 ghost use Rattle.match_text.specs.ListSpelling.{list_spelling, IsListWithin};
 ghost use Rattle.match_text.specs.Puzzles.{puzzle_of};

@@ -1,10 +1,12 @@
 //! Lists of arrangements are written.
 
-ghost use Rattle.std.specs.Prelude.{◌≡◌, ◌≢◌, ◌<◌, ◌≤◌, ◌++◌, ◌∷◌, [], ◌&&◌, ℕ, List, Ok, nat_le, length, map, codes, IfOk, OnOk, MatchBool};
+ghost use Rattle.std.specs.Prelude.{◌≡◌, ◌≢◌, ◌<◌, ◌≤◌, ◌++◌, ◌∷◌, [], ◌&&◌, ℕ, List, Ok, nat_le, length, map, codes};
+ghost use Rattle.std.specs.Prelude.{IfOk, OnOk, MatchBool};
 ghost use Rattle.std.specs.List.{list_all, AllByRecursion};
 ghost use Rattle.match_text.specs.Lists.{list_of};
 ghost use Rattle.match_text.specs.Spelling.{line_text, text_of, first_words, space_before, placement_word};
-ghost use Rattle.match_text.specs.ListSpelling.{arrangement_words, list_head, list_spelling, IsPlacementWithin, IsRowWithin, IsListWithin};
+ghost use Rattle.match_text.specs.ListSpelling.{arrangement_words, list_head, list_spelling, IsPlacementWithin};
+ghost use Rattle.match_text.specs.ListSpelling.{IsRowWithin, IsListWithin};
 
 use crate::spellings::{put_end, put_number, put_number_line};
 use match_board::limits::{LAST_TILE, LAST_TURN, MOST_ARRANGEMENTS, MOST_CELLS};
@@ -18,7 +20,8 @@ fn is_placement_within(placement: &Placement) -> bool
 }
 
 fn are_placements_within(row: &[Placement]) -> bool
-    ensures { MatchBool result (AllByRecursion IsPlacementWithin row.now) (AllByRecursion IsPlacementWithin row.now → ⊥) }
+    ensures { MatchBool result (AllByRecursion IsPlacementWithin row.now)
+        (AllByRecursion IsPlacementWithin row.now → ⊥) }
 {
     row.iter().all(is_placement_within)
 }
@@ -47,7 +50,8 @@ fn is_list_within(rows: &[Arrangement]) -> bool
 /// below 100 and turns below 4.
 pub fn list_within_limits(list: &[Arrangement]) -> bool
     ensures within { MatchBool result (IsListWithin list.now) (IsListWithin list.now → ⊥) }
-    ensures spelled { MatchBool result ((text : List ℕ) × (list_of text ≡ Ok list.now)) ((text : List ℕ) → list_of text ≢ Ok list.now) }
+    ensures spelled { MatchBool result ((text : List ℕ) × (list_of text ≡ Ok list.now))
+        ((text : List ℕ) → list_of text ≢ Ok list.now) }
 {
     is_list_within(list)
 }

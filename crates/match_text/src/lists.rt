@@ -98,9 +98,11 @@ pub fn read_list(alloc: Global, text: &[u8]) -> Result<Vec<Arrangement>, ListTex
     // What is read is spelled so.
     ensures found { IfOk result (λ rows. IsListWithin rows.items × (text.now ≡ list_spelling rows.items)) }
     // What is spelled so is read.
-    ensures only { (rows : List (List PlacementOf)) → IsListWithin rows → text.now ≡ list_spelling rows → ListGives result (Ok rows) }
+    ensures only { (rows : List (List PlacementOf)) → IsListWithin rows → text.now ≡ list_spelling rows
+        → ListGives result (Ok rows) }
     // A spelling that is cut short ends at its last line.
-    ensures cut { (rows : List (List PlacementOf)) (k : ℕ) → IsListWithin rows → k < length (list_spelling rows) → text.now ≡ take k (list_spelling rows)
+    ensures cut { (rows : List (List PlacementOf)) (k : ℕ) → IsListWithin rows → k < length (list_spelling rows)
+        → text.now ≡ take k (list_spelling rows)
         → ListGives result (fail (line_ends text.now + 1) kinds.Ends) }
 {
     read_text(alloc, text)

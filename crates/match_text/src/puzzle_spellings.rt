@@ -8,7 +8,8 @@ ghost use Rattle.match_board.specs.Tile.{word as colours_of};
 ghost use Rattle.match_puzzle.specs.Puzzle.{rule_of, each, one, free};
 ghost use Rattle.match_text.specs.Puzzles.{PuzzleReads};
 ghost use Rattle.match_text.specs.Spelling.{text_of, first_words, colour_character, colour_word, rule_word, tile_word};
-ghost use Rattle.match_text.specs.PuzzleSpelling.{board_words, turns_words, border_words, tile_words, puzzle_spelling, IsRuleWithin, IsBorderWithin};
+ghost use Rattle.match_text.specs.PuzzleSpelling.{board_words, turns_words, border_words, tile_words, puzzle_spelling};
+ghost use Rattle.match_text.specs.PuzzleSpelling.{IsRuleWithin, IsBorderWithin};
 
 use crate::spellings::{character, put_end, put_number, put_number_line};
 use match_board::limits::MOST_COLOURS;

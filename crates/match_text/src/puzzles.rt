@@ -8,7 +8,9 @@ ghost use Rattle.match_text.specs.Bytes.{line_ends};
 ghost use Rattle.match_text.specs.PuzzleSpelling.{puzzle_spelling, IsTaskWithin};
 ghost use Rattle.match_text.specs.Words.{Judges, number_in, rule_in};
 ghost use Rattle.match_text.specs.Place.{Gives, Reads, Says, times, entries, some_entries, word_by, fail};
-ghost use Rattle.match_text.specs.Puzzles.{board_kind_in, board_size, board_line, turns_in, turns_line, border_kind_in, border_rule, border_line, tile_line, puzzle_text, puzzle_of, view_of, PuzzleReads, PuzzleGives};
+ghost use Rattle.match_text.specs.Puzzles.{board_kind_in, board_size, board_line, turns_in, turns_line, border_kind_in};
+ghost use Rattle.match_text.specs.Puzzles.{border_rule, border_line, tile_line, puzzle_text, puzzle_of, view_of};
+ghost use Rattle.match_text.specs.Puzzles.{PuzzleReads, PuzzleGives};
 
 use crate::faults::{PuzzleTextFault, ReadFault, TextFault, TextKind};
 use crate::scans::Scan;
@@ -282,7 +284,8 @@ pub fn read_puzzle(alloc: Global, text: &[u8]) -> Result<Puzzle, PuzzleTextFault
     // What is spelled so is read.
     ensures only { (p : Task) → IsPuzzle p → text.now ≡ puzzle_spelling p → PuzzleGives result (Ok p) }
     // A spelling that is cut short ends at its last line.
-    ensures cut { (p : Task) (k : ℕ) → IsTaskWithin p → k < length (puzzle_spelling p) → text.now ≡ take k (puzzle_spelling p)
+    ensures cut { (p : Task) (k : ℕ) → IsTaskWithin p → k < length (puzzle_spelling p)
+        → text.now ≡ take k (puzzle_spelling p)
         → PuzzleGives result (fail (line_ends text.now + 1) kinds.Ends) }
 {
     read_and_make(alloc, text)

@@ -1,11 +1,14 @@
 //! Lines and words, one after the other.
 
-ghost use Rattle.std.specs.Prelude.{◌≡◌, ◌≢◌, MatchBool, MatchResult, ◌+◌, ◌<◌, ◌≤◌, ◌^◌, [], Some, length, OnErr, IfOk};
+ghost use Rattle.std.specs.Prelude.{◌≡◌, ◌≢◌, MatchBool, MatchResult, ◌+◌, ◌<◌, ◌≤◌, ◌^◌, [], Some, length, OnErr};
+ghost use Rattle.std.specs.Prelude.{IfOk};
 ghost use Rattle.std.specs.Option.{option_copied};
 ghost use Rattle.match_board.specs.Tile.{word as tile_colours};
 ghost use Rattle.match_text.specs.Bytes.{words_left};
-ghost use Rattle.match_text.specs.Words.{fixed_in, version_in, number_in, colour_in, rule_in, tile_in, placement_in, pair_in};
-ghost use Rattle.match_text.specs.Place.{Place, start, first_word, other_words, without_word, judged, Gives, next_line, end_of_line, end_of_text, some_word, word_by, opening, counted, closing};
+ghost use Rattle.match_text.specs.Words.{fixed_in, version_in, number_in, colour_in, rule_in, tile_in, placement_in};
+ghost use Rattle.match_text.specs.Words.{pair_in};
+ghost use Rattle.match_text.specs.Place.{Place, start, first_word, other_words, without_word, judged, Gives, next_line};
+ghost use Rattle.match_text.specs.Place.{end_of_line, end_of_text, some_word, word_by, opening, counted, closing};
 
 use crate::faults::{TextFault, TextKind};
 use crate::words::{

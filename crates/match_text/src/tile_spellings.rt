@@ -19,7 +19,8 @@ fn put_lone_tile(text: &mut Vec<u8>, tile: &Tile) -> Result<(), AllocError>
 }
 
 fn put_lone_tiles(text: &mut Vec<u8>, tiles: &[Tile]) -> Result<(), AllocError>
-    ensures { OnOk result (text.new.items ≡ text.old.items ++ text_of (map lone_tile_words (map colours_of tiles.now))) }
+    ensures { OnOk result
+        (text.new.items ≡ text.old.items ++ text_of (map lone_tile_words (map colours_of tiles.now))) }
 {
     for tile in tiles {
         put_lone_tile(text, tile)?;

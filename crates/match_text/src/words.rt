@@ -1,12 +1,14 @@
 //! Words by themselves: what one has to be, or what is wrong with it.
 
-ghost use Rattle.std.specs.Prelude.{ℕ, List, ◌≡◌, ◌==◌, ◌+◌, ◌<◌, ◌≤◌, ◌^◌, ◌∷◌, ◌++◌, ◌⊎◌, length, take, min, true, false, All, IfSome, IfOk, IfErr, OnOk};
+ghost use Rattle.std.specs.Prelude.{ℕ, List, ◌≡◌, ◌==◌, ◌+◌, ◌<◌, ◌≤◌, ◌^◌, ◌∷◌, ◌++◌, ◌⊎◌, length, take, min, true};
+ghost use Rattle.std.specs.Prelude.{false, All, IfSome, IfOk, IfErr, OnOk};
 ghost use Rattle.std.specs.Option.{option_map, option_copied};
 ghost use Rattle.std.specs.List.{position};
 ghost use Rattle.std.specs.Str.Parse.{digits_value};
 ghost use Rattle.match_board.specs.Tile.{word as tile_colours};
 ghost use Rattle.match_text.specs.Bytes.{cut_at, words_of, words_left};
-ghost use Rattle.match_text.specs.Words.{Judges, fixed_in, version_in, is_number, number_in, or_word, colour_of, colour_in, rule_in, colours_in, tile_in, placement_in, pair_in};
+ghost use Rattle.match_text.specs.Words.{Judges, fixed_in, version_in, is_number, number_in, or_word, colour_of};
+ghost use Rattle.match_text.specs.Words.{colour_in, rule_in, colours_in, tile_in, placement_in, pair_in};
 
 use crate::faults::TextKind;
 use match_board::Tile;

@@ -44,7 +44,8 @@ impl<'a> Xcc<'a> {
     /// where they are one and the list cannot grow.
     pub fn arrangement_of(&self, alloc: Global, options: &[u32]) -> Result<Arrangement, FormFault>
         ensures solution { IfOk result (λ a. IsSolutionOf self.now a options.now) }
-        ensures undone { IfOk result (λ a. (other : List ℕ) → IsSolutionOf self.now a other → HaveSameOptions other options.now) }
+        ensures undone { IfOk result
+            (λ a. (other : List ℕ) → IsSolutionOf self.now a other → HaveSameOptions other options.now) }
         ensures refused { IsErrOf result FormFault.NotASolution → IsSolution (cover_of self.now) options.now → ⊥ }
         ensures memory { IsErrOf result FormFault.Memory → IsSolution (cover_of self.now) options.now }
     {

@@ -60,8 +60,10 @@ pub(crate) fn shared_edges(alloc: Global, puzzle: &Puzzle) -> Result<Vec<SharedE
 // Adds the shared edges whose lesser (cell, side) is of this cell.
 fn add_edges_of(edges: &mut Vec<SharedEdge>, puzzle: &Puzzle, cell: u16) -> Result<(), AllocError>
     requires cell { cell < cell_count puzzle.now.board }
-    requires before { IsListing (ByKey least_place) (HoldsBefore least_place (IsSharedEdge puzzle.now.board) (cell, 0)) edges.old.items }
-    ensures edges { IfOk result (λ _. IsListing (ByKey least_place) (HoldsBefore least_place (IsSharedEdge puzzle.now.board) (cell + 1, 0)) edges.new.items) }
+    requires before { IsListing (ByKey least_place)
+        (HoldsBefore least_place (IsSharedEdge puzzle.now.board) (cell, 0)) edges.old.items }
+    ensures edges { IfOk result (λ _. IsListing (ByKey least_place)
+        (HoldsBefore least_place (IsSharedEdge puzzle.now.board) (cell + 1, 0)) edges.new.items) }
     ensures few { IfOk result (λ _. length edges.new.items ≤ length edges.old.items + 4) }
 {
     for side in 0..puzzle.board().sides() {

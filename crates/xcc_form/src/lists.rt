@@ -32,7 +32,8 @@ impl OptionLists {
         requires shared { AreSharedEdges puzzle.now.board shared.now }
         requires few { length shared.now ≤ 4 * MOST_CELLS }
         ensures pairs { IfOk result (λ o. IsListing PairComesBefore (IsOptionPair puzzle.now) o.pairs.items) }
-        ensures laid_out { IfOk result (λ o. AreLaidOut puzzle.now shared.now o.pairs.items o.starts.items o.edges.items) }
+        ensures laid_out { IfOk result
+            (λ o. AreLaidOut puzzle.now shared.now o.pairs.items o.starts.items o.edges.items) }
         ensures puzzle { IfOk result (λ _. IsPuzzle puzzle.now) }
     {
         let nothing = Partial::new(alloc, puzzle)?;
@@ -59,9 +60,11 @@ impl OptionLists {
         requires legal { (x : StandingPair) → Contains fitting x → IsLegal puzzle.now x.placement }
         requires shared { AreSharedEdges puzzle.now.board shared.now }
         requires few { length shared.now ≤ 4 * MOST_CELLS }
-        requires laid_out { AreLaidOut puzzle.now shared.now self.old.pairs.items self.old.starts.items self.old.edges.items }
+        requires laid_out { AreLaidOut puzzle.now shared.now
+            self.old.pairs.items self.old.starts.items self.old.edges.items }
         requires short { length self.old.pairs.items + length fitting ≤ MOST_CELLS * u16.MAX }
-        ensures laid_out { IfOk result (λ _. AreLaidOut puzzle.now shared.now self.new.pairs.items self.new.starts.items self.new.edges.items) }
+        ensures laid_out { IfOk result
+            (λ _. AreLaidOut puzzle.now shared.now self.new.pairs.items self.new.starts.items self.new.edges.items) }
         ensures pairs { IfOk result (λ _. self.new.pairs.items ≡ self.old.pairs.items ++ fitting) }
     {
         while let Some(pair) = fitting.take_first() {
@@ -75,9 +78,11 @@ impl OptionLists {
         requires legal { IsLegal puzzle.now pair.placement }
         requires shared { AreSharedEdges puzzle.now.board shared.now }
         requires few { length shared.now ≤ 4 * MOST_CELLS }
-        requires laid_out { AreLaidOut puzzle.now shared.now self.old.pairs.items self.old.starts.items self.old.edges.items }
+        requires laid_out { AreLaidOut puzzle.now shared.now
+            self.old.pairs.items self.old.starts.items self.old.edges.items }
         requires short { length self.old.pairs.items < MOST_CELLS * u16.MAX }
-        ensures laid_out { IfOk result (λ _. AreLaidOut puzzle.now shared.now self.new.pairs.items self.new.starts.items self.new.edges.items) }
+        ensures laid_out { IfOk result
+            (λ _. AreLaidOut puzzle.now shared.now self.new.pairs.items self.new.starts.items self.new.edges.items) }
         ensures pairs { IfOk result (λ _. self.new.pairs.items ≡ self.old.pairs.items ++ pair ∷ []) }
     {
         add_edges(&mut self.edges, puzzle, shared, pair)?;

@@ -33,9 +33,14 @@ impl<'a> Model for Xcc<'a> {
 
     ghost Value = { Compiled };
 
-    ghost view = { λ x. record { puzzle = x.puzzle.now; shared = x.shared.items; options = choices_from 0 x.options.pairs.items x.options.starts.items x.options.edges.items } };
+    ghost view = { λ x. record {
+      puzzle = x.puzzle.now;
+      shared = x.shared.items;
+      options = choices_from 0 x.options.pairs.items x.options.starts.items x.options.edges.items;
+    } };
 
-    ghost invariant = { λ x. IsKept x.puzzle.now x.shared.items x.options.pairs.items x.options.starts.items x.options.edges.items };
+    ghost invariant = { λ x. IsKept x.puzzle.now x.shared.items
+        x.options.pairs.items x.options.starts.items x.options.edges.items };
 }
 
 /// The puzzle as an exact cover with colours.
