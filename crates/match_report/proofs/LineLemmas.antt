@@ -9,19 +9,25 @@ unfolding spaced
 spaced-append [] more = refl
 spaced-append (word ∷ words) more = ap (λ text. 32 ∷ (word ++ text)) (spaced-append words more) ∙ ap (λ text. 32 ∷ text) (sym (append_assoc word (spaced words) (spaced more)))
 
+-- one word more
+pub spaced-more : (words : List (List ℕ)) (word : List ℕ) → spaced (words ++ word ∷ []) ≡ spaced words ++ 32 ∷ word
+unfolding spaced
+spaced-more words word = spaced-append words (word ∷ []) ∙ ap (λ text. spaced words ++ 32 ∷ text) (append-nil word)
+
 -- words after words
 pub spaced-after : (front : List ℕ) (words more : List (List ℕ)) → (front ++ spaced words) ++ spaced more ≡ front ++ spaced (words ++ more)
 spaced-after front words more = append_assoc front (spaced words) (spaced more) ∙ ap (λ text. front ++ text) (sym (spaced-append words more))
 
-join_with_byte-cons : (word : List ℕ) (words : List (List ℕ)) → join_with_byte 32 (word ∷ words) ≡ word ++ spaced words
+-- words by the first
+pub joined_spaced : (word : List ℕ) (words : List (List ℕ)) → join_with_byte 32 (word ∷ words) ≡ word ++ spaced words
 unfolding spaced
-join_with_byte-cons word [] = sym (append-nil word)
-join_with_byte-cons word (next ∷ words) = ap (λ text. word ++ 32 ∷ text) (join_with_byte-cons next words)
+joined_spaced word [] = sym (append-nil word)
+joined_spaced word (next ∷ words) = ap (λ text. word ++ 32 ∷ text) (joined_spaced next words)
 
 -- a line by its first word
 pub line_text-cons : (word : List ℕ) (words : List (List ℕ)) → line_text (word ∷ words) ≡ (word ++ spaced words) ++ 10 ∷ []
 unfolding line_text
-line_text-cons word words = ap (λ text. text ++ 10 ∷ []) (join_with_byte-cons word words)
+line_text-cons word words = ap (λ text. text ++ 10 ∷ []) (joined_spaced word words)
 
 -- ---- paths
 

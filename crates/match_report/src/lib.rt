@@ -1,10 +1,14 @@
-//! What is said of a check: the printed answer.
+//! What is said of a check and of a search, and the expansion of a list.
 #![tactic(auto)]
 
 mod answers;
+mod boards;
 mod expansions;
 mod lines;
+mod tallies;
 
 pub use answers::write_answer;
+pub use boards::write_board;
 pub use expansions::{ExpandFault, MOST_EXPANDED, expand, expansion_laws};
 pub use lines::Line;
+pub use tallies::{Taken, write_tally};

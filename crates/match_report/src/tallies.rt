@@ -1,0 +1,81 @@
+//! How it is printed which worker took what.
+
+ghost use Rattle.std.specs.Prelude.{◌≡◌, ◌<◌, ◌++◌, ◌^◌, IfOk, OnOk, decimal, length, map};
+ghost use Rattle.match_text.specs.Spelling.{line_text};
+ghost use Rattle.match_report.specs.Line.{spaced};
+ghost use Rattle.match_report.specs.TallyText.{worker_words, tally_text};
+
+use match_text::put_number;
+use std::alloc::{AllocError, Global};
+use std::marker::Model;
+
+/// The numbers that a worker took, in the order of taking.
+#[derive(Debug, Drop)]
+pub struct Taken {
+    numbers: Vec<u32>,
+}
+
+impl Model for Taken {
+    ghost use Rattle.std.specs.Prelude.{ℕ, List};
+
+    ghost Value = { List ℕ };
+
+    ghost view = { λ taken. taken.numbers.items };
+}
+
+impl Taken {
+    /// The share of a worker that took these numbers.
+    pub fn new(numbers: Vec<u32>) -> Taken
+        ensures { result ≡ numbers.items }
+    {
+        Taken { numbers }
+    }
+
+    /// The numbers, the first taken first.
+    pub fn numbers(&self) -> &[u32]
+        ensures { result.now ≡ self.now }
+    {
+        &self.numbers
+    }
+}
+
+// Numbers with a space before each.
+#[tactic(auto, unfolding(crate::specs::Line::spaced))]
+fn put_numbers(text: &mut Vec<u8>, numbers: &[u32]) -> Result<(), AllocError>
+    ensures { OnOk result (text.new.items ≡ text.old.items ++ spaced (map decimal numbers.now)) }
+{
+    for number in numbers {
+        text.push(b' ')?;
+        put_number(text, *number)?;
+    }
+    Ok(())
+}
+
+fn put_worker(text: &mut Vec<u8>, worker: u32, taken: &Taken) -> Result<(), AllocError>
+    ensures { OnOk result (text.new.items ≡ text.old.items ++ line_text (worker_words (worker, taken.now))) }
+{
+    text.extend_from_slice(b"worker ")?;
+    put_number(text, worker)?;
+    text.extend_from_slice(b" took")?;
+    put_numbers(text, taken.numbers())?;
+    text.push(b'\n')?;
+    Ok(())
+}
+
+/// The line `worker W took` for each worker W, from 0, with the numbers that it took behind it, each
+/// after a space.
+///
+/// An `Err` where memory is refused, and nowhere else.
+pub fn write_tally(alloc: Global, tally: &[Taken]) -> Result<Vec<u8>, AllocError>
+    requires { length tally.now < 2 ^ 32 }
+    ensures { IfOk result (λ text. text.items ≡ tally_text tally.now) }
+{
+    let mut text = Vec::new(alloc);
+    for (worker, taken) in tally.iter().enumerate() {
+        put_worker(&mut text, worker as u32, taken)?;
+    }
+    Ok(text)
+}
+
+#[cfg(test)]
+mod tests;
