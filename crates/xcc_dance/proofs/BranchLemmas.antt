@@ -19,7 +19,7 @@ abbrev pub HasBest : (x : Cover) (chosen : List ℕ) → (k : ℕ) → (best : O
 HasBest x chosen k best size = MatchOption best ((other : ℕ) → other < k → IsCovered x chosen other) (λ item. IsBest x chosen k item size)
 
 module _ (x : Cover) (chosen : List ℕ) where
-  size_same : (item m n : ℕ) → HasSize x chosen item m → HasSize x chosen item n → m ≡ n
+  pub size_same : (item m n : ℕ) → HasSize x chosen item m → HasSize x chosen item n → m ≡ n
   size_same item m n a b = sym a.2 ∙ ap length (same_listing ◌<◌ (λ i j l r. omega (arith, l, r)) (IsOpenAt x chosen item) a.0 b.0 a.1 b.1) ∙ b.2
 
   -- the next item is covered

@@ -1,8 +1,7 @@
 -- A tree that grows child by child, and what is found with it.
-use Rattle.std.proofs.Common.{◌≡◌, ◌⊎◌, ◌≤◌, ◌+◌, ◌-◌, ◌++◌, ◌∷◌, [], ℕ, List, Option, None, Some, Contains, MatchOption, ◌<◌, ap, ◌∙◌, length, length-append, take, arith, inl, inr, subst, ⊎_elim}
-use Rattle.std.proofs.lemmas.List.Elements.{Contains-push_cases, Contains-append_left}
+use Rattle.std.proofs.Common.{◌≡◌, ◌≤◌, ◌+◌, ◌-◌, ◌++◌, ◌∷◌, [], ℕ, List, Option, None, Some, MatchOption, ap, ◌∙◌, length, length-append, take, arith, subst}
+use Rattle.std.proofs.lemmas.List.Elements.{Contains-append_left}
 use Rattle.std.proofs.lemmas.List.{take-append-le, take_all}
-use Rattle.xcc_form.specs.ExactCover.{Cover}
 use Rattle.xcc_form.specs.Options.{Compiled, cover_of}
 use Rattle.xcc_dance.specs.Clashes.{IsOpenAt}
 use Rattle.match_puzzle.specs.declared.placements.Placement.{Placement}
@@ -36,22 +35,9 @@ pub all_more : (n : ℕ) (nodes : List Node) (node : Node) → AreFoundBelow n (
 all_more n [] node h b = (b, tt)
 all_more n (x ∷ nodes) node h b = (h.0, all_more n nodes node h.1 b)
 
-pub one_found : {X : Type 0} (P : X → Type 0) (xs ys : List X) (y : X) → ys ≡ xs ++ y ∷ [] → P y → (x : X) → Contains ys x → Contains xs x ⊎ P x
-one_found P xs ys y e p x c = ⊎_elim (λ old. inl old) (λ now. inr (subst P now p)) (Contains-push_cases xs y x (subst (λ l. Contains l x) e c))
-
 -- what is found after one more choice is found before it
 pub found_before : (s : Selection) (option : ℕ) (a : List Placement) → IsFoundFrom (with_option s option) a → IsFoundFrom s a
 found_before s option a f = record { solution = f.solution; is_solution = f.is_solution; has_chosen = λ o c. f.has_chosen o (Contains-append_left s.chosen (option ∷ []) o c) }
-
--- what is found from one more choice, behind what was found before
-pub found_later : (start here chosen : Selection) (option : ℕ) (first before after : List (List Placement)) → here ≡ start → chosen ≡ with_option here option
-    → ((a : List Placement) → Contains after a → Contains before a ⊎ IsFoundFrom chosen a) → ((a : List Placement) → Contains before a → Contains first a ⊎ IsFoundFrom start a)
-    → (a : List Placement) → Contains after a → Contains first a ⊎ IsFoundFrom start a
-found_later start here chosen option first before after e f new old a h =
-    ⊎_elim
-    (λ b. old a b)
-    (λ b. inr (subst (λ s. IsFoundFrom s a) e (found_before here option a (subst (λ s. IsFoundFrom s a) f b))))
-    (new a h)
 
 -- an option that is chosen and taken back leaves what was before
 pub taken_back : (here chosen walked back : Selection) (option : ℕ) → chosen ≡ with_option here option → walked ≡ chosen → back ≡ without_last walked → back ≡ here
@@ -69,8 +55,3 @@ taken_back here chosen walked back option e w u =
 pub next_open : (s start : Selection) (item : ℕ) (after next : Option ℕ) → s ≡ start → MatchOption next (IsLast (cover_of s.compiled) s.chosen item after) (IsNext (cover_of s.compiled) s.chosen item after) → MatchOption next (Unit {0}) (IsOpenAt (cover_of start.compiled) start.chosen item)
 next_open s start item after None e h = tt
 next_open s start item after (Some option) e h = subst (λ (v : Selection). IsOpenAt (cover_of v.compiled) v.chosen item option) e h.open_option
-
--- and nearer to the last
-pub next_nearer : (x : Cover) (chosen : List ℕ) (item option n : ℕ) (next : Option ℕ) → option < n → MatchOption next (IsLast x chosen item (Some option)) (IsNext x chosen item (Some option)) → left_after n next < left_after n (Some option)
-next_nearer x chosen item option n None lt h = omega (arith, lt)
-next_nearer x chosen item option n (Some later) lt h = let after = h.after_it in omega (arith, lt, after)

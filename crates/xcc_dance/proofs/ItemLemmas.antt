@@ -11,7 +11,7 @@ use Rattle.xcc_form.specs.declared.edges.Edge.{Edge}
 use Rattle.xcc_form.proofs.OptionLemmas.{option_pair, one_pair, of_map, primary_of, has_cell, has_tile}
 use Rattle.xcc_dance.specs.Clashes.{Clash, ShareAnItem, Differ}
 
-to_map : {X Y : Type 0} (f : X → Y) (xs : List X) (i : ℕ) (x : X) → slice_get xs i ≡ Some x → slice_get (map f xs) i ≡ Some (f x)
+pub to_map : {X Y : Type 0} (f : X → Y) (xs : List X) (i : ℕ) (x : X) → slice_get xs i ≡ Some x → slice_get (map f xs) i ≡ Some (f x)
 to_map f [] i x at = absurd (none-some x at)
 to_map f (y ∷ xs) zero x at = ap (λ z. Some (f z)) (inside at)
 to_map f (y ∷ xs) (suc i) x at = to_map f xs i x at
@@ -33,7 +33,7 @@ module _ (x : Compiled) (is : IsCompiled x) where
         let of = primary_of x is option item has in
         subst (λ (q : Pair). (item ≡ q.cell) ⊎ (item ≡ cell_count x.puzzle.board + q.placement.tile)) (one_pair x is option of.0 y of.1 w) of.2
 
-  edge_has : (option item colour : ℕ) (es : List Edge) → HasEdges x option es → Contains es (record { item = item; colour = colour }) → HasColour (cover_of x) option item colour
+  pub edge_has : (option item colour : ℕ) (es : List Edge) → HasEdges x option es → Contains es (record { item = item; colour = colour }) → HasColour (cover_of x) option item colour
   edge_has option item colour es w among = (
     items_of (cell_count x.puzzle.board) w.0,
     to_map (items_of (cell_count x.puzzle.board)) x.options option w.0 w.1,
@@ -54,7 +54,7 @@ module _ (x : Compiled) (is : IsCompiled x) where
     pub share_tile : y.placement.tile ≡ z.placement.tile → Clash (cover_of x) o p
     share_tile e = inl (record { item = cell_count x.puzzle.board + y.placement.tile; one = has_tile x is o y w; two = tile_has p (cell_count x.puzzle.board + y.placement.tile) z v (omega (arith, e)) })
 
-    shares : ShareAnItem (cover_of x) o p → (y.cell ≡ z.cell) ⊎ (y.placement.tile ≡ z.placement.tile)
+    pub shares : ShareAnItem (cover_of x) o p → (y.cell ≡ z.cell) ⊎ (y.placement.tile ≡ z.placement.tile)
     shares s =
         let within = (option_pair x is o y w).cell in
         let within' = (option_pair x is p z v).cell in

@@ -9,7 +9,7 @@ use Rattle.xcc_form.specs.ExactCover.{Cover}
 use Rattle.xcc_dance.specs.Clashes.{Clash, IsOpen, IsPartialSolution}
 
 -- what stands at a place of a list with one more
-pushed_at : {X : Type 0} (xs : List X) (z : X) (i : ℕ) (x : X) → slice_get (xs ++ z ∷ []) i ≡ Some x → (slice_get xs i ≡ Some x) ⊎ ((i ≡ length xs) × (x ≡ z))
+pub pushed_at : {X : Type 0} (xs : List X) (z : X) (i : ℕ) (x : X) → slice_get (xs ++ z ∷ []) i ≡ Some x → (slice_get xs i ≡ Some x) ⊎ ((i ≡ length xs) × (x ≡ z))
 pushed_at [] z zero x at = inr (refl, sym (inside at))
 pushed_at [] z (suc i) x at = absurd (none-some x at)
 pushed_at (y ∷ xs) z zero x at = inl at

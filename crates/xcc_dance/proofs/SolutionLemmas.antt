@@ -18,7 +18,7 @@ module _ (x : Compiled) (chosen : List ℕ) (is : IsSelection x chosen) where
       let not_after : (place' < place → ⊥) = λ lt. is.partial.apart place' place other option lt at' at back in
       omega (arith, not_before, not_after)
 
-  one_option : (option other : ℕ) → Contains chosen option → Contains chosen other → Clash (cover_of x) option other → Clash (cover_of x) other option → option ≡ other
+  pub one_option : (option other : ℕ) → Contains chosen option → Contains chosen other → Clash (cover_of x) option other → Clash (cover_of x) other option → option ≡ other
   one_option option other c d clash back =
       let a = place_of chosen option c in
       let b = place_of chosen other d in

@@ -6,6 +6,8 @@ use Rattle.match_puzzle.specs.declared.items.Item.TheVariants.{Cell, Tile}
 use Rattle.cert_tree.specs.Tree.{Tree, Forest, branch, dead, found, same, image, none, more}
 use Rattle.xcc_form.specs.Correspondence.{IsSolutionOf}
 use Rattle.xcc_dance.specs.Chosen.{Selection}
+use Rattle.xcc_dance.specs.declared.cites.Cite.{Cite}
+use Rattle.xcc_dance.specs.declared.cites.Cite.TheVariants as cites
 
 -- The arrangement is that of a solution that has all chosen options.
 pub record IsFoundFrom (s : Selection) (a : List Placement) : Type 0 where
@@ -51,3 +53,8 @@ abbrev mutual
   pub AreFoundBelow : ℕ → Forest → Type 0
   AreFoundBelow n none = Unit {0}
   AreFoundBelow n (more tree trees) = IsFoundBelow n tree × AreFoundBelow n trees
+
+-- The tree is the citation.
+abbrev pub IsCitation : Cite → Tree → Type 0
+IsCitation (cites.Same lemma) tree = tree ≡ same lemma
+IsCitation (cites.Image lemma symmetry) tree = tree ≡ image lemma symmetry

@@ -1,3 +1,15 @@
 pub mod Clashes
 pub mod Chosen
+pub mod Placing
 pub mod Found
+pub mod Progress
+pub mod Outcome
+pub mod Rings
+pub mod NodeLists
+pub mod NodeTables
+pub mod Trails
+pub mod NodeClashes
+pub mod Marks
+pub mod TableLayout
+pub mod LinkStates
+pub mod ArrayWords

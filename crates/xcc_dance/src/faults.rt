@@ -3,7 +3,7 @@
 ghost use Rattle.std.specs.Prelude.{◌≡◌};
 ghost use Rattle.xcc_dance.specs.declared.faults.SearchFault.TheVariants as search_faults;
 
-use std::alloc::{AllocError, AllocFailed};
+use std::alloc::AllocError;
 use thiserror::Error;
 
 /// Why a search gives no outcome: it failed before, or memory ran out.
@@ -20,14 +20,6 @@ impl From<AllocError> for SearchFault {
     ghost from_gives = { λ _ e. e ≡ search_faults.Memory };
 
     fn from(_error: AllocError) -> SearchFault {
-        SearchFault::Memory
-    }
-}
-
-impl<T: Drop> From<AllocFailed<T>> for SearchFault {
-    ghost from_gives = { λ _ e. e ≡ search_faults.Memory };
-
-    fn from(_failed: AllocFailed<T>) -> SearchFault {
         SearchFault::Memory
     }
 }

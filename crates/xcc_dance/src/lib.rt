@@ -1,14 +1,22 @@
 //! Chosen options of a compiled puzzle, and the options that still go with them.
 #![tactic(auto)]
 
+mod cites;
 mod clashes;
 mod faults;
 mod laws;
+mod links;
+mod paths;
+mod progress;
+mod searches;
 mod searching;
 mod selections;
 #[cfg(test)]
 mod tests;
 
+pub use cites::{Cite, Cites, NoCites};
 pub use faults::SearchFault;
 pub use laws::whole_selections_are_solutions;
+pub use links::Links;
+pub use searches::{Outcome, Search};
 pub use selections::Selection;

@@ -1,83 +1,115 @@
-// The search: a branch on the item with the fewest open options, and a child for each of them.
+//! The recursion of a search: a branch on the item with the fewest open options, and a child for each of them.
 
-ghost use Rattle.std.specs.Prelude.{◌≡◌, ◌⊎◌, ◌<◌, ◌≤◌, ◌+◌, ◌*◌, ℕ, List, IfOk, IfSome, MatchOption, Contains, length};
-ghost use Rattle.match_puzzle.specs.declared.placements.Placement.{Placement as Placed};
+ghost use Rattle.std.specs.Prelude.{◌≡◌, ◌<◌, ◌≤◌, ◌+◌, ◌*◌, ◌^◌, List, IfOk, MatchOption, length};
+ghost use Rattle.match_puzzle.specs.declared.placements.Pair.{Pair};
 ghost use Rattle.xcc_form.specs.Options.{cover_of};
 ghost use Rattle.cert_tree.specs.Tree.{tree_of, forest_of};
 ghost use Rattle.xcc_dance.specs.Chosen.{IsUncovered};
-ghost use Rattle.xcc_dance.specs.Found.{IsFoundFrom, branch_count, branch_total, IsFoundBelow, AreFoundBelow, IsDeadAt, IsBranchOn};
+ghost use Rattle.xcc_dance.specs.Placing.{FitInTurn};
+ghost use Rattle.xcc_dance.specs.Found.{IsDeadAt, IsBranchOn, IsCitation};
+ghost use Rattle.xcc_dance.specs.Progress.{GoesOn, IsTreeOf, AreTreesOf, AreForEach};
 
-use crate::faults::SearchFault;
-use crate::selections::Selection;
+use crate::cites::{Cite, Cites};
+use crate::paths::Path;
+use crate::progress::Progress;
 use cert_tree::{Children, Node};
-use match_puzzle::Arrangement;
-use std::alloc::Global;
+use std::alloc::{AllocError, Global};
 
-// The tree of the selection, and the arrangements that it finds behind those found before; none where the fuel does
-// not do. A branch node takes one of it. Then the selection is as before.
+// The tree of what is chosen, or none where the fuel does not do. Then the choices are as before.
 #[cycle(walk)]
-pub(crate) fn walk(
+pub(crate) fn walk<C: Cites>(
     alloc: Global,
-    selection: &mut Selection<'_>,
-    fuel: &mut u32,
-    found: &mut Vec<Arrangement>,
-) -> Result<Option<Node>, SearchFault>
-    ensures compiled { selection.new.compiled ≡ selection.old.compiled }
-    ensures restored { IfOk result (λ o. IfSome o (λ _. selection.new ≡ selection.old)) }
-    ensures spent { IfOk result (λ o. MatchOption o (fuel.new ≡ 0) (λ t. fuel.new + branch_count (tree_of t) ≡ fuel.old)) }
-    ensures numbers { IfOk result (λ o. IfSome o (λ t. IsFoundBelow (length found.new.items) (tree_of t))) }
-    ensures more { length found.old.items ≤ length found.new.items }
-    ensures listed { (a : List Placed) → Contains found.new.items a → Contains found.old.items a ⊎ IsFoundFrom selection.old a }
+    path: &mut Path<'_>,
+    cites: &mut C,
+    progress: &mut Progress,
+) -> Result<Option<Node>, AllocError>
+    requires takes { (pairs : List Pair) → FitInTurn path.old.compiled.puzzle pairs → C.takes cites.old pairs }
+    requires room { length progress.old.found.items + 400 * progress.old.fuel + 1 < 2 ^ 32 }
+    ensures compiled { path.new.compiled ≡ path.old.compiled }
+    ensures moved { C.moves cites.old cites.new }
+    ensures goes_on { GoesOn path.old progress.old progress.new }
+    ensures tree { IfOk result (λ o. MatchOption o (progress.new.fuel ≡ 0) (λ t. (path.new ≡ path.old) × IsTreeOf path.old progress.old progress.new (tree_of t))) }
 {
-    let Some(item) = selection.branch_item() else {
-        let arrangement = selection.arrangement(alloc)?;
-        let number = u32::try_from(found.len()).map_err(|_| SearchFault::Memory)?;
-        found.push(arrangement)?;
+    let links = path.links();
+    let Some(item) = links.branch_item() else {
+        let number = progress.found.len() as u32;
+        progress.found.push(links.arrangement(alloc)?)?;
         return Ok(Some(Node::Found(number)));
     };
-    let cells = selection.cells();
-    if selection.size(item) == 0 {
+    let cells = links.cells();
+    if links.size(item) == 0 {
         return Ok(Some(dead_node(cells, item)));
     }
-    if *fuel == 0 {
+    if progress.fuel == 0 {
         return Ok(None);
     }
-    *fuel -= 1;
-    match walk_options(alloc, selection, item, fuel, found)? {
+    progress.fuel -= 1;
+    match walk_options(alloc, path, item, cites, progress)? {
         None => Ok(None),
         Some(children) => Ok(Some(branch_node(cells, item, children))),
     }
 }
 
-// The trees of the selection with each open option of an item, in their order.
+// The trees of what is chosen with each open option of an item, in their order.
 #[cycle(walk)]
-fn walk_options(
+fn walk_options<C: Cites>(
     alloc: Global,
-    selection: &mut Selection<'_>,
+    path: &mut Path<'_>,
     item: u32,
-    fuel: &mut u32,
-    found: &mut Vec<Arrangement>,
-) -> Result<Option<Children>, SearchFault>
-    requires { IsUncovered (cover_of selection.old.compiled) selection.old.chosen item }
-    ensures compiled { selection.new.compiled ≡ selection.old.compiled }
-    ensures restored { IfOk result (λ o. IfSome o (λ _. selection.new ≡ selection.old)) }
-    ensures spent { IfOk result (λ o. MatchOption o (fuel.new ≡ 0) (λ c. fuel.new + branch_total (forest_of c.nodes.items) ≡ fuel.old)) }
-    ensures numbers { IfOk result (λ o. IfSome o (λ c. AreFoundBelow (length found.new.items) (forest_of c.nodes.items))) }
-    ensures more { length found.old.items ≤ length found.new.items }
-    ensures listed { (a : List Placed) → Contains found.new.items a → Contains found.old.items a ⊎ IsFoundFrom selection.old a }
+    cites: &mut C,
+    progress: &mut Progress,
+) -> Result<Option<Children>, AllocError>
+    requires uncovered { IsUncovered (cover_of path.old.compiled) path.old.chosen item }
+    requires takes { (pairs : List Pair) → FitInTurn path.old.compiled.puzzle pairs → C.takes cites.old pairs }
+    requires room { length progress.old.found.items + 400 * progress.old.fuel + 400 < 2 ^ 32 }
+    ensures compiled { path.new.compiled ≡ path.old.compiled }
+    ensures moved { C.moves cites.old cites.new }
+    ensures goes_on { GoesOn path.old progress.old progress.new }
+    ensures trees { IfOk result (λ o. MatchOption o (progress.new.fuel ≡ 0) (λ c. (path.new ≡ path.old) × AreForEach path.old item (forest_of c.nodes.items) × AreTreesOf path.old progress.old progress.new (forest_of c.nodes.items))) }
 {
     let mut nodes = Vec::new(alloc);
-    let mut next = selection.next_option(item, None);
+    let mut next = path.links().next_option(item, None);
     while let Some(option) = next {
-        selection.choose(option)?;
-        match walk(alloc, selection, fuel, found)? {
+        path.choose(option)?;
+        match child(alloc, path, cites, progress)? {
             None => return Ok(None),
             Some(child) => nodes.push(child)?,
         }
-        selection.undo();
-        next = selection.next_option(item, Some(option));
+        path.undo();
+        next = path.links().next_option(item, Some(option));
     }
     Ok(Some(Children::new(nodes)))
+}
+
+// What stands for the choices as a child: what is cited, or else their tree.
+#[cycle(walk)]
+fn child<C: Cites>(
+    alloc: Global,
+    path: &mut Path<'_>,
+    cites: &mut C,
+    progress: &mut Progress,
+) -> Result<Option<Node>, AllocError>
+    requires takes { (pairs : List Pair) → FitInTurn path.old.compiled.puzzle pairs → C.takes cites.old pairs }
+    requires room { length progress.old.found.items + 400 * progress.old.fuel + 1 < 2 ^ 32 }
+    ensures compiled { path.new.compiled ≡ path.old.compiled }
+    ensures moved { C.moves cites.old cites.new }
+    ensures goes_on { GoesOn path.old progress.old progress.new }
+    ensures tree { IfOk result (λ o. MatchOption o (progress.new.fuel ≡ 0) (λ t. (path.new ≡ path.old) × IsTreeOf path.old progress.old progress.new (tree_of t))) }
+{
+    match cites.cite(path.pairs())? {
+        Some(cite) => Ok(Some(citation(cite))),
+        None => walk(alloc, path, cites, progress),
+    }
+}
+
+// The node that cites a lemma.
+fn citation(cite: Cite) -> Node
+    ensures { IsCitation cite (tree_of result) }
+{
+    match cite {
+        Cite::Same(lemma) => Node::Same(lemma),
+        Cite::Image(lemma, symmetry) => Node::Image { lemma, symmetry },
+    }
 }
 
 // The node of an item that has no open option.

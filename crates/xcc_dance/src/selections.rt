@@ -3,13 +3,10 @@
 ghost use Rattle.std.specs.Prelude.{◌≡◌, ◌↔◌, ◌<◌, ◌≤◌, ◌*◌, ℕ, [], IfOk, IfSome, IsErr, OnErr, IsTrue, MatchOption, length};
 ghost use Rattle.xcc_form.specs.ExactCover.{HasPrimary};
 ghost use Rattle.xcc_form.specs.Options.{IsCompiled, cover_of};
-ghost use Rattle.xcc_form.specs.Correspondence.{IsSolutionOf};
 ghost use Rattle.xcc_dance.specs.Clashes.{Clash, IsOpen, IsOpenAt};
 ghost use Rattle.xcc_dance.specs.Chosen.{IsSelection, IsCovered, IsUncovered, AreAllCovered, HasSize, IsToBranchOn, IsNext, IsLast, with_option, without_last};
 
 use crate::clashes::differ;
-use crate::faults::SearchFault;
-use match_puzzle::Arrangement;
 use std::alloc::{AllocError, Global};
 use std::marker::Model;
 use xcc_form::Xcc;
@@ -131,26 +128,6 @@ impl<'a> Selection<'a> {
         ensures { self.new ≡ without_last self.old }
     {
         self.chosen.pop();
-    }
-
-    // How many cells there are, which are the first items.
-    pub(crate) fn cells(&self) -> u16
-        ensures most { result ≤ 100 }
-        ensures few { (item : ℕ) → item < (cover_of self.now.compiled).primaries → item < 2 * result }
-    {
-        self.xcc.cells()
-    }
-
-    // The arrangement of the chosen options, which cover all primary items.
-    pub(crate) fn arrangement(&self, alloc: Global) -> Result<Arrangement, SearchFault>
-        requires { AreAllCovered (cover_of self.now.compiled) self.now.chosen }
-        ensures { IfOk result (λ a. IsSolutionOf self.now.compiled a self.now.chosen) }
-    {
-        match self.xcc.arrangement_of(alloc, &self.chosen) {
-            Ok(arrangement) => Ok(arrangement),
-            // they are a solution, so it is memory
-            Err(_) => Err(SearchFault::Memory),
-        }
     }
 
     // Whether a chosen option has the item.

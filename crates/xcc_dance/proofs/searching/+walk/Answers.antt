@@ -1,64 +1,108 @@
-use Rattle.std.proofs.Common.{◌≡◌, ◌<◌, ◌+◌, ◌∙◌, List, Some, length, IfSome, MatchOption, arith, rules, ap, sym, subst}
-use Rattle.std.proofs.lemmas.Grind.{common_steps}
-use Rattle.cert_tree.specs.Tree.{Tree, tree_of, forest_of}
+use Rattle.std.proofs.Common.{◌≡◌, ◌<◌, ◌+◌, ◌-◌, ◌*◌, ◌^◌, ◌∷◌, [], List, Some, None, inl, length, length-append, MatchOption, arith, refl, ap, sym, ◌∙◌, subst}
+use Rattle.match_puzzle.specs.declared.placements.Pair.{Pair}
+use Rattle.xcc_form.specs.Options.{Compiled, cover_of}
+use Rattle.cert_tree.specs.Tree.{tree_of, forest_of}
 use Rattle.cert_tree.specs.declared.nodes.Node.{Node}
-use Rattle.cert_tree.proofs.TreeLemmas.{tree_of-Found}
-use Rattle.std.proofs.lemmas.List.{length-map}
-use Rattle.match_board.specs.Board.{cell_count}
-use Rattle.xcc_form.specs.Options.{cover_of, items_of}
+use Rattle.cert_tree.specs.declared.nodes.Children.{Children}
+use Rattle.cert_tree.proofs.TreeLemmas.{count-forest_of}
 use Rattle.xcc_dance.specs.Clashes.{IsOpenAt}
-use Rattle.xcc_dance.specs.Found.{branch_count, branch_total, IsFoundBelow, AreFoundBelow}
-use Rattle.xcc_dance.proofs.GrowingLemmas.{left_after, total_more, all_up, all_more, found_later, taken_back, next_open, next_nearer}
+use Rattle.xcc_dance.specs.Chosen.{Selection, HasSize, IsNext, IsLast, with_option}
+use Rattle.xcc_dance.specs.Placing.{FitInTurn}
+use Rattle.xcc_dance.specs.Progress.{IsTreeOf, AreTreesOf, AreForEach}
+use Rattle.xcc_dance.specs.declared.progress.Progress.{Progress}
+use Rattle.xcc_dance.proofs.SizeLemmas.{CountedBefore, counted_first, counted_next, counted_all}
+use Rattle.xcc_dance.proofs.GrowingLemmas.{taken_back, next_open}
+use Rattle.xcc_dance.proofs.WalkLemmas.{goes_further, leaf_tree, branch_tree, no_trees, one_more_tree, room_for_one}
 use Rattle.xcc_dance.proofs.searching.+walk.Goals as goal
 
-pub walk-returns-in_default-clause-spent : goal.walk-returns-in_default-clause-spent
-walk-returns-in_default-clause-spent t c =
-    subst (λ (x : Tree). c.args.fuel.now + branch_count x ≡ c.args.fuel.now) (sym (tree_of-Found c.in_ok-number.number)) (omega arith)
+pub walk-returns-in_default-clause-tree : goal.walk-returns-in_default-clause-tree
+walk-returns-in_default-clause-tree g t c = (refl, leaf_tree c.args.path.now c.args.progress.now _ c.len-number.result _ (omega (arith, c.len-number.ensures, c.args.progress.now.found.ok.0)) c.in_ok-push.ensures.items refl)
 
-pub walk-returns-in_default-clause-numbers : goal.walk-returns-in_default-clause-numbers
-walk-returns-in_default-clause-numbers t c =
-    let number : c.in_ok-number.number < length c.push.new.self.items = first_of (search rules, grind (arith, common_steps)) in
-    subst (IsFoundBelow (length c.push.new.self.items)) (sym (tree_of-Found c.in_ok-number.number)) number
+pub walk-returns-in-Some-2-clause-tree : goal.walk-returns-in-Some-2-clause-tree
+walk-returns-in-Some-2-clause-tree g t c =
+    let s = c.args.path.now in
+    let same = c.links-links.ensures.same in
+    let trees = subst (λ o. MatchOption o (c.walk_options.new.progress.fuel ≡ 0) (λ (ch : Children). (c.walk_options.new.path ≡ s) × AreForEach s c.in-Some.item (forest_of ch.nodes.items) × AreTreesOf s (record { fuel = c.args.progress.now.fuel - 1; found = c.args.progress.now.found }) c.walk_options.new.progress (forest_of ch.nodes.items))) c.in-Some-2.is c.in_ok-walk_options.ensures.trees in
+    let before : Progress = record { fuel = c.args.progress.now.fuel - 1; found = c.args.progress.now.found } in
+    let sized = subst (λ (v : Selection). HasSize (cover_of v.compiled) v.chosen c.in-Some.item c.size.result) same c.size.ensures in
+    (trees.0, branch_tree s c.args.progress.now before c.walk_options.new.progress c.cells-cells.result c.in-Some.item c.size.result (forest_of c.in-Some-2.children.nodes.items) (tree_of c.branch_node.result) c.links-links.ensures.right (omega (arith, c.if-progress-eq0.false)) refl c.cells-cells.ensures.most (c.cells-cells.ensures.few c.in-Some.item c.in-Some.ensures.uncovered.primary) sized c.if-size-eq0.false trees.1 trees.2 c.branch_node.ensures)
 
-pub walk_options-returns-in_err-walk-clause-listed : goal.walk_options-returns-in_err-walk-clause-listed
-walk_options-returns-in_err-walk-clause-listed t c = λ a h.
-    found_later c.args.selection.now c.loop-next.selection c.choose.new.self c.in-Some.option _ _ _ c.loop-next.invariant.selection c.in_ok-choose.ensures.chosen c.walk.ensures.listed c.loop-next.invariant.listed a h
+pub walk_options-loop-next-init : goal.walk_options-loop-next-init
+walk_options-loop-next-init g t c =
+    let s = c.args.path.now in
+    let same = c.links.ensures.same in
+    let next = subst (λ (v : Selection). MatchOption c.next_option-next.result (IsLast (cover_of v.compiled) v.chosen c.args.item None) (IsNext (cover_of v.compiled) v.chosen c.args.item None)) same c.next_option-next.ensures in
+    record {
+      path = refl;
+      next = next_open s s c.args.item None c.next_option-next.result refl next;
+      counted = subst (λ n. CountedBefore (cover_of s.compiled) s.chosen c.args.item c.next_option-next.result n) (ap length (sym c.new-nodes.ensures.items)) (counted_first (cover_of s.compiled) s.chosen c.args.item c.next_option-next.result next);
+      moved = g.met.C.Cites.stays c.args.cites.now;
+      goes_on = record { fuel = omega arith; more = omega arith; found = λ a h. inl h };
+      trees = no_trees s c.args.progress.now c.new-nodes.result.items c.new-nodes.ensures.items;
+    }
 
-pub walk_options-returns-in-None-clause-listed : goal.walk_options-returns-in-None-clause-listed
-walk_options-returns-in-None-clause-listed t c = λ a h.
-    found_later c.args.selection.now c.loop-next.selection c.choose.new.self c.in-Some.option _ _ _ c.loop-next.invariant.selection c.in_ok-choose.ensures.chosen c.in_ok-walk.ensures.listed c.loop-next.invariant.listed a h
-
-pub walk_options-returns-in_err-push-in-Some-2-clause-listed : goal.walk_options-returns-in_err-push-in-Some-2-clause-listed
-walk_options-returns-in_err-push-in-Some-2-clause-listed t c = λ a h.
-    found_later c.args.selection.now c.loop-next.selection c.choose.new.self c.in-Some.option _ _ _ c.loop-next.invariant.selection c.in_ok-choose.ensures.chosen c.in_ok-walk.ensures.listed c.loop-next.invariant.listed a h
-
-pub walk_options-loop-next-smaller : goal.walk_options-loop-next-smaller
-walk_options-loop-next-smaller t c =
-    let n = length c.args.selection.now.compiled.options in
-    let start = c.args.selection.now in
-    let v = c.undo.new.self in
-    let is_open = subst (λ o. MatchOption o (Unit {0}) (IsOpenAt (cover_of start.compiled) start.chosen c.args.item)) c.in-Some.is c.loop-next.invariant.next in
-    let few = is_open.open_option.real in
-    let many = length-map start.compiled.options (items_of (cell_count start.compiled.puzzle.board)) in
-    subst (λ o. left_after n c.next_option-next-in-Some.result < left_after n o) (sym c.in-Some.is)
-    (next_nearer (cover_of v.compiled) v.chosen c.args.item c.in-Some.option n c.next_option-next-in-Some.result (omega (arith, few, many)) c.next_option-next-in-Some.ensures)
+pub walk_options-child-requires : goal.walk_options-child-requires
+walk_options-child-requires g t c =
+    let s = c.args.path.now in
+    let i = c.loop-next.invariant in
+    let compiled = ap (λ (v : Selection). v.compiled) (c.in_ok-choose.ensures.chosen) ∙ ap (λ (v : Selection). v.compiled) i.path in
+    let open_option = subst (λ o. MatchOption o (Unit {0}) (IsOpenAt (cover_of s.compiled) s.chosen c.args.item)) c.in-Some.is i.next in
+    let counted = subst (λ o. CountedBefore (cover_of s.compiled) s.chosen c.args.item o (length c.loop-next.nodes.items)) c.in-Some.is i.counted in
+    let most = room_for_one s c.links.ensures.right c.in-Some.option c.args.item (length c.loop-next.nodes.items) open_option counted in
+    let few = i.trees.few in
+    let counts = count-forest_of c.loop-next.nodes.items in
+    let room = c.requires.room in
+    let takes : (pairs : List Pair) → FitInTurn c.choose.new.self.compiled.puzzle pairs → g.C.Cites.takes c.loop-next.cites pairs = λ pairs fit. g.met.C.Cites.takes_still c.args.cites.now c.loop-next.cites pairs i.moved (c.requires.takes pairs (subst (λ (x : Compiled). FitInTurn x.puzzle pairs) compiled fit)) in
+    let enough : length c.loop-next.progress.found.items + 400 * c.loop-next.progress.fuel + 1 < 2 ^ 32 = omega (arith, most, few, counts, room) in
+    let with : c.choose.new.self ≡ with_option s c.in-Some.option = c.in_ok-choose.ensures.chosen ∙ ap (λ v. with_option v c.in-Some.option) i.path in
+    let lengths : length c.choose.new.self.chosen ≡ length s.chosen + 1 = ap (λ (v : Selection). length v.chosen) with ∙ length-append s.chosen (c.in-Some.option ∷ []) in
+    let fewer = subst (λ (v : Selection). length v.chosen < length v.compiled.options) i.path c.in_ok-choose.ensures.room in
+    let options = ap (λ (x : Compiled). length x.options) compiled in
+    λ κs below. (omega (arith, c.decreases, lengths, fewer, options), (below, (takes, enough)))
 
 pub walk_options-loop-next-preserved : goal.walk_options-loop-next-preserved
-walk_options-loop-next-preserved t c =
+walk_options-loop-next-preserved g t c =
+    let s = c.args.path.now in
     let i = c.loop-next.invariant in
-    let start = c.args.selection.now in
-    let w = c.in_ok-walk.ensures in
-    let restored = subst (λ o. IfSome o (λ (_ : Node). c.walk.new.selection ≡ c.choose.new.self)) c.in-Some-2.is w.restored in
-    let spent = subst (λ o. MatchOption o (c.walk.new.fuel ≡ 0) (λ (x : Node). c.walk.new.fuel + branch_count (tree_of x) ≡ c.loop-next.fuel)) c.in-Some-2.is w.spent in
-    let below = subst (λ o. IfSome o (λ (x : Node). IsFoundBelow (length c.walk.new.found.items) (tree_of x))) c.in-Some-2.is w.numbers in
-    let back = taken_back c.loop-next.selection c.choose.new.self c.walk.new.selection c.undo.new.self c.in-Some.option c.in_ok-choose.ensures.chosen restored c.undo.ensures in
+    let chosen = c.in_ok-choose.ensures.chosen in
+    let w = c.in_ok-child.ensures in
+    let tree = subst (λ o. MatchOption o (c.child.new.progress.fuel ≡ 0) (λ (n : Node). (c.child.new.path ≡ c.choose.new.self) × IsTreeOf c.choose.new.self c.loop-next.progress c.child.new.progress (tree_of n))) c.in-Some-2.is w.tree in
+    let back = taken_back c.loop-next.path c.choose.new.self c.child.new.path c.undo.new.self c.in-Some.option chosen tree.0 c.undo.ensures ∙ i.path in
+    let open_option = subst (λ o. MatchOption o (Unit {0}) (IsOpenAt (cover_of s.compiled) s.chosen c.args.item)) c.in-Some.is i.next in
+    let counted = subst (λ o. CountedBefore (cover_of s.compiled) s.chosen c.args.item o (length c.loop-next.nodes.items)) c.in-Some.is i.counted in
+    let here = c.links-in-Some.ensures.same ∙ back in
+    let next = subst (λ (v : Selection). MatchOption c.next_option-next-in-Some.result (IsLast (cover_of v.compiled) v.chosen c.args.item (Some c.in-Some.option)) (IsNext (cover_of v.compiled) v.chosen c.args.item (Some c.in-Some.option))) here c.next_option-next-in-Some.ensures in
     let items = c.in_ok-push-in-Some-2.ensures.items in
-    let total = total_more c.loop-next.nodes.items c.in-Some-2.child in
+    let with = chosen ∙ ap (λ v. with_option v c.in-Some.option) i.path in
     record {
-      selection = back ∙ i.selection;
-      next = next_open c.undo.new.self start c.args.item (Some c.in-Some.option) c.next_option-next-in-Some.result (back ∙ i.selection) c.next_option-next-in-Some.ensures;
-      spent = ap (λ (ns : List Node). c.walk.new.fuel + branch_total (forest_of ns)) items ∙ omega (arith, total, spent, i.spent);
-      numbers = subst (λ (ns : List Node). AreFoundBelow (length c.walk.new.found.items) (forest_of ns)) (sym items) (all_more (length c.walk.new.found.items) c.loop-next.nodes.items c.in-Some-2.child (all_up (length c.loop-next.found.items) (length c.walk.new.found.items) w.more (forest_of c.loop-next.nodes.items) i.numbers) below);
-      more = omega (arith, w.more, i.more);
-      listed = λ a h. found_later start c.loop-next.selection c.choose.new.self c.in-Some.option c.args.found.now.items c.loop-next.found.items c.walk.new.found.items i.selection c.in_ok-choose.ensures.chosen w.listed i.listed a h;
+      path = back;
+      next = next_open s s c.args.item (Some c.in-Some.option) c.next_option-next-in-Some.result refl next;
+      counted = subst (λ n. CountedBefore (cover_of s.compiled) s.chosen c.args.item c.next_option-next-in-Some.result n) (let long = ap length items ∙ length-append c.loop-next.nodes.items (c.in-Some-2.child ∷ []) in omega (arith, long)) (counted_next (cover_of s.compiled) s.chosen c.args.item c.in-Some.option (length c.loop-next.nodes.items) c.next_option-next-in-Some.result open_option next counted);
+      moved = g.met.C.Cites.goes_on c.args.cites.now c.loop-next.cites c.child.new.cites i.moved w.moved;
+      goes_on = goes_further s c.choose.new.self c.in-Some.option c.args.progress.now c.loop-next.progress c.child.new.progress with i.goes_on w.goes_on;
+      trees = one_more_tree s c.links.ensures.right c.in-Some.option c.choose.new.self c.args.progress.now c.loop-next.progress c.child.new.progress c.loop-next.nodes.items c.push.new.self.items c.in-Some-2.child open_option.open_option with items i.trees w.goes_on tree.1;
     }
+
+pub walk_options-returns-clause-trees : goal.walk_options-returns-clause-trees
+walk_options-returns-clause-trees g t c =
+    let s = c.args.path.now in
+    let i = c.loop-next.invariant in
+    let counted = subst (λ o. CountedBefore (cover_of s.compiled) s.chosen c.args.item o (length c.loop-next.nodes.items)) c.in_default.is i.counted in
+    let counts = count-forest_of c.loop-next.nodes.items in
+    let same = c.new.ensures in (
+      i.path,
+      subst (λ ns. AreForEach s c.args.item (forest_of ns)) (sym same) (subst (HasSize (cover_of s.compiled) s.chosen c.args.item) (sym counts) (counted_all (cover_of s.compiled) s.chosen c.args.item (length c.loop-next.nodes.items) counted)),
+      subst (λ ns. AreTreesOf s c.args.progress.now c.loop-next.progress (forest_of ns)) (sym same) i.trees,
+    )
+
+pub walk_options-returns-in_err-child-clause-goes_on : goal.walk_options-returns-in_err-child-clause-goes_on
+walk_options-returns-in_err-child-clause-goes_on g t c =
+    goes_further c.args.path.now c.choose.new.self c.in-Some.option c.args.progress.now c.loop-next.progress c.child.new.progress (c.in_ok-choose.ensures.chosen ∙ ap (λ v. with_option v c.in-Some.option) c.loop-next.invariant.path) c.loop-next.invariant.goes_on c.child.ensures.goes_on
+
+pub walk_options-returns-in-None-clause-goes_on : goal.walk_options-returns-in-None-clause-goes_on
+walk_options-returns-in-None-clause-goes_on g t c =
+    goes_further c.args.path.now c.choose.new.self c.in-Some.option c.args.progress.now c.loop-next.progress c.child.new.progress (c.in_ok-choose.ensures.chosen ∙ ap (λ v. with_option v c.in-Some.option) c.loop-next.invariant.path) c.loop-next.invariant.goes_on c.child.ensures.goes_on
+
+pub walk_options-returns-in_err-push-in-Some-2-clause-goes_on : goal.walk_options-returns-in_err-push-in-Some-2-clause-goes_on
+walk_options-returns-in_err-push-in-Some-2-clause-goes_on g t c =
+    goes_further c.args.path.now c.choose.new.self c.in-Some.option c.args.progress.now c.loop-next.progress c.child.new.progress (c.in_ok-choose.ensures.chosen ∙ ap (λ v. with_option v c.in-Some.option) c.loop-next.invariant.path) c.loop-next.invariant.goes_on c.child.ensures.goes_on

@@ -1,10 +1,10 @@
-use Rattle.std.proofs.Common.{◌≡◌, ◌⊎◌, ◌≤◌, ◌+◌, ◌-◌, ◌*◌, MatchOption, Contains, List, ℕ, length}
-use Rattle.match_puzzle.specs.declared.placements.Placement.{Placement}
+use Rattle.std.proofs.Common.{◌≡◌, ◌+◌, ◌-◌, ◌*◌, MatchOption, ℕ, length}
 use Rattle.xcc_form.specs.Options.{cover_of}
 use Rattle.cert_tree.specs.Tree.{forest_of}
 use Rattle.xcc_dance.specs.Clashes.{IsOpenAt}
 use Rattle.xcc_dance.specs.Chosen.{Selection}
-use Rattle.xcc_dance.specs.Found.{IsFoundFrom, branch_total, AreFoundBelow}
+use Rattle.xcc_dance.specs.Progress.{GoesOn, AreTreesOf}
+use Rattle.xcc_dance.proofs.SizeLemmas.{CountedBefore}
 use Rattle.xcc_dance.proofs.GrowingLemmas.{left_after}
 use Rattle.xcc_dance.proofs.searching.+walk.Given as goal
 
@@ -13,20 +13,23 @@ abbrev left_of : Selection → ℕ
 left_of s = length s.compiled.options - length s.chosen
 
 abbrev pub decreases-walk : goal.decreases-walk
-decreases-walk l = 2 * left_of l.selection.now + 1
+decreases-walk g l = 3 * left_of l.path.now + 1
+
+abbrev pub decreases-child : goal.decreases-child
+decreases-child g l = 3 * left_of l.path.now + 2
 
 abbrev pub decreases-walk_options : goal.decreases-walk_options
-decreases-walk_options l = 2 * left_of l.selection.now
+decreases-walk_options g l = 3 * left_of l.path.now
 
 abbrev pub invariant-walk_options-loop-next : goal.invariant-walk_options-loop-next
-invariant-walk_options-loop-next l = record {
-  selection : l.selection ≡ l.initial.selection;
-  next : MatchOption l.next (Unit {0}) (IsOpenAt (cover_of l.initial.selection.compiled) l.initial.selection.chosen l.item);
-  spent : l.fuel + branch_total (forest_of l.nodes.items) ≡ l.initial.fuel;
-  numbers : AreFoundBelow (length l.found.items) (forest_of l.nodes.items);
-  more : length l.initial.found.items ≤ length l.found.items;
-  listed : (a : List Placement) → Contains l.found.items a → Contains l.initial.found.items a ⊎ IsFoundFrom l.initial.selection a;
+invariant-walk_options-loop-next g l = record {
+  path : l.path ≡ l.initial.path;
+  next : MatchOption l.next (Unit {0}) (IsOpenAt (cover_of l.initial.path.compiled) l.initial.path.chosen l.item);
+  counted : CountedBefore (cover_of l.initial.path.compiled) l.initial.path.chosen l.item l.next (length l.nodes.items);
+  moved : g.C.Cites.moves l.initial.cites l.cites;
+  goes_on : GoesOn l.initial.path l.initial.progress l.progress;
+  trees : AreTreesOf l.initial.path l.initial.progress l.progress (forest_of l.nodes.items);
 }
 
 abbrev pub decreases-walk_options-loop-next : goal.decreases-walk_options-loop-next
-decreases-walk_options-loop-next l = left_after (length l.initial.selection.compiled.options) l.next
+decreases-walk_options-loop-next g l = left_after (length l.initial.path.compiled.options) l.next

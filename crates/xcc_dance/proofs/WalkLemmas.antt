@@ -1,0 +1,98 @@
+-- How what is found grows from node to node.
+use Rattle.std.proofs.Common.{◌≡◌, ◌≢◌, ◌<◌, ◌≤◌, ◌+◌, ◌*◌, ◌++◌, ◌∷◌, [], ℕ, List, Some, length, length-append, arith, refl, ap, sym, ◌∙◌, subst, inr, ⊎_elim}
+use Rattle.match_puzzle.specs.declared.placements.Placement.{Placement}
+use Rattle.xcc_form.specs.Options.{cover_of}
+use Rattle.cert_tree.specs.Tree.{Tree, Forest, branch, count, tree_of, forest_of}
+use Rattle.cert_tree.specs.TreeSpelling.{IsTreeWithin}
+use Rattle.cert_tree.specs.declared.nodes.Node.{Node, Found}
+use Rattle.cert_tree.proofs.TreeLemmas.{tree_of-Found, count-forest_of}
+use Rattle.xcc_dance.specs.Clashes.{IsOpen, IsOpenAt}
+use Rattle.xcc_dance.specs.Chosen.{Selection, IsSelection, HasSize, with_option}
+use Rattle.xcc_dance.specs.Found.{IsFoundFrom, IsBranchOn}
+use Rattle.xcc_dance.specs.Progress.{GoesOn, IsTreeOf, AreTreesOf, AreForEach, levels_below}
+use Rattle.xcc_dance.specs.declared.progress.Progress.{Progress}
+use Rattle.xcc_dance.proofs.PartialLemmas.{one_more}
+use Rattle.xcc_dance.proofs.RoomLemmas.{few_chosen}
+use Rattle.xcc_dance.proofs.SizeLemmas.{CountedBefore, count_one, few_counted, few_sized}
+use Rattle.xcc_dance.proofs.BranchLemmas.{size_same}
+use Rattle.xcc_dance.proofs.GrowingLemmas.{total_more, all_up, all_more, found_before}
+use Rattle.xcc_dance.proofs.WithinLemmas.{found_within, branch_within, within_more_trees}
+
+module _ (start : Selection) where
+  -- what goes on with one more option goes on without it
+  pub goes_further : (chosen : Selection) (option : ℕ) (first before after : Progress) → chosen ≡ with_option start option → GoesOn start first before → GoesOn chosen before after → GoesOn start first after
+  goes_further chosen option first before after e old new = record {
+    fuel = let a = old.fuel in let b = new.fuel in omega (arith, a, b);
+    more = let a = old.more in let b = new.more in omega (arith, a, b);
+    found = λ a c. ⊎_elim (λ h. old.found a h) (λ f. inr (found_before start option a (subst (λ s. IsFoundFrom s a) e f))) (new.found a c);
+  }
+
+  -- the node of a found arrangement
+  pub leaf_tree : (before after : Progress) (number : ℕ) (a : List Placement) → number ≡ length before.found.items → after.found.items ≡ before.found.items ++ a ∷ [] → after.fuel ≡ before.fuel → IsTreeOf start before after (tree_of (Found number))
+  leaf_tree before after number a is found fuel =
+      subst (IsTreeOf start before after) (sym (tree_of-Found number))
+      (let long = ap length found ∙ length-append before.found.items (a ∷ []) in
+      record {
+        spent = omega (arith, fuel);
+        numbers = omega (arith, is, long);
+        within = λ few. found_within (levels_below start) number (length after.found.items) (omega (arith, is, long)) few;
+        few = omega (arith, long, fuel);
+      })
+
+  -- the node of a branch
+  pub branch_tree : (first before after : Progress) (cells item size : ℕ) (children : Forest) (tree : Tree) → IsSelection start.compiled start.chosen
+      → before.fuel + 1 ≡ first.fuel → before.found.items ≡ first.found.items → cells ≤ 100 → item < 2 * cells → HasSize (cover_of start.compiled) start.chosen item size → size ≢ 0
+      → AreForEach start item children → AreTreesOf start before after children → IsBranchOn cells item children tree → IsTreeOf start first after tree
+  branch_tree first before after cells item size children tree right fuel found few lt sized some each trees is =
+      let same = size_same (cover_of start.compiled) start.chosen item size (count children) sized each in
+      let most = few_sized start.compiled right.compiled start.chosen item (count children) each in
+      let spent = trees.spent in
+      let many = trees.few in
+      let long = ap length found in
+      subst (IsTreeOf start first after) (sym is.2) (record {
+        spent = omega (arith, spent, fuel);
+        numbers = trees.numbers;
+        within = λ few'. branch_within (levels_below start) cells item children (branch is.0 children) few lt (omega (arith, same, some)) most (trees.within few') (is.0, is.1, refl);
+        few = omega (arith, many, most, fuel, long);
+      })
+
+  -- ---- the children of a branch
+
+  -- none yet
+  pub no_trees : (progress : Progress) (nodes : List Node) → nodes ≡ [] → AreTreesOf start progress progress (forest_of nodes)
+  no_trees progress nodes e = subst (λ ns. AreTreesOf start progress progress (forest_of ns)) (sym e) (record { spent = omega arith; numbers = tt; within = λ few. tt; few = omega arith })
+
+  module _ (right : IsSelection start.compiled start.chosen) (option : ℕ) where
+    -- one level fewer is left below a child
+    child_levels : IsOpen (cover_of start.compiled) start.chosen option → levels_below (with_option start option) + 1 ≡ levels_below start
+    child_levels is_open =
+        let more = start.chosen ++ option ∷ [] in
+        let few = few_chosen start.compiled more (record { compiled = right.compiled; partial = one_more (cover_of start.compiled) start.chosen right.partial option is_open }) in
+        let cells = right.compiled.puzzle.board.1 in
+        let long = length-append start.chosen (option ∷ []) in
+        omega (arith, few, cells, long)
+
+    -- one more
+    pub one_more_tree : (chosen : Selection) (first before after : Progress) (nodes nodes' : List Node) (node : Node) → IsOpen (cover_of start.compiled) start.chosen option → chosen ≡ with_option start option → nodes' ≡ nodes ++ node ∷ []
+        → AreTreesOf start first before (forest_of nodes) → GoesOn chosen before after → IsTreeOf chosen before after (tree_of node) → AreTreesOf start first after (forest_of nodes')
+    one_more_tree chosen first before after nodes nodes' node is_open e items old goes new =
+        let total = total_more nodes node in
+        let spent = old.spent in
+        let spent' = new.spent in
+        let many = old.few in
+        let many' = new.few in
+        let more = goes.more in
+        let levels = ap (λ (s : Selection). levels_below s + 1) e ∙ child_levels is_open in
+        let count' = count-forest_of (nodes ++ node ∷ []) in
+        let long = length-append nodes (node ∷ []) in
+        let counted = count-forest_of nodes in
+        subst (λ ns. AreTreesOf start first after (forest_of ns)) (sym items) (record {
+          spent = omega (arith, total, spent, spent');
+          numbers = all_more (length after.found.items) nodes node (all_up (length before.found.items) (length after.found.items) more (forest_of nodes) old.numbers) new.numbers;
+          within = λ few. within_more_trees (levels_below start) nodes node (old.within (omega (arith, few, more))) (subst (λ n. IsTreeWithin n (tree_of node)) levels (new.within few));
+          few = omega (arith, many, many', count', long, counted);
+        })
+
+    -- with the next one there are at most 400
+    pub room_for_one : (item size : ℕ) → IsOpenAt (cover_of start.compiled) start.chosen item option → CountedBefore (cover_of start.compiled) start.chosen item (Some option) size → size + 1 ≤ 400
+    room_for_one item size is w = few_counted start.compiled right.compiled start.chosen item (option + 1) (size + 1) (count_one (IsOpenAt (cover_of start.compiled) start.chosen item) option size is w)

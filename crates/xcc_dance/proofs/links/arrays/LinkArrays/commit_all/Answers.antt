@@ -1,0 +1,77 @@
+use Rattle.std.proofs.Common.{true≢false, ◌≡◌, ◌<◌, ◌≤◌, ◌+◌, ◌∙◌, length, arith, sym, subst, inl, inr, ⊎_elim}
+use Rattle.std.proofs.lemmas.Bool.{cases_lt}
+use Rattle.std.proofs.lemmas.List.{get_or_read}
+use Rattle.xcc_dance.specs.Rings.{item_of}
+use Rattle.xcc_dance.specs.NodeTables.{start_of}
+use Rattle.xcc_dance.specs.NodeClashes.{ExcludesAt}
+use Rattle.xcc_dance.proofs.TrailLemmas.{goes_on}
+use Rattle.xcc_dance.proofs.PurifyingLemmas.{goes_has}
+use Rattle.xcc_dance.proofs.CommittingLemmas.{not_yet, all_barred, only_barred}
+use Rattle.xcc_dance.proofs.links.arrays.LinkArrays.commit_all.Goals as goal
+
+pub commit-requires-clause-uncovered : goal.commit-requires-clause-uncovered
+commit-requires-clause-uncovered c = λ primary.
+    let f = c.args.table.now in
+    let s = f.starts.items in
+    let n = c.loop-node.node in
+    let i = c.loop-node.invariant in
+    let ex : c.args.option + 1 < length s = omega (arith, c.requires.table.starts_long, c.requires.option) in
+    let z = get_or_read s (c.args.option + 1) c.index-node-end.result.now ex c.index-node-end.ensures 0 in
+    let to : n < start_of s (c.args.option + 1) = omega (arith, z) in
+    let first = c.requires.uncovered n i.from to primary in
+    not_yet f.primaries f.items f.options f.entries.items f.starts.items c.requires.table c.args.option c.requires.option n i.from to _ (λ e. ⊎_elim (λ h. absurd (true≢false (sym h ∙ first))) (λ w. w) (i.only (f.options + item_of f.entries.items n) e))
+
+pub returns-in_err-commit-clause-goes : goal.returns-in_err-commit-clause-goes
+returns-in_err-commit-clause-goes c = goes_on _ _ _ _ _ _ _ c.loop-node.invariant.goes c.in_err-commit.ensures.goes
+
+pub loop-node-preserved : goal.loop-node-preserved
+loop-node-preserved c =
+    let f = c.args.table.now in
+    let s = f.starts.items in
+    let n = c.loop-node.node in
+    let i = c.loop-node.invariant in
+    let ex : c.args.option + 1 < length s = omega (arith, c.requires.table.starts_long, c.requires.option) in
+    let z = get_or_read s (c.args.option + 1) c.index-node-end.result.now ex c.index-node-end.ensures 0 in
+    let to : n < start_of s (c.args.option + 1) = omega (arith, z) in
+    let e = c.in_ok-commit.ensures in
+    record {
+      from = omega (arith, i.from);
+      right = e.right;
+      goes = goes_on _ _ _ _ _ _ _ i.goes e.goes;
+      all = λ m mf mt p b. ⊎_elim
+          (λ (lt : m < n). goes_has _ _ _ _ _ p e.goes (i.all m mf lt p b))
+          (λ (ge : n ≤ m). let same : m ≡ n = omega (arith, mt) in e.all p (subst (λ k. ExcludesAt f.primaries f.items f.options f.entries.items k p) same b))
+          (cases_lt m n);
+      only = λ p h. ⊎_elim
+          (λ x. ⊎_elim (λ y. inl y) (λ w. inr (w.0, w.1, (let lt = w.2 in omega (arith, lt)), w.3)) (i.only p x))
+          (λ b. inr (n, i.from, omega arith, b))
+          (e.only p h);
+    }
+
+pub returns-clause-all : goal.returns-clause-all
+returns-clause-all c =
+    let f = c.args.table.now in
+    let s = f.starts.items in
+    let n = c.loop-node.node in
+    let i = c.loop-node.invariant in
+    let ex : c.args.option + 1 < length s = omega (arith, c.requires.table.starts_long, c.requires.option) in
+    let z = get_or_read s (c.args.option + 1) c.index-node-end.result.now ex c.index-node-end.ensures 0 in
+    let y = get_or_read s c.args.option c.index-node.result.now (omega (arith, ex)) c.index-node.ensures 0 in
+    let r = c.requires.table.runs.rising c.args.option ex in
+    let up = c.loop-node.auto.node-end (omega (arith, y, z, r)) in
+    let same : n ≡ start_of s (c.args.option + 1) = omega (arith, y, z, r, up) in
+    all_barred f.primaries f.items f.options f.entries.items f.starts.items c.requires.table c.args.option c.requires.option c.loop-node.self.trail.items (λ m mf mt p b. i.all m mf (omega (arith, mt, same)) p b)
+
+pub returns-clause-only : goal.returns-clause-only
+returns-clause-only c = λ p h.
+    let f = c.args.table.now in
+    let s = f.starts.items in
+    let n = c.loop-node.node in
+    let i = c.loop-node.invariant in
+    let ex : c.args.option + 1 < length s = omega (arith, c.requires.table.starts_long, c.requires.option) in
+    let z = get_or_read s (c.args.option + 1) c.index-node-end.result.now ex c.index-node-end.ensures 0 in
+    let y = get_or_read s c.args.option c.index-node.result.now (omega (arith, ex)) c.index-node.ensures 0 in
+    let r = c.requires.table.runs.rising c.args.option ex in
+    let up = c.loop-node.auto.node-end (omega (arith, y, z, r)) in
+    let same : n ≡ start_of s (c.args.option + 1) = omega (arith, y, z, r, up) in
+    ⊎_elim (λ x. inl x) (λ w. inr (only_barred f.primaries f.items f.options f.entries.items f.starts.items c.requires.table c.args.option c.requires.option p (w.0, w.1, (let lt = w.2 in omega (arith, lt, same)), w.3))) (i.only p h)

@@ -1,0 +1,37 @@
+-- How a search goes on from a selection.
+use Rattle.std.specs.Prelude.{◌≡◌, ◌⊎◌, ◌≤◌, ◌+◌, ◌-◌, ◌*◌, ℕ, List, Contains, length}
+use Rattle.match_puzzle.specs.declared.placements.Placement.{Placement}
+use Rattle.cert_tree.specs.Tree.{Tree, Forest, count}
+use Rattle.cert_tree.specs.TreeSpelling.{IsTreeWithin, AreTreesWithin}
+use Rattle.xcc_form.specs.Options.{cover_of}
+use Rattle.xcc_dance.specs.Chosen.{Selection, HasSize}
+use Rattle.xcc_dance.specs.Found.{IsFoundFrom, branch_count, branch_total, IsFoundBelow, AreFoundBelow}
+use Rattle.xcc_dance.specs.declared.progress.Progress.{Progress}
+
+-- how many levels of nodes there can be below the one of these choices: one for each option that may be chosen, of at most 100
+abbrev pub levels_below : Selection → ℕ
+levels_below s = 100 - length s.chosen
+
+-- Fuel may be spent, and arrangements found that have all chosen options.
+pub record GoesOn (s : Selection) (before after : Progress) : Type 0 where
+  pub fuel : after.fuel ≤ before.fuel
+  pub more : length before.found.items ≤ length after.found.items
+  pub found : (a : List Placement) → Contains after.found.items a → Contains before.found.items a ⊎ IsFoundFrom s a
+
+-- The tree of these choices: it spent a unit of fuel for each branch node, each of which finds at most 400 more.
+pub record IsTreeOf (s : Selection) (before after : Progress) (tree : Tree) : Type 0 where
+  pub spent : after.fuel + branch_count tree ≡ before.fuel
+  pub numbers : IsFoundBelow (length after.found.items) tree
+  pub within : length after.found.items ≤ 1000000 → IsTreeWithin (levels_below s + 1) tree
+  pub few : length after.found.items + 400 * after.fuel ≤ length before.found.items + 400 * before.fuel + 1
+
+-- The trees of these choices with one of several options more.
+pub record AreTreesOf (s : Selection) (before after : Progress) (trees : Forest) : Type 0 where
+  pub spent : after.fuel + branch_total trees ≡ before.fuel
+  pub numbers : AreFoundBelow (length after.found.items) trees
+  pub within : length after.found.items ≤ 1000000 → AreTreesWithin (levels_below s) trees
+  pub few : length after.found.items + 400 * after.fuel ≤ length before.found.items + 400 * before.fuel + count trees
+
+-- There is one for each open option of the item.
+abbrev pub AreForEach : Selection → (item : ℕ) → Forest → Type 0
+AreForEach s item trees = HasSize (cover_of s.compiled) s.chosen item (count trees)

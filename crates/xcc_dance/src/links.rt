@@ -1,0 +1,207 @@
+//! Chosen options, and link arrays that tell which options still go with them.
+
+ghost use Rattle.std.specs.Prelude.{◌≡◌, ◌<◌, ◌≤◌, ◌*◌, ℕ, [], IfOk, IfSome, OnErr, MatchOption, length};
+ghost use Rattle.xcc_form.specs.Options.{IsCompiled, cover_of};
+ghost use Rattle.xcc_form.specs.Correspondence.{IsPairOf, IsSolutionOf};
+ghost use Rattle.xcc_dance.specs.Clashes.{IsOpen, IsOpenAt};
+ghost use Rattle.xcc_dance.specs.Chosen.{IsSelection, IsUncovered, AreAllCovered, HasSize, IsToBranchOn, IsNext, IsLast, with_option};
+ghost use Rattle.xcc_dance.specs.LinkStates.{selection_of, taken_back};
+
+mod arrays;
+mod committing;
+mod making;
+mod tables;
+#[cfg(test)]
+mod tests;
+
+use arrays::LinkArrays;
+use match_puzzle::{Arrangement, Pair};
+use std::alloc::{AllocError, Global};
+use std::marker::Model;
+use tables::NodeTable;
+use xcc_form::{FormFault, Xcc};
+
+/// Options chosen of a compiled puzzle, no two of which clash, as in [`Selection`](crate::Selection), with the other
+/// options in linked lists by item: dancing links with colours (Knuth, TAOCP 4B, 7.2.2.1, Algorithm C), in arrays of
+/// numbered nodes. It borrows the compiled puzzle.
+///
+/// An item's list has the options that are open, so that the next one and the number of them are read off. A choice
+/// takes out of all lists the options that clash with it, and taking it back puts them in again, the last one first:
+/// each link and each size is then as it was.
+#[derive(Drop)]
+pub struct Links<'a> {
+    xcc: &'a Xcc<'a>,
+    table: NodeTable,
+    arrays: LinkArrays,
+    marks: Vec<usize>,
+    chosen: Vec<u32>,
+}
+
+impl<'a> Model for Links<'a> {
+    ghost use Rattle.xcc_dance.specs.LinkStates.{LinkState, AreLinksOf, link_state};
+
+    ghost Value = { LinkState };
+
+    ghost view = { λ s. link_state s.xcc.now s.table s.arrays s.marks.items s.chosen.items };
+
+    ghost invariant = { λ s. AreLinksOf s.xcc.now s.table s.arrays s.marks.items s.chosen.items };
+}
+
+impl<'a> Links<'a> {
+    /// Nothing is chosen yet.
+    ///
+    /// An error where memory is refused, for a node for each item of each option, and for as many options as there are
+    /// cells.
+    pub fn new(alloc: Global, xcc: &'a Xcc<'a>) -> Result<Links<'a>, AllocError>
+        ensures { IfOk result (λ s. selection_of s ≡ record { compiled = xcc.now; chosen = [] }) }
+    {
+        // what is proved of the puzzle holds of each compiled one
+        let puzzle = xcc.puzzle();
+        let cells = usize::from(puzzle.board().cells());
+        let table = NodeTable::new(alloc, xcc)?;
+        let arrays = LinkArrays::new(alloc, &table)?;
+        let marks = Vec::with_capacity(alloc, cells)?;
+        let chosen = Vec::with_capacity(alloc, cells)?;
+        Ok(Links {
+            xcc,
+            table,
+            arrays,
+            marks,
+            chosen,
+        })
+    }
+
+    /// The chosen options, in the order of choosing.
+    pub fn chosen(&self) -> &[u32]
+        ensures value { result.now ≡ self.now.chosen }
+        ensures right { IsSelection self.now.compiled self.now.chosen }
+    {
+        &self.chosen
+    }
+
+    /// The item to branch on: of the uncovered primary items the one with the fewest open options, the least number
+    /// at a tie, so that a cell comes before a tile. `None` where each primary item is covered.
+    pub fn branch_item(&self) -> Option<u32>
+        ensures { MatchOption result
+            (AreAllCovered (cover_of self.now.compiled) self.now.chosen)
+            (IsToBranchOn (cover_of self.now.compiled) self.now.chosen) }
+    {
+        let root = self.table.items - 1;
+        let first = self.table.starts[self.table.options as usize];
+        let mut best = None;
+        let mut fewest = 0;
+        let mut node = self.arrays.links[root as usize].down;
+        while node != root {
+            let item = node - first;
+            let size = self.arrays.sizes[item as usize];
+            if best.is_none() || size < fewest {
+                best = Some(item);
+                fewest = size;
+            }
+            node = self.arrays.links[node as usize].down;
+        }
+        best
+    }
+
+    /// How many open options an item has that is primary and uncovered.
+    pub fn size(&self, item: u32) -> u32
+        requires { IsUncovered (cover_of self.now.compiled) self.now.chosen item }
+        ensures { HasSize (cover_of self.now.compiled) self.now.chosen item result }
+    {
+        self.arrays.sizes[item as usize]
+    }
+
+    /// The open option of an item that comes next after this one of them, by number, or the first of them. The item is
+    /// primary and uncovered.
+    pub fn next_option(&self, item: u32, after: Option<u32>) -> Option<u32>
+        requires item { IsUncovered (cover_of self.now.compiled) self.now.chosen item }
+        requires after { IfSome after (IsOpenAt (cover_of self.now.compiled) self.now.chosen item) }
+        ensures { MatchOption result
+            (IsLast (cover_of self.now.compiled) self.now.chosen item after)
+            (IsNext (cover_of self.now.compiled) self.now.chosen item after) }
+    {
+        let node = match after {
+            None => item,
+            Some(option) => self.table.node_at(option, item),
+        };
+        let next = self.arrays.links[node as usize].down;
+        if next == item {
+            None
+        } else {
+            Some(self.table.entries[next as usize].option)
+        }
+    }
+
+    /// Chooses an open option.
+    ///
+    /// An error where the list of chosen options, or that of hidden ones, cannot grow; then nothing changes.
+    pub fn choose(&mut self, option: u32) -> Result<(), AllocError>
+        requires { IsOpen (cover_of self.old.compiled) self.old.chosen option }
+        ensures chosen { IfOk result (λ _. selection_of self.new ≡ with_option (selection_of self.old) option) }
+        ensures before { IfOk result (λ _. taken_back self.new ≡ self.old) }
+        ensures room { length self.old.chosen < length self.old.compiled.options }
+        ensures refused { OnErr result (self.new ≡ self.old) }
+    {
+        let mark = self.arrays.trail.len();
+        self.marks.push(mark)?;
+        if self.chosen.push(option).is_err() {
+            self.marks.pop();
+            return Err(AllocError);
+        }
+        if self.arrays.commit_all(&self.table, option).is_err() {
+            self.arrays.show_back(&self.table, mark);
+            self.marks.pop();
+            self.chosen.pop();
+            return Err(AllocError);
+        }
+        Ok(())
+    }
+
+    /// Takes back the option that was chosen last. There is one.
+    pub fn undo(&mut self)
+        requires { 0 < length self.old.chosen }
+        ensures { self.new ≡ taken_back self.old }
+    {
+        self.chosen.pop();
+        if let Some(mark) = self.marks.pop() {
+            self.arrays.show_back(&self.table, mark);
+        }
+    }
+
+    // How many cells there are, which are the first items.
+    pub(crate) fn cells(&self) -> u16
+        ensures most { result ≤ 100 }
+        ensures few { (item : ℕ) → item < (cover_of self.now.compiled).primaries → item < 2 * result }
+    {
+        self.xcc.cells()
+    }
+
+    // How many options there are, chosen or not.
+    pub(crate) fn options(&self) -> u32
+        ensures count { result ≡ length self.now.compiled.options }
+        ensures compiled { IsCompiled self.now.compiled }
+    {
+        self.xcc.options()
+    }
+
+    // The cell and the placement of an option.
+    pub(crate) fn pair(&self, option: u32) -> Pair
+        requires { option < length self.now.compiled.options }
+        ensures { IsPairOf self.now.compiled option result }
+    {
+        self.xcc.pair(option)
+    }
+
+    // The arrangement of the chosen options, which cover all primary items.
+    pub(crate) fn arrangement(&self, alloc: Global) -> Result<Arrangement, AllocError>
+        requires { AreAllCovered (cover_of self.now.compiled) self.now.chosen }
+        ensures { IfOk result (λ a. IsSolutionOf self.now.compiled a self.now.chosen) }
+    {
+        match self.xcc.arrangement_of(alloc, self.chosen()) {
+            Ok(arrangement) => Ok(arrangement),
+            // whole selections are solutions
+            Err(FormFault::NotASolution) => unreachable!(),
+            Err(FormFault::Memory) => Err(AllocError),
+        }
+    }
+}

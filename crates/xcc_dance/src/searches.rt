@@ -1,0 +1,118 @@
+//! Searches of a compiled puzzle.
+
+ghost use Rattle.std.specs.Prelude.{◌≡◌, ◌↔◌, ◌⊎◌, ◌≤◌, List, IfOk, IsErrOf, true, false};
+ghost use Rattle.match_puzzle.specs.declared.placements.Pair.{Pair as Placed};
+ghost use Rattle.xcc_dance.specs.Placing.{FitInTurn};
+ghost use Rattle.xcc_dance.specs.Outcome.{IsOutcome};
+
+use crate::cites::Cites;
+use crate::faults::SearchFault;
+use crate::paths::Path;
+use crate::progress::Progress;
+use crate::searching::walk;
+use cert_tree::Node;
+use match_puzzle::{Arrangement, Pair};
+use std::alloc::{AllocError, Global};
+use std::marker::Model;
+use xcc_form::Xcc;
+
+/// What a run of a search comes to.
+#[derive(Drop)]
+pub enum Outcome {
+    /// All arrangements that extend the prefix were found, but those that a citation stands for. `Node::Found(i)` is
+    /// number i of them.
+    Done { tree: Node, found: Vec<Arrangement> },
+    /// The fuel was spent, and another branch node was needed.
+    GaveUp,
+}
+
+/// A search for all arrangements of a compiled puzzle, which it borrows.
+///
+/// At each node it takes the uncovered item with the fewest open options, the least number at a tie, so that a cell
+/// comes before a tile, and goes through its options by number (Knuth, TAOCP 4B, 7.2.2.1). Where there is none, the
+/// node is a dead end.
+#[derive(Drop)]
+pub struct Search<'a> {
+    alloc: Global,
+    path: Path<'a>,
+    branches: u32,
+    failed: bool,
+}
+
+impl<'a> Model for Search<'a> {
+    ghost use Rattle.std.specs.Prelude.{◌≡◌, [], false};
+    ghost use Rattle.xcc_dance.specs.Outcome.{SearchState};
+
+    ghost Value = { SearchState };
+
+    ghost view = { λ s. record { compiled = s.path.compiled; branches = s.branches; failed = s.failed } };
+
+    ghost invariant = { λ s. s.failed ≡ false → s.path.chosen ≡ [] };
+}
+
+impl<'a> Search<'a> {
+    /// A search that did not run yet.
+    ///
+    /// An error where memory for as many options as there are cells is refused.
+    pub fn new(alloc: Global, xcc: &'a Xcc<'a>) -> Result<Search<'a>, AllocError>
+        ensures { IfOk result (λ s. s ≡ record { compiled = xcc.now; branches = 0; failed = false }) }
+    {
+        Ok(Search {
+            alloc,
+            path: Path::new(alloc, xcc)?,
+            branches: 0,
+            failed: false,
+        })
+    }
+
+    /// How many branch nodes the last run made that did not answer `Failed`; none before any.
+    pub fn branches(&self) -> u32
+        ensures { result ≡ self.now.branches }
+    {
+        self.branches
+    }
+
+    /// Finds the arrangements that extend the prefix, each pair of which fits those before it, with at most `fuel`
+    /// branch nodes, which is at most 1,000,000. Before a child of a branch is searched, `cites` is asked what stands
+    /// for it, with all pairs that are placed there.
+    ///
+    /// `GaveUp` after just `fuel` branch nodes, where another was needed. `Failed` where an earlier run gave up or ran
+    /// out of memory; then nothing changes. `Memory` where memory is refused, also to `cites`.
+    pub fn run<C: Cites>(
+        &mut self,
+        prefix: &[Pair],
+        fuel: u32,
+        cites: &mut C,
+    ) -> Result<Outcome, SearchFault>
+        requires prefix { FitInTurn self.old.compiled.puzzle prefix.now }
+        requires fuel { fuel ≤ 1000000 }
+        requires takes { (pairs : List Placed) → FitInTurn self.old.compiled.puzzle pairs → C.takes cites.old pairs }
+        ensures compiled { self.new.compiled ≡ self.old.compiled }
+        ensures outcome { IfOk result (IsOutcome self.new prefix.now fuel) }
+        ensures most { self.new.branches ≤ fuel ⊎ IsErrOf result SearchFault.Failed }
+        ensures failed { IsErrOf result SearchFault.Failed ↔ (self.old.failed ≡ true) }
+        ensures memory { IsErrOf result SearchFault.Memory → self.new.failed ≡ true }
+        ensures unchanged { IsErrOf result SearchFault.Failed → self.new ≡ self.old }
+        ensures moved { C.moves cites.old cites.new }
+    {
+        if self.failed {
+            return Err(SearchFault::Failed);
+        }
+        self.failed = true;
+        self.branches = 0;
+        self.path.choose_all(prefix)?;
+        let found = Vec::new(self.alloc);
+        let mut progress = Progress { fuel, found };
+        let walked = walk(self.alloc, &mut self.path, cites, &mut progress);
+        self.branches = fuel - progress.fuel;
+        let Some(tree) = walked? else {
+            return Ok(Outcome::GaveUp);
+        };
+        self.path.undo_all();
+        self.failed = false;
+        Ok(Outcome::Done {
+            tree,
+            found: progress.found,
+        })
+    }
+}
