@@ -1,10 +1,10 @@
 -- A parse that has no fault: each row has values, and they pass the parser of their argument.
-use Rattle.std.proofs.Common.{◌≡◌, ◌∙◌, ◌&&◌, ◌||◌, ◌<◌, ℕ, zero, suc, Bool, true, false, not, cond, List, [], ◌∷◌, ◌++◌, Option, Some, None, is_some, length, drop, refl, sym, subst, arith}
+use Rattle.std.proofs.Common.{◌≡◌, ◌∙◌, ◌&&◌, ◌||◌, ◌<◌, ℕ, zero, suc, Bool, true, false, not, cond, List, [], ◌∷◌, ◌++◌, Option, Some, None, is_some, length, drop, refl, sym, ap, subst, arith}
 use Rattle.std.specs.Prelude.{encode_utf8, slice_get, nat_lt, fold, find, option_and_then}
 use Rattle.std.specs.List.{AllByRecursion, list_any}
 use Rattle.std.specs.Option.{option_map_or}
 use Rattle.std.specs.Str.{bytes_eq, chars}
-use Rattle.std.proofs.lemmas.Bool.{ne_eqb}
+use Rattle.std.proofs.lemmas.Bool.{ne_eqb, or_left, or_right}
 use Rattle.std.proofs.lemmas.List.{length-append}
 use Rattle.std.proofs.lemmas.List.Folds.{list_all-append}
 use Rattle.std.proofs.lemmas.Slice.Eq.{bytes_eq-Decides}
@@ -348,10 +348,87 @@ given_when true true is none = refl
 given_when true false is none = absurd cc
 given_when false given is none = absurd cc
 
--- a required argument of a leaf has a first value, which passes
-pub required_given : (s : Shape) → AllByRecursion (IsValued s.rules) s.rules → s.subcommand_negates_reqs ≡ false → (words : List Text) → level_fault s [] nothing_held words false [] ≡ []
-    → (a : Rule) → arg_by_id s.rules a.id ≡ Some a → a.required ≡ true → (text : Text) × (first_of a.id (rows_after s.rules [] words) ≡ Some text) × (value_passes a text ≡ true)
-required_given s all strict words e a own required = go (find (λ r. bytes_eq r.id a.id) rows) refl given
+-- ---- what has a row
+
+module _ (id : Text) where
+  has_row_found : (rows : List Row) → has_row id rows ≡ true → (r : Row) × (find (λ r. bytes_eq r.id id) rows ≡ Some r)
+  has_row_found [] e = absurd cc
+  has_row_found (r ∷ rs) e = go (bytes_eq r.id id) e (has_row_found rs)
+    where
+      go : (b : Bool) → (b || has_row id rs) ≡ true → (has_row id rs ≡ true → (x : Row) × (find (λ r. bytes_eq r.id id) rs ≡ Some x)) → (x : Row) × (cond b (Some r) (find (λ r. bytes_eq r.id id) rs) ≡ Some x)
+      go true e later = (r, refl)
+      go false e later = later e
+
+  given_has_row : (rows : List Row) → is_given id rows ≡ true → has_row id rows ≡ true
+  given_has_row [] e = absurd cc
+  given_has_row (r ∷ rs) e = go (bytes_eq r.id id) e (given_has_row rs)
+    where
+      go : (b : Bool) → option_map_or (λ (x : Row). explicit_source x.source) (cond b (Some r) (find (λ r. bytes_eq r.id id) rs)) false ≡ true → (is_given id rs ≡ true → has_row id rs ≡ true) → (b || has_row id rs) ≡ true
+      go true e later = refl
+      go false e later = later e
+
+  or_later : (b x y : Bool) → (b || x) ≡ true → (x ≡ true → y ≡ true) → (b || y) ≡ true
+  or_later true x y e later = refl
+  or_later false x y e later = later e
+
+  with_values_keeps : (other : Text) (how : Reading) (s : ValueSource) (values : List Text) (rows : List Row) → has_row id rows ≡ true → has_row id (with_values other how s values rows) ≡ true
+  with_values_keeps other how s values [] e = absurd cc
+  with_values_keeps other how s values (r ∷ rs) e = go (bytes_eq r.id other) (with_values_keeps other how s values rs)
+    where
+      go : (b : Bool) → (has_row id rs ≡ true → has_row id (with_values other how s values rs) ≡ true) → has_row id (cond b (more_values s values r ++ rs) (r ∷ with_values other how s values rs)) ≡ true
+      go true later = e
+      go false later = or_later (bytes_eq r.id id) (has_row id rs) _ e later
+
+  with_values_own : (how : Reading) (s : ValueSource) (values : List Text) (rows : List Row) → has_row id (with_values id how s values rows) ≡ true
+  with_values_own how s values [] = or_left _ _ ((bytes_eq-Decides id id).1 refl)
+  with_values_own how s values (r ∷ rs) = go (bytes_eq r.id id) refl (with_values_own how s values rs)
+    where
+      go : (b : Bool) → bytes_eq r.id id ≡ b → has_row id (with_values id how s values rs) ≡ true → has_row id (cond b (more_values s values r ++ rs) (r ∷ with_values id how s values rs)) ≡ true
+      go true is later = or_left _ _ is
+      go false is later = or_right _ _ later
+
+  default_keeps : (a : Rule) (rows : List Row) → has_row id rows ≡ true → has_row id (with_default rows a) ≡ true
+  default_keeps a rows e = go (has_row a.id rows) a.defaults
+    where
+      go : (b : Bool) (values : List Text) → has_row id (cond b rows (default_rows a.id (reading_by a) values rows)) ≡ true
+      go true values = e
+      go false [] = e
+      go false (v ∷ vs) = with_values_keeps a.id _ _ (v ∷ vs) rows e
+
+  defaults_keep : (rules : List Rule) (rows : List Row) → has_row id rows ≡ true → has_row id (fold with_default rows rules) ≡ true
+  defaults_keep [] rows e = e
+  defaults_keep (a ∷ rules) rows e = defaults_keep rules (with_default rows a) (default_keeps a rows e)
+
+default_own : (a : Rule) (rows : List Row) → is_empty a.defaults ≡ false → has_row a.id (with_default rows a) ≡ true
+default_own a rows some = go (has_row a.id rows) refl a.defaults some
+  where
+    go : (b : Bool) → has_row a.id rows ≡ b → (values : List Text) → is_empty values ≡ false → has_row a.id (cond b rows (default_rows a.id (reading_by a) values rows)) ≡ true
+    go true is values some = is
+    go false is [] some = absurd cc
+    go false is (v ∷ vs) some = with_values_own a.id _ _ (v ∷ vs) rows
+
+-- an argument with a default has a row in the end
+defaults_own : (a : Rule) → is_empty a.defaults ≡ false → (rules : List Rule) (rows : List Row) → arg_by_id rules a.id ≡ Some a → has_row a.id (fold with_default rows rules) ≡ true
+defaults_own a some [] rows e = absurd cc
+defaults_own a some (b ∷ rules) rows e = go (bytes_eq b.id a.id) e (defaults_own a some rules (with_default rows b))
+  where
+    Has : Type 0
+    Has = has_row a.id (fold with_default (with_default rows b) rules) ≡ true
+
+    go : (t : Bool) → cond t (Some b) (arg_by_id rules a.id) ≡ Some a → (arg_by_id rules a.id ≡ Some a → Has) → Has
+    go true e later =
+        let same : a ≡ b = cc in
+        defaults_keep a.id rules (with_default rows b) (subst (λ r. has_row a.id (with_default rows r) ≡ true) same (default_own a rows some))
+    go false e later = later e
+
+-- the argument is required, or has a default
+abbrev pub is_always_given : Rule → Bool
+is_always_given a = a.required || not (is_empty a.defaults)
+
+-- an argument of a leaf that is required, or has a default, has a first value, which passes
+pub always_given : (s : Shape) → AllByRecursion (IsValued s.rules) s.rules → s.subcommand_negates_reqs ≡ false → (words : List Text) → level_fault s [] nothing_held words false [] ≡ []
+    → (a : Rule) → arg_by_id s.rules a.id ≡ Some a → is_always_given a ≡ true → (text : Text) × (first_of a.id (rows_after s.rules [] words) ≡ Some text) × (value_passes a text ≡ true)
+always_given s all strict words e a own always = let found = has_row_found a.id rows stands in go found.0 found.1
   where
     rows : List Row
     rows = rows_after s.rules [] words
@@ -363,23 +440,30 @@ required_given s all strict words e a own required = go (find (λ r. bytes_eq r.
     strictly true strict none = absurd cc
     strictly false strict none = none
 
-    given : is_given a.id rows ≡ true
-    given =
+    given : a.required ≡ true → is_given a.id rows ≡ true
+    given required =
         let missing : list_any (λ b. b.required && not (is_given b.id rows)) s.rules ≡ false = strictly s.subcommand_negates_reqs strict (none_missing _ _ _ ends.1) in
         given_when a.required (is_given a.id rows) required (found_not (λ b. b.required && not (is_given b.id rows)) _ s.rules missing a own)
 
-    first : (r : Row) (values : List Text) → values_pass a values ≡ true → 0 < length values → (text : Text) × (slice_get values 0 ≡ Some text) × (value_passes a text ≡ true)
-    first r [] pass some = absurd (omega arith)
-    first r (v ∷ vs) pass some = (v, refl, both (value_passes a v) pass)
+    stands : has_row a.id rows ≡ true
+    stands = by a.required refl (is_empty a.defaults) refl always
+      where
+        by : (required : Bool) → a.required ≡ required → (empty : Bool) → is_empty a.defaults ≡ empty → (required || not empty) ≡ true → has_row a.id rows ≡ true
+        by true is empty none any = given_has_row a.id rows (given is)
+        by false is false some any = defaults_own a some s.rules _ own
+        by false is true none any = absurd cc
+
+    first : (values : List Text) → values_pass a values ≡ true → 0 < length values → (text : Text) × (slice_get values 0 ≡ Some text) × (value_passes a text ≡ true)
+    first [] pass some = absurd (omega arith)
+    first (v ∷ vs) pass some = (v, refl, both (value_passes a v) pass)
       where
         both : (b : Bool) → (b && values_pass a vs) ≡ true → b ≡ true
         both true e = refl
         both false e = absurd cc
 
-    go : (o : Option Row) → find (λ r. bytes_eq r.id a.id) rows ≡ o → option_map_or (λ r. explicit_source r.source) o false ≡ true
-        → (text : Text) × (option_and_then (λ r. slice_get r.values 0) o ≡ Some text) × (value_passes a text ≡ true)
-    go None is given = absurd cc
-    go (Some r) is given =
+    go : (r : Row) → find (λ r. bytes_eq r.id a.id) rows ≡ Some r → (text : Text) × (first_of a.id rows ≡ Some text) × (value_passes a text ≡ true)
+    go r is =
         let found = found_has (IsFull s.rules) (λ r. bytes_eq r.id a.id) rows ends.0 r is in
         let same : r.id ≡ a.id = (bytes_eq-Decides r.id a.id).0 found.1 in
-        first r r.values (found.0.pass a (subst (λ id. arg_by_id s.rules id ≡ Some a) (sym same) own)) found.0.some
+        let value = first r.values (found.0.pass a (subst (λ id. arg_by_id s.rules id ≡ Some a) (sym same) own)) found.0.some in
+        (value.0, ap (option_and_then (λ (r : Row). slice_get r.values 0)) is ∙ value.1, value.2)

@@ -29,7 +29,7 @@ use Rattle.command_words.specs.Commands.{whole_app}
 use Rattle.command_words.specs.Orders.{HasFiles, HasNumber, HasText, IsFaultOf}
 use Rattle.command_words.specs.declared.faults.WordsFault.{WordsFault}
 use Rattle.command_words.specs.declared.faults.WordsFault.TheVariants.{Words, Memory}
-use Rattle.command_words.proofs.FaultlessWalk.{IsValued, found_has, none_of_both, puts_values, required_given}
+use Rattle.command_words.proofs.FaultlessWalk.{IsValued, always_given, found_has, is_always_given, none_of_both, puts_values}
 
 pub some_is : {A : Type 0} {x y : A} → Some x ≡ Some y → x ≡ y
 some_is e = cc
@@ -190,9 +190,9 @@ all_valued : (c rules : List Rule) → AllByRecursion (λ a. arg_by_id c a.id �
 all_valued c [] own puts = tt
 all_valued c (a ∷ rules) own puts = let parts = both_true _ _ puts in (record { own = own.0; puts = parts.0 }, all_valued c rules own.1 parts.1)
 
--- Each word that a command needs has a value, which passes its parser.
+-- Each word that a command needs, or has a default for, has a value, which passes its parser.
 abbrev pub HasNeeded : Shape → List Row → Type 0
-HasNeeded s rows = (a : Rule) → arg_by_id s.rules a.id ≡ Some a → a.required ≡ true → (text : Text) × (first_of a.id rows ≡ Some text) × (value_passes a text ≡ true)
+HasNeeded s rows = (a : Rule) → arg_by_id s.rules a.id ≡ Some a → is_always_given a ≡ true → (text : Text) × (first_of a.id rows ≡ Some text) × (value_passes a text ≡ true)
 
 -- the command of this name
 abbrev pub command_named : Text → Option Shape
@@ -245,7 +245,7 @@ usual_has s is usual word answers elsewhere words e = go (bytes_eq s.name (codes
           shape = s;
           is_named = is;
           no_help = λ same. true_is_false (sym ((bytes_eq-Decides s.name (codes "help")).1 same) ∙ other);
-          needed = λ a own required. required_given s valued (strict s.subcommand_negates_reqs rest.1) words e a own required;
+          needed = λ a own always. always_given s valued (strict s.subcommand_negates_reqs rest.1) words e a own always;
         }
 
 each_usual : (all subs : List Shape) → AllByRecursion (λ s. named (λ t. t.name) all s.name ≡ Some s) subs → list_all is_usual subs ≡ true
@@ -324,24 +324,24 @@ needed_at at name rows is same at_is = subst (λ s. HasNeeded s rows) (some_is (
 abbrev pub rule_at : Shape → ℕ → Rule
 rule_at s n = slice_index_or s.rules n (new_rule [])
 
--- a command needs the word
+-- a command needs the word, or has a default for it
 abbrev pub needs : Shape → Text → Bool
-needs s id = option_map_or (λ a. a.required) (arg_by_id s.rules id) false
+needs s id = option_map_or is_always_given (arg_by_id s.rules id) false
 
 pub has_text : (s : Shape) (rows : List Row) (id : Text) → HasNeeded s rows → needs s id ≡ true → HasText id rows
 has_text s rows id has wants = go (arg_by_id s.rules id) refl wants
   where
-    go : (o : Option Rule) → arg_by_id s.rules id ≡ o → option_map_or (λ a. a.required) o false ≡ true → HasText id rows
+    go : (o : Option Rule) → arg_by_id s.rules id ≡ o → option_map_or is_always_given o false ≡ true → HasText id rows
     go None is none = absurd cc
-    go (Some a) is required =
+    go (Some a) is always =
         let same = (bytes_eq-Decides a.id id).0 (found_passes (λ b. bytes_eq b.id id) s.rules a is) in
-        let given = has a (subst (λ t. arg_by_id s.rules t ≡ Some a) (sym same) is) required in
+        let given = has a (subst (λ t. arg_by_id s.rules t ≡ Some a) (sym same) is) always in
         (given.0, subst (λ t. first_of t rows ≡ Some given.0) same given.1)
 
--- a number that a command needs
-pub has_number : (s : Shape) (rows : List Row) (a : Rule) (least most : ℕ) → HasNeeded s rows → arg_by_id s.rules a.id ≡ Some a → a.required ≡ true → a.parser ≡ Some (parsers.Unsigned least most) → HasNumber a.id least most rows
-has_number s rows a least most has own required number =
-    let given = has a own required in
+-- a number that a command needs, or has a default for
+pub has_number : (s : Shape) (rows : List Row) (a : Rule) (least most : ℕ) → HasNeeded s rows → arg_by_id s.rules a.id ≡ Some a → is_always_given a ≡ true → a.parser ≡ Some (parsers.Unsigned least most) → HasNumber a.id least most rows
+has_number s rows a least most has own always number =
+    let given = has a own always in
     (given.0, given.1, read a.ignore_case a.parser given.0 number given.2)
   where
     read : (ignores : Bool) (parser : Option ValueParser) (text : Text) → parser ≡ Some (parsers.Unsigned least most) → accepts ignores (parser_of_value parser) text ≡ true → IsUnsignedIn least most text

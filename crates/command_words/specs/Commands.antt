@@ -1,5 +1,5 @@
 -- The program's commands, as `clap` reads them.
-use Rattle.std.specs.Prelude.{◌≡◌, ℕ, true, false, Some, codes}
+use Rattle.std.specs.Prelude.{◌≡◌, ℕ, true, false, [], ◌∷◌, Some, codes}
 use Rattle.clap.specs.Words.{App, Rule, Text, new_app, new_rule, with_rule, with_subcommand}
 use Rattle.clap.specs.Simple.{on_top}
 use Rattle.clap.specs.declared.builder.command.Command.{Command}
@@ -18,12 +18,20 @@ wanted id = record (new_rule id) { required = true }
 abbrev pub wanted_number : Text → ℕ → ℕ → Rule
 wanted_number id least most = record (wanted id) { parser = Some (parsers.Unsigned least most) }
 
+-- a number from `least` to `most` behind an option of this name, which is `default` where the option isn't given
+abbrev pub optional_number : Text → ℕ → ℕ → Text → Rule
+optional_number id least most default =
+    record (new_rule id) { long = Some id; parser = Some (parsers.Unsigned least most); value_names = 1; defaults = default ∷ [] }
+
 -- three files by their names
 abbrev pub with_files : App → App
 with_files app = with_rule (with_rule (with_rule app (wanted (codes "PUZZLE"))) (wanted (codes "LIST"))) (wanted (codes "CERTIFICATE"))
 
 abbrev pub check_app : App
 check_app = with_files (new_app (codes "check"))
+
+abbrev pub solve_app : App
+solve_app = with_rule (with_files (new_app (codes "solve"))) (optional_number (codes "fuel") 1 1000000 (codes "1000000"))
 
 abbrev pub expand_app : App
 expand_app = with_files (new_app (codes "expand"))
@@ -32,4 +40,6 @@ abbrev pub tiles_app : App
 tiles_app = with_rule (with_rule (new_app (codes "tiles")) (wanted_number (codes "SIDES") 3 4)) (wanted_number (codes "COLOURS") 1 36)
 
 abbrev pub whole_app : App
-whole_app = with_subcommand (with_subcommand (with_subcommand (on_top (λ s. record s { no_binary_name = true; has_version = true }) (new_app (codes "edgematch"))) check_app.top) expand_app.top) tiles_app.top
+whole_app =
+    let program = on_top (λ s. record s { no_binary_name = true; has_version = true }) (new_app (codes "edgematch")) in
+    with_subcommand (with_subcommand (with_subcommand (with_subcommand program check_app.top) solve_app.top) expand_app.top) tiles_app.top

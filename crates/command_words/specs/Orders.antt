@@ -9,7 +9,7 @@ use Rattle.command_words.specs.declared.faults.WordsFault.{WordsFault}
 use Rattle.command_words.specs.declared.faults.WordsFault.TheVariants.{Words, Memory}
 use Rattle.command_words.specs.declared.orders.Files.{Files}
 use Rattle.command_words.specs.declared.orders.Order.{Order}
-use Rattle.command_words.specs.declared.orders.Order.TheVariants.{Joined, Check, Expand, Tiles}
+use Rattle.command_words.specs.declared.orders.Order.TheVariants.{Joined, Check, Solve, Expand, Tiles}
 use Rattle.command_words.specs.Commands.{whole_app}
 
 -- the matches of a command have a text under this id
@@ -30,7 +30,7 @@ pub record NameFiles (rows : List Row) (files : Files) : Type 0 where
   pub list : first_of (codes "LIST") rows ≡ Some (string_bytes files.list)
   pub certificate : first_of (codes "CERTIFICATE") rows ≡ Some (string_bytes files.certificate)
 
--- the number that the matches of a command have under an id, a sign `+` before it or none
+-- the number that the matches of a command have under an id, a sign `+` before it or none; an option that isn't given has its default
 abbrev pub number_of : Text → List Row → Option ℕ
 number_of id rows = option_map (λ text. digits_value 10 (without_leading_plus text)) (first_of id rows)
 
@@ -38,6 +38,7 @@ number_of id rows = option_map (λ text. digits_value 10 (without_leading_plus t
 abbrev pub IsOrderOf : Option (Text × List Row) → Order → Type 0
 IsOrderOf None Joined = Unit {0}
 IsOrderOf (Some (name, rows)) (Check files) = (name ≡ codes "check") × NameFiles rows files
+IsOrderOf (Some (name, rows)) (Solve files fuel) = (name ≡ codes "solve") × NameFiles rows files × (number_of (codes "fuel") rows ≡ Some fuel)
 IsOrderOf (Some (name, rows)) (Expand files) = (name ≡ codes "expand") × NameFiles rows files
 IsOrderOf (Some (name, rows)) (Tiles sides colours) =
     (name ≡ codes "tiles") × (number_of (codes "SIDES") rows ≡ Some sides) × (number_of (codes "COLOURS") rows ≡ Some colours)
@@ -51,6 +52,7 @@ IsOrder words order = IsOrderOf (subcommand_of whole_app words) order
 abbrev pub IsInRange : Order → Type 0
 IsInRange Joined = Unit {0}
 IsInRange (Check files) = Unit {0}
+IsInRange (Solve files fuel) = (1 ≤ fuel) × (fuel ≤ 1000000)
 IsInRange (Expand files) = Unit {0}
 IsInRange (Tiles sides colours) = ((sides ≡ 3) ⊎ (sides ≡ 4)) × (1 ≤ colours) × (colours ≤ 36)
 

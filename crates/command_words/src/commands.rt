@@ -2,8 +2,9 @@
 
 ghost use Rattle.std.specs.Prelude.{◌≡◌, IfOk, false};
 ghost use Rattle.clap.specs.Words.{app_of, rule_of};
-ghost use Rattle.command_words.specs.Commands.{IsLocal, wanted, wanted_number, with_files};
-ghost use Rattle.command_words.specs.Commands.{check_app, expand_app, tiles_app, whole_app};
+ghost use Rattle.command_words.specs.Commands.{IsLocal, optional_number, wanted, wanted_number};
+ghost use Rattle.command_words.specs.Commands.{check_app, expand_app, solve_app, tiles_app};
+ghost use Rattle.command_words.specs.Commands.{whole_app, with_files};
 
 use clap::builder::ValueParser;
 use clap::{Arg, Command};
@@ -21,7 +22,8 @@ other, and checks them.
 Exit status:
   0  done; of a check, the list is complete
   1  the certificate does not show that the list is complete
-  2  anything else, which is said on standard error";
+  2  anything else, which is said on standard error
+  3  of solve, said there too: it gave up, or the puzzle is too large";
 
 const CHECKED: &str = "\
 Prints the answer in one line: complete, or refused and why.
@@ -30,6 +32,22 @@ Exit status:
   0  the list is complete
   1  the certificate does not show that the list is complete
   2  anything else, which is said on standard error";
+
+const SOLVED: &str = "\
+Makes LIST and CERTIFICATE anew, whatever they held: the list of the puzzle's arrangements, and \
+the certificate that there is no other, both as check reads them. Prints how many arrangements \
+were found, how many lemmas the certificate has, which of these each worker took, and the first \
+arrangement.
+
+The fuel is the most branch nodes that the search makes: cells or tiles at which it tries what \
+fits. Where the fuel runs out before the search is done, it says gave up, and nothing is written, \
+so that both files are empty. Then give more fuel, up to 1000000, or take a smaller puzzle. Where \
+it says too many options or too many arrangements, only a smaller puzzle helps.
+
+Exit status:
+  0  the list and the certificate are written
+  2  anything else, which is said on standard error
+  3  gave up, too many options, or too many arrangements, said there too";
 
 const EXPANDED: &str = "\
 Prints the list with the images of its arrangements under the symmetries of the certificate, or \
@@ -56,6 +74,26 @@ fn number<'a>(alloc: Global, id: &'a str, least: u64, most: u64, help: &'a str) 
     word(alloc, id, help).value_parser(ValueParser::unsigned(least, most))
 }
 
+// A number from `least` to `most` behind an option of this name, which is `default` where the option isn't given.
+fn optional_number<'a>(
+    alloc: Global,
+    id: &'a str,
+    least: u64,
+    most: u64,
+    default: &'a str,
+    help: &'a str,
+) -> Arg<'a>
+    ensures rule { rule_of result ≡ optional_number id.entry.now least most default.entry.now }
+    ensures local { result.global ≡ false }
+{
+    Arg::new(alloc, id)
+        .long(id)
+        .value_name("N")
+        .value_parser(ValueParser::unsigned(least, most))
+        .default_value(default)
+        .help(help)
+}
+
 // The command with three files by their names.
 fn of_files<'a>(alloc: Global, command: Command<'a>) -> Result<Command<'a>, AllocError>
     requires { IsLocal command }
@@ -77,6 +115,27 @@ fn check<'a>(alloc: Global) -> Result<Command<'a>, AllocError>
         .about("Checks that a list has every arrangement of a puzzle")
         .after_help(CHECKED);
     of_files(alloc, command)
+}
+
+fn solve<'a>(alloc: Global) -> Result<Command<'a>, AllocError>
+    ensures app { IfOk result (λ c. app_of c ≡ solve_app) }
+    ensures local { IfOk result IsLocal }
+{
+    let fuel = optional_number(
+        alloc,
+        "fuel",
+        1,
+        1_000_000,
+        "1000000",
+        "The most branch nodes that the search makes, 1 to 1000000",
+    );
+    let command = Command::new(alloc, "solve")
+        .about(
+            "Searches for every arrangement of a puzzle, and writes their list and a certificate",
+        )
+        .after_help(SOLVED);
+    let command = of_files(alloc, command)?.arg(fuel)?;
+    Ok(command)
 }
 
 fn expand<'a>(alloc: Global) -> Result<Command<'a>, AllocError>
@@ -115,15 +174,19 @@ pub fn program<'a>(alloc: Global) -> Result<Command<'a>, AllocError>
     ensures { IfOk result (λ c. app_of c ≡ whole_app) }
 {
     let check = check(alloc)?;
+    let solve = solve(alloc)?;
     let expand = expand(alloc)?;
     let tiles = tiles(alloc)?;
     let command = Command::new(alloc, NAME)
-        .about("Checks that lists of arrangements of edge-matching puzzles are complete")
+        .about(
+            "Finds the arrangements of edge-matching puzzles, and checks that lists of them are complete",
+        )
         .after_help(WITHOUT_COMMAND)
         .version(VERSION)
         .no_binary_name(true)
         .bin_name(NAME)?
         .subcommand(check)?
+        .subcommand(solve)?
         .subcommand(expand)?
         .subcommand(tiles)?;
     Ok(command)

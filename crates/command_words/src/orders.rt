@@ -15,6 +15,9 @@ pub enum Order {
     Joined,
     /// To check the documents in these files.
     Check(Files),
+    /// To search for all arrangements of the puzzle in its file, by at most `fuel` branch nodes, 1 to
+    /// 1,000,000, and to make the files of their list and of a certificate.
+    Solve { files: Files, fuel: u32 },
     /// To check the documents in these files, and to print all arrangements.
     Expand(Files),
     /// To list the tiles of so many sides, 3 or 4, and colours, 1 to 36.

@@ -25,17 +25,25 @@ fn text(alloc: Global, matches: &ArgMatches<'_>, id: &str) -> Result<String, All
 }
 
 // The number under this id.
-fn number(matches: &ArgMatches<'_>, id: &str) -> u8
-    requires { HasNumber id.now 0 255 (rows_of (found_of matches.now)) }
+fn number(matches: &ArgMatches<'_>, id: &str) -> u32
+    requires { HasNumber id.now 0 1000000 (rows_of (found_of matches.now)) }
     ensures { number_of id.now (rows_of (found_of matches.now)) ≡ Some result }
 {
     let Some(text) = matches.get_str(id) else {
         unreachable!();
     };
-    let Ok(number) = text.parse::<u8>() else {
+    let Ok(number) = text.parse::<u32>() else {
         unreachable!();
     };
     number
+}
+
+// The number under this id, which is small.
+fn small_number(matches: &ArgMatches<'_>, id: &str) -> u8
+    requires { HasNumber id.now 0 255 (rows_of (found_of matches.now)) }
+    ensures { number_of id.now (rows_of (found_of matches.now)) ≡ Some result }
+{
+    number(matches, id) as u8
 }
 
 fn files(alloc: Global, matches: &ArgMatches<'_>) -> Result<Files, AllocError>
@@ -52,6 +60,19 @@ fn files(alloc: Global, matches: &ArgMatches<'_>) -> Result<Files, AllocError>
     })
 }
 
+fn solve(alloc: Global, matches: &ArgMatches<'_>) -> Result<Order, AllocError>
+    requires files { HasFiles (rows_of (found_of matches.now)) }
+    requires fuel { HasNumber (codes "fuel") 1 1000000 (rows_of (found_of matches.now)) }
+    ensures order { IfOk result (IsOrderOf (Some (codes "solve", rows_of (found_of matches.now)))) }
+    ensures range { IfOk result IsInRange }
+{
+    let files = files(alloc, matches)?;
+    Ok(Order::Solve {
+        files,
+        fuel: number(matches, "fuel"),
+    })
+}
+
 fn tiles(matches: &ArgMatches<'_>) -> Order
     requires sides { HasNumber (codes "SIDES") 3 4 (rows_of (found_of matches.now)) }
     requires colours { HasNumber (codes "COLOURS") 1 36 (rows_of (found_of matches.now)) }
@@ -59,8 +80,8 @@ fn tiles(matches: &ArgMatches<'_>) -> Order
     ensures range { IsInRange result }
 {
     Order::Tiles {
-        sides: number(matches, "SIDES"),
-        colours: number(matches, "COLOURS"),
+        sides: small_number(matches, "SIDES"),
+        colours: small_number(matches, "COLOURS"),
     }
 }
 
@@ -83,6 +104,7 @@ pub fn order(alloc: Global, words: &[String]) -> Result<Order, WordsFault>
     };
     match name {
         "check" => Ok(Order::Check(files(alloc, matches)?)),
+        "solve" => Ok(solve(alloc, matches)?),
         "expand" => Ok(Order::Expand(files(alloc, matches)?)),
         "tiles" => Ok(tiles(matches)),
         // `clap` answers the words of `help` itself, by an error.

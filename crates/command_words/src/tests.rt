@@ -62,18 +62,118 @@ fn refuses_wrong_words(rt: HostRuntime) -> Result<(), Fail> {
     Ok(())
 }
 
+// What words that search with the files p, l and c order, with these words behind them.
+fn search(alloc: Global, texts: &[&str]) -> Result<Order, Fail> {
+    let mut all = words(alloc, &["solve", "p", "l", "c"])?;
+    for text in texts {
+        all.push(String::from_str(alloc, text)?)?;
+    }
+    Ok(order(alloc, &all)?)
+}
+
+// The order to search with the files p, l and c.
+fn with_fuel(alloc: Global, fuel: u32) -> Result<Order, AllocError> {
+    let files = Files {
+        puzzle: String::from_str(alloc, "p")?,
+        list: String::from_str(alloc, "l")?,
+        certificate: String::from_str(alloc, "c")?,
+    };
+    Ok(Order::Solve { files, fuel })
+}
+
+#[test]
+fn takes_the_fuel(rt: HostRuntime) -> Result<(), Fail> {
+    let alloc = rt.alloc();
+    assert!(rt; search(alloc, &[])? == with_fuel(alloc, 1_000_000)?);
+    assert!(rt; search(alloc, &["--fuel", "1"])? == with_fuel(alloc, 1)?);
+    assert!(rt; search(alloc, &["--fuel=1000000"])? == with_fuel(alloc, 1_000_000)?);
+    let before = order(
+        alloc,
+        &words(alloc, &["solve", "--fuel", "256", "p", "l", "c"])?,
+    )?;
+    assert!(rt; before == with_fuel(alloc, 256)?);
+    Ok(())
+}
+
+#[test]
+fn refuses_a_wrong_search(rt: HostRuntime) -> Result<(), Fail> {
+    let (text, on_errors) = refusal(rt.alloc(), &["solve", "p", "l", "c", "--fuel", "0"])?;
+    assert_eq!(rt;
+        text.as_str(),
+        "error: invalid value '0' for '--fuel <N>': 0 is not in 1..=1000000\n\nFor more information, try '--help'.\n"
+    );
+    assert!(rt; on_errors);
+    let (text, _) = refusal(rt.alloc(), &["solve", "p", "l", "c", "--fuel", "1000001"])?;
+    assert_eq!(rt;
+        text.as_str(),
+        "error: invalid value '1000001' for '--fuel <N>': 1000001 is not in 1..=1000000\n\nFor more information, try '--help'.\n"
+    );
+    let (text, _) = refusal(rt.alloc(), &["solve", "p", "l", "c", "--fuel", "x"])?;
+    assert_eq!(rt;
+        text.as_str(),
+        "error: invalid value 'x' for '--fuel <N>': invalid digit found in string\n\nFor more information, try '--help'.\n"
+    );
+    let (text, on_errors) = refusal(rt.alloc(), &["solve", "p", "l"])?;
+    assert_eq!(rt;
+        text.as_str(),
+        "error: the following required arguments were not provided:\n  <CERTIFICATE>\n\nUsage: edgematch solve <PUZZLE> <LIST> <CERTIFICATE>\n\nFor more information, try '--help'.\n"
+    );
+    assert!(rt; on_errors);
+    Ok(())
+}
+
+#[test]
+fn explains_the_search(rt: HostRuntime) -> Result<(), Fail> {
+    let (text, on_errors) = refusal(rt.alloc(), &["solve", "--help"])?;
+    assert_eq!(rt;
+        text.as_str(),
+        "\
+Searches for every arrangement of a puzzle, and writes their list and a certificate
+
+Usage: edgematch solve [OPTIONS] <PUZZLE> <LIST> <CERTIFICATE>
+
+Arguments:
+  <PUZZLE>       File of the puzzle
+  <LIST>         File of the list of arrangements
+  <CERTIFICATE>  File of the certificate
+
+Options:
+      --fuel <N>  The most branch nodes that the search makes, 1 to 1000000 [default: 1000000]
+  -h, --help      Print help
+
+Makes LIST and CERTIFICATE anew, whatever they held: the list of the puzzle's arrangements, and \
+the certificate that there is no other, both as check reads them. Prints how many arrangements \
+were found, how many lemmas the certificate has, which of these each worker took, and the first \
+arrangement.
+
+The fuel is the most branch nodes that the search makes: cells or tiles at which it tries what \
+fits. Where the fuel runs out before the search is done, it says gave up, and nothing is written, \
+so that both files are empty. Then give more fuel, up to 1000000, or take a smaller puzzle. Where \
+it says too many options or too many arrangements, only a smaller puzzle helps.
+
+Exit status:
+  0  the list and the certificate are written
+  2  anything else, which is said on standard error
+  3  gave up, too many options, or too many arrangements, said there too
+"
+    );
+    assert!(rt; !on_errors);
+    Ok(())
+}
+
 #[test]
 fn explains_the_commands(rt: HostRuntime) -> Result<(), Fail> {
     let (text, on_errors) = refusal(rt.alloc(), &["--help"])?;
     assert_eq!(rt;
         text.as_str(),
         "\
-Checks that lists of arrangements of edge-matching puzzles are complete
+Finds the arrangements of edge-matching puzzles, and checks that lists of them are complete
 
 Usage: edgematch [COMMAND]
 
 Commands:
   check   Checks that a list has every arrangement of a puzzle
+  solve   Searches for every arrangement of a puzzle, and writes their list and a certificate
   expand  Checks a list, and prints every arrangement of the puzzle
   tiles   Lists the tiles with so many sides and colours, one of those that turn into each other
   help    Print this message or the help of the given subcommand(s)
@@ -89,6 +189,7 @@ Exit status:
   0  done; of a check, the list is complete
   1  the certificate does not show that the list is complete
   2  anything else, which is said on standard error
+  3  of solve, said there too: it gave up, or the puzzle is too large
 "
     );
     assert!(rt; !on_errors);

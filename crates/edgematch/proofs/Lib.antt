@@ -2,3 +2,4 @@ pub mod CutLemmas
 pub mod StreamLemmas
 pub mod RepetitionLemmas
 pub mod RunLemmas
+pub mod SolvingLemmas

@@ -69,6 +69,10 @@ row_within p a puzzle is = (
       (omega (arith, legal.tile, puzzle.tiles, puzzle.board.1), omega (arith, small_turn p x puzzle legal))),
 )
 
+-- arrangements that are few enough have a spelling
+pub arrangements_within : (p : Task) (listed : List (List Placement)) → IsPuzzle p → ((a : List Placement) → Contains listed a → IsArrangement p a) → length listed ≤ MOST_ARRANGEMENTS → IsListWithin listed
+arrangements_within p listed puzzle are few = (few, all_by_place IsRowWithin listed (λ i a at. row_within p a puzzle (are a (contains_at listed i a at))))
+
 -- the lines of the symmetries with these lines
 lines_of : (p : Task) (lines : List SymmetryLine) → map line_of (map (motion_of p) lines) ≡ lines
 lines_of p [] = refl
@@ -121,7 +125,7 @@ module _ (p : Task) (listed : List (List Placement)) (lines : List SymmetryLine)
     are_arrangements a among = reached_is p lines listed puzzle complete.symmetries listed_are a ((all_reached.just a).0 among)
 
     pub all_within : length all ≤ MOST_ARRANGEMENTS → IsListWithin all
-    all_within few = (few, all_by_place IsRowWithin all (λ i a at. row_within p a puzzle (are_arrangements a (contains_at all i a at))))
+    all_within few = arrangements_within p all puzzle are_arrangements few
 
     pub all_in_order : (lemmas : List Piece) → AreAllInOrder (record { puzzle = p; listed = listed; symmetries = lines; lemmas = lemmas }) all
     all_in_order lemmas = record {

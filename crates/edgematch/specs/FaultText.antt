@@ -21,8 +21,12 @@ use Rattle.cert_tree.specs.declared.faults.CertTextFault.{CertTextFault}
 use Rattle.cert_tree.specs.declared.faults.CertTextFault.TheVariants as cert_text
 use Rattle.match_report.specs.declared.expansions.ExpandFault.{ExpandFault}
 use Rattle.match_report.specs.declared.expansions.ExpandFault.TheVariants as expansions
+use Rattle.xcc_form.specs.declared.faults.CompileFault.{CompileFault}
+use Rattle.xcc_form.specs.declared.faults.CompileFault.TheVariants as compilations
+use Rattle.edgematch.specs.declared.faults.SolveFault.{SolveFault}
+use Rattle.edgematch.specs.declared.faults.SolveFault.TheVariants as solves
 use Rattle.edgematch.specs.declared.faults.RunFault.{RunFault}
-use Rattle.edgematch.specs.declared.faults.RunFault.TheVariants.{Read, TooLong, Puzzle, List as Listing, Certificate, Expand, Tiles, Write, Memory}
+use Rattle.edgematch.specs.declared.faults.RunFault.TheVariants.{Read, TooLong, Puzzle, List as Listing, Certificate, Solve, Expand, Tiles, Write, Memory}
 use Rattle.match_report.specs.Line.{line_text, label}
 
 -- ---- want of memory, wherever it was met
@@ -41,6 +45,16 @@ abbrev pub run_of_certificate : CertTextFault → RunFault
 run_of_certificate (cert_text.Text fault) = Certificate (cert_text.Text fault)
 run_of_certificate (cert_text.Assemble fault) = Certificate (cert_text.Assemble fault)
 run_of_certificate cert_text.Memory = Memory
+
+abbrev pub solve_of_compile : CompileFault → SolveFault
+solve_of_compile compilations.TooMany = solves.TooMany
+solve_of_compile compilations.Memory = solves.Memory
+
+abbrev pub run_of_solve : SolveFault → RunFault
+run_of_solve solves.GaveUp = Solve solves.GaveUp
+run_of_solve solves.TooMany = Solve solves.TooMany
+run_of_solve solves.Full = Solve solves.Full
+run_of_solve solves.Memory = Memory
 
 abbrev pub run_of_expand : ExpandFault → RunFault
 run_of_expand expansions.TooMany = Expand
@@ -107,6 +121,12 @@ cert_text_fault_words (cert_text.Text fault) = text_fault_words documents.Certif
 cert_text_fault_words (cert_text.Assemble fault) = assemble_fault_words fault
 cert_text_fault_words cert_text.Memory = memory_words
 
+unfoldable pub solve_fault_words : SolveFault → List (List ℕ)
+solve_fault_words solves.GaveUp = codes "gave" ∷ codes "up" ∷ []
+solve_fault_words solves.TooMany = codes "too" ∷ codes "many" ∷ codes "options" ∷ []
+solve_fault_words solves.Full = codes "too" ∷ codes "many" ∷ codes "arrangements" ∷ []
+solve_fault_words solves.Memory = memory_words
+
 -- the line of a fault
 unfoldable pub fault_line : RunFault → List ℕ
 fault_line (Read document) = line_text (codes "cannot" ∷ codes "read" ∷ document_word document ∷ [])
@@ -114,6 +134,7 @@ fault_line (TooLong document) = line_text (codes "too" ∷ codes "long" ∷ docu
 fault_line (Puzzle fault) = line_text (puzzle_text_fault_words fault)
 fault_line (Listing fault) = line_text (list_text_fault_words fault)
 fault_line (Certificate fault) = line_text (cert_text_fault_words fault)
+fault_line (Solve fault) = line_text (solve_fault_words fault)
 fault_line Expand = line_text (codes "too" ∷ codes "many" ∷ codes "expanded" ∷ [])
 fault_line Tiles = line_text (codes "too" ∷ codes "many" ∷ codes "tiles" ∷ [])
 fault_line Write = line_text (codes "cannot" ∷ codes "write" ∷ [])

@@ -3,3 +3,4 @@ pub mod Moves
 pub mod Documents
 pub mod FaultText
 pub mod Runs
+pub mod Solving

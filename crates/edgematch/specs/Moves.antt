@@ -59,8 +59,10 @@ writing_of sink old new = record {
 abbrev pub WritesWhole : Writing → (List ℕ → Type 0) → Type 0
 WritesWhole sink Is = (text : List ℕ) × Is text × Appends sink.before sink.after text
 
--- a front of a text that is so was written, until the sink answered an error or took nothing
+-- a front of the text was written, until the sink answered an error or took nothing
+abbrev pub FrontOf : Writing → (text : List ℕ) → Type 0
+FrontOf sink text = AppendsFront sink.before sink.after text × ((sink.errors_after ≡ sink.errors_before + 1) ⊎ (sink.idle ≡ true))
+
+-- a front of a text that is so
 abbrev pub WritesFront : Writing → (List ℕ → Type 0) → Type 0
-WritesFront sink Is =
-    (text : List ℕ) × Is text × AppendsFront sink.before sink.after text
-    × ((sink.errors_after ≡ sink.errors_before + 1) ⊎ (sink.idle ≡ true))
+WritesFront sink Is = (text : List ℕ) × Is text × FrontOf sink text

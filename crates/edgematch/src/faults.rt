@@ -7,7 +7,8 @@ ghost use Rattle.edgematch.specs.FaultText.{text_fault_words, puzzle_fault_words
 ghost use Rattle.edgematch.specs.FaultText.{list_text_fault_words, assemble_fault_words, cert_text_fault_words};
 ghost use Rattle.edgematch.specs.declared.faults.RunFault.TheVariants as run_fault;
 ghost use Rattle.edgematch.specs.FaultText.{run_of_puzzle, run_of_list, run_of_certificate};
-ghost use Rattle.edgematch.specs.FaultText.{run_of_expand, run_of_tiles};
+ghost use Rattle.edgematch.specs.FaultText.{run_of_expand, run_of_solve, run_of_tiles, solve_of_compile, solve_fault_words};
+ghost use Rattle.edgematch.specs.declared.faults.SolveFault.TheVariants as solve_fault;
 
 use cert_tree::{AssembleFault, CertTextFault};
 use match_board::{BoardFault, TilesFault};
@@ -15,6 +16,7 @@ use match_puzzle::PuzzleFault;
 use match_report::{ExpandFault, Line};
 use match_text::{ListTextFault, PuzzleTextFault, TextFault, TextKind};
 use std::alloc::{AllocError, Global};
+use xcc_form::CompileFault;
 
 /// What a run reads.
 #[derive(Clone, Copy, PartialEq, Eq, Debug)]
@@ -24,6 +26,37 @@ pub enum Document {
     Certificate,
     /// The three joined.
     Input,
+}
+
+/// Why a puzzle was not solved.
+#[derive(Clone, Copy, PartialEq, Eq, Debug)]
+pub enum SolveFault {
+    /// The fuel was spent before the search was done.
+    GaveUp,
+    /// The puzzle has more options than are searched.
+    TooMany,
+    /// More arrangements were found than are listed.
+    Full,
+    Memory,
+}
+
+impl From<CompileFault> for SolveFault {
+    ghost from_gives = { λ fault e. e ≡ solve_of_compile fault };
+
+    fn from(fault: CompileFault) -> SolveFault {
+        match fault {
+            CompileFault::TooMany => SolveFault::TooMany,
+            CompileFault::Memory => SolveFault::Memory,
+        }
+    }
+}
+
+impl From<AllocError> for SolveFault {
+    ghost from_gives = { λ _ e. e ≡ solve_fault.Memory };
+
+    fn from(_error: AllocError) -> SolveFault {
+        SolveFault::Memory
+    }
 }
 
 /// Why a run stopped.
@@ -36,6 +69,8 @@ pub enum RunFault {
     Puzzle(PuzzleTextFault),
     List(ListTextFault),
     Certificate(CertTextFault),
+    /// The puzzle was not solved.
+    Solve(SolveFault),
     /// More arrangements are reached than are listed.
     Expand,
     /// There are more tiles than are listed.
@@ -74,6 +109,17 @@ impl From<CertTextFault> for RunFault {
         match fault {
             CertTextFault::Memory => RunFault::Memory,
             fault => RunFault::Certificate(fault),
+        }
+    }
+}
+
+impl From<SolveFault> for RunFault {
+    ghost from_gives = { λ fault e. e ≡ run_of_solve fault };
+
+    fn from(fault: SolveFault) -> RunFault {
+        match fault {
+            SolveFault::Memory => RunFault::Memory,
+            fault => RunFault::Solve(fault),
         }
     }
 }
@@ -151,6 +197,16 @@ fn board_fault_name(fault: BoardFault) -> &'static [u8]
         BoardFault::Empty => b"empty",
         BoardFault::TooLarge => b"too-large",
     }
+}
+
+// A line of two words.
+#[tactic(auto, using(match_report::proofs::LineLemmas::line_laws))]
+fn two_words_line(alloc: Global, first: &[u8], second: &[u8]) -> Result<Vec<u8>, AllocError>
+    ensures { IfOk result (λ text. text.items ≡ line_text (first.now ∷ second.now ∷ [])) }
+{
+    let mut line = Line::new(alloc, first)?;
+    line.word(second)?;
+    line.end()
 }
 
 // A line of three words.
@@ -280,13 +336,16 @@ fn cert_text_fault_line(alloc: Global, fault: &CertTextFault) -> Result<Vec<u8>,
     }
 }
 
-#[tactic(auto, using(match_report::proofs::LineLemmas::line_laws))]
-fn write_fault_line(alloc: Global) -> Result<Vec<u8>, AllocError>
-    ensures { IfOk result (λ text. text.items ≡ line_text (codes "cannot" ∷ codes "write" ∷ [])) }
+#[tactic(auto, unfolding(crate::specs::FaultText::solve_fault_words))]
+fn solve_fault_line(alloc: Global, fault: &SolveFault) -> Result<Vec<u8>, AllocError>
+    ensures { IfOk result (λ text. text.items ≡ line_text (solve_fault_words fault.now)) }
 {
-    let mut line = Line::new(alloc, b"cannot")?;
-    line.word(b"write")?;
-    line.end()
+    match fault {
+        SolveFault::GaveUp => two_words_line(alloc, b"gave", b"up"),
+        SolveFault::TooMany => words_line(alloc, b"too", b"many", b"options"),
+        SolveFault::Full => words_line(alloc, b"too", b"many", b"arrangements"),
+        SolveFault::Memory => memory_line(alloc),
+    }
 }
 
 /// The line that says why a run stopped.
@@ -304,9 +363,10 @@ pub fn fault_text(alloc: Global, fault: &RunFault) -> Result<Vec<u8>, AllocError
         RunFault::Puzzle(fault) => puzzle_text_fault_line(alloc, fault),
         RunFault::List(fault) => list_text_fault_line(alloc, fault),
         RunFault::Certificate(fault) => cert_text_fault_line(alloc, fault),
+        RunFault::Solve(fault) => solve_fault_line(alloc, fault),
         RunFault::Expand => words_line(alloc, b"too", b"many", b"expanded"),
         RunFault::Tiles => words_line(alloc, b"too", b"many", b"tiles"),
-        RunFault::Write => write_fault_line(alloc),
+        RunFault::Write => two_words_line(alloc, b"cannot", b"write"),
         RunFault::Memory => memory_line(alloc),
     }
 }

@@ -1,5 +1,7 @@
-//! Checks edge-matching puzzles: whether a list of arrangements is complete, by a certificate.
+//! Solves edge-matching puzzles, and checks whether a list of arrangements is complete, by a certificate.
 #![tactic(auto)]
+
+ghost use Rattle.std.specs.Prelude.{◌≤◌};
 
 mod expansion_runs;
 mod faults;
@@ -7,13 +9,16 @@ mod files;
 mod questions;
 mod repetitions;
 mod runs;
+mod solve_runs;
+mod solving;
 mod streams;
 mod tile_runs;
 
 use crate::expansion_runs::run_expand;
 use crate::faults::{Document, RunFault, fault_text};
-use crate::files::open;
+use crate::files::{have_different_names, make, open};
 use crate::runs::{Status, run_check, run_joined};
+use crate::solve_runs::run_solve;
 use crate::streams::systems::{Input, Output};
 use crate::tile_runs::run_tiles;
 use command_words::{Files, Order, WordsFault, order};
@@ -23,6 +28,9 @@ use std::{env, io};
 
 // What is neither an answer nor a fault of the documents that a solver makes.
 const OTHER: u8 = 2;
+
+// The puzzle was not solved.
+const UNSOLVED: u8 = 3;
 
 fn main(rt: HostRuntime) -> ExitCode {
     let words = match words(&rt) {
@@ -36,6 +44,10 @@ fn main(rt: HostRuntime) -> ExitCode {
             checked(&rt, run_joined(rt.alloc(), &mut reader, 1, 0, &mut writer))
         }
         Ok(Order::Check(files)) => checked(&rt, check(&rt, &files)),
+        Ok(Order::Solve { files, fuel }) => match solve(&rt, &files, fuel) {
+            Ok(()) => ExitCode::SUCCESS,
+            Err(fault) => stopped(&rt, &fault),
+        },
         Ok(Order::Expand(files)) => checked(&rt, expand(&rt, &files)),
         Ok(Order::Tiles { sides, colours }) => {
             let mut writer = Output::new(rt.stdout());
@@ -72,6 +84,29 @@ fn check(rt: &HostRuntime, files: &Files) -> Result<Status, RunFault> {
     )
 }
 
+// Opens the puzzle's file and makes the others before anything is read. A file that has the name of another is not made.
+fn solve(rt: &HostRuntime, files: &Files, fuel: u32) -> Result<(), RunFault>
+    requires { (1 ≤ fuel) × (fuel ≤ 1000000) }
+{
+    let mut puzzle = open(rt, &files.puzzle, Document::Puzzle)?;
+    if !have_different_names(&files.puzzle, &files.list, &files.certificate) {
+        return Err(RunFault::Write);
+    }
+    let mut list = make(rt, &files.list)?;
+    let mut certificate = make(rt, &files.certificate)?;
+    let mut writer = Output::new(rt.stdout());
+    run_solve(
+        rt.alloc(),
+        &mut puzzle,
+        0,
+        fuel,
+        1,
+        &mut list,
+        &mut certificate,
+        &mut writer,
+    )
+}
+
 // The same, and prints all arrangements.
 fn expand(rt: &HostRuntime, files: &Files) -> Result<Status, RunFault> {
     let mut puzzle = open(rt, &files.puzzle, Document::Puzzle)?;
@@ -96,6 +131,14 @@ fn checked(rt: &HostRuntime, status: Result<Status, RunFault>) -> ExitCode {
     }
 }
 
+// The status of a fault: that the puzzle was not solved is told apart.
+fn status_code(fault: &RunFault) -> u8 {
+    match fault {
+        RunFault::Solve(_) => UNSOLVED,
+        _ => OTHER,
+    }
+}
+
 // Says why a run stopped, in one line on standard error. Where that can't be written, nothing can
 // be said.
 fn stopped(rt: &HostRuntime, fault: &RunFault) -> ExitCode {
@@ -104,7 +147,7 @@ fn stopped(rt: &HostRuntime, fault: &RunFault) -> ExitCode {
         Ok(text) => errors.write_all(&text),
         Err(_) => errors.write_all(b"out of memory\n"),
     };
-    ExitCode::from(OTHER)
+    ExitCode::from(status_code(fault))
 }
 
 // Prints help or the version where it was asked for, else what is wrong with the words.

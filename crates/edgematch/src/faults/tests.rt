@@ -1,4 +1,6 @@
-use super::{CertTextFault, Document, ListTextFault, PuzzleTextFault, RunFault, fault_text};
+use super::{
+    CertTextFault, Document, ListTextFault, PuzzleTextFault, RunFault, SolveFault, fault_text,
+};
 use match_board::BoardFault;
 use match_puzzle::PuzzleFault;
 use match_text::{TextFault, TextKind};
@@ -42,6 +44,15 @@ fn prints_faults(rt: HostRuntime) -> Result<(), Fail> {
         (
             RunFault::Certificate(CertTextFault::Text(fault)),
             b"certificate: line 4: too-deep\n".as_slice(),
+        ),
+        (RunFault::Solve(SolveFault::GaveUp), b"gave up\n".as_slice()),
+        (
+            RunFault::Solve(SolveFault::TooMany),
+            b"too many options\n".as_slice(),
+        ),
+        (
+            RunFault::Solve(SolveFault::Full),
+            b"too many arrangements\n".as_slice(),
         ),
         (RunFault::Write, b"cannot write\n".as_slice()),
         (RunFault::Memory, b"out of memory\n".as_slice()),

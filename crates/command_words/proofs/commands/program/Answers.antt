@@ -16,5 +16,6 @@ returns c =
     ap app_of_fields c.in_ok-bin_name.ensures.0 ∙ ap app_of_fields c.no_binary_name.ensures ∙ ap nameless (ap app_of_fields c.version.ensures ∙ ap versioned (ap app_of_fields c.after_help.ensures ∙ ap app_of_fields c.about.ensures)) in
     let with_check = c.in_ok-subcommand.ensures.shape c.in_ok-check.ensures.local
     ∙ ap₂ with_subcommand (top ∙ ap (λ (a : App). nameless (versioned a)) c.new.ensures.app) (ap (λ (a : App). a.top) c.in_ok-check.ensures.app) in
-    let with_expand = c.in_ok-subcommand-2.ensures.shape c.in_ok-expand.ensures.local ∙ ap₂ with_subcommand with_check (ap (λ (a : App). a.top) c.in_ok-expand.ensures.app) in
+    let with_solve = c.in_ok-subcommand-2.ensures.shape c.in_ok-solve.ensures.local ∙ ap₂ with_subcommand with_check (ap (λ (a : App). a.top) c.in_ok-solve.ensures.app) in
+    let with_expand = c.in_ok-subcommand-3.ensures.shape c.in_ok-expand.ensures.local ∙ ap₂ with_subcommand with_solve (ap (λ (a : App). a.top) c.in_ok-expand.ensures.app) in
     c.in_ok-command.ensures.shape c.in_ok-tiles.ensures.local ∙ ap₂ with_subcommand with_expand (ap (λ (a : App). a.top) c.in_ok-tiles.ensures.app)

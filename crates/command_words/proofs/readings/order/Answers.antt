@@ -27,6 +27,12 @@ needed c name is = needed_at name c.in-Some.name.now (rows_of (found_of c.in-Som
 pub files-requires : goal.files-requires
 files-requires c = has_files (command_at (codes "check")) (rows_of (found_of c.in-Some.matches.now)) (needed (goal.at.files-requires c).In-Some (codes "check") (search rules) refl) refl refl refl
 
+pub solve-requires-clause-files : goal.solve-requires-clause-files
+solve-requires-clause-files c = has_files (command_at (codes "solve")) (rows_of (found_of c.in-Some.matches.now)) (needed (goal.at.solve-requires-clause-files c).In-Some (codes "solve") (search rules) refl) refl refl refl
+
+pub solve-requires-clause-fuel : goal.solve-requires-clause-fuel
+solve-requires-clause-fuel c = has_number (command_at (codes "solve")) (rows_of (found_of c.in-Some.matches.now)) (rule_at (command_at (codes "solve")) 3) 1 1000000 (needed (goal.at.solve-requires-clause-fuel c).In-Some (codes "solve") (search rules) refl) refl refl refl
+
 pub files-requires-in-expand : goal.files-requires-in-expand
 files-requires-in-expand c = has_files (command_at (codes "expand")) (rows_of (found_of c.in-Some.matches.now)) (needed (goal.at.files-requires-in-expand c).In-Some (codes "expand") (search rules) refl) refl refl refl
 
@@ -40,4 +46,4 @@ pub unreachable-requires : goal.unreachable-requires
 unreachable-requires c =
     let own = entered (goal.at.unreachable-requires c).In-Some in
     let other : (name : Text) → c.in-Some.name.now ≢ name → bytes_eq name c.in-Some.name.now ≡ false = differs c.in-Some.name.now in
-    none_is_some (rw (other (codes "check") (search rules), other (codes "expand") (search rules), other (codes "tiles") (search rules), other (codes "help") own.no_help) at own.is_named)
+    none_is_some (rw (other (codes "check") (search rules), other (codes "solve") (search rules), other (codes "expand") (search rules), other (codes "tiles") (search rules), other (codes "help") own.no_help) at own.is_named)

@@ -31,4 +31,4 @@ returns-clause-write g c = λ _.
     let many : c.len.result ≡ length q.listed.items = omega (arith, c.len.ensures) in
     let text = c.in_ok-text.text.items in
     let written = subst (AppendsFront (g.W.Sink.written c.args.writer.now) (g.W.Sink.written c.write_whole.new.writer)) c.deref-2.ensures.value c.in-Err.ensures.front in
-    (text, (status_of outcome.answer, (outcome, (question_of q.puzzle q.listed.items q.certificate, c.in_ok-question.ensures.question, answered, many), c.in_ok-text.ensures, refl)), written, c.in-Err.ensures.why)
+    (text, (status_of outcome.answer, (outcome, (question_of q.puzzle q.listed.items q.certificate, c.in_ok-question.ensures.question, answered, many), c.in_ok-text.ensures, refl)), (written, c.in-Err.ensures.why))

@@ -12,4 +12,4 @@ returns-clause-write g c = λ _.
     let few : length (map word tiles) ≤ MOST_CLASSES = simp length-map (omega (arith, c.in_ok-tiles.ensures.few, c.in_ok-tiles.tiles.ok.0)) in
     let same = c.in_ok-text.ensures ∙ ap tiles_spelling (ap (map word) c.deref.ensures.value) in
     let written = subst (AppendsFront (g.W.Sink.written c.args.writer.now) (g.W.Sink.written c.write_whole.new.writer)) c.deref-2.ensures.value c.in-Err.ensures.front in
-    (c.in_ok-text.text.items, (map word tiles, (c.in_ok-tiles.ensures.tiles, few), same), written, c.in-Err.ensures.why)
+    (c.in_ok-text.text.items, (map word tiles, (c.in_ok-tiles.ensures.tiles, few), same), (written, c.in-Err.ensures.why))

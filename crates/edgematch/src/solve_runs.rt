@@ -1,0 +1,163 @@
+//! Runs of the solver.
+
+ghost use Rattle.std.specs.Prelude.{◌≡◌, ◌≢◌, ◌≤◌, IfOk, OnOk, OnErr, IfErr, IsErrOf, Contains, List, length};
+ghost use Rattle.std.specs.Io.KnownBytes.{Appends};
+ghost use Rattle.match_puzzle.specs.Arrangement.{IsArrangement};
+ghost use Rattle.match_puzzle.specs.declared.placements.Placement.{Placement};
+ghost use Rattle.match_report.specs.TallyText.{tally_text};
+ghost use Rattle.edgematch.specs.Moves.{FrontOf, reading_of, writing_of};
+ghost use Rattle.edgematch.specs.Solving.{IsSolved, Products, SolveGives, StopsWriting, WritesAll};
+ghost use Rattle.edgematch.specs.Solving.{first_board, one_share, products_of, report_text};
+ghost use Rattle.edgematch.specs.Solving.{IsOfMaking, IsOfPuzzle, IsOfSolving, PuzzleReadToEnd, SolveFails, StopsReadingPuzzle};
+
+use crate::faults::{Document, RunFault};
+use crate::runs::read_document;
+use crate::solving::{Solved, solve};
+use crate::streams::sinks::{Sink, write_whole};
+use crate::streams::sources::Source;
+use cert_tree::write_certificate;
+use match_board::limits::MOST_BYTES;
+use match_puzzle::{Arrangement, Puzzle};
+use match_report::{Taken, write_board, write_tally};
+use match_text::{put_number_line, read_puzzle, write_list};
+use std::alloc::{AllocError, Global};
+
+/// Reads a puzzle to its end, searches for all its arrangements by at most `fuel` branch nodes, 1 to 1,000,000, and
+/// writes their list, then a certificate of them, and then a report: how many were found, by how many lemmas, who took
+/// which lemma, and the first arrangement as it lies on the board.
+///
+/// `Read` and `TooLong` are of the puzzle; `Puzzle` where its text spells none; `Solve` where the search gave up, or
+/// the puzzle has too many options or arrangements. Where a fault other than `Write` is answered, nothing was written.
+pub fn run_solve<P: Source, L: Sink, C: Sink, W: Sink>(
+    alloc: Global,
+    puzzle: &mut P,
+    depth: u8,
+    fuel: u32,
+    workers: u8,
+    list: &mut L,
+    certificate: &mut C,
+    writer: &mut W,
+) -> Result<(), RunFault>
+    requires depth { depth ≡ 0 }
+    requires fuel { (1 ≤ fuel) × (fuel ≤ 1000000) }
+    requires workers { workers ≡ 1 }
+
+    // What was written is made of the text that came.
+    ensures ok { OnOk result (PuzzleReadToEnd (reading_of P.Source puzzle.old puzzle.new)
+        (λ text. (made : Products) × SolveGives text made × WritesAll (writing_of L.Sink list.old list.new)
+        (writing_of C.Sink certificate.old certificate.new) (writing_of W.Sink writer.old writer.new) made)) }
+    // A fault of the puzzle or of solving it is what the text comes to.
+    ensures puzzle { IfErr result (λ fault. IsOfPuzzle fault
+        → PuzzleReadToEnd (reading_of P.Source puzzle.old puzzle.new) (λ text. SolveFails text fault)) }
+    ensures fault { IfErr result IsOfSolving }
+    ensures untouched { IfErr result (λ fault. fault ≢ RunFault.Write
+        → (list.new ≡ list.old) × (certificate.new ≡ certificate.old) × (writer.new ≡ writer.old)) }
+    // Reading fails only where the source answered an error, or more bytes came than are read.
+    ensures reading { IfErr result (StopsReadingPuzzle (reading_of P.Source puzzle.old puzzle.new)) }
+    // Writing fails only where a sink answered an error, or took nothing; then a front of its text went out.
+    ensures write { IsErrOf result RunFault.Write → PuzzleReadToEnd (reading_of P.Source puzzle.old puzzle.new)
+        (λ text. (made : Products) × SolveGives text made × StopsWriting (writing_of L.Sink list.old list.new)
+        (writing_of C.Sink certificate.old certificate.new) (writing_of W.Sink writer.old writer.new) made) }
+{
+    let text = read_document(alloc, puzzle, Document::Puzzle)?;
+    let made = make_texts(alloc, &text, fuel)?;
+    write_texts(&made, list, certificate, writer)
+}
+
+// The texts of a list, of a certificate and of the report on them.
+#[derive(Drop)]
+pub(crate) struct Made {
+    list: Vec<u8>,
+    certificate: Vec<u8>,
+    report: Vec<u8>,
+}
+
+// What is made of a puzzle's text.
+fn make_texts(alloc: Global, text: &[u8], fuel: u32) -> Result<Made, RunFault>
+    requires text { length text.now ≤ MOST_BYTES }
+    requires fuel { fuel ≤ 1000000 }
+    ensures made { IfOk result (λ made. SolveGives text.now (products_of made)) }
+    ensures fault { IfErr result (SolveFails text.now) }
+    ensures kind { IfErr result IsOfMaking }
+{
+    let puzzle = read_puzzle(alloc, text)?;
+    let solved = solve(alloc, &puzzle, fuel)?;
+    Ok(Made {
+        list: write_list(alloc, &solved.listed)?,
+        certificate: write_certificate(alloc, &solved.certificate)?,
+        report: report_on(alloc, &puzzle, &solved)?,
+    })
+}
+
+// How many were found, by how many lemmas, who took them, and the first arrangement.
+fn report_on(alloc: Global, puzzle: &Puzzle, solved: &Solved) -> Result<Vec<u8>, AllocError>
+    requires { IsSolved puzzle.now solved.now.listed.items solved.now.certificate }
+    ensures { IfOk result (λ text. text.items ≡ report_text puzzle.now solved.now.listed.items (length solved.now.certificate.lemmas) one_share) }
+{
+    let mut text = Vec::new(alloc);
+    put_number_line(&mut text, b"found", solved.listed.len() as u32)?;
+    put_number_line(
+        &mut text,
+        b"lemmas",
+        solved.certificate.lemmas().len() as u32,
+    )?;
+    text.extend_from_slice(&tally_of_one(alloc)?)?;
+    text.extend_from_slice(&board_of_first(alloc, puzzle, &solved.listed)?)?;
+    Ok(text)
+}
+
+// The first arrangement as it lies on the board, if there is one.
+fn board_of_first(
+    alloc: Global,
+    puzzle: &Puzzle,
+    listed: &[Arrangement],
+) -> Result<Vec<u8>, AllocError>
+    requires { (a : List Placement) → Contains listed.now a → IsArrangement puzzle.now a }
+    ensures { IfOk result (λ text. text.items ≡ first_board puzzle.now listed.now) }
+{
+    match listed.first() {
+        None => Ok(Vec::new(alloc)),
+        Some(arrangement) => write_board(alloc, puzzle, arrangement.placements()),
+    }
+}
+
+// One worker took the one lemma.
+fn tally_of_one(alloc: Global) -> Result<Vec<u8>, AllocError>
+    ensures { IfOk result (λ text. text.items ≡ tally_text one_share) }
+{
+    let numbers = vec![in alloc; 0]?;
+    write_tally(alloc, &[Taken::new(numbers)])
+}
+
+// Writes the list, then the certificate, then the report.
+fn write_texts<L: Sink, C: Sink, W: Sink>(
+    made: &Made,
+    list: &mut L,
+    certificate: &mut C,
+    writer: &mut W,
+) -> Result<(), RunFault>
+    ensures ok { OnOk result (WritesAll (writing_of L.Sink list.old list.new)
+        (writing_of C.Sink certificate.old certificate.new) (writing_of W.Sink writer.old writer.new) (products_of made.now)) }
+    ensures write { OnErr result (StopsWriting (writing_of L.Sink list.old list.new)
+        (writing_of C.Sink certificate.old certificate.new) (writing_of W.Sink writer.old writer.new) (products_of made.now)) }
+    ensures fault { IfErr result (λ fault. fault ≡ RunFault.Write) }
+{
+    write_text(list, &made.list)?;
+    write_text(certificate, &made.certificate)?;
+    write_text(writer, &made.report)
+}
+
+// Writes a text whole.
+fn write_text<W: Sink>(writer: &mut W, text: &[u8]) -> Result<(), RunFault>
+    ensures whole { OnOk result (Appends (W.written writer.old) (W.written writer.new) text.now) }
+    ensures front { OnErr result (FrontOf (writing_of W.Sink writer.old writer.new) text.now) }
+    ensures fault { IfErr result (λ fault. fault ≡ RunFault.Write) }
+{
+    match write_whole(writer, text) {
+        Ok(()) => Ok(()),
+        Err(_) => Err(RunFault::Write),
+    }
+}
+
+#[cfg(test)]
+mod tests;
