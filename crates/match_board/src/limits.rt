@@ -58,5 +58,8 @@ pub const MOST_CHILDREN: u32 = 4 * MOST_TILES as u32;
 /// The most levels of a tree: a branch for each cell, and below the last of them one node more.
 pub const MOST_LEVELS: u16 = MOST_CELLS + 1;
 
+/// The most branch nodes that a search may be asked to make.
+pub const MOST_FUEL: u32 = 1_000_000;
+
 /// The most bytes of a document that are read.
 pub const MOST_BYTES: u32 = 1_073_741_824;

@@ -140,7 +140,7 @@ fn faults_in_the_programs_words(rt: HostRuntime) -> Result<(), Fail> {
     Ok(())
 }
 
-// The numbers are those of docs/FORMATS.md, but for that of entries.
+// The numbers are those of docs/FORMATS.md, but for those of entries and of fuel.
 #[test]
 fn limits_of_formats(rt: HostRuntime) {
     assert_eq!(rt; limits::MOST_CELLS, 100);
@@ -162,5 +162,6 @@ fn limits_of_formats(rt: HostRuntime) {
     assert_eq!(rt; limits::LAST_LEMMA, 999_999);
     assert_eq!(rt; limits::MOST_CHILDREN, 400);
     assert_eq!(rt; limits::MOST_LEVELS, 101);
+    assert_eq!(rt; limits::MOST_FUEL, 1_000_000);
     assert_eq!(rt; limits::MOST_BYTES, 1_073_741_824);
 }

@@ -1,13 +1,12 @@
 -- A tree that grows child by child, and what is found with it.
 use Rattle.std.proofs.Common.{◌≡◌, ◌≤◌, ◌+◌, ◌-◌, ◌++◌, ◌∷◌, [], ℕ, List, Option, None, Some, MatchOption, ap, ◌∙◌, length, length-append, take, arith, subst}
 use Rattle.std.proofs.lemmas.List.Elements.{Contains-append_left}
-use Rattle.std.proofs.lemmas.List.{take-append-le, take_all}
 use Rattle.xcc_form.specs.Options.{Compiled, cover_of}
 use Rattle.xcc_dance.specs.Clashes.{IsOpenAt}
 use Rattle.match_puzzle.specs.declared.placements.Placement.{Placement}
 use Rattle.cert_tree.specs.Tree.{Tree, Forest, branch, dead, found, same, image, none, more, tree_of, forest_of}
 use Rattle.cert_tree.specs.declared.nodes.Node.{Node}
-use Rattle.xcc_dance.specs.Chosen.{Selection, with_option, without_last, IsNext, IsLast}
+use Rattle.xcc_dance.specs.Chosen.{Selection, with_option, IsNext, IsLast}
 use Rattle.xcc_dance.specs.Found.{IsFoundFrom, branch_count, branch_total, IsFoundBelow, AreFoundBelow}
 
 -- how far it is from the next option to the last; nothing, where there is none
@@ -38,18 +37,6 @@ all_more n (x ∷ nodes) node h b = (h.0, all_more n nodes node h.1 b)
 -- what is found after one more choice is found before it
 pub found_before : (s : Selection) (option : ℕ) (a : List Placement) → IsFoundFrom (with_option s option) a → IsFoundFrom s a
 found_before s option a f = record { solution = f.solution; is_solution = f.is_solution; has_chosen = λ o c. f.has_chosen o (Contains-append_left s.chosen (option ∷ []) o c) }
-
--- an option that is chosen and taken back leaves what was before
-pub taken_back : (here chosen walked back : Selection) (option : ℕ) → chosen ≡ with_option here option → walked ≡ chosen → back ≡ without_last walked → back ≡ here
-taken_back here chosen walked back option e w u =
-    let long = length-append here.chosen (option ∷ []) in
-    let one : length (here.chosen ++ option ∷ []) - 1 ≡ length here.chosen = omega (arith, long) in
-    u ∙ ap without_last (w ∙ e)
-    ∙ ap (λ n. at here.compiled (take n (here.chosen ++ option ∷ []))) one
-    ∙ ap (at here.compiled) (take-append-le (length here.chosen) here.chosen (option ∷ []) (omega arith) ∙ take_all (length here.chosen) here.chosen (omega arith))
-  where
-    at : Compiled → List ℕ → Selection
-    at x xs = record { compiled = x; chosen = xs }
 
 -- the next option is open
 pub next_open : (s start : Selection) (item : ℕ) (after next : Option ℕ) → s ≡ start → MatchOption next (IsLast (cover_of s.compiled) s.chosen item after) (IsNext (cover_of s.compiled) s.chosen item after) → MatchOption next (Unit {0}) (IsOpenAt (cover_of start.compiled) start.chosen item)

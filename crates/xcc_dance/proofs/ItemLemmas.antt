@@ -9,7 +9,7 @@ use Rattle.xcc_form.specs.Options.{Choice, Compiled, IsCompiled, items_of, cover
 use Rattle.xcc_form.specs.Correspondence.{IsPairOf}
 use Rattle.xcc_form.specs.declared.edges.Edge.{Edge}
 use Rattle.xcc_form.proofs.OptionLemmas.{option_pair, one_pair, of_map, primary_of, has_cell, has_tile}
-use Rattle.xcc_dance.specs.Clashes.{Clash, ShareAnItem, Differ}
+use Rattle.xcc_dance.specs.Clashes.{Clash, ShareAnItem}
 
 pub to_map : {X Y : Type 0} (f : X → Y) (xs : List X) (i : ℕ) (x : X) → slice_get xs i ≡ Some x → slice_get (map f xs) i ≡ Some (f x)
 to_map f [] i x at = absurd (none-some x at)
@@ -40,13 +40,6 @@ module _ (x : Compiled) (is : IsCompiled x) where
     subst (λ (fs : List Edge). Contains fs (record { item = item; colour = colour })) (sym w.2) among,
   )
 
-  has_edge : (option item colour : ℕ) (es : List Edge) → HasEdges x option es → HasColour (cover_of x) option item colour → Contains es (record { item = item; colour = colour })
-  has_edge option item colour es w has =
-      let e : Edge = record { item = item; colour = colour } in
-      let of = of_map (items_of (cell_count x.puzzle.board)) x.options option has.0 has.1 in
-      let same : of.0 ≡ w.0 = inside (sym of.1 ∙ w.1) in
-      subst (λ (fs : List Edge). Contains fs e) (ap (λ (c : Choice). c.edges) same ∙ w.2) (subst (λ (s : ItemSet). Contains s.coloured e) (sym of.2) has.2)
-
   module _ (o p : ℕ) (y z : Pair) (w : IsPairOf x o y) (v : IsPairOf x p z) where
     pub share_cell : y.cell ≡ z.cell → Clash (cover_of x) o p
     share_cell e = inl (record { item = y.cell; one = has_cell x is o y w; two = cell_has p y.cell z v (sym e) })
@@ -62,24 +55,3 @@ module _ (x : Compiled) (is : IsCompiled x) where
         (λ a. ⊎_elim (λ b. inl (sym a ∙ b)) (λ b. absurd (omega (arith, a, b, within))) (is_item p s.item z v s.two))
         (λ a. ⊎_elim (λ b. absurd (omega (arith, a, b, within'))) (λ b. inr (omega (arith, a, b))) (is_item p s.item z v s.two))
         (is_item o s.item y w s.one)
-
-    module _ (es fs : List Edge) (d : HasEdges x o es) (f : HasEdges x p fs) where
-      pub two_colours : Differ es fs → Clash (cover_of x) o p
-      two_colours t =
-          let other = t.differs.other in
-          inr (record {
-            item = t.edge.item;
-            colour = t.edge.colour;
-            other_colour = other.colour;
-            one = edge_has o t.edge.item t.edge.colour es d t.among;
-            two = edge_has p t.edge.item other.colour fs f (subst (λ (n : ℕ). Contains fs (record { item = n; colour = other.colour })) t.differs.item t.differs.among);
-            differ = λ e. t.differs.colour (sym e);
-          })
-
-      pub must_differ : (y.cell ≡ z.cell → ⊥) → (y.placement.tile ≡ z.placement.tile → ⊥) → Clash (cover_of x) o p → Differ es fs
-      must_differ cells tiles (inl s) = absurd (⊎_elim cells tiles (shares s))
-      must_differ cells tiles (inr t) = record {
-        edge = record { item = t.item; colour = t.colour };
-        among = has_edge o t.item t.colour es d t.one;
-        differs = record { other = record { item = t.item; colour = t.other_colour }; among = has_edge p t.item t.other_colour fs f t.two; item = refl; colour = λ e. t.differ (sym e) };
-      }

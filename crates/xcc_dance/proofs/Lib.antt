@@ -1,10 +1,9 @@
-pub mod SeekingLemmas
 pub mod PartialLemmas
 pub mod SizeLemmas
 pub mod ItemLemmas
-pub mod BranchLemmas
 pub mod SolutionLemmas
 pub mod RoomLemmas
+pub mod BackLemmas
 pub mod GrowingLemmas
 pub mod PlacingLemmas
 pub mod WithinLemmas

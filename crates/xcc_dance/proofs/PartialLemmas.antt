@@ -29,9 +29,3 @@ module _ (x : Cover) (chosen : List ℕ) (partial : IsPartialSolution x chosen) 
         (λ last. let within = ⊎_elim (λ there. let w = slice_get_within chosen place' p there in omega (arith, w, lt, last.0)) (λ end. omega (arith, end.0, lt, last.0)) (pushed_at chosen option place' p at') in absurd within)
         (pushed_at chosen option place o at);
   }
-
-  pub fewer : (n : ℕ) → IsPartialSolution x (take n chosen)
-  fewer n = record {
-    real = λ o c. let at = place_of (take n chosen) o c in let there = taken_at chosen n at.0 o at.1 in partial.real o (contains_at chosen at.0 o there.1);
-    apart = λ place place' o p lt at at'. partial.apart place place' o p lt (taken_at chosen n place o at).1 (taken_at chosen n place' p at').1;
-  }

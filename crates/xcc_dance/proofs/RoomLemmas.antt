@@ -4,6 +4,7 @@ use Rattle.std.specs.List.{IsDistinct, list_any, AllByRecursion}
 use Rattle.std.proofs.lemmas.Map.Steps.{length-le_from_distinct_below}
 use Rattle.std.proofs.lemmas.Map.Keys.{IsDistinct-cons}
 use Rattle.std.proofs.lemmas.Bool.{eqb-true, false≢true}
+use Rattle.match_board.specs.declared.limits.TheConstants.{MOST_CELLS, MOST_CHILDREN, MOST_TILES}
 use Rattle.match_board.specs.Board.{cell_count}
 use Rattle.match_board.proofs.Listings.{lt_or_le}
 use Rattle.match_puzzle.specs.declared.placements.Pair.{Pair}
@@ -76,7 +77,7 @@ module _ (x : Compiled) (is : IsCompiled x) where
   abbrev cells : ℕ
   cells = cell_count x.puzzle.board
 
-  few_cells : cells ≤ 100
+  few_cells : cells ≤ MOST_CELLS
   few_cells = is.puzzle.board.1
 
   -- the number of a pair at one cell, by its tile and turn, and of one with one tile, by its cell and turn
@@ -85,12 +86,12 @@ module _ (x : Compiled) (is : IsCompiled x) where
     pub is_pair : IsPairOf x option y
     pub number_is : number ≡ 4 * part y + y.placement.turn
 
-  -- different options with one item are at most 400
+  -- different options with one item are at most as many as a branch may have children
   module _ (xs : List ℕ) (item : ℕ) (apart : AreDifferent xs) (has : (i o : ℕ) → slice_get xs i ≡ Some o → HasPrimary (cover_of x) o item) where
     -- below a bound, and told apart by their numbers
-    few_by : (part : Pair → ℕ) → ((y : Pair) → y.cell < 100 → y.placement.tile < 100 → part y < 100) → ((i o : ℕ) (y : Pair) (j o' : ℕ) (z : Pair) → slice_get xs i ≡ Some o → slice_get xs j ≡ Some o' → IsPairOf x o y → IsPairOf x o' z → part y ≡ part z → (y.cell ≡ z.cell) × (y.placement.tile ≡ z.placement.tile)) → length xs ≤ 400
+    few_by : (part : Pair → ℕ) → ((y : Pair) → y.cell < MOST_CELLS → y.placement.tile < MOST_TILES → part y < MOST_TILES) → ((i o : ℕ) (y : Pair) (j o' : ℕ) (z : Pair) → slice_get xs i ≡ Some o → slice_get xs j ≡ Some o' → IsPairOf x o y → IsPairOf x o' z → part y ≡ part z → (y.cell ≡ z.cell) × (y.placement.tile ≡ z.placement.tile)) → length xs ≤ MOST_CHILDREN
     few_by part small same =
-        few_keyed xs 400 (HasNumber part) apart
+        few_keyed xs MOST_CHILDREN (HasNumber part) apart
         (λ i o at.
         let of = primary_of x is o item (has i o at) in
         let y = of.0 in
@@ -113,7 +114,7 @@ module _ (x : Compiled) (is : IsCompiled x) where
         let turns : y.placement.turn ≡ z.placement.turn = omega (arith, turn, turn', number, number') in
         one_option x is o o' y k.is_pair (subst (IsPairOf x o') (sym (same_pair y z parts.0 parts.1 turns)) k'.is_pair))
 
-    pub few_at : length xs ≤ 400
+    pub few_at : length xs ≤ MOST_CHILDREN
     few_at =
         ⊎_elim
         (λ lt. few_by (λ y. y.placement.tile) (λ y cell tile. tile) (λ i o y j o' z at at' w v same. (cell_is lt i o y at w ∙ sym (cell_is lt j o' z at' v), same)))

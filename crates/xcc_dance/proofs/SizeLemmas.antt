@@ -1,9 +1,10 @@
 -- Numbers with a property, counted from 0 on.
-use Rattle.std.proofs.Common.{◌≡◌, ◌⊎◌, ◌<◌, ◌≤◌, ◌+◌, ◌++◌, ◌∷◌, [], ℕ, List, Option, None, Some, MatchOption, length, length-append, arith, inl, inr, sym, subst, ⊎_elim}
+use Rattle.std.proofs.Common.{◌≡◌, ◌⊎◌, ◌<◌, ◌≤◌, ◌+◌, ◌++◌, ◌∷◌, [], ℕ, List, Option, None, Some, MatchOption, length, length-append, arith, ap, inl, inr, sym, ◌∙◌, subst, ⊎_elim}
 use Rattle.std.proofs.lemmas.Bool.Decides.{eqb_tells}
 use Rattle.std.proofs.lemmas.Option.{slice_get_within, get_or_from_slice_get}
+use Rattle.match_board.specs.declared.limits.TheConstants.{MOST_CHILDREN}
 use Rattle.match_board.specs.Listing.{IsListing}
-use Rattle.match_board.proofs.Listings.{lt_or_le}
+use Rattle.match_board.proofs.Listings.{lt_or_le, same_listing}
 use Rattle.xcc_form.specs.ExactCover.{Cover}
 use Rattle.xcc_form.specs.Options.{Compiled, IsCompiled, cover_of}
 use Rattle.xcc_form.proofs.OptionLemmas.{contains_at}
@@ -39,15 +40,6 @@ module _ (P : ℕ → Type 0) where
         omega (arith, long, w.2),
       )
 
-  pub count_same : (k size : ℕ) → (P k → ⊥) → CountsBelow P k size → CountsBelow P (k + 1) size
-  count_same k size none w = (
-    w.0,
-    listing_same ◌<◌ (IsBelow P k) (IsBelow P (k + 1)) w.0
-        (λ n t. (omega (arith, t.0), t.1))
-        (λ n t. ⊎_elim (λ before. before) (λ same. absurd (none (subst P same t.1))) (last_or_before k n t)) w.1,
-    w.2,
-  )
-
   pub count_all : (k size : ℕ) → ((n : ℕ) → P n → n < k) → CountsBelow P k size → (xs : List ℕ) × IsListing ◌<◌ P xs × (length xs ≡ size)
   count_all k size few w = (w.0, listing_same ◌<◌ (IsBelow P k) P w.0 (λ n t. t.1) (λ n p. (few n p, p)) w.1, w.2)
 
@@ -80,6 +72,10 @@ abbrev pub bound_of : (options : ℕ) → (next : Option ℕ) → ℕ
 bound_of options None = options
 bound_of options (Some option) = option
 
+-- an item has one size
+pub size_same : (x : Cover) (chosen : List ℕ) (item m n : ℕ) → HasSize x chosen item m → HasSize x chosen item n → m ≡ n
+size_same x chosen item m n a b = sym a.2 ∙ ap length (same_listing ◌<◌ (λ i j l r. omega (arith, l, r)) (IsOpenAt x chosen item) a.0 b.0 a.1 b.1) ∙ b.2
+
 module _ (x : Cover) (chosen : List ℕ) (item : ℕ) where
   -- how many open options of the item come before the next one
   abbrev pub CountedBefore : (next : Option ℕ) (size : ℕ) → Type 0
@@ -99,12 +95,12 @@ module _ (x : Cover) (chosen : List ℕ) (item : ℕ) where
   pub counted_all : (size : ℕ) → CountedBefore None size → HasSize x chosen item size
   counted_all size w = count_all (IsOpenAt x chosen item) (length x.options) size (λ n o. o.open_option.real) w
 
--- so many open options of an item are at most 400
-pub few_counted : (x : Compiled) (is : IsCompiled x) (chosen : List ℕ) (item k size : ℕ) → CountsBelow (IsOpenAt (cover_of x) chosen item) k size → size ≤ 400
+-- there are no more open options of an item than a branch may have children
+pub few_counted : (x : Compiled) (is : IsCompiled x) (chosen : List ℕ) (item k size : ℕ) → CountsBelow (IsOpenAt (cover_of x) chosen item) k size → size ≤ MOST_CHILDREN
 few_counted x is chosen item k size w =
     let few = few_at x is w.0 item (counted_apart (IsOpenAt (cover_of x) chosen item) k size w) (λ i o at. (w.1.only o (contains_at w.0 i o at)).1.at) in
     let long = w.2 in
     omega (arith, few, long)
 
-pub few_sized : (x : Compiled) (is : IsCompiled x) (chosen : List ℕ) (item size : ℕ) → HasSize (cover_of x) chosen item size → size ≤ 400
+pub few_sized : (x : Compiled) (is : IsCompiled x) (chosen : List ℕ) (item size : ℕ) → HasSize (cover_of x) chosen item size → size ≤ MOST_CHILDREN
 few_sized x is chosen item size w = few_counted x is chosen item (length (cover_of x).options) size (w.0, listing_same ◌<◌ (IsOpenAt (cover_of x) chosen item) (IsBelow (IsOpenAt (cover_of x) chosen item) (length (cover_of x).options)) w.0 (λ n o. (o.open_option.real, o)) (λ n t. t.1) w.1, w.2)

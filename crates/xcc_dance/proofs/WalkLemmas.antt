@@ -1,5 +1,6 @@
 -- How what is found grows from node to node.
 use Rattle.std.proofs.Common.{◌≡◌, ◌≢◌, ◌<◌, ◌≤◌, ◌+◌, ◌*◌, ◌++◌, ◌∷◌, [], ℕ, List, Some, length, length-append, arith, refl, ap, sym, ◌∙◌, subst, inr, ⊎_elim}
+use Rattle.match_board.specs.declared.limits.TheConstants.{MOST_CELLS, MOST_CHILDREN}
 use Rattle.match_puzzle.specs.declared.placements.Placement.{Placement}
 use Rattle.xcc_form.specs.Options.{cover_of}
 use Rattle.cert_tree.specs.Tree.{Tree, Forest, branch, count, tree_of, forest_of}
@@ -13,8 +14,7 @@ use Rattle.xcc_dance.specs.Progress.{GoesOn, IsTreeOf, AreTreesOf, AreForEach, l
 use Rattle.xcc_dance.specs.declared.progress.Progress.{Progress}
 use Rattle.xcc_dance.proofs.PartialLemmas.{one_more}
 use Rattle.xcc_dance.proofs.RoomLemmas.{few_chosen}
-use Rattle.xcc_dance.proofs.SizeLemmas.{CountedBefore, count_one, few_counted, few_sized}
-use Rattle.xcc_dance.proofs.BranchLemmas.{size_same}
+use Rattle.xcc_dance.proofs.SizeLemmas.{CountedBefore, count_one, size_same, few_counted, few_sized}
 use Rattle.xcc_dance.proofs.GrowingLemmas.{total_more, all_up, all_more, found_before}
 use Rattle.xcc_dance.proofs.WithinLemmas.{found_within, branch_within, within_more_trees}
 
@@ -41,7 +41,7 @@ module _ (start : Selection) where
 
   -- the node of a branch
   pub branch_tree : (first before after : Progress) (cells item size : ℕ) (children : Forest) (tree : Tree) → IsSelection start.compiled start.chosen
-      → before.fuel + 1 ≡ first.fuel → before.found.items ≡ first.found.items → cells ≤ 100 → item < 2 * cells → HasSize (cover_of start.compiled) start.chosen item size → size ≢ 0
+      → before.fuel + 1 ≡ first.fuel → before.found.items ≡ first.found.items → cells ≤ MOST_CELLS → item < 2 * cells → HasSize (cover_of start.compiled) start.chosen item size → size ≢ 0
       → AreForEach start item children → AreTreesOf start before after children → IsBranchOn cells item children tree → IsTreeOf start first after tree
   branch_tree first before after cells item size children tree right fuel found few lt sized some each trees is =
       let same = size_same (cover_of start.compiled) start.chosen item size (count children) sized each in
@@ -93,6 +93,6 @@ module _ (start : Selection) where
           few = omega (arith, many, many', count', long, counted);
         })
 
-    -- with the next one there are at most 400
-    pub room_for_one : (item size : ℕ) → IsOpenAt (cover_of start.compiled) start.chosen item option → CountedBefore (cover_of start.compiled) start.chosen item (Some option) size → size + 1 ≤ 400
+    -- with the next one there are no more than a branch may have
+    pub room_for_one : (item size : ℕ) → IsOpenAt (cover_of start.compiled) start.chosen item option → CountedBefore (cover_of start.compiled) start.chosen item (Some option) size → size + 1 ≤ MOST_CHILDREN
     room_for_one item size is w = few_counted start.compiled right.compiled start.chosen item (option + 1) (size + 1) (count_one (IsOpenAt (cover_of start.compiled) start.chosen item) option size is w)

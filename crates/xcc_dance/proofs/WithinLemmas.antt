@@ -1,5 +1,6 @@
 -- Nodes that are within the limits of a lemma.
 use Rattle.std.proofs.Common.{◌<◌, ◌≤◌, ◌+◌, ◌*◌, ℕ, zero, suc, List, [], ◌∷◌, ◌++◌, arith, add-one, sym, subst}
+use Rattle.match_board.specs.declared.limits.TheConstants.{MOST_ARRANGEMENTS, MOST_CELLS, MOST_CHILDREN}
 use Rattle.match_puzzle.specs.declared.items.Item.{Item}
 use Rattle.match_puzzle.specs.declared.items.Item.TheVariants.{Cell, Tile}
 use Rattle.cert_tree.specs.Tree.{Tree, Forest, branch, dead, found, same, image, none, more, count, tree_of, forest_of}
@@ -10,14 +11,14 @@ use Rattle.xcc_dance.specs.Found.{IsNumberOf, IsBranchOn}
 one_level : (levels : ℕ) (tree : Tree) → IsTreeWithin (suc levels) tree → IsTreeWithin (levels + 1) tree
 one_level levels tree h = subst (λ n. IsTreeWithin n tree) (sym (add-one levels)) h
 
-pub found_within : (levels number n : ℕ) → number < n → n ≤ 1000000 → IsTreeWithin (levels + 1) (found number)
+pub found_within : (levels number n : ℕ) → number < n → n ≤ MOST_ARRANGEMENTS → IsTreeWithin (levels + 1) (found number)
 found_within levels number n lt few = one_level levels (found number) (omega (arith, lt, few))
 
-item_within : (cells number : ℕ) (item : Item) → cells ≤ 100 → number < 2 * cells → IsNumberOf cells number item → IsItemWithin item
+item_within : (cells number : ℕ) (item : Item) → cells ≤ MOST_CELLS → number < 2 * cells → IsNumberOf cells number item → IsItemWithin item
 item_within cells number (Cell cell) few lt of = let a = of.1 in omega (arith, few, a)
 item_within cells number (Tile tile) few lt of = omega (arith, few, lt, of)
 
-pub branch_within : (levels cells item : ℕ) (children : Forest) (tree : Tree) → cells ≤ 100 → item < 2 * cells → 1 ≤ count children → count children ≤ 400 → AreTreesWithin levels children → IsBranchOn cells item children tree → IsTreeWithin (levels + 1) tree
+pub branch_within : (levels cells item : ℕ) (children : Forest) (tree : Tree) → cells ≤ MOST_CELLS → item < 2 * cells → 1 ≤ count children → count children ≤ MOST_CHILDREN → AreTreesWithin levels children → IsBranchOn cells item children tree → IsTreeWithin (levels + 1) tree
 branch_within levels cells item children tree few lt some most all is = subst (IsTreeWithin (levels + 1)) (sym is.2) (one_level levels (branch is.0 children) (item_within cells item is.0 few lt is.1, some, most, all))
 
 pub within_more_trees : (levels : ℕ) (nodes : List Node) (node : Node) → AreTreesWithin levels (forest_of nodes) → IsTreeWithin levels (tree_of node) → AreTreesWithin levels (forest_of (nodes ++ node ∷ []))

@@ -1,5 +1,5 @@
 -- Chosen options of a compiled puzzle, and what to branch on.
-use Rattle.std.specs.Prelude.{◌≡◌, ◌⊎◌, ◌<◌, ◌≤◌, ◌-◌, ◌++◌, ◌∷◌, [], ℕ, List, Option, IfSome, Contains, length, take}
+use Rattle.std.specs.Prelude.{◌≡◌, ◌⊎◌, ◌<◌, ◌≤◌, ◌++◌, ◌∷◌, [], ℕ, List, Option, IfSome, Contains, length}
 use Rattle.match_board.specs.Listing.{IsListing}
 use Rattle.xcc_form.specs.ExactCover.{Cover, HasPrimary}
 use Rattle.xcc_form.specs.Options.{Compiled, IsCompiled, cover_of}
@@ -18,10 +18,6 @@ pub record IsSelection (x : Compiled) (chosen : List ℕ) : Type 0 where
 -- one option more, the last
 abbrev pub with_option : Selection → (option : ℕ) → Selection
 with_option s option = record { compiled = s.compiled; chosen = s.chosen ++ option ∷ [] }
-
--- all but the last
-abbrev pub without_last : Selection → Selection
-without_last s = record { compiled = s.compiled; chosen = take (length s.chosen - 1) s.chosen }
 
 -- A chosen option has the item.
 abbrev pub IsCovered : Cover → (chosen : List ℕ) → (item : ℕ) → Type 0

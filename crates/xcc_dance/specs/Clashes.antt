@@ -1,7 +1,6 @@
 -- Options that can't be in one solution of an exact cover with colours (Knuth, TAOCP 4B, 7.2.2.1).
 use Rattle.std.specs.Prelude.{◌≡◌, ◌≢◌, ◌⊎◌, ◌<◌, ℕ, List, Some, Contains, length, slice_get}
 use Rattle.xcc_form.specs.ExactCover.{Cover, HasPrimary, HasColour}
-use Rattle.xcc_form.specs.declared.edges.Edge.{Edge}
 
 -- Both options have a primary item.
 pub record ShareAnItem (x : Cover) (option other : ℕ) : Type 0 where
@@ -36,16 +35,3 @@ pub record IsOpen (x : Cover) (chosen : List ℕ) (option : ℕ) : Type 0 where
 pub record IsOpenAt (x : Cover) (chosen : List ℕ) (item option : ℕ) : Type 0 where
   pub open_option : IsOpen x chosen option
   pub at : HasPrimary x option item
-
--- The edge has another colour in the list.
-pub record DifferOn (e : Edge) (others : List Edge) : Type 0 where
-  pub other : Edge
-  pub among : Contains others other
-  pub item : other.item ≡ e.item
-  pub colour : other.colour ≢ e.colour
-
--- An edge of the one list has another colour in the other.
-pub record Differ (edges others : List Edge) : Type 0 where
-  pub edge : Edge
-  pub among : Contains edges edge
-  pub differs : DifferOn edge others

@@ -1,10 +1,12 @@
 -- What a search comes to.
 use Rattle.std.specs.Prelude.{◌≡◌, ◌<◌, ◌≤◌, ℕ, Bool, true, false, List, Contains, length}
+use Rattle.match_board.specs.declared.limits.TheConstants.{MOST_ARRANGEMENTS, MOST_LEMMAS, MOST_LEVELS, MOST_SYMMETRIES}
 use Rattle.match_puzzle.specs.declared.placements.Placement.{Placement}
 use Rattle.match_puzzle.specs.declared.placements.Pair.{Pair}
 use Rattle.cert_tree.specs.Tree.{Tree, tree_of}
 use Rattle.cert_tree.specs.TreeSpelling.{IsTreeWithin}
 use Rattle.xcc_form.specs.Options.{Compiled}
+use Rattle.xcc_dance.specs.LinkStates.{LinkState}
 use Rattle.xcc_dance.specs.Placing.{IsArrangementWith}
 use Rattle.xcc_dance.specs.Found.{branch_count, IsFoundBelow}
 use Rattle.xcc_dance.specs.declared.cites.Cite.{Cite}
@@ -14,12 +16,12 @@ use Rattle.xcc_dance.specs.declared.searches.Outcome.TheVariants.{Done, GaveUp}
 
 -- The numbers are those of lemmas and symmetries that a certificate may have.
 abbrev pub IsCiteWithin : Cite → Type 0
-IsCiteWithin (Same lemma) = lemma < 1000000
-IsCiteWithin (Image lemma symmetry) = (lemma < 1000000) × (symmetry < 1024)
+IsCiteWithin (Same lemma) = lemma < MOST_LEMMAS
+IsCiteWithin (Image lemma symmetry) = (lemma < MOST_LEMMAS) × (symmetry < MOST_SYMMETRIES)
 
--- a search: the puzzle that it was made of, how many branch nodes its last run made, and whether it failed
+-- a search: its link arrays, how many branch nodes its last run made, and whether it failed
 pub record SearchState : Type 0 where
-  pub compiled : Compiled
+  pub links : LinkState
   pub branches : ℕ
   pub failed : Bool
 
@@ -29,9 +31,10 @@ pub record IsSearched (x : Compiled) (prefix : List Pair) (tree : Tree) (found :
   pub found_are : (a : List Placement) → Contains found a → IsArrangementWith x.puzzle prefix a
   pub numbers : IsFoundBelow (length found) tree
   pub branch_nodes : branch_count tree ≡ branches
-  pub within : length found ≤ 1000000 → IsTreeWithin 101 tree
+  pub within : length found ≤ MOST_ARRANGEMENTS → IsTreeWithin MOST_LEVELS tree
 
--- The outcome of a run, by what the search is then: all was found, or just the fuel was spent, and the search failed.
-abbrev pub IsOutcome : SearchState → List Pair → (fuel : ℕ) → Outcome → Type 0
-IsOutcome after prefix fuel (Done tree found) = IsSearched after.compiled prefix (tree_of tree) found.items after.branches × (after.failed ≡ false)
-IsOutcome after prefix fuel GaveUp = (after.branches ≡ fuel) × (after.failed ≡ true)
+-- The outcome of a run, by what the search was before and is then: all was found, and each link and each size is what
+-- it was; or just the fuel was spent, and the search failed.
+abbrev pub IsOutcome : (before after : SearchState) → List Pair → (fuel : ℕ) → Outcome → Type 0
+IsOutcome before after prefix fuel (Done tree found) = IsSearched after.links.compiled prefix (tree_of tree) found.items after.branches × (after.links ≡ before.links) × (after.failed ≡ false)
+IsOutcome before after prefix fuel GaveUp = (after.branches ≡ fuel) × (after.failed ≡ true)

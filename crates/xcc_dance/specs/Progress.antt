@@ -1,5 +1,6 @@
 -- How a search goes on from a selection.
 use Rattle.std.specs.Prelude.{◌≡◌, ◌⊎◌, ◌≤◌, ◌+◌, ◌-◌, ◌*◌, ℕ, List, Contains, length}
+use Rattle.match_board.specs.declared.limits.TheConstants.{MOST_ARRANGEMENTS, MOST_CELLS, MOST_CHILDREN}
 use Rattle.match_puzzle.specs.declared.placements.Placement.{Placement}
 use Rattle.cert_tree.specs.Tree.{Tree, Forest, count}
 use Rattle.cert_tree.specs.TreeSpelling.{IsTreeWithin, AreTreesWithin}
@@ -8,9 +9,9 @@ use Rattle.xcc_dance.specs.Chosen.{Selection, HasSize}
 use Rattle.xcc_dance.specs.Found.{IsFoundFrom, branch_count, branch_total, IsFoundBelow, AreFoundBelow}
 use Rattle.xcc_dance.specs.declared.progress.Progress.{Progress}
 
--- how many levels of nodes there can be below the one of these choices: one for each option that may be chosen, of at most 100
+-- how many levels of nodes there can be below the one of these choices: one for each option that may still be chosen
 abbrev pub levels_below : Selection → ℕ
-levels_below s = 100 - length s.chosen
+levels_below s = MOST_CELLS - length s.chosen
 
 -- Fuel may be spent, and arrangements found that have all chosen options.
 pub record GoesOn (s : Selection) (before after : Progress) : Type 0 where
@@ -18,19 +19,19 @@ pub record GoesOn (s : Selection) (before after : Progress) : Type 0 where
   pub more : length before.found.items ≤ length after.found.items
   pub found : (a : List Placement) → Contains after.found.items a → Contains before.found.items a ⊎ IsFoundFrom s a
 
--- The tree of these choices: it spent a unit of fuel for each branch node, each of which finds at most 400 more.
+-- The tree of these choices: it spent a unit of fuel for each branch node, each of which finds at most as many more as it may have children.
 pub record IsTreeOf (s : Selection) (before after : Progress) (tree : Tree) : Type 0 where
   pub spent : after.fuel + branch_count tree ≡ before.fuel
   pub numbers : IsFoundBelow (length after.found.items) tree
-  pub within : length after.found.items ≤ 1000000 → IsTreeWithin (levels_below s + 1) tree
-  pub few : length after.found.items + 400 * after.fuel ≤ length before.found.items + 400 * before.fuel + 1
+  pub within : length after.found.items ≤ MOST_ARRANGEMENTS → IsTreeWithin (levels_below s + 1) tree
+  pub few : length after.found.items + MOST_CHILDREN * after.fuel ≤ length before.found.items + MOST_CHILDREN * before.fuel + 1
 
 -- The trees of these choices with one of several options more.
 pub record AreTreesOf (s : Selection) (before after : Progress) (trees : Forest) : Type 0 where
   pub spent : after.fuel + branch_total trees ≡ before.fuel
   pub numbers : AreFoundBelow (length after.found.items) trees
-  pub within : length after.found.items ≤ 1000000 → AreTreesWithin (levels_below s) trees
-  pub few : length after.found.items + 400 * after.fuel ≤ length before.found.items + 400 * before.fuel + count trees
+  pub within : length after.found.items ≤ MOST_ARRANGEMENTS → AreTreesWithin (levels_below s) trees
+  pub few : length after.found.items + MOST_CHILDREN * after.fuel ≤ length before.found.items + MOST_CHILDREN * before.fuel + count trees
 
 -- There is one for each open option of the item.
 abbrev pub AreForEach : Selection → (item : ℕ) → Forest → Type 0

@@ -2,7 +2,6 @@
 #![tactic(auto)]
 
 mod cites;
-mod clashes;
 mod faults;
 mod laws;
 mod links;
@@ -10,7 +9,6 @@ mod paths;
 mod progress;
 mod searches;
 mod searching;
-mod selections;
 #[cfg(test)]
 mod tests;
 
@@ -19,4 +17,3 @@ pub use faults::SearchFault;
 pub use laws::whole_selections_are_solutions;
 pub use links::Links;
 pub use searches::{Outcome, Search};
-pub use selections::Selection;

@@ -4,7 +4,8 @@ ghost use Rattle.std.specs.Prelude.{◌≡◌, ◌<◌, ◌≤◌, ◌*◌, ℕ,
 ghost use Rattle.xcc_form.specs.Options.{IsCompiled, cover_of};
 ghost use Rattle.xcc_form.specs.Correspondence.{IsPairOf, IsSolutionOf};
 ghost use Rattle.xcc_dance.specs.Clashes.{IsOpen, IsOpenAt};
-ghost use Rattle.xcc_dance.specs.Chosen.{IsSelection, IsUncovered, AreAllCovered, HasSize, IsToBranchOn, IsNext, IsLast, with_option};
+ghost use Rattle.xcc_dance.specs.Chosen.{IsSelection, IsUncovered, AreAllCovered, with_option};
+ghost use Rattle.xcc_dance.specs.Chosen.{HasSize, IsToBranchOn, IsNext, IsLast};
 ghost use Rattle.xcc_dance.specs.LinkStates.{selection_of, taken_back};
 
 mod arrays;
@@ -12,22 +13,24 @@ mod committing;
 mod making;
 mod tables;
 #[cfg(test)]
-mod tests;
+pub(crate) mod tests;
 
 use arrays::LinkArrays;
+use match_board::limits::MOST_CELLS;
 use match_puzzle::{Arrangement, Pair};
 use std::alloc::{AllocError, Global};
 use std::marker::Model;
 use tables::NodeTable;
 use xcc_form::{FormFault, Xcc};
 
-/// Options chosen of a compiled puzzle, no two of which clash, as in [`Selection`](crate::Selection), with the other
-/// options in linked lists by item: dancing links with colours (Knuth, TAOCP 4B, 7.2.2.1, Algorithm C), in arrays of
-/// numbered nodes. It borrows the compiled puzzle.
+/// Options chosen of a compiled puzzle, no two of which clash: they share no primary item, and give no secondary item
+/// two colours. The other options are in linked lists by item: dancing links with colours (Knuth, TAOCP 4B, 7.2.2.1,
+/// Algorithm C), in arrays of numbered nodes. It borrows the compiled puzzle.
 ///
-/// An item's list has the options that are open, so that the next one and the number of them are read off. A choice
-/// takes out of all lists the options that clash with it, and taking it back puts them in again, the last one first:
-/// each link and each size is then as it was.
+/// An option is open where it clashes with no chosen one. An item is covered where a chosen option has it. An item's
+/// list has the options that are open, so that the next one and the number of them are read off. A choice takes out of
+/// all lists the options that clash with it, and taking it back puts them in again, the last one first: each link and
+/// each size is then as it was.
 #[derive(Drop)]
 pub struct Links<'a> {
     xcc: &'a Xcc<'a>,
@@ -170,7 +173,7 @@ impl<'a> Links<'a> {
 
     // How many cells there are, which are the first items.
     pub(crate) fn cells(&self) -> u16
-        ensures most { result ≤ 100 }
+        ensures most { result ≤ MOST_CELLS }
         ensures few { (item : ℕ) → item < (cover_of self.now.compiled).primaries → item < 2 * result }
     {
         self.xcc.cells()

@@ -4,8 +4,8 @@ ghost use Rattle.std.specs.Prelude.{◌≡◌, ◌<◌, [], IfOk, OnErr, length}
 ghost use Rattle.xcc_form.specs.Options.{IsCompiled, IsOptionPair, cover_of};
 ghost use Rattle.xcc_form.specs.Correspondence.{IsPairOf};
 ghost use Rattle.xcc_dance.specs.Clashes.{IsOpen};
-ghost use Rattle.xcc_dance.specs.Chosen.{IsSelection, with_option, without_last};
-ghost use Rattle.xcc_dance.specs.LinkStates.{selection_of};
+ghost use Rattle.xcc_dance.specs.Chosen.{IsSelection, with_option};
+ghost use Rattle.xcc_dance.specs.LinkStates.{selection_of, taken_back, before_any};
 ghost use Rattle.xcc_dance.specs.Placing.{ArePairsOf, FitInTurn};
 
 use crate::links::Links;
@@ -14,7 +14,7 @@ use std::alloc::{AllocError, Global};
 use std::marker::Model;
 use xcc_form::Xcc;
 
-// Chosen options with their pairs, in the order of choosing. It is seen as the selection.
+// Chosen options with their pairs, in the order of choosing. It is seen as the link arrays.
 #[derive(Drop)]
 pub(crate) struct Path<'a> {
     links: Links<'a>,
@@ -22,13 +22,12 @@ pub(crate) struct Path<'a> {
 }
 
 impl<'a> Model for Path<'a> {
-    ghost use Rattle.xcc_dance.specs.Chosen.{Selection};
-    ghost use Rattle.xcc_dance.specs.LinkStates.{selection_of};
+    ghost use Rattle.xcc_dance.specs.LinkStates.{LinkState};
     ghost use Rattle.xcc_dance.specs.Placing.{ArePairsOf};
 
-    ghost Value = { Selection };
+    ghost Value = { LinkState };
 
-    ghost view = { λ p. selection_of p.links };
+    ghost view = { λ p. p.links };
 
     ghost invariant = { λ p. ArePairsOf p.links.compiled p.links.chosen p.pairs.items };
 }
@@ -36,7 +35,7 @@ impl<'a> Model for Path<'a> {
 impl<'a> Path<'a> {
     // Nothing is chosen yet.
     pub(crate) fn new(alloc: Global, xcc: &'a Xcc<'a>) -> Result<Path<'a>, AllocError>
-        ensures { IfOk result (λ p. p ≡ record { compiled = xcc.now; chosen = [] }) }
+        ensures { IfOk result (λ p. selection_of p ≡ record { compiled = xcc.now; chosen = [] }) }
     {
         let links = Links::new(alloc, xcc)?;
         let pairs = Vec::with_capacity(alloc, usize::from(links.cells()))?;
@@ -45,7 +44,7 @@ impl<'a> Path<'a> {
 
     // What is chosen, and what is open beside it.
     pub(crate) fn links(&self) -> &Links<'a>
-        ensures same { selection_of result.now ≡ self.now }
+        ensures same { result.now ≡ self.now }
         ensures right { IsSelection self.now.compiled self.now.chosen }
     {
         let _right = self.links.chosen();
@@ -64,7 +63,8 @@ impl<'a> Path<'a> {
     // Chooses an open option. Where memory is refused, nothing changes.
     pub(crate) fn choose(&mut self, option: u32) -> Result<(), AllocError>
         requires { IsOpen (cover_of self.old.compiled) self.old.chosen option }
-        ensures chosen { IfOk result (λ _. self.new ≡ with_option self.old option) }
+        ensures chosen { IfOk result (λ _. selection_of self.new ≡ with_option (selection_of self.old) option) }
+        ensures before { IfOk result (λ _. taken_back self.new ≡ self.old) }
         ensures room { IfOk result (λ _. length self.old.chosen < length self.old.compiled.options) }
         ensures refused { OnErr result (self.new ≡ self.old) }
     {
@@ -77,7 +77,7 @@ impl<'a> Path<'a> {
     // Takes back the option that was chosen last. There is one.
     pub(crate) fn undo(&mut self)
         requires { 0 < length self.old.chosen }
-        ensures { self.new ≡ without_last self.old }
+        ensures { self.new ≡ taken_back self.old }
     {
         self.links.undo();
         self.pairs.pop();
@@ -89,6 +89,7 @@ impl<'a> Path<'a> {
         requires fit { FitInTurn self.old.compiled.puzzle pairs.now }
         ensures compiled { self.new.compiled ≡ self.old.compiled }
         ensures pairs { IfOk result (λ _. ArePairsOf self.new.compiled self.new.chosen pairs.now) }
+        ensures before { IfOk result (λ _. before_any self.new ≡ self.old) }
     {
         for pair in pairs {
             let option = self.option_of(*pair);
@@ -99,7 +100,7 @@ impl<'a> Path<'a> {
 
     // Takes back all options.
     pub(crate) fn undo_all(&mut self)
-        ensures { self.new ≡ record { compiled = self.old.compiled; chosen = [] } }
+        ensures { self.new ≡ before_any self.old }
     {
         while !self.pairs.is_empty() {
             self.undo();

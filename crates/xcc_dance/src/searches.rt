@@ -1,9 +1,13 @@
 //! Searches of a compiled puzzle.
 
-ghost use Rattle.std.specs.Prelude.{◌≡◌, ◌↔◌, ◌⊎◌, ◌≤◌, List, IfOk, IsErrOf, true, false};
+ghost use Rattle.std.specs.Prelude.{◌≡◌, ◌↔◌, ◌⊎◌, ◌≤◌, [], List, IfOk, IsErrOf, true, false};
 ghost use Rattle.match_puzzle.specs.declared.placements.Pair.{Pair as Placed};
+ghost use Rattle.xcc_dance.specs.LinkStates.{selection_of};
 ghost use Rattle.xcc_dance.specs.Placing.{FitInTurn};
 ghost use Rattle.xcc_dance.specs.Outcome.{IsOutcome};
+
+#[cfg(test)]
+mod tests;
 
 use crate::cites::Cites;
 use crate::faults::SearchFault;
@@ -11,6 +15,7 @@ use crate::paths::Path;
 use crate::progress::Progress;
 use crate::searching::walk;
 use cert_tree::Node;
+use match_board::limits::MOST_FUEL;
 use match_puzzle::{Arrangement, Pair};
 use std::alloc::{AllocError, Global};
 use std::marker::Model;
@@ -45,7 +50,7 @@ impl<'a> Model for Search<'a> {
 
     ghost Value = { SearchState };
 
-    ghost view = { λ s. record { compiled = s.path.compiled; branches = s.branches; failed = s.failed } };
+    ghost view = { λ s. record { links = s.path; branches = s.branches; failed = s.failed } };
 
     ghost invariant = { λ s. s.failed ≡ false → s.path.chosen ≡ [] };
 }
@@ -55,7 +60,8 @@ impl<'a> Search<'a> {
     ///
     /// An error where memory for as many options as there are cells is refused.
     pub fn new(alloc: Global, xcc: &'a Xcc<'a>) -> Result<Search<'a>, AllocError>
-        ensures { IfOk result (λ s. s ≡ record { compiled = xcc.now; branches = 0; failed = false }) }
+        ensures empty { IfOk result (λ s. selection_of s.links ≡ record { compiled = xcc.now; chosen = [] }) }
+        ensures ready { IfOk result (λ s. (s.branches ≡ 0) × (s.failed ≡ false)) }
     {
         Ok(Search {
             alloc,
@@ -74,7 +80,8 @@ impl<'a> Search<'a> {
 
     /// Finds the arrangements that extend the prefix, each pair of which fits those before it, with at most `fuel`
     /// branch nodes, which is at most 1,000,000. Before a child of a branch is searched, `cites` is asked what stands
-    /// for it, with all pairs that are placed there.
+    /// for it, with all pairs that are placed there. After `Done` the search is ready for another run: each link and
+    /// each size is what it was.
     ///
     /// `GaveUp` after just `fuel` branch nodes, where another was needed. `Failed` where an earlier run gave up or ran
     /// out of memory; then nothing changes. `Memory` where memory is refused, also to `cites`.
@@ -84,11 +91,12 @@ impl<'a> Search<'a> {
         fuel: u32,
         cites: &mut C,
     ) -> Result<Outcome, SearchFault>
-        requires prefix { FitInTurn self.old.compiled.puzzle prefix.now }
-        requires fuel { fuel ≤ 1000000 }
-        requires takes { (pairs : List Placed) → FitInTurn self.old.compiled.puzzle pairs → C.takes cites.old pairs }
-        ensures compiled { self.new.compiled ≡ self.old.compiled }
-        ensures outcome { IfOk result (IsOutcome self.new prefix.now fuel) }
+        requires prefix { FitInTurn self.old.links.compiled.puzzle prefix.now }
+        requires fuel { fuel ≤ MOST_FUEL }
+        requires takes { (pairs : List Placed) → FitInTurn self.old.links.compiled.puzzle pairs
+            → C.takes cites.old pairs }
+        ensures compiled { self.new.links.compiled ≡ self.old.links.compiled }
+        ensures outcome { IfOk result (IsOutcome self.old self.new prefix.now fuel) }
         ensures most { self.new.branches ≤ fuel ⊎ IsErrOf result SearchFault.Failed }
         ensures failed { IsErrOf result SearchFault.Failed ↔ (self.old.failed ≡ true) }
         ensures memory { IsErrOf result SearchFault.Memory → self.new.failed ≡ true }

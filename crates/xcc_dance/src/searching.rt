@@ -5,6 +5,7 @@ ghost use Rattle.match_puzzle.specs.declared.placements.Pair.{Pair};
 ghost use Rattle.xcc_form.specs.Options.{cover_of};
 ghost use Rattle.cert_tree.specs.Tree.{tree_of, forest_of};
 ghost use Rattle.xcc_dance.specs.Chosen.{IsUncovered};
+ghost use Rattle.xcc_dance.specs.LinkStates.{selection_of};
 ghost use Rattle.xcc_dance.specs.Placing.{FitInTurn};
 ghost use Rattle.xcc_dance.specs.Found.{IsDeadAt, IsBranchOn, IsCitation};
 ghost use Rattle.xcc_dance.specs.Progress.{GoesOn, IsTreeOf, AreTreesOf, AreForEach};
@@ -13,6 +14,7 @@ use crate::cites::{Cite, Cites};
 use crate::paths::Path;
 use crate::progress::Progress;
 use cert_tree::{Children, Node};
+use match_board::limits::{MOST_CELLS, MOST_CHILDREN};
 use std::alloc::{AllocError, Global};
 
 // The tree of what is chosen, or none where the fuel does not do. Then the choices are as before.
@@ -24,11 +26,12 @@ pub(crate) fn walk<C: Cites>(
     progress: &mut Progress,
 ) -> Result<Option<Node>, AllocError>
     requires takes { (pairs : List Pair) → FitInTurn path.old.compiled.puzzle pairs → C.takes cites.old pairs }
-    requires room { length progress.old.found.items + 400 * progress.old.fuel + 1 < 2 ^ 32 }
+    requires room { length progress.old.found.items + MOST_CHILDREN * progress.old.fuel + 1 < 2 ^ 32 }
     ensures compiled { path.new.compiled ≡ path.old.compiled }
     ensures moved { C.moves cites.old cites.new }
-    ensures goes_on { GoesOn path.old progress.old progress.new }
-    ensures tree { IfOk result (λ o. MatchOption o (progress.new.fuel ≡ 0) (λ t. (path.new ≡ path.old) × IsTreeOf path.old progress.old progress.new (tree_of t))) }
+    ensures goes_on { GoesOn (selection_of path.old) progress.old progress.new }
+    ensures tree { IfOk result (λ o. MatchOption o (progress.new.fuel ≡ 0)
+        (λ t. (path.new ≡ path.old) × IsTreeOf (selection_of path.old) progress.old progress.new (tree_of t))) }
 {
     let links = path.links();
     let Some(item) = links.branch_item() else {
@@ -61,11 +64,13 @@ fn walk_options<C: Cites>(
 ) -> Result<Option<Children>, AllocError>
     requires uncovered { IsUncovered (cover_of path.old.compiled) path.old.chosen item }
     requires takes { (pairs : List Pair) → FitInTurn path.old.compiled.puzzle pairs → C.takes cites.old pairs }
-    requires room { length progress.old.found.items + 400 * progress.old.fuel + 400 < 2 ^ 32 }
+    requires room { length progress.old.found.items + MOST_CHILDREN * progress.old.fuel + MOST_CHILDREN < 2 ^ 32 }
     ensures compiled { path.new.compiled ≡ path.old.compiled }
     ensures moved { C.moves cites.old cites.new }
-    ensures goes_on { GoesOn path.old progress.old progress.new }
-    ensures trees { IfOk result (λ o. MatchOption o (progress.new.fuel ≡ 0) (λ c. (path.new ≡ path.old) × AreForEach path.old item (forest_of c.nodes.items) × AreTreesOf path.old progress.old progress.new (forest_of c.nodes.items))) }
+    ensures goes_on { GoesOn (selection_of path.old) progress.old progress.new }
+    ensures trees { IfOk result (λ o. MatchOption o (progress.new.fuel ≡ 0)
+        (λ c. (path.new ≡ path.old) × AreForEach (selection_of path.old) item (forest_of c.nodes.items)
+        × AreTreesOf (selection_of path.old) progress.old progress.new (forest_of c.nodes.items))) }
 {
     let mut nodes = Vec::new(alloc);
     let mut next = path.links().next_option(item, None);
@@ -90,11 +95,12 @@ fn child<C: Cites>(
     progress: &mut Progress,
 ) -> Result<Option<Node>, AllocError>
     requires takes { (pairs : List Pair) → FitInTurn path.old.compiled.puzzle pairs → C.takes cites.old pairs }
-    requires room { length progress.old.found.items + 400 * progress.old.fuel + 1 < 2 ^ 32 }
+    requires room { length progress.old.found.items + MOST_CHILDREN * progress.old.fuel + 1 < 2 ^ 32 }
     ensures compiled { path.new.compiled ≡ path.old.compiled }
     ensures moved { C.moves cites.old cites.new }
-    ensures goes_on { GoesOn path.old progress.old progress.new }
-    ensures tree { IfOk result (λ o. MatchOption o (progress.new.fuel ≡ 0) (λ t. (path.new ≡ path.old) × IsTreeOf path.old progress.old progress.new (tree_of t))) }
+    ensures goes_on { GoesOn (selection_of path.old) progress.old progress.new }
+    ensures tree { IfOk result (λ o. MatchOption o (progress.new.fuel ≡ 0)
+        (λ t. (path.new ≡ path.old) × IsTreeOf (selection_of path.old) progress.old progress.new (tree_of t))) }
 {
     match cites.cite(path.pairs())? {
         Some(cite) => Ok(Some(citation(cite))),
@@ -114,7 +120,7 @@ fn citation(cite: Cite) -> Node
 
 // The node of an item that has no open option.
 fn dead_node(cells: u16, item: u32) -> Node
-    requires cells { cells ≤ 100 }
+    requires cells { cells ≤ MOST_CELLS }
     requires item { item < 2 * cells }
     ensures { IsDeadAt cells item (tree_of result) }
 {
@@ -127,7 +133,7 @@ fn dead_node(cells: u16, item: u32) -> Node
 
 // The branch on an item with these children.
 fn branch_node(cells: u16, item: u32, children: Children) -> Node
-    requires cells { cells ≤ 100 }
+    requires cells { cells ≤ MOST_CELLS }
     requires item { item < 2 * cells }
     ensures { IsBranchOn cells item (forest_of children.nodes.items) (tree_of result) }
 {

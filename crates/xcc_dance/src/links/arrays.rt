@@ -1,7 +1,8 @@
 //! Link arrays: the open options in the lists of their items, and the options that were taken out.
 
 ghost use Rattle.std.specs.Prelude.{◌≡◌, ◌<◌, ◌≤◌, ◌++◌, ◌∷◌, [], false, IfOk, length, slice_index_or, take, drop};
-ghost use Rattle.xcc_dance.specs.ArrayWords.{IsTable, HasOption, FitTable, ListTheOpen, CanGoBack, arrays_of, item_at, with_back};
+ghost use Rattle.xcc_dance.specs.ArrayWords.{IsTable, HasOption, FitTable, ListTheOpen, CanGoBack};
+ghost use Rattle.xcc_dance.specs.ArrayWords.{arrays_of, item_at, with_back};
 ghost use Rattle.xcc_dance.specs.NodeTables.{AreOptions, has};
 ghost use Rattle.xcc_dance.specs.Rings.{Inside, unlinked, relinked, fewer_at, more_at};
 ghost use Rattle.xcc_dance.specs.Trails.{back};
@@ -116,7 +117,8 @@ impl LinkArrays {
         requires mark { mark ≤ length self.old.trail.items }
         requires fits { FitTable table.now self.old }
         requires options { AreOptions table.now.starts.items self.old.trail.items }
-        ensures back { arrays_of self.new ≡ back (with_back table.now) (drop mark self.old.trail.items) (arrays_of self.old) }
+        ensures back { arrays_of self.new
+            ≡ back (with_back table.now) (drop mark self.old.trail.items) (arrays_of self.old) }
         ensures trail { self.new.trail.items ≡ take mark self.old.trail.items }
     {
         while self.trail.len() > mark {

@@ -1,7 +1,8 @@
 //! A choice: what the chosen option excludes is taken out of the lists.
 
 ghost use Rattle.std.specs.Prelude.{◌⊎◌, ◌<◌, ◌≤◌, ◌+◌, ℕ, IfOk, length};
-ghost use Rattle.xcc_dance.specs.ArrayWords.{IsTable, ListTheOpen, CanGoBack, IsHidden, DiffersAt, IsExcludedAt, IsExcludedBy, HasUncoveredItem};
+ghost use Rattle.xcc_dance.specs.ArrayWords.{IsTable, ListTheOpen, CanGoBack, IsHidden};
+ghost use Rattle.xcc_dance.specs.ArrayWords.{DiffersAt, IsExcludedAt, IsExcludedBy, HasUncoveredItem};
 ghost use Rattle.xcc_dance.specs.NodeTables.{start_of};
 
 use crate::links::arrays::LinkArrays;
@@ -22,7 +23,8 @@ impl LinkArrays {
         ensures all { IfOk result
             (λ _. (option : ℕ) → DiffersAt table.now item colour option → IsHidden self.new option) }
         ensures only { IfOk result
-            (λ _. (option : ℕ) → IsHidden self.new option → IsHidden self.old option ⊎ DiffersAt table.now item colour option) }
+            (λ _. (option : ℕ) → IsHidden self.new option
+            → IsHidden self.old option ⊎ DiffersAt table.now item colour option) }
     {
         let mut node = self.links[item as usize].down;
         while node != item {
@@ -49,7 +51,8 @@ impl LinkArrays {
         ensures all { IfOk result
             (λ _. (option : ℕ) → IsExcludedAt table.now node option → IsHidden self.new option) }
         ensures only { IfOk result
-            (λ _. (option : ℕ) → IsHidden self.new option → IsHidden self.old option ⊎ IsExcludedAt table.now node option) }
+            (λ _. (option : ℕ) → IsHidden self.new option
+            → IsHidden self.old option ⊎ IsExcludedAt table.now node option) }
     {
         let entry = table.entries[node as usize];
         if entry.item >= table.primaries {
@@ -76,7 +79,8 @@ impl LinkArrays {
         ensures all { IfOk result
             (λ _. (other : ℕ) → IsExcludedBy table.now option other → IsHidden self.new other) }
         ensures only { IfOk result
-            (λ _. (other : ℕ) → IsHidden self.new other → IsHidden self.old other ⊎ IsExcludedBy table.now option other) }
+            (λ _. (other : ℕ) → IsHidden self.new other
+            → IsHidden self.old other ⊎ IsExcludedBy table.now option other) }
     {
         for node in table.starts[option as usize]..table.starts[option as usize + 1] {
             self.commit(table, node)?;

@@ -8,6 +8,15 @@ use xcc_form::compile;
 // How many options each primary item has: the cells 3, 3, 12 and 3, the tiles 3, 6, 6 and 6.
 const SIZES: [u32; 8] = [3, 3, 12, 3, 3, 6, 6, 6];
 
+// Whether each link and each size is the same, and the same options are hidden and chosen.
+pub(crate) fn have_same_arrays(one: &Links<'_>, other: &Links<'_>) -> bool {
+    one.arrays.links == other.arrays.links
+        && one.arrays.sizes == other.arrays.sizes
+        && one.arrays.trail == other.arrays.trail
+        && one.marks == other.marks
+        && one.chosen == other.chosen
+}
+
 #[test]
 fn sizes_of_the_turning_triangle(rt: HostRuntime) -> Result<(), Fail> {
     let alloc = rt.alloc();

@@ -2,14 +2,14 @@ use Rattle.std.proofs.Common.{◌≡◌, ◌+◌, ◌-◌, ◌*◌, MatchOption,
 use Rattle.xcc_form.specs.Options.{cover_of}
 use Rattle.cert_tree.specs.Tree.{forest_of}
 use Rattle.xcc_dance.specs.Clashes.{IsOpenAt}
-use Rattle.xcc_dance.specs.Chosen.{Selection}
+use Rattle.xcc_dance.specs.LinkStates.{LinkState, selection_of}
 use Rattle.xcc_dance.specs.Progress.{GoesOn, AreTreesOf}
 use Rattle.xcc_dance.proofs.SizeLemmas.{CountedBefore}
 use Rattle.xcc_dance.proofs.GrowingLemmas.{left_after}
 use Rattle.xcc_dance.proofs.searching.+walk.Given as goal
 
 -- how many options are not chosen
-abbrev left_of : Selection → ℕ
+abbrev left_of : LinkState → ℕ
 left_of s = length s.compiled.options - length s.chosen
 
 abbrev pub decreases-walk : goal.decreases-walk
@@ -27,8 +27,8 @@ invariant-walk_options-loop-next g l = record {
   next : MatchOption l.next (Unit {0}) (IsOpenAt (cover_of l.initial.path.compiled) l.initial.path.chosen l.item);
   counted : CountedBefore (cover_of l.initial.path.compiled) l.initial.path.chosen l.item l.next (length l.nodes.items);
   moved : g.C.Cites.moves l.initial.cites l.cites;
-  goes_on : GoesOn l.initial.path l.initial.progress l.progress;
-  trees : AreTreesOf l.initial.path l.initial.progress l.progress (forest_of l.nodes.items);
+  goes_on : GoesOn (selection_of l.initial.path) l.initial.progress l.progress;
+  trees : AreTreesOf (selection_of l.initial.path) l.initial.progress l.progress (forest_of l.nodes.items);
 }
 
 abbrev pub decreases-walk_options-loop-next : goal.decreases-walk_options-loop-next

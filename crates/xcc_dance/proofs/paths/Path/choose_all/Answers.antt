@@ -5,6 +5,7 @@ use Rattle.xcc_form.specs.Options.{Compiled, IsOptionPair}
 use Rattle.xcc_dance.specs.Chosen.{Selection}
 use Rattle.xcc_dance.specs.Placing.{ArePairsOf, FitInTurn}
 use Rattle.xcc_dance.proofs.PlacingLemmas.{option_pair_at, next_is_open, pairs_pushed}
+use Rattle.xcc_dance.proofs.BackLemmas.{one_back}
 use Rattle.xcc_dance.proofs.paths.Path.choose_all.Goals as goal
 
 -- what is read past the end
@@ -39,4 +40,5 @@ loop-pair-preserved c =
       compiled = ap (λ (v : Selection). v.compiled) chosen ∙ c.loop-pair.invariant.compiled;
       pairs = subst (λ (v : Selection). ArePairsOf v.compiled v.chosen (take (place + 1) pairs)) (sym chosen)
           (subst (ArePairsOf s.compiled (s.chosen ++ c.option_of-option.result ∷ [])) (sym (taken_more pairs place y (read_pair pairs place no_pair c.loop-pair-test.true))) pushed);
+      before = one_back s c.choose.new.self c.option_of-option.result chosen c.in_ok-choose.ensures.before ∙ c.loop-pair.invariant.before;
     }

@@ -1,4 +1,5 @@
-use Rattle.std.proofs.Common.{◌≡◌, take}
+use Rattle.std.proofs.Common.{◌≡◌, length, take}
+use Rattle.xcc_dance.specs.LinkStates.{before_any}
 use Rattle.xcc_dance.specs.Placing.{ArePairsOf}
 use Rattle.xcc_dance.proofs.paths.Path.choose_all.Given as goal
 
@@ -6,4 +7,5 @@ abbrev pub invariant-loop-pair : goal.invariant-loop-pair
 invariant-loop-pair l = record {
   compiled : l.self.compiled ≡ l.initial.self.compiled;
   pairs : ArePairsOf l.self.compiled l.self.chosen (take l.pair-index l.pairs);
+  before : before_any l.self ≡ l.initial.self;
 }

@@ -1,9 +1,10 @@
 use Rattle.std.proofs.Common.{◌≡◌, ◌+◌, Contains, MatchOption, arith, ap, sym, ◌∙◌, subst, ⊎_elim, refl}
+use Rattle.match_board.specs.declared.limits.TheConstants.{MOST_LEVELS}
 use Rattle.match_board.proofs.Listings.{contains_none}
 use Rattle.cert_tree.specs.Tree.{tree_of}
 use Rattle.cert_tree.specs.declared.nodes.Node.{Node}
 use Rattle.xcc_form.specs.Options.{Compiled}
-use Rattle.xcc_dance.specs.Chosen.{Selection}
+use Rattle.xcc_dance.specs.LinkStates.{LinkState, selection_of, before_any}
 use Rattle.xcc_dance.specs.Placing.{FitInTurn, IsArrangementWith}
 use Rattle.xcc_dance.specs.Progress.{IsTreeOf, levels_below}
 use Rattle.xcc_dance.specs.Outcome.{SearchState}
@@ -12,11 +13,11 @@ use Rattle.xcc_dance.proofs.WithinLemmas.{deeper}
 use Rattle.xcc_dance.proofs.searches.Search.run.Goals as goal
 
 pub choose_all-requires-clause-fit : goal.choose_all-requires-clause-fit
-choose_all-requires-clause-fit g c = subst (λ (v : SearchState). FitInTurn v.compiled.puzzle c.args.prefix.now) (sym c.self.view_is) c.requires.prefix
+choose_all-requires-clause-fit g c = subst (λ (v : SearchState). FitInTurn v.links.compiled.puzzle c.args.prefix.now) (sym c.self.view_is) c.requires.prefix
 
 pub walk-walked-requires-clause-takes : goal.walk-walked-requires-clause-takes
 walk-walked-requires-clause-takes g c pairs fit =
-    let compiled = c.choose_all.ensures.compiled ∙ ap (λ (v : SearchState). v.compiled) c.self.view_is in
+    let compiled = c.choose_all.ensures.compiled ∙ ap (λ (v : SearchState). v.links.compiled) c.self.view_is in
     c.requires.takes pairs (subst (λ (x : Compiled). FitInTurn x.puzzle pairs) compiled fit)
 
 pub returns-clause-outcome : goal.returns-clause-outcome
@@ -24,19 +25,22 @@ returns-clause-outcome g c =
     let s = c.choose_all.new.self in
     let after = c.walk-walked.new.progress in
     let w = c.in_ok-tree.ensures in
-    let tree = subst (λ o. MatchOption o (after.fuel ≡ 0) (λ (n : Node). (c.walk-walked.new.path ≡ s) × IsTreeOf s (record { fuel = c.args.fuel; found = c.new-found.result }) after (tree_of n))) c.in-Some.is w.tree in
+    let tree = subst (λ o. MatchOption o (after.fuel ≡ 0) (λ (n : Node). (c.walk-walked.new.path ≡ s) × IsTreeOf (selection_of s) (record { fuel = c.args.fuel; found = c.new-found.result }) after (tree_of n))) c.in-Some.is w.tree in
     let t = tree.1 in
-    let compiled : c.undo_all.new.self.compiled ≡ s.compiled = ap (λ (v : Selection). v.compiled) c.undo_all.ensures ∙ ap (λ (v : Selection). v.compiled) tree.0 in
+    let back : c.undo_all.new.self ≡ c.self.inside.path = c.undo_all.ensures ∙ ap before_any tree.0 ∙ c.in_ok-choose_all.ensures.before in
+    let links : c.undo_all.new.self ≡ c.args.self.now.links = back ∙ ap (λ (v : SearchState). v.links) c.self.view_is in
+    let compiled : c.undo_all.new.self.compiled ≡ s.compiled = ap (λ (v : LinkState). v.compiled) back ∙ sym c.choose_all.ensures.compiled in
     let spent = t.spent in (
       record {
         found_are = λ a h.
             ⊎_elim
             (λ old. absurd (contains_none a (subst (λ xs. Contains xs a) c.new-found.ensures.items old)))
-            (λ f. subst (λ (x : Compiled). IsArrangementWith x.puzzle c.args.prefix.now a) (sym compiled) (found_extends s c.args.prefix.now a c.in_ok-choose_all.ensures.pairs f))
+            (λ f. subst (λ (x : Compiled). IsArrangementWith x.puzzle c.args.prefix.now a) (sym compiled) (found_extends (selection_of s) c.args.prefix.now a c.in_ok-choose_all.ensures.pairs f))
             (w.goes_on.found a h);
         numbers = t.numbers;
         branch_nodes = omega (arith, spent);
-        within = λ few. deeper (levels_below s + 1) 101 (omega arith) (tree_of c.in-Some.tree) (t.within few);
+        within = λ few. deeper (levels_below (selection_of s) + 1) MOST_LEVELS (omega arith) (tree_of c.in-Some.tree) (t.within few);
       },
+      links,
       refl,
     )
