@@ -1,5 +1,5 @@
 -- The lemma and the certificate that are read are those that were written, and what was written is read again.
-use Rattle.std.proofs.Common.{◌≡◌, ℕ, List, [], ◌∷◌, ◌++◌, length, map, Ok, refl, sym, ap, subst, ◌∙◌, zero-add, arith, codes}
+use Rattle.std.proofs.Common.{◌≡◌, ℕ, List, [], ◌∷◌, ◌++◌, length, map, Ok, refl, sym, ap, subst, ◌∙◌, arith, codes}
 use Rattle.match_board.specs.declared.limits.TheConstants.{MOST_SYMMETRIES, MOST_LEMMAS}
 use Rattle.std.specs.List.{flat_map}
 use Rattle.std.proofs.lemmas.List.{append-nil}
@@ -8,8 +8,9 @@ use Rattle.match_symmetry.specs.declared.lines.SymmetryLine.{SymmetryLine}
 use Rattle.match_text.specs.Laws.{ReadsSpellingsAlone, ReadsEachSpelling, EndsWhereCut}
 use Rattle.match_text.specs.Place.{Place, Read, ◌>>=◌, give, times, opening, counted, closing, end_of_text, start}
 use Rattle.match_text.specs.Spelling.{text_of, first_words, count_words, end_lines}
-use Rattle.match_text.proofs.CutLemmas.{CutsShort, LeavesNothing, place, bind_ok, ok_is, cuts_bind, cuts_give, cuts_times, cuts_opening, cuts_counted, cuts_closing, cuts_end_of_text, leaves_closing, leaves_after, ends_early, end_is_reached, end_leaves}
-use Rattle.match_text.proofs.LineLemmas.{takes_opening, takes_counted, closing_is, closing_again, times_is, times_again, lines_then, value_ok}
+use Rattle.match_text.proofs.CutLemmas.{CutsShort, LeavesNothing, place, bind_ok, ok_is, cuts_bind, cuts_give, cuts_times, cuts_opening, cuts_counted, cuts_closing, cuts_end_of_text, leaves_closing, leaves_after, end_is_reached, end_leaves}
+use Rattle.match_text.proofs.LineLemmas.{takes_opening, takes_counted, closing_is, closing_again, times_is, times_again, lines_then}
+use Rattle.match_text.proofs.TextLaws.{reads_alone, reads_each, ends_where_cut}
 use Rattle.match_text.proofs.WritingLemmas.{text_of-append}
 use Rattle.cert_tree.specs.Certificate.{Piece}
 use Rattle.cert_tree.specs.CertificateText.{symmetry_line, lemma_line, lemma_text, lemma_of, Said, certificate_text, certificate_of}
@@ -49,23 +50,17 @@ lemma_leaves p x e =
 -- what is read is spelled so
 pub lemma_found : ReadsSpellingsAlone lemma_of IsLemmaWithin lemma_spelling
 unfolding lemma_of lemma_spelling
-lemma_found text piece e =
-    let v = value_ok (lemma_text (start text)) piece e in
-    let is = lemma_is (start text) (piece, v.0) v.1 in
-    (is.1, is.0)
+lemma_found = reads_alone lemma_text IsLemmaWithin (λ piece. text_of (lemma_words piece ∷ [])) lemma_is
 
 -- what is spelled so is read
 pub lemma_only : ReadsEachSpelling lemma_of IsLemmaWithin lemma_spelling
 unfolding lemma_of lemma_spelling
-lemma_only piece fits = let again = lemma_again piece fits in rw again.1 refl
+lemma_only = reads_each lemma_text IsLemmaWithin (λ piece. text_of (lemma_words piece ∷ [])) lemma_again
 
 -- a text that is cut short ends at its last line
 pub lemma_short : EndsWhereCut lemma_of
 unfolding lemma_of
-lemma_short text piece k e lt =
-    let v = value_ok (lemma_text (start text)) piece e in
-    let cut = ends_early lemma_text cuts_lemma_text lemma_leaves text (piece, v.0) k v.1 lt in
-    rw (cut, zero-add) refl
+lemma_short = ends_where_cut lemma_text IsLemmaWithin lemma_spelling cuts_lemma_text lemma_leaves
 
 -- ---- a certificate
 
@@ -193,20 +188,14 @@ certificate_leaves = leaves_after (opening (codes "certificate")) (λ _. many_th
 -- what is read is spelled so
 pub certificate_found : ReadsSpellingsAlone certificate_of IsCertificateWithin certificate_spelling
 unfolding certificate_of certificate_spelling
-certificate_found text said e =
-    let v = value_ok (certificate_text (start text)) said e in
-    let is = certificate_is (start text) (said, v.0) v.1 in
-    (is.1, is.0)
+certificate_found = reads_alone certificate_text IsCertificateWithin (λ said. text_of (certificate_lines said)) certificate_is
 
 -- what is spelled so is read
 pub certificate_only : ReadsEachSpelling certificate_of IsCertificateWithin certificate_spelling
 unfolding certificate_of certificate_spelling
-certificate_only said fits = let again = certificate_again said fits in rw again.1 refl
+certificate_only = reads_each certificate_text IsCertificateWithin (λ said. text_of (certificate_lines said)) certificate_again
 
 -- a text that is cut short ends at its last line
 pub certificate_short : EndsWhereCut certificate_of
 unfolding certificate_of
-certificate_short text said k e lt =
-    let v = value_ok (certificate_text (start text)) said e in
-    let cut = ends_early certificate_text cuts_certificate certificate_leaves text (said, v.0) k v.1 lt in
-    rw (cut, zero-add) refl
+certificate_short = ends_where_cut certificate_text IsCertificateWithin certificate_spelling cuts_certificate certificate_leaves

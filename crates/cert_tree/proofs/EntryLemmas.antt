@@ -1,23 +1,14 @@
 -- Reading entries up to a word, one after the other, as a loop does.
-use Rattle.std.proofs.Common.{◌≡◌, ℕ, zero, suc, Bool, true, false, not, List, [], ◌∷◌, ◌++◌, Result, Ok, Err, refl, sym, ap, subst, ◌∙◌}
+use Rattle.std.proofs.Common.{◌≡◌, ℕ, zero, suc, Bool, true, false, not, List, [], ◌∷◌, Result, Ok, Err, refl, ap, subst}
 use Rattle.std.specs.Str.{bytes_eq}
-use Rattle.std.proofs.lemmas.List.{append-nil}
 use Rattle.match_text.specs.declared.faults.TextFault.{TextFault}
 use Rattle.match_text.specs.declared.faults.TextKind.{TextKind}
 use Rattle.match_text.specs.declared.faults.TextKind.TheVariants.{Limit}
-use Rattle.match_text.specs.declared.faults.ReadFault.{ReadFault}
-use Rattle.match_text.specs.declared.faults.ReadFault.TheVariants as faults
 use Rattle.match_text.specs.Words.{◌>>=◌}
-use Rattle.match_text.specs.Place.{Place, fail, judged, word_from, word_by, Fails}
+use Rattle.match_text.specs.Place.{Place, fail, judged, word_from, word_by}
 use Rattle.match_text.proofs.CutLemmas.{place, ok_is}
-use Rattle.match_text.proofs.LoopLemmas.{with_front, with_front-one}
+use Rattle.match_text.proofs.LoopLemmas.{with_front, err_is, ReadsEntries}
 use Rattle.cert_tree.specs.Entries.{goes_on, entries_before_in, before_from, entries_before}
-
-abbrev failed : {A : Type 0} → TextFault → Result A TextFault
-failed f = Err f
-
-err_is : {A : Type 0} (f g : TextFault) → failed {A = A} f ≡ failed g → f ≡ g
-err_is f g e = cc
 
 module _ {X : Type 0} (stop : List ℕ) (test : List ℕ → Result X TextKind) where
   abbrev all_from : List (List ℕ) → ℕ → X → Result (List X × List (List ℕ)) TextKind
@@ -45,13 +36,6 @@ module _ {X : Type 0} (stop : List ℕ) (test : List ℕ → Result X TextKind) 
   step p room [] x q on e = absurd cc
   step p room (word ∷ others) x q on e = rw (other_word (bytes_eq word stop) on) (after_judged p room others (test word) x q e)
 
-  pub before_goes_on : (p q : Place) (room after : ℕ) (front longer : List X) (x : X) (total : Result (List X × Place) TextFault) → room ≡ suc after → longer ≡ front ++ x ∷ [] → goes_on stop p.words ≡ true → word_by test p ≡ Ok (x, q)
-      → with_front front (entries_before stop room test p) ≡ total → with_front longer (entries_before stop after test q) ≡ total
-  unfolding entries_before word_by
-  before_goes_on p q room after front longer x total k e on h so_far =
-      let one : with_front front (entries_before stop room test p) ≡ with_front (front ++ x ∷ []) (entries_before stop after test q) = rw (k, step p after p.words x q on h) (with_front-one front x (entries_before stop after test q)) in
-      ap (λ xs. with_front xs (entries_before stop after test q)) e ∙ sym one ∙ so_far
-
   fault_after : (p : Place) (room : ℕ) (others : List (List ℕ)) (judgement : Result X TextKind) (f : TextFault) → judged p others judgement ≡ Err f → before_from p (judgement >>= all_from others room) ≡ Err f
   fault_after p room others (Ok y) f e = absurd cc
   fault_after p room others (Err k) f e = ap (λ g. Err g) (err_is {A = X × Place} (record { line = p.line; kind = k }) f e)
@@ -61,25 +45,10 @@ module _ {X : Type 0} (stop : List ℕ) (test : List ℕ → Result X TextKind) 
   fault_on p room [] f on e = absurd cc
   fault_on p room (word ∷ others) f on e = rw (other_word (bytes_eq word stop) on) (fault_after p room others (test word) f e)
 
-  pub before_fail : (p : Place) (room after : ℕ) (front : List X) (e : ReadFault) (total : Result (List X × Place) TextFault) → room ≡ suc after → goes_on stop p.words ≡ true → Fails e (word_by test p)
-      → with_front front (entries_before stop room test p) ≡ total → Fails e total
-  unfolding entries_before word_by
-  before_fail p room after front faults.Memory total k on h so_far = tt
-  before_fail p room after front (faults.Text f) total k on h so_far =
-      let one : with_front front (entries_before stop room test p) ≡ Err f = rw (k, fault_on p after p.words f on h) refl in
-      sym so_far ∙ one
-
   limit_on : (p : Place) (words : List (List ℕ)) → goes_on stop words ≡ true → before_from p (entries_before_in stop 0 test words) ≡ fail p.line Limit
   unfolding entries_before_in
   limit_on p [] on = absurd cc
   limit_on p (word ∷ others) on = rw (other_word (bytes_eq word stop) on) refl
-
-  pub before_limit : (p : Place) (room : ℕ) (front : List X) (total : Result (List X × Place) TextFault) → room ≡ 0 → goes_on stop p.words ≡ true
-      → with_front front (entries_before stop room test p) ≡ total → total ≡ fail p.line Limit
-  unfolding entries_before
-  before_limit p room front total k on so_far =
-      let one : with_front front (entries_before stop room test p) ≡ fail p.line Limit = rw (k, limit_on p p.words on) refl in
-      sym so_far ∙ one
 
   wanted_word : (b : Bool) → not b ≡ false → b ≡ true
   wanted_word true e = refl
@@ -92,9 +61,11 @@ module _ {X : Type 0} (stop : List ℕ) (test : List ℕ → Result X TextKind) 
   none_in zero (word ∷ others) off = rw (wanted_word (bytes_eq word stop) off) refl
   none_in (suc room) (word ∷ others) off = rw (wanted_word (bytes_eq word stop) off) refl
 
-  pub before_done : (p : Place) (room : ℕ) (front : List X) (total : Result (List X × Place) TextFault) → goes_on stop p.words ≡ false
-      → with_front front (entries_before stop room test p) ≡ total → total ≡ Ok (front, p)
-  unfolding entries_before
-  before_done p room front total off so_far =
-      let one : with_front front (entries_before stop room test p) ≡ Ok (front, p) = rw (none_in room p.words off) (ap (λ xs. Ok (xs, p)) (append-nil front)) in
-      sym so_far ∙ one
+  pub reads_before : ReadsEntries test (λ p. goes_on stop p.words ≡ true) (λ p. goes_on stop p.words ≡ false) (λ room. entries_before stop room test)
+  unfolding entries_before word_by
+  reads_before = record {
+    one = λ room p q x on h. step p room p.words x q on h;
+    fault = λ room p f on h. fault_on p room p.words f on h;
+    limit = λ p on. limit_on p p.words on;
+    none = λ room p off. ap (before_from p) (none_in room p.words off);
+  }

@@ -1,31 +1,21 @@
 -- Words that are written behind one another.
-use Rattle.std.proofs.Common.{◌≡◌, ℕ, List, [], ◌∷◌, ◌++◌, map, refl, sym, ap, ◌∙◌, append_assoc, codes}
+use Rattle.std.proofs.Common.{◌≡◌, ℕ, List, [], ◌∷◌, ◌++◌, map, refl, ap, ◌∙◌, append_assoc, codes}
 use Rattle.std.specs.Fmt.{decimal}
-use Rattle.std.specs.List.{join_with_byte}
-use Rattle.std.proofs.lemmas.List.{append-nil}
-use Rattle.std.proofs.lemmas.List.Concat.{flat_map-append}
 use Rattle.match_symmetry.specs.declared.lines.SymmetryLine.{SymmetryLine}
-use Rattle.match_text.specs.Spelling.{line_text, colour_word}
+use Rattle.match_text.specs.Spelling.{line_text, spaced, colour_word}
+use Rattle.match_text.proofs.WritingLemmas.{spaced-append, line_text-cons}
 use Rattle.cert_tree.specs.Certificate.{Piece}
 use Rattle.cert_tree.specs.TreeSpelling.{tree_words}
 use Rattle.cert_tree.specs.CertificateSpelling.{mirrored_word, symmetry_words, pair_word, lemma_words}
-use Rattle.cert_tree.specs.Writing.{spaced}
 
 -- ---- lines
 
--- words of a line behind the first
-pub join_spaced : (word : List ℕ) (words : List (List ℕ)) → join_with_byte 32 (word ∷ words) ≡ word ++ spaced words
-join_spaced word [] = sym (append-nil word)
-join_spaced word (w ∷ words) = ap (λ t. word ++ 32 ∷ t) (join_spaced w words)
-
-spaced-append : (words others : List (List ℕ)) → spaced (words ++ others) ≡ spaced words ++ spaced others
-spaced-append words others = flat_map-append (λ word. 32 ∷ word) words others
-
 line_spaced : (word : List ℕ) (words : List (List ℕ)) → line_text (word ∷ words) ≡ word ++ (spaced words ++ 10 ∷ [])
-line_spaced word words = ap (λ t. t ++ 10 ∷ []) (join_spaced word words) ∙ append_assoc word (spaced words) (10 ∷ [])
+line_spaced word words = line_text-cons word words ∙ append_assoc word (spaced words) (10 ∷ [])
 
 -- a word and what follows it, within a line
 word_then : (word : List ℕ) (words : List (List ℕ)) (rest : List ℕ) → spaced (word ∷ words) ++ rest ≡ 32 ∷ (word ++ (spaced words ++ rest))
+unfolding spaced
 word_then word words rest = append_assoc (32 ∷ word) (spaced words) rest
 
 words_then : (words others : List (List ℕ)) (rest : List ℕ) → spaced (words ++ others) ++ rest ≡ spaced words ++ (spaced others ++ rest)

@@ -1,7 +1,6 @@
 //! Laws of texts and of heads: nothing is done here, and the contracts say what holds.
 
-ghost use Rattle.match_text.specs.Laws.{ReadsSpellingsAlone, ReadsEachSpelling, HasOneSpelling, IsOneValue};
-ghost use Rattle.match_text.specs.Laws.{EndsWhereCut};
+ghost use Rattle.match_text.specs.Laws.{ReadsWhatIsSpelled};
 ghost use Rattle.cert_tree.specs.CertificateText.{lemma_of, certificate_of};
 ghost use Rattle.cert_tree.specs.CertificateSpelling.{lemma_spelling, certificate_spelling, IsLemmaWithin};
 ghost use Rattle.cert_tree.specs.CertificateSpelling.{IsCertificateWithin};
@@ -10,11 +9,7 @@ ghost use Rattle.cert_tree.specs.HeadLaws.{HaveOneReading, AreReadBack, AreOfThe
 
 /// The laws of lemmas and their texts; it does nothing.
 pub fn lemma_laws()
-    ensures alone { ReadsSpellingsAlone lemma_of IsLemmaWithin lemma_spelling }
-    ensures each { ReadsEachSpelling lemma_of IsLemmaWithin lemma_spelling }
-    ensures one_spelling { HasOneSpelling lemma_of }
-    ensures one_value { IsOneValue IsLemmaWithin lemma_spelling }
-    ensures cut { EndsWhereCut lemma_of }
+    ensures { ReadsWhatIsSpelled lemma_of IsLemmaWithin lemma_spelling }
 {}
 
 /// The laws of certificates and their texts; it does nothing.
@@ -22,11 +17,7 @@ pub fn lemma_laws()
 /// A text may have lemmas that make no certificate: all but the last law hold of it too. The last one says that the
 /// order of the lemma lines makes no difference.
 pub fn certificate_laws()
-    ensures alone { ReadsSpellingsAlone certificate_of IsCertificateWithin certificate_spelling }
-    ensures each { ReadsEachSpelling certificate_of IsCertificateWithin certificate_spelling }
-    ensures one_spelling { HasOneSpelling certificate_of }
-    ensures one_value { IsOneValue IsCertificateWithin certificate_spelling }
-    ensures cut { EndsWhereCut certificate_of }
+    ensures spelled { ReadsWhatIsSpelled certificate_of IsCertificateWithin certificate_spelling }
     ensures any_order { MakesOneInAnyOrder }
 {}
 

@@ -2,7 +2,7 @@
 
 ghost use Rattle.std.specs.Prelude.{◌≡◌, ◌<◌, ◌≤◌, ◌++◌, ◌∷◌, [], Ok, length, map, codes, decimal, IfOk, OnOk};
 ghost use Rattle.std.specs.List.{AllByRecursion};
-ghost use Rattle.match_text.specs.Spelling.{line_text, text_of, first_words, colour_word};
+ghost use Rattle.match_text.specs.Spelling.{line_text, text_of, spaced, first_words, colour_word};
 ghost use Rattle.cert_tree.specs.Certificate.{piece_of, flat_piece};
 ghost use Rattle.cert_tree.specs.HeadSpelling.{head_words};
 ghost use Rattle.std.specs.List.{flat_map};
@@ -10,7 +10,7 @@ ghost use Rattle.cert_tree.specs.CertificateText.{lemma_of, certificate_of, Make
 ghost use Rattle.cert_tree.specs.CertificateSpelling.{mirrored_word, symmetry_words, pair_word, lemma_words};
 ghost use Rattle.cert_tree.specs.CertificateSpelling.{lemma_spelling, certificate_spelling, IsSymmetryWithin};
 ghost use Rattle.cert_tree.specs.CertificateSpelling.{IsLemmaWithin, IsCertificateWithin};
-ghost use Rattle.cert_tree.specs.Writing.{spaced, said_by};
+ghost use Rattle.cert_tree.specs.Writing.{said_by};
 
 use crate::certificates::{Certificate, Lemma};
 use crate::conversions::flat_lemmas;
@@ -32,6 +32,7 @@ fn put_behind(text: &mut Vec<u8>, bytes: &[u8], number: u32) -> Result<(), Alloc
 }
 
 // A head, each word behind a space.
+#[tactic(auto, unfolding(match_text::specs::Spelling::spaced))]
 fn put_head(text: &mut Vec<u8>, head: Head) -> Result<(), AllocError>
     ensures { OnOk result (text.new.items ≡ text.old.items ++ spaced (head_words head)) }
 {
@@ -56,6 +57,7 @@ fn put_head(text: &mut Vec<u8>, head: Head) -> Result<(), AllocError>
 }
 
 // A tree's words are those of its heads.
+#[tactic(auto, unfolding(match_text::specs::Spelling::spaced))]
 fn put_heads(text: &mut Vec<u8>, heads: &[Head]) -> Result<(), AllocError>
     ensures { OnOk result (text.new.items ≡ text.old.items ++ spaced (flat_map head_words heads.now)) }
 {
@@ -73,6 +75,7 @@ fn put_pair(text: &mut Vec<u8>, pair: Pair) -> Result<(), AllocError>
     put_placement(text, pair.placement)
 }
 
+#[tactic(auto, unfolding(match_text::specs::Spelling::spaced))]
 fn put_pairs(text: &mut Vec<u8>, pairs: &[Pair]) -> Result<(), AllocError>
     ensures { OnOk result (text.new.items ≡ text.old.items ++ spaced (map pair_word pairs.now)) }
 {
@@ -103,6 +106,7 @@ fn put_lemmas(text: &mut Vec<u8>, lemmas: &Lemmas) -> Result<(), AllocError>
     Ok(())
 }
 
+#[tactic(auto, unfolding(match_text::specs::Spelling::spaced))]
 fn put_numbers(text: &mut Vec<u8>, numbers: &[u16]) -> Result<(), AllocError>
     ensures { OnOk result (text.new.items ≡ text.old.items ++ spaced (map decimal numbers.now)) }
 {
@@ -112,6 +116,7 @@ fn put_numbers(text: &mut Vec<u8>, numbers: &[u16]) -> Result<(), AllocError>
     Ok(())
 }
 
+#[tactic(auto, unfolding(match_text::specs::Spelling::spaced))]
 fn put_colours(text: &mut Vec<u8>, colours: &[u8]) -> Result<(), AllocError>
     requires { AllByRecursion (λ colour. colour < MOST_COLOURS) colours.now }
     ensures { OnOk result (text.new.items ≡ text.old.items ++ spaced (map colour_word colours.now)) }
@@ -168,7 +173,7 @@ pub fn write_lemma(alloc: Global, lemma: &Lemma) -> Result<Vec<u8>, AllocError>
     Ok(text)
 }
 
-#[tactic(auto, unfolding(match_text::specs::Spelling::text_of))]
+#[tactic(auto, unfolding(match_text::specs::Spelling::text_of, match_text::specs::Spelling::line_text))]
 fn put_first(text: &mut Vec<u8>) -> Result<(), AllocError>
     ensures { OnOk result (text.new.items ≡ text.old.items ++ text_of (first_words (codes "certificate") ∷ [])) }
 {

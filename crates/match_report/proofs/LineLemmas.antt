@@ -2,12 +2,9 @@
 use Rattle.std.proofs.Common.{◌≡◌, ℕ, List, [], ◌∷◌, ◌++◌, refl, sym, ap, ◌∙◌, append_assoc, map, length, decimal, codes, arith}
 use Rattle.std.specs.List.{join_with_byte}
 use Rattle.std.proofs.lemmas.List.{append-nil}
-use Rattle.match_report.specs.Line.{line_text, spaced, path_text, dotted}
-
-spaced-append : (words more : List (List ℕ)) → spaced (words ++ more) ≡ spaced words ++ spaced more
-unfolding spaced
-spaced-append [] more = refl
-spaced-append (word ∷ words) more = ap (λ text. 32 ∷ (word ++ text)) (spaced-append words more) ∙ ap (λ text. 32 ∷ text) (sym (append_assoc word (spaced words) (spaced more)))
+use Rattle.match_text.specs.Spelling.{spaced}
+use Rattle.match_text.proofs.WritingLemmas.{spaced-append, line_text-cons}
+use Rattle.match_report.specs.Line.{path_text, dotted}
 
 -- one word more
 pub spaced-more : (words : List (List ℕ)) (word : List ℕ) → spaced (words ++ word ∷ []) ≡ spaced words ++ 32 ∷ word
@@ -17,17 +14,6 @@ spaced-more words word = spaced-append words (word ∷ []) ∙ ap (λ text. spac
 -- words after words
 pub spaced-after : (front : List ℕ) (words more : List (List ℕ)) → (front ++ spaced words) ++ spaced more ≡ front ++ spaced (words ++ more)
 spaced-after front words more = append_assoc front (spaced words) (spaced more) ∙ ap (λ text. front ++ text) (sym (spaced-append words more))
-
--- words by the first
-pub joined_spaced : (word : List ℕ) (words : List (List ℕ)) → join_with_byte 32 (word ∷ words) ≡ word ++ spaced words
-unfolding spaced
-joined_spaced word [] = sym (append-nil word)
-joined_spaced word (next ∷ words) = ap (λ text. word ++ 32 ∷ text) (joined_spaced next words)
-
--- a line by its first word
-pub line_text-cons : (word : List ℕ) (words : List (List ℕ)) → line_text (word ∷ words) ≡ (word ++ spaced words) ++ 10 ∷ []
-unfolding line_text
-line_text-cons word words = ap (λ text. text ++ 10 ∷ []) (joined_spaced word words)
 
 -- ---- paths
 

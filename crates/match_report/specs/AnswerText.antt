@@ -12,7 +12,8 @@ use Rattle.cert_check.specs.declared.faults.Fault.{Fault}
 use Rattle.cert_check.specs.declared.faults.Fault.TheVariants as faults
 use Rattle.cert_check.specs.declared.faults.Answer.{Answer}
 use Rattle.cert_check.specs.declared.faults.Answer.TheVariants.{Complete, Refused}
-use Rattle.match_report.specs.Line.{line_text, path_text}
+use Rattle.match_text.specs.Spelling.{line_text}
+use Rattle.match_report.specs.Line.{path_text}
 
 unfoldable pub arrangement_fault_words : ArrangementFault → List (List ℕ)
 arrangement_fault_words arrangements.Length = codes "length" ∷ []

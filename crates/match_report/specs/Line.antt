@@ -1,15 +1,7 @@
 -- Lines that are printed.
 use Rattle.std.specs.Prelude.{ℕ, List, [], ◌∷◌, ◌++◌, map, codes, decimal}
 use Rattle.std.specs.List.{join_with_byte}
-
--- a line's words with a space between each two, and LF
-unfoldable pub line_text : List (List ℕ) → List ℕ
-line_text words = join_with_byte 32 words ++ 10 ∷ []
-
--- words with a space before each
-unfoldable pub spaced : List (List ℕ) → List ℕ
-spaced [] = []
-spaced (word ∷ words) = 32 ∷ (word ++ spaced words)
+unfoldable pub use Rattle.match_text.specs.Spelling.{line_text}
 
 -- a word that announces others
 abbrev pub label : List ℕ → List ℕ

@@ -1,7 +1,7 @@
 //! How an answer is printed.
 
 ghost use Rattle.std.specs.Prelude.{◌≡◌, ◌≢◌, ◌++◌, [], ◌∷◌, ℕ, decimal, IfOk, OnOk};
-ghost use Rattle.match_report.specs.Line.{spaced};
+ghost use Rattle.match_text.specs.Spelling.{spaced};
 ghost use Rattle.match_report.specs.AnswerText.{HoldsNoMemory, answer_line, fault_words, node_fault_words, arrangement_fault_words, symmetry_fault_words, prefix_fault_words};
 
 use crate::lines::Line;

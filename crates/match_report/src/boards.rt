@@ -20,6 +20,7 @@ fn put_shown(text: &mut Vec<u8>, puzzle: &Puzzle, placement: Placement) -> Resul
     Ok(())
 }
 
+#[tactic(auto, unfolding(match_text::specs::Spelling::line_text))]
 fn put_cell(
     text: &mut Vec<u8>,
     puzzle: &Puzzle,

@@ -1,7 +1,8 @@
 //! Lines of words, as they are printed.
 
 ghost use Rattle.std.specs.Prelude.{◌≡◌, ◌++◌, ◌∷◌, [], ℕ, List, IfOk, OnOk, decimal};
-ghost use Rattle.match_report.specs.Line.{spaced, dotted, label, path_text};
+ghost use Rattle.match_text.specs.Spelling.{spaced};
+ghost use Rattle.match_report.specs.Line.{dotted, label, path_text};
 
 use itoa::Buffer;
 use std::alloc::{AllocError, Global};
@@ -20,7 +21,7 @@ impl Model for Line {
     ghost view = { λ line. line.text.items };
 }
 
-#[tactic(auto, unfolding(crate::specs::Line::spaced))]
+#[tactic(auto, unfolding(match_text::specs::Spelling::spaced))]
 impl Line {
     /// A line that begins with this word.
     pub fn new(alloc: Global, word: &[u8]) -> Result<Line, AllocError>

@@ -1,8 +1,7 @@
 //! How it is printed which worker took what.
 
 ghost use Rattle.std.specs.Prelude.{◌≡◌, ◌<◌, ◌++◌, ◌^◌, IfOk, OnOk, decimal, length, map};
-ghost use Rattle.match_text.specs.Spelling.{line_text};
-ghost use Rattle.match_report.specs.Line.{spaced};
+ghost use Rattle.match_text.specs.Spelling.{line_text, spaced};
 ghost use Rattle.match_report.specs.TallyText.{worker_words, tally_text};
 
 use match_text::put_number;
@@ -40,7 +39,7 @@ impl Taken {
 }
 
 // Numbers with a space before each.
-#[tactic(auto, unfolding(crate::specs::Line::spaced))]
+#[tactic(auto, unfolding(match_text::specs::Spelling::spaced))]
 fn put_numbers(text: &mut Vec<u8>, numbers: &[u32]) -> Result<(), AllocError>
     ensures { OnOk result (text.new.items ≡ text.old.items ++ spaced (map decimal numbers.now)) }
 {

@@ -3,7 +3,6 @@ use Rattle.std.proofs.Common.{◌≡◌, ◌≢◌, ℕ, zero, suc, ◌+◌, ◌
 use Rattle.std.specs.Fmt.{decimal}
 use Rattle.std.specs.List.{flat_map, join_with_byte, AllByRecursion}
 use Rattle.std.proofs.lemmas.List.Splits.{slice_split_none, slice_split_at, join_with_byte-slice_split}
-use Rattle.std.proofs.lemmas.List.Concat.{flat_map-append}
 use Rattle.std.proofs.lemmas.List.{append-nil}
 use Rattle.match_text.specs.declared.faults.TextFault.{TextFault}
 use Rattle.match_text.specs.declared.faults.TextKind.{TextKind}
@@ -13,6 +12,7 @@ use Rattle.match_text.proofs.WordLemmas.{is_clean, are_clean, clean-decimal, Spe
 use Rattle.match_text.specs.Place.{Place, Read, ◌>>=◌, give, line_from, next_line, judged, word_from, word_by, end_from, end_of_line, line_of, some_word_from, some_word, entries_from, entries, some_entries, times, opening, counted, closing, end_of_text, value_of}
 use Rattle.match_text.specs.Spelling.{line_text, text_of, first_words, count_words, end_lines}
 use Rattle.match_text.proofs.CutLemmas.{place, bind_ok, ok_is, end_is_reached}
+use Rattle.match_text.proofs.WritingLemmas.{text_of-append}
 
 -- ---- words with no space and no LF
 
@@ -133,6 +133,7 @@ takes_all r words_of Fits takes = record {
 -- ---- a whole line
 
 line_is : (p : Place) (o : Option (List ℕ × List ℕ)) → cut_at 10 p.ahead ≡ o → (x : Unit {0}) (m : Place) → line_from (p.line + 1) o ≡ Ok (x, m) → p.ahead ≡ line_text m.words ++ m.ahead
+unfolding line_text
 line_is p None is x m e = absurd cc
 line_is p (Some parts) is x m e =
     let same = ok_is (tt, place (p.line + 1) (words_of parts.0) parts.1) (x, m) e in
@@ -144,7 +145,7 @@ unfolding next_line
 next_line_is p x m e = line_is p (cut_at 10 p.ahead) refl x m e
 
 next_line_again : (line : ℕ) (words ws : List (List ℕ)) (rest : List ℕ) → are_clean ws ≡ true → next_line (place line words (line_text ws ++ rest)) ≡ Ok (tt, place (line + 1) ws rest)
-unfolding next_line
+unfolding next_line line_text
 next_line_again line words ws rest clean =
     let found : cut_at 10 (line_text ws ++ rest) ≡ Some (join_with_byte 32 ws, rest) = rw append_assoc (cut_join ws rest clean) in
     rw (found, words_of-join ws clean) refl
@@ -180,10 +181,6 @@ takes_line {X} r words_of Fits takes clean = record {
 }
 
 -- ---- one line after the other
-
-text_of-append : (a b : List (List (List ℕ))) → text_of (a ++ b) ≡ text_of a ++ text_of b
-unfolding text_of
-text_of-append a b = flat_map-append line_text a b
 
 pub lines_then : (p : List ℕ) (a b : List (List (List ℕ))) (m q : List ℕ) → p ≡ text_of a ++ m → m ≡ text_of b ++ q → p ≡ text_of (a ++ b) ++ q
 lines_then p a b m q one two = one ∙ ap (λ rest. text_of a ++ rest) two ∙ sym (append_assoc (text_of a) (text_of b) q) ∙ ap (λ t. t ++ q) (sym (text_of-append a b))

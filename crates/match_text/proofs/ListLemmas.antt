@@ -1,5 +1,5 @@
 -- The list that is read is the one that was written, and what was written is read again.
-use Rattle.std.proofs.Common.{◌≡◌, ◌≢◌, ℕ, ◌+◌, ◌<◌, ◌≤◌, List, [], ◌∷◌, ◌++◌, length, take, map, Result, Ok, Err, refl, sym, ap, subst, ◌∙◌, append_assoc, zero-add, arith, codes}
+use Rattle.std.proofs.Common.{◌≡◌, ◌≢◌, ℕ, ◌+◌, ◌<◌, ◌≤◌, List, [], ◌∷◌, ◌++◌, length, take, map, Result, Ok, Err, refl, sym, ap, subst, ◌∙◌, append_assoc, arith, codes}
 use Rattle.match_board.specs.declared.limits.TheConstants.{MOST_CELLS, MOST_ARRANGEMENTS}
 use Rattle.std.specs.Prelude.{IfOk}
 use Rattle.std.specs.Global.{Vec}
@@ -10,14 +10,16 @@ use Rattle.match_puzzle.specs.declared.placements.Placement.{Placement}
 use Rattle.match_text.specs.declared.faults.TextKind.TheVariants.{Ends}
 use Rattle.match_text.specs.declared.faults.ListTextFault.{ListTextFault}
 use Rattle.match_text.specs.Bytes.{line_ends}
+use Rattle.match_text.specs.Laws.{ReadsSpellingsAlone, ReadsEachSpelling, EndsWhereCut}
 use Rattle.match_text.specs.Words.{placement_in}
 use Rattle.match_text.specs.Place.{Place, ◌>>=◌, give, fail, some_entries, times, opening, counted, closing, start}
 use Rattle.match_text.specs.Lists.{arrangement_line, list_text, list_of, ListGives}
 use Rattle.match_text.specs.Spelling.{text_of, placement_word, first_words, count_words, end_lines}
 use Rattle.match_text.specs.ListSpelling.{arrangement_words, list_head, list_lines, list_spelling, IsPlacementWithin, IsRowWithin, IsListWithin}
-use Rattle.match_text.proofs.CutLemmas.{CutsShort, LeavesNothing, place, bind_ok, ok_is, cuts_bind, cuts_give, cuts_some_entries, cuts_line, cuts_times, cuts_opening, cuts_counted, cuts_closing, leaves_closing, leaves_after, ends_early}
+use Rattle.match_text.proofs.CutLemmas.{CutsShort, LeavesNothing, place, bind_ok, ok_is, cuts_bind, cuts_give, cuts_some_entries, cuts_line, cuts_times, cuts_opening, cuts_counted, cuts_closing, leaves_closing, leaves_after}
 use Rattle.match_text.proofs.WordLemmas.{spells_placement, clean-row}
-use Rattle.match_text.proofs.LineLemmas.{TakesLines, takes_line, takes_entries, takes_opening, takes_counted, closing_is, closing_again, times_is, times_again, lines_then, lines_apart, value_ok}
+use Rattle.match_text.proofs.LineLemmas.{TakesLines, takes_line, takes_entries, takes_opening, takes_counted, closing_is, closing_again, times_is, times_again, lines_then, lines_apart}
+use Rattle.match_text.proofs.TextLaws.{reads_alone, reads_each, ends_where_cut}
 use Rattle.match_text.proofs.WritingLemmas.{text_of-append}
 
 takes_arrangement : TakesLines arrangement_line (λ row. arrangement_words row ∷ []) IsRowWithin
@@ -87,25 +89,19 @@ list_leaves = leaves_after (opening (codes "list")) (λ _. counted (codes "arran
 -- ---- the laws of `list_of`
 
 -- what is read is spelled so
-pub list_found : (text : List ℕ) (rows : List (List Placement)) → list_of text ≡ Ok rows → IsListWithin rows × (text ≡ list_spelling rows)
+pub list_found : ReadsSpellingsAlone list_of IsListWithin list_spelling
 unfolding list_of list_spelling
-list_found text rows e =
-    let v = value_ok (list_text (start text)) rows e in
-    let is = list_is (start text) (rows, v.0) v.1 in
-    (is.1, is.0)
+list_found = reads_alone list_text IsListWithin (λ rows. text_of (list_lines rows)) list_is
 
 -- what is spelled so is read
-pub list_only : (rows : List (List Placement)) → IsListWithin rows → list_of (list_spelling rows) ≡ Ok rows
+pub list_only : ReadsEachSpelling list_of IsListWithin list_spelling
 unfolding list_of list_spelling
-list_only rows fits = let again = list_again rows fits in rw again.1 refl
+list_only = reads_each list_text IsListWithin (λ rows. text_of (list_lines rows)) list_again
 
 -- a text that is cut short ends at its last line
-pub list_short : (text : List ℕ) (rows : List (List Placement)) (k : ℕ) → list_of text ≡ Ok rows → k < length text → list_of (take k text) ≡ fail (line_ends (take k text) + 1) Ends
+pub list_short : EndsWhereCut list_of
 unfolding list_of
-list_short text rows k e lt =
-    let v = value_ok (list_text (start text)) rows e in
-    let cut = ends_early list_text cuts_list list_leaves text (rows, v.0) k v.1 lt in
-    rw (cut, zero-add) refl
+list_short = ends_where_cut list_text IsListWithin list_spelling cuts_list list_leaves
 
 -- what is within the limits has a text, and nothing else
 pub list_spelled : (rows : List (List Placement)) → IsListWithin rows → (text : List ℕ) × (list_of text ≡ Ok rows)

@@ -1,20 +1,20 @@
 -- The puzzle that is read is the one that was written, and what was written is read again.
-use Rattle.std.proofs.Common.{◌≡◌, ℕ, ◌+◌, ◌<◌, ◌≤◌, Bool, List, [], ◌∷◌, ◌++◌, length, take, map, Ok, refl, sym, ap, subst, ◌∙◌, zero-add, arith, codes}
+use Rattle.std.proofs.Common.{◌≡◌, ℕ, ◌≤◌, Bool, List, [], ◌∷◌, ◌++◌, length, map, Ok, refl, sym, ap, subst, ◌∙◌, arith, codes}
 use Rattle.match_board.specs.declared.limits.TheConstants.{MOST_TILES}
 use Rattle.std.specs.List.{flat_map, AllByRecursion}
 use Rattle.std.proofs.lemmas.List.{append-nil}
 use Rattle.std.proofs.lemmas.List.Concat.{flat_map_single}
 use Rattle.match_board.specs.declared.figures.Figure.{Figure}
 use Rattle.match_puzzle.specs.Puzzle.{Task, BorderRule}
-use Rattle.match_text.specs.declared.faults.TextKind.TheVariants.{Ends}
-use Rattle.match_text.specs.Bytes.{line_ends}
-use Rattle.match_text.specs.Place.{Place, Read, ◌>>=◌, give, fail, times, opening, counted, closing, start}
+use Rattle.match_text.specs.Laws.{ReadsSpellingsAlone, ReadsEachSpelling, EndsWhereCut}
+use Rattle.match_text.specs.Place.{Place, Read, ◌>>=◌, give, times, opening, counted, closing, start}
 use Rattle.match_text.specs.Puzzles.{board_line, turns_line, border_line, tile_line, puzzle_text, puzzle_of}
 use Rattle.match_text.specs.Spelling.{text_of, first_words, count_words, end_lines}
 use Rattle.match_text.specs.PuzzleSpelling.{board_words, turns_words, border_words, tile_words, puzzle_lines, puzzle_spelling, IsWordWithin, IsTaskWithin}
-use Rattle.match_text.proofs.CutLemmas.{CutsShort, LeavesNothing, place, bind_ok, ok_is, cuts_bind, cuts_give, cuts_times, cuts_opening, cuts_counted, cuts_closing, leaves_closing, leaves_after, ends_early}
-use Rattle.match_text.proofs.LineLemmas.{takes_opening, takes_counted, closing_is, closing_again, times_is, times_again, lines_then, value_ok}
+use Rattle.match_text.proofs.CutLemmas.{CutsShort, LeavesNothing, place, bind_ok, ok_is, cuts_bind, cuts_give, cuts_times, cuts_opening, cuts_counted, cuts_closing, leaves_closing, leaves_after}
+use Rattle.match_text.proofs.LineLemmas.{takes_opening, takes_counted, closing_is, closing_again, times_is, times_again, lines_then}
 use Rattle.match_text.proofs.PuzzleLineLemmas.{takes_board, takes_turns, takes_border, takes_tile, cuts_board, cuts_turns, cuts_border, cuts_tile}
+use Rattle.match_text.proofs.TextLaws.{reads_alone, reads_each, ends_where_cut}
 use Rattle.match_text.proofs.WritingLemmas.{text_of-append, seven_parts}
 
 abbrev task : Figure → Bool → BorderRule → List (List ℕ) → Task
@@ -164,25 +164,19 @@ puzzle_leaves = leaves_after (opening (codes "match")) (λ _. after_opening)
 -- ---- the laws of `puzzle_of`
 
 -- what is read is spelled so
-pub puzzle_found : (text : List ℕ) (p : Task) → puzzle_of text ≡ Ok p → IsTaskWithin p × (text ≡ puzzle_spelling p)
+pub puzzle_found : ReadsSpellingsAlone puzzle_of IsTaskWithin puzzle_spelling
 unfolding puzzle_of puzzle_spelling
-puzzle_found text p e =
-    let v = value_ok (puzzle_text (start text)) p e in
-    let is = puzzle_is (start text) (p, v.0) v.1 in
-    (is.1, is.0)
+puzzle_found = reads_alone puzzle_text IsTaskWithin (λ p. text_of (puzzle_lines p)) puzzle_is
 
 -- what is spelled so is read
-pub puzzle_only : (p : Task) → IsTaskWithin p → puzzle_of (puzzle_spelling p) ≡ Ok p
+pub puzzle_only : ReadsEachSpelling puzzle_of IsTaskWithin puzzle_spelling
 unfolding puzzle_of puzzle_spelling
-puzzle_only p fits = let again = puzzle_again p fits in rw again.1 refl
+puzzle_only = reads_each puzzle_text IsTaskWithin (λ p. text_of (puzzle_lines p)) puzzle_again
 
 -- a text that is cut short ends at its last line
-pub puzzle_short : (text : List ℕ) (p : Task) (k : ℕ) → puzzle_of text ≡ Ok p → k < length text → puzzle_of (take k text) ≡ fail (line_ends (take k text) + 1) Ends
+pub puzzle_short : EndsWhereCut puzzle_of
 unfolding puzzle_of
-puzzle_short text p k e lt =
-    let v = value_ok (puzzle_text (start text)) p e in
-    let cut = ends_early puzzle_text cuts_puzzle puzzle_leaves text (p, v.0) k v.1 lt in
-    rw (cut, zero-add) refl
+puzzle_short = ends_where_cut puzzle_text IsTaskWithin puzzle_spelling cuts_puzzle puzzle_leaves
 
 -- ---- writing
 

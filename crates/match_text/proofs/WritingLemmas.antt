@@ -1,9 +1,9 @@
 -- Writing words and lines one after the other.
-use Rattle.std.proofs.Common.{◌≡◌, ℕ, ◌+◌, ◌<◌, List, [], ◌∷◌, ◌++◌, length, get_or, take, map, refl, sym, ap, ◌∙◌, append_assoc, arith, codes, Option, slice_index}
+use Rattle.std.proofs.Common.{◌≡◌, ℕ, ◌+◌, ◌<◌, ◌≤◌, List, [], ◌∷◌, ◌++◌, length, get_or, take, map, refl, sym, ap, ◌∙◌, append_assoc, arith, codes, Option, slice_index}
 use Rattle.std.specs.List.{flat_map, join_with_byte}
-use Rattle.std.proofs.lemmas.List.{append-nil, take_more, map-append, length-map, length-take}
+use Rattle.std.proofs.lemmas.List.{append-nil, take_all, take_more, map-append, length-map, length-take}
 use Rattle.std.proofs.lemmas.List.Concat.{flat_map-append}
-use Rattle.match_text.specs.Spelling.{line_text, text_of, space_before, rule_word, tile_word, colour_character}
+use Rattle.match_text.specs.Spelling.{line_text, text_of, spaced, space_before, rule_word, tile_word, colour_character}
 
 -- one word more
 join-push : (words : List (List ℕ)) (word : List ℕ) → join_with_byte 32 (words ++ word ∷ []) ≡ join_with_byte 32 words ++ (space_before (length words) ++ word)
@@ -32,6 +32,28 @@ module _ {X : Type 0} where
       ap (flat_map line_text) lines ∙ flat_map-append line_text (map words_of (take i xs)) (words_of (get_or xs i d) ∷ [])
       ∙ ap (λ t. flat_map line_text (map words_of (take i xs)) ++ t) (append-nil (line_text (words_of (get_or xs i d))))
 
+-- ---- a text, line by line
+
+module _ {X : Type 0} (words_of : X → List (List ℕ)) (xs : List X) where
+  -- the lines of the first i
+  abbrev pub first_lines : ℕ → List ℕ
+  first_lines i = text_of (map words_of (take i xs))
+
+  -- none at first
+  pub no_line : (text : List ℕ) → text ≡ text ++ first_lines 0
+  unfolding text_of
+  no_line text = sym (append-nil text)
+
+  -- one line more
+  pub one_line : (text before after : List ℕ) (i : ℕ) (x : X) → i < length xs → x ≡ get_or xs i x → before ≡ text ++ first_lines i → after ≡ before ++ line_text (words_of x) → after ≡ text ++ first_lines (i + 1)
+  one_line text before after i x lt is so_far e =
+      let line = line_text (words_of (get_or xs i x)) in
+      e ∙ ap (λ y. before ++ line_text (words_of y)) is ∙ ap (λ t. t ++ line) so_far ∙ append_assoc text (first_lines i) line ∙ ap (λ t. text ++ t) (sym (lines_more words_of xs i x lt))
+
+  -- all of them
+  pub all_lines : (text : List ℕ) (i : ℕ) → length xs ≤ i → text ++ first_lines i ≡ text ++ text_of (map words_of xs)
+  all_lines text i le = ap (λ ys. text ++ text_of (map words_of ys)) (take_all i xs le)
+
 -- lines, and those behind them
 pub text_of-append : (a b : List (List (List ℕ))) → text_of (a ++ b) ≡ text_of a ++ text_of b
 unfolding text_of
@@ -41,6 +63,25 @@ text_of-append a b = flat_map-append line_text a b
 pub line_alone : (words : List (List ℕ)) → text_of (words ∷ []) ≡ line_text words
 unfolding text_of
 line_alone words = append-nil (line_text words)
+
+-- ---- words with a space before each
+
+pub spaced-append : (words more : List (List ℕ)) → spaced (words ++ more) ≡ spaced words ++ spaced more
+unfolding spaced
+spaced-append words more = flat_map-append (λ word. 32 ∷ word) words more
+
+-- words by the first
+pub joined_spaced : (word : List ℕ) (words : List (List ℕ)) → join_with_byte 32 (word ∷ words) ≡ word ++ spaced words
+unfolding spaced
+joined_spaced word [] = sym (append-nil word)
+joined_spaced word (next ∷ words) = ap (λ text. word ++ 32 ∷ text) (joined_spaced next words)
+
+-- a line by its first word
+pub line_text-cons : (word : List ℕ) (words : List (List ℕ)) → line_text (word ∷ words) ≡ (word ++ spaced words) ++ 10 ∷ []
+unfolding line_text
+line_text-cons word words = ap (λ text. text ++ 10 ∷ []) (joined_spaced word words)
+
+-- ---- parts of a puzzle's text
 
 -- one rule more behind the words of a border
 pub rules_more : (rules : List (Option ℕ)) (i : ℕ) (d : Option ℕ) → i < length rules

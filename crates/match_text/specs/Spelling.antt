@@ -4,8 +4,12 @@ use Rattle.std.specs.List.{flat_map, join_with_byte}
 use Rattle.match_puzzle.specs.declared.placements.Placement.{Placement}
 
 -- a line's words with a space between each two, and LF
-abbrev pub line_text : List (List ℕ) → List ℕ
+unfoldable pub line_text : List (List ℕ) → List ℕ
 line_text words = join_with_byte 32 words ++ 10 ∷ []
+
+-- words with a space before each
+unfoldable pub spaced : List (List ℕ) → List ℕ
+spaced words = flat_map (λ word. 32 ∷ word) words
 
 -- a text by its lines' words
 unfoldable pub text_of : List (List (List ℕ)) → List ℕ

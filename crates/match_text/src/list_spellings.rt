@@ -77,6 +77,7 @@ fn put_next(text: &mut Vec<u8>, index: usize, placement: Placement) -> Result<()
     Ok(())
 }
 
+#[tactic(auto, unfolding(crate::specs::Spelling::line_text))]
 fn put_row(text: &mut Vec<u8>, row: &[Placement]) -> Result<(), AllocError>
     ensures { OnOk result (text.new.items ≡ text.old.items ++ line_text (arrangement_words row.now)) }
 {
@@ -96,7 +97,7 @@ fn put_rows(text: &mut Vec<u8>, rows: &[Arrangement]) -> Result<(), AllocError>
     Ok(())
 }
 
-#[tactic(auto, unfolding(crate::specs::Spelling::text_of))]
+#[tactic(auto, unfolding(crate::specs::Spelling::text_of, crate::specs::Spelling::line_text))]
 fn put_first(text: &mut Vec<u8>) -> Result<(), AllocError>
     ensures { OnOk result (text.new.items ≡ text.old.items ++ text_of (first_words (codes "list") ∷ [])) }
 {

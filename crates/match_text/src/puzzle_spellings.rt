@@ -7,7 +7,8 @@ ghost use Rattle.match_board.specs.declared.figures.Figure.TheVariants.{Rectangl
 ghost use Rattle.match_board.specs.Tile.{word as colours_of};
 ghost use Rattle.match_puzzle.specs.Puzzle.{rule_of, each, one, free};
 ghost use Rattle.match_text.specs.Puzzles.{PuzzleReads};
-ghost use Rattle.match_text.specs.Spelling.{text_of, first_words, colour_character, colour_word, rule_word, tile_word};
+ghost use Rattle.match_text.specs.Spelling.{line_text, text_of, first_words, colour_character, colour_word, rule_word};
+ghost use Rattle.match_text.specs.Spelling.{tile_word};
 ghost use Rattle.match_text.specs.PuzzleSpelling.{board_words, turns_words, border_words, tile_words, puzzle_spelling};
 ghost use Rattle.match_text.specs.PuzzleSpelling.{IsRuleWithin, IsBorderWithin};
 
@@ -17,7 +18,7 @@ use match_board::{Board, Figure, Tile};
 use match_puzzle::{Border, Puzzle};
 use std::alloc::{AllocError, Global};
 
-#[tactic(auto, unfolding(crate::specs::Spelling::text_of))]
+#[tactic(auto, unfolding(crate::specs::Spelling::text_of, crate::specs::Spelling::line_text))]
 fn put_first(text: &mut Vec<u8>) -> Result<(), AllocError>
     ensures { OnOk result (text.new.items ≡ text.old.items ++ text_of (first_words (codes "match") ∷ [])) }
 {
@@ -25,7 +26,7 @@ fn put_first(text: &mut Vec<u8>) -> Result<(), AllocError>
     Ok(())
 }
 
-#[tactic(auto, unfolding(crate::specs::Spelling::text_of))]
+#[tactic(auto, unfolding(crate::specs::Spelling::text_of, crate::specs::Spelling::line_text))]
 fn put_rectangle(text: &mut Vec<u8>, width: u16, height: u16) -> Result<(), AllocError>
     ensures { OnOk result (text.new.items ≡ text.old.items ++ text_of (board_words (Rectangle width height) ∷ [])) }
 {
@@ -37,14 +38,14 @@ fn put_rectangle(text: &mut Vec<u8>, width: u16, height: u16) -> Result<(), Allo
     Ok(())
 }
 
-#[tactic(auto, unfolding(crate::specs::Spelling::text_of))]
+#[tactic(auto, unfolding(crate::specs::Spelling::text_of, crate::specs::Spelling::line_text))]
 fn put_triangle(text: &mut Vec<u8>, size: u16) -> Result<(), AllocError>
     ensures { OnOk result (text.new.items ≡ text.old.items ++ text_of (board_words (Triangle size) ∷ [])) }
 {
     put_number_line(text, b"board triangle", u32::from(size))
 }
 
-#[tactic(auto, unfolding(crate::specs::Spelling::text_of))]
+#[tactic(auto, unfolding(crate::specs::Spelling::text_of, crate::specs::Spelling::line_text))]
 fn put_hexagon(text: &mut Vec<u8>, size: u16) -> Result<(), AllocError>
     ensures { OnOk result (text.new.items ≡ text.old.items ++ text_of (board_words (Hexagon size) ∷ [])) }
 {
@@ -61,7 +62,7 @@ fn put_board(text: &mut Vec<u8>, board: Board) -> Result<(), AllocError>
     }
 }
 
-#[tactic(auto, unfolding(crate::specs::Spelling::text_of))]
+#[tactic(auto, unfolding(crate::specs::Spelling::text_of, crate::specs::Spelling::line_text))]
 fn put_turns(text: &mut Vec<u8>, turns: bool) -> Result<(), AllocError>
     ensures { OnOk result (text.new.items ≡ text.old.items ++ text_of (turns_words turns ∷ [])) }
 {
@@ -73,7 +74,7 @@ fn put_turns(text: &mut Vec<u8>, turns: bool) -> Result<(), AllocError>
     Ok(())
 }
 
-#[tactic(auto, unfolding(crate::specs::Spelling::text_of))]
+#[tactic(auto, unfolding(crate::specs::Spelling::text_of, crate::specs::Spelling::line_text))]
 fn put_free(text: &mut Vec<u8>) -> Result<(), AllocError>
     ensures { OnOk result (text.new.items ≡ text.old.items ++ text_of (border_words free ∷ [])) }
 {
@@ -81,7 +82,7 @@ fn put_free(text: &mut Vec<u8>) -> Result<(), AllocError>
     Ok(())
 }
 
-#[tactic(auto, unfolding(crate::specs::Spelling::text_of))]
+#[tactic(auto, unfolding(crate::specs::Spelling::text_of, crate::specs::Spelling::line_text))]
 fn put_one(text: &mut Vec<u8>, colour: u8) -> Result<(), AllocError>
     requires { colour < MOST_COLOURS }
     ensures { OnOk result (text.new.items ≡ text.old.items ++ text_of (border_words (one colour) ∷ [])) }
@@ -137,9 +138,9 @@ pub fn put_colours(text: &mut Vec<u8>, tile: &Tile) -> Result<(), AllocError>
     Ok(())
 }
 
-#[tactic(auto, unfolding(crate::specs::Spelling::text_of))]
+#[tactic(auto, unfolding(crate::specs::Spelling::line_text))]
 fn put_tile(text: &mut Vec<u8>, tile: &Tile) -> Result<(), AllocError>
-    ensures { OnOk result (text.new.items ≡ text.old.items ++ text_of (tile_words (colours_of tile.now) ∷ [])) }
+    ensures { OnOk result (text.new.items ≡ text.old.items ++ line_text (tile_words (colours_of tile.now))) }
 {
     text.extend_from_slice(b"tile ")?;
     put_colours(text, tile)?;

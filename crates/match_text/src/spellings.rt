@@ -29,7 +29,7 @@ pub fn put_number(text: &mut Vec<u8>, number: u32) -> Result<(), AllocError>
 }
 
 /// Writes a line of words and a number behind them.
-#[tactic(auto, unfolding(crate::specs::Spelling::text_of))]
+#[tactic(auto, unfolding(crate::specs::Spelling::text_of, crate::specs::Spelling::line_text))]
 pub fn put_number_line(text: &mut Vec<u8>, words: &[u8], number: u32) -> Result<(), AllocError>
     ensures { OnOk result (text.new.items ≡ text.old.items ++ text_of (count_words words.now number ∷ [])) }
 {
@@ -41,7 +41,7 @@ pub fn put_number_line(text: &mut Vec<u8>, words: &[u8], number: u32) -> Result<
 }
 
 /// Writes the last line.
-#[tactic(auto, unfolding(crate::specs::Spelling::text_of))]
+#[tactic(auto, unfolding(crate::specs::Spelling::text_of, crate::specs::Spelling::line_text))]
 pub fn put_end(text: &mut Vec<u8>) -> Result<(), AllocError>
     ensures { OnOk result (text.new.items ≡ text.old.items ++ text_of end_lines) }
 {

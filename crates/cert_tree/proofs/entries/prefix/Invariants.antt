@@ -1,18 +1,14 @@
-use Rattle.std.proofs.Common.{◌≡◌, ◌≤◌, ◌-◌, ◌++◌, List, length, codes}
+use Rattle.std.proofs.Common.{◌≡◌, ◌++◌, List, length, codes}
 use Rattle.match_board.specs.declared.limits.TheConstants.{MOST_CELLS}
 use Rattle.match_puzzle.specs.declared.placements.Pair.{Pair}
 use Rattle.match_text.specs.Words.{pair_in}
 use Rattle.cert_tree.specs.Entries.{entries_before}
-use Rattle.match_text.proofs.LoopLemmas.{with_front}
+use Rattle.match_text.proofs.LoopLemmas.{AreRead}
 use Rattle.cert_tree.proofs.entries.prefix.Given as goal
 
 -- These pairs were read, and are behind the old ones.
 abbrev pub invariant-loop-scan : goal.invariant-loop-scan
-invariant-loop-scan l =
-    (read : List Pair)
-    × (l.pairs.items ≡ l.fn.pairs.items ++ read)
-    × (length read ≤ MOST_CELLS)
-    × (with_front read (entries_before (codes "tree") (MOST_CELLS - length read) pair_in l.scan) ≡ entries_before (codes "tree") MOST_CELLS pair_in l.fn.scan)
+invariant-loop-scan l = (read : List Pair) × (l.pairs.items ≡ l.fn.pairs.items ++ read) × AreRead MOST_CELLS (λ room. entries_before (codes "tree") room pair_in) l.fn.scan read l.scan
 
 abbrev pub decreases-loop-scan : goal.decreases-loop-scan
 decreases-loop-scan l = length l.scan.words

@@ -1,4 +1,4 @@
-use Rattle.match_text.proofs.TextLaws.{one_spelling, one_value}
+use Rattle.match_text.proofs.TextLaws.{reads_what_is_spelled}
 use Rattle.cert_tree.specs.CertificateText.{certificate_of}
 use Rattle.cert_tree.specs.CertificateSpelling.{certificate_spelling, IsCertificateWithin}
 use Rattle.cert_tree.proofs.CertificateTextLemmas.{certificate_found, certificate_only, certificate_short}
@@ -7,10 +7,6 @@ use Rattle.cert_tree.proofs.laws.certificate_laws.Goals as goal
 
 pub returns : goal.returns
 returns c = record {
-  alone = certificate_found;
-  each = certificate_only;
-  one_spelling = one_spelling certificate_of IsCertificateWithin certificate_spelling certificate_found;
-  one_value = one_value certificate_of IsCertificateWithin certificate_spelling certificate_only;
-  cut = certificate_short;
+  spelled = reads_what_is_spelled certificate_of IsCertificateWithin certificate_spelling certificate_found certificate_only certificate_short;
   any_order = one_made_in_any_order;
 }

@@ -1,9 +1,9 @@
 use Rattle.std.proofs.Common.{◌≡◌, ◌++◌, ◌∷◌, [], map, sym, ap, ◌∙◌, refl, codes}
 use Rattle.std.specs.Fmt.{decimal}
+use Rattle.match_text.specs.Spelling.{spaced}
 use Rattle.cert_tree.specs.Certificate.{flat_piece}
 use Rattle.cert_tree.specs.TreeSpelling.{tree_words}
 use Rattle.cert_tree.specs.CertificateSpelling.{pair_word}
-use Rattle.cert_tree.specs.Writing.{spaced}
 use Rattle.cert_tree.proofs.HeadSpellingLemmas.{tree_words-heads}
 use Rattle.cert_tree.proofs.SpacedLemmas.{lemma_parts, six_parts}
 use Rattle.cert_tree.proofs.spellings.put_lemma.Goals as goal

@@ -1,6 +1,6 @@
 use Rattle.std.proofs.Common.{◌≡◌, ◌++◌, map, take}
+use Rattle.match_text.specs.Spelling.{spaced}
 use Rattle.cert_tree.specs.CertificateSpelling.{pair_word}
-use Rattle.cert_tree.specs.Writing.{spaced}
 use Rattle.cert_tree.proofs.spellings.put_pairs.Given as goal
 
 abbrev pub invariant-loop-pair : goal.invariant-loop-pair

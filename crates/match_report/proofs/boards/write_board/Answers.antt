@@ -3,7 +3,7 @@ use Rattle.std.proofs.lemmas.Option.{get_or_from_slice_get, slice_get-get_or}
 use Rattle.match_board.specs.Board.{cell_count}
 use Rattle.match_text.specs.Spelling.{line_text}
 use Rattle.match_report.specs.BoardText.{cell_words, board_text}
-use Rattle.match_report.proofs.NumberedLemmas.{first_lines, numbered_all, numbered_more, numbered_none}
+use Rattle.match_report.proofs.NumberedLemmas.{numbered_lines, numbered_all, numbered_more, numbered_none}
 use Rattle.match_report.proofs.boards.write_board.Goals as goal
 
 pub loop-cell-init : goal.loop-cell-init
@@ -36,4 +36,4 @@ returns c =
     let arrangement = c.args.arrangement.now in
     let long : length arrangement ≡ c.cells-cell-end.result = c.requires.cells ∙ ap cell_count (sym c.board.ensures.value) ∙ sym c.cells-cell-end.ensures.count in
     let all : c.loop-cell.cell ≡ length arrangement = omega (arith, long, c.loop-cell-test.false, c.loop-cell.auto.cell-end) in
-    c.loop-cell.invariant ∙ ap (first_lines words arrangement) all ∙ numbered_all words arrangement
+    c.loop-cell.invariant ∙ ap (numbered_lines words arrangement) all ∙ numbered_all words arrangement

@@ -1,6 +1,6 @@
 use Rattle.std.proofs.Common.{◌≡◌, ◌∷◌, [], ◌++◌, ℕ, List, map, decimal, codes, append_assoc, refl}
-use Rattle.match_report.specs.Line.{spaced}
-use Rattle.match_report.proofs.LineLemmas.{joined_spaced}
+use Rattle.match_text.specs.Spelling.{line_text, spaced}
+use Rattle.match_text.proofs.WritingLemmas.{joined_spaced}
 use Rattle.match_report.proofs.tallies.put_worker.Goals as goal
 
 -- a line, as it is written
@@ -8,6 +8,7 @@ parts : (text first number second others end : List ℕ) → ((((text ++ first) 
 parts text first number second others end = simp append_assoc refl
 
 pub returns : goal.returns
+unfolding line_text
 returns c =
     let numbers = spaced (map decimal c.args.taken.now) in
     rw (joined_spaced (codes "took") (map decimal c.args.taken.now), c.in_ok-push.ensures.items, c.in_ok-put_numbers.ensures, c.numbers.ensures, c.in_ok-extend_from_slice-2.ensures.items, c.in_ok-put_number.ensures, c.in_ok-extend_from_slice.ensures.items)

@@ -1,7 +1,7 @@
 use Rattle.std.proofs.Common.{◌≡◌, ◌++◌, length, sym, ap, ◌∙◌, arith}
 use Rattle.match_text.specs.Spelling.{line_text}
 use Rattle.match_report.specs.TallyText.{worker_words, tally_text}
-use Rattle.match_report.proofs.NumberedLemmas.{first_lines, numbered_all, numbered_more, numbered_none}
+use Rattle.match_report.proofs.NumberedLemmas.{numbered_lines, numbered_all, numbered_more, numbered_none}
 use Rattle.match_report.proofs.tallies.write_tally.Goals as goal
 
 pub loop-worker-init : goal.loop-worker-init
@@ -18,4 +18,4 @@ pub returns : goal.returns
 unfolding tally_text
 returns c =
     let all : c.loop-worker.worker ≡ length c.args.tally.now = omega (arith, c.loop-worker-test.false, c.loop-worker.auto.worker-end) in
-    c.loop-worker.invariant ∙ ap (first_lines worker_words c.args.tally.now) all ∙ numbered_all worker_words c.args.tally.now
+    c.loop-worker.invariant ∙ ap (numbered_lines worker_words c.args.tally.now) all ∙ numbered_all worker_words c.args.tally.now

@@ -1,7 +1,7 @@
-use Rattle.std.proofs.Common.{◌≡◌, ◌++◌, map, take}
-use Rattle.match_text.specs.Spelling.{text_of}
+use Rattle.std.proofs.Common.{◌≡◌, ◌++◌}
 use Rattle.match_text.specs.ListSpelling.{arrangement_words}
+use Rattle.match_text.proofs.WritingLemmas.{first_lines}
 use Rattle.match_text.proofs.list_spellings.put_rows.Given as goal
 
 abbrev pub invariant-loop-row : goal.invariant-loop-row
-invariant-loop-row l = l.text.items ≡ l.fn.text.items ++ text_of (map arrangement_words (take l.row-index l.rows))
+invariant-loop-row l = l.text.items ≡ l.fn.text.items ++ first_lines arrangement_words l.rows l.row-index

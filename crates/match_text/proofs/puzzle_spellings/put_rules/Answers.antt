@@ -1,7 +1,7 @@
 use Rattle.std.proofs.Common.{◌≡◌, ◌<◌, ◌∷◌, [], ◌++◌, None, length, map, take, get_or, sym, ap, ◌∙◌, append_assoc, codes, arith}
 use Rattle.std.specs.List.{join_with_byte}
 use Rattle.std.proofs.lemmas.List.{take_all}
-use Rattle.match_text.specs.Spelling.{rule_word}
+use Rattle.match_text.specs.Spelling.{line_text, rule_word}
 use Rattle.match_text.proofs.WritingLemmas.{line_alone, rules_more}
 use Rattle.match_text.proofs.puzzle_spellings.put_rules.Goals as goal
 
@@ -15,6 +15,7 @@ loop-rule-preserved c =
     ∙ ap (λ t. c.args.text.now.items ++ t) (sym (rules_more rules index None lt))
 
 pub returns : goal.returns
+unfolding line_text
 returns c =
     let rules = c.args.rules.now in
     let words = codes "border" ∷ codes "each" ∷ map rule_word rules in

@@ -1,8 +1,8 @@
-use Rattle.std.proofs.Common.{◌≡◌, ◌++◌, map, take}
+use Rattle.std.proofs.Common.{◌≡◌, ◌++◌}
 use Rattle.match_board.specs.Tile.{word}
-use Rattle.match_text.specs.Spelling.{text_of}
 use Rattle.match_text.specs.PuzzleSpelling.{tile_words}
+use Rattle.match_text.proofs.WritingLemmas.{first_lines}
 use Rattle.match_text.proofs.puzzle_spellings.put_tiles.Given as goal
 
 abbrev pub invariant-loop-tile : goal.invariant-loop-tile
-invariant-loop-tile l = l.text.items ≡ l.fn.text.items ++ text_of (map (λ tile. tile_words (word tile)) (take l.tile-index l.tiles))
+invariant-loop-tile l = l.text.items ≡ l.fn.text.items ++ first_lines (λ tile. tile_words (word tile)) l.tiles l.tile-index
