@@ -85,6 +85,6 @@ impl<'a> Setting<'a> {
         ensures puzzle { IfSome result (λ symmetry. symmetry.now.puzzle ≡ self.now.puzzle) }
         ensures none { result ≡ None → length self.now.symmetries ≤ number }
     {
-        self.symmetries.get(number as usize)
+        self.symmetries.get(usize::from(number))
     }
 }
