@@ -1,12 +1,11 @@
 -- Prefixes that are made of pairs.
-use Rattle.std.proofs.Common.{◌≡◌, ◌≢◌, ◌⊎◌, ◌<◌, ◌+◌, ◌++◌, ◌∷◌, [], ℕ, zero, suc, List, Option, Some, None, Contains, length, length-set, take, get_or, slice_get, arith, refl, sym, ap, ◌∙◌, subst, inl, inr, ⊎_elim}
+use Rattle.std.proofs.Common.{◌≡◌, ◌≢◌, ◌⊎◌, ◌<◌, ◌+◌, ◌++◌, ◌∷◌, [], ℕ, zero, suc, List, Option, Some, None, length, length-set, take, get_or, slice_get, arith, refl, sym, ap, ◌∙◌, subst, inl, inr, ⊎_elim}
 use Rattle.std.proofs.lemmas.Bool.Decides.{eqb_tells}
 use Rattle.std.proofs.lemmas.List.{length-replicate, get_or-replicate, take_more}
 use Rattle.std.proofs.lemmas.Option.{slice_get_within, slice_get-get_or, get_or_from_slice_get}
-use Rattle.std.proofs.lemmas.List.Elements.{Contains-push_cases}
 use Rattle.match_board.specs.Board.{cell_count}
 use Rattle.match_puzzle.specs.Puzzle.{Task}
-use Rattle.match_puzzle.specs.Prefix.{Prefix, Has, IsFree, IsUnused, IsWithin, empty_prefix, with_pair, with_pairs, without_cell}
+use Rattle.match_puzzle.specs.Prefix.{Prefix, Has, IsFree, IsUnused, empty_prefix, with_pair, with_pairs, without_cell}
 use Rattle.match_puzzle.specs.PrefixFaults.{IsPairList}
 use Rattle.match_puzzle.specs.declared.placements.Placement.{Placement}
 use Rattle.match_puzzle.specs.declared.placements.Pair.{Pair}
@@ -103,8 +102,3 @@ module _ (p : Task) (pairs : List Pair) (is : IsPairList p pairs) (i : ℕ) (x :
 -- what was read is among the pairs
 pub read_pair : (pairs : List Pair) (i : ℕ) (d : Pair) → i < length pairs → slice_get pairs i ≡ Some (get_or pairs i d)
 read_pair pairs i d lt = slice_get-get_or pairs i d lt
-
--- one pair more within a prefix
-pub within_more : (pairs : List Pair) (i : ℕ) (q : Prefix) (x : Pair) → slice_get pairs i ≡ Some x → Has q x.cell x.placement → IsWithin (take i pairs) q → IsWithin (take (i + 1) pairs) q
-within_more pairs i q x there has so_far = λ y c.
-    ⊎_elim (λ old. so_far y old) (λ e. subst (λ (z : Pair). Has q z.cell z.placement) e has) (Contains-push_cases (take i pairs) x y (subst (λ xs. Contains xs y) (taken_more pairs i x there) c))

@@ -51,12 +51,10 @@ impl Puzzle {
             (IsLeast (HasNoTileAt self.now placements.now)) }
     {
         let cells = self.board().cells();
-        for cell in 0..cells {
-            if placements[cell as usize].tile >= cells {
-                return Some(u32::from(cell));
-            }
-        }
-        None
+        let cell = placements
+            .iter()
+            .position(|placement| placement.tile >= cells)?;
+        Some(cell as u32)
     }
 
     // The first cell whose tile may not be turned so.

@@ -42,10 +42,7 @@ impl BorderRules {
     fn at(&self, place: u16) -> Option<u8>
         ensures { (colour : ℕ) → (result ≡ Some colour) ↔ (slice_get self.now place ≡ Some (Some colour)) }
     {
-        match self.rules.get(place as usize) {
-            None => None,
-            Some(rule) => *rule,
-        }
+        self.rules.get(usize::from(place)).copied().flatten()
     }
 
     // The first place that asks for no colour that there is.

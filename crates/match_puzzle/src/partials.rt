@@ -246,24 +246,14 @@ fn is_filled(placed: &[Option<Placement>]) -> bool
     ensures { MatchBool result ((cell : ℕ) → slice_get placed.now cell ≡ Some None → ⊥)
         ((cell : ℕ) × (slice_get placed.now cell ≡ Some None)) }
 {
-    for standing in placed {
-        if standing.is_none() {
-            return false;
-        }
-    }
-    true
+    placed.iter().all(|standing| standing.is_some())
 }
 
 // Whether each of these pairs stands.
 fn has_all(placed: &[Option<Placement>], pairs: &[Pair]) -> bool
     ensures { IsTrue result ↔ IsWithin pairs.now placed.now }
 {
-    for pair in pairs {
-        if !stands(placed, *pair) {
-            return false;
-        }
-    }
-    true
+    pairs.iter().all(|pair| stands(placed, *pair))
 }
 
 // Whether the pair stands.
