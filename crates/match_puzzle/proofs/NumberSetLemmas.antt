@@ -10,6 +10,7 @@ use Rattle.std.proofs.lemmas.Nat.{and_le_l, or_lt, mod_below, shr-shr, shl_whole
 use Rattle.std.proofs.lemmas.Nat.Bits.{bit_at_and, bit_at_or, bit_at_ones, bit_at_not, bit_at_clear_same, bit_at_clear_other, bit_at-trailing_zeros, bit_at_above, bit_at-lt as bit_at_lt, bit_at_lowest, bit_at-suc, bit_at-zero, bit_at_cat_low, bit_at_cat_high}
 use Rattle.match_board.specs.Listing.{IsListing}
 use Rattle.match_board.proofs.Listings.{contains_none, in_front, same_listing, IsAsymmetric, lt_or_le}
+use Rattle.match_puzzle.specs.declared.number_sets.TheConstants.{WORDS, NUMBERS, GROUPS}
 use Rattle.match_puzzle.specs.NumberSets.{joined, places_of_ones, members, AreWordsOfSet, IsGroup}
 
 -- ---- the places of ones
@@ -155,20 +156,20 @@ module _ (words : List ℕ) (small : AreWords words) where
   digit_of : (n : ℕ) → bit_at (joined words) n ≡ bit_at (get_or words (n / 64) 0) (n % 64)
   digit_of n = ap (bit_at (joined words)) (let e : n ≡ 64 * (n / 64) + n % 64 = omega arith in e) ∙ bit_joined words small (n / 64) (n % 64) (omega arith)
 
-  pub only_members : (n : ℕ) → Contains (members words) n → (n < 448) × (bit_at (get_or words (n / 64) 0) (n % 64) ≡ 1)
+  pub only_members : (n : ℕ) → Contains (members words) n → (n < NUMBERS) × (bit_at (get_or words (n / 64) 0) (n % 64) ≡ 1)
   unfolding members
   only_members n c =
-      let p = only_places 448 0 (joined words) n c in
+      let p = only_places NUMBERS 0 (joined words) n c in
       let e : p.digit ≡ n = omega (arith, p.at) in
       (omega (arith, p.at, p.in_range), sym (digit_of n) ∙ ap (bit_at (joined words)) (sym e) ∙ p.one)
 
-  pub all_members : (n : ℕ) → n < 448 → bit_at (get_or words (n / 64) 0) (n % 64) ≡ 1 → Contains (members words) n
+  pub all_members : (n : ℕ) → n < NUMBERS → bit_at (get_or words (n / 64) 0) (n % 64) ≡ 1 → Contains (members words) n
   unfolding members
-  all_members n lt one = subst (Contains (members words)) (let e : 0 + n ≡ n = omega arith in e) (all_places 448 0 (joined words) n lt (digit_of n ∙ one))
+  all_members n lt one = subst (Contains (members words)) (let e : 0 + n ≡ n = omega arith in e) (all_places NUMBERS 0 (joined words) n lt (digit_of n ∙ one))
 
 -- a number of the set
 abbrev pub IsMember : List ℕ → ℕ → Type 0
-IsMember words n = (n < 448) × (bit_at (get_or words (n / 64) 0) (n % 64) ≡ 1)
+IsMember words n = (n < NUMBERS) × (bit_at (get_or words (n / 64) 0) (n % 64) ≡ 1)
 
 -- The members are the numbers of the set, rising.
 pub members_listing : (words : List ℕ) → AreWords words → IsListing ◌<◌ (IsMember words) (members words)
@@ -176,12 +177,12 @@ unfolding members
 members_listing words small = record {
   only = λ n c. only_members words small n c;
   all = λ n h. all_members words small n h.0 h.1;
-  rising = λ i j d lt in_range. places_rise 448 0 (joined words) i j d lt in_range;
+  rising = λ i j d lt in_range. places_rise NUMBERS 0 (joined words) i j d lt in_range;
 }
 
-pub many_members : (words : List ℕ) → length words ≡ 7 → AreWords words → length (members words) ≡ count_ones (joined words)
+pub many_members : (words : List ℕ) → length words ≡ WORDS → AreWords words → length (members words) ≡ count_ones (joined words)
 unfolding members
-many_members words long small = many_places 448 0 (joined words) (subst (λ k. joined words < 2 ^ k) (let e : 64 * length words ≡ 448 = omega arith in e) (joined_below words small))
+many_members words long small = many_places NUMBERS 0 (joined words) (subst (λ k. joined words < 2 ^ k) (let e : 64 * length words ≡ NUMBERS = omega arith in e) (joined_below words small))
 
 -- a set with just the numbers that have a property
 pub listing_of : (P : ℕ → Type 0) (words : List ℕ) → AreWords words → ((n : ℕ) → Contains (members words) n ↔ P n) → IsListing ◌<◌ P (members words)
@@ -242,7 +243,7 @@ module _ (a b c d e : List ℕ) (small_a : AreWords a) (small_b : AreWords b) (s
   abbrev CommonWord : ℕ → ℕ
   CommonWord k = and_all (get_or a k 0) (get_or b k 0) (get_or c k 0) (get_or d k 0) (get_or e k 0)
 
-  in_all : (n : ℕ) → n < 448 → bit_at (CommonWord (n / 64)) (n % 64) ≡ 1 → InAll (members a) (members b) (members c) (members d) (members e) n
+  in_all : (n : ℕ) → n < NUMBERS → bit_at (CommonWord (n / 64)) (n % 64) ≡ 1 → InAll (members a) (members b) (members c) (members d) (members e) n
   in_all n lt one =
       let each = one_in_each (get_or a (n / 64) 0) (get_or b (n / 64) 0) (get_or c (n / 64) 0) (get_or d (n / 64) 0) (get_or e (n / 64) 0) (n % 64) one in
       (all_members a small_a n lt each.0, all_members b small_b n lt each.1, all_members c small_c n lt each.2, all_members d small_d n lt each.3, all_members e small_e n lt each.4)
@@ -260,7 +261,7 @@ module _ (a b c d e : List ℕ) (small_a : AreWords a) (small_b : AreWords b) (s
       ))
 
   -- the digits of a group in all sets
-  pub common_group_members : (group digits : ℕ) → group < 112 → digits ≡ bit_and (CommonWord (group / 16) / 2 ^ (4 * (group % 16))) 15 → (n : ℕ) → n < 4 → (bit_at digits n ≡ 1) ↔ InAll (members a) (members b) (members c) (members d) (members e) (4 * group + n)
+  pub common_group_members : (group digits : ℕ) → group < GROUPS → digits ≡ bit_and (CommonWord (group / 16) / 2 ^ (4 * (group % 16))) 15 → (n : ℕ) → n < 4 → (bit_at digits n ≡ 1) ↔ InAll (members a) (members b) (members c) (members d) (members e) (4 * group + n)
   common_group_members group digits in_range is n lt =
       let word : group / 16 ≡ (4 * group + n) / 64 = omega (arith, lt) in
       let place : 4 * (group % 16) + n ≡ (4 * group + n) % 64 = omega (arith, lt) in
@@ -289,7 +290,7 @@ module _ (digits shift : ℕ) (few : digits < 16) (fits : shift + 4 ≤ 64) wher
   moved_above r le = bit_at_above Moved (4 + shift) r (subst (λ m. m < 2 ^ (4 + shift)) (sym (shl_whole digits 4 shift 64 few (omega arith))) (shl_below digits 4 shift few)) (omega arith)
 
 -- where a number of a group stands
-module _ (words : List ℕ) (small : AreWords words) (group : ℕ) (in_range : group < 112) where
+module _ (words : List ℕ) (small : AreWords words) (group : ℕ) (in_range : group < GROUPS) where
   pub group_members : (digits : ℕ) → digits ≡ bit_and (get_or words (group / 16) 0 / 2 ^ (4 * (group % 16))) 15 → IsGroup (members words) group digits
   group_members digits is n lt =
       let at : bit_at digits n ≡ bit_at (get_or words ((4 * group + n) / 64) 0) ((4 * group + n) % 64) = ap (λ d. bit_at d n) is ∙ bit_of_group (get_or words (group / 16) 0) (4 * (group % 16)) n lt ∙ (ap (λ k. bit_at (get_or words k 0) (4 * (group % 16) + n)) (let e : group / 16 ≡ (4 * group + n) / 64 = omega arith in e) ∙ ap (bit_at (get_or words ((4 * group + n) / 64) 0)) (let e : 4 * (group % 16) + n ≡ (4 * group + n) % 64 = omega arith in e)) in
@@ -344,7 +345,7 @@ module _ (words : List ℕ) (small : AreWords words) (group : ℕ) (in_range : g
         pub put_members : (n : ℕ) → Contains (members other) n ↔ (Contains (members words) n ⊎ ((n / 4 ≡ group) × (bit_at digits (n % 4) ≡ 1)))
         put_members n = (λ c. after (only_members other small_other n c), λ h. before h)
           where
-            after : (n < 448) × (bit_at (get_or other (n / 64) 0) (n % 64) ≡ 1) → Contains (members words) n ⊎ ((n / 4 ≡ group) × (bit_at digits (n % 4) ≡ 1))
+            after : (n < NUMBERS) × (bit_at (get_or other (n / 64) 0) (n % 64) ≡ 1) → Contains (members words) n ⊎ ((n / 4 ≡ group) × (bit_at digits (n % 4) ≡ 1))
             after m =
                 ⊎_elim
                 (λ e. ⊎_elim
@@ -400,7 +401,7 @@ rising_asymmetric : IsAsymmetric ◌<◌
 rising_asymmetric x y p q = omega (arith, p, q)
 
 -- A word's lowest one, where the words before have none, is taken off.
-module _ (words other : List ℕ) (small : AreWords words) (small_other : AreWords other) (place digit : ℕ) (in_range : place < 7) (digit_in : digit < 64)
+module _ (words other : List ℕ) (small : AreWords words) (small_other : AreWords other) (place digit : ℕ) (in_range : place < WORDS) (digit_in : digit < 64)
     (none_before : (k : ℕ) → k < place → get_or words k 0 ≡ 0) (one : bit_at (get_or words place 0) digit ≡ 1) (lowest : (r : ℕ) → r < digit → bit_at (get_or words place 0) r ≡ 0)
     (same : (k : ℕ) → k ≢ place → get_or other k 0 ≡ get_or words k 0) (cleared : bit_at (get_or other place 0) digit ≡ 0)
     (kept : (r : ℕ) → r < 64 → r ≢ digit → bit_at (get_or other place 0) r ≡ bit_at (get_or words place 0) r) where
@@ -466,7 +467,7 @@ no_members words small zeros =
 
 -- seven empty words
 abbrev pub empty_words : List ℕ
-empty_words = replicate 7 0
+empty_words = replicate WORDS 0
 
 pub no_words : AreWordsOfSet empty_words 0
 no_words = record {
@@ -477,12 +478,12 @@ no_words = record {
 }
   where
     zeros : (i : ℕ) → get_or empty_words i 0 ≡ 0
-    zeros i = ⊎_elim (λ lt. get_or-replicate 7 i 0 0 lt) (λ le. get_or_past empty_words i 0 (omega (arith, le))) (lt_or_le i 7)
+    zeros i = ⊎_elim (λ lt. get_or-replicate WORDS i 0 0 lt) (λ le. get_or_past empty_words i 0 (omega (arith, le))) (lt_or_le i WORDS)
 
 -- ---- words that are written
 
 -- one word is written, which has no ones if it is past the end
-pub written_words : (words : List ℕ) (end place word end' : ℕ) → AreWordsOfSet words end → place < 7 → word < 2 ^ 64 → end ≤ end' → end' ≤ 7 → (end' ≤ place → word ≡ 0) → AreWordsOfSet (set words place word) end'
+pub written_words : (words : List ℕ) (end place word end' : ℕ) → AreWordsOfSet words end → place < WORDS → word < 2 ^ 64 → end ≤ end' → end' ≤ WORDS → (end' ≤ place → word ≡ 0) → AreWordsOfSet (set words place word) end'
 written_words words end place word end' is in_range fits more most past = record {
   long = length-set words place word ∙ is.long;
   small = λ i. ⊎_elim (λ e. let at = here i e.1 in omega (arith, at, fits)) (λ ne. let at = there i ne.1 in let old = is.small i in omega (arith, at, old)) (eqb_tells i place);
@@ -497,7 +498,7 @@ written_words words end place word end' is in_range fits more most past = record
     there i ne = get_or-set_other words place i word 0 ne
 
 -- the words that sets have in common, up to the end of the first
-module _ (a b c d e f : List ℕ) (end i : ℕ) (is : AreWordsOfSet a end) (long : length f ≡ 7) (all : end ≤ i)
+module _ (a b c d e f : List ℕ) (end i : ℕ) (is : AreWordsOfSet a end) (long : length f ≡ WORDS) (all : end ≤ i)
     (done : (k : ℕ) → k < i → get_or f k 0 ≡ and_all (get_or a k 0) (get_or b k 0) (get_or c k 0) (get_or d k 0) (get_or e k 0)) (rest : (k : ℕ) → i ≤ k → get_or f k 0 ≡ 0) where
   pub in_common : (k : ℕ) → get_or f k 0 ≡ and_all (get_or a k 0) (get_or b k 0) (get_or c k 0) (get_or d k 0) (get_or e k 0)
   in_common k =
@@ -591,7 +592,7 @@ pub nothing_left : (words : List ℕ) (end i : ℕ) → AreWordsOfSet words end 
 nothing_left words end i is all none = no_members words is.small (λ k. ⊎_elim (λ lt. none k lt) (λ le. is.past k (omega (arith, le, all))) (lt_or_le k i))
 
 -- a group is put in
-module _ (words : List ℕ) (end group digits : ℕ) (is : AreWordsOfSet words end) (in_range : group < 112) (few : digits < 16) where
+module _ (words : List ℕ) (end group digits : ℕ) (is : AreWordsOfSet words end) (in_range : group < GROUPS) (few : digits < 16) where
   abbrev Joined : ℕ
   Joined = bit_or (get_or words (group / 16) 0) (digits * 2 ^ (4 * (group % 16)) % 2 ^ 64)
 
@@ -608,7 +609,7 @@ module _ (words : List ℕ) (end group digits : ℕ) (is : AreWordsOfSet words e
       (λ k ne. get_or-set_other words (group / 16) k Joined 0 ne) digits few (get_or-set_same words (group / 16) Joined 0 (omega (arith, long))))
 
 -- a group is taken off
-module _ (words : List ℕ) (end group : ℕ) (is : AreWordsOfSet words end) (in_range : group < 112) where
+module _ (words : List ℕ) (end group : ℕ) (is : AreWordsOfSet words end) (in_range : group < GROUPS) where
   abbrev Kept : ℕ
   Kept = bit_and (get_or words (group / 16) 0) (bit_not w64 (15 * 2 ^ (4 * (group % 16)) % 2 ^ 64))
 

@@ -1,11 +1,12 @@
 -- Sets of numbers, as the binary digits of words.
 use Rattle.std.specs.Prelude.{◌≡◌, ◌<◌, ◌≤◌, ◌+◌, ◌*◌, ◌/◌, ◌%◌, ◌^◌, ℕ, zero, suc, List, [], ◌∷◌, ◌==◌, if◌then◌else◌, Contains, length, slice_index}
 use Rattle.std.specs.Int.{bit_at}
+use Rattle.match_puzzle.specs.declared.number_sets.TheConstants.{WORDS, WORD_BITS, NUMBERS}
 
 -- the number whose binary digits are those of the words, one after the other, the lowest first
 unfoldable pub joined : List ℕ → ℕ
 joined [] = 0
-joined (word ∷ words) = joined words * 2 ^ 64 + word
+joined (word ∷ words) = joined words * 2 ^ WORD_BITS + word
 
 -- the places of the ones among so many lowest binary digits, rising, counted from the first place
 unfoldable pub places_of_ones : (digits first number : ℕ) → List ℕ
@@ -13,15 +14,15 @@ places_of_ones zero first number = []
 places_of_ones (suc digits) first number =
     if number % 2 == 1 then first ∷ places_of_ones digits (first + 1) (number / 2) else places_of_ones digits (first + 1) (number / 2)
 
--- the numbers of a set of seven words: where a one stands
+-- the numbers of a set: where a one stands
 unfoldable pub members : List ℕ → List ℕ
-members words = places_of_ones 448 0 (joined words)
+members words = places_of_ones NUMBERS 0 (joined words)
 
--- seven words of 64 digits, with no ones from the end on
+-- so many words, with no ones from the end on
 pub record AreWordsOfSet (words : List ℕ) (end : ℕ) : Type 0 where
-  pub long : length words ≡ 7
-  pub small : (i : ℕ) → slice_index words i < 2 ^ 64
-  pub most : end ≤ 7
+  pub long : length words ≡ WORDS
+  pub small : (i : ℕ) → slice_index words i < 2 ^ WORD_BITS
+  pub most : end ≤ WORDS
   pub past : (i : ℕ) → end ≤ i → slice_index words i ≡ 0
 
 -- Numbers come in groups of four, group k from 4 * k on. The digits of a number below 16 say which of a group are in a set.

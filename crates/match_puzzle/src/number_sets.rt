@@ -1,4 +1,4 @@
-//! Sets of numbers below 448, as bits.
+//! Sets of numbers below `NUMBERS`, as bits.
 
 ghost use Rattle.std.specs.Prelude.{◌≡◌, ◌≢◌, ◌⊎◌, ◌↔◌, ◌<◌, ◌≤◌, ◌/◌, ◌%◌, ◌*◌, ◌+◌, ℕ, [], ◌∷◌, Contains};
 ghost use Rattle.std.specs.Prelude.{MatchOption, length};
@@ -6,12 +6,28 @@ ghost use Rattle.std.specs.Int.{bit_at};
 ghost use Rattle.match_board.specs.Listing.{IsListing};
 ghost use Rattle.match_puzzle.specs.NumberSets.{IsGroup};
 
+use match_board::limits::MOST_TILES;
 use std::marker::Model;
 
-/// How many words of 64 bits a set has.
+/// How many words a set has.
 const WORDS: usize = 7;
 
-/// Different numbers below 448, rising. They come in groups of four: group k has the numbers from 4 k to 4 k + 3.
+/// How many bits a word has.
+const WORD_BITS: u16 = 64;
+
+/// How many groups of four numbers a word has.
+const WORD_GROUPS: u16 = WORD_BITS / 4;
+
+/// The numbers of a set are below this one.
+const NUMBERS: u16 = WORD_BITS * WORDS as u16;
+
+/// How many groups of four numbers there are.
+const GROUPS: u16 = WORD_GROUPS * WORDS as u16;
+
+// There is a group for each tile; there are as many cells.
+const _: () = prove!(MOST_TILES <= GROUPS);
+
+/// Different numbers below `NUMBERS`, rising. They come in groups of four: group k has the numbers from 4 k to 4 k + 3.
 #[derive(Drop)]
 pub(crate) struct NumberSet {
     words: [u64; WORDS],
@@ -72,7 +88,7 @@ impl NumberSet {
             if word != 0 {
                 let digit = word.trailing_zeros();
                 self.words[i] = word & !(1 << digit);
-                return Some(64 * i as u16 + digit as u16);
+                return Some(WORD_BITS * i as u16 + digit as u16);
             }
         }
         None
@@ -80,7 +96,7 @@ impl NumberSet {
 
     /// The numbers that are in this set and in each of four others.
     ///
-    /// Each word is made at once, so that a set is written and not read again on the way; all seven are, since a loop
+    /// Each word is made at once, so that a set is written and not read again on the way; all of them are, since a loop
     /// that goes to an end known beforehand is faster.
     pub(crate) fn common(
         &self,
@@ -115,47 +131,47 @@ impl NumberSet {
         fourth: &NumberSet,
         group: u16,
     ) -> u8
-        requires { group < 112 }
+        requires { group < GROUPS }
         ensures few { result < 16 }
         ensures common { (n : ℕ) → n < 4 → (bit_at result n ≡ 1) ↔ (Contains self.now (4 * group + n)
             × Contains first.now (4 * group + n) × Contains second.now (4 * group + n)
             × Contains third.now (4 * group + n) × Contains fourth.now (4 * group + n)) }
     {
-        let place = usize::from(group / 16);
+        let place = usize::from(group / WORD_GROUPS);
         let word = self.words[place]
             & first.words[place]
             & second.words[place]
             & third.words[place]
             & fourth.words[place];
-        (word >> (4 * (group % 16)) & 15) as u8
+        (word >> (4 * (group % WORD_GROUPS)) & 15) as u8
     }
 
     /// Which numbers of the group there are: the first by the lowest bit.
     pub(crate) fn group(&self, group: u16) -> u8
-        requires { group < 112 }
+        requires { group < GROUPS }
         ensures few { result < 16 }
         ensures group { IsGroup self.now group result }
     {
-        let word = self.words[usize::from(group / 16)];
-        (word >> (4 * (group % 16)) & 15) as u8
+        let word = self.words[usize::from(group / WORD_GROUPS)];
+        (word >> (4 * (group % WORD_GROUPS)) & 15) as u8
     }
 
     /// Puts these numbers of the group in.
     pub(crate) fn put_group(&mut self, group: u16, digits: u8)
-        requires group { group < 112 }
+        requires group { group < GROUPS }
         requires digits { digits < 16 }
         ensures { IsListing ◌<◌ (λ n. Contains self.old n ⊎ ((n / 4 ≡ group) × (bit_at digits (n % 4) ≡ 1))) self.new }
     {
-        let place = usize::from(group / 16);
-        self.words[place] |= u64::from(digits) << (4 * (group % 16));
+        let place = usize::from(group / WORD_GROUPS);
+        self.words[place] |= u64::from(digits) << (4 * (group % WORD_GROUPS));
         self.end = self.end.max(place + 1);
     }
 
     /// Takes all numbers of the group off.
     pub(crate) fn remove_group(&mut self, group: u16)
-        requires { group < 112 }
+        requires { group < GROUPS }
         ensures { IsListing ◌<◌ (λ n. Contains self.old n × (n / 4 ≢ group)) self.new }
     {
-        self.words[usize::from(group / 16)] &= !(15 << (4 * (group % 16)));
+        self.words[usize::from(group / WORD_GROUPS)] &= !(15 << (4 * (group % WORD_GROUPS)));
     }
 }

@@ -1,10 +1,11 @@
 use Rattle.std.proofs.Common.{◌≡◌, ◌<◌, ◌≤◌, ℕ, get_or, length}
+use Rattle.match_puzzle.specs.declared.number_sets.TheConstants.{WORDS}
 use Rattle.match_puzzle.proofs.NumberSetLemmas.{and_all}
 use Rattle.match_puzzle.proofs.number_sets.NumberSet.common.Given as goal
 
 abbrev pub invariant-loop-i : goal.invariant-loop-i
 invariant-loop-i l = record {
-  long : length l.words ≡ 7;
+  long : length l.words ≡ WORDS;
   done : (k : ℕ) → k < l.i → get_or l.words k 0 ≡ and_all (get_or l.self-inside.words k 0) (get_or l.first-inside.words k 0) (get_or l.second-inside.words k 0) (get_or l.third-inside.words k 0) (get_or l.fourth-inside.words k 0);
   rest : (k : ℕ) → l.i ≤ k → get_or l.words k 0 ≡ 0;
 }

@@ -1,9 +1,10 @@
 use Rattle.std.proofs.Common.{◌≡◌, ◌≤◌, ◌*◌, take, count_ones}
+use Rattle.match_puzzle.specs.declared.number_sets.TheConstants.{WORD_BITS}
 use Rattle.match_puzzle.specs.NumberSets.{joined}
 use Rattle.match_puzzle.proofs.number_sets.NumberSet.len.Given as goal
 
 abbrev pub invariant-loop-word : goal.invariant-loop-word
 invariant-loop-word l = record {
   counted : l.count ≡ count_ones (joined (take l.word-index l.word-items));
-  few : l.count ≤ 64 * l.word-index;
+  few : l.count ≤ WORD_BITS * l.word-index;
 }

@@ -1,3 +1,4 @@
+use Rattle.match_puzzle.specs.declared.number_sets.TheConstants.{NUMBERS}
 use Rattle.match_puzzle.specs.NumberSets.{joined, members}
 use Rattle.match_puzzle.proofs.NumberSetLemmas.{places_of_zero, no_words}
 use Rattle.match_puzzle.proofs.number_sets.NumberSet.new.Goals as goal
@@ -7,4 +8,4 @@ invariant_of-result c = no_words
 
 pub returns : goal.returns
 unfolding joined members
-returns c = places_of_zero 448 0
+returns c = places_of_zero NUMBERS 0

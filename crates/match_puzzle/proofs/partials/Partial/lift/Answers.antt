@@ -1,5 +1,6 @@
 use Rattle.std.proofs.Common.{Some, ◌<◌, arith, sym, subst}
 use Rattle.std.proofs.lemmas.Option.{slice_get_within}
+use Rattle.match_puzzle.specs.declared.number_sets.TheConstants.{GROUPS}
 use Rattle.match_puzzle.specs.Prefix.{Layout, Has}
 use Rattle.match_puzzle.proofs.Prefixes.{read_has}
 use Rattle.match_puzzle.proofs.Kept.{kept_lifted}
@@ -10,7 +11,7 @@ use Rattle.match_puzzle.proofs.partials.Partial.lift.Goals.{In-Some}
 stands : (c : In-Some) → Has c.self.inside.placed.items c.args.cell c.in-Some.placement
 stands c = read_has _ c.args.cell _ c.in-Some.placement _ (subst (λ (v : Layout). Has v.placed c.args.cell c.requires.0) (sym c.self.view_is) c.requires.1) c.index.ensures c.in-Some.is
 
-tile_in : (c : In-Some) → c.in-Some.placement.tile < 112
+tile_in : (c : In-Some) → c.in-Some.placement.tile < GROUPS
 tile_in c =
     let kept = c.self.invariant in
     let legal = kept.prefix.legal c.args.cell c.in-Some.placement (stands c) in
