@@ -23,7 +23,7 @@ impl Puzzle {
         ensures { MatchOption result (IsArrangement self.now placements.now)
             (IsArrangementFault self.now placements.now) }
     {
-        if placements.len() != self.board().cells() as usize {
+        if placements.len() != usize::from(self.board().cells()) {
             return Some(ArrangementFault::Length);
         }
         if let Some(cell) = self.tile_out_of_range(placements) {
@@ -65,7 +65,7 @@ impl Puzzle {
             (IsLeast (HasNoTurnAt self.now placements.now)) }
     {
         for cell in 0..self.board().cells() {
-            if !self.legal(placements[cell as usize]) {
+            if !self.legal(placements[usize::from(cell)]) {
                 return Some(u32::from(cell));
             }
         }
@@ -80,7 +80,7 @@ impl Puzzle {
     {
         let mut seen = [false; MOST_TILES as usize];
         for cell in 0..self.board().cells() {
-            let tile = placements[cell as usize].tile as usize;
+            let tile = usize::from(placements[usize::from(cell)].tile);
             if seen[tile] {
                 return Some(u32::from(cell));
             }
@@ -97,7 +97,7 @@ impl Puzzle {
             (IsLeastPair (BreaksBorderAt self.now placements.now)) }
     {
         for cell in 0..self.board().cells() {
-            if let Some(side) = self.broken_border_at(cell, placements[cell as usize]) {
+            if let Some(side) = self.broken_border_at(cell, placements[usize::from(cell)]) {
                 return Some((u32::from(cell), side));
             }
         }
@@ -183,8 +183,8 @@ impl Puzzle {
                 cell: other,
                 side: other_side,
             } => {
-                let here = placements[cell as usize];
-                let there = placements[other as usize];
+                let here = placements[usize::from(cell)];
+                let there = placements[usize::from(other)];
                 self.colour(here, side) == self.colour(there, other_side)
             }
         }

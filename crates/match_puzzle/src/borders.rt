@@ -197,7 +197,7 @@ impl Border {
     {
         match self {
             Border::Free | Border::One(_) => true,
-            Border::Each(rules) => rules.as_slice().len() == board.border_len() as usize,
+            Border::Each(rules) => rules.as_slice().len() == usize::from(board.border_len()),
         }
     }
 }

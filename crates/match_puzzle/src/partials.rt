@@ -49,7 +49,7 @@ impl<'a> Partial<'a> {
         ensures empty { IfOk result (λ q. q ≡ record { puzzle = puzzle.now; placed = empty_prefix puzzle.now }) }
         ensures puzzle { IsPuzzle puzzle.now }
     {
-        let cells = puzzle.board().cells() as usize;
+        let cells = usize::from(puzzle.board().cells());
         let placed = vec![in alloc; None; cells]?;
         let shown = vec![in alloc; ANY_COLOUR; 4 * cells]?;
         Ok(Partial {
@@ -162,7 +162,7 @@ impl<'a> Partial<'a> {
         requires unused { IsUnused self.old.placed placement.tile }
         ensures { self.new ≡ record { puzzle = self.old.puzzle; placed = with_pair self.old.placed cell placement } }
     {
-        self.placed[cell as usize] = Some(placement);
+        self.placed[usize::from(cell)] = Some(placement);
         self.free.remove_group(placement.tile);
         show(&mut self.shown, self.puzzle, cell, placement);
     }
@@ -172,8 +172,8 @@ impl<'a> Partial<'a> {
         requires { (x : Placement) × Has self.old.placed cell x }
         ensures { self.new ≡ record { puzzle = self.old.puzzle; placed = without_cell self.old.placed cell } }
     {
-        if let Some(placement) = self.placed[cell as usize] {
-            self.placed[cell as usize] = None;
+        if let Some(placement) = self.placed[usize::from(cell)] {
+            self.placed[usize::from(cell)] = None;
             let turns = self.puzzle.legal_numbers().group(placement.tile);
             self.free.put_group(placement.tile, turns);
             hide(&mut self.shown, cell);
@@ -260,7 +260,7 @@ fn has_all(placed: &[Option<Placement>], pairs: &[Pair]) -> bool
 fn stands(placed: &[Option<Placement>], pair: Pair) -> bool
     ensures { IsTrue result ↔ Has placed.now pair.cell pair.placement }
 {
-    let cell = pair.cell as usize;
+    let cell = usize::from(pair.cell);
     cell < placed.len() && placed[cell] == Some(pair.placement)
 }
 

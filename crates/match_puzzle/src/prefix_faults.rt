@@ -20,7 +20,7 @@ impl Puzzle {
             if let Some(fault) = self.pair_fault(place as u32, *pair, least, &seen) {
                 return Some(fault);
             }
-            seen[pair.placement.tile as usize] = true;
+            seen[usize::from(pair.placement.tile)] = true;
             least = pair.cell + 1;
         }
         None
@@ -36,7 +36,7 @@ impl Puzzle {
         if pair.cell < least || pair.cell >= cells {
             return Some(PrefixFault::Cell(place));
         }
-        if pair.placement.tile >= cells || seen[pair.placement.tile as usize] {
+        if pair.placement.tile >= cells || seen[usize::from(pair.placement.tile)] {
             return Some(PrefixFault::Tile(place));
         }
         if !self.legal(pair.placement) {

@@ -155,7 +155,7 @@ impl Puzzle {
     pub fn legal(&self, placement: Placement) -> bool
         ensures { IsTrue result ↔ IsLegal self.now placement }
     {
-        (placement.tile as usize) < self.tiles.len()
+        usize::from(placement.tile) < self.tiles.len()
             && placement.turn < self.turn_count(placement.tile)
     }
 
@@ -165,7 +165,7 @@ impl Puzzle {
         requires side { side < side_count self.now.board }
         ensures { IsSide self.now cell side result }
     {
-        self.sides[cell as usize].sides[side as usize]
+        self.sides[usize::from(cell)].sides[usize::from(side)]
     }
 
     // How many turns of a tile are legal.
@@ -173,7 +173,7 @@ impl Puzzle {
         requires { tile < length self.now.words }
         ensures { IsTurnCount self.now tile result }
     {
-        self.turn_counts[tile as usize]
+        self.turn_counts[usize::from(tile)]
     }
 
     // The legal placements, by number.
@@ -210,7 +210,7 @@ impl Puzzle {
         ensures word { word result.now ≡ word_of self.now tile }
         ensures sides { length (word result.now) ≡ side_count self.now.board }
     {
-        &self.tiles[tile as usize]
+        &self.tiles[usize::from(tile)]
     }
 }
 
@@ -224,7 +224,7 @@ fn puzzle_fault(board: Board, turns: bool, border: &Border, tiles: &[Tile]) -> O
     if board.sides() == 3 && !turns {
         return Some(PuzzleFault::FixedTriangles);
     }
-    if tiles.len() != board.cells() as usize {
+    if tiles.len() != usize::from(board.cells()) {
         return Some(PuzzleFault::TileCount);
     }
     if let Some(tile) = odd_tile(board, tiles) {

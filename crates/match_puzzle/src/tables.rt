@@ -43,7 +43,7 @@ pub(crate) fn sides_table(
     ensures { IfOk result
         (λ v. (turns : Bool) (tiles : List BoardTile) → AreSides (task_of board turns border.now tiles) v.items) }
 {
-    let mut table = Vec::with_capacity(alloc, board.cells() as usize)?;
+    let mut table = Vec::with_capacity(alloc, usize::from(board.cells()))?;
     let mut number = 0;
     for cell in 0..board.cells() {
         let sides = cell_sides(board, border, cell, &mut number);
@@ -63,7 +63,7 @@ fn cell_sides(board: Board, border: &Border, cell: u16, number: &mut u16) -> Cel
 {
     let mut sides = [Side::Border(None); 4];
     for side in 0..board.sides() {
-        sides[side as usize] = side_at(board, border, cell, side, number);
+        sides[usize::from(side)] = side_at(board, border, cell, side, number);
     }
     CellSides { sides }
 }

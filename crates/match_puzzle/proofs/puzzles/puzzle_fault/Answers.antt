@@ -15,7 +15,7 @@ returns c = record {
         | else-sides-eq3-via-then-sides-eq3+else-not-turns w ↦ w.if-not-turns.false
         | else-sides-eq3-via-else-sides-eq3 w ↦ absurd (w.if-sides-eq3.false (c.sides.ensures.count ∙ three))
       ];
-  tiles = length-map c.args.tiles.now word ∙ c.if-tiles-cells.false ∙ c.cells.ensures.count;
+  tiles = length-map c.args.tiles.now word ∙ c.if-tiles-from.false ∙ c.from.ensures ∙ c.cells.ensures.count;
   sides = c.in_default.ensures;
   tile_colours = words_coloured c.args.tiles.now;
   border_colours = c.in_default-bad_colour.ensures;
@@ -30,4 +30,4 @@ returns-in-Some-bad_colour c =
       | else-sides-eq3-via-then-sides-eq3+else-not-turns w ↦ true≢false (sym w.if-not-turns.false ∙ unturned)
       | else-sides-eq3-via-else-sides-eq3 w ↦ w.if-sides-eq3.false (c.sides.ensures.count ∙ three)
     ])
-    (length-map c.args.tiles.now word ∙ c.if-tiles-cells.false ∙ c.cells.ensures.count) c.in_default.ensures c.in-Some-bad_colour.ensures
+    (length-map c.args.tiles.now word ∙ c.if-tiles-from.false ∙ c.from.ensures ∙ c.cells.ensures.count) c.in_default.ensures c.in-Some-bad_colour.ensures

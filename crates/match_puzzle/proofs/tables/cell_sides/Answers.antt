@@ -12,7 +12,7 @@ loop-side-preserved c = record {
       ⊎_elim
       (λ w. subst (λ k. IsSide p c.args.cell k x) (sym w.0) (subst (λ y. IsSide p c.args.cell c.loop-side.side y) (sym w.1) (c.side_at.ensures.side turns tiles)))
       (λ w. c.loop-side.invariant.sides side x (omega (arith, w.0)) w.1 turns tiles)
-      (written_is c.loop-side.sides c.loop-side.side side c.side_at.result x get);
+      (written_is c.loop-side.sides c.loop-side.side side c.side_at.result x (rw c.from.ensures at get));
   number = c.side_at.ensures.number;
 }
 

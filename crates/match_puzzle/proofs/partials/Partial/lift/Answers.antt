@@ -9,7 +9,7 @@ use Rattle.match_puzzle.proofs.partials.Partial.lift.Goals as goal
 use Rattle.match_puzzle.proofs.partials.Partial.lift.Goals.{In-Some}
 
 stands : (c : In-Some) → Has c.self.inside.placed.items c.args.cell c.in-Some.placement
-stands c = read_has _ c.args.cell _ c.in-Some.placement _ (subst (λ (v : Layout). Has v.placed c.args.cell c.requires.0) (sym c.self.view_is) c.requires.1) c.index.ensures c.in-Some.is
+stands c = read_has _ c.args.cell _ c.in-Some.placement _ (subst (λ (v : Layout). Has v.placed c.args.cell c.requires.0) (sym c.self.view_is) c.requires.1) (rw c.from.ensures at c.index.ensures) c.in-Some.is
 
 tile_in : (c : In-Some) → c.in-Some.placement.tile < GROUPS
 tile_in c =
@@ -39,6 +39,6 @@ invariant_of-self c =
     let i = c.self.inside in
     let p = i.puzzle.now in
     let here = stands (goal.at.invariant_of-self c).In-Some in
-    kept_lifted p i.placed.items i.free i.shown.items c.self.invariant c.args.cell c.in-Some.placement c.group-turns.result c.legal_numbers.result.now _ c.legal_numbers.ensures.legal c.group-turns.ensures.group c.put_group.ensures here
+    rw c.from-in-Some.ensures (kept_lifted p i.placed.items i.free i.shown.items c.self.invariant c.args.cell c.in-Some.placement c.group-turns.result c.legal_numbers.result.now _ c.legal_numbers.ensures.legal c.group-turns.ensures.group c.put_group.ensures here
     c.hide.new.shown.items
-    (shown_lifted p i.placed.items c.args.cell c.in-Some.placement i.shown.items c.hide.new.shown.items c.self.invariant.shows c.hide.ensures.long c.hide.ensures.others here c.hide.ensures.any)
+    (shown_lifted p i.placed.items c.args.cell c.in-Some.placement i.shown.items c.hide.new.shown.items c.self.invariant.shows c.hide.ensures.long c.hide.ensures.others here c.hide.ensures.any))

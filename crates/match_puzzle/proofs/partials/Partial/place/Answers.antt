@@ -24,9 +24,9 @@ invariant_of-self c =
     let kept = c.self.invariant in
     let back = sym c.self.view_is in
     let free = subst (λ (v : Layout). IsFree v.placed c.args.cell) back c.requires.free in
-    kept_placed p i.placed.items i.free i.shown.items kept c.args.cell c.args.placement _ c.remove_group.ensures
+    rw c.from.ensures (kept_placed p i.placed.items i.free i.shown.items kept c.args.cell c.args.placement _ c.remove_group.ensures
     (subst (λ (v : Layout). IsLegal v.puzzle c.args.placement) back c.requires.legal)
     free
     (subst (λ (v : Layout). IsUnused v.placed c.args.placement.tile) back c.requires.unused)
     c.show.new.shown.items
-    (shown_placed p i.placed.items c.args.cell c.args.placement i.shown.items c.show.new.shown.items kept.shows c.show.ensures.long c.show.ensures.others c.show.ensures.shows free)
+    (shown_placed p i.placed.items c.args.cell c.args.placement i.shown.items c.show.new.shown.items kept.shows c.show.ensures.long c.show.ensures.others c.show.ensures.shows free))

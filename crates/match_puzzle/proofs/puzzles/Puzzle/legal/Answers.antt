@@ -5,7 +5,7 @@ use Rattle.match_puzzle.specs.Puzzle.{Task}
 use Rattle.match_puzzle.proofs.Words.{legal_by_count}
 use Rattle.match_puzzle.proofs.puzzles.Puzzle.legal.Goals as goal
 
-pub returns-then-placement-len : goal.returns-then-placement-len
-returns-then-placement-len c =
+pub returns-then-from-len : goal.returns-then-from-len
+returns-then-from-len c =
     legal_by_count c.args.self.now c.args.placement c.turn_count.result
-    (omega (arith, ap (λ (q : Task). length q.words) c.self.view_is, length-map c.self.inside.tiles.items word, c.self.inside.tiles.ok.0, c.if-placement-len.true)) c.turn_count.ensures
+    (omega (arith, ap (λ (q : Task). length q.words) c.self.view_is, length-map c.self.inside.tiles.items word, c.self.inside.tiles.ok.0, c.from.ensures, c.if-from-len.true)) c.turn_count.ensures

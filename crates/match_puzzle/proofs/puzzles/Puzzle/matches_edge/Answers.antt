@@ -11,14 +11,14 @@ first_tile = record { tile = 0; turn = 0 }
 other_in : (c : In-Edge) → c.in-Edge.other < length c.args.placements.now
 other_in c = omega (arith, StandsAt-in_range c.in-Edge.ensures.0.there, c.requires.long)
 
-pub bounds-placements-other : goal.bounds-placements-other
-bounds-placements-other c = other_in (goal.at.bounds-placements-other c).In-Edge
+pub bounds-placements-from-in-Edge : goal.bounds-placements-from-in-Edge
+bounds-placements-from-in-Edge c = rw c.from-in-Edge.ensures (other_in (goal.at.bounds-placements-from-in-Edge c).In-Edge)
 
 pub colour-requires-clause-tile : goal.colour-requires-clause-tile
-colour-requires-clause-tile c = (c.requires.legal c.args.cell _ (read_stands c.args.placements.now c.args.cell first_tile (omega (arith, c.requires.long, c.requires.cell)))).tile
+colour-requires-clause-tile c = rw c.from.ensures (c.requires.legal c.args.cell _ (read_stands c.args.placements.now c.args.cell first_tile (omega (arith, c.requires.long, c.requires.cell)))).tile
 
 pub colour-requires-in-Edge-clause-tile : goal.colour-requires-in-Edge-clause-tile
-colour-requires-in-Edge-clause-tile c = (c.requires.legal c.in-Edge.other _ (read_stands c.args.placements.now c.in-Edge.other first_tile (other_in (goal.at.colour-requires-in-Edge-clause-tile c).In-Edge))).tile
+colour-requires-in-Edge-clause-tile c = rw c.from-in-Edge.ensures (c.requires.legal c.in-Edge.other _ (read_stands c.args.placements.now c.in-Edge.other first_tile (other_in (goal.at.colour-requires-in-Edge-clause-tile c).In-Edge))).tile
 
 pub returns-in-Border : goal.returns-in-Border
 returns-in-Border c = border_matches c.args.self.now c.args.placements.now c.args.cell c.args.side c.in-Border.field-0 c.in-Border.ensures
@@ -26,4 +26,6 @@ returns-in-Border c = border_matches c.args.self.now c.args.placements.now c.arg
 pub returns-in-Edge : goal.returns-in-Edge
 returns-in-Edge c =
     let both = edge_matches c.args.self.now c.args.placements.now c.args.cell c.args.side c.in-Edge.other c.in-Edge.other_side first_tile (omega (arith, c.requires.long, c.requires.cell)) (other_in (goal.at.returns-in-Edge c).In-Edge) c.in-Edge.ensures in
-    by_test c.colour.result c.colour-in-Edge.result _ _ (λ e. both.0 (sym c.colour.ensures.colour ∙ e ∙ c.colour-in-Edge.ensures.colour)) (λ ne. both.1 (λ e. ne (c.colour.ensures.colour ∙ e ∙ sym c.colour-in-Edge.ensures.colour)))
+    let here = rw c.from.ensures at c.colour.ensures.colour in
+    let there = rw c.from-in-Edge.ensures at c.colour-in-Edge.ensures.colour in
+    by_test c.colour.result c.colour-in-Edge.result _ _ (λ e. both.0 (sym here ∙ e ∙ there)) (λ ne. both.1 (λ e. ne (here ∙ e ∙ sym there)))

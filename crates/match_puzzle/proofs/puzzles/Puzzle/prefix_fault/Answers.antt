@@ -33,8 +33,8 @@ returns-in-Some c =
     let x = get_or pairs n first_pair in
     first_told c.args.self.now pairs n c.loop-place.least c.loop-place.seen c.loop-place.invariant x (slice_get-get_or pairs n first_pair c.loop-place-test.true) c.in-Some.fault c.in-Some.ensures
 
-pub bounds-seen-pair : goal.bounds-seen-pair
-bounds-seen-pair c = c.in_default.ensures.1.1
+pub bounds-seen-from : goal.bounds-seen-from
+bounds-seen-from c = rw c.from.ensures c.in_default.ensures.1.1
 
 pub overflow_add-least : goal.overflow_add-least
 overflow_add-least c = omega (arith, c.in_default.ensures.0.2)
@@ -45,7 +45,7 @@ loop-place-preserved c =
     let n = c.loop-place.place in
     let x = get_or pairs n first_pair in
     let told = c.in_default.ensures in
-    right_more c.args.self.now pairs n c.loop-place.least c.loop-place.seen c.loop-place.invariant x (slice_get-get_or pairs n first_pair c.loop-place-test.true) told.0 told.1 told.1.1 told.2
+    rw c.from.ensures (right_more c.args.self.now pairs n c.loop-place.least c.loop-place.seen c.loop-place.invariant x (slice_get-get_or pairs n first_pair c.loop-place-test.true) told.0 told.1 told.1.1 told.2)
 
 pub returns : goal.returns
 returns c = right_all c.args.self.now c.args.pairs.now c.loop-place.place c.loop-place.least c.loop-place.seen (omega (arith, c.loop-place-test.false)) c.loop-place.invariant

@@ -24,7 +24,7 @@ loop-cell-init c = record {
 }
 
 pub bounds-seen-tile : goal.bounds-seen-tile
-bounds-seen-tile c = small_tile c.args.self.now _ c.board.ensures.puzzle (c.requires.tiles c.loop-cell.cell _ (read_stands c.args.placements.now c.loop-cell.cell first_tile (omega (arith, c.requires.long, c.cells-cell-end.ensures.count, ap cell_count c.board.ensures.value))))
+bounds-seen-tile c = rw (c.from-tile.ensures, c.from.ensures) (small_tile c.args.self.now _ c.board.ensures.puzzle (c.requires.tiles c.loop-cell.cell _ (read_stands c.args.placements.now c.loop-cell.cell first_tile (omega (arith, c.requires.long, c.cells-cell-end.ensures.count, ap cell_count c.board.ensures.value)))))
 
 pub returns-then-seen-tile : goal.returns-then-seen-tile
 returns-then-seen-tile c =
@@ -32,10 +32,10 @@ returns-then-seen-tile c =
     let i = c.loop-cell.cell in
     let here = read_stands a i first_tile (omega (arith, c.requires.long, c.cells-cell-end.ensures.count, ap cell_count c.board.ensures.value)) in
     let small = small_tile c.args.self.now _ c.board.ensures.puzzle (c.requires.tiles i _ here) in
-    rw c.from.ensures (least_at (RepeatsTileAt c.args.self.now a) i (seen_repeats a c.args.self.now i _ c.loop-cell.seen here small c.loop-cell.invariant.seen c.if-seen-tile.true) c.loop-cell.invariant.once)
+    rw c.from-then-seen-tile.ensures (least_at (RepeatsTileAt c.args.self.now a) i (seen_repeats a c.args.self.now i _ c.loop-cell.seen here small c.loop-cell.invariant.seen (rw (c.from-tile.ensures, c.from.ensures) at c.if-seen-tile.true)) c.loop-cell.invariant.once)
 
 pub bounds-seen-tile-in-loop-cell : goal.bounds-seen-tile-in-loop-cell
-bounds-seen-tile-in-loop-cell c = small_tile c.args.self.now _ c.board.ensures.puzzle (c.requires.tiles c.loop-cell.cell _ (read_stands c.args.placements.now c.loop-cell.cell first_tile (omega (arith, c.requires.long, c.cells-cell-end.ensures.count, ap cell_count c.board.ensures.value))))
+bounds-seen-tile-in-loop-cell c = rw (c.from-tile.ensures, c.from.ensures) (small_tile c.args.self.now _ c.board.ensures.puzzle (c.requires.tiles c.loop-cell.cell _ (read_stands c.args.placements.now c.loop-cell.cell first_tile (omega (arith, c.requires.long, c.cells-cell-end.ensures.count, ap cell_count c.board.ensures.value)))))
 
 pub loop-cell-preserved : goal.loop-cell-preserved
 loop-cell-preserved c =
@@ -45,8 +45,8 @@ loop-cell-preserved c =
     let small = small_tile c.args.self.now _ c.board.ensures.puzzle (c.requires.tiles i _ here) in
     record {
       long = length-set c.loop-cell.seen _ true ∙ c.loop-cell.invariant.long;
-      seen = seen_more a i _ c.loop-cell.seen here c.loop-cell.invariant.long c.loop-cell.invariant.seen;
-      once = below_more (λ k. RepeatsTileAt c.args.self.now a k → ⊥) i c.loop-cell.invariant.once (unseen_once a c.args.self.now i _ c.loop-cell.seen here small c.loop-cell.invariant.seen c.if-seen-tile.false);
+      seen = rw (c.from-tile.ensures, c.from.ensures) (seen_more a i _ c.loop-cell.seen here c.loop-cell.invariant.long c.loop-cell.invariant.seen);
+      once = below_more (λ k. RepeatsTileAt c.args.self.now a k → ⊥) i c.loop-cell.invariant.once (unseen_once a c.args.self.now i _ c.loop-cell.seen here small c.loop-cell.invariant.seen (rw (c.from-tile.ensures, c.from.ensures) at c.if-seen-tile.false));
     }
 
 pub returns : goal.returns
