@@ -9,46 +9,24 @@ use Rattle.match_puzzle.proofs.Prefixes.{inside}
 use Rattle.match_board.proofs.Places.{against_in_range}
 use Rattle.match_board.specs.Board.{cell_count, side_count, Meets}
 use Rattle.match_board.specs.declared.figures.Figure.{Figure}
-use Rattle.match_board.specs.First.{IsLeast, IsLeastPair, Rank, AtMost}
+use Rattle.match_board.specs.First.{IsLeast, IsLeastPair, AtMost}
 use Rattle.match_puzzle.specs.Puzzle.{Task, HasRule, colour_of}
 use Rattle.match_puzzle.specs.Arrangement.{Stands, HaveTiles, AreLegal, StandOnce, ObeyBorder, MatchesEdgeAt, MatchEdges}
 use Rattle.match_puzzle.specs.ArrangementFaults.{ArrangementFails, arrangement_rank, IsArrangementFault, HasNoTileAt, HasNoTurnAt, RepeatsTileAt, BreaksBorderAt, BreaksEdgeAt}
 use Rattle.match_puzzle.specs.Tables.{IsSide}
 use Rattle.match_puzzle.specs.declared.tables.Side.TheVariants.{Border, Edge}
 use Rattle.match_puzzle.specs.declared.placements.Placement.{Placement}
+use Rattle.match_puzzle.proofs.FirstLemmas.{sooner, not_after_itself, not_after_number, not_after_pair}
 use Rattle.match_puzzle.specs.declared.faults.ArrangementFault.{ArrangementFault}
 use Rattle.match_puzzle.specs.declared.faults.ArrangementFault.TheVariants.{Length, TileRange, Turn, TileTwice, BorderBroken, EdgeBroken}
-
--- what holds here and nowhere before
-pub least_at : (P : ℕ → Type 0) (n : ℕ) → P n → ((k : ℕ) → k < n → P k → ⊥) → IsLeast P n
-least_at P n holds none = record {
-  holds = holds;
-  least = λ m h. let not_before : (m < n → ⊥) = λ lt. none m lt h in omega (arith, not_before);
-}
-
--- the least pair, by the least second number at the first number that has one
-pub least_pair_at : (P : ℕ → ℕ → Type 0) (n m : ℕ) → IsLeast (P n) m → ((k : ℕ) → k < n → (s : ℕ) → P k s → ⊥) → IsLeastPair P (n, m)
-least_pair_at P n m here none = record {
-  holds = here.holds;
-  first = λ a b h. let not_before : (a < n → ⊥) = λ lt. none a lt b h in omega (arith, not_before);
-  second = λ a b h e. here.least b (subst (λ k. P k b) (sym e) h);
-}
-
--- an earlier kind
-sooner : (a b : Rank) → a.first < b.first → AtMost a b
-sooner a b lt = record { first = omega arith; second = λ e. absurd (omega arith); third = λ e f. absurd (omega arith) }
 
 module _ (p : Task) (a : List Placement) where
   pub first_length : length a ≢ cell_count p.board → IsArrangementFault p a Length
   first_length wrong = record { occurs = wrong; first = λ g o. by_kind g }
     where
       by_kind : (g : ArrangementFault) → AtMost (arrangement_rank Length) (arrangement_rank g)
-      by_kind Length = record { first = omega arith; second = λ e. omega arith; third = λ e f. omega arith }
-      by_kind (TileRange c) = sooner _ _ (omega arith)
-      by_kind (Turn c) = sooner _ _ (omega arith)
-      by_kind (TileTwice c) = sooner _ _ (omega arith)
-      by_kind (BorderBroken c k) = sooner _ _ (omega arith)
-      by_kind (EdgeBroken c k) = sooner _ _ (omega arith)
+      by_kind Length = not_after_itself _
+      by_kind g = sooner _ _ (omega arith)
 
   module _ (long : length a ≡ cell_count p.board) where
     pub first_range : (cell : ℕ) → IsLeast (HasNoTileAt p a) cell → IsArrangementFault p a (TileRange cell)
@@ -56,11 +34,8 @@ module _ (p : Task) (a : List Placement) where
       where
         by_kind : (g : ArrangementFault) → ArrangementFails p a g → AtMost (arrangement_rank (TileRange cell)) (arrangement_rank g)
         by_kind Length o = absurd (o long)
-        by_kind (TileRange c) o = let le = least.least c o in record { first = omega arith; second = λ e. le; third = λ e f. omega arith }
-        by_kind (Turn c) o = sooner _ _ (omega arith)
-        by_kind (TileTwice c) o = sooner _ _ (omega arith)
-        by_kind (BorderBroken c k) o = sooner _ _ (omega arith)
-        by_kind (EdgeBroken c k) o = sooner _ _ (omega arith)
+        by_kind (TileRange c) o = not_after_number _ 2 cell c least o
+        by_kind g o = sooner _ _ (omega arith)
 
     module _ (no_range : (c : ℕ) → HasNoTileAt p a c → ⊥) where
       pub first_turn : (cell : ℕ) → IsLeast (HasNoTurnAt p a) cell → IsArrangementFault p a (Turn cell)
@@ -69,10 +44,8 @@ module _ (p : Task) (a : List Placement) where
           by_kind : (g : ArrangementFault) → ArrangementFails p a g → AtMost (arrangement_rank (Turn cell)) (arrangement_rank g)
           by_kind Length o = absurd (o long)
           by_kind (TileRange c) o = absurd (no_range c o)
-          by_kind (Turn c) o = let le = least.least c o in record { first = omega arith; second = λ e. le; third = λ e f. omega arith }
-          by_kind (TileTwice c) o = sooner _ _ (omega arith)
-          by_kind (BorderBroken c k) o = sooner _ _ (omega arith)
-          by_kind (EdgeBroken c k) o = sooner _ _ (omega arith)
+          by_kind (Turn c) o = not_after_number _ 3 cell c least o
+          by_kind g o = sooner _ _ (omega arith)
 
       module _ (no_turn : (c : ℕ) → HasNoTurnAt p a c → ⊥) where
         pub first_twice : (cell : ℕ) → IsLeast (RepeatsTileAt p a) cell → IsArrangementFault p a (TileTwice cell)
@@ -82,9 +55,8 @@ module _ (p : Task) (a : List Placement) where
             by_kind Length o = absurd (o long)
             by_kind (TileRange c) o = absurd (no_range c o)
             by_kind (Turn c) o = absurd (no_turn c o)
-            by_kind (TileTwice c) o = let le = least.least c o in record { first = omega arith; second = λ e. le; third = λ e f. omega arith }
-            by_kind (BorderBroken c k) o = sooner _ _ (omega arith)
-            by_kind (EdgeBroken c k) o = sooner _ _ (omega arith)
+            by_kind (TileTwice c) o = not_after_number _ 4 cell c least o
+            by_kind g o = sooner _ _ (omega arith)
 
         module _ (no_twice : (c : ℕ) → RepeatsTileAt p a c → ⊥) where
           pub first_border : (cell side : ℕ) → IsLeastPair (BreaksBorderAt p a) (cell, side) → IsArrangementFault p a (BorderBroken cell side)
@@ -95,8 +67,8 @@ module _ (p : Task) (a : List Placement) where
               by_kind (TileRange c) o = absurd (no_range c o)
               by_kind (Turn c) o = absurd (no_turn c o)
               by_kind (TileTwice c) o = absurd (no_twice c o)
-              by_kind (BorderBroken c k) o = record { first = omega arith; second = λ e. least.first c k o; third = λ e f. least.second c k o f }
-              by_kind (EdgeBroken c k) o = sooner _ _ (omega arith)
+              by_kind (BorderBroken c k) o = not_after_pair _ 5 cell side c k least o
+              by_kind g o = sooner _ _ (omega arith)
 
           module _ (no_border : (c k : ℕ) → BreaksBorderAt p a c k → ⊥) where
             pub first_edge : (cell side : ℕ) → IsLeastPair (BreaksEdgeAt p a) (cell, side) → IsArrangementFault p a (EdgeBroken cell side)
@@ -108,7 +80,7 @@ module _ (p : Task) (a : List Placement) where
                 by_kind (Turn c) o = absurd (no_turn c o)
                 by_kind (TileTwice c) o = absurd (no_twice c o)
                 by_kind (BorderBroken c k) o = absurd (no_border c k o)
-                by_kind (EdgeBroken c k) o = record { first = omega arith; second = λ e. least.first c k o; third = λ e f. least.second c k o f }
+                by_kind (EdgeBroken c k) o = not_after_pair _ 6 cell side c k least o
 
 -- ---- what a fault of one kind would be
 

@@ -5,6 +5,7 @@ pub mod PuzzleFaultLemmas
 pub mod Kept
 pub mod ShownLemmas
 pub mod Pigeonhole
+pub mod FirstLemmas
 pub mod ArrangementLemmas
 pub mod NumberSetLemmas
 pub mod PlacementSetLemmas

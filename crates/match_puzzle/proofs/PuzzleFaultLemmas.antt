@@ -1,15 +1,12 @@
 -- The first fault of a puzzle.
 use Rattle.std.proofs.Common.{◌≡◌, ◌<◌, ℕ, false, length, arith}
 use Rattle.match_board.specs.Board.{cell_count, side_count}
-use Rattle.match_board.specs.First.{Rank, AtMost, IsFirst, IsLeast}
+use Rattle.match_board.specs.First.{AtMost, IsFirst, IsLeast}
 use Rattle.match_puzzle.specs.Puzzle.{Task, word_of}
 use Rattle.match_puzzle.specs.PuzzleFaults.{PuzzleFails, puzzle_rank}
 use Rattle.match_puzzle.specs.declared.faults.PuzzleFault.{PuzzleFault}
-use Rattle.match_puzzle.specs.declared.faults.PuzzleFault.TheVariants.{FixedTriangles, TileCount, TileSides, BadColour, BorderLength, Memory}
-
--- an earlier kind
-sooner : (a b : Rank) → a.first < b.first → AtMost a b
-sooner a b lt = record { first = omega arith; second = λ e. absurd (omega arith); third = λ e f. absurd (omega arith) }
+use Rattle.match_puzzle.specs.declared.faults.PuzzleFault.TheVariants.{FixedTriangles, TileCount, TileSides, BadColour}
+use Rattle.match_puzzle.proofs.FirstLemmas.{sooner, not_after_number}
 
 -- a colour that there is not, where all before is right
 pub first_bad_colour : (p : Task) (place : ℕ) → (side_count p.board ≡ 3 → p.turns ≡ false → ⊥) → length p.words ≡ cell_count p.board →
@@ -20,6 +17,5 @@ first_bad_colour p place triangles tiles sides least = record { occurs = least.h
     by_kind FixedTriangles o = absurd (triangles o.0 o.1)
     by_kind TileCount o = absurd (o tiles)
     by_kind (TileSides tile) o = absurd (o.1 (sides tile o.0))
-    by_kind (BadColour n) o = let le = least.least n o in record { first = omega arith; second = λ e. le; third = λ e f. omega arith }
-    by_kind BorderLength o = sooner _ _ (omega arith)
-    by_kind Memory o = sooner _ _ (omega arith)
+    by_kind (BadColour n) o = not_after_number _ 4 place n least o
+    by_kind g o = sooner _ _ (omega arith)

@@ -6,7 +6,8 @@ use Rattle.match_board.specs.Board.{cell_count}
 use Rattle.match_puzzle.specs.Puzzle.{Task, IsPuzzle}
 use Rattle.match_puzzle.specs.ArrangementFaults.{RepeatsTileAt}
 use Rattle.match_puzzle.specs.declared.placements.Placement.{Placement}
-use Rattle.match_puzzle.proofs.ArrangementLemmas.{least_at, read_stands, once_by_order, seen_none, seen_more, seen_repeats, unseen_once}
+use Rattle.match_puzzle.proofs.FirstLemmas.{least_at}
+use Rattle.match_puzzle.proofs.ArrangementLemmas.{read_stands, once_by_order, seen_none, seen_more, seen_repeats, unseen_once}
 use Rattle.match_puzzle.proofs.puzzles.Puzzle.repeated_tile.Goals as goal
 
 abbrev first_tile : Placement
