@@ -19,7 +19,8 @@ pub record GoesOn (s : Selection) (before after : Progress) : Type 0 where
   pub more : length before.found.items ≤ length after.found.items
   pub found : (a : List Placement) → Contains after.found.items a → Contains before.found.items a ⊎ IsFoundFrom s a
 
--- The tree of these choices: it spent a unit of fuel for each branch node, each of which finds at most as many more as it may have children.
+-- The tree of these choices, with a unit of fuel spent for each branch node. What it found is bounded by that fuel: one
+-- arrangement, and for each branch node as many more as the node may have children.
 pub record IsTreeOf (s : Selection) (before after : Progress) (tree : Tree) : Type 0 where
   pub spent : after.fuel + branch_count tree ≡ before.fuel
   pub numbers : IsFoundBelow (length after.found.items) tree
