@@ -1,5 +1,6 @@
 -- The program's commands, as `clap` reads them.
-use Rattle.std.specs.Prelude.{◌≡◌, ℕ, true, false, [], ◌∷◌, Some, codes}
+use Rattle.std.specs.Prelude.{◌≡◌, ℕ, List, true, false, [], ◌∷◌, Some, codes, fold}
+use Rattle.match_board.specs.declared.limits.TheConstants.{MOST_COLOURS, MOST_FUEL}
 use Rattle.clap.specs.Words.{App, Rule, Text, new_app, new_rule, with_rule, with_subcommand}
 use Rattle.clap.specs.Simple.{on_top}
 use Rattle.clap.specs.declared.builder.command.Command.{Command}
@@ -31,15 +32,20 @@ abbrev pub check_app : App
 check_app = with_files (new_app (codes "check"))
 
 abbrev pub solve_app : App
-solve_app = with_rule (with_files (new_app (codes "solve"))) (optional_number (codes "fuel") 1 1000000 (codes "1000000"))
+solve_app = with_rule (with_files (new_app (codes "solve"))) (optional_number (codes "fuel") 1 MOST_FUEL (codes "1000000"))
 
 abbrev pub expand_app : App
 expand_app = with_files (new_app (codes "expand"))
 
 abbrev pub tiles_app : App
-tiles_app = with_rule (with_rule (new_app (codes "tiles")) (wanted_number (codes "SIDES") 3 4)) (wanted_number (codes "COLOURS") 1 36)
+tiles_app = with_rule (with_rule (new_app (codes "tiles")) (wanted_number (codes "SIDES") 3 4)) (wanted_number (codes "COLOURS") 1 MOST_COLOURS)
 
+-- the commands, in the order of the help
+abbrev pub commands : List App
+commands = check_app ∷ solve_app ∷ expand_app ∷ tiles_app ∷ []
+
+-- the program with all of them
 abbrev pub whole_app : App
 whole_app =
     let program = on_top (λ s. record s { no_binary_name = true; has_version = true }) (new_app (codes "edgematch")) in
-    with_subcommand (with_subcommand (with_subcommand (with_subcommand program check_app.top) solve_app.top) expand_app.top) tiles_app.top
+    fold (λ app command. with_subcommand app command.top) program commands

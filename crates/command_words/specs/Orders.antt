@@ -2,6 +2,7 @@
 use Rattle.std.specs.Prelude.{◌≡◌, ◌≢◌, ◌≤◌, ◌⊎◌, ℕ, List, Option, Some, None, codes, option_map}
 use Rattle.std.specs.String.{string_bytes}
 use Rattle.std.specs.Str.Parse.{digits_value, without_leading_plus}
+use Rattle.match_board.specs.declared.limits.TheConstants.{MOST_COLOURS, MOST_FUEL}
 use Rattle.clap.specs.Words.{IsAmong, IsUnsignedIn, Kinds, Row, Text, first_of, kind_of, subcommand_of}
 use Rattle.clap.specs.declared.error.Error.{Error}
 use Rattle.clap.specs.declared.error.kind.ErrorKind.TheVariants.{OutOfMemory}
@@ -52,9 +53,9 @@ IsOrder words order = IsOrderOf (subcommand_of whole_app words) order
 abbrev pub IsInRange : Order → Type 0
 IsInRange Joined = Unit {0}
 IsInRange (Check files) = Unit {0}
-IsInRange (Solve files fuel) = (1 ≤ fuel) × (fuel ≤ 1000000)
+IsInRange (Solve files fuel) = (1 ≤ fuel) × (fuel ≤ MOST_FUEL)
 IsInRange (Expand files) = Unit {0}
-IsInRange (Tiles sides colours) = ((sides ≡ 3) ⊎ (sides ≡ 4)) × (1 ≤ colours) × (colours ≤ 36)
+IsInRange (Tiles sides colours) = ((sides ≡ 3) ⊎ (sides ≡ 4)) × (1 ≤ colours) × (colours ≤ MOST_COLOURS)
 
 -- The fault of what `clap` answers: want of memory, or the words.
 abbrev pub IsFaultOf : Error → WordsFault → Type 0

@@ -1,13 +1,14 @@
 //! The program's commands, with their help.
 
 ghost use Rattle.std.specs.Prelude.{◌≡◌, IfOk, false};
-ghost use Rattle.clap.specs.Words.{app_of, rule_of};
+ghost use Rattle.clap.specs.Words.{app_of, new_app, rule_of};
 ghost use Rattle.command_words.specs.Commands.{IsLocal, optional_number, wanted, wanted_number};
 ghost use Rattle.command_words.specs.Commands.{check_app, expand_app, solve_app, tiles_app};
 ghost use Rattle.command_words.specs.Commands.{whole_app, with_files};
 
 use clap::builder::ValueParser;
 use clap::{Arg, Command};
+use match_board::limits::{MOST_COLOURS, MOST_FUEL};
 use std::alloc::{AllocError, Global};
 
 const NAME: &str = "edgematch";
@@ -94,12 +95,17 @@ fn optional_number<'a>(
         .help(help)
 }
 
-// The command with three files by their names.
-fn of_files<'a>(alloc: Global, command: Command<'a>) -> Result<Command<'a>, AllocError>
-    requires { IsLocal command }
-    ensures app { IfOk result (λ c. app_of c ≡ with_files (app_of command.entry)) }
+// The command of this name, with three files by their names.
+fn of_files<'a>(
+    alloc: Global,
+    name: &'a str,
+    about: &'a str,
+    help: &'a str,
+) -> Result<Command<'a>, AllocError>
+    ensures app { IfOk result (λ c. app_of c ≡ with_files (new_app name.entry.now)) }
     ensures local { IfOk result IsLocal }
 {
+    let command = Command::new(alloc, name).about(about).after_help(help);
     let puzzle = word(alloc, "PUZZLE", "File of the puzzle");
     let list = word(alloc, "LIST", "File of the list of arrangements");
     let certificate = word(alloc, "CERTIFICATE", "File of the certificate");
@@ -111,10 +117,12 @@ fn check<'a>(alloc: Global) -> Result<Command<'a>, AllocError>
     ensures app { IfOk result (λ c. app_of c ≡ check_app) }
     ensures local { IfOk result IsLocal }
 {
-    let command = Command::new(alloc, "check")
-        .about("Checks that a list has every arrangement of a puzzle")
-        .after_help(CHECKED);
-    of_files(alloc, command)
+    of_files(
+        alloc,
+        "check",
+        "Checks that a list has every arrangement of a puzzle",
+        CHECKED,
+    )
 }
 
 fn solve<'a>(alloc: Global) -> Result<Command<'a>, AllocError>
@@ -125,16 +133,17 @@ fn solve<'a>(alloc: Global) -> Result<Command<'a>, AllocError>
         alloc,
         "fuel",
         1,
-        1_000_000,
+        u64::from(MOST_FUEL),
         "1000000",
         "The most branch nodes that the search makes, 1 to 1000000",
     );
-    let command = Command::new(alloc, "solve")
-        .about(
-            "Searches for every arrangement of a puzzle, and writes their list and a certificate",
-        )
-        .after_help(SOLVED);
-    let command = of_files(alloc, command)?.arg(fuel)?;
+    let command = of_files(
+        alloc,
+        "solve",
+        "Searches for every arrangement of a puzzle, and writes their list and a certificate",
+        SOLVED,
+    )?
+    .arg(fuel)?;
     Ok(command)
 }
 
@@ -142,10 +151,12 @@ fn expand<'a>(alloc: Global) -> Result<Command<'a>, AllocError>
     ensures app { IfOk result (λ c. app_of c ≡ expand_app) }
     ensures local { IfOk result IsLocal }
 {
-    let command = Command::new(alloc, "expand")
-        .about("Checks a list, and prints every arrangement of the puzzle")
-        .after_help(EXPANDED);
-    of_files(alloc, command)
+    of_files(
+        alloc,
+        "expand",
+        "Checks a list, and prints every arrangement of the puzzle",
+        EXPANDED,
+    )
 }
 
 fn tiles<'a>(alloc: Global) -> Result<Command<'a>, AllocError>
@@ -157,7 +168,7 @@ fn tiles<'a>(alloc: Global) -> Result<Command<'a>, AllocError>
         alloc,
         "COLOURS",
         1,
-        36,
+        u64::from(MOST_COLOURS),
         "How many colours there are, 1 to 36",
     );
     let command = Command::new(alloc, "tiles")
@@ -173,11 +184,7 @@ fn tiles<'a>(alloc: Global) -> Result<Command<'a>, AllocError>
 pub fn program<'a>(alloc: Global) -> Result<Command<'a>, AllocError>
     ensures { IfOk result (λ c. app_of c ≡ whole_app) }
 {
-    let check = check(alloc)?;
-    let solve = solve(alloc)?;
-    let expand = expand(alloc)?;
-    let tiles = tiles(alloc)?;
-    let command = Command::new(alloc, NAME)
+    let program = Command::new(alloc, NAME)
         .about(
             "Finds the arrangements of edge-matching puzzles, and checks that lists of them are complete",
         )
@@ -185,9 +192,9 @@ pub fn program<'a>(alloc: Global) -> Result<Command<'a>, AllocError>
         .version(VERSION)
         .no_binary_name(true)
         .bin_name(NAME)?
-        .subcommand(check)?
-        .subcommand(solve)?
-        .subcommand(expand)?
-        .subcommand(tiles)?;
-    Ok(command)
+        .subcommand(check(alloc)?)?
+        .subcommand(solve(alloc)?)?
+        .subcommand(expand(alloc)?)?
+        .subcommand(tiles(alloc)?)?;
+    Ok(program)
 }

@@ -11,6 +11,7 @@ use crate::commands::program;
 use crate::faults::WordsFault;
 use crate::orders::{Files, Order};
 use clap::ArgMatches;
+use match_board::limits::{MOST_COLOURS, MOST_FUEL};
 use std::alloc::{AllocError, Global};
 
 // The text under this id.
@@ -26,7 +27,7 @@ fn text(alloc: Global, matches: &ArgMatches<'_>, id: &str) -> Result<String, All
 
 // The number under this id.
 fn number(matches: &ArgMatches<'_>, id: &str) -> u32
-    requires { HasNumber id.now 0 1000000 (rows_of (found_of matches.now)) }
+    requires { HasNumber id.now 0 4294967295 (rows_of (found_of matches.now)) }
     ensures { number_of id.now (rows_of (found_of matches.now)) ≡ Some result }
 {
     let Some(text) = matches.get_str(id) else {
@@ -62,7 +63,7 @@ fn files(alloc: Global, matches: &ArgMatches<'_>) -> Result<Files, AllocError>
 
 fn solve(alloc: Global, matches: &ArgMatches<'_>) -> Result<Order, AllocError>
     requires files { HasFiles (rows_of (found_of matches.now)) }
-    requires fuel { HasNumber (codes "fuel") 1 1000000 (rows_of (found_of matches.now)) }
+    requires fuel { HasNumber (codes "fuel") 1 MOST_FUEL (rows_of (found_of matches.now)) }
     ensures order { IfOk result (IsOrderOf (Some (codes "solve", rows_of (found_of matches.now)))) }
     ensures range { IfOk result IsInRange }
 {
@@ -75,7 +76,7 @@ fn solve(alloc: Global, matches: &ArgMatches<'_>) -> Result<Order, AllocError>
 
 fn tiles(matches: &ArgMatches<'_>) -> Order
     requires sides { HasNumber (codes "SIDES") 3 4 (rows_of (found_of matches.now)) }
-    requires colours { HasNumber (codes "COLOURS") 1 36 (rows_of (found_of matches.now)) }
+    requires colours { HasNumber (codes "COLOURS") 1 MOST_COLOURS (rows_of (found_of matches.now)) }
     ensures order { IsOrderOf (Some (codes "tiles", rows_of (found_of matches.now))) result }
     ensures range { IsInRange result }
 {

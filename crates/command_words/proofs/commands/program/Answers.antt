@@ -1,6 +1,8 @@
 use Rattle.std.proofs.Common.{◌≡◌, ◌∙◌, ap, ap₂, true}
 use Rattle.clap.specs.Words.{App, Shape, app_of, with_subcommand}
 use Rattle.clap.specs.Simple.{app_of_fields, on_top}
+use Rattle.clap.specs.declared.builder.command.Command.{Command}
+use Rattle.command_words.specs.Commands.{IsLocal}
 use Rattle.command_words.proofs.commands.program.Goals as goal
 
 -- without the program's name before the words
@@ -10,12 +12,17 @@ nameless = on_top (λ (s : Shape). record s { no_binary_name = true })
 abbrev versioned : App → App
 versioned = on_top (λ (s : Shape). record s { has_version = true })
 
+-- a command more, in what `clap` makes of it and as it is defined
+more : (given : Command) {whole before program sub : App} → (IsLocal given → whole ≡ with_subcommand before (app_of given).top) → IsLocal given
+    → before ≡ program → app_of given ≡ sub → whole ≡ with_subcommand program sub.top
+more given shape local program is = shape local ∙ ap₂ with_subcommand program (ap (λ (a : App). a.top) is)
+
 pub returns : goal.returns
 returns c =
     let top : app_of c.in_ok-bin_name.field-0 ≡ nameless (versioned (app_of c.new.result)) =
     ap app_of_fields c.in_ok-bin_name.ensures.0 ∙ ap app_of_fields c.no_binary_name.ensures ∙ ap nameless (ap app_of_fields c.version.ensures ∙ ap versioned (ap app_of_fields c.after_help.ensures ∙ ap app_of_fields c.about.ensures)) in
-    let with_check = c.in_ok-subcommand.ensures.shape c.in_ok-check.ensures.local
-    ∙ ap₂ with_subcommand (top ∙ ap (λ (a : App). nameless (versioned a)) c.new.ensures.app) (ap (λ (a : App). a.top) c.in_ok-check.ensures.app) in
-    let with_solve = c.in_ok-subcommand-2.ensures.shape c.in_ok-solve.ensures.local ∙ ap₂ with_subcommand with_check (ap (λ (a : App). a.top) c.in_ok-solve.ensures.app) in
-    let with_expand = c.in_ok-subcommand-3.ensures.shape c.in_ok-expand.ensures.local ∙ ap₂ with_subcommand with_solve (ap (λ (a : App). a.top) c.in_ok-expand.ensures.app) in
-    c.in_ok-command.ensures.shape c.in_ok-tiles.ensures.local ∙ ap₂ with_subcommand with_expand (ap (λ (a : App). a.top) c.in_ok-tiles.ensures.app)
+    let program = top ∙ ap (λ (a : App). nameless (versioned a)) c.new.ensures.app in
+    let with_check = more _ c.in_ok-subcommand.ensures.shape c.in_ok-check.ensures.local program c.in_ok-check.ensures.app in
+    let with_solve = more _ c.in_ok-subcommand-2.ensures.shape c.in_ok-solve.ensures.local with_check c.in_ok-solve.ensures.app in
+    let with_expand = more _ c.in_ok-subcommand-3.ensures.shape c.in_ok-expand.ensures.local with_solve c.in_ok-expand.ensures.app in
+    more _ c.in_ok-program.ensures.shape c.in_ok-tiles.ensures.local with_expand c.in_ok-tiles.ensures.app

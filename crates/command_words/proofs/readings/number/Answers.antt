@@ -14,7 +14,7 @@ unreachable-requires c =
 pub unreachable-requires-in_default-parse : goal.unreachable-requires-in_default-parse
 unreachable-requires-in_default-parse c =
     let same : Some c.in-Some.text.now ≡ Some c.requires.0 = ap (option_map (λ s. s.now)) (sym c.in-Some.is) ∙ c.get_str.ensures ∙ first_value-rows (found_of c.args.matches.now) c.args.id.now ∙ c.requires.1 in
-    let read = subst (IsUnsignedIn 0 1000000) (sym (some_is same)) c.requires.2 in
+    let read = subst (IsUnsignedIn 0 4294967295) (sym (some_is same)) c.requires.2 in
     c.in_default-parse.ensures.value.0 (read.0, omega (arith, read.3))
 
 pub returns : goal.returns

@@ -1,6 +1,7 @@
 use Rattle.std.proofs.Common.{◌≡◌, ◌≢◌, Some, sym, subst, map, codes, true, false, refl, rules}
 use Rattle.std.specs.String.{string_bytes}
 use Rattle.std.proofs.lemmas.Result.{err_from_is_err_and}
+use Rattle.match_board.specs.declared.limits.TheConstants.{MOST_COLOURS, MOST_FUEL}
 use Rattle.clap.specs.Words.{App, app_of, found_of, rows_of, takes}
 use Rattle.clap.specs.Walk.{Text}
 use Rattle.std.specs.Str.{bytes_eq}
@@ -31,7 +32,7 @@ pub solve-requires-clause-files : goal.solve-requires-clause-files
 solve-requires-clause-files c = has_files (command_at (codes "solve")) (rows_of (found_of c.in-Some.matches.now)) (needed (goal.at.solve-requires-clause-files c).In-Some (codes "solve") (search rules) refl) refl refl refl
 
 pub solve-requires-clause-fuel : goal.solve-requires-clause-fuel
-solve-requires-clause-fuel c = has_number (command_at (codes "solve")) (rows_of (found_of c.in-Some.matches.now)) (rule_at (command_at (codes "solve")) 3) 1 1000000 (needed (goal.at.solve-requires-clause-fuel c).In-Some (codes "solve") (search rules) refl) refl refl refl
+solve-requires-clause-fuel c = has_number (command_at (codes "solve")) (rows_of (found_of c.in-Some.matches.now)) (rule_at (command_at (codes "solve")) 3) 1 MOST_FUEL (needed (goal.at.solve-requires-clause-fuel c).In-Some (codes "solve") (search rules) refl) refl refl refl
 
 pub files-requires-in-expand : goal.files-requires-in-expand
 files-requires-in-expand c = has_files (command_at (codes "expand")) (rows_of (found_of c.in-Some.matches.now)) (needed (goal.at.files-requires-in-expand c).In-Some (codes "expand") (search rules) refl) refl refl refl
@@ -40,7 +41,7 @@ pub tiles-requires-clause-sides : goal.tiles-requires-clause-sides
 tiles-requires-clause-sides c = has_number (command_at (codes "tiles")) (rows_of (found_of c.in-Some.matches.now)) (rule_at (command_at (codes "tiles")) 0) 3 4 (needed (goal.at.tiles-requires-clause-sides c).In-Some (codes "tiles") (search rules) refl) refl refl refl
 
 pub tiles-requires-clause-colours : goal.tiles-requires-clause-colours
-tiles-requires-clause-colours c = has_number (command_at (codes "tiles")) (rows_of (found_of c.in-Some.matches.now)) (rule_at (command_at (codes "tiles")) 1) 1 36 (needed (goal.at.tiles-requires-clause-colours c).In-Some (codes "tiles") (search rules) refl) refl refl refl
+tiles-requires-clause-colours c = has_number (command_at (codes "tiles")) (rows_of (found_of c.in-Some.matches.now)) (rule_at (command_at (codes "tiles")) 1) 1 MOST_COLOURS (needed (goal.at.tiles-requires-clause-colours c).In-Some (codes "tiles") (search rules) refl) refl refl refl
 
 pub unreachable-requires : goal.unreachable-requires
 unreachable-requires c =
