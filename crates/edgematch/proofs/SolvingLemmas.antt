@@ -1,12 +1,12 @@
 -- Certificates of one lemma.
 use Rattle.std.proofs.Common.{◌≡◌, ◌<◌, ℕ, zero, suc, List, [], ◌∷◌, ◌++◌, Contains, length, get_or, arith, refl, ap, sym, ◌∙◌}
+use Rattle.match_board.specs.declared.limits.TheConstants.{MOST_LEVELS}
 use Rattle.cert_tree.specs.Tree.{Tree}
 use Rattle.cert_tree.specs.TreeSpelling.{IsTreeWithin}
 use Rattle.cert_tree.specs.Certificate.{Contents, Piece, piece_number}
 use Rattle.cert_tree.specs.Assembly.{IsAssembly}
 use Rattle.cert_tree.specs.CertificateSpelling.{IsCertificateWithin}
 use Rattle.cert_tree.specs.Writing.{said_by}
-use Rattle.edgematch.specs.Solving.{IsOfOneLemma}
 
 in_one : {X : Type 0} (x y : X) → Contains (x ∷ []) y → y ≡ x
 in_one x y c = by_place c.0 c.1 c.2
@@ -26,7 +26,7 @@ abbrev pub root_piece : Tree → Piece
 root_piece tree = record { number = 0; prefix = []; tree = tree }
 
 -- a certificate of one lemma whose tree is within limits has a spelling
-pub one_within : (c : Contents) (tree : Tree) → IsTreeWithin 101 tree → c.symmetries ≡ [] → c.lemmas ≡ root_piece tree ∷ [] → IsCertificateWithin (said_by c)
+pub one_within : (c : Contents) (tree : Tree) → IsTreeWithin MOST_LEVELS tree → c.symmetries ≡ [] → c.lemmas ≡ root_piece tree ∷ [] → IsCertificateWithin (said_by c)
 one_within c tree within none one = rw (none, one) (record {
   few_symmetries = omega arith;
   symmetries = tt;

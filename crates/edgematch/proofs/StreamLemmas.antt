@@ -1,28 +1,11 @@
 -- Bytes that move one after the other.
-use Rattle.std.proofs.Common.{◌≡◌, ℕ, List, [], ◌++◌, Option, Some, None, ◌-◌, ◌+◌, ◌≤◌, subst, length, take, drop, arith, sym, ap, ◌∙◌, append_assoc}
-use Rattle.std.proofs.lemmas.List.{append-nil, length-take, length-drop, take_at, take-append-drop}
+use Rattle.std.proofs.Common.{◌≡◌, ℕ, List, ◌++◌, ◌-◌, ◌+◌, ◌≤◌, subst, length, take, drop, arith, sym, ap, ◌∙◌}
+use Rattle.std.proofs.lemmas.List.{length-take, length-drop, take_at, take-append-drop}
 use Rattle.std.proofs.Math.Seq.{take-append-add}
 use Rattle.std.proofs.lemmas.Grind.{common_steps}
-use Rattle.std.specs.Io.KnownBytes.{Appends, Keeps}
 
 pub take_rest : (n : ℕ) (xs : List ℕ) → take (length xs - n) (drop n xs) ≡ drop n xs
 take_rest n xs = grind (arith, common_steps)
-
-pub appends_none : (known : Option (List ℕ)) → Appends known known []
-appends_none None = tt
-appends_none (Some xs) = sym (append-nil xs)
-
-pub appends_then : (a b c : Option (List ℕ)) (x y : List ℕ) → Appends a b x → Appends b c y → Appends a c (x ++ y)
-appends_then None b c x y one two = tt
-appends_then (Some xs) None c x y one two = absurd one
-appends_then (Some xs) (Some ys) None x y one two = absurd two
-appends_then (Some xs) (Some ys) (Some zs) x y one two = two ∙ ap (λ w. w ++ y) one ∙ append_assoc xs x y
-
-pub appends_keep : (a b c : Option (List ℕ)) (x : List ℕ) → Appends a b x → Keeps b c → Appends a c x
-appends_keep None b c x one two = tt
-appends_keep (Some xs) None c x one two = absurd one
-appends_keep (Some xs) (Some ys) None x one two = absurd two
-appends_keep (Some xs) (Some ys) (Some zs) x one two = two ∙ one
 
 pub front_more : (a n : ℕ) (xs : List ℕ) → a ≤ length xs → take (a + n) xs ≡ take a xs ++ take n (drop a xs)
 front_more a n xs le =

@@ -27,7 +27,8 @@ use Rattle.edgematch.specs.declared.faults.SolveFault.{SolveFault}
 use Rattle.edgematch.specs.declared.faults.SolveFault.TheVariants as solves
 use Rattle.edgematch.specs.declared.faults.RunFault.{RunFault}
 use Rattle.edgematch.specs.declared.faults.RunFault.TheVariants.{Read, TooLong, Puzzle, List as Listing, Certificate, Solve, Expand, Tiles, Write, Memory}
-use Rattle.match_report.specs.Line.{line_text, label}
+use Rattle.match_text.specs.Spelling.{line_text}
+use Rattle.match_report.specs.Line.{label}
 
 -- ---- want of memory, wherever it was met
 

@@ -15,9 +15,9 @@ ghost use Rattle.edgematch.specs.Runs.{AreAllInOrder, ExpansionGives, RunGives, 
 use crate::faults::{Document, RunFault};
 use crate::questions::{Question, read_question};
 use crate::repetitions::distinct_symmetries;
-use crate::runs::{Status, read_document, status_for};
+use crate::runs::{Status, read_document, status_for, write_text};
 use crate::streams::documents::Documents;
-use crate::streams::sinks::{Sink, write_whole};
+use crate::streams::sinks::Sink;
 use crate::streams::sources::Source;
 use cert_check::{Answer, check};
 use match_board::limits::MOST_ARRANGEMENTS;
@@ -93,10 +93,8 @@ fn write_expansion_of<W: Sink>(
         (λ text. (status : Status) × ExpansionGives (texts_of documents.now) text status) }
 {
     let printed = make_text(alloc, documents)?;
-    match write_whole(writer, &printed.text) {
-        Ok(()) => Ok(printed.status),
-        Err(_) => Err(RunFault::Write),
-    }
+    write_text(writer, &printed.text)?;
+    Ok(printed.status)
 }
 
 // A text, and the status of the run that prints it.

@@ -1,7 +1,8 @@
 //! What may go wrong with a run, and how that is printed.
 
 ghost use Rattle.std.specs.Prelude.{◌≡◌, ◌++◌, ◌∷◌, [], codes, decimal, IfOk};
-ghost use Rattle.match_report.specs.Line.{line_text, label};
+ghost use Rattle.match_text.specs.Spelling.{line_text};
+ghost use Rattle.match_report.specs.Line.{label};
 ghost use Rattle.edgematch.specs.FaultText.{document_word, kind_word, board_fault_word, memory_words, fault_line};
 ghost use Rattle.edgematch.specs.FaultText.{text_fault_words, puzzle_fault_words, puzzle_text_fault_words};
 ghost use Rattle.edgematch.specs.FaultText.{list_text_fault_words, assemble_fault_words, cert_text_fault_words};

@@ -22,6 +22,7 @@ use crate::solve_runs::run_solve;
 use crate::streams::systems::{Input, Output};
 use crate::tile_runs::run_tiles;
 use command_words::{Files, Order, WordsFault, order};
+use match_board::limits::MOST_FUEL;
 use std::io::{ErrorKind, Write};
 use std::process::ExitCode;
 use std::{env, io};
@@ -86,7 +87,7 @@ fn check(rt: &HostRuntime, files: &Files) -> Result<Status, RunFault> {
 
 // Opens the puzzle's file and makes the others before anything is read. A file that has the name of another is not made.
 fn solve(rt: &HostRuntime, files: &Files, fuel: u32) -> Result<(), RunFault>
-    requires { (1 ≤ fuel) × (fuel ≤ 1000000) }
+    requires { (1 ≤ fuel) × (fuel ≤ MOST_FUEL) }
 {
     let mut puzzle = open(rt, &files.puzzle, Document::Puzzle)?;
     if !have_different_names(&files.puzzle, &files.list, &files.certificate) {

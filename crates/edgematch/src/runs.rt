@@ -1,8 +1,9 @@
 //! Runs of the checker.
 
-ghost use Rattle.std.specs.Prelude.{◌≡◌, ◌≢◌, ◌≤◌, Err, IfOk, IfErr, IsErrOf, length};
+ghost use Rattle.std.specs.Prelude.{◌≡◌, ◌≢◌, ◌≤◌, Err, IfOk, IfErr, IsErrOf, OnErr, OnOk, length};
+ghost use Rattle.std.specs.Io.KnownBytes.{Appends};
 ghost use Rattle.edgematch.specs.Moves.{FailsToRead, ReadsPast, ReadsWhole};
-ghost use Rattle.edgematch.specs.Moves.{WritesFront, WritesWhole, reading_of, writing_of};
+ghost use Rattle.edgematch.specs.Moves.{FrontOf, WritesFront, WritesWhole, reading_of, writing_of};
 ghost use Rattle.edgematch.specs.Runs.{IsOfAnswering, IsOfChecking, IsOfDocuments, IsOfReading};
 ghost use Rattle.edgematch.specs.Runs.{AreShort, InputReadToEnd, ReadToEnds, StopsReading, StopsReadingInput, texts_of};
 ghost use Rattle.edgematch.specs.Runs.{CheckGives, RunGives, SpellCompleteList, status_of};
@@ -144,6 +145,18 @@ pub(crate) fn read_document<R: Source>(
     }
 }
 
+// Writes a text whole, and nothing else.
+pub(crate) fn write_text<W: Sink>(writer: &mut W, text: &[u8]) -> Result<(), RunFault>
+    ensures whole { OnOk result (Appends (W.written writer.old) (W.written writer.new) text.now) }
+    ensures front { OnErr result (FrontOf (writing_of W.Sink writer.old writer.new) text.now) }
+    ensures fault { IfErr result (λ fault. fault ≡ RunFault.Write) }
+{
+    match write_whole(writer, text) {
+        Ok(()) => Ok(()),
+        Err(_) => Err(RunFault::Write),
+    }
+}
+
 // Writes the answer to the documents, and nothing else.
 fn write_answer_to<W: Sink>(
     alloc: Global,
@@ -169,10 +182,8 @@ fn write_answer_to<W: Sink>(
         &question.certificate,
     )?;
     let text = write_answer(alloc, &answer, question.listed.len() as u32)?;
-    match write_whole(writer, &text) {
-        Ok(()) => Ok(status_for(&answer)),
-        Err(_) => Err(RunFault::Write),
-    }
+    write_text(writer, &text)?;
+    Ok(status_for(&answer))
 }
 
 // What an answer comes to.

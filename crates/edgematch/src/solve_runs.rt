@@ -1,22 +1,21 @@
 //! Runs of the solver.
 
 ghost use Rattle.std.specs.Prelude.{◌≡◌, ◌≢◌, ◌≤◌, IfOk, OnOk, OnErr, IfErr, IsErrOf, Contains, List, length};
-ghost use Rattle.std.specs.Io.KnownBytes.{Appends};
 ghost use Rattle.match_puzzle.specs.Arrangement.{IsArrangement};
 ghost use Rattle.match_puzzle.specs.declared.placements.Placement.{Placement};
 ghost use Rattle.match_report.specs.TallyText.{tally_text};
-ghost use Rattle.edgematch.specs.Moves.{FrontOf, reading_of, writing_of};
+ghost use Rattle.edgematch.specs.Moves.{reading_of, writing_of};
 ghost use Rattle.edgematch.specs.Solving.{IsSolved, Products, SolveGives, StopsWriting, WritesAll};
 ghost use Rattle.edgematch.specs.Solving.{first_board, one_share, products_of, report_text};
 ghost use Rattle.edgematch.specs.Solving.{IsOfMaking, IsOfPuzzle, IsOfSolving, PuzzleReadToEnd, SolveFails, StopsReadingPuzzle};
 
 use crate::faults::{Document, RunFault};
-use crate::runs::read_document;
+use crate::runs::{read_document, write_text};
 use crate::solving::{Solved, solve};
-use crate::streams::sinks::{Sink, write_whole};
+use crate::streams::sinks::Sink;
 use crate::streams::sources::Source;
 use cert_tree::write_certificate;
-use match_board::limits::MOST_BYTES;
+use match_board::limits::{MOST_BYTES, MOST_FUEL};
 use match_puzzle::{Arrangement, Puzzle};
 use match_report::{Taken, write_board, write_tally};
 use match_text::{put_number_line, read_puzzle, write_list};
@@ -39,7 +38,7 @@ pub fn run_solve<P: Source, L: Sink, C: Sink, W: Sink>(
     writer: &mut W,
 ) -> Result<(), RunFault>
     requires depth { depth ≡ 0 }
-    requires fuel { (1 ≤ fuel) × (fuel ≤ 1000000) }
+    requires fuel { (1 ≤ fuel) × (fuel ≤ MOST_FUEL) }
     requires workers { workers ≡ 1 }
 
     // What was written is made of the text that came.
@@ -75,7 +74,7 @@ pub(crate) struct Made {
 // What is made of a puzzle's text.
 fn make_texts(alloc: Global, text: &[u8], fuel: u32) -> Result<Made, RunFault>
     requires text { length text.now ≤ MOST_BYTES }
-    requires fuel { fuel ≤ 1000000 }
+    requires fuel { fuel ≤ MOST_FUEL }
     ensures made { IfOk result (λ made. SolveGives text.now (products_of made)) }
     ensures fault { IfErr result (SolveFails text.now) }
     ensures kind { IfErr result IsOfMaking }
@@ -145,18 +144,6 @@ fn write_texts<L: Sink, C: Sink, W: Sink>(
     write_text(list, &made.list)?;
     write_text(certificate, &made.certificate)?;
     write_text(writer, &made.report)
-}
-
-// Writes a text whole.
-fn write_text<W: Sink>(writer: &mut W, text: &[u8]) -> Result<(), RunFault>
-    ensures whole { OnOk result (Appends (W.written writer.old) (W.written writer.new) text.now) }
-    ensures front { OnErr result (FrontOf (writing_of W.Sink writer.old writer.new) text.now) }
-    ensures fault { IfErr result (λ fault. fault ≡ RunFault.Write) }
-{
-    match write_whole(writer, text) {
-        Ok(()) => Ok(()),
-        Err(_) => Err(RunFault::Write),
-    }
 }
 
 #[cfg(test)]

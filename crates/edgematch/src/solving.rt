@@ -11,7 +11,7 @@ ghost use Rattle.cert_tree.specs.Writing.{said_by};
 
 use crate::faults::SolveFault;
 use cert_tree::{AssembleFault, Certificate, Lemma, Node, Pairs, assemble};
-use match_board::limits::MOST_ARRANGEMENTS;
+use match_board::limits::{MOST_ARRANGEMENTS, MOST_FUEL, MOST_LEVELS};
 use match_puzzle::{Arrangement, Puzzle};
 use std::alloc::{AllocError, Global};
 use xcc_dance::{NoCites, Outcome, Search, SearchFault};
@@ -29,7 +29,7 @@ pub struct Solved {
 /// `GaveUp` where that is too few, `TooMany` where the puzzle's options have over 200,000 items, `Full` where over
 /// 1,000,000 arrangements were found.
 pub fn solve(alloc: Global, puzzle: &Puzzle, fuel: u32) -> Result<Solved, SolveFault>
-    requires { fuel ≤ 1000000 }
+    requires { fuel ≤ MOST_FUEL }
     ensures solved { IfOk result (λ s. IsSolved puzzle.now s.listed.items s.certificate) }
     ensures too_many { IsErrOf result SolveFault.TooMany → HasTooManyEntries puzzle.now }
 {
@@ -54,7 +54,7 @@ pub fn solve(alloc: Global, puzzle: &Puzzle, fuel: u32) -> Result<Solved, SolveF
 
 // The certificate whose one lemma has this tree and an empty prefix.
 fn certificate_of(alloc: Global, tree: Node) -> Result<Certificate, AllocError>
-    requires { IsTreeWithin 101 (tree_of tree) }
+    requires { IsTreeWithin MOST_LEVELS (tree_of tree) }
     ensures one_lemma { IfOk result IsOfOneLemma }
     ensures within { IfOk result (λ c. IsCertificateWithin (said_by c)) }
 {

@@ -6,7 +6,8 @@ ghost use Rattle.edgematch.specs.Moves.{WritesFront, WritesWhole, writing_of};
 ghost use Rattle.edgematch.specs.Runs.{IsOfTiles, TilesGive};
 
 use crate::faults::RunFault;
-use crate::streams::sinks::{Sink, write_whole};
+use crate::runs::write_text;
+use crate::streams::sinks::Sink;
 use match_board::all_tiles;
 use match_board::limits::{MOST_CLASSES, MOST_COLOURS};
 use match_text::write_tiles;
@@ -37,10 +38,8 @@ pub fn run_tiles<W: Sink>(
 {
     let tiles = all_tiles(alloc, sides, colours)?;
     let text = write_tiles(alloc, &tiles)?;
-    match write_whole(writer, &text) {
-        Ok(()) => Ok(()),
-        Err(_) => Err(RunFault::Write),
-    }
+    write_text(writer, &text)?;
+    Ok(())
 }
 
 #[cfg(test)]

@@ -1,7 +1,6 @@
 -- Lines that are printed.
 use Rattle.std.specs.Prelude.{ℕ, List, [], ◌∷◌, ◌++◌, map, codes, decimal}
 use Rattle.std.specs.List.{join_with_byte}
-unfoldable pub use Rattle.match_text.specs.Spelling.{line_text}
 
 -- a word that announces others
 abbrev pub label : List ℕ → List ℕ

@@ -1,4 +1,4 @@
-use Rattle.std.proofs.Common.{◌≡◌, ◌++◌, length, ap, ◌∙◌, arith, codes, decimal}
+use Rattle.std.proofs.Common.{◌≡◌, ◌++◌, length, ap, ◌∙◌, arith, codes}
 use Rattle.match_report.specs.TallyText.{tally_text}
 use Rattle.edgematch.specs.Solving.{first_board, number_line, one_share}
 use Rattle.edgematch.proofs.SolvingLemmas.{four_parts}

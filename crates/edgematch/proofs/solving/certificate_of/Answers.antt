@@ -1,4 +1,5 @@
-use Rattle.std.proofs.Common.{◌≡◌, ◌++◌, ◌∷◌, [], List, Ok, map, ap, sym, ◌∙◌, subst}
+use Rattle.std.proofs.Common.{◌≡◌, ◌++◌, ◌∷◌, [], List, Ok, map, ap, ◌∙◌, subst}
+use Rattle.match_board.specs.declared.limits.TheConstants.{MOST_LEVELS}
 use Rattle.match_puzzle.specs.declared.placements.Pair.{Pair}
 use Rattle.cert_tree.specs.Tree.{Tree, tree_of}
 use Rattle.cert_tree.specs.Certificate.{Piece, piece_number, piece_of}
@@ -13,7 +14,7 @@ use Rattle.edgematch.proofs.solving.certificate_of.Goals as goal
 pub assemble-requires-clause-narrow : goal.assemble-requires-clause-narrow
 assemble-requires-clause-narrow c =
     let lemma : Lemma = record { number = 0; prefix = c.new-2.result; tree = c.args.tree } in
-    alone_narrow c.push.new.self.items lemma (c.in_ok-push.ensures.items ∙ ap (λ (xs : List Lemma). xs ++ lemma ∷ []) c.new-lemmas.ensures.items) (narrow_within 101 (tree_of c.args.tree) c.requires)
+    alone_narrow c.push.new.self.items lemma (c.in_ok-push.ensures.items ∙ ap (λ (xs : List Lemma). xs ++ lemma ∷ []) c.new-lemmas.ensures.items) (narrow_within MOST_LEVELS (tree_of c.args.tree) c.requires)
 
 abbrev piece_with : List Pair → Tree → Piece
 piece_with prefix tree = record { number = 0; prefix = prefix; tree = tree }
