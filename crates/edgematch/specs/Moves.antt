@@ -1,12 +1,13 @@
 -- What a source and a sink tell before a run and after it.
-use Rattle.std.specs.Prelude.{◌≡◌, ◌⊎◌, ◌+◌, ℕ, Bool, true, List, Option}
+use Rattle.std.specs.Prelude.{◌≡◌, ◌⊎◌, ℕ, Bool, true, List, Option}
 use Rattle.std.specs.Io.KnownBytes.{Appends}
-use Rattle.edgematch.specs.Streams.{AppendsFront, AppendsWhole, GrowsPast}
+use Rattle.edgematch.specs.Streams.{AppendsFront, GivesPast, GivesUpTo, GivesWhole, IsReadToEnd, one_more}
 use Rattle.edgematch.specs.declared.streams.sources.Source.{Ghosts as SourceMembers}
 use Rattle.edgematch.specs.declared.streams.sinks.Sink.{Ghosts as SinkMembers}
 
 -- ---- sources
 
+-- the bytes that were left before and after, where they are known; whether the last read found the end; errors answered
 pub record Reading : Type 1 where
   pub before : Option (List ℕ)
   pub after : Option (List ℕ)
@@ -17,25 +18,33 @@ pub record Reading : Type 1 where
 
 abbrev pub reading_of : {S : Type 0} → SourceMembers S → (old new : S) → Reading
 reading_of source old new = record {
-  before = source.taken old;
-  after = source.taken new;
+  before = source.left old;
+  after = source.left new;
   ended = source.ended new;
   errors_before = source.errors old;
   errors_after = source.errors new;
   Untouched = new ≡ old;
 }
 
--- its text came whole, and then its end
+-- the text came whole, and then the end: it was all that was left
 abbrev pub ReadsWhole : Reading → List ℕ → Type 0
-ReadsWhole source text = AppendsWhole source.before source.after source.ended text
+ReadsWhole source text = GivesWhole source.before source.after source.ended text
+
+-- a read found its end, and nothing is left
+abbrev pub ReadsToEnd : Reading → Type 0
+ReadsToEnd source = IsReadToEnd source.after source.ended
 
 -- it answered an error
 abbrev pub FailsToRead : Reading → Type 0
-FailsToRead source = source.errors_after ≡ source.errors_before + 1
+FailsToRead source = source.errors_after ≡ one_more source.errors_before
 
 -- more bytes came, and no error
 abbrev pub ReadsPast : ℕ → Reading → Type 0
-ReadsPast bound source = GrowsPast bound source.before source.after × (source.errors_after ≡ source.errors_before)
+ReadsPast bound source = GivesPast bound source.before source.after × (source.errors_after ≡ source.errors_before)
+
+-- at most so many bytes came, and no error
+abbrev pub ReadsAtMost : ℕ → Reading → Type 0
+ReadsAtMost bound source = GivesUpTo bound source.before source.after × (source.errors_after ≡ source.errors_before)
 
 -- ---- sinks
 
@@ -61,7 +70,7 @@ WritesWhole sink Is = (text : List ℕ) × Is text × Appends sink.before sink.a
 
 -- a front of the text was written, until the sink answered an error or took nothing
 abbrev pub FrontOf : Writing → (text : List ℕ) → Type 0
-FrontOf sink text = AppendsFront sink.before sink.after text × ((sink.errors_after ≡ sink.errors_before + 1) ⊎ (sink.idle ≡ true))
+FrontOf sink text = AppendsFront sink.before sink.after text × ((sink.errors_after ≡ one_more sink.errors_before) ⊎ (sink.idle ≡ true))
 
 -- a front of a text that is so
 abbrev pub WritesFront : Writing → (List ℕ → Type 0) → Type 0

@@ -26,7 +26,7 @@ use Rattle.match_report.specs.AnswerText.{answer_line}
 use Rattle.match_report.specs.Closure.{StandOnce}
 use Rattle.match_report.specs.Expansion.{IsExpansion, AreMoreReached}
 use Rattle.edgematch.specs.Documents.{Texts, texts_in}
-use Rattle.edgematch.specs.Moves.{FailsToRead, Reading, ReadsPast, ReadsWhole}
+use Rattle.edgematch.specs.Moves.{FailsToRead, Reading, ReadsAtMost, ReadsPast, ReadsToEnd, ReadsWhole}
 use Rattle.edgematch.specs.declared.streams.documents.Documents.{Documents}
 use Rattle.edgematch.specs.declared.faults.Document.{Document}
 use Rattle.edgematch.specs.declared.faults.Document.TheVariants as documents
@@ -180,26 +180,33 @@ ReadToEnds puzzle list certificate Holds =
 -- all.
 abbrev pub StopsAt : (puzzle list certificate : Reading) → (Reading → Type 0) → Document → Type 0
 StopsAt puzzle list certificate Holds documents.Puzzle = Holds puzzle × list.Untouched × certificate.Untouched
-StopsAt puzzle list certificate Holds documents.List = (puzzle.ended ≡ true) × Holds list × certificate.Untouched
+StopsAt puzzle list certificate Holds documents.List = ReadsToEnd puzzle × Holds list × certificate.Untouched
 StopsAt puzzle list certificate Holds documents.Certificate =
-    (puzzle.ended ≡ true) × (list.ended ≡ true) × Holds certificate
+    ReadsToEnd puzzle × ReadsToEnd list × Holds certificate
 StopsAt puzzle list certificate Holds documents.Input = ⊥
 
--- What a fault of reading says of the three sources: the one that it names answered an error, or gave more bytes than
--- are read.
+-- None of the three sources answered an error, or gave more bytes than are read.
+abbrev pub ReadWithoutFault : (puzzle list certificate : Reading) → Type 0
+ReadWithoutFault puzzle list certificate =
+    ReadsAtMost MOST_BYTES puzzle × ReadsAtMost MOST_BYTES list × ReadsAtMost MOST_BYTES certificate
+
+-- What a fault says of the three sources: the one that it names answered an error, or gave more bytes than are read.
+-- Want of memory hides neither.
 abbrev pub StopsReading : (puzzle list certificate : Reading) → RunFault → Type 0
 StopsReading puzzle list certificate (runs.Read of) = StopsAt puzzle list certificate FailsToRead of
 StopsReading puzzle list certificate (runs.TooLong of) = StopsAt puzzle list certificate (ReadsPast MOST_BYTES) of
+StopsReading puzzle list certificate runs.Memory = ReadWithoutFault puzzle list certificate
 StopsReading puzzle list certificate fault = Unit {0}
 
 -- One source was read to its end, and this holds of the three texts in what came.
 abbrev pub InputReadToEnd : Reading → (Texts → Type 0) → Type 0
 InputReadToEnd source Holds = (input : List ℕ) × ReadsWhole source input × Holds (texts_in input)
 
--- What a fault of reading says of one source.
+-- What a fault says of one source.
 abbrev pub StopsReadingInput : Reading → RunFault → Type 0
 StopsReadingInput source (runs.Read of) = (of ≡ documents.Input) × FailsToRead source
 StopsReadingInput source (runs.TooLong of) = (of ≡ documents.Input) × ReadsPast MOST_BYTES source
+StopsReadingInput source runs.Memory = ReadsAtMost MOST_BYTES source
 StopsReadingInput source fault = Unit {0}
 
 -- The fault is one of reading this document, or want of memory.

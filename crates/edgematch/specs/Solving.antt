@@ -15,7 +15,7 @@ use Rattle.match_report.specs.BoardText.{board_text}
 use Rattle.match_report.specs.TallyText.{tally_text}
 use Rattle.match_text.specs.declared.faults.PuzzleTextFault.TheVariants as puzzles
 use Rattle.xcc_form.specs.Options.{HasTooManyEntries}
-use Rattle.edgematch.specs.Moves.{FailsToRead, FrontOf, Reading, ReadsPast, ReadsWhole, Writing}
+use Rattle.edgematch.specs.Moves.{FailsToRead, FrontOf, Reading, ReadsAtMost, ReadsPast, ReadsWhole, Writing}
 use Rattle.edgematch.specs.declared.faults.Document.TheVariants as documents
 use Rattle.edgematch.specs.declared.faults.RunFault.{RunFault}
 use Rattle.edgematch.specs.declared.faults.RunFault.TheVariants as runs
@@ -99,10 +99,11 @@ products_of made = record { list = made.list.items; certificate = made.certifica
 abbrev pub PuzzleReadToEnd : Reading → (List ℕ → Type 0) → Type 0
 PuzzleReadToEnd source Holds = (text : List ℕ) × ReadsWhole source text × Holds text
 
--- What a fault of reading says of the source of the puzzle.
+-- What a fault says of the source of the puzzle.
 abbrev pub StopsReadingPuzzle : Reading → RunFault → Type 0
 StopsReadingPuzzle source (runs.Read of) = (of ≡ documents.Puzzle) × FailsToRead source
 StopsReadingPuzzle source (runs.TooLong of) = (of ≡ documents.Puzzle) × ReadsPast MOST_BYTES source
+StopsReadingPuzzle source runs.Memory = ReadsAtMost MOST_BYTES source
 StopsReadingPuzzle source fault = Unit {0}
 
 -- The text spells no puzzle, with this fault, or one that is not solved for this reason.

@@ -54,7 +54,8 @@ pub fn run_expand<P: Source, L: Source, C: Source, W: Sink>(
     ensures untouched { IfErr result (λ fault. fault ≢ RunFault.Write → writer.new ≡ writer.old) }
 
     // Reading fails only where the document's source answered an error, or more bytes came than are
-    // read. The documents before it were read to their ends, and the ones after it not at all.
+    // read. The documents before it were read to their ends, and the ones after it not at all. Want of memory hides
+    // neither.
     ensures reading { IfErr result (StopsReading (reading_of P.Source puzzle.old puzzle.new)
         (reading_of L.Source list.old list.new) (reading_of C.Source certificate.old certificate.new)) }
     // Writing fails only where the sink answered an error, or took nothing; then a front of the text went out.

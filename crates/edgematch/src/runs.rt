@@ -2,7 +2,7 @@
 
 ghost use Rattle.std.specs.Prelude.{◌≡◌, ◌≢◌, ◌≤◌, Err, IfOk, IfErr, IsErrOf, OnErr, OnOk, length};
 ghost use Rattle.std.specs.Io.KnownBytes.{Appends};
-ghost use Rattle.edgematch.specs.Moves.{FailsToRead, ReadsPast, ReadsWhole};
+ghost use Rattle.edgematch.specs.Moves.{FailsToRead, ReadsAtMost, ReadsPast, ReadsWhole};
 ghost use Rattle.edgematch.specs.Moves.{FrontOf, WritesFront, WritesWhole, reading_of, writing_of};
 ghost use Rattle.edgematch.specs.Runs.{IsOfAnswering, IsOfChecking, IsOfDocuments, IsOfReading};
 ghost use Rattle.edgematch.specs.Runs.{AreShort, InputReadToEnd, ReadToEnds, StopsReading, StopsReadingInput, texts_of};
@@ -62,7 +62,8 @@ pub fn run_check<P: Source, L: Source, C: Source, W: Sink>(
     ensures untouched { IfErr result (λ fault. fault ≢ RunFault.Write → writer.new ≡ writer.old) }
 
     // Reading fails only where the document's source answered an error, or more bytes came than are
-    // read. The documents before it were read to their ends, and the ones after it not at all.
+    // read. The documents before it were read to their ends, and the ones after it not at all. Want of memory hides
+    // neither.
     ensures reading { IfErr result (StopsReading (reading_of P.Source puzzle.old puzzle.new)
         (reading_of L.Source list.old list.new) (reading_of C.Source certificate.old certificate.new)) }
     // Writing fails only where the sink answered an error, or took nothing; then a front of the line went out.
@@ -111,7 +112,8 @@ pub fn run_joined<R: Source, W: Sink>(
     ensures fault { IfErr result IsOfChecking }
     ensures untouched { IfErr result (λ fault. fault ≢ RunFault.Write → writer.new ≡ writer.old) }
 
-    // Reading fails only where the source answered an error, or more bytes came than are read.
+    // Reading fails only where the source answered an error, or more bytes came than are read. Want of memory hides
+    // neither.
     ensures reading { IfErr result (StopsReadingInput (reading_of R.Source reader.old reader.new)) }
     // Writing fails only where the sink answered an error, or took nothing; then a front of the line went out.
     ensures write { IsErrOf result RunFault.Write → InputReadToEnd (reading_of R.Source reader.old reader.new)
@@ -132,10 +134,13 @@ pub(crate) fn read_document<R: Source>(
 ) -> Result<Vec<u8>, RunFault>
     ensures whole { IfOk result (λ text. ReadsWhole (reading_of R.Source reader.old reader.new) text.items) }
     ensures bounded { IfOk result (λ text. length text.items ≤ MOST_BYTES) }
+    ensures within { OnOk result (ReadsAtMost MOST_BYTES (reading_of R.Source reader.old reader.new)) }
     ensures fault { IfErr result (λ fault. IsOfReading fault document) }
     ensures read { IsErrOf result (RunFault.Read document) → FailsToRead (reading_of R.Source reader.old reader.new) }
     ensures too_long { IsErrOf result (RunFault.TooLong document)
         → ReadsPast MOST_BYTES (reading_of R.Source reader.old reader.new) }
+    ensures memory { IsErrOf result RunFault.Memory
+        → ReadsAtMost MOST_BYTES (reading_of R.Source reader.old reader.new) }
 {
     match read_whole(alloc, reader, MOST_BYTES) {
         Ok(text) => Ok(text),

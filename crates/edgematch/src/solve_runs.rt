@@ -51,7 +51,8 @@ pub fn run_solve<P: Source, L: Sink, C: Sink, W: Sink>(
     ensures fault { IfErr result IsOfSolving }
     ensures untouched { IfErr result (λ fault. fault ≢ RunFault.Write
         → (list.new ≡ list.old) × (certificate.new ≡ certificate.old) × (writer.new ≡ writer.old)) }
-    // Reading fails only where the source answered an error, or more bytes came than are read.
+    // Reading fails only where the source answered an error, or more bytes came than are read. Want of memory hides
+    // neither.
     ensures reading { IfErr result (StopsReadingPuzzle (reading_of P.Source puzzle.old puzzle.new)) }
     // Writing fails only where a sink answered an error, or took nothing; then a front of its text went out.
     ensures write { IsErrOf result RunFault.Write → PuzzleReadToEnd (reading_of P.Source puzzle.old puzzle.new)

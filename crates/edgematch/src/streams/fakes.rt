@@ -1,6 +1,6 @@
 //! A source and a sink over memory, for tests.
 
-ghost use Rattle.std.specs.Prelude.{◌≡◌, ◌≤◌, ◌+◌, [], Some, length, take};
+ghost use Rattle.std.specs.Prelude.{◌≡◌, ◌≤◌, [], Some, drop, length};
 
 use super::sinks::Sink;
 use super::sources::{Failed, Source};
@@ -8,7 +8,7 @@ use std::alloc::Global;
 
 /// Moves at most so many bytes a call, and fails once so many have moved.
 ///
-/// Where it moves at most 0 a call, a read finds the end and a write is idle.
+/// Where it moves at most 0 a call, a write is idle; a read gives a byte nevertheless, since none means the end.
 #[derive(Drop)]
 pub struct Fake {
     bytes: Vec<u8>,
@@ -68,23 +68,23 @@ impl Fake {
 }
 
 impl Source for Fake {
-    ghost taken = { λ f. Some (take f.taken f.bytes.items) };
+    ghost left = { λ f. Some (drop f.taken f.bytes.items) };
 
     ghost ended = { λ f. f.ended };
 
     ghost errors = { λ f. f.errors };
 
     fn read(&mut self, buffer: &mut [u8]) -> Result<usize, Failed> {
-        if self.taken >= self.fails_after && self.errors < u64::MAX {
+        if self.taken >= self.fails_after {
             self.ended = false;
-            self.errors += 1;
+            self.errors = self.errors.saturating_add(1);
             return Err(Failed);
         }
         let left = self.bytes.len() - self.taken;
         let count = left
             .min(buffer.len())
-            .min(self.most)
-            .min(self.fails_after.saturating_sub(self.taken));
+            .min(self.most.max(1))
+            .min(self.fails_after - self.taken);
         buffer[..count].copy_from_slice(&self.bytes[self.taken..self.taken + count]);
         self.taken += count;
         self.ended = count == 0;
@@ -103,12 +103,11 @@ impl Sink for Fake {
         let room = self.fails_after.saturating_sub(self.written.len());
         let count = bytes.len().min(self.most).min(room);
         let fails = room == 0 || self.written.extend_from_slice(&bytes[..count]).is_err();
-        if fails && self.errors < u64::MAX {
+        if fails {
             self.idle = false;
-            self.errors += 1;
+            self.errors = self.errors.saturating_add(1);
             return Err(Failed);
         }
-        let count = if fails { 0 } else { count };
         self.idle = count == 0 && !bytes.is_empty();
         Ok(count)
     }

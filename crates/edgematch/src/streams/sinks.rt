@@ -1,9 +1,9 @@
 //! Where bytes go.
 
-ghost use Rattle.std.specs.Prelude.{◌≡◌, ◌≤◌, ◌<◌, ◌+◌, ◌↔◌, ◌⊎◌};
+ghost use Rattle.std.specs.Prelude.{◌≡◌, ◌≤◌, ◌<◌, ◌↔◌, ◌⊎◌};
 ghost use Rattle.std.specs.Prelude.{ℕ, Bool, List, Option, true, false, length, take, IfOk, OnOk, OnErr};
 ghost use Rattle.std.specs.Io.KnownBytes.{Appends, Keeps};
-ghost use Rattle.edgematch.specs.Streams.{AppendsFront};
+ghost use Rattle.edgematch.specs.Streams.{AppendsFront, one_more};
 
 use super::sources::Failed;
 
@@ -13,7 +13,7 @@ pub trait Sink {
     ghost written: { Self → Option (List ℕ) };
     // whether the last write took nothing of bytes that were there
     ghost idle: { Self → Bool };
-    // how many errors were answered
+    // how many errors were answered, up to the greatest number of 64 bits
     ghost errors: { Self → ℕ };
 
     /// Takes bytes from the front, and says how many. Where it fails, it took none.
@@ -25,7 +25,7 @@ pub trait Sink {
 
         ensures kept { OnErr result (Keeps (written self.old) (written self.new)) }
         ensures not_idle { OnErr result (idle self.new ≡ false) }
-        ensures err { OnErr result (errors self.new ≡ errors self.old + 1) };
+        ensures err { OnErr result (errors self.new ≡ one_more (errors self.old)) };
 }
 
 /// Writes the whole text. Where that fails, a front of it went out.
@@ -35,7 +35,7 @@ pub fn write_whole<W: Sink>(writer: &mut W, text: &[u8]) -> Result<(), Failed>
 
     ensures front { OnErr result (AppendsFront (W.written writer.old) (W.written writer.new) text.now) }
     // The sink answered an error, or took no byte of what was left.
-    ensures why { OnErr result ((W.errors writer.new ≡ W.errors writer.old + 1) ⊎ (W.idle writer.new ≡ true)) }
+    ensures why { OnErr result ((W.errors writer.new ≡ one_more (W.errors writer.old)) ⊎ (W.idle writer.new ≡ true)) }
 {
     let mut rest = text;
     while !rest.is_empty() {

@@ -1,9 +1,9 @@
 //! Where bytes come from.
 
-ghost use Rattle.std.specs.Prelude.{◌≡◌, ◌≤◌, ◌<◌, ◌+◌, ◌-◌};
+ghost use Rattle.std.specs.Prelude.{◌≡◌, ◌≤◌, ◌<◌, ◌-◌};
 ghost use Rattle.std.specs.Prelude.{◌↔◌, ℕ, Bool, List, Option, true, false, length, take, IfOk, OnOk, OnErr, IsErrOf};
-ghost use Rattle.std.specs.Io.KnownBytes.{Appends, Keeps};
-ghost use Rattle.edgematch.specs.Streams.{Grows, GrowsPast, GrowsUpTo};
+ghost use Rattle.std.specs.Io.KnownBytes.{Consumes, IsAtEnd, Keeps};
+ghost use Rattle.edgematch.specs.Streams.{GivesPast, GivesUpTo, GivesWhole, one_more};
 ghost use Rattle.edgematch.specs.declared.streams.sources.ReadWholeFault.TheVariants.{Memory};
 
 use std::alloc::{AllocError, Global};
@@ -16,11 +16,11 @@ pub struct Failed;
 
 /// Where bytes come from.
 pub trait Source {
-    // the bytes that came so far, where they are known
-    ghost taken: { Self → Option (List ℕ) };
+    // the bytes that are left to read, where they are known
+    ghost left: { Self → Option (List ℕ) };
     // whether the last read found the end
     ghost ended: { Self → Bool };
-    // how many errors were answered
+    // how many errors were answered, up to the greatest number of 64 bits
     ghost errors: { Self → ℕ };
 
     /// Moves bytes to the front of the buffer, and says how many: none at the end alone. Where it
@@ -28,13 +28,14 @@ pub trait Source {
     fn read(&mut self, buffer: &mut [u8]) -> Result<usize, Failed>
         requires { 0 < length buffer.old }
         ensures count { IfOk result (λ n. n ≤ length buffer.new) }
-        ensures bytes { IfOk result (λ n. Appends (taken self.old) (taken self.new) (take n buffer.new)) }
+        ensures bytes { IfOk result (λ n. Consumes (left self.old) (left self.new) (take n buffer.new)) }
+        ensures nothing_left { IfOk result (λ n. n ≡ 0 → IsAtEnd (left self.new)) }
         ensures end { IfOk result (λ n. (ended self.new ≡ true) ↔ (n ≡ 0)) }
         ensures ok { OnOk result (errors self.new ≡ errors self.old) }
 
-        ensures kept { OnErr result (Keeps (taken self.old) (taken self.new)) }
+        ensures kept { OnErr result (Keeps (left self.old) (left self.new)) }
         ensures not_ended { OnErr result (ended self.new ≡ false) }
-        ensures err { OnErr result (errors self.new ≡ errors self.old + 1) };
+        ensures err { OnErr result (errors self.new ≡ one_more (errors self.old)) };
 }
 
 /// Why a document was not read whole.
@@ -68,18 +69,20 @@ pub fn read_whole<R: Source>(
     reader: &mut R,
     bound: u32,
 ) -> Result<Vec<u8>, ReadWholeFault>
-    ensures whole { IfOk result (λ whole. Appends (R.taken reader.old) (R.taken reader.new) whole.items) }
-    ensures ended { OnOk result (R.ended reader.new ≡ true) }
+    ensures whole { IfOk result (λ whole.
+        GivesWhole (R.left reader.old) (R.left reader.new) (R.ended reader.new) whole.items) }
     ensures bounded { IfOk result (λ whole. length whole.items ≤ bound) }
     ensures ok { OnOk result (R.errors reader.new ≡ R.errors reader.old) }
 
     ensures read { IsErrOf result ReadWholeFault.Read
-        → GrowsUpTo bound (R.taken reader.old) (R.taken reader.new)
-        × (R.errors reader.new ≡ R.errors reader.old + 1) }
+        → GivesUpTo bound (R.left reader.old) (R.left reader.new)
+        × (R.errors reader.new ≡ one_more (R.errors reader.old)) }
     ensures too_long { IsErrOf result ReadWholeFault.TooLong
-        → GrowsPast bound (R.taken reader.old) (R.taken reader.new)
+        → GivesPast bound (R.left reader.old) (R.left reader.new)
         × (R.errors reader.new ≡ R.errors reader.old) }
-    ensures grows { OnErr result (Grows (R.taken reader.old) (R.taken reader.new)) }
+    ensures memory { IsErrOf result ReadWholeFault.Memory
+        → GivesUpTo bound (R.left reader.old) (R.left reader.new)
+        × (R.errors reader.new ≡ R.errors reader.old) }
 {
     let mut buffer = vec![in alloc; 0; BUFFER_LEN]?;
     read_through(alloc, reader, &mut buffer, bound)
@@ -93,17 +96,19 @@ fn read_through<R: Source>(
     bound: u32,
 ) -> Result<Vec<u8>, ReadWholeFault>
     requires { 0 < length buffer.old }
-    ensures whole { IfOk result (λ whole. Appends (R.taken reader.old) (R.taken reader.new) whole.items) }
-    ensures ended { OnOk result (R.ended reader.new ≡ true) }
+    ensures whole { IfOk result (λ whole.
+        GivesWhole (R.left reader.old) (R.left reader.new) (R.ended reader.new) whole.items) }
     ensures bounded { IfOk result (λ whole. length whole.items ≤ bound) }
     ensures ok { OnOk result (R.errors reader.new ≡ R.errors reader.old) }
     ensures read { IsErrOf result ReadWholeFault.Read
-        → GrowsUpTo bound (R.taken reader.old) (R.taken reader.new)
-        × (R.errors reader.new ≡ R.errors reader.old + 1) }
+        → GivesUpTo bound (R.left reader.old) (R.left reader.new)
+        × (R.errors reader.new ≡ one_more (R.errors reader.old)) }
     ensures too_long { IsErrOf result ReadWholeFault.TooLong
-        → GrowsPast bound (R.taken reader.old) (R.taken reader.new)
+        → GivesPast bound (R.left reader.old) (R.left reader.new)
         × (R.errors reader.new ≡ R.errors reader.old) }
-    ensures grows { OnErr result (Grows (R.taken reader.old) (R.taken reader.new)) }
+    ensures memory { IsErrOf result ReadWholeFault.Memory
+        → GivesUpTo bound (R.left reader.old) (R.left reader.new)
+        × (R.errors reader.new ≡ R.errors reader.old) }
 {
     let mut whole = Vec::new(alloc);
     loop {

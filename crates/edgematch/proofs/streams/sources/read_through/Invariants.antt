@@ -1,10 +1,10 @@
 use Rattle.std.proofs.Common.{◌≡◌, ◌≤◌, ◌+◌, ◌-◌, length}
-use Rattle.std.specs.Io.KnownBytes.{Appends}
+use Rattle.std.specs.Io.KnownBytes.{Consumes}
 use Rattle.edgematch.proofs.streams.sources.read_through.Given as goal
 
 abbrev pub invariant-loop-count : goal.invariant-loop-count
 invariant-loop-count g l = record {
-  came : Appends (g.R.Source.taken l.fn.reader) (g.R.Source.taken l.reader) l.whole.items;
+  came : Consumes (g.R.Source.left l.fn.reader) (g.R.Source.left l.reader) l.whole.items;
   room : length l.whole.items ≤ l.bound;
   calm : g.R.Source.errors l.reader ≡ g.R.Source.errors l.fn.reader;
 }
