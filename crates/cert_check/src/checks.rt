@@ -1,12 +1,12 @@
 //! The check of a certificate.
 
-ghost use Rattle.std.specs.Prelude.{◌≡◌, ◌<◌, ◌^◌, ℕ, IfOk, MatchOption, None, Some, length, map, slice_get};
+ghost use Rattle.std.specs.Prelude.{◌≡◌, ◌<◌, ◌^◌, ℕ, IfOk, OnErr, MatchOption, None, Some, length, map, slice_get};
 ghost use Rattle.match_board.specs.First.{IsFirst};
 ghost use Rattle.match_puzzle.specs.Puzzle.{IsPuzzle};
 ghost use Rattle.match_puzzle.specs.Prefix.{empty_prefix};
 ghost use Rattle.cert_check.specs.Setting.{question_of, line_of, AreOfPuzzle, BeginWithPrefixes};
 ghost use Rattle.cert_check.specs.Walk.{TellsOfLemma, TellsOfTrees, TellsOfListing};
-ghost use Rattle.cert_check.specs.Answer.{IsAnswer, IsCompleteList, AreCovered, OneAnswer};
+ghost use Rattle.cert_check.specs.Answer.{AreArrangements, IsAnswer, IsCompleteList, AreCovered, OneAnswer};
 
 use crate::faults::{Answer, Fault, TreeFault};
 use crate::list_faults::list_fault;
@@ -43,6 +43,8 @@ pub fn check(
         (λ answer. answer ≡ Answer.Complete → IsCompleteList puzzle.now certificate.now.symmetries listed.now) }
     ensures covered { IfOk result
         (λ answer. answer ≡ Answer.Complete → AreCovered (question_of puzzle.now listed.now certificate.now)) }
+    // Want of memory hides no fault of a listed one.
+    ensures memory { OnErr result (AreArrangements puzzle.now listed.now) }
 {
     if let Some(fault) = listing_fault(alloc, puzzle, listed)? {
         return Ok(Answer::Refused(fault));
@@ -73,7 +75,8 @@ fn listing_fault(
     listed: &[Arrangement],
 ) -> Result<Option<Fault>, AllocError>
     requires { length listed.now < 2 ^ 32 }
-    ensures { IfOk result (TellsOfListing puzzle.now listed.now) }
+    ensures told { IfOk result (TellsOfListing puzzle.now listed.now) }
+    ensures memory { OnErr result (AreArrangements puzzle.now listed.now) }
 {
     if let Some((number, fault)) = list_fault(puzzle, listed) {
         return Ok(Some(Fault::List(number, fault)));

@@ -127,11 +127,12 @@ module _ (p : Task) (listed : List (List Placement)) (lines : List SymmetryLine)
     pub all_within : length all ≤ MOST_ARRANGEMENTS → IsListWithin all
     all_within few = arrangements_within p all puzzle are_arrangements few
 
-    pub all_in_order : (lemmas : List Piece) → AreAllInOrder (record { puzzle = p; listed = listed; symmetries = lines; lemmas = lemmas }) all
-    all_in_order lemmas = record {
+    pub all_in_order : length all ≤ MOST_ARRANGEMENTS → (lemmas : List Piece) → AreAllInOrder (record { puzzle = p; listed = listed; symmetries = lines; lemmas = lemmas }) all
+    all_in_order few lemmas = record {
       expansion = is;
       just = λ a. (are_arrangements a, λ arranged. (all_reached.just a).1 (complete.reached a arranged));
       once = all_reached.once;
+      few = few;
     }
 
 -- an expansion that is called too long is too long

@@ -102,11 +102,12 @@ CheckGives texts text ends =
 abbrev pub motion_of : Task → SymmetryLine → Motion
 motion_of p g = record { puzzle = p; line = g }
 
--- These are all arrangements of the puzzle, each once, in the order of the closure of the list.
+-- These are all arrangements of the puzzle, each once, in the order of the closure of the list, and they can be listed.
 pub record AreAllInOrder (question : Question) (all : List (List Placement)) : Type 0 where
   pub expansion : IsExpansion (map (motion_of question.puzzle) question.symmetries) question.listed all
   pub just : (a : List Placement) → Contains all a ↔ IsArrangement question.puzzle a
   pub once : StandOnce all
+  pub few : length all ≤ MOST_ARRANGEMENTS
 
 -- What is printed of what was asked: the answer where it is refused, and else the list of all arrangements.
 abbrev pub ExpansionPrints : Question → Answer → List ℕ → Type 0

@@ -9,6 +9,6 @@ mod tallies;
 
 pub use answers::write_answer;
 pub use boards::write_board;
-pub use expansions::{ExpandFault, MOST_EXPANDED, expand, expansion_laws};
+pub use expansions::{ExpandFault, expand, expansion_laws};
 pub use lines::Line;
 pub use tallies::{Taken, write_tally};

@@ -12,7 +12,7 @@ use Rattle.cert_check.proofs.checks.check.Goals as goal
 pub returns-in-Some-clause-answer : goal.returns-in-Some-clause-answer
 returns-in-Some-clause-answer c =
     let question = question_of c.args.puzzle.now c.args.listed.now c.args.certificate.now in
-    first_listing question c.in-Some.fault (subst (TellsOfListing question.puzzle question.listed) c.in-Some.is c.in_ok-fault.ensures)
+    first_listing question c.in-Some.fault (subst (TellsOfListing question.puzzle question.listed) c.in-Some.is c.in_ok-fault.ensures.told)
 
 pub make_symmetries-requires : goal.make_symmetries-requires
 make_symmetries-requires c = let few = c.symmetries.ensures.numbered.few_symmetries in omega (arith, few, ap length c.symmetries.ensures.symmetries)
@@ -20,14 +20,14 @@ make_symmetries-requires c = let few = c.symmetries.ensures.numbered.few_symmetr
 pub returns-in-Err-Line-clause-answer : goal.returns-in-Err-Line-clause-answer
 returns-in-Err-Line-clause-answer c =
     let question = question_of c.args.puzzle.now c.args.listed.now c.args.certificate.now in
-    let told = subst (TellsOfListing question.puzzle question.listed) c.in_default.is c.in_ok-fault.ensures in
+    let told = subst (TellsOfListing question.puzzle question.listed) c.in_default.is c.in_ok-fault.ensures.told in
     let is = subst (LinesFail question.puzzle question.symmetries) c.in-Err-Line.field-0-is (subst (λ lines. LinesFail question.puzzle lines c.in-Err-Line.field-0) c.symmetries.ensures.symmetries c.in-Err-Line.ensures.fault) in
     rw (c.in-Err-Line.number-is, c.in-Err-Line.fault-is) (first_symmetry question told.0 told.1 c.in-Err-Line.number c.in-Err-Line.fault is)
 
 pub returns-in-Some-prefixes_fault-clause-answer : goal.returns-in-Some-prefixes_fault-clause-answer
 returns-in-Some-prefixes_fault-clause-answer c =
     let question = question_of c.args.puzzle.now c.args.listed.now c.args.certificate.now in
-    let told = subst (TellsOfListing question.puzzle question.listed) c.in_default.is c.in_ok-fault.ensures in
+    let told = subst (TellsOfListing question.puzzle question.listed) c.in_default.is c.in_ok-fault.ensures.told in
     let symmetric = subst (AreSymmetries question.puzzle) c.symmetries.ensures.symmetries c.in-Ok.ensures.moves in
     let number = c.in-Some-prefixes_fault.number in
     let fault = c.in-Some-prefixes_fault.fault in
@@ -37,7 +37,7 @@ returns-in-Some-prefixes_fault-clause-answer c =
 pub returns-then-not-ends_at_a_root-clause-answer : goal.returns-then-not-ends_at_a_root-clause-answer
 returns-then-not-ends_at_a_root-clause-answer c =
     let question = question_of c.args.puzzle.now c.args.listed.now c.args.certificate.now in
-    let told = subst (TellsOfListing question.puzzle question.listed) c.in_default.is c.in_ok-fault.ensures in
+    let told = subst (TellsOfListing question.puzzle question.listed) c.in_default.is c.in_ok-fault.ensures.told in
     let symmetric = subst (AreSymmetries question.puzzle) c.symmetries.ensures.symmetries c.in-Ok.ensures.moves in
     let prefixes = (subst (BeginWithPrefixes question.puzzle) c.lemmas.ensures.lemmas c.in_default-prefixes_fault.ensures) in
     let none = subst (λ (ls : List Piece). HasRoot ls → ⊥) c.lemmas-2.ensures.lemmas (subst (λ b. MatchBool b (HasRoot c.lemmas-2.result.now) (HasRoot c.lemmas-2.result.now → ⊥)) c.if-not-ends_at_a_root.true c.ends_at_a_root.ensures) in
@@ -46,7 +46,7 @@ returns-then-not-ends_at_a_root-clause-answer c =
 pub returns-in-None-clause-answer : goal.returns-in-None-clause-answer
 returns-in-None-clause-answer c =
     let question = question_of c.args.puzzle.now c.args.listed.now c.args.certificate.now in
-    let told = subst (TellsOfListing question.puzzle question.listed) c.in_default.is c.in_ok-fault.ensures in
+    let told = subst (TellsOfListing question.puzzle question.listed) c.in_default.is c.in_ok-fault.ensures.told in
     let symmetric = subst (AreSymmetries question.puzzle) c.symmetries.ensures.symmetries c.in-Ok.ensures.moves in
     let prefixes = (subst (BeginWithPrefixes question.puzzle) c.lemmas.ensures.lemmas c.in_default-prefixes_fault.ensures) in
     let root = subst (λ (ls : List Piece). HasRoot ls) c.lemmas-2.ensures.lemmas (subst (λ b. MatchBool b (HasRoot c.lemmas-2.result.now) (HasRoot c.lemmas-2.result.now → ⊥)) c.if-not-ends_at_a_root.false c.ends_at_a_root.ensures) in
@@ -55,7 +55,7 @@ returns-in-None-clause-answer c =
 pub returns-in-None-clause-complete : goal.returns-in-None-clause-complete
 returns-in-None-clause-complete c = λ _.
     let question = question_of c.args.puzzle.now c.args.listed.now c.args.certificate.now in
-    let told = subst (TellsOfListing question.puzzle question.listed) c.in_default.is c.in_ok-fault.ensures in
+    let told = subst (TellsOfListing question.puzzle question.listed) c.in_default.is c.in_ok-fault.ensures.told in
     let symmetric = subst (AreSymmetries question.puzzle) c.symmetries.ensures.symmetries c.in-Ok.ensures.moves in
     let prefixes = (subst (BeginWithPrefixes question.puzzle) c.lemmas.ensures.lemmas c.in_default-prefixes_fault.ensures) in
     let root = subst (λ (ls : List Piece). HasRoot ls) c.lemmas-2.ensures.lemmas (subst (λ b. MatchBool b (HasRoot c.lemmas-2.result.now) (HasRoot c.lemmas-2.result.now → ⊥)) c.if-not-ends_at_a_root.false c.ends_at_a_root.ensures) in
@@ -66,7 +66,7 @@ returns-in-None-clause-complete c = λ _.
 pub returns-in-None-clause-covered : goal.returns-in-None-clause-covered
 returns-in-None-clause-covered c = λ _.
     let question = question_of c.args.puzzle.now c.args.listed.now c.args.certificate.now in
-    let told = subst (TellsOfListing question.puzzle question.listed) c.in_default.is c.in_ok-fault.ensures in
+    let told = subst (TellsOfListing question.puzzle question.listed) c.in_default.is c.in_ok-fault.ensures.told in
     let symmetric = subst (AreSymmetries question.puzzle) c.symmetries.ensures.symmetries c.in-Ok.ensures.moves in
     let prefixes = (subst (BeginWithPrefixes question.puzzle) c.lemmas.ensures.lemmas c.in_default-prefixes_fault.ensures) in
     let root = subst (λ (ls : List Piece). HasRoot ls) c.lemmas-2.ensures.lemmas (subst (λ b. MatchBool b (HasRoot c.lemmas-2.result.now) (HasRoot c.lemmas-2.result.now → ⊥)) c.if-not-ends_at_a_root.false c.ends_at_a_root.ensures) in
@@ -77,7 +77,7 @@ returns-in-None-clause-covered c = λ _.
 pub returns-clause-answer : goal.returns-clause-answer
 returns-clause-answer c =
     let question = question_of c.args.puzzle.now c.args.listed.now c.args.certificate.now in
-    let told = subst (TellsOfListing question.puzzle question.listed) c.in_default.is c.in_ok-fault.ensures in
+    let told = subst (TellsOfListing question.puzzle question.listed) c.in_default.is c.in_ok-fault.ensures.told in
     let symmetric = subst (AreSymmetries question.puzzle) c.symmetries.ensures.symmetries c.in-Ok.ensures.moves in
     let prefixes = (subst (BeginWithPrefixes question.puzzle) c.lemmas.ensures.lemmas c.in_default-prefixes_fault.ensures) in
     let root = subst (λ (ls : List Piece). HasRoot ls) c.lemmas-2.ensures.lemmas (subst (λ b. MatchBool b (HasRoot c.lemmas-2.result.now) (HasRoot c.lemmas-2.result.now → ⊥)) c.if-not-ends_at_a_root.false c.ends_at_a_root.ensures) in

@@ -59,7 +59,7 @@ returns-clause-all c =
     let at = (goal.at.returns-clause-all c).After-deref-2 in
     let p = c.args.question.now.puzzle in
     let all = c.in_ok-all.all.keys in
-    let ordered = all_in_order p c.deref.result.now c.args.question.now.certificate.symmetries c.requires.puzzle (complete at) all (expansion at all c.in_ok-all.ensures.expansion) c.args.question.now.certificate.lemmas in (
+    let ordered = all_in_order p c.deref.result.now c.args.question.now.certificate.symmetries c.requires.puzzle (complete at) all (expansion at all c.in_ok-all.ensures.expansion) c.in_ok-all.ensures.few c.args.question.now.certificate.lemmas in (
       all,
       subst (λ (l : List (List Placement)). AreAllInOrder (question_of p l c.args.question.now.certificate) all) c.deref.ensures.value ordered,
       c.in_ok-text.ensures.spelling ∙ ap list_spelling c.as_slice.ensures.keys,
