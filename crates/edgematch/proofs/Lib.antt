@@ -1,5 +1,6 @@
 pub mod CutLemmas
 pub mod StreamLemmas
+pub mod OrderLemmas
 pub mod RepetitionLemmas
 pub mod RunLemmas
 pub mod SolvingLemmas

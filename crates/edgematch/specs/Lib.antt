@@ -4,3 +4,5 @@ pub mod Documents
 pub mod FaultText
 pub mod Runs
 pub mod Solving
+pub mod Files
+pub mod OrderRuns

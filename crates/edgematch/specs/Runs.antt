@@ -1,5 +1,5 @@
 -- What a run comes to.
-use Rattle.std.specs.Prelude.{◌≡◌, ◌≢◌, ◌+◌, ◌<◌, ◌≤◌, ◌^◌, ◌↔◌, ℕ, List, Result, Ok, Err, Contains, length, map, true}
+use Rattle.std.specs.Prelude.{◌≡◌, ◌≢◌, ◌+◌, ◌<◌, ◌≤◌, ◌^◌, ◌↔◌, ℕ, List, Result, Ok, Err, Contains, length, map}
 use Rattle.match_board.specs.declared.limits.TheConstants.{MOST_CLASSES, MOST_ARRANGEMENTS, MOST_BYTES}
 use Rattle.match_board.specs.Turns.{AreLeastWords}
 use Rattle.match_puzzle.specs.Puzzle.{Task}

@@ -1,0 +1,31 @@
+-- What files held, by what came of them.
+use Rattle.std.proofs.Common.{◌≡◌, ◌∙◌, ◌++◌, ℕ, Bool, List, Option, Some, None, refl, ap, subst}
+use Rattle.std.proofs.lemmas.List.{append-nil}
+use Rattle.std.specs.Io.KnownBytes.{Consumes, IsAtEnd}
+use Rattle.edgematch.specs.Files.{HoldsText, LeavesAll}
+use Rattle.edgematch.specs.OrderRuns.{code_of}
+use Rattle.edgematch.specs.Streams.{GivesWhole}
+use Rattle.edgematch.specs.declared.runs.Status.{Status}
+use Rattle.edgematch.specs.declared.runs.Status.TheVariants as status
+
+-- known bytes that came whole are the text that came
+whole_is : (bytes : List ℕ) (after : Option (List ℕ)) (text : List ℕ) → Consumes (Some bytes) after text → IsAtEnd after → bytes ≡ text
+whole_is bytes None text came end = absurd came
+whole_is bytes (Some rest) text came end = came ∙ ap (λ xs. text ++ xs) end ∙ append-nil text
+
+-- a file of which all was left at first holds the text that came whole
+holds_text : (held left after : Option (List ℕ)) (ended : Bool) (text : List ℕ) → LeavesAll held left → GivesWhole left after ended text → HoldsText held text
+holds_text None left after ended text leaves whole = tt
+holds_text (Some bytes) left after ended text leaves whole =
+    whole_is bytes after text (subst (λ known. Consumes known after text) leaves whole.0) whole.1.1
+
+-- the same of the file of a name
+pub named_text : (holds : List ℕ → Option (List ℕ)) (said name : List ℕ) (left after : Option (List ℕ)) (ended : Bool) (text : List ℕ) → said ≡ name
+    → LeavesAll (holds said) left → GivesWhole left after ended text → HoldsText (holds name) text
+named_text holds said name left after ended text same leaves whole =
+    subst (λ n. HoldsText (holds n) text) same (holds_text (holds said) left after ended text leaves whole)
+
+-- status 0 is that of a complete list
+pub code_complete : (s : Status) → code_of s ≡ 0 → s ≡ status.Complete
+code_complete status.Complete e = refl
+code_complete status.Refused e = absurd cc

@@ -1,0 +1,177 @@
+//! Runs of orders: over which files each runs, and the exit status.
+
+ghost use Rattle.std.specs.Prelude.{◌≡◌, ◌≢◌, ◌≤◌, ℕ, List, IfOk, IfErr, OnOk};
+ghost use Rattle.edgematch.specs.Files.{FilesHold, HoldsText};
+ghost use Rattle.edgematch.specs.Moves.{WritesWhole, reading_of, writing_of};
+ghost use Rattle.edgematch.specs.OrderRuns.{Checks, Expands, IsOfOrder, OrderGives, OrderShows, code_of, fault_code};
+ghost use Rattle.edgematch.specs.Runs.{IsOfChecking, IsOfExpanding, SpellCompleteList};
+ghost use Rattle.edgematch.specs.Solving.{IsOfSolving, Products, SolveGives};
+ghost use Rattle.std.specs.String.{string_bytes};
+ghost use Rattle.command_words.specs.Orders.{IsInRange};
+
+use crate::expansion_runs::run_expand;
+use crate::faults::{Document, RunFault};
+use crate::files::{FileSystem, have_different_names, make, open};
+use crate::runs::{Status, run_check, run_joined};
+use crate::solve_runs::run_solve;
+use crate::streams::sinks::Sink;
+use crate::streams::sources::Source;
+use crate::tile_runs::run_tiles;
+use command_words::{Files, Order};
+use match_board::limits::MOST_FUEL;
+use std::alloc::Global;
+
+// A check that shows that the list is complete.
+const COMPLETE: u8 = 0;
+
+// A check that does not show it.
+const REFUSED: u8 = 1;
+
+// What is neither an answer nor a fault of the documents that a solver makes.
+const OTHER: u8 = 2;
+
+// The puzzle was not solved.
+const UNSOLVED: u8 = 3;
+
+/// Does what is ordered, and gives the exit status where no fault came: 0, or 1 where a list is not shown to be
+/// complete.
+///
+/// The files of an order are all opened before one is read: the puzzle's, the list's, the certificate's. `Read` of
+/// the first that can't be opened. A solve opens the puzzle's and makes the other two; where two of the three names
+/// are the same, or one can't be made, `Write`.
+pub fn run_order<S: FileSystem, R: Source, W: Sink>(
+    alloc: Global,
+    order: &Order,
+    system: &S,
+    input: &mut R,
+    output: &mut W,
+) -> Result<u8, RunFault>
+    requires { IsInRange order.now }
+    ensures given { IfOk result (OrderGives (S.holds system.now) (reading_of R.Source input.old input.new)
+        (writing_of W.Sink output.old output.new) order.now) }
+    ensures fault { IfErr result (IsOfOrder order.now) }
+    ensures untouched { IfErr result (λ fault. fault ≢ RunFault.Write → output.new ≡ output.old) }
+    // Status 0 of a check says that the list is complete.
+    ensures shown { IfOk result (λ code. code ≡ 0
+        → OrderShows (S.holds system.now) (reading_of R.Source input.old input.new) order.now) }
+{
+    match order {
+        Order::Joined => {
+            let status = run_joined(alloc, input, 1, 0, output)?;
+            Ok(status_code(status))
+        }
+        Order::Check(files) => check(alloc, files, system, output),
+        Order::Solve { files, fuel } => {
+            solve(alloc, files, *fuel, system, output)?;
+            Ok(COMPLETE)
+        }
+        Order::Expand(files) => expand(alloc, files, system, output),
+        Order::Tiles { sides, colours } => {
+            run_tiles(alloc, *sides, *colours, output)?;
+            Ok(COMPLETE)
+        }
+    }
+}
+
+// Opens all three files before any is read.
+fn check<S: FileSystem, W: Sink>(
+    alloc: Global,
+    files: &Files,
+    system: &S,
+    output: &mut W,
+) -> Result<u8, RunFault>
+    ensures given { IfOk result (λ code.
+        FilesHold (S.holds system.now) files.now (Checks (writing_of W.Sink output.old output.new) code)) }
+    ensures shown { IfOk result (λ code. code ≡ 0 → FilesHold (S.holds system.now) files.now SpellCompleteList) }
+    ensures fault { IfErr result IsOfChecking }
+    ensures untouched { IfErr result (λ fault. fault ≢ RunFault.Write → output.new ≡ output.old) }
+{
+    let mut puzzle = open(system, &files.puzzle, Document::Puzzle)?;
+    let mut list = open(system, &files.list, Document::List)?;
+    let mut certificate = open(system, &files.certificate, Document::Certificate)?;
+    let status = run_check(
+        alloc,
+        &mut puzzle,
+        &mut list,
+        &mut certificate,
+        1,
+        0,
+        output,
+    )?;
+    Ok(status_code(status))
+}
+
+// Opens the puzzle's file and makes the others before anything is read. A file that has the name of another is not made.
+fn solve<S: FileSystem, W: Sink>(
+    alloc: Global,
+    files: &Files,
+    fuel: u32,
+    system: &S,
+    output: &mut W,
+) -> Result<(), RunFault>
+    requires { (1 ≤ fuel) × (fuel ≤ MOST_FUEL) }
+    ensures given { OnOk result ((text : List ℕ) × HoldsText (S.holds system.now (string_bytes files.now.puzzle)) text
+        × WritesWhole (writing_of W.Sink output.old output.new)
+        (λ report. (made : Products) × SolveGives text made × (report ≡ made.report))) }
+    ensures fault { IfErr result IsOfSolving }
+    ensures untouched { IfErr result (λ fault. fault ≢ RunFault.Write → output.new ≡ output.old) }
+{
+    let mut puzzle = open(system, &files.puzzle, Document::Puzzle)?;
+    if !have_different_names(&files.puzzle, &files.list, &files.certificate) {
+        return Err(RunFault::Write);
+    }
+    let mut list = make(system, &files.list)?;
+    let mut certificate = make(system, &files.certificate)?;
+    run_solve(
+        alloc,
+        &mut puzzle,
+        0,
+        fuel,
+        1,
+        &mut list,
+        &mut certificate,
+        output,
+    )
+}
+
+// As a check, and prints all arrangements.
+fn expand<S: FileSystem, W: Sink>(
+    alloc: Global,
+    files: &Files,
+    system: &S,
+    output: &mut W,
+) -> Result<u8, RunFault>
+    ensures given { IfOk result (λ code.
+        FilesHold (S.holds system.now) files.now (Expands (writing_of W.Sink output.old output.new) code)) }
+    ensures fault { IfErr result IsOfExpanding }
+    ensures untouched { IfErr result (λ fault. fault ≢ RunFault.Write → output.new ≡ output.old) }
+{
+    let mut puzzle = open(system, &files.puzzle, Document::Puzzle)?;
+    let mut list = open(system, &files.list, Document::List)?;
+    let mut certificate = open(system, &files.certificate, Document::Certificate)?;
+    let status = run_expand(alloc, &mut puzzle, &mut list, &mut certificate, output)?;
+    Ok(status_code(status))
+}
+
+// The exit status of what a check found.
+fn status_code(status: Status) -> u8
+    ensures { result ≡ code_of status }
+{
+    match status {
+        Status::Complete => COMPLETE,
+        Status::Refused => REFUSED,
+    }
+}
+
+/// The exit status of a fault: 3 where the puzzle was not solved, else 2.
+pub fn fault_status(fault: &RunFault) -> u8
+    ensures { result ≡ fault_code fault.now }
+{
+    match fault {
+        RunFault::Solve(_) => UNSOLVED,
+        _ => OTHER,
+    }
+}
+
+#[cfg(test)]
+mod tests;
