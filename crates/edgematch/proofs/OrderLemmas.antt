@@ -14,16 +14,10 @@ whole_is bytes None text came end = absurd came
 whole_is bytes (Some rest) text came end = came ∙ ap (λ xs. text ++ xs) end ∙ append-nil text
 
 -- a file of which all was left at first holds the text that came whole
-holds_text : (held left after : Option (List ℕ)) (ended : Bool) (text : List ℕ) → LeavesAll held left → GivesWhole left after ended text → HoldsText held text
+pub holds_text : (held left after : Option (List ℕ)) (ended : Bool) (text : List ℕ) → LeavesAll held left → GivesWhole left after ended text → HoldsText held text
 holds_text None left after ended text leaves whole = tt
 holds_text (Some bytes) left after ended text leaves whole =
     whole_is bytes after text (subst (λ known. Consumes known after text) leaves whole.0) whole.1.1
-
--- the same of the file of a name
-pub named_text : (holds : List ℕ → Option (List ℕ)) (said name : List ℕ) (left after : Option (List ℕ)) (ended : Bool) (text : List ℕ) → said ≡ name
-    → LeavesAll (holds said) left → GivesWhole left after ended text → HoldsText (holds name) text
-named_text holds said name left after ended text same leaves whole =
-    subst (λ n. HoldsText (holds n) text) same (holds_text (holds said) left after ended text leaves whole)
 
 -- status 0 is that of a complete list
 pub code_complete : (s : Status) → code_of s ≡ 0 → s ≡ status.Complete

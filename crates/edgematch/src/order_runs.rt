@@ -1,7 +1,7 @@
 //! Runs of orders: over which files each runs, and the exit status.
 
 ghost use Rattle.std.specs.Prelude.{◌≡◌, ◌≢◌, ◌≤◌, ℕ, List, IfOk, IfErr, OnOk};
-ghost use Rattle.edgematch.specs.Files.{FilesHold, HoldsText};
+ghost use Rattle.edgematch.specs.Files.{FilesHold, HoldsText, LeavesAll};
 ghost use Rattle.edgematch.specs.Moves.{WritesWhole, reading_of, writing_of};
 ghost use Rattle.edgematch.specs.OrderRuns.{Checks, Expands, IsOfOrder, OrderGives, OrderShows, code_of, fault_code};
 ghost use Rattle.edgematch.specs.Runs.{IsOfChecking, IsOfExpanding, SpellCompleteList};
@@ -73,7 +73,31 @@ pub fn run_order<S: FileSystem, R: Source, W: Sink>(
     }
 }
 
+// The files of three documents.
+#[derive(Drop)]
+struct Opened<R> {
+    puzzle: R,
+    list: R,
+    certificate: R,
+}
+
 // Opens all three files before any is read.
+fn open_all<S: FileSystem>(system: &S, files: &Files) -> Result<Opened<S::Reader>, RunFault>
+    ensures puzzle { IfOk result (λ opened.
+        LeavesAll (S.holds system.now (string_bytes files.now.puzzle)) (S.Reader.left opened.puzzle)) }
+    ensures list { IfOk result (λ opened.
+        LeavesAll (S.holds system.now (string_bytes files.now.list)) (S.Reader.left opened.list)) }
+    ensures certificate { IfOk result (λ opened.
+        LeavesAll (S.holds system.now (string_bytes files.now.certificate)) (S.Reader.left opened.certificate)) }
+    ensures fault { IfErr result (λ fault. (document : Document) × (fault ≡ RunFault.Read document)) }
+{
+    Ok(Opened {
+        puzzle: open(system, &files.puzzle, Document::Puzzle)?,
+        list: open(system, &files.list, Document::List)?,
+        certificate: open(system, &files.certificate, Document::Certificate)?,
+    })
+}
+
 fn check<S: FileSystem, W: Sink>(
     alloc: Global,
     files: &Files,
@@ -86,14 +110,12 @@ fn check<S: FileSystem, W: Sink>(
     ensures fault { IfErr result IsOfChecking }
     ensures untouched { IfErr result (λ fault. fault ≢ RunFault.Write → output.new ≡ output.old) }
 {
-    let mut puzzle = open(system, &files.puzzle, Document::Puzzle)?;
-    let mut list = open(system, &files.list, Document::List)?;
-    let mut certificate = open(system, &files.certificate, Document::Certificate)?;
+    let mut opened = open_all(system, files)?;
     let status = run_check(
         alloc,
-        &mut puzzle,
-        &mut list,
-        &mut certificate,
+        &mut opened.puzzle,
+        &mut opened.list,
+        &mut opened.certificate,
         1,
         0,
         output,
@@ -146,10 +168,14 @@ fn expand<S: FileSystem, W: Sink>(
     ensures fault { IfErr result IsOfExpanding }
     ensures untouched { IfErr result (λ fault. fault ≢ RunFault.Write → output.new ≡ output.old) }
 {
-    let mut puzzle = open(system, &files.puzzle, Document::Puzzle)?;
-    let mut list = open(system, &files.list, Document::List)?;
-    let mut certificate = open(system, &files.certificate, Document::Certificate)?;
-    let status = run_expand(alloc, &mut puzzle, &mut list, &mut certificate, output)?;
+    let mut opened = open_all(system, files)?;
+    let status = run_expand(
+        alloc,
+        &mut opened.puzzle,
+        &mut opened.list,
+        &mut opened.certificate,
+        output,
+    )?;
     Ok(status_code(status))
 }
 
