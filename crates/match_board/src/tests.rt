@@ -72,6 +72,14 @@ fn periods(rt: HostRuntime) -> Result<(), Fail> {
 }
 
 #[test]
+fn compares_what_tiles_show(rt: HostRuntime) -> Result<(), Fail> {
+    assert!(rt; Tile::new([0, 1, 2, 3], 3)? == Tile::new([0, 1, 2, 35], 3)?);
+    assert!(rt; Tile::new([0, 1, 2, 3], 3)? != Tile::new([0, 1, 3, 3], 3)?);
+    assert!(rt; Tile::new([0, 1, 2, 3], 4)? != Tile::new([0, 1, 2, 35], 4)?);
+    Ok(())
+}
+
+#[test]
 fn squares_of_three_colours(rt: HostRuntime) -> Result<(), Fail> {
     let tiles = all_tiles(rt.alloc(), 4, 3)?;
     assert_eq!(rt; tiles.len(), 24);
