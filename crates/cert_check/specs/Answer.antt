@@ -31,12 +31,14 @@ AreSymmetries p symmetries = (number : ℕ) (g : SymmetryLine) → slice_get sym
 -- The one with this number equals an earlier one.
 abbrev pub RepeatsEarlier : List (List Placement) → ℕ → Type 0
 RepeatsEarlier listed number =
-    (earlier : ℕ) × (a : List Placement) × (earlier < number) × (slice_get listed earlier ≡ Some a) × (slice_get listed number ≡ Some a)
+    (earlier : ℕ) × (a : List Placement) × (earlier < number) × (slice_get listed earlier ≡ Some a)
+    × (slice_get listed number ≡ Some a)
 
 -- No two places have the same.
 abbrev pub AreDistinct : List (List Placement) → Type 0
 AreDistinct listed =
-    (place other : ℕ) (a : List Placement) → slice_get listed place ≡ Some a → slice_get listed other ≡ Some a → place ≡ other
+    (place other : ℕ) (a : List Placement) → slice_get listed place ≡ Some a → slice_get listed other ≡ Some a
+    → place ≡ other
 
 -- Different arrangements of the puzzle, from which symmetries of it reach all that there are.
 pub record IsCompleteList (p : Task) (lines : List SymmetryLine) (listed : List (List Placement)) : Type 0 where
@@ -56,7 +58,8 @@ pub record IsShown (question : Question) : Type 0 where
 abbrev pub AreCovered : Question → Type 0
 AreCovered question =
     (number : ℕ) (lemma : Piece) → slice_get question.lemmas number ≡ Some lemma
-    → IsCovered question.puzzle (IsReached question.puzzle question.symmetries question.listed) (start_of question.puzzle lemma)
+    → IsCovered question.puzzle (IsReached question.puzzle question.symmetries question.listed)
+    (start_of question.puzzle lemma)
 
 -- When a fault occurs.
 abbrev pub Occurs : Question → Fault → Type 0

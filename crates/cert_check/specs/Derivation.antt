@@ -13,16 +13,21 @@ start_of p lemma = with_pairs lemma.prefix (empty_prefix p)
 
 -- Each lemma begins with a prefix.
 abbrev pub HavePrefixes : Question → Type 0
-HavePrefixes question = (number : ℕ) (lemma : Piece) → slice_get question.lemmas number ≡ Some lemma → IsPairList question.puzzle lemma.prefix
+HavePrefixes question =
+    (number : ℕ) (lemma : Piece) → slice_get question.lemmas number ≡ Some lemma
+    → IsPairList question.puzzle lemma.prefix
 
 -- There is a last lemma, and it begins with nothing placed.
 abbrev pub HasRoot : List Piece → Type 0
-HasRoot lemmas = (number : ℕ) × (root : Piece) × (length lemmas ≡ number + 1) × (slice_get lemmas number ≡ Some root) × (root.prefix ≡ [])
+HasRoot lemmas =
+    (number : ℕ) × (root : Piece) × (length lemmas ≡ number + 1) × (slice_get lemmas number ≡ Some root)
+    × (root.prefix ≡ [])
 
 -- The tree of each lemma holds at its prefix.
 abbrev pub TreesHold : Question → Type 0
 TreesHold question =
-    (number : ℕ) (lemma : Piece) → slice_get question.lemmas number ≡ Some lemma → Holds (setting_at question number) lemma.tree (start_of question.puzzle lemma)
+    (number : ℕ) (lemma : Piece) → slice_get question.lemmas number ≡ Some lemma
+    → Holds (setting_at question number) lemma.tree (start_of question.puzzle lemma)
 
 -- Each lemma begins with a prefix at which its tree holds, and the last begins with nothing placed.
 pub record IsDerivation (question : Question) : Type 0 where

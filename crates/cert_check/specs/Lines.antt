@@ -18,9 +18,12 @@ LineFails p number g Memory = Unit {0}
 
 -- It is the first line that has a fault.
 abbrev pub LinesFail : Task → List SymmetryLine → SymmetriesFault → Type 0
-LinesFail p lines (Line number fault) = IsFirstBad (λ n g. IsSymmetry p g) (λ n g f. IsSymmetryFault p g f) lines number fault
+LinesFail p lines (Line number fault) =
+    IsFirstBad (λ n g. IsSymmetry p g) (λ n g f. IsSymmetryFault p g f) lines number fault
 LinesFail p lines Memory = Unit {0}
 
 -- The lemma with this number does not begin with a prefix, and it is the first.
 abbrev pub IsFirstBadPrefix : Task → List Piece → ℕ → PrefixFault → Type 0
-IsFirstBadPrefix p = IsFirstBad (λ n (lemma : Piece). IsPairList p lemma.prefix) (λ n (lemma : Piece) fault. IsPrefixFault p lemma.prefix fault)
+IsFirstBadPrefix p =
+    IsFirstBad (λ n (lemma : Piece). IsPairList p lemma.prefix)
+    (λ n (lemma : Piece) fault. IsPrefixFault p lemma.prefix fault)

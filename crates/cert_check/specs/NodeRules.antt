@@ -11,7 +11,8 @@ use Rattle.match_symmetry.specs.declared.lines.SymmetryLine.{SymmetryLine}
 use Rattle.cert_check.specs.Setting.{Setting}
 use Rattle.cert_tree.specs.Tree.{Tree, Forest, branch, dead, found, same, image, none, more, count}
 
--- The item is one of the puzzle and not settled, and the branch has a child for each pair that fits and settles it, and at least one.
+-- The item is one of the puzzle and not settled, and the branch has a child for each pair that fits and settles it, and
+-- at least one.
 pub record IsBranch (p : Task) (q : Prefix) (item : Item) (children : ℕ) (xs : List Pair) : Type 0 where
   pub unsettled : IsOpen p q item
   pub fitting : AreFitting p q item xs
@@ -34,12 +35,14 @@ IsCited s q lemma = (pairs : List Pair) × (slice_get s.earlier lemma ≡ Some p
 -- An earlier lemma and a symmetry have these numbers, and the image of the lemma's prefix stands in this one.
 abbrev pub IsCitedByImage : Setting → Prefix → (lemma symmetry : ℕ) → Type 0
 IsCitedByImage s q lemma symmetry =
-    (pairs : List Pair) × (g : SymmetryLine) × (slice_get s.earlier lemma ≡ Some pairs) × (slice_get s.symmetries symmetry ≡ Some g) × IsImageWithin s.puzzle g pairs q
+    (pairs : List Pair) × (g : SymmetryLine) × (slice_get s.earlier lemma ≡ Some pairs)
+    × (slice_get s.symmetries symmetry ≡ Some g) × IsImageWithin s.puzzle g pairs q
 
 abbrev mutual
   -- The tree holds at the prefix.
   pub Holds : Setting → Tree → Prefix → Type 0
-  Holds s (branch item children) q = (xs : List Pair) × IsBranch s.puzzle q item (count children) xs × EachHolds s children q xs
+  Holds s (branch item children) q =
+      (xs : List Pair) × IsBranch s.puzzle q item (count children) xs × EachHolds s children q xs
   Holds s (dead item) q = IsDead s.puzzle q item
   Holds s (found number) q = IsListedAt s q number
   Holds s (same lemma) q = IsCited s q lemma

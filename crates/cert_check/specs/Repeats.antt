@@ -33,7 +33,8 @@ placement_cmp = then_cmp (on (λ x. x.tile) nat_cmp) (on (λ x. x.turn) nat_cmp)
 
 -- by key, then by what stands there
 abbrev pub entry_cmp : List (List Placement) → KeyedPlace → KeyedPlace → Ordering
-entry_cmp listed = then_cmp (on (λ x. x.key) nat_cmp) (on (λ x. slice_get listed x.place) (option_cmp (slice_cmp placement_cmp)))
+entry_cmp listed =
+    then_cmp (on (λ x. x.key) nat_cmp) (on (λ x. slice_get listed x.place) (option_cmp (slice_cmp placement_cmp)))
 
 -- the same, and then by place
 abbrev pub keyed_cmp : List (List Placement) → KeyedPlace → KeyedPlace → Ordering

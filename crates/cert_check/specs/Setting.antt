@@ -15,7 +15,8 @@ pub record Question : Type 0 where
   pub symmetries : List SymmetryLine
   pub lemmas : List Piece
 
--- what the tree of a lemma may name: the listed arrangements, the symmetries, and the prefixes of the lemmas before it, each by number
+-- what the tree of a lemma may name: the listed arrangements, the symmetries, and the prefixes of the lemmas before it,
+-- each by number
 pub record Setting : Type 0 where
   pub puzzle : Task
   pub listed : List (List Placement)
@@ -61,7 +62,8 @@ AreOfPuzzle p motions = (number : ℕ) (m : Motion) → slice_get motions number
 
 -- Each lemma begins with a prefix.
 abbrev pub BeginWithPrefixes : Task → List Piece → Type 0
-BeginWithPrefixes p lemmas = (number : ℕ) (lemma : Piece) → slice_get lemmas number ≡ Some lemma → IsPairList p lemma.prefix
+BeginWithPrefixes p lemmas =
+    (number : ℕ) (lemma : Piece) → slice_get lemmas number ≡ Some lemma → IsPairList p lemma.prefix
 
 -- what holds of each setting that the code makes
 pub record IsSetting (p : Task) (motions : List Motion) (earlier : List Piece) : Type 0 where

@@ -12,7 +12,9 @@ use Rattle.match_puzzle.specs.declared.placements.Pair.{Pair}
 use Rattle.match_symmetry.specs.Images.{IsImageWithin}
 use Rattle.match_symmetry.specs.declared.lines.SymmetryLine.{SymmetryLine}
 use Rattle.cert_check.specs.declared.faults.NodeFault.{NodeFault}
-use Rattle.cert_check.specs.declared.faults.NodeFault.TheVariants.{CellRange, CellTaken, TileRange, TileTaken, WrongCount, NotDead, NotWhole, ListRange, NotListed, NotEarlier, SymmetryRange, NotWithin}
+use Rattle.cert_check.specs.declared.faults.NodeFault.TheVariants.{CellRange, CellTaken, TileRange, TileTaken}
+use Rattle.cert_check.specs.declared.faults.NodeFault.TheVariants.{WrongCount, NotDead, NotWhole, ListRange, NotListed}
+use Rattle.cert_check.specs.declared.faults.NodeFault.TheVariants.{NotEarlier, SymmetryRange, NotWithin}
 use Rattle.cert_check.specs.Setting.{Setting}
 use Rattle.cert_tree.specs.Tree.{Tree, Forest, branch, dead, found, same, image, none, more, count}
 use Rattle.cert_check.specs.NodeRules.{IsBranch, Holds}
@@ -28,7 +30,8 @@ ItemFails p q item fault = ⊥
 -- What may be wrong with a branch of so many children, but for the children themselves.
 abbrev pub BranchFails : Task → Prefix → Item → ℕ → NodeFault → Type 0
 BranchFails p q item number (WrongCount fits children) =
-    (xs : List Pair) × AreFitting p q item xs × (fits ≡ length xs) × (children ≡ number) × ((fits ≢ children) ⊎ (children ≡ 0))
+    (xs : List Pair) × AreFitting p q item xs × (fits ≡ length xs) × (children ≡ number)
+    × ((fits ≢ children) ⊎ (children ≡ 0))
 BranchFails p q item number fault = ItemFails p q item fault
 
 -- What may be wrong with a dead end.
@@ -54,7 +57,8 @@ abbrev pub ImageFails : Setting → Prefix → (lemma symmetry : ℕ) → NodeFa
 ImageFails s q lemma symmetry NotEarlier = length s.earlier ≤ lemma
 ImageFails s q lemma symmetry SymmetryRange = length s.symmetries ≤ symmetry
 ImageFails s q lemma symmetry NotWithin =
-    (pairs : List Pair) × (g : SymmetryLine) × (slice_get s.earlier lemma ≡ Some pairs) × (slice_get s.symmetries symmetry ≡ Some g)
+    (pairs : List Pair) × (g : SymmetryLine) × (slice_get s.earlier lemma ≡ Some pairs)
+    × (slice_get s.symmetries symmetry ≡ Some g)
     × (IsImageWithin s.puzzle g pairs q → ⊥)
 ImageFails s q lemma symmetry fault = ⊥
 
@@ -86,7 +90,8 @@ abbrev pub IsNodeFault : Setting → Tree → Prefix → NodeFault → Type 0
 IsNodeFault s tree q = IsFirst node_rank (NodeFails s tree q)
 
 abbrev mutual
-  -- The fault at the end of the path is the tree's first, in preorder: each branch on the way is right itself, and the children before the path's hold.
+  -- The fault at the end of the path is the tree's first, in preorder: each branch on the way is right itself, and the
+  -- children before the path's hold.
   pub FailsAt : Setting → Tree → Prefix → List ℕ → NodeFault → Type 0
   FailsAt s tree q [] fault = IsNodeFault s tree q fault
   FailsAt s (branch item children) q (number ∷ path) fault =
@@ -101,4 +106,5 @@ abbrev mutual
   EachFails s none q xs number path fault = ⊥
   EachFails s (more tree trees) q [] number path fault = ⊥
   EachFails s (more tree trees) q (x ∷ xs) zero path fault = FailsAt s tree (with_pair q x.cell x.placement) path fault
-  EachFails s (more tree trees) q (x ∷ xs) (suc number) path fault = Holds s tree (with_pair q x.cell x.placement) × EachFails s trees q xs number path fault
+  EachFails s (more tree trees) q (x ∷ xs) (suc number) path fault =
+      Holds s tree (with_pair q x.cell x.placement) × EachFails s trees q xs number path fault

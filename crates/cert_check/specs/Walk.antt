@@ -35,18 +35,23 @@ below number fault = record { path = number ∷ fault.path; fault = fault.fault 
 -- What is said of the tree of the lemma with this number, at its prefix.
 abbrev pub TellsOfLemma : Question → ℕ → Option TreeFault → Type 0
 TellsOfLemma question number said =
-    (lemma : Piece) × (slice_get question.lemmas number ≡ Some lemma) × Tells (setting_at question number) lemma.tree (start_of question.puzzle lemma) said
+    (lemma : Piece) × (slice_get question.lemmas number ≡ Some lemma)
+    × Tells (setting_at question number) lemma.tree (start_of question.puzzle lemma) said
 
 -- What is said of all trees: that each holds, or the first that doesn't, with its first fault.
 abbrev pub TellsOfTrees : Question → Option (ℕ × TreeFault) → Type 0
 TellsOfTrees question said =
     MatchOption said (TreesHold question)
     (λ r. IsFirstBad (λ n lemma. Holds (setting_at question n) lemma.tree (start_of question.puzzle lemma))
-    (λ n lemma fault. FailsAt (setting_at question n) lemma.tree (start_of question.puzzle lemma) fault.path fault.fault) question.lemmas r.0 r.1)
+    (λ n lemma fault.
+    FailsAt (setting_at question n) lemma.tree (start_of question.puzzle lemma) fault.path fault.fault)
+    question.lemmas r.0 r.1)
 
 -- What is said of the list: that it has different arrangements, or its first fault.
 abbrev pub TellsOfListing : Task → List (List Placement) → Option Fault → Type 0
 TellsOfListing p listed None = AreArrangements p listed × AreDistinct listed
-TellsOfListing p listed (Some (faults.List number fault)) = IsFirstBad (λ n a. IsArrangement p a) (λ n a f. IsArrangementFault p a f) listed number fault
-TellsOfListing p listed (Some (faults.Repeated number)) = AreArrangements p listed × IsLeast (RepeatsEarlier listed) number
+TellsOfListing p listed (Some (faults.List number fault)) =
+    IsFirstBad (λ n a. IsArrangement p a) (λ n a f. IsArrangementFault p a f) listed number fault
+TellsOfListing p listed (Some (faults.Repeated number)) =
+    AreArrangements p listed × IsLeast (RepeatsEarlier listed) number
 TellsOfListing p listed (Some fault) = ⊥

@@ -1,5 +1,6 @@
 -- The assembly of numbered pieces. In what order they come doesn't matter.
-use Rattle.std.specs.Prelude.{◌≡◌, ◌≢◌, ◌≤◌, ◌<◌, ℕ, List, Option, Some, None, Result, Ok, Err, Contains, ◌==◌, length, slice_get}
+use Rattle.std.specs.Prelude.{◌≡◌, ◌≢◌, ◌≤◌, ◌<◌, ℕ, List, Option, Some, None, Result, Ok, Err, Contains, ◌==◌, length}
+use Rattle.std.specs.Prelude.{slice_get}
 use Rattle.std.specs.List.{count_by}
 use Rattle.std.specs.List.Sorted.{IsPermutation}
 use Rattle.match_board.specs.First.{Rank, IsLeast, IsFirst, rank_by, rank_by_two}
@@ -50,7 +51,8 @@ IsSettled result = result ≢ Err Memory
 -- The same pieces come to the same, in whatever order they are.
 abbrev pub IsOneInAnyOrder : {X : Type 0} → (X → ℕ) → Type 0
 IsOneInAnyOrder {X} number_of =
-    (count : ℕ) (pieces others : List X) (a b : Result (List X) AssembleFault) → IsPermutation pieces others → IsSettled a → IsSettled b
+    (count : ℕ) (pieces others : List X) (a b : Result (List X) AssembleFault) → IsPermutation pieces others
+    → IsSettled a → IsSettled b
     → Assembles number_of count pieces a → Assembles number_of count others b → a ≡ b
 
 -- The least number with the property, or that none has it.

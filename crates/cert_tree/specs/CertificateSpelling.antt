@@ -1,6 +1,7 @@
 -- The one spelling of a lemma, and of a certificate's symmetries and lemmas in their order.
 use Rattle.std.specs.Prelude.{◌≤◌, ◌<◌, ℕ, Bool, true, false, List, [], ◌∷◌, ◌++◌, length, map, codes, decimal}
-use Rattle.match_board.specs.declared.limits.TheConstants.{MOST_CELLS, LAST_CELL, LAST_SIDE, MOST_COLOURS, MOST_SYMMETRIES, MOST_LEMMAS, LAST_LEMMA, MOST_LEVELS}
+use Rattle.match_board.specs.declared.limits.TheConstants.{MOST_CELLS, LAST_CELL, LAST_SIDE, MOST_COLOURS}
+use Rattle.match_board.specs.declared.limits.TheConstants.{MOST_SYMMETRIES, MOST_LEMMAS, LAST_LEMMA, MOST_LEVELS}
 use Rattle.std.specs.List.{AllByRecursion}
 use Rattle.match_puzzle.specs.declared.placements.Pair.{Pair}
 use Rattle.match_symmetry.specs.declared.lines.SymmetryLine.{SymmetryLine}
@@ -19,7 +20,8 @@ mirrored_word true = codes "-"
 abbrev pub symmetry_words : SymmetryLine → List (List ℕ)
 symmetry_words g =
     codes "symmetry" ∷ decimal g.shift ∷ mirrored_word g.mirrored
-    ∷ codes "cells" ∷ (map decimal g.cells ++ (codes "colours" ∷ (map colour_word g.colours ++ (codes "tiles" ∷ map decimal g.tiles))))
+    ∷ codes "cells"
+    ∷ (map decimal g.cells ++ (codes "colours" ∷ (map colour_word g.colours ++ (codes "tiles" ∷ map decimal g.tiles))))
 
 -- ---- lemmas
 
@@ -28,7 +30,9 @@ abbrev pub pair_word : Pair → List ℕ
 pair_word x = decimal x.cell ++ 58 ∷ placement_word x.placement
 
 abbrev pub lemma_words : Piece → List (List ℕ)
-lemma_words piece = codes "lemma" ∷ decimal piece.number ∷ codes "prefix" ∷ (map pair_word piece.prefix ++ (codes "tree" ∷ tree_words piece.tree))
+lemma_words piece =
+    codes "lemma" ∷ decimal piece.number ∷ codes "prefix"
+    ∷ (map pair_word piece.prefix ++ (codes "tree" ∷ tree_words piece.tree))
 
 unfoldable pub lemma_spelling : Piece → List ℕ
 lemma_spelling piece = text_of (lemma_words piece ∷ [])
@@ -37,7 +41,8 @@ lemma_spelling piece = text_of (lemma_words piece ∷ [])
 
 abbrev pub certificate_lines : Said → List (List (List ℕ))
 certificate_lines said =
-    (first_words (codes "certificate") ∷ []) ++ ((count_words (codes "symmetries") (length said.symmetries) ∷ []) ++ (map symmetry_words said.symmetries
+    (first_words (codes "certificate") ∷ [])
+    ++ ((count_words (codes "symmetries") (length said.symmetries) ∷ []) ++ (map symmetry_words said.symmetries
     ++ ((count_words (codes "lemmas") (length said.pieces) ∷ []) ++ (map lemma_words said.pieces ++ end_lines))))
 
 unfoldable pub certificate_spelling : Said → List ℕ

@@ -1,13 +1,16 @@
 -- The texts of lemmas and of certificates.
 use Rattle.std.specs.Prelude.{◌≡◌, ◌≢◌, ℕ, List, Bool, true, false, Result, Ok, Err, codes, length, if◌then◌else◌}
-use Rattle.match_board.specs.declared.limits.TheConstants.{MOST_CELLS, LAST_CELL, MOST_TILES, LAST_TILE, LAST_SIDE, MOST_COLOURS, MOST_SYMMETRIES, MOST_LEMMAS, LAST_LEMMA, MOST_LEVELS}
+use Rattle.match_board.specs.declared.limits.TheConstants.{MOST_CELLS, LAST_CELL, MOST_TILES, LAST_TILE, LAST_SIDE}
+use Rattle.match_board.specs.declared.limits.TheConstants.{MOST_COLOURS, MOST_SYMMETRIES, MOST_LEMMAS, LAST_LEMMA}
+use Rattle.match_board.specs.declared.limits.TheConstants.{MOST_LEVELS}
 use Rattle.std.specs.Str.{bytes_eq}
 use Rattle.match_symmetry.specs.declared.lines.SymmetryLine.{SymmetryLine}
 use Rattle.match_text.specs.declared.faults.TextFault.{TextFault}
 use Rattle.match_text.specs.declared.faults.TextKind.{TextKind}
 use Rattle.match_text.specs.declared.faults.TextKind.TheVariants.{Word}
 use Rattle.match_text.specs.Words.{fixed_in, number_in, colour_in, pair_in}
-use Rattle.match_text.specs.Place.{Read, ◌>>=◌, give, line_of, word_by, entries, opening, counted, closing, end_of_text, times, start, value_of}
+use Rattle.match_text.specs.Place.{Read, ◌>>=◌, give, line_of, word_by, entries, opening, counted, closing, end_of_text}
+use Rattle.match_text.specs.Place.{times, start, value_of}
 use Rattle.cert_tree.specs.declared.certificates.Lemma.{Lemma}
 use Rattle.cert_tree.specs.declared.faults.AssembleFault.TheVariants.{Memory}
 use Rattle.cert_tree.specs.declared.faults.LemmaTextFault.{LemmaTextFault}
@@ -23,7 +26,8 @@ use Rattle.cert_tree.specs.TreeText.{tree_by}
 
 -- whether sides are mirrored, by its sign
 abbrev pub mirrored_in : List ℕ → Result Bool TextKind
-mirrored_in word = if bytes_eq word (codes "+") then Ok false else (if bytes_eq word (codes "-") then Ok true else Err Word)
+mirrored_in word =
+    if bytes_eq word (codes "+") then Ok false else (if bytes_eq word (codes "-") then Ok true else Err Word)
 
 unfoldable pub symmetry_line : Read SymmetryLine
 symmetry_line = line_of (do
@@ -93,9 +97,11 @@ LemmaGives (Err lemma_text_faults.Memory) outcome = Unit {0}
 -- The certificate that is assembled of what a text says, or the first fault of its lemmas. Of want of memory nothing is
 -- said.
 abbrev pub Makes : Said → Result Contents CertTextFault → Type 0
-Makes said (Ok c) = (c.symmetries ≡ said.symmetries) × Assembles piece_number (length said.pieces) said.pieces (Ok c.lemmas)
+Makes said (Ok c) =
+    (c.symmetries ≡ said.symmetries) × Assembles piece_number (length said.pieces) said.pieces (Ok c.lemmas)
 Makes said (Err (faults.Text fault)) = ⊥
-Makes said (Err (faults.Assemble fault)) = (fault ≢ Memory) × Assembles piece_number (length said.pieces) said.pieces (Err fault)
+Makes said (Err (faults.Assemble fault)) =
+    (fault ≢ Memory) × Assembles piece_number (length said.pieces) said.pieces (Err fault)
 Makes said (Err faults.Memory) = Unit {0}
 
 -- The fault of a text. Of want of memory nothing is said.

@@ -14,7 +14,8 @@ goes_on stop (word ∷ others) = not (bytes_eq word stop)
 
 -- Each word before the first `stop`, or the end of the line, is an entry, and there are at most so many; the entries,
 -- and what follows them.
-unfoldable pub entries_before_in : {X : Type 0} → (stop : List ℕ) → ℕ → (List ℕ → Result X TextKind) → List (List ℕ) → Result (List X × List (List ℕ)) TextKind
+unfoldable pub entries_before_in : {X : Type 0} → (stop : List ℕ) → ℕ → (List ℕ → Result X TextKind) → List (List ℕ)
+    → Result (List X × List (List ℕ)) TextKind
 entries_before_in stop room test [] = Ok ([], [])
 entries_before_in stop zero test (word ∷ others) = if bytes_eq word stop then Ok ([], word ∷ others) else Err Limit
 entries_before_in stop (suc room) test (word ∷ others) = if bytes_eq word stop then Ok ([], word ∷ others) else (do
@@ -22,7 +23,8 @@ entries_before_in stop (suc room) test (word ∷ others) = if bytes_eq word stop
   more ← entries_before_in stop room test others
   Ok (x ∷ more.0, more.1))
 
-abbrev pub before_from : {X : Type 0} → Place → Result (List X × List (List ℕ)) TextKind → Result (List X × Place) TextFault
+abbrev pub before_from : {X : Type 0} → Place → Result (List X × List (List ℕ)) TextKind
+    → Result (List X × Place) TextFault
 before_from p (Ok found) = Ok (found.0, record { line = p.line; words = found.1; ahead = p.ahead })
 before_from p (Err k) = fail p.line k
 

@@ -18,7 +18,8 @@ front-join (more tree trees) others =
 
 pub past-join : (trees others : Forest) → past (count trees) (join trees others) ≡ others
 past-join none others = refl
-past-join (more tree trees) others = ap (λ n. past n (more tree (join trees others))) (add-one (count trees)) ∙ past-join trees others
+past-join (more tree trees) others =
+    ap (λ n. past n (more tree (join trees others))) (add-one (count trees)) ∙ past-join trees others
 
 pub join-none : (trees : Forest) → join trees none ≡ trees
 join-none none = refl
@@ -27,12 +28,15 @@ join-none (more tree trees) = ap (more tree) (join-none trees)
 -- ---- heads that are read back
 
 -- a branch, from what its children and the trees after them are known to be
-put-branch : (item : Item) (children others : Forest) → put (branch_head item (count children)) (join children others) ≡ more (branch item children) others
+put-branch : (item : Item) (children others : Forest)
+    → put (branch_head item (count children)) (join children others) ≡ more (branch item children) others
 put-branch (items.Cell cell) children others =
-    ap (λ trees. more (branch (items.Cell cell) trees) (past (count children) (join children others))) (front-join children others)
+    ap (λ trees. more (branch (items.Cell cell) trees) (past (count children) (join children others)))
+    (front-join children others)
     ∙ ap (more (branch (items.Cell cell) children)) (past-join children others)
 put-branch (items.Tile tile) children others =
-    ap (λ trees. more (branch (items.Tile tile) trees) (past (count children) (join children others))) (front-join children others)
+    ap (λ trees. more (branch (items.Tile tile) trees) (past (count children) (join children others)))
+    (front-join children others)
     ∙ ap (more (branch (items.Tile tile) children)) (past-join children others)
 
 put-dead : (item : Item) (others : Forest) → put (dead_head item) others ≡ more (dead item) others
@@ -43,17 +47,22 @@ mutual
   unfolding trees_in
 
   -- What stands after the heads of a tree is read apart from it.
-  pub trees_in-heads_of : (tree : Tree) (rest : List Head) → trees_in (heads_of tree ++ rest) ≡ more tree (trees_in rest)
-  trees_in-heads_of (branch item children) rest = ap (put (branch_head item (count children))) (trees_in-heads_in children rest) ∙ put-branch item children (trees_in rest)
+  pub trees_in-heads_of : (tree : Tree) (rest : List Head)
+      → trees_in (heads_of tree ++ rest) ≡ more tree (trees_in rest)
+  trees_in-heads_of (branch item children) rest =
+      ap (put (branch_head item (count children))) (trees_in-heads_in children rest)
+      ∙ put-branch item children (trees_in rest)
   trees_in-heads_of (dead item) rest = put-dead item (trees_in rest)
   trees_in-heads_of (found number) rest = refl
   trees_in-heads_of (same lemma) rest = refl
   trees_in-heads_of (image lemma symmetry) rest = refl
 
-  pub trees_in-heads_in : (trees : Forest) (rest : List Head) → trees_in (heads_in trees ++ rest) ≡ join trees (trees_in rest)
+  pub trees_in-heads_in : (trees : Forest) (rest : List Head)
+      → trees_in (heads_in trees ++ rest) ≡ join trees (trees_in rest)
   trees_in-heads_in none rest = refl
   trees_in-heads_in (more tree trees) rest =
-      ap trees_in (append_assoc (heads_of tree) (heads_in trees) rest) ∙ trees_in-heads_of tree (heads_in trees ++ rest) ∙ ap (more tree) (trees_in-heads_in trees rest)
+      ap trees_in (append_assoc (heads_of tree) (heads_in trees) rest) ∙ trees_in-heads_of tree (heads_in trees ++ rest)
+      ∙ ap (more tree) (trees_in-heads_in trees rest)
 
 -- the trees that have the heads of these trees
 pub trees_in-heads : (trees : Forest) → trees_in (heads_in trees) ≡ trees

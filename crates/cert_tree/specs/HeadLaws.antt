@@ -6,7 +6,9 @@ use Rattle.cert_tree.specs.Heads.{heads_of, heads_in, trees_in, AreWhole}
 
 -- No tree's heads begin another's, whatever follows.
 abbrev pub HaveOneReading : Type 0
-HaveOneReading = (tree other : Tree) (rest others : List Head) → heads_of tree ++ rest ≡ heads_of other ++ others → (tree ≡ other) × (rest ≡ others)
+HaveOneReading =
+    (tree other : Tree) (rest others : List Head) → heads_of tree ++ rest ≡ heads_of other ++ others
+    → (tree ≡ other) × (rest ≡ others)
 
 -- Trees are read back from their heads.
 abbrev pub AreReadBack : Type 0

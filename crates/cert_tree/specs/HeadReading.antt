@@ -1,6 +1,7 @@
 -- Trees that are read head by head.
 use Rattle.std.specs.Prelude.{◌≡◌, ℕ, List, ◌++◌, Result, Ok, Err}
-use Rattle.match_board.specs.declared.limits.TheConstants.{LAST_CELL, LAST_TILE, LAST_ARRANGEMENT, LAST_SYMMETRY, LAST_LEMMA, MOST_CHILDREN}
+use Rattle.match_board.specs.declared.limits.TheConstants.{LAST_CELL, LAST_TILE, LAST_ARRANGEMENT, LAST_SYMMETRY}
+use Rattle.match_board.specs.declared.limits.TheConstants.{LAST_LEMMA, MOST_CHILDREN}
 use Rattle.match_text.specs.declared.faults.TextFault.{TextFault}
 use Rattle.match_text.specs.declared.faults.ReadFault.{ReadFault}
 use Rattle.match_text.specs.Words.{number_in}
@@ -8,7 +9,8 @@ use Rattle.match_text.specs.Place.{Place, Read, ◌>>=◌, give, word_by, Fails}
 use Rattle.cert_tree.specs.declared.heads.Head.{Head}
 use Rattle.cert_tree.specs.declared.heads.Head.TheVariants as heads
 use Rattle.cert_tree.specs.declared.tree_readers.NodeKind.{NodeKind}
-use Rattle.cert_tree.specs.declared.tree_readers.NodeKind.TheVariants.{Cell, Tile, DeadCell, DeadTile, Found, Same, Image}
+use Rattle.cert_tree.specs.declared.tree_readers.NodeKind.TheVariants.{Cell, Tile, DeadCell, DeadTile, Found, Same}
+use Rattle.cert_tree.specs.declared.tree_readers.NodeKind.TheVariants.{Image}
 use Rattle.cert_tree.specs.Tree.{Tree}
 use Rattle.cert_tree.specs.Heads.{heads_of, heads_in}
 use Rattle.cert_tree.specs.TreeText.{node_kind_in, forest}
@@ -51,11 +53,14 @@ head_by = do
 -- ---- a tree
 
 -- Reading gives a tree, and its heads went behind the old ones.
-abbrev pub ReadsOnto : Result (Unit {0}) ReadFault → Place → (old new : List Head) → Result (Tree × Place) TextFault → Type 0
+abbrev pub ReadsOnto : Result (Unit {0}) ReadFault → Place → (old new : List Head) → Result (Tree × Place) TextFault
+    → Type 0
 ReadsOnto (Ok _) after old new read = (tree : Tree) × (read ≡ Ok (tree, after)) × (new ≡ old ++ heads_of tree)
 ReadsOnto (Err e) after old new read = Fails e read
 
 -- The same of several trees.
-abbrev pub ReadAllOnto : Result (Unit {0}) ReadFault → Place → (old new : List Head) → Result (List Tree × Place) TextFault → Type 0
-ReadAllOnto (Ok _) after old new read = (trees : List Tree) × (read ≡ Ok (trees, after)) × (new ≡ old ++ heads_in (forest trees))
+abbrev pub ReadAllOnto : Result (Unit {0}) ReadFault → Place → (old new : List Head)
+    → Result (List Tree × Place) TextFault → Type 0
+ReadAllOnto (Ok _) after old new read =
+    (trees : List Tree) × (read ≡ Ok (trees, after)) × (new ≡ old ++ heads_in (forest trees))
 ReadAllOnto (Err e) after old new read = Fails e read

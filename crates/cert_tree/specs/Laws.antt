@@ -18,5 +18,6 @@ IsSame (Err e) (Err f) = e ≡ f
 -- memory is refused.
 abbrev pub MakesOneInAnyOrder : Type 0
 MakesOneInAnyOrder =
-    (said other : Said) (a b : Result Contents CertTextFault) → said.symmetries ≡ other.symmetries → IsPermutation said.pieces other.pieces → a ≢ Err Memory → b ≢ Err Memory
+    (said other : Said) (a b : Result Contents CertTextFault) → said.symmetries ≡ other.symmetries
+    → IsPermutation said.pieces other.pieces → a ≢ Err Memory → b ≢ Err Memory
     → Makes said a → Makes other b → IsSame a b

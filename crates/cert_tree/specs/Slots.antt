@@ -1,5 +1,6 @@
 -- Places for numbered lemmas, while a certificate is assembled: where each of them lies.
-use Rattle.std.specs.Prelude.{◌≡◌, ◌≤◌, ◌<◌, ℕ, List, Option, Some, None, Contains, min, nat_lt, if◌then◌else◌, slice_get, slice_set}
+use Rattle.std.specs.Prelude.{◌≡◌, ◌≤◌, ◌<◌, ℕ, List, Option, Some, None, Contains, min, nat_lt, if◌then◌else◌}
+use Rattle.std.specs.Prelude.{slice_get, slice_set}
 use Rattle.cert_tree.specs.declared.flat_lemmas.LemmaSpan.{LemmaSpan}
 use Rattle.cert_tree.specs.declared.faults.AssembleFault.{AssembleFault}
 use Rattle.cert_tree.specs.declared.faults.AssembleFault.TheVariants.{Stranger, Double, Missing, Memory}
@@ -30,11 +31,13 @@ pub record IsEntered (pieces : List LemmaSpan) (slots : List (Option LemmaSpan))
 
 -- The piece was put into its place.
 abbrev pub IsPut : List (Option LemmaSpan) → List (Option LemmaSpan) → LemmaSpan → Type 0
-IsPut before after piece = (slice_get before piece.number ≡ Some None) × (after ≡ slice_set before piece.number (Some piece))
+IsPut before after piece =
+    (slice_get before piece.number ≡ Some None) × (after ≡ slice_set before piece.number (Some piece))
 
 -- There was another one in its place.
 abbrev pub IsTaken : List (Option LemmaSpan) → List (Option LemmaSpan) → LemmaSpan → Type 0
-IsTaken before after piece = (other : LemmaSpan) × (slice_get before piece.number ≡ Some (Some other)) × (after ≡ before)
+IsTaken before after piece =
+    (other : LemmaSpan) × (slice_get before piece.number ≡ Some (Some other)) × (after ≡ before)
 
 -- The fault is that of the first empty place. Of want of memory nothing is said.
 abbrev pub IsFirstEmpty : List (Option LemmaSpan) → AssembleFault → Type 0

@@ -2,7 +2,8 @@
 use Rattle.std.specs.Prelude.{ℕ, ◌+◌, ◌^◌, ◌<◌, List, [], ◌∷◌}
 use Rattle.match_puzzle.specs.declared.items.Item.{Item}
 use Rattle.match_puzzle.specs.declared.items.Item.TheVariants as items
-use Rattle.cert_tree.specs.declared.nodes.Node.{Node, Cell', Tile', DeadCell, DeadTile, Found, Same, Image, Row_of-Node, end_of-Node, more_of-Node}
+use Rattle.cert_tree.specs.declared.nodes.Node.{Node, Cell', Tile', DeadCell, DeadTile, Found, Same, Image, Row_of-Node}
+use Rattle.cert_tree.specs.declared.nodes.Node.{end_of-Node, more_of-Node}
 
 mutual
   pub data Tree : Type 0 where

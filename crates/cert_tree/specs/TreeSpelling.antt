@@ -1,6 +1,7 @@
 -- The one spelling of a tree.
 use Rattle.std.specs.Prelude.{◌≤◌, ℕ, zero, suc, List, [], ◌∷◌, ◌++◌, codes, decimal}
-use Rattle.match_board.specs.declared.limits.TheConstants.{LAST_CELL, LAST_TILE, LAST_ARRANGEMENT, LAST_SYMMETRY, LAST_LEMMA, MOST_CHILDREN}
+use Rattle.match_board.specs.declared.limits.TheConstants.{LAST_CELL, LAST_TILE, LAST_ARRANGEMENT, LAST_SYMMETRY}
+use Rattle.match_board.specs.declared.limits.TheConstants.{LAST_LEMMA, MOST_CHILDREN}
 use Rattle.match_puzzle.specs.declared.items.Item.{Item}
 use Rattle.match_puzzle.specs.declared.items.Item.TheVariants as items
 use Rattle.cert_tree.specs.Tree.{Tree, Forest, branch, dead, found, same, image, none, more, count}
@@ -38,7 +39,8 @@ abbrev mutual
   -- The tree has at most so many levels, and its numbers are within the limits of its text.
   pub IsTreeWithin : ℕ → Tree → Type 0
   IsTreeWithin zero tree = ⊥
-  IsTreeWithin (suc room) (branch item children) = IsItemWithin item × (1 ≤ count children) × (count children ≤ MOST_CHILDREN) × AreTreesWithin room children
+  IsTreeWithin (suc room) (branch item children) =
+      IsItemWithin item × (1 ≤ count children) × (count children ≤ MOST_CHILDREN) × AreTreesWithin room children
   IsTreeWithin (suc room) (dead item) = IsItemWithin item
   IsTreeWithin (suc room) (found number) = number ≤ LAST_ARRANGEMENT
   IsTreeWithin (suc room) (same lemma) = lemma ≤ LAST_LEMMA

@@ -1,6 +1,7 @@
 -- How a tree is read.
 use Rattle.std.specs.Prelude.{ℕ, zero, suc, List, [], ◌∷◌, Result, Ok, Err, codes, if◌then◌else◌}
-use Rattle.match_board.specs.declared.limits.TheConstants.{LAST_CELL, LAST_TILE, LAST_ARRANGEMENT, LAST_SYMMETRY, LAST_LEMMA, MOST_CHILDREN}
+use Rattle.match_board.specs.declared.limits.TheConstants.{LAST_CELL, LAST_TILE, LAST_ARRANGEMENT, LAST_SYMMETRY}
+use Rattle.match_board.specs.declared.limits.TheConstants.{LAST_LEMMA, MOST_CHILDREN}
 use Rattle.std.specs.Str.{bytes_eq}
 use Rattle.match_puzzle.specs.declared.items.Item.TheVariants as items
 use Rattle.match_text.specs.declared.faults.TextFault.{TextFault}
@@ -9,7 +10,8 @@ use Rattle.match_text.specs.declared.faults.TextKind.TheVariants.{Word, TooDeep}
 use Rattle.match_text.specs.Words.{number_in}
 use Rattle.match_text.specs.Place.{Place, Read, ◌>>=◌, give, fail, word_by, times}
 use Rattle.cert_tree.specs.declared.tree_readers.NodeKind.{NodeKind}
-use Rattle.cert_tree.specs.declared.tree_readers.NodeKind.TheVariants.{Cell, Tile, DeadCell, DeadTile, Found, Same, Image}
+use Rattle.cert_tree.specs.declared.tree_readers.NodeKind.TheVariants.{Cell, Tile, DeadCell, DeadTile, Found, Same}
+use Rattle.cert_tree.specs.declared.tree_readers.NodeKind.TheVariants.{Image}
 use Rattle.cert_tree.specs.Tree.{Tree, Forest, branch, dead, found, same, image, none, more}
 
 -- the kinds of node by their letters

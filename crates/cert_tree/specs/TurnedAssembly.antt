@@ -34,11 +34,13 @@ turned_piece count first piece = record {
 
 -- The pieces are assembled, and then each of them is turned.
 abbrev pub IsTurnedAssembly : (count : ℕ) (first : List ℕ) (pieces xs : List Piece) → Type 0
-IsTurnedAssembly count first pieces xs = (ys : List Piece) × IsAssembly piece_number count pieces ys × (xs ≡ reverse (map (turned_piece count first) ys))
+IsTurnedAssembly count first pieces xs =
+    (ys : List Piece) × IsAssembly piece_number count pieces ys × (xs ≡ reverse (map (turned_piece count first) ys))
 
 -- The turned pieces by number, or the first fault, which names a number before it is turned. Of want of memory nothing
 -- is said.
-abbrev pub AssemblesTurned : (count : ℕ) (first : List ℕ) (pieces : List Piece) → Result (List Piece) AssembleFault → Type 0
+abbrev pub AssemblesTurned : (count : ℕ) (first : List ℕ) (pieces : List Piece) → Result (List Piece) AssembleFault
+    → Type 0
 AssemblesTurned count first pieces (Ok xs) = IsTurnedAssembly count first pieces xs
 AssemblesTurned count first pieces (Err Memory) = Unit {0}
 AssemblesTurned count first pieces (Err fault) = IsFirst assembly_rank (AssemblyFails piece_number count pieces) fault

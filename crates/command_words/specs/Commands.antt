@@ -22,23 +22,29 @@ wanted_number id least most = record (wanted id) { parser = Some (parsers.Unsign
 -- a number from `least` to `most` behind an option of this name, which is `default` where the option isn't given
 abbrev pub optional_number : Text → ℕ → ℕ → Text → Rule
 optional_number id least most default =
-    record (new_rule id) { long = Some id; parser = Some (parsers.Unsigned least most); value_names = 1; defaults = default ∷ [] }
+    record (new_rule id)
+    { long = Some id; parser = Some (parsers.Unsigned least most); value_names = 1; defaults = default ∷ [] }
 
 -- three files by their names
 abbrev pub with_files : App → App
-with_files app = with_rule (with_rule (with_rule app (wanted (codes "PUZZLE"))) (wanted (codes "LIST"))) (wanted (codes "CERTIFICATE"))
+with_files app =
+    with_rule (with_rule (with_rule app (wanted (codes "PUZZLE"))) (wanted (codes "LIST")))
+    (wanted (codes "CERTIFICATE"))
 
 abbrev pub check_app : App
 check_app = with_files (new_app (codes "check"))
 
 abbrev pub solve_app : App
-solve_app = with_rule (with_files (new_app (codes "solve"))) (optional_number (codes "fuel") 1 MOST_FUEL (codes "1000000"))
+solve_app =
+    with_rule (with_files (new_app (codes "solve"))) (optional_number (codes "fuel") 1 MOST_FUEL (codes "1000000"))
 
 abbrev pub expand_app : App
 expand_app = with_files (new_app (codes "expand"))
 
 abbrev pub tiles_app : App
-tiles_app = with_rule (with_rule (new_app (codes "tiles")) (wanted_number (codes "SIDES") 3 4)) (wanted_number (codes "COLOURS") 1 MOST_COLOURS)
+tiles_app =
+    with_rule (with_rule (new_app (codes "tiles")) (wanted_number (codes "SIDES") 3 4))
+    (wanted_number (codes "COLOURS") 1 MOST_COLOURS)
 
 -- the commands, in the order of the help
 abbrev pub commands : List App

@@ -31,7 +31,8 @@ pub record NameFiles (rows : List Row) (files : Files) : Type 0 where
   pub list : first_of (codes "LIST") rows ≡ Some (string_bytes files.list)
   pub certificate : first_of (codes "CERTIFICATE") rows ≡ Some (string_bytes files.certificate)
 
--- the number that the matches of a command have under an id, a sign `+` before it or none; an option that isn't given has its default
+-- the number that the matches of a command have under an id, a sign `+` before it or none; an option that isn't given
+-- has its default
 abbrev pub number_of : Text → List Row → Option ℕ
 number_of id rows = option_map (λ text. digits_value 10 (without_leading_plus text)) (first_of id rows)
 
@@ -39,10 +40,12 @@ number_of id rows = option_map (λ text. digits_value 10 (without_leading_plus t
 abbrev pub IsOrderOf : Option (Text × List Row) → Order → Type 0
 IsOrderOf None Joined = Unit {0}
 IsOrderOf (Some (name, rows)) (Check files) = (name ≡ codes "check") × NameFiles rows files
-IsOrderOf (Some (name, rows)) (Solve files fuel) = (name ≡ codes "solve") × NameFiles rows files × (number_of (codes "fuel") rows ≡ Some fuel)
+IsOrderOf (Some (name, rows)) (Solve files fuel) =
+    (name ≡ codes "solve") × NameFiles rows files × (number_of (codes "fuel") rows ≡ Some fuel)
 IsOrderOf (Some (name, rows)) (Expand files) = (name ≡ codes "expand") × NameFiles rows files
 IsOrderOf (Some (name, rows)) (Tiles sides colours) =
-    (name ≡ codes "tiles") × (number_of (codes "SIDES") rows ≡ Some sides) × (number_of (codes "COLOURS") rows ≡ Some colours)
+    (name ≡ codes "tiles") × (number_of (codes "SIDES") rows ≡ Some sides)
+    × (number_of (codes "COLOURS") rows ≡ Some colours)
 IsOrderOf matches order = ⊥
 
 -- The words give the order, by what the program's commands make of them.

@@ -15,7 +15,8 @@ abbrev pub cut_pieces : List (List ℕ) → List ℕ × List (List ℕ)
 cut_pieces [] = ([], [] ∷ [])
 cut_pieces (tail ∷ []) = (tail, [] ∷ [])
 cut_pieces (line ∷ piece ∷ pieces) =
-    if bytes_eq line (codes "end") then (line ++ 10 ∷ [], piece ∷ pieces) else behind (line ++ 10 ∷ []) (cut_pieces (piece ∷ pieces))
+    if bytes_eq line (codes "end") then (line ++ 10 ∷ [], piece ∷ pieces)
+    else behind (line ++ 10 ∷ []) (cut_pieces (piece ∷ pieces))
 
 abbrev pub joined : List ℕ × List (List ℕ) → List ℕ × List ℕ
 joined cut = (cut.0, join_with_byte 10 cut.1)

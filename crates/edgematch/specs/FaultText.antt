@@ -26,7 +26,8 @@ use Rattle.xcc_form.specs.declared.faults.CompileFault.TheVariants as compilatio
 use Rattle.edgematch.specs.declared.faults.SolveFault.{SolveFault}
 use Rattle.edgematch.specs.declared.faults.SolveFault.TheVariants as solves
 use Rattle.edgematch.specs.declared.faults.RunFault.{RunFault}
-use Rattle.edgematch.specs.declared.faults.RunFault.TheVariants.{Read, TooLong, Puzzle, List as Listing, Certificate, Solve, Expand, Tiles, Write, Memory}
+use Rattle.edgematch.specs.declared.faults.RunFault.TheVariants.{Read, TooLong, Puzzle, List as Listing, Certificate}
+use Rattle.edgematch.specs.declared.faults.RunFault.TheVariants.{Solve, Expand, Tiles, Write, Memory}
 use Rattle.match_text.specs.Spelling.{line_text}
 use Rattle.match_report.specs.Line.{label}
 
@@ -91,7 +92,8 @@ memory_words = codes "out" ∷ codes "of" ∷ codes "memory" ∷ []
 
 -- where a text is wrong, and how
 unfoldable pub text_fault_words : Document → TextFault → List (List ℕ)
-text_fault_words document fault = label (document_word document) ∷ codes "line" ∷ label (decimal fault.line) ∷ kind_word fault.kind ∷ []
+text_fault_words document fault =
+    label (document_word document) ∷ codes "line" ∷ label (decimal fault.line) ∷ kind_word fault.kind ∷ []
 
 unfoldable pub puzzle_fault_words : PuzzleFault → List (List ℕ)
 puzzle_fault_words puzzles.FixedTriangles = codes "puzzle:" ∷ codes "fixed-triangles" ∷ []

@@ -70,7 +70,8 @@ WritesWhole sink Is = (text : List ℕ) × Is text × Appends sink.before sink.a
 
 -- a front of the text was written, until the sink answered an error or took nothing
 abbrev pub FrontOf : Writing → (text : List ℕ) → Type 0
-FrontOf sink text = AppendsFront sink.before sink.after text × ((sink.errors_after ≡ one_more sink.errors_before) ⊎ (sink.idle ≡ true))
+FrontOf sink text =
+    AppendsFront sink.before sink.after text × ((sink.errors_after ≡ one_more sink.errors_before) ⊎ (sink.idle ≡ true))
 
 -- a front of a text that is so
 abbrev pub WritesFront : Writing → (List ℕ → Type 0) → Type 0

@@ -6,7 +6,8 @@ use Rattle.command_words.specs.declared.orders.Order.TheVariants.{Joined, Check,
 use Rattle.edgematch.specs.Documents.{Texts}
 use Rattle.edgematch.specs.Files.{FilesHold, HoldsText}
 use Rattle.edgematch.specs.Moves.{Reading, Writing, WritesWhole}
-use Rattle.edgematch.specs.Runs.{CheckGives, ExpansionGives, InputReadToEnd, IsOfChecking, IsOfExpanding, IsOfTiles, SpellCompleteList, TilesGive}
+use Rattle.edgematch.specs.Runs.{CheckGives, ExpansionGives, InputReadToEnd, IsOfChecking, IsOfExpanding, IsOfTiles}
+use Rattle.edgematch.specs.Runs.{SpellCompleteList, TilesGive}
 use Rattle.edgematch.specs.Solving.{IsOfSolving, Products, SolveGives}
 use Rattle.edgematch.specs.declared.runs.Status.{Status}
 use Rattle.edgematch.specs.declared.runs.Status.TheVariants as status

@@ -46,7 +46,8 @@ number_line name number = text_of (count_words name number ∷ [])
 -- how much was found, by how many lemmas; who took them; and the first arrangement
 abbrev pub report_text : Task → (listed : List (List Placement)) → (lemmas : ℕ) → (tally : List (List ℕ)) → List ℕ
 report_text p listed lemmas tally =
-    number_line (codes "found") (length listed) ++ number_line (codes "lemmas") lemmas ++ tally_text tally ++ first_board p listed
+    number_line (codes "found") (length listed) ++ number_line (codes "lemmas") lemmas ++ tally_text tally
+    ++ first_board p listed
 
 -- one worker took the one lemma
 abbrev pub one_share : List (List ℕ)
@@ -87,7 +88,8 @@ abbrev pub StopsWriting : (list certificate report : Writing) → Products → T
 StopsWriting list certificate report made =
     (FrontOf list made.list × IsUnwritten certificate × IsUnwritten report)
     ⊎ ((Appends list.before list.after made.list × FrontOf certificate made.certificate × IsUnwritten report)
-    ⊎ (Appends list.before list.after made.list × Appends certificate.before certificate.after made.certificate × FrontOf report made.report))
+    ⊎ (Appends list.before list.after made.list × Appends certificate.before certificate.after made.certificate
+    × FrontOf report made.report))
 
 -- ---- runs
 

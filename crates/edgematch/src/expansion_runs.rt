@@ -135,12 +135,14 @@ fn make_text(alloc: Global, documents: &Documents<'_>) -> Result<Printed, RunFau
 // The list of all arrangements of the puzzle, from a complete one.
 fn all_text(alloc: Global, question: &Question) -> Result<Vec<u8>, RunFault>
     requires puzzle { IsPuzzle question.now.puzzle }
-    requires complete { IsCompleteList question.now.puzzle question.now.certificate.symmetries question.now.listed.items }
+    requires complete { IsCompleteList question.now.puzzle question.now.certificate.symmetries
+        question.now.listed.items }
     ensures all { IfOk result (λ text. (all : List (List Placement))
         × AreAllInOrder (question_of question.now.puzzle question.now.listed.items question.now.certificate) all
         × (text.items ≡ list_spelling all)) }
     ensures expand { IsErrOf result RunFault.Expand
-        → AreMoreReached MOST_ARRANGEMENTS question.now.puzzle question.now.certificate.symmetries question.now.listed.items }
+        → AreMoreReached MOST_ARRANGEMENTS question.now.puzzle question.now.certificate.symmetries
+        question.now.listed.items }
     ensures kind { IfErr result (λ fault. (fault ≡ RunFault.Expand) ⊎ (fault ≡ RunFault.Memory)) }
 {
     let lines = question.certificate.symmetries();

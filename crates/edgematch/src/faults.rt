@@ -8,7 +8,8 @@ ghost use Rattle.edgematch.specs.FaultText.{text_fault_words, puzzle_fault_words
 ghost use Rattle.edgematch.specs.FaultText.{list_text_fault_words, assemble_fault_words, cert_text_fault_words};
 ghost use Rattle.edgematch.specs.declared.faults.RunFault.TheVariants as run_fault;
 ghost use Rattle.edgematch.specs.FaultText.{run_of_puzzle, run_of_list, run_of_certificate};
-ghost use Rattle.edgematch.specs.FaultText.{run_of_expand, run_of_solve, run_of_tiles, solve_of_compile, solve_fault_words};
+ghost use Rattle.edgematch.specs.FaultText.{run_of_expand, run_of_solve, run_of_tiles, solve_of_compile};
+ghost use Rattle.edgematch.specs.FaultText.{solve_fault_words};
 ghost use Rattle.edgematch.specs.declared.faults.SolveFault.TheVariants as solve_fault;
 
 use cert_tree::{AssembleFault, CertTextFault};

@@ -90,7 +90,8 @@ pub fn make<S: FileSystem>(system: &S, name: &str) -> Result<S::Writer, RunFault
 
 /// Whether the three files have different names.
 pub fn have_different_names(puzzle: &str, list: &str, certificate: &str) -> bool
-    ensures { IsTrue result ↔ ((puzzle.now ≢ list.now) × (puzzle.now ≢ certificate.now) × (list.now ≢ certificate.now)) }
+    ensures { IsTrue result
+        ↔ ((puzzle.now ≢ list.now) × (puzzle.now ≢ certificate.now) × (list.now ≢ certificate.now)) }
 {
     puzzle != list && puzzle != certificate && list != certificate
 }

@@ -123,7 +123,8 @@ fn check<S: FileSystem, W: Sink>(
     Ok(status_code(status))
 }
 
-// Opens the puzzle's file and makes the others before anything is read. A file that has the name of another is not made.
+// Opens the puzzle's file and makes the others before anything is read. A file that has the name of another is not
+// made.
 fn solve<S: FileSystem, W: Sink>(
     alloc: Global,
     files: &Files,

@@ -7,7 +7,8 @@ ghost use Rattle.match_report.specs.TallyText.{tally_text};
 ghost use Rattle.edgematch.specs.Moves.{reading_of, writing_of};
 ghost use Rattle.edgematch.specs.Solving.{IsSolved, Products, SolveGives, StopsWriting, WritesAll};
 ghost use Rattle.edgematch.specs.Solving.{first_board, one_share, products_of, report_text};
-ghost use Rattle.edgematch.specs.Solving.{IsOfMaking, IsOfPuzzle, IsOfSolving, PuzzleReadToEnd, SolveFails, StopsReadingPuzzle};
+ghost use Rattle.edgematch.specs.Solving.{IsOfMaking, IsOfPuzzle, IsOfSolving, PuzzleReadToEnd, SolveFails};
+ghost use Rattle.edgematch.specs.Solving.{StopsReadingPuzzle};
 
 use crate::faults::{Document, RunFault};
 use crate::runs::{read_document, write_text};
@@ -92,7 +93,8 @@ fn make_texts(alloc: Global, text: &[u8], fuel: u32) -> Result<Made, RunFault>
 // How many were found, by how many lemmas, who took them, and the first arrangement.
 fn report_on(alloc: Global, puzzle: &Puzzle, solved: &Solved) -> Result<Vec<u8>, AllocError>
     requires { IsSolved puzzle.now solved.now.listed.items solved.now.certificate }
-    ensures { IfOk result (λ text. text.items ≡ report_text puzzle.now solved.now.listed.items (length solved.now.certificate.lemmas) one_share) }
+    ensures { IfOk result (λ text. text.items
+        ≡ report_text puzzle.now solved.now.listed.items (length solved.now.certificate.lemmas) one_share) }
 {
     let mut text = Vec::new(alloc);
     put_number_line(&mut text, b"found", solved.listed.len() as u32)?;
@@ -137,9 +139,11 @@ fn write_texts<L: Sink, C: Sink, W: Sink>(
     writer: &mut W,
 ) -> Result<(), RunFault>
     ensures ok { OnOk result (WritesAll (writing_of L.Sink list.old list.new)
-        (writing_of C.Sink certificate.old certificate.new) (writing_of W.Sink writer.old writer.new) (products_of made.now)) }
+        (writing_of C.Sink certificate.old certificate.new) (writing_of W.Sink writer.old writer.new)
+        (products_of made.now)) }
     ensures write { OnErr result (StopsWriting (writing_of L.Sink list.old list.new)
-        (writing_of C.Sink certificate.old certificate.new) (writing_of W.Sink writer.old writer.new) (products_of made.now)) }
+        (writing_of C.Sink certificate.old certificate.new) (writing_of W.Sink writer.old writer.new)
+        (products_of made.now)) }
     ensures fault { IfErr result (λ fault. fault ≡ RunFault.Write) }
 {
     write_text(list, &made.list)?;

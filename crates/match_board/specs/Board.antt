@@ -81,8 +81,10 @@ LiesBefore (Rectangle width height) row place side row' place' side' =
     ((side ≡ 1) × (side' ≡ 3) × (row' ≡ row) × (place' ≡ place + 1))
     -- south against north
     ⊎ ((side ≡ 2) × (side' ≡ 0) × (row' ≡ row + 1) × (place' ≡ place))
-LiesBefore (Triangle size) row place side row' place' side' = TrianglesLieBefore (Triangle size) row place side row' place' side'
-LiesBefore (Hexagon size) row place side row' place' side' = TrianglesLieBefore (Hexagon size) row place side row' place' side'
+LiesBefore (Triangle size) row place side row' place' side' =
+    TrianglesLieBefore (Triangle size) row place side row' place' side'
+LiesBefore (Hexagon size) row place side row' place' side' =
+    TrianglesLieBefore (Hexagon size) row place side row' place' side'
 
 -- The same, in either order.
 abbrev pub LiesAgainst : Figure → (row place side row' place' side' : ℕ) → Type 0
@@ -111,7 +113,8 @@ IsBorderOrder s pairs = IsListing ComesBefore (λ pair. IsBorderPair s pair.0 pa
 
 -- the border pairs before this one
 abbrev pub IsBorderBefore : Figure → ℕ × ℕ → List (ℕ × ℕ) → Type 0
-IsBorderBefore s n pairs = IsListing ComesBefore (HoldsBefore (λ pair. pair) (λ pair. IsBorderPair s pair.0 pair.1) n) pairs
+IsBorderBefore s n pairs =
+    IsListing ComesBefore (HoldsBefore (λ pair. pair) (λ pair. IsBorderPair s pair.0 pair.1) n) pairs
 
 -- at least one cell, and not too many
 abbrev pub IsBoard : Figure → Type 0

@@ -1,5 +1,6 @@
 -- How a word of colours turns.
-use Rattle.std.specs.Prelude.{◌≡◌, ◌⊎◌, ◌<◌, ◌≤◌, ◌+◌, ◌*◌, ◌%◌, ◌^◌, ℕ, List, [], ◌∷◌, All, Contains, length, slice_index, slice_index_or}
+use Rattle.std.specs.Prelude.{◌≡◌, ◌⊎◌, ◌<◌, ◌≤◌, ◌+◌, ◌*◌, ◌%◌, ◌^◌, ℕ, List, [], ◌∷◌, All, Contains, length}
+use Rattle.std.specs.Prelude.{slice_index, slice_index_or}
 use Rattle.match_board.specs.Listing.{IsListing}
 
 -- the colour on a side of a tile with this word, after so many turns
@@ -26,7 +27,8 @@ pub record IsTurnOf (word other : List ℕ) : Type 0 where
 abbrev pub WordComesBefore : (word other : List ℕ) → Type 0
 WordComesBefore [] other = ⊥
 WordComesBefore (colour ∷ word) [] = ⊥
-WordComesBefore (colour ∷ word) (other_colour ∷ other) = (colour < other_colour) ⊎ ((colour ≡ other_colour) × WordComesBefore word other)
+WordComesBefore (colour ∷ word) (other_colour ∷ other) =
+    (colour < other_colour) ⊎ ((colour ≡ other_colour) × WordComesBefore word other)
 
 -- so many sides, each of so many colours, and no turn of the word comes before it
 pub record IsLeastWord (sides colours : ℕ) (word : List ℕ) : Type 0 where
@@ -42,7 +44,8 @@ AreLeastWords sides colours words = IsListing WordComesBefore (IsLeastWord sides
 pub record HasMoreLeastWords (sides colours most : ℕ) : Type 0 where
   pub words : List (List ℕ)
   pub least : (word : List ℕ) → Contains words word → IsLeastWord sides colours word
-  pub rising : (i j : ℕ) (d : List ℕ) → i < j → j < length words → WordComesBefore (slice_index_or words i d) (slice_index_or words j d)
+  pub rising : (i j : ℕ) (d : List ℕ) → i < j → j < length words
+      → WordComesBefore (slice_index_or words i d) (slice_index_or words j d)
   pub more : most < length words
 
 -- After so many turns the word has a lesser colour where it first differs.

@@ -26,18 +26,21 @@ AreAllPlaced p a = (tile : ℕ) → tile < length p.words → (cell : ℕ) × (x
 
 -- Each border pair with a rule shows that colour.
 abbrev pub ObeyBorder : Task → List Placement → Type 0
-ObeyBorder p a = (cell side colour : ℕ) (x : Placement) → Stands a cell x → HasRule p cell side colour → colour_of p x side ≡ colour
+ObeyBorder p a =
+    (cell side colour : ℕ) (x : Placement) → Stands a cell x → HasRule p cell side colour → colour_of p x side ≡ colour
 
 -- The side shows the colour of the side that it meets, if it meets one.
 abbrev pub MatchesEdgeAt : Task → List Placement → (cell side : ℕ) → Type 0
 MatchesEdgeAt p a cell side =
-    (cell' side' : ℕ) (x y : Placement) → Meets p.board cell side cell' side' → Stands a cell x → Stands a cell' y → colour_of p x side ≡ colour_of p y side'
+    (cell' side' : ℕ) (x y : Placement) → Meets p.board cell side cell' side' → Stands a cell x → Stands a cell' y
+    → colour_of p x side ≡ colour_of p y side'
 
 -- Sides that meet show the same colour.
 abbrev pub MatchEdges : Task → List Placement → Type 0
 MatchEdges p a = (cell side : ℕ) → MatchesEdgeAt p a cell side
 
--- A legal placement for each cell, each tile at just one cell, the border as asked, and sides that meet alike (MacMahon 1921).
+-- A legal placement for each cell, each tile at just one cell, the border as asked, and sides that meet alike (MacMahon
+-- 1921).
 pub record IsArrangement (p : Task) (a : List Placement) : Type 0 where
   pub cells : length a ≡ cell_count p.board
   pub legal : AreLegal p a

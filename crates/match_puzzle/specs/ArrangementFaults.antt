@@ -6,7 +6,8 @@ use Rattle.match_puzzle.specs.Puzzle.{Task, colour_of, IsLegalTurn, HasRule}
 use Rattle.match_puzzle.specs.Arrangement.{Stands}
 use Rattle.match_puzzle.specs.declared.placements.Placement.{Placement}
 use Rattle.match_puzzle.specs.declared.faults.ArrangementFault.{ArrangementFault}
-use Rattle.match_puzzle.specs.declared.faults.ArrangementFault.TheVariants.{Length, TileRange, Turn, TileTwice, BorderBroken, EdgeBroken}
+use Rattle.match_puzzle.specs.declared.faults.ArrangementFault.TheVariants.{Length, TileRange, Turn, TileTwice}
+use Rattle.match_puzzle.specs.declared.faults.ArrangementFault.TheVariants.{BorderBroken, EdgeBroken}
 
 module _ (p : Task) (a : List Placement) where
   -- The placement at the cell names no tile of the puzzle.
@@ -19,16 +20,20 @@ module _ (p : Task) (a : List Placement) where
 
   -- The tile at the cell stands at an earlier cell too.
   abbrev pub RepeatsTileAt : ℕ → Type 0
-  RepeatsTileAt cell = (x : Placement) × (cell' : ℕ) × (y : Placement) × Stands a cell x × (cell' < cell) × Stands a cell' y × (x.tile ≡ y.tile)
+  RepeatsTileAt cell =
+      (x : Placement) × (cell' : ℕ) × (y : Placement) × Stands a cell x × (cell' < cell) × Stands a cell' y
+      × (x.tile ≡ y.tile)
 
   -- The side does not show what the border asks.
   abbrev pub BreaksBorderAt : (cell side : ℕ) → Type 0
-  BreaksBorderAt cell side = (x : Placement) × (colour : ℕ) × Stands a cell x × HasRule p cell side colour × (colour_of p x side ≢ colour)
+  BreaksBorderAt cell side =
+      (x : Placement) × (colour : ℕ) × Stands a cell x × HasRule p cell side colour × (colour_of p x side ≢ colour)
 
   -- The side and the one that it meets show different colours.
   abbrev pub BreaksEdgeAt : (cell side : ℕ) → Type 0
   BreaksEdgeAt cell side =
-      (x : Placement) × (cell' : ℕ) × (side' : ℕ) × (y : Placement) × Stands a cell x × Meets p.board cell side cell' side' × Stands a cell' y
+      (x : Placement) × (cell' : ℕ) × (side' : ℕ) × (y : Placement) × Stands a cell x
+      × Meets p.board cell side cell' side' × Stands a cell' y
       × (colour_of p x side ≢ colour_of p y side')
 
   -- When a fault occurs.

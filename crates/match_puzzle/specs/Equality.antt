@@ -14,7 +14,8 @@ abbrev pub hash_input : Placement → HashWrites
 hash_input x = fed.u32 (x.tile * 256 + x.turn)
 
 pub is_same-equiv : IsEquivalence is_same
-is_same-equiv = and_equiv (on_equiv (λ (x : Placement). x.tile) nat_eq_equiv) (on_equiv (λ (x : Placement). x.turn) nat_eq_equiv)
+is_same-equiv =
+    and_equiv (on_equiv (λ (x : Placement). x.tile) nat_eq_equiv) (on_equiv (λ (x : Placement). x.turn) nat_eq_equiv)
 
 pub is_same-alike : Alike is_same hash_input
 is_same-alike = record {

@@ -9,13 +9,15 @@ use Rattle.match_puzzle.specs.declared.placements.Pair.{Pair}
 use Rattle.match_puzzle.specs.declared.items.Item.{Item}
 use Rattle.match_puzzle.specs.declared.items.Item.TheVariants.{Cell, Tile}
 
--- The placement may be put at the cell: cell and tile are free, it is legal, and it shows what the border asks and what its neighbours show.
+-- The placement may be put at the cell: cell and tile are free, it is legal, and it shows what the border asks and what
+-- its neighbours show.
 pub record Fits (p : Task) (q : Prefix) (cell : ℕ) (x : Placement) : Type 0 where
   pub free : IsFree q cell
   pub unused : IsUnused q x.tile
   pub legal : IsLegal p x
   pub border : (side colour : ℕ) → HasRule p cell side colour → colour_of p x side ≡ colour
-  pub edges : (side cell' side' : ℕ) (y : Placement) → Meets p.board cell side cell' side' → Has q cell' y → colour_of p x side ≡ colour_of p y side'
+  pub edges : (side cell' side' : ℕ) (y : Placement) → Meets p.board cell side cell' side' → Has q cell' y
+      → colour_of p x side ≡ colour_of p y side'
 
 -- by tile, then by turn
 abbrev pub tile_turn : Placement → ℕ × ℕ
@@ -52,7 +54,8 @@ IsOpen p q (Tile tile) = (tile < length p.words) × IsUnused q tile
 abbrev pub IsAsked : Task → Prefix → (cell side colour : ℕ) → Type 0
 IsAsked p q cell side colour =
     HasRule p cell side colour
-    ⊎ ((cell' : ℕ) × (side' : ℕ) × (y : Placement) × Meets p.board cell side cell' side' × Has q cell' y × (colour_of p y side' ≡ colour))
+    ⊎ ((cell' : ℕ) × (side' : ℕ) × (y : Placement) × Meets p.board cell side cell' side' × Has q cell' y
+    × (colour_of p y side' ≡ colour))
 
 -- The item is one of the puzzle.
 abbrev pub IsItem : Task → Item → Type 0
@@ -65,9 +68,13 @@ turned_tile tile turn = record { tile = tile; turn = turn }
 
 -- The numbers are those of the tiles' placements that show what is asked on the side of the cell.
 abbrev pub AreAsAsked : Task → Prefix → (cell side : ℕ) → List ℕ → Type 0
-AreAsAsked p q cell side numbers = IsListing ◌<◌ (λ n. (n / 4 < length p.words) × ((colour : ℕ) → IsAsked p q cell side colour → colour_of p (turned_tile (n / 4) (n % 4)) side ≡ colour)) numbers
+AreAsAsked p q cell side numbers =
+    IsListing ◌<◌
+    (λ n. (n / 4 < length p.words)
+    × ((colour : ℕ) → IsAsked p q cell side colour → colour_of p (turned_tile (n / 4) (n % 4)) side ≡ colour)) numbers
 
--- the pair with this number among those that settle the item: at a cell four turns to a tile, of a tile four turns to a cell
+-- the pair with this number among those that settle the item: at a cell four turns to a tile, of a tile four turns to a
+-- cell
 abbrev pub numbered_pair : Item → ℕ → Pair
 numbered_pair (Cell cell) n = record { cell = cell; placement = turned_tile (n / 4) (n % 4) }
 numbered_pair (Tile tile) n = record { cell = n / 4; placement = turned_tile tile (n % 4) }

@@ -1,5 +1,6 @@
 -- Sets of numbers, as the binary digits of words.
-use Rattle.std.specs.Prelude.{◌≡◌, ◌<◌, ◌≤◌, ◌+◌, ◌*◌, ◌/◌, ◌%◌, ◌^◌, ℕ, zero, suc, List, [], ◌∷◌, ◌==◌, if◌then◌else◌, Contains, length, slice_index}
+use Rattle.std.specs.Prelude.{◌≡◌, ◌<◌, ◌≤◌, ◌+◌, ◌*◌, ◌/◌, ◌%◌, ◌^◌, ℕ, zero, suc, List, [], ◌∷◌, ◌==◌, if◌then◌else◌}
+use Rattle.std.specs.Prelude.{Contains, length, slice_index}
 use Rattle.std.specs.Int.{bit_at}
 use Rattle.match_puzzle.specs.declared.number_sets.TheConstants.{WORDS, WORD_BITS, NUMBERS}
 
@@ -12,7 +13,8 @@ joined (word ∷ words) = joined words * 2 ^ WORD_BITS + word
 unfoldable pub places_of_ones : (digits first number : ℕ) → List ℕ
 places_of_ones zero first number = []
 places_of_ones (suc digits) first number =
-    if number % 2 == 1 then first ∷ places_of_ones digits (first + 1) (number / 2) else places_of_ones digits (first + 1) (number / 2)
+    if number % 2 == 1 then first ∷ places_of_ones digits (first + 1) (number / 2)
+    else places_of_ones digits (first + 1) (number / 2)
 
 -- the numbers of a set: where a one stands
 unfoldable pub members : List ℕ → List ℕ
@@ -25,6 +27,9 @@ pub record AreWordsOfSet (words : List ℕ) (end : ℕ) : Type 0 where
   pub most : end ≤ WORDS
   pub past : (i : ℕ) → end ≤ i → slice_index words i ≡ 0
 
--- Numbers come in groups of four, group k from 4 * k on. The digits of a number below 16 say which of a group are in a set.
+-- Numbers come in groups of four, group k from 4 * k on. The digits of a number below 16 say which of a group are in a
+-- set.
 abbrev pub IsGroup : List ℕ → (group digits : ℕ) → Type 0
-IsGroup numbers group digits = (n : ℕ) → n < 4 → (bit_at digits n ≡ 1 → Contains numbers (4 * group + n)) × (Contains numbers (4 * group + n) → bit_at digits n ≡ 1)
+IsGroup numbers group digits =
+    (n : ℕ) → n < 4 → (bit_at digits n ≡ 1 → Contains numbers (4 * group + n))
+    × (Contains numbers (4 * group + n) → bit_at digits n ≡ 1)

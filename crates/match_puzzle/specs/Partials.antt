@@ -10,7 +10,9 @@ use Rattle.match_puzzle.specs.declared.placements.Placement.{Placement}
 -- The table has, four places to a cell, what stands there shows on its sides, and one colour more where nothing stands.
 pub record AreShown (p : Task) (q : Prefix) (shown : List ℕ) : Type 0 where
   pub long : length shown ≡ 4 * cell_count p.board
-  pub placed : (cell side : ℕ) (x : Placement) → Has q cell x → side < side_count p.board → (slice_index shown (4 * cell + side) ≡ colour_of p x side) × (slice_index shown (4 * cell + side) < MOST_COLOURS)
+  pub placed : (cell side : ℕ) (x : Placement) → Has q cell x → side < side_count p.board
+      → (slice_index shown (4 * cell + side) ≡ colour_of p x side)
+      × (slice_index shown (4 * cell + side) < MOST_COLOURS)
   pub empty : (cell side : ℕ) → IsFree q cell → side < 4 → slice_index shown (4 * cell + side) ≡ MOST_COLOURS
 
 -- what holds of each partial arrangement

@@ -15,9 +15,13 @@ numbered n = record { tile = n / 4; turn = n % 4 }
 abbrev pub Shows : List ℕ → (colour side turn : ℕ) → Type 0
 Shows word colour side turn = (side < length word) × (shown word turn side ≡ colour)
 
--- The numbers are those of the words' placements that show on the side what is asked: a colour, or with one more nothing in particular.
+-- The numbers are those of the words' placements that show on the side what is asked: a colour, or with one more
+-- nothing in particular.
 abbrev pub AreShowing : List (List ℕ) → (asked side : ℕ) → List ℕ → Type 0
-AreShowing words asked side numbers = IsListing ◌<◌ (λ n. (n / 4 < length words) × (asked < MOST_COLOURS → Shows (slice_index_or words (n / 4) []) asked side (n % 4))) numbers
+AreShowing words asked side numbers =
+    IsListing ◌<◌
+    (λ n. (n / 4 < length words) × (asked < MOST_COLOURS → Shows (slice_index_or words (n / 4) []) asked side (n % 4)))
+    numbers
 
 -- The table has these sets, four sides for each colour and for one more.
 pub record AreShowingSets (words : List (List ℕ)) (table : List (List ℕ)) : Type 0 where

@@ -1,5 +1,6 @@
 -- Prefixes: a placement, or none, for each cell.
-use Rattle.std.specs.Prelude.{◌≡◌, ◌≢◌, ℕ, List, [], ◌∷◌, Option, Some, None, Contains, length, replicate, slice_get, slice_set}
+use Rattle.std.specs.Prelude.{◌≡◌, ◌≢◌, ℕ, List, [], ◌∷◌, Option, Some, None, Contains, length, replicate, slice_get}
+use Rattle.std.specs.Prelude.{slice_set}
 use Rattle.match_board.specs.Board.{cell_count}
 use Rattle.match_puzzle.specs.Puzzle.{Task, IsLegal}
 use Rattle.match_puzzle.specs.Arrangement.{Stands}

@@ -1,5 +1,6 @@
 -- What a puzzle asks.
-use Rattle.std.specs.Prelude.{◌≡◌, ◌<◌, ◌^◌, ℕ, Bool, true, List, [], Option, Some, MatchBool, All, map, length, slice_get, slice_index_or}
+use Rattle.std.specs.Prelude.{◌≡◌, ◌<◌, ◌^◌, ℕ, Bool, true, List, [], Option, Some, MatchBool, All, map, length}
+use Rattle.std.specs.Prelude.{slice_get, slice_index_or}
 use Rattle.match_board.specs.declared.limits.TheConstants.{MOST_COLOURS}
 use Rattle.match_board.specs.Board.{cell_count, side_count, IsBoard, IsBorderPair, IsBorderOrder}
 use Rattle.match_board.specs.declared.figures.Figure.{Figure}
@@ -77,7 +78,8 @@ IsAsLongAsBorder s free = Unit {0}
 IsAsLongAsBorder s (one c) = Unit {0}
 IsAsLongAsBorder s (each rules) = (pairs : List (ℕ × ℕ)) × IsBorderOrder s pairs × (length rules ≡ length pairs)
 
--- as many tiles as cells, with as many sides; triangles may be turned; colours that there are; a rule for each border pair
+-- as many tiles as cells, with as many sides; triangles may be turned; colours that there are; a rule for each border
+-- pair
 pub record IsPuzzle (p : Task) : Type 0 where
   pub board : IsBoard p.board
   pub triangles : side_count p.board ≡ 3 → p.turns ≡ true
@@ -89,7 +91,8 @@ pub record IsPuzzle (p : Task) : Type 0 where
 
 -- the puzzle of a board and tiles
 abbrev pub task_of : Figure → Bool → Border → List Tile → Task
-task_of board turns border tiles = record { board = board; turns = turns; border = rule_of border; words = map word tiles }
+task_of board turns border tiles =
+    record { board = board; turns = turns; border = rule_of border; words = map word tiles }
 
 -- The rule asks for the colour on the border pair with this number, in border order.
 abbrev pub AsksAt : BorderRule → (number colour : ℕ) → Type 0

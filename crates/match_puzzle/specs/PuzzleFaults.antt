@@ -5,7 +5,8 @@ use Rattle.match_board.specs.Board.{cell_count, side_count}
 use Rattle.match_board.specs.First.{Rank, rank_by, rank_by_two}
 use Rattle.match_puzzle.specs.Puzzle.{Task, word_of, StandsInRule, IsAsLongAsBorder}
 use Rattle.match_puzzle.specs.declared.faults.PuzzleFault.{PuzzleFault}
-use Rattle.match_puzzle.specs.declared.faults.PuzzleFault.TheVariants.{FixedTriangles, TileCount, TileSides, BadColour, BorderLength, Memory}
+use Rattle.match_puzzle.specs.declared.faults.PuzzleFault.TheVariants.{FixedTriangles, TileCount, TileSides, BadColour}
+use Rattle.match_puzzle.specs.declared.faults.PuzzleFault.TheVariants.{BorderLength, Memory}
 
 -- When a fault occurs; want of memory is none of the puzzle.
 abbrev pub PuzzleFails : Task → PuzzleFault → Type 0

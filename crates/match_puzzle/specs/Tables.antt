@@ -12,13 +12,16 @@ use Rattle.match_puzzle.specs.declared.tables.CellSides.{CellSides}
 
 -- What the table says of a side is so.
 abbrev pub IsSide : Task → (cell side : ℕ) → Side → Type 0
-IsSide p cell side (Border rule) = IsBorderPair p.board cell side × ((colour : ℕ) → (rule ≡ Some colour) ↔ HasRule p cell side colour)
-IsSide p cell side (Edge cell' side') = Meets p.board cell side cell' side' × ((c k : ℕ) → Meets p.board cell side c k → (c ≡ cell') × (k ≡ side'))
+IsSide p cell side (Border rule) =
+    IsBorderPair p.board cell side × ((colour : ℕ) → (rule ≡ Some colour) ↔ HasRule p cell side colour)
+IsSide p cell side (Edge cell' side') =
+    Meets p.board cell side cell' side' × ((c k : ℕ) → Meets p.board cell side c k → (c ≡ cell') × (k ≡ side'))
 
 -- The table has all sides of each cell.
 pub record AreSides (p : Task) (table : List CellSides) : Type 0 where
   pub long : length table ≡ cell_count p.board
-  pub is : (cell side : ℕ) (sides : CellSides) (x : Side) → slice_get table cell ≡ Some sides → side < side_count p.board → slice_get sides.sides side ≡ Some x → IsSide p cell side x
+  pub is : (cell side : ℕ) (sides : CellSides) (x : Side) → slice_get table cell ≡ Some sides
+      → side < side_count p.board → slice_get sides.sides side ≡ Some x → IsSide p cell side x
 
 -- how many turns of a tile are legal
 abbrev pub IsTurnCount : Task → (tile count : ℕ) → Type 0
@@ -30,7 +33,8 @@ pub record AreTurnCounts (p : Task) (table : List ℕ) : Type 0 where
   pub is : (tile count : ℕ) → slice_get table tile ≡ Some count → IsTurnCount p tile count
 
 -- what holds of each puzzle
-pub record IsMade (p : Task) (sides_table : List CellSides) (turns_table : List ℕ) (count : ℕ) (legal_numbers : List ℕ) (showing_sets : List (List ℕ)) : Type 0 where
+pub record IsMade (p : Task) (sides_table : List CellSides) (turns_table : List ℕ) (count : ℕ) (legal_numbers : List ℕ)
+    (showing_sets : List (List ℕ)) : Type 0 where
   pub puzzle : IsPuzzle p
   pub sides : AreSides p sides_table
   pub turn_counts : AreTurnCounts p turns_table

@@ -57,7 +57,8 @@ fault_words (faults.Repeated number) = codes "repeated" ∷ decimal number ∷ [
 fault_words (faults.Symmetry number fault) = codes "symmetry" ∷ decimal number ∷ symmetry_fault_words fault
 fault_words (faults.Prefix lemma fault) = codes "prefix" ∷ decimal lemma ∷ prefix_fault_words fault
 fault_words faults.Root = codes "root" ∷ []
-fault_words (faults.Tree lemma fault) = codes "tree" ∷ decimal lemma ∷ codes "at" ∷ path_text fault.path ∷ node_fault_words fault.fault
+fault_words (faults.Tree lemma fault) =
+    codes "tree" ∷ decimal lemma ∷ codes "at" ∷ path_text fault.path ∷ node_fault_words fault.fault
 
 -- the line of an answer on a list of so many arrangements
 unfoldable pub answer_line : Answer → ℕ → List ℕ

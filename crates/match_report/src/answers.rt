@@ -2,7 +2,8 @@
 
 ghost use Rattle.std.specs.Prelude.{◌≡◌, ◌≢◌, ◌++◌, [], ◌∷◌, ℕ, decimal, IfOk, OnOk};
 ghost use Rattle.match_text.specs.Spelling.{spaced};
-ghost use Rattle.match_report.specs.AnswerText.{HoldsNoMemory, answer_line, fault_words, node_fault_words, arrangement_fault_words, symmetry_fault_words, prefix_fault_words};
+ghost use Rattle.match_report.specs.AnswerText.{HoldsNoMemory, answer_line, fault_words, node_fault_words};
+ghost use Rattle.match_report.specs.AnswerText.{arrangement_fault_words, symmetry_fault_words, prefix_fault_words};
 
 use crate::lines::Line;
 use cert_check::{Answer, Fault, NodeFault};

@@ -7,7 +7,8 @@ use Rattle.match_text.specs.declared.faults.TextFault.{TextFault}
 use Rattle.match_text.specs.declared.faults.ListTextFault.{ListTextFault}
 use Rattle.match_text.specs.declared.faults.ListTextFault.TheVariants as faults
 use Rattle.match_text.specs.Words.{placement_in}
-use Rattle.match_text.specs.Place.{Read, ◌>>=◌, give, line_of, some_entries, opening, counted, closing, times, start, value_of}
+use Rattle.match_text.specs.Place.{Read, ◌>>=◌, give, line_of, some_entries, opening, counted, closing, times, start}
+use Rattle.match_text.specs.Place.{value_of}
 
 -- a placement for each cell, 1 to 100
 unfoldable pub arrangement_line : Read (List Placement)

@@ -91,7 +91,8 @@ abbrev pub judged : {X : Type 0} → Place → List (List ℕ) → Result X Text
 judged p others (Ok x) = Ok (x, record { line = p.line; words = others; ahead = p.ahead })
 judged p others (Err k) = fail p.line k
 
-abbrev pub word_from : {X : Type 0} → (List ℕ → Result X TextKind) → Place → List (List ℕ) → Result (X × Place) TextFault
+abbrev pub word_from : {X : Type 0} → (List ℕ → Result X TextKind) → Place → List (List ℕ)
+    → Result (X × Place) TextFault
 word_from test p [] = fail p.line Word
 word_from test p (word ∷ others) = judged p others (test word)
 

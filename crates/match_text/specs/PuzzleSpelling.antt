@@ -1,5 +1,6 @@
 -- The one spelling of a puzzle.
-use Rattle.std.specs.Prelude.{◌≡◌, ◌⊎◌, ◌<◌, ◌≤◌, ℕ, Bool, true, false, List, [], ◌∷◌, ◌++◌, Option, Some, None, length, map, codes, decimal}
+use Rattle.std.specs.Prelude.{◌≡◌, ◌⊎◌, ◌<◌, ◌≤◌, ℕ, Bool, true, false, List, [], ◌∷◌, ◌++◌, Option, Some, None, length}
+use Rattle.std.specs.Prelude.{map, codes, decimal}
 use Rattle.match_board.specs.declared.limits.TheConstants.{MOST_TILES, MOST_LENGTH, MOST_RULES, MOST_COLOURS}
 use Rattle.std.specs.List.{AllByRecursion}
 use Rattle.match_board.specs.declared.figures.Figure.{Figure}
@@ -37,7 +38,8 @@ tile_words word = codes "tile" ∷ tile_word word ∷ []
 
 abbrev pub puzzle_lines : Task → List (List (List ℕ))
 puzzle_lines p =
-    (first_words (codes "match") ∷ []) ++ ((board_words p.board ∷ []) ++ ((turns_words p.turns ∷ []) ++ ((border_words p.border ∷ [])
+    (first_words (codes "match") ∷ [])
+    ++ ((board_words p.board ∷ []) ++ ((turns_words p.turns ∷ []) ++ ((border_words p.border ∷ [])
     ++ ((count_words (codes "tiles") (length p.words) ∷ []) ++ (map tile_words p.words ++ end_lines)))))
 
 -- a tile by itself

@@ -22,7 +22,8 @@ use Rattle.match_text.specs.declared.puzzles.BorderKind.{BorderKind}
 use Rattle.match_text.specs.declared.puzzles.BorderKind.TheVariants as kinds
 use Rattle.match_text.specs.declared.puzzles.PuzzleText as code
 use Rattle.match_text.specs.Words.{fixed_in, number_in, colour_in, rule_in, tile_in}
-use Rattle.match_text.specs.Place.{Read, ◌>>=◌, give, line_of, word_by, some_entries, opening, counted, closing, times, start, value_of}
+use Rattle.match_text.specs.Place.{Read, ◌>>=◌, give, line_of, word_by, some_entries, opening, counted, closing, times}
+use Rattle.match_text.specs.Place.{start, value_of}
 
 -- ---- the board
 
@@ -30,7 +31,8 @@ use Rattle.match_text.specs.Place.{Read, ◌>>=◌, give, line_of, word_by, some
 abbrev pub board_kind_in : List ℕ → Result BoardKind TextKind
 board_kind_in word =
     if bytes_eq word (codes "rect") then Ok Rectangle
-    else (if bytes_eq word (codes "triangle") then Ok Triangle else (if bytes_eq word (codes "hexagon") then Ok Hexagon else Err Word))
+    else (if bytes_eq word (codes "triangle") then Ok Triangle
+    else (if bytes_eq word (codes "hexagon") then Ok Hexagon else Err Word))
 
 -- how large a board of this kind is
 unfoldable pub board_size : BoardKind → Read Figure
@@ -55,7 +57,8 @@ board_line = line_of (do
 
 -- whether tiles may be turned, by its word
 abbrev pub turns_in : List ℕ → Result Bool TextKind
-turns_in word = if bytes_eq word (codes "yes") then Ok true else (if bytes_eq word (codes "no") then Ok false else Err Word)
+turns_in word =
+    if bytes_eq word (codes "yes") then Ok true else (if bytes_eq word (codes "no") then Ok false else Err Word)
 
 unfoldable pub turns_line : Read Bool
 turns_line = line_of (do
@@ -68,7 +71,8 @@ turns_line = line_of (do
 abbrev pub border_kind_in : List ℕ → Result BorderKind TextKind
 border_kind_in word =
     if bytes_eq word (codes "free") then Ok kinds.Free
-    else (if bytes_eq word (codes "one") then Ok kinds.One else (if bytes_eq word (codes "each") then Ok kinds.Each else Err Word))
+    else (if bytes_eq word (codes "one") then Ok kinds.One
+    else (if bytes_eq word (codes "each") then Ok kinds.Each else Err Word))
 
 -- what a border of this kind asks for
 unfoldable pub border_rule : BorderKind → Read BorderRule
@@ -125,7 +129,8 @@ abbrev pub PuzzleReads : List ℕ → Result Task PuzzleTextFault → Type 0
 PuzzleReads text (Ok p) = (puzzle_of text ≡ Ok p) × IsPuzzle p
 PuzzleReads text (Err (faults.Text fault)) = puzzle_of text ≡ Err fault
 PuzzleReads text (Err (faults.Board fault)) = (said : Task) × (puzzle_of text ≡ Ok said) × BoardFails said.board fault
-PuzzleReads text (Err (faults.Puzzle fault)) = (said : Task) × (puzzle_of text ≡ Ok said) × IsBoard said.board × IsFirst puzzle_rank (PuzzleFails said) fault
+PuzzleReads text (Err (faults.Puzzle fault)) =
+    (said : Task) × (puzzle_of text ≡ Ok said) × IsBoard said.board × IsFirst puzzle_rank (PuzzleFails said) fault
 PuzzleReads text (Err faults.Memory) = Unit {0}
 
 -- What a call returned is this outcome of a text and of making the puzzle. Of want of memory nothing is said.

@@ -1,5 +1,6 @@
 -- What a word has to be, and what is wrong with one that isn't.
-use Rattle.std.specs.Prelude.{◌≡◌, ℕ, zero, suc, codes, ◌-◌, List, [], ◌∷◌, length, Option, Some, None, Result, Ok, Err, Bool, ◌&&◌, ◌||◌, nat_lt, nat_le, ◌==◌, if◌then◌else◌, slice_index}
+use Rattle.std.specs.Prelude.{◌≡◌, ℕ, zero, suc, codes, ◌-◌, List, [], ◌∷◌, length, Option, Some, None, Result, Ok, Err}
+use Rattle.std.specs.Prelude.{Bool, ◌&&◌, ◌||◌, nat_lt, nat_le, ◌==◌, if◌then◌else◌, slice_index}
 use Rattle.match_board.specs.declared.limits.TheConstants.{LAST_CELL, LAST_TILE, LAST_TURN}
 use Rattle.std.specs.Str.{all_ascii_digits, bytes_eq}
 use Rattle.std.specs.Str.Parse.{digits_value}
@@ -29,16 +30,21 @@ version_in word = if bytes_eq word (codes "1") then Ok tt else Err Version
 
 -- one or more decimal digits, with no zero before another digit
 abbrev pub is_number : List ℕ → Bool
-is_number word = nat_lt 0 (length word) && (all_ascii_digits word && (nat_lt 48 (slice_index word 0) || length word == 1))
+is_number word =
+    nat_lt 0 (length word) && (all_ascii_digits word && (nat_lt 48 (slice_index word 0) || length word == 1))
 
 -- a number from least to most
 unfoldable pub number_in : ℕ → ℕ → List ℕ → Result ℕ TextKind
 number_in least most word =
-    if is_number word then (if nat_le least (digits_value 10 word) && nat_le (digits_value 10 word) most then Ok (digits_value 10 word) else Err Limit) else Err Number
+    if is_number word
+    then (if nat_le least (digits_value 10 word) && nat_le (digits_value 10 word) most
+    then Ok (digits_value 10 word) else Err Limit)
+    else Err Number
 
 -- the colour that a digit or a small letter stands for
 abbrev pub colour_of : ℕ → Option ℕ
-colour_of c = if nat_le 48 c && nat_le c 57 then Some (c - 48) else (if nat_le 97 c && nat_le c 122 then Some (c - 87) else None)
+colour_of c =
+    if nat_le 48 c && nat_le c 57 then Some (c - 48) else (if nat_le 97 c && nat_le c 122 then Some (c - 87) else None)
 
 -- a colour's character, and nothing more
 unfoldable pub colour_in : List ℕ → Result ℕ TextKind

@@ -43,7 +43,8 @@ HasSize x chosen item size = (options : List ℕ) × AreOpenAt x chosen item opt
 -- Of the uncovered items it has the fewest open options, and of those with so many the least number.
 pub record IsToBranchOn (x : Cover) (chosen : List ℕ) (item : ℕ) : Type 0 where
   pub uncovered : IsUncovered x chosen item
-  pub fewest : (other size other_size : ℕ) → IsUncovered x chosen other → HasSize x chosen item size → HasSize x chosen other other_size → (size < other_size) ⊎ ((size ≡ other_size) × (item ≤ other))
+  pub fewest : (other size other_size : ℕ) → IsUncovered x chosen other → HasSize x chosen item size
+      → HasSize x chosen other other_size → (size < other_size) ⊎ ((size ≡ other_size) × (item ≤ other))
 
 -- The option comes after that one; where none is named, each does.
 abbrev pub ComesAfter : (after : Option ℕ) → (option : ℕ) → Type 0

@@ -24,7 +24,8 @@ Clash x option other = ShareAnItem x option other ⊎ GiveTwoColours x option ot
 -- options that there are, of which no two clash
 pub record IsPartialSolution (x : Cover) (chosen : List ℕ) : Type 0 where
   pub real : (option : ℕ) → Contains chosen option → option < length x.options
-  pub apart : (place place' option other : ℕ) → place < place' → slice_get chosen place ≡ Some option → slice_get chosen place' ≡ Some other → Clash x option other → ⊥
+  pub apart : (place place' option other : ℕ) → place < place' → slice_get chosen place ≡ Some option
+      → slice_get chosen place' ≡ Some other → Clash x option other → ⊥
 
 -- The option goes with what is chosen: it clashes with no chosen option.
 pub record IsOpen (x : Cover) (chosen : List ℕ) (option : ℕ) : Type 0 where

@@ -10,7 +10,8 @@ use Rattle.xcc_dance.specs.ArrayWords.{arrays_of}
 use Rattle.xcc_dance.specs.TableLayout.{IsTableOf}
 use Rattle.xcc_dance.specs.Marks.{mark_of, WereAlwaysRight}
 
--- a compiled puzzle, the options chosen so far, in the order of choosing, and the link arrays: what each node stands for and where each option's nodes start, links and sizes, the hidden options, and how many there were at each choice
+-- a compiled puzzle, the options chosen so far, in the order of choosing, and the link arrays: what each node stands
+-- for and where each option's nodes start, links and sizes, the hidden options, and how many there were at each choice
 pub record LinkState : Type 0 where
   pub compiled : Compiled
   pub chosen : List ℕ
@@ -22,7 +23,16 @@ pub record LinkState : Type 0 where
 
 -- the state of link arrays over the nodes of a table
 abbrev pub link_state : Compiled → NodeTable → LinkArrays → (marks chosen : List ℕ) → LinkState
-link_state x t a marks chosen = record { compiled = x; chosen = chosen; entries = t.entries.items; starts = t.starts.items; arrays = arrays_of a; trail = a.trail.items; marks = marks }
+link_state x t a marks chosen =
+    record {
+      compiled = x;
+      chosen = chosen;
+      entries = t.entries.items;
+      starts = t.starts.items;
+      arrays = arrays_of a;
+      trail = a.trail.items;
+      marks = marks;
+    }
 
 -- the chosen options alone
 abbrev pub selection_of : LinkState → Selection
@@ -53,8 +63,10 @@ before_last (suc choices) s = before_last choices (taken_back s)
 abbrev pub before_any : LinkState → LinkState
 before_any s = before_last (length s.chosen) s
 
--- The nodes are those of the compiled puzzle, and the arrays are right for what is chosen, as they were before each choice.
+-- The nodes are those of the compiled puzzle, and the arrays are right for what is chosen, as they were before each
+-- choice.
 pub record AreLinksOf (x : Compiled) (t : NodeTable) (a : LinkArrays) (marks chosen : List ℕ) : Type 0 where
   pub compiled : IsCompiled x
   pub table : IsTableOf x t
-  pub right : WereAlwaysRight t.primaries t.items t.options t.entries.items t.starts.items (arrays_of a) a.trail.items marks chosen
+  pub right : WereAlwaysRight t.primaries t.items t.options t.entries.items t.starts.items (arrays_of a) a.trail.items
+      marks chosen

@@ -27,7 +27,8 @@ pub record CoversItem (primaries options : ℕ) (entries : List Entry) (m p : �
   pub is : p ≡ options + item_of entries m
 
 abbrev pub ExcludesAt : ℕ → ℕ → ℕ → List Entry → ℕ → ℕ → Type 0
-ExcludesAt primaries items options entries m p = NodeClashes primaries items entries m p ⊎ CoversItem primaries options entries m p
+ExcludesAt primaries items options entries m p =
+    NodeClashes primaries items entries m p ⊎ CoversItem primaries options entries m p
 
 -- Choosing option o hides p.
 pub record Excludes (primaries items options : ℕ) (entries : List Entry) (o p : ℕ) : Type 0 where

@@ -27,7 +27,8 @@ pub record SearchState : Type 0 where
 
 -- What was found are arrangements that extend the prefix, which the tree numbers; it has so many branch nodes, and is
 -- within the limits of a lemma where no more was found than may be listed.
-pub record IsSearched (x : Compiled) (prefix : List Pair) (tree : Tree) (found : List (List Placement)) (branches : ℕ) : Type 0 where
+pub record IsSearched (x : Compiled) (prefix : List Pair) (tree : Tree) (found : List (List Placement))
+    (branches : ℕ) : Type 0 where
   pub found_are : (a : List Placement) → Contains found a → IsArrangementWith x.puzzle prefix a
   pub numbers : IsFoundBelow (length found) tree
   pub branch_nodes : branch_count tree ≡ branches
@@ -36,5 +37,7 @@ pub record IsSearched (x : Compiled) (prefix : List Pair) (tree : Tree) (found :
 -- The outcome of a run, by what the search was before and is then: all was found, and each link and each size is what
 -- it was; or just the fuel was spent, and the search failed.
 abbrev pub IsOutcome : (before after : SearchState) → List Pair → (fuel : ℕ) → Outcome → Type 0
-IsOutcome before after prefix fuel (Done tree found) = IsSearched after.links.compiled prefix (tree_of tree) found.items after.branches × (after.links ≡ before.links) × (after.failed ≡ false)
+IsOutcome before after prefix fuel (Done tree found) =
+    IsSearched after.links.compiled prefix (tree_of tree) found.items after.branches × (after.links ≡ before.links)
+    × (after.failed ≡ false)
 IsOutcome before after prefix fuel GaveUp = (after.branches ≡ fuel) × (after.failed ≡ true)

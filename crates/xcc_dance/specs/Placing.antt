@@ -15,12 +15,14 @@ prefix_of p pairs = with_pairs pairs (empty_prefix p)
 
 -- Each pair fits those before it.
 abbrev pub FitInTurn : Task → List Pair → Type 0
-FitInTurn p pairs = (place : ℕ) (x : Pair) → slice_get pairs place ≡ Some x → Fits p (prefix_of p (take place pairs)) x.cell x.placement
+FitInTurn p pairs =
+    (place : ℕ) (x : Pair) → slice_get pairs place ≡ Some x → Fits p (prefix_of p (take place pairs)) x.cell x.placement
 
 -- The pairs are those of the options, one for each, in their order.
 pub record ArePairsOf (x : Compiled) (options : List ℕ) (pairs : List Pair) : Type 0 where
   pub long : length pairs ≡ length options
-  pub each : (place option : ℕ) (y : Pair) → slice_get options place ≡ Some option → slice_get pairs place ≡ Some y → IsPairOf x option y
+  pub each : (place option : ℕ) (y : Pair) → slice_get options place ≡ Some option → slice_get pairs place ≡ Some y
+      → IsPairOf x option y
 
 -- an arrangement of the puzzle with all these pairs
 pub record IsArrangementWith (p : Task) (pairs : List Pair) (a : List Placement) : Type 0 where

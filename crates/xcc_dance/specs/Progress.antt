@@ -25,14 +25,16 @@ pub record IsTreeOf (s : Selection) (before after : Progress) (tree : Tree) : Ty
   pub spent : after.fuel + branch_count tree ≡ before.fuel
   pub numbers : IsFoundBelow (length after.found.items) tree
   pub within : length after.found.items ≤ MOST_ARRANGEMENTS → IsTreeWithin (levels_below s + 1) tree
-  pub few : length after.found.items + MOST_CHILDREN * after.fuel ≤ length before.found.items + MOST_CHILDREN * before.fuel + 1
+  pub few : length after.found.items + MOST_CHILDREN * after.fuel
+      ≤ length before.found.items + MOST_CHILDREN * before.fuel + 1
 
 -- The trees of these choices with one of several options more.
 pub record AreTreesOf (s : Selection) (before after : Progress) (trees : Forest) : Type 0 where
   pub spent : after.fuel + branch_total trees ≡ before.fuel
   pub numbers : AreFoundBelow (length after.found.items) trees
   pub within : length after.found.items ≤ MOST_ARRANGEMENTS → AreTreesWithin (levels_below s) trees
-  pub few : length after.found.items + MOST_CHILDREN * after.fuel ≤ length before.found.items + MOST_CHILDREN * before.fuel + count trees
+  pub few : length after.found.items + MOST_CHILDREN * after.fuel
+      ≤ length before.found.items + MOST_CHILDREN * before.fuel + count trees
 
 -- There is one for each open option of the item.
 abbrev pub AreForEach : Selection → (item : ℕ) → Forest → Type 0

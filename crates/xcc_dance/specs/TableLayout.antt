@@ -26,7 +26,8 @@ pub record AreNodesOf (cells option : ℕ) (c : Choice) (entries : List Entry) (
   pub width : end ≡ start + 2 + length c.edges
   pub cell : slice_index_or entries start no_entry ≡ primary_entry option c.pair.cell
   pub tile : slice_index_or entries (start + 1) no_entry ≡ primary_entry option (cells + c.pair.placement.tile)
-  pub edge : (k : ℕ) (e : Edge) → slice_get c.edges k ≡ Some e → slice_index_or entries (start + 2 + k) no_entry ≡ edge_entry option e
+  pub edge : (k : ℕ) (e : Edge) → slice_get c.edges k ≡ Some e
+      → slice_index_or entries (start + 2 + k) no_entry ≡ edge_entry option e
 
 -- The node of the root's list that stands for an item lies alone, after those before it.
 pub record IsRootNode (root options : ℕ) (entries : List Entry) (starts : List ℕ) (item : ℕ) : Type 0 where
@@ -39,7 +40,8 @@ pub record IsLaidOutTo (x : Compiled) (items options roots : ℕ) (entries : Lis
   pub long : length entries + entry_count (drop options (cover_of x).options) ≡ items + entries_of x + roots
   pub own : (item : ℕ) → item < items → slice_index_or entries item no_entry ≡ own_entry item
   pub runs : AreRuns items entries starts
-  pub nodes : (option : ℕ) (c : Choice) → option < options → slice_get x.options option ≡ Some c → AreNodesOf (cell_count x.puzzle.board) option c entries (start_of starts option) (start_of starts (option + 1))
+  pub nodes : (option : ℕ) (c : Choice) → option < options → slice_get x.options option ≡ Some c
+      → AreNodesOf (cell_count x.puzzle.board) option c entries (start_of starts option) (start_of starts (option + 1))
   pub root : (item : ℕ) → item < roots → IsRootNode (items - 1) options entries starts item
 
 -- The nodes are those of the compiled puzzle.
@@ -48,7 +50,9 @@ pub record IsTableOf (x : Compiled) (t : NodeTable) : Type 0 where
   pub items : t.items ≡ primary_count x.puzzle + length x.shared + 1
   pub options : t.options ≡ length x.options
   pub table : IsNodeTable t.primaries t.items t.options t.entries.items t.starts.items
-  pub nodes : (option : ℕ) (c : Choice) → slice_get x.options option ≡ Some c → AreNodesOf (cell_count x.puzzle.board) option c t.entries.items (start_of t.starts.items option) (start_of t.starts.items (option + 1))
+  pub nodes : (option : ℕ) (c : Choice) → slice_get x.options option ≡ Some c
+      → AreNodesOf (cell_count x.puzzle.board) option c t.entries.items (start_of t.starts.items option)
+      (start_of t.starts.items (option + 1))
 
 -- The node is the option's at the item.
 pub record IsNodeAt (t : NodeTable) (option item node : ℕ) : Type 0 where

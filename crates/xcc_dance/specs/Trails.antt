@@ -11,7 +11,11 @@ Arrays = List Link × List ℕ
 
 -- the arrays with the option's nodes put back, the last first
 abbrev pub put_back : List Entry → List ℕ → ℕ → Arrays → Arrays
-put_back entries starts o a = (shown_links a.0 (start_of starts o) (width_of starts o), shown_sizes entries a.1 (start_of starts o) (width_of starts o))
+put_back entries starts o a = (
+  shown_links a.0 (start_of starts o) (width_of starts o),
+  shown_sizes entries a.1 (start_of starts o)
+      (width_of starts o),
+)
 
 -- the arrays with all these options put back, the last first
 abbrev pub back : (ℕ → Arrays → Arrays) → List ℕ → Arrays → Arrays
@@ -19,7 +23,8 @@ back step [] a = a
 back step (o ∷ more) a = step o (back step more a)
 
 -- The trail goes on from one state to the other, and what it gained leads back.
-pub record LeadsBack (step : ℕ → Arrays → Arrays) (a : Arrays) (trail : List ℕ) (a' : Arrays) (trail' : List ℕ) : Type 0 where
+pub record LeadsBack (step : ℕ → Arrays → Arrays) (a : Arrays) (trail : List ℕ) (a' : Arrays)
+    (trail' : List ℕ) : Type 0 where
   pub more : List ℕ
   pub longer : trail' ≡ trail ++ more
   pub back_to : back step more a' ≡ a

@@ -14,13 +14,16 @@ IsPairOf x option pair = (c : Choice) × (slice_get x.options option ≡ Some c)
 -- On the board stands, at each cell, just what a chosen option puts there.
 pub record IsFilledBy (x : Compiled) (chosen : List ℕ) (a : List Placement) : Type 0 where
   pub cells : length a ≡ cell_count x.puzzle.board
-  pub stands : (option : ℕ) (pair : Pair) → Contains chosen option → IsPairOf x option pair → Stands a pair.cell pair.placement
-  pub put : (cell : ℕ) (y : Placement) → Stands a cell y → (option : ℕ) × Contains chosen option × IsPairOf x option (record { cell = cell; placement = y })
+  pub stands : (option : ℕ) (pair : Pair) → Contains chosen option → IsPairOf x option pair
+      → Stands a pair.cell pair.placement
+  pub put : (cell : ℕ) (y : Placement) → Stands a cell y → (option : ℕ) × Contains chosen option
+      × IsPairOf x option (record { cell = cell; placement = y })
 
 -- The options stand by cell: at each place that of the cell with this number.
 pub record AreByCell (x : Compiled) (a : List Placement) (chosen : List ℕ) : Type 0 where
   pub long : length chosen ≡ length a
-  pub each : (cell option : ℕ) (y : Placement) → slice_get chosen cell ≡ Some option → Stands a cell y → IsPairOf x option (record { cell = cell; placement = y })
+  pub each : (cell option : ℕ) (y : Placement) → slice_get chosen cell ≡ Some option → Stands a cell y
+      → IsPairOf x option (record { cell = cell; placement = y })
 
 -- The options are a solution, and its arrangement stands on the board.
 pub record IsSolutionOf (x : Compiled) (a : List Placement) (chosen : List ℕ) : Type 0 where

@@ -24,7 +24,9 @@ HasPrimary x option item = (o : ItemSet) × (slice_get x.options option ≡ Some
 
 -- The secondary item is one of the option's, and has this colour there.
 abbrev pub HasColour : Cover → (option item colour : ℕ) → Type 0
-HasColour x option item colour = (o : ItemSet) × (slice_get x.options option ≡ Some o) × Contains o.coloured (record { item = item; colour = colour })
+HasColour x option item colour =
+    (o : ItemSet) × (slice_get x.options option ≡ Some o)
+    × Contains o.coloured (record { item = item; colour = colour })
 
 -- The primary item is in exactly one of the chosen options.
 abbrev pub IsInExactlyOne : Cover → (chosen : List ℕ) → (item : ℕ) → Type 0
@@ -32,17 +34,23 @@ IsInExactlyOne x chosen item =
     (option : ℕ) × Contains chosen option × HasPrimary x option item
     × ((other : ℕ) → Contains chosen other → HasPrimary x other item → other ≡ option)
 
--- A set of options, such that each primary item is in exactly one of them, and each secondary item has one colour in all of them that have it.
+-- A set of options, such that each primary item is in exactly one of them, and each secondary item has one colour in
+-- all of them that have it.
 pub record IsSolution (x : Cover) (chosen : List ℕ) : Type 0 where
   pub real : (option : ℕ) → Contains chosen option → option < length x.options
-  pub different : (place place' option : ℕ) → slice_get chosen place ≡ Some option → slice_get chosen place' ≡ Some option → place ≡ place'
+  pub different : (place place' option : ℕ) → slice_get chosen place ≡ Some option
+      → slice_get chosen place' ≡ Some option → place ≡ place'
   pub covered : (item : ℕ) → item < x.primaries → IsInExactlyOne x chosen item
-  pub coloured : (item option option' colour colour' : ℕ) → Contains chosen option → Contains chosen option' → HasColour x option item colour → HasColour x option' item colour' → colour ≡ colour'
+  pub coloured : (item option option' colour colour' : ℕ) → Contains chosen option → Contains chosen option'
+      → HasColour x option item colour → HasColour x option' item colour' → colour ≡ colour'
 
 -- Each option is a set of items that there are, at least one of them primary, and none of them twice.
 pub record IsCover (x : Cover) : Type 0 where
   pub some : (option : ℕ) → option < length x.options → (item : ℕ) × HasPrimary x option item
   pub primary : (option item : ℕ) → HasPrimary x option item → item < x.primaries
-  pub secondary : (option item colour : ℕ) → HasColour x option item colour → (x.primaries ≤ item) × (item < x.primaries + x.secondaries)
-  pub once_primary : (option place place' item : ℕ) (o : ItemSet) → slice_get x.options option ≡ Some o → slice_get o.primary place ≡ Some item → slice_get o.primary place' ≡ Some item → place ≡ place'
-  pub once_coloured : (option place place' : ℕ) (o : ItemSet) (e f : Edge) → slice_get x.options option ≡ Some o → slice_get o.coloured place ≡ Some e → slice_get o.coloured place' ≡ Some f → e.item ≡ f.item → place ≡ place'
+  pub secondary : (option item colour : ℕ) → HasColour x option item colour → (x.primaries ≤ item)
+      × (item < x.primaries + x.secondaries)
+  pub once_primary : (option place place' item : ℕ) (o : ItemSet) → slice_get x.options option ≡ Some o
+      → slice_get o.primary place ≡ Some item → slice_get o.primary place' ≡ Some item → place ≡ place'
+  pub once_coloured : (option place place' : ℕ) (o : ItemSet) (e f : Edge) → slice_get x.options option ≡ Some o
+      → slice_get o.coloured place ≡ Some e → slice_get o.coloured place' ≡ Some f → e.item ≡ f.item → place ≡ place'

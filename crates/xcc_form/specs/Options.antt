@@ -17,7 +17,8 @@ least_place e = (e.cell, e.side)
 
 -- The two sides meet, and the lesser (cell, side) is named first.
 abbrev pub IsSharedEdge : Figure → SharedEdge → Type 0
-IsSharedEdge s e = Meets s e.cell e.side e.other_cell e.other_side × ComesBefore (e.cell, e.side) (e.other_cell, e.other_side)
+IsSharedEdge s e =
+    Meets s e.cell e.side e.other_cell e.other_side × ComesBefore (e.cell, e.side) (e.other_cell, e.other_side)
 
 -- all shared edges of the board, by their lesser (cell, side)
 abbrev pub AreSharedEdges : Figure → List SharedEdge → Type 0
@@ -75,7 +76,8 @@ pub record IsCompiled (x : Compiled) : Type 0 where
   pub puzzle : IsPuzzle x.puzzle
   pub shared : AreSharedEdges x.puzzle.board x.shared
   pub pairs : IsListing PairComesBefore (IsOptionPair x.puzzle) (map pair_of x.options)
-  pub edges : (option : ℕ) (c : Choice) → slice_get x.options option ≡ Some c → AreShownEdges x.puzzle x.shared c.pair c.edges
+  pub edges : (option : ℕ) (c : Choice) → slice_get x.options option ≡ Some c
+      → AreShownEdges x.puzzle x.shared c.pair c.edges
 
 -- an option as the items that it has, where there are so many cells
 abbrev pub items_of : ℕ → Choice → ItemSet
@@ -83,7 +85,13 @@ items_of cells c = record { primary = c.pair.cell ∷ (cells + c.pair.placement.
 
 -- the exact cover
 abbrev pub cover_of : Compiled → Cover
-cover_of x = record { primaries = primary_count x.puzzle; secondaries = length x.shared; options = map (items_of (cell_count x.puzzle.board)) x.options }
+cover_of x =
+    record {
+      primaries = primary_count x.puzzle;
+      secondaries = length x.shared;
+      options = map
+          (items_of (cell_count x.puzzle.board)) x.options;
+    }
 
 -- how many items its options have
 abbrev pub entries_of : Compiled → ℕ

@@ -1,4 +1,5 @@
-//! The turning triangle, the twin tiles and the square of four, and twenty puzzles of at most six cells, of every board.
+//! The turning triangle, the twin tiles and the square of four, and twenty puzzles of at most six cells, of every
+//! board.
 
 pub(crate) const SMALL_PUZZLES: [&[u8]; 23] = [
     b"match 1\nboard triangle 2\nturns yes\nborder one 0\ntiles 4\ntile 123\ntile 100\ntile 200\ntile 300\nend\n",
