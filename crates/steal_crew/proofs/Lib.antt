@@ -1,0 +1,6 @@
+pub mod CountLemmas
+pub mod BesideLemmas
+pub mod QueueRuleLemmas
+pub mod QueueLemmas
+pub mod ResultLemmas
+pub mod MachineLemmas

@@ -1,0 +1,31 @@
+use Rattle.std.proofs.Common.{◌≡◌, ◌+◌, ◌<◌, ◌≤◌, ◌++◌, ◌∷◌, [], ℕ, ap, ◌∙◌, refl, arith}
+use Rattle.crossbeam_deque.specs.Handles.{worker_view}
+use Rattle.steal_crew.specs.declared.queues.View.{View}
+use Rattle.steal_crew.specs.Counts.{once_below}
+use Rattle.steal_crew.specs.Queues.{taken_by}
+use Rattle.steal_crew.proofs.CountLemmas.{once_below-above}
+use Rattle.steal_crew.proofs.QueueLemmas.{taken_none, owners_out, owners_cut, owner_known, places_none, places_cut, places_len, once_none, once_all}
+use Rattle.steal_crew.proofs.QueueRuleLemmas.{forks}
+use Rattle.steal_crew.proofs.dealing.places.Goals as goal
+
+pub loop-q-init : goal.loop-q-init
+loop-q-init c = record {
+  owners = owners_out (λ _. c.args._out) (λ j. c.args._out + once_below j 0) _ _ _ _ (λ j _. let z = once_none j in omega arith) c.requires.owners;
+  places = places_len 0 0 _ _ [] _ refl c.new-list.ensures.items (places_none _ _);
+  fresh = λ x. ap (taken_by x) c.new-list.ensures.items;
+}
+
+pub another-pass-requires : goal.another-pass-requires
+another-pass-requires c = let q : ℕ = c.loop-q.q in let out : ℕ = c.args._out in let few : out < 64 = c.requires.few in let parts : (worker_view c.index_mut.result.now).parts + (out + once_below q q) ≡ 65 = (owner_known _ _ _ _ _ _ _ c.loop-q.invariant.owners c.loop-q-test.true c.index_mut.ensures.value).0 in
+    let z : once_below q q ≡ 0 = once_below-above q q (omega arith) in forks _ _ (omega arith)
+
+pub loop-q-preserved : goal.loop-q-preserved
+loop-q-preserved c = let inv = c.loop-q.invariant in let cut = c.another-pass.ensures in record {
+  owners = owners_cut c.args._out _ _ c.loop-q.q _ _ _ _ inv.owners c.loop-q-test.true c.requires.few c.index_mut.ensures.value (cut.same.0.0, cut.same.0.1) cut.rule.0;
+  places = places_len _ _ _ _ _ _ refl (c.push_reserved.ensures.items ∙ ap (λ z. z ++ c.another-pass.result ∷ []) c.reserve.ensures.items)
+      (places_cut _ _ _ c.loop-q.q _ _ _ _ _ inv.owners c.loop-q-test.true c.index_mut.ensures.value cut.same.2 cut.rule.1 inv.places);
+  fresh = taken_none _ _ c.another-pass.result (c.push_reserved.ensures.items ∙ ap (λ z. z ++ c.another-pass.result ∷ []) c.reserve.ensures.items) (ap (λ (v : View). v.taken) cut.rule.1) inv.fresh;
+}
+
+pub returns-clause-owners : goal.returns-clause-owners
+returns-clause-owners c = owners_out (λ j. c.args._out + once_below j c.loop-q.q) (λ _. c.args._out + 1) _ _ _ _ (λ j lt. let all : c.args.queues ≤ c.loop-q.q = c.loop-q-test.false in let z = once_all j c.loop-q.q (omega arith) in omega arith) c.loop-q.invariant.owners

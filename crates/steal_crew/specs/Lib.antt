@@ -1,0 +1,5 @@
+pub mod Counts
+pub mod QueueRule
+pub mod Queues
+pub mod Results
+pub mod Machine

@@ -1,0 +1,31 @@
+-- The rule of a crew's queue.
+use Rattle.std.specs.Prelude.{◌≡◌, ℕ, ◌+◌, ◌<◌, List, [], ◌∷◌, length}
+use mathlib.Core.Option.{some}
+use lib.ListN.{get_elem?}
+use Rattle.std.specs.List.{AllByRecursion}
+use Rattle.steal_crew.specs.declared.queues.View.{View}
+use Rattle.steal_crew.specs.Counts.{total, times}
+
+-- what a pass knows: how many of the queue's 65 parts it has, a number that all that waits is below, and what was dealt
+-- and what was taken by it, in order
+abbrev pub view_with : (parts below : ℕ) (dealt taken : List ℕ) → View
+view_with parts below dealt taken = record { parts = parts; below = below; dealt = dealt; taken = taken }
+
+-- each number is below all later ones
+abbrev pub Rises : List ℕ → Type 0
+Rises [] = Unit {0}
+Rises (x ∷ xs) = AllByRecursion (λ y. x < y) xs × Rises xs
+
+-- What was dealt is what was taken and what waits, each number as often; what waits rises, and is above all that was
+-- taken.
+pub record Kept (waiting : List ℕ) (views : List View) : Type 0 where
+  pub parts : total (λ v. v.parts) views ≡ 65
+  pub counts : (x : ℕ)
+      → total (λ v. times x v.dealt) views ≡ total (λ v. times x v.taken) views + times x waiting
+  pub lengths : total (λ v. length v.dealt) views ≡ total (λ v. length v.taken) views + length waiting
+  pub idle : (port : ℕ) (v : View) → get_elem? views port ≡ some v → v.parts ≡ 0 → (v.dealt ≡ []) × (v.taken ≡ [])
+  pub limits : (port : ℕ) (v : View) → get_elem? views port ≡ some v → 0 < v.parts
+      → AllByRecursion (λ x. x < v.below) waiting
+  pub rises : Rises waiting
+  pub above : (port : ℕ) (v : View) → get_elem? views port ≡ some v
+      → AllByRecursion (λ x. AllByRecursion (λ y. y < x) v.taken) waiting

@@ -1,0 +1,168 @@
+//! A crew of workers.
+
+ghost use Rattle.std.specs.Prelude.{◌≡◌, ◌≤◌, ◌<◌, ◌+◌, ℕ, Vec, IfOk, OnOk, All, length, vec_len, slice_index_or};
+ghost use Rattle.std.specs.declared.alloc.Global.{Global};
+ghost use Rattle.steal_crew.specs.Counts.{total, times, once_below};
+ghost use Rattle.steal_crew.specs.Results.{Entered, Belongs, filled};
+ghost use Rattle.steal_crew.specs.Queues.{IsStation, IsShare, ShowSpent};
+
+use crate::dealing::{deal, open, stations};
+use crate::gathering::{collect, drain_all, histories};
+use crate::queues::{Handle, View};
+use crate::results::settle_rest;
+use crate::taking::work_at;
+use crate::works::{Share, Station, Work};
+use crossbeam_deque::Pass;
+use std::alloc::{AllocError, Global};
+use std::thread;
+use std::thread::Threads;
+
+/// What a crew did.
+#[derive(Drop)]
+pub struct Crew<X: Drop> {
+    results: Vec<X>,
+    tallies: Vec<Vec<u32>>,
+    // What was dealt to each queue and taken from it. It takes no memory, and is there for contracts alone.
+    queues: Vec<Pass<u32, View>>,
+}
+
+impl<X: Drop> Crew<X> {
+    /// The results by number.
+    pub fn results(&self) -> &[X]
+        ensures { result.now ≡ self.now.results.items }
+    {
+        &self.results
+    }
+
+    /// The numbers whose results this worker brought. Worker 0 is the caller's thread.
+    pub fn tally(&self, worker: u8) -> &[u32]
+        requires { worker < length self.now.tallies.items }
+        ensures { (d : Vec ℕ Global) → result.now ≡ (slice_index_or self.now.tallies.items worker d).items }
+    {
+        &self.tallies[usize::from(worker)]
+    }
+}
+
+// Starts a thread for each worker but the last, which is the caller's, and joins them all.
+fn work_all<W: Work + Sync, R: Threads + Sync>(
+    rt: &R,
+    alloc: Global,
+    work: &W,
+    handles: &Vec<Handle>,
+    places: Vec<Station>,
+    count: u32,
+) -> Result<Vec<Result<Share<W::R>, AllocError>>, AllocError>
+    requires each { All (IsStation (vec_len handles.now) count handles.now.items) places.items }
+    requires accepts { (n : ℕ) → n < count → W.accepts work.now n }
+    ensures shares { IfOk result (λ v.
+        All (λ t. IfOk t (IsShare (vec_len handles.now) count handles.now.items (W.gives work.now))) v.items) }
+    ensures len { IfOk result (λ v. vec_len v ≡ vec_len places) }
+{
+    thread::map_vec(
+        rt,
+        places,
+        &|station: Station| -> Result<Share<W::R>, AllocError>
+            requires { IsStation (vec_len handles.now) count handles.now.items station
+                × ((n : ℕ) → n < count → W.accepts work.now n) }
+            ensures { IfOk result
+                (IsShare (vec_len handles.entry.now) count handles.entry.now.items (W.gives work.entry.now)) }
+        { work_at(work, alloc, handles, station, count) },
+    )
+}
+
+// A place for each number's result.
+fn empty_slots<W: Work>(
+    _work: &W,
+    alloc: Global,
+    count: u32,
+) -> Result<Vec<Option<W::R>>, AllocError>
+    ensures some { IfOk result (λ v. (vec_len v ≡ count) × Entered (W.gives _work.now) v.items) }
+    ensures none { IfOk result (λ v. (x : ℕ) → filled x v.items ≡ 0) }
+{
+    let mut slots = Vec::with_capacity(alloc, count as usize)?;
+    for _ in 0..count {
+        slots.push_reserved(None);
+    }
+    Ok(slots)
+}
+
+// What the workers did, once all numbers that were dealt to a queue were taken from it.
+struct Worked<X: Drop> {
+    queues: Vec<Pass<u32, View>>,
+    slots: Vec<Option<X>>,
+    tallies: Vec<Vec<u32>>,
+}
+
+// All that happens on the queues.
+fn work_queues<W: Work + Sync, R: Threads + Sync>(
+    rt: &R,
+    alloc: Global,
+    work: &W,
+    count: u32,
+    queues: usize,
+) -> Result<Worked<W::R>, AllocError>
+    requires queues { (1 ≤ queues) × (queues ≤ 64) }
+    requires accepts { (n : ℕ) → n < count → W.accepts work.now n }
+    ensures queues { IfOk result (λ w. (vec_len w.queues ≡ queues) × ShowSpent queues count w.queues.items) }
+    ensures slots { IfOk result (λ w. (vec_len w.slots ≡ count) × Entered (W.gives work.now) w.slots.items) }
+    ensures tallies { IfOk result (λ w. (vec_len w.tallies ≡ queues)
+        × ((x : ℕ) → total (λ t. times x t.items) w.tallies.items ≡ filled x w.slots.items)) }
+{
+    let (mut owners, handles) = open(alloc, queues)?;
+    deal(&mut owners, &handles, queues, count)?;
+    let places = stations(alloc, &mut owners, &handles, queues, count)?;
+    let shares = work_all(rt, alloc, work, &handles, places, count)?;
+    let mut slots = empty_slots(work, alloc, count)?;
+    let tallies = collect(
+        work,
+        alloc,
+        &mut owners,
+        &handles,
+        shares,
+        &mut slots,
+        queues,
+        count,
+    )?;
+    drain_all(&mut owners, &handles, queues, count);
+    let histories = histories(alloc, &mut owners, queues, count)?;
+    Ok(Worked {
+        queues: histories,
+        slots,
+        tallies,
+    })
+}
+
+/// Does the work of the numbers below `count`, at most 1,000,000, by 1 to 64 workers. The caller's thread is worker 0;
+/// where a thread can't be started, its share is done by the others.
+///
+/// Each worker has a queue, first in first out. Number n is dealt to queue n mod workers before any thread starts; a
+/// worker takes from its own queue, and where that is empty from the others in turn. After all threads are joined the
+/// caller does what is still without a result. Where one job wants memory, so does the call, after joining all.
+pub fn run_crew<W: Work + Sync, R: Threads + Sync>(
+    rt: &R,
+    alloc: Global,
+    work: &W,
+    count: u32,
+    workers: u8,
+) -> Result<Crew<W::R>, AllocError>
+    requires workers { (1 ≤ workers) × (workers ≤ 64) }
+    requires count { count ≤ 1000000 }
+    requires accepts { (n : ℕ) → n < count → W.accepts work.now n }
+    ensures results { IfOk result (λ c. (vec_len c.results ≡ count) × Belongs (W.gives work.now) c.results.items) }
+    ensures workers { IfOk result (λ c. vec_len c.tallies ≡ workers) }
+    ensures once { IfOk result (λ c. (x : ℕ) → total (λ t. times x t.items) c.tallies.items ≡ once_below x count) }
+    ensures queues { IfOk result (λ c. (vec_len c.queues ≡ workers) × ShowSpent workers count c.queues.items) }
+{
+    let worked = work_queues(rt, alloc, work, count, usize::from(workers))?;
+    let Worked {
+        queues,
+        slots,
+        mut tallies,
+    } = worked;
+    let results = settle_rest(work, alloc, slots, &mut tallies[0])?;
+    Ok(Crew {
+        results,
+        tallies,
+        queues,
+    })
+}
