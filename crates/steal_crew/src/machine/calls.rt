@@ -40,8 +40,8 @@ fn idle_workers(alloc: Global, count: u8) -> Result<Vec<Worker>, AllocError>
 }
 
 impl State {
-    /// The opening state of 1 to 64 workers and 1 to 64 queues, numbered from 0, in which at most `limit` numbers can be
-    /// drawn: every list is empty, and nobody is busy or has stopped.
+    /// The opening state of 1 to 64 workers and 1 to 64 queues, numbered from 0, in which at most `limit` numbers can
+    /// be drawn: every list is empty, and nobody is busy or has stopped.
     pub fn new(alloc: Global, workers: u8, queues: u8, limit: u32) -> Result<State, AllocError>
         requires workers { (1 ≤ workers) × (workers ≤ 64) }
         requires queues { (1 ≤ queues) × (queues ≤ 64) }
