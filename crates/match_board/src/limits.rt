@@ -61,5 +61,11 @@ pub const MOST_LEVELS: u16 = MOST_CELLS + 1;
 /// The most branch nodes that a search may be asked to make.
 pub const MOST_FUEL: u32 = 1_000_000;
 
+/// The most workers that share a check.
+pub const MOST_WORKERS: u8 = 64;
+
+/// The most levels of a tree in which the halves of a branch's children are walked at once.
+pub const MOST_FORKS: u8 = 6;
+
 /// The most bytes of a document that are read.
 pub const MOST_BYTES: u32 = 1_073_741_824;
