@@ -6,7 +6,7 @@ use Rattle.std.proofs.lemmas.List.{get_or-set_same, get_or-set_other}
 use Rattle.std.proofs.lemmas.Bool.{eqb-true, false≢true}
 use Rattle.std.proofs.lemmas.Bool.Decides.{eqb_tells}
 use Rattle.match_puzzle.proofs.Prefixes.{inside}
-use Rattle.match_board.proofs.Places.{against_in_range}
+use Rattle.match_board.proofs.Places.{against_in_range, Meets-turned}
 use Rattle.match_board.specs.Board.{cell_count, side_count, Meets}
 use Rattle.match_board.specs.declared.figures.Figure.{Figure}
 use Rattle.match_board.specs.First.{IsLeast, IsLeastPair, AtMost}
@@ -128,6 +128,13 @@ edge_matches p a cell side cell' side' d lt lt' is = (
       sym (ap (λ z. colour_of p z side) (standing_is a cell x d here)) ∙ e ∙ ap (λ z. colour_of p z side') at ∙ ap (λ n. colour_of p y n) (sym same.1),
   λ ne. (get_or a cell d, cell', side', get_or a cell' d, read_stands a cell d lt, is.0, read_stands a cell' d lt', ne),
 )
+
+-- a side that meets one that shows the same
+pub matches_turned : (p : Task) (a : List Placement) (cell side cell' side' : ℕ) → IsSide p cell side (Edge cell' side') → MatchesEdgeAt p a cell' side' → MatchesEdgeAt p a cell side
+matches_turned p a cell side cell' side' is matches c k x y meets here there =
+    let same = is.1 c k meets in
+    let turned = matches cell side y x (Meets-turned is.0) (subst (λ n. Stands a n y) same.0 there) here in
+    sym (ap (λ n. colour_of p y n) same.1 ∙ turned)
 
 -- a side that meets none
 pub border_matches : (p : Task) (a : List Placement) (cell side : ℕ) (rule : Option ℕ) → IsSide p cell side (Border rule) → MatchesEdgeAt p a cell side

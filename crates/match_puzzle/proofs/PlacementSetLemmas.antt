@@ -11,9 +11,10 @@ use borrow.Author.Tests.{ltb-true}
 use Rattle.match_board.specs.Listing.{IsListing}
 use Rattle.match_board.specs.Turns.{IsPeriod}
 use Rattle.match_board.proofs.TurnsLemmas.{whole_turn}
-use Rattle.match_puzzle.specs.Puzzle.{Task, IsPuzzle, IsLegal}
+use Rattle.match_puzzle.specs.Puzzle.{Task, IsPuzzle, IsLegal, colour_of}
 use Rattle.match_puzzle.specs.Fitting.{turned_tile}
-use Rattle.match_puzzle.specs.PlacementSets.{AreLegalNumbers, AreUnturnedLegal}
+use Rattle.match_puzzle.specs.PlacementSets.{AreLegalNumbers, AreUnturnedLegal, AreColoursAfter, AreShownColours, ShowsColours}
+use Rattle.match_puzzle.specs.declared.placements.Placement.{Placement}
 use Rattle.match_puzzle.specs.Tables.{IsTurnCount, AreTurnCounts}
 use Rattle.match_puzzle.proofs.Words.{legal_by_count, some_sides, few_sides}
 use Rattle.match_board.proofs.Listings.{lt_or_le}
@@ -79,6 +80,22 @@ none_more_few digits place few = let less = pow_below place (place + 1) (omega a
 
 pub none_at_end : (digits place : ℕ) → digits < 2 ^ place → bit_at digits place ≡ 0
 none_at_end digits place few = bit_at_above digits place place few (omega arith)
+
+-- ---- what placements show
+
+-- the entry of a placement is what it shows
+pub shows_colours : (p : Task) → IsPuzzle p → (table : List (List ℕ)) → AreShownColours p.words table → (x : Placement) → x.tile < length p.words → x.turn < 4 → (colours : List ℕ) → colours ≡ get_or table (4 * x.tile + x.turn) [] → ShowsColours p x colours
+unfolding colour_of
+shows_colours p puzzle table is x tile_in turn_in colours at side side_in =
+    let place = 4 * x.tile + x.turn in
+    let long = is.long in
+    let tile : place / 4 ≡ x.tile = omega (arith, turn_in) in
+    let turn : place % 4 ≡ x.turn = omega (arith, turn_in) in
+    let word = get_or p.words x.tile [] in
+    let there = is.is place (omega (arith, long, tile_in, turn_in)) in
+    let of_tile = subst (λ t. AreColoursAfter (get_or p.words t []) (place % 4) (get_or table place [])) tile there in
+    let here = subst (λ cs. AreColoursAfter word x.turn cs) (sym at) (subst (λ r. AreColoursAfter word r (get_or table place [])) turn of_tile) in
+    here side (let word_sides = puzzle.sides x.tile tile_in in omega (arith, word_sides, side_in))
 
 -- ---- legal placements
 

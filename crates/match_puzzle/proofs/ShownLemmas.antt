@@ -8,20 +8,12 @@ use Rattle.match_board.specs.Board.{cell_count, side_count}
 use Rattle.match_board.proofs.Listings.{lt_or_le}
 use Rattle.match_puzzle.specs.Puzzle.{Task, colour_of}
 use Rattle.match_puzzle.specs.Prefix.{Prefix, Has, IsFree, with_pair}
+use Rattle.match_puzzle.specs.PlacementSets.{ShowsColours}
 use Rattle.match_puzzle.specs.Partials.{AreShown}
 use Rattle.match_puzzle.specs.declared.placements.Placement.{Placement}
 use Rattle.match_puzzle.proofs.Words.{few_sides}
 use Rattle.match_puzzle.proofs.Prefixes.{slice_get-set_other, has_placed, has_new, has_lifted}
 use Rattle.match_puzzle.proofs.Kept.{has_none}
-
--- ---- writing one place after the other
-
--- one place more has what it is to have
-pub one_place_more : (P : ℕ → ℕ → Type 0) (xs : List ℕ) (base i value : ℕ) → base + i < length xs → ((k : ℕ) → k < i → P k (get_or xs (base + k) 0)) → P i value → (k : ℕ) → k < i + 1 → P k (get_or (set xs (base + i) value) (base + k) 0)
-one_place_more P xs base i value within before here k lt =
-    below_more (λ k. P k (get_or (set xs (base + i) value) (base + k) 0)) i
-    (λ k lt. subst (P k) (sym (get_or-set_other xs (base + i) (base + k) value 0 (λ e. omega (arith, e, lt)))) (before k lt))
-    (subst (P i) (sym (get_or-set_same xs (base + i) value 0 within)) here) k lt
 
 -- ---- one cell is written
 
@@ -69,6 +61,14 @@ module _ (p : Task) (q : Prefix) (cell : ℕ) (x : Placement) (old new : List �
         (λ ne. other_cell cell old new kept cell' side ne.1 side_in ∙ is.empty cell' side (sym (slice_get-set_other q cell cell' None ne.1) ∙ free') side_in)
         (eqb_tells cell' cell);
   }
+
+-- what was put down at the cell is what the placement shows
+pub put_shows : (p : Task) (cell : ℕ) (x : Placement) (colours new : List ℕ) → ShowsColours p x colours → ((side : ℕ) → side < 4 → get_or new (4 * cell + side) 0 ≡ get_or colours side 0) →
+    (side : ℕ) → side < side_count p.board → (get_or new (4 * cell + side) 0 ≡ colour_of p x side) × (get_or new (4 * cell + side) 0 < MOST_COLOURS)
+put_shows p cell x colours new shows put side lt =
+    let same = put side (omega (arith, lt, few_sides p.board)) in
+    let here = shows side lt in
+    (same ∙ here.0, let few = here.1 in omega (arith, same, few))
 
 -- ---- nothing stands
 

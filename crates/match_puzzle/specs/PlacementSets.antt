@@ -1,9 +1,10 @@
 -- Sets of placements, by number: four turns to a tile.
-use Rattle.std.specs.Prelude.{◌≡◌, ◌<◌, ◌/◌, ◌%◌, ◌+◌, ◌*◌, ℕ, List, [], length, slice_index_or}
+use Rattle.std.specs.Prelude.{◌≡◌, ◌<◌, ◌/◌, ◌%◌, ◌+◌, ◌*◌, ℕ, List, [], length, slice_index, slice_index_or}
 use Rattle.match_board.specs.declared.limits.TheConstants.{MOST_COLOURS}
 use Rattle.match_board.specs.Listing.{IsListing}
 use Rattle.match_board.specs.Turns.{shown}
-use Rattle.match_puzzle.specs.Puzzle.{Task, IsLegal}
+use Rattle.match_board.specs.Board.{side_count}
+use Rattle.match_puzzle.specs.Puzzle.{Task, IsLegal, colour_of}
 use Rattle.match_puzzle.specs.Prefix.{Prefix, IsUnused}
 use Rattle.match_puzzle.specs.declared.placements.Placement.{Placement}
 
@@ -27,6 +28,24 @@ AreShowing words asked side numbers =
 pub record AreShowingSets (words : List (List ℕ)) (table : List (List ℕ)) : Type 0 where
   pub long : length table ≡ 4 * (MOST_COLOURS + 1)
   pub is : (place : ℕ) → place < length table → AreShowing words (place / 4) (place % 4) (slice_index_or table place [])
+
+-- The colours are those that the word shows after these turns.
+abbrev pub AreColoursAfter : (word : List ℕ) (turn : ℕ) (colours : List ℕ) → Type 0
+AreColoursAfter word turn colours =
+    (side : ℕ) → side < length word
+    → (slice_index colours side ≡ shown word turn side) × (slice_index colours side < MOST_COLOURS)
+
+-- The table has what the words show, four turns to a word.
+pub record AreShownColours (words : List (List ℕ)) (table : List (List ℕ)) : Type 0 where
+  pub long : length table ≡ 4 * length words
+  pub is : (place : ℕ) → place < length table
+      → AreColoursAfter (slice_index_or words (place / 4) []) (place % 4) (slice_index_or table place [])
+
+-- The colours are those that the placement shows.
+abbrev pub ShowsColours : Task → Placement → (colours : List ℕ) → Type 0
+ShowsColours p x colours =
+    (side : ℕ) → side < side_count p.board
+    → (slice_index colours side ≡ colour_of p x side) × (slice_index colours side < MOST_COLOURS)
 
 -- The numbers are those of the legal placements.
 abbrev pub AreLegalNumbers : Task → List ℕ → Type 0

@@ -5,7 +5,7 @@ use Rattle.match_board.specs.declared.figures.Figure.{Figure}
 use Rattle.match_board.specs.Turns.{IsPeriod}
 use Rattle.match_puzzle.specs.Puzzle.{Task, IsPuzzle, word_of, HasRule}
 use Rattle.match_puzzle.specs.Colours.{IsColourCount}
-use Rattle.match_puzzle.specs.PlacementSets.{AreLegalNumbers, AreUnturnedLegal, AreShowingSets}
+use Rattle.match_puzzle.specs.PlacementSets.{AreLegalNumbers, AreUnturnedLegal, AreShowingSets, AreShownColours}
 use Rattle.match_puzzle.specs.declared.tables.Side.{Side}
 use Rattle.match_puzzle.specs.declared.tables.Side.TheVariants.{Border, Edge}
 use Rattle.match_puzzle.specs.declared.tables.CellSides.{CellSides}
@@ -34,7 +34,7 @@ pub record AreTurnCounts (p : Task) (table : List ℕ) : Type 0 where
 
 -- what holds of each puzzle
 pub record IsMade (p : Task) (sides_table : List CellSides) (turns_table : List ℕ) (count : ℕ) (legal_numbers : List ℕ)
-    (showing_sets : List (List ℕ)) : Type 0 where
+    (showing_sets shown_table : List (List ℕ)) : Type 0 where
   pub puzzle : IsPuzzle p
   pub sides : AreSides p sides_table
   pub turn_counts : AreTurnCounts p turns_table
@@ -42,6 +42,7 @@ pub record IsMade (p : Task) (sides_table : List CellSides) (turns_table : List 
   pub legal : AreLegalNumbers p legal_numbers
   pub unturned : AreUnturnedLegal p
   pub showing : AreShowingSets p.words showing_sets
+  pub shown : AreShownColours p.words shown_table
 
 -- So many border pairs come before this pair.
 pub record IsNextNumber (s : Figure) (n : ℕ × ℕ) (number : ℕ) : Type 0 where

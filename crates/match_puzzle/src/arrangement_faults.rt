@@ -3,7 +3,7 @@
 ghost use Rattle.std.specs.Prelude.{◌≡◌, ◌≢◌, ◌<◌, ◌≤◌, ℕ, MatchOption, MatchBool, length};
 ghost use Rattle.match_board.specs.Board.{cell_count, side_count};
 ghost use Rattle.match_board.specs.First.{IsLeast, IsLeastPair};
-ghost use Rattle.match_puzzle.specs.Puzzle.{HasRule, colour_of};
+ghost use Rattle.match_puzzle.specs.Puzzle.{IsLegal, HasRule, colour_of};
 ghost use Rattle.match_puzzle.specs.Arrangement.{IsArrangement, MatchesEdgeAt, HaveTiles, AreLegal, StandOnce};
 ghost use Rattle.match_puzzle.specs.Arrangement.{ObeyBorder, MatchEdges};
 ghost use Rattle.match_puzzle.specs.ArrangementFaults.{IsArrangementFault, HasNoTileAt, HasNoTurnAt, RepeatsTileAt};
@@ -107,7 +107,7 @@ impl Puzzle {
     // The first side of the placement at the cell that does not show what the border asks.
     fn broken_border_at(&self, cell: u16, placement: Placement) -> Option<u32>
         requires cell { cell < cell_count self.now.board }
-        requires tile { placement.tile < length self.now.words }
+        requires legal { IsLegal self.now placement }
         ensures { MatchOption result
             ((side colour : ℕ) → HasRule self.now cell side colour → colour_of self.now placement side ≡ colour)
             (IsLeast
@@ -125,14 +125,14 @@ impl Puzzle {
     fn obeys_rule(&self, cell: u16, side: u8, placement: Placement) -> bool
         requires cell { cell < cell_count self.now.board }
         requires side { side < side_count self.now.board }
-        requires tile { placement.tile < length self.now.words }
+        requires legal { IsLegal self.now placement }
         ensures { MatchBool result
             ((colour : ℕ) → HasRule self.now cell side colour → colour_of self.now placement side ≡ colour)
             ((colour : ℕ) × HasRule self.now cell side colour × (colour_of self.now placement side ≢ colour)) }
     {
         match self.rule(cell, side) {
             None => true,
-            Some(colour) => self.colour(placement, side) == colour,
+            Some(colour) => self.shown(placement)[usize::from(side)] == colour,
         }
     }
 
@@ -156,6 +156,7 @@ impl Puzzle {
         requires cell { cell < cell_count self.now.board }
         requires long { length placements.now ≡ cell_count self.now.board }
         requires legal { AreLegal self.now placements.now }
+        requires before { (other side : ℕ) → other < cell → MatchesEdgeAt self.now placements.now other side }
         ensures { MatchOption result
             ((side : ℕ) → MatchesEdgeAt self.now placements.now cell side)
             (IsLeast (BreaksEdgeAt self.now placements.now cell)) }
@@ -168,12 +169,13 @@ impl Puzzle {
         None
     }
 
-    // Whether the side of the cell shows the colour of the side that it meets.
+    // Whether the side of the cell shows the colour of the side that it meets. A cell before it has shown so already.
     fn matches_edge(&self, cell: u16, side: u8, placements: &[Placement]) -> bool
         requires cell { cell < cell_count self.now.board }
         requires side { side < side_count self.now.board }
         requires long { length placements.now ≡ cell_count self.now.board }
         requires legal { AreLegal self.now placements.now }
+        requires before { (other side : ℕ) → other < cell → MatchesEdgeAt self.now placements.now other side }
         ensures { MatchBool result (MatchesEdgeAt self.now placements.now cell side)
             (BreaksEdgeAt self.now placements.now cell side) }
     {
@@ -185,7 +187,9 @@ impl Puzzle {
             } => {
                 let here = placements[usize::from(cell)];
                 let there = placements[usize::from(other)];
-                self.colour(here, side) == self.colour(there, other_side)
+                other < cell
+                    || self.shown(here)[usize::from(side)]
+                        == self.shown(there)[usize::from(other_side)]
             }
         }
     }

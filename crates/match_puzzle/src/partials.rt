@@ -164,7 +164,7 @@ impl<'a> Partial<'a> {
     {
         self.placed[usize::from(cell)] = Some(placement);
         self.free.remove_group(placement.tile);
-        show(&mut self.shown, self.puzzle, cell, placement);
+        put(&mut self.shown, cell, self.puzzle.shown(placement));
     }
 
     /// Takes the tile at the cell away.
@@ -176,7 +176,7 @@ impl<'a> Partial<'a> {
             self.placed[usize::from(cell)] = None;
             let turns = self.puzzle.legal_numbers().group(placement.tile);
             self.free.put_group(placement.tile, turns);
-            hide(&mut self.shown, cell);
+            put(&mut self.shown, cell, [ANY_COLOUR; 4]);
         }
     }
 }
@@ -212,32 +212,16 @@ impl<'a> Partial<'a> {
     }
 }
 
-// Puts down what the placement at the cell shows.
-fn show(shown: &mut Vec<u8>, puzzle: &Puzzle, cell: u16, placement: Placement)
-    requires tile { placement.tile < length puzzle.now.words }
-    requires cell { 4 * cell + 4 ≤ length shown.old.items }
-    ensures long { length shown.new.items ≡ length shown.old.items }
-    ensures shows { (side : ℕ) → side < side_count puzzle.now.board
-        → (slice_index shown.new.items (4 * cell + side) ≡ colour_of puzzle.now placement side)
-        × (slice_index shown.new.items (4 * cell + side) < MOST_COLOURS) }
-    ensures others { (place : ℕ) → (place < 4 * cell) ⊎ (4 * cell + 4 ≤ place)
-        → slice_index shown.new.items place ≡ slice_index shown.old.items place }
-{
-    for side in 0..puzzle.board().sides() {
-        shown[4 * usize::from(cell) + usize::from(side)] = puzzle.colour(placement, side);
-    }
-}
-
-// Puts down that nothing stands at the cell.
-fn hide(shown: &mut Vec<u8>, cell: u16)
+// Puts down what is seen on the four sides of the cell.
+fn put(shown: &mut Vec<u8>, cell: u16, colours: [u8; 4])
     requires { 4 * cell + 4 ≤ length shown.old.items }
     ensures long { length shown.new.items ≡ length shown.old.items }
-    ensures any { (side : ℕ) → side < 4 → slice_index shown.new.items (4 * cell + side) ≡ ANY_COLOUR }
+    ensures colours { (side : ℕ) → side < 4 → slice_index shown.new.items (4 * cell + side) ≡ slice_index colours side }
     ensures others { (place : ℕ) → (place < 4 * cell) ⊎ (4 * cell + 4 ≤ place)
         → slice_index shown.new.items place ≡ slice_index shown.old.items place }
 {
     for side in 0..4 {
-        shown[4 * usize::from(cell) + side] = ANY_COLOUR;
+        shown[4 * usize::from(cell) + side] = colours[side];
     }
 }
 

@@ -5,6 +5,7 @@ ghost use Rattle.std.specs.Int.{bit_at};
 ghost use Rattle.match_board.specs.Listing.{IsListing};
 ghost use Rattle.match_board.specs.Tile.{word};
 ghost use Rattle.match_puzzle.specs.PlacementSets.{Shows, AreShowing, AreShowingSets};
+ghost use Rattle.match_puzzle.specs.PlacementSets.{AreColoursAfter, AreShownColours};
 
 use crate::number_sets::NumberSet;
 use match_board::Tile;
@@ -19,10 +20,35 @@ pub(crate) struct PlacementSets {
     /// For each colour, and for `ANY_COLOUR`, and each of four sides, those that show it there: of colour c on side k
     /// at 4 c + k.
     pub(crate) showing: Vec<NumberSet>,
+    /// What each placement shows, by number: the colour on each side, and `ANY_COLOUR` on a fourth that isn't there.
+    pub(crate) shown: Vec<[u8; 4]>,
 }
 
 /// What stands for no colour in particular, where a colour is asked.
 pub(crate) const ANY_COLOUR: u8 = MOST_COLOURS;
+
+// What each placement shows, by number.
+fn shown_table(alloc: Global, tiles: &[Tile]) -> Result<Vec<[u8; 4]>, AllocError>
+    requires { length tiles.now ≤ MOST_TILES }
+    ensures { IfOk result (λ v. AreShownColours (map word tiles.now) v.items) }
+{
+    let mut table = Vec::with_capacity(alloc, 4 * tiles.len())?;
+    for number in 0..4 * tiles.len() {
+        table.push(colours_after(&tiles[number / 4], (number % 4) as u8))?;
+    }
+    Ok(table)
+}
+
+// What the tile shows after this many turns.
+fn colours_after(tile: &Tile, turn: u8) -> [u8; 4]
+    ensures { AreColoursAfter (word tile.now) turn result }
+{
+    let mut colours = [ANY_COLOUR; 4];
+    for side in 0..tile.sides() {
+        colours[usize::from(side)] = tile.shows(turn, side);
+    }
+    colours
+}
 
 // For each colour, and for any, and each of four sides the placements that show it there.
 fn showing_sets(alloc: Global, tiles: &[Tile]) -> Result<Vec<NumberSet>, AllocError>
@@ -106,9 +132,15 @@ impl PlacementSets {
         ensures legal { IfOk result
             (λ sets. IsListing ◌<◌ (λ n. n % 4 < slice_index turn_counts.now (n / 4)) sets.legal) }
         ensures showing { IfOk result (λ sets. AreShowingSets (map word tiles.now) sets.showing.items) }
+        ensures shown { IfOk result (λ sets. AreShownColours (map word tiles.now) sets.shown.items) }
     {
         let showing = showing_sets(alloc, tiles)?;
+        let shown = shown_table(alloc, tiles)?;
         let legal = legal_set(turn_counts);
-        Ok(PlacementSets { legal, showing })
+        Ok(PlacementSets {
+            legal,
+            showing,
+            shown,
+        })
     }
 }

@@ -40,7 +40,7 @@ impl Model for Puzzle {
     ghost view = { λ p. task_of p.board p.turns p.border p.tiles.items };
 
     ghost invariant = { λ p. IsMade (task_of p.board p.turns p.border p.tiles.items)
-        p.sides.items p.turn_counts.items p.colours p.sets.legal p.sets.showing.items };
+        p.sides.items p.turn_counts.items p.colours p.sets.legal p.sets.showing.items p.sets.shown.items };
 }
 
 impl Puzzle {
@@ -48,7 +48,7 @@ impl Puzzle {
     ghost use Rattle.match_puzzle.specs.Puzzle.{IsLegal, HasRule, colour_of, word_of};
     ghost use Rattle.match_puzzle.specs.Colours.{IsColourCount};
     ghost use Rattle.match_puzzle.specs.Tables.{IsSide, IsTurnCount};
-    ghost use Rattle.match_puzzle.specs.PlacementSets.{AreLegalNumbers, AreUnturnedLegal, AreShowing};
+    ghost use Rattle.match_puzzle.specs.PlacementSets.{AreLegalNumbers, AreUnturnedLegal, AreShowing, ShowsColours};
 
     /// The puzzle of this board and these tiles, where tiles may be turned or not.
     ///
@@ -191,6 +191,14 @@ impl Puzzle {
         ensures { AreShowing self.now.words asked side result.now }
     {
         &self.sets.showing[usize::from(4 * asked + side)]
+    }
+
+    // What the placement shows: the colour on each side, and something on a fourth that isn't there.
+    pub(crate) fn shown(&self, placement: Placement) -> [u8; 4]
+        requires { IsLegal self.now placement }
+        ensures { ShowsColours self.now placement result }
+    {
+        self.sets.shown[4 * usize::from(placement.tile) + usize::from(placement.turn)]
     }
 
     /// The colour that a placed tile shows on a side.

@@ -1,4 +1,6 @@
-use Rattle.std.proofs.Common.{Some, ◌<◌, arith, sym, subst}
+use Rattle.std.proofs.Common.{Some, ◌<◌, ◌∙◌, arith, sym, subst}
+use Rattle.std.proofs.lemmas.List.{get_or-replicate}
+use Rattle.match_board.specs.declared.limits.TheConstants.{MOST_COLOURS}
 use Rattle.std.proofs.lemmas.Option.{slice_get_within}
 use Rattle.match_puzzle.specs.declared.number_sets.TheConstants.{GROUPS}
 use Rattle.match_puzzle.specs.Prefix.{Layout, Has}
@@ -26,10 +28,10 @@ group-turns-requires c = tile_in (goal.at.group-turns-requires c).In-Some
 pub put_group-requires-clause-group : goal.put_group-requires-clause-group
 put_group-requires-clause-group c = tile_in (goal.at.put_group-requires-clause-group c).In-Some
 
-pub hide-requires : goal.hide-requires
-hide-requires c =
+pub put-requires : goal.put-requires
+put-requires c =
     let kept = c.self.invariant in
-    let within = slice_get_within c.self.inside.placed.items c.args.cell (Some c.in-Some.placement) (stands (goal.at.hide-requires c).In-Some) in
+    let within = slice_get_within c.self.inside.placed.items c.args.cell (Some c.in-Some.placement) (stands (goal.at.put-requires c).In-Some) in
     let cells = kept.prefix.cells in
     let long = kept.shows.long in
     omega (arith, within, cells, long)
@@ -40,5 +42,5 @@ invariant_of-self c =
     let p = i.puzzle.now in
     let here = stands (goal.at.invariant_of-self c).In-Some in
     rw c.from-in-Some.ensures (kept_lifted p i.placed.items i.free i.shown.items c.self.invariant c.args.cell c.in-Some.placement c.group-turns.result c.legal_numbers.result.now _ c.legal_numbers.ensures.legal c.group-turns.ensures.group c.put_group.ensures here
-    c.hide.new.shown.items
-    (shown_lifted p i.placed.items c.args.cell c.in-Some.placement i.shown.items c.hide.new.shown.items c.self.invariant.shows c.hide.ensures.long c.hide.ensures.others here c.hide.ensures.any))
+    c.put.new.shown.items
+    (shown_lifted p i.placed.items c.args.cell c.in-Some.placement i.shown.items c.put.new.shown.items c.self.invariant.shows c.put.ensures.long c.put.ensures.others here (λ side lt. c.put.ensures.colours side lt ∙ get_or-replicate 4 side MOST_COLOURS 0 lt)))

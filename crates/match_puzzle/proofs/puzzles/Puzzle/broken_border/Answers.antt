@@ -11,8 +11,8 @@ use Rattle.match_puzzle.proofs.puzzles.Puzzle.broken_border.Goals as goal
 abbrev first_tile : Placement
 first_tile = record { tile = 0; turn = 0 }
 
-pub broken_border_at-requires-clause-tile : goal.broken_border_at-requires-clause-tile
-broken_border_at-requires-clause-tile c = rw c.from.ensures (c.requires.legal c.loop-cell.cell _ (read_stands c.args.placements.now c.loop-cell.cell first_tile (omega (arith, c.requires.long, c.loop-cell-test.true, c.cells-cell-end.ensures.count, ap cell_count c.board.ensures.value)))).tile
+pub broken_border_at-requires-clause-legal : goal.broken_border_at-requires-clause-legal
+broken_border_at-requires-clause-legal c = rw c.from.ensures (c.requires.legal c.loop-cell.cell _ (read_stands c.args.placements.now c.loop-cell.cell first_tile (omega (arith, c.requires.long, c.loop-cell-test.true, c.cells-cell-end.ensures.count, ap cell_count c.board.ensures.value))))
 
 pub returns-in-Some : goal.returns-in-Some
 returns-in-Some c =

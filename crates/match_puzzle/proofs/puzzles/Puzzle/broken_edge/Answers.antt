@@ -6,6 +6,9 @@ use Rattle.match_puzzle.specs.ArrangementFaults.{BreaksEdgeAt}
 use Rattle.match_puzzle.proofs.FirstLemmas.{least_pair_at}
 use Rattle.match_puzzle.proofs.puzzles.Puzzle.broken_edge.Goals as goal
 
+pub broken_edge_at-requires-clause-before : goal.broken_edge_at-requires-clause-before
+broken_edge_at-requires-clause-before c = λ other side lt. c.loop-cell.invariant other lt side
+
 pub returns-in-Some : goal.returns-in-Some
 returns-in-Some c = rw c.from.ensures (least_pair_at (BreaksEdgeAt c.args.self.now c.args.placements.now) c.loop-cell.cell c.in-Some.side c.in-Some.ensures (λ k lt side o. o.7 (c.loop-cell.invariant k lt side o.1 o.2 o.0 o.3 o.5 o.4 o.6)))
 

@@ -30,4 +30,5 @@ invariant_of-result c =
           (subst (λ (xs : List ℕ). IsListing ◌<◌ (λ n. n % 4 < slice_index xs (n / 4)) c.in_ok-sets.sets.legal) c.deref.ensures.value c.in_ok-sets.ensures.legal);
       unturned = unturned_legal _ c.in_default.ensures _ turn_counts;
       showing = c.in_ok-sets.ensures.showing;
+      shown = c.in_ok-sets.ensures.shown;
     })
