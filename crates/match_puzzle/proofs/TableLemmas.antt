@@ -10,7 +10,8 @@ use Rattle.match_board.specs.Tile.{word}
 use Rattle.match_board.specs.Turns.{IsPeriod}
 use Rattle.match_puzzle.specs.Puzzle.{Task, BorderRule, free, one, each, task_of, rule_of, HasRule, Asks, AsksAt, StandsInRule, IsPuzzle, IsAsLongAsBorder}
 use Rattle.match_puzzle.specs.Colours.{HasColour, IsColourCount}
-use Rattle.match_puzzle.specs.Tables.{IsSide, IsTurnCount, IsNextNumber}
+use Rattle.match_puzzle.specs.Tables.{IsSide, IsAskedAt, AreSides, IsTurnCount, IsNextNumber}
+use Rattle.match_puzzle.specs.declared.tables.CellSides.{CellSides}
 use Rattle.match_puzzle.proofs.Words.{tile_of_word, word_at}
 use Rattle.match_puzzle.specs.declared.tables.Side.TheVariants.{Border as TableBorder}
 use Rattle.std.proofs.lemmas.Option.{slice_get_within, get_or_from_slice_get}
@@ -32,6 +33,15 @@ met_is only c' k' m = let e = same_pair (only c' k' m) in (sym e.0, sym e.1)
 -- a side that no answer meets
 pub border_is : (s : Figure) (cell side : ℕ) → cell < cell_count s → side < side_count s → ((c k : ℕ) → Meets s cell side c k → ◌≡◌ {A = Option (ℕ × ℕ)} None (Some (c, k))) → IsBorderPair s cell side
 border_is s cell side cell_in side_in only = record { cell_in = cell_in; side_in = side_in; meets_nothing = λ c k m. none_some (only c k m) }
+
+-- a place of the table is that of the side
+pub side_asked_at : (p : Task) (table : List CellSides) → AreSides p table → (cell side : ℕ) (sides : CellSides) → slice_get table cell ≡ Some sides → side < 4 → IsAskedAt p cell side (get_or sides.asked_at side 0)
+side_asked_at p table is cell side sides there lt =
+    let at = is.asked cell sides there side lt in
+    (at.0, at.2, ⊎_elim
+    (λ side_in. inr (side_in, is.is cell side sides at.0 there side_in at.1))
+    (λ past. inl (past, inside (sym at.1 ∙ is.outside cell side sides there past lt)))
+    (lt_or_le side (side_count p.board)))
 
 -- ---- the number of a border pair
 

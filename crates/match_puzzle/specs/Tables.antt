@@ -1,5 +1,8 @@
 -- What a puzzle keeps looked up.
-use Rattle.std.specs.Prelude.{◌≡◌, ◌<◌, ◌≤◌, ◌+◌, ◌*◌, ◌↔◌, ℕ, List, Some, MatchBool, length, slice_get}
+use Rattle.std.specs.Prelude.{◌≡◌, ◌⊎◌, ◌<◌, ◌≤◌, ◌+◌, ◌*◌, ◌↔◌, ℕ, List, None, Some, MatchBool, length, slice_get}
+use Rattle.std.specs.Prelude.{slice_index}
+use Rattle.match_board.specs.declared.limits.TheConstants.{MOST_COLOURS}
+use Rattle.match_puzzle.specs.declared.tables.TheConstants.{FIRST_PLACE}
 use Rattle.match_board.specs.Board.{cell_count, side_count, Meets, IsBorderPair, IsBorderBefore}
 use Rattle.match_board.specs.declared.figures.Figure.{Figure}
 use Rattle.match_board.specs.Turns.{IsPeriod}
@@ -17,11 +20,35 @@ IsSide p cell side (Border rule) =
 IsSide p cell side (Edge cell' side') =
     Meets p.board cell side cell' side' × ((c k : ℕ) → Meets p.board cell side c k → (c ≡ cell') × (k ≡ side'))
 
+-- Where the colour stands that is asked of a side, in a table that begins with each colour at its own place, one more
+-- for none, and goes on with four places to a cell: what the border asks at its own place, what a neighbour shows at
+-- the neighbour's.
+abbrev pub place_asked : Side → ℕ
+place_asked (Border None) = MOST_COLOURS
+place_asked (Border (Some colour)) = colour
+place_asked (Edge cell side) = FIRST_PLACE + 4 * cell + side
+
+-- The places are those of the four sides.
+abbrev pub AreAskedAt : List Side → (places : List ℕ) → Type 0
+AreAskedAt sides places =
+    (side : ℕ) → side < 4
+    → (x : Side) × (slice_get sides side ≡ Some x) × (slice_index places side ≡ place_asked x)
+
+-- The place is that of the side; of one that the cell doesn't have it is as if nothing were asked.
+abbrev pub IsAskedAt : Task → (cell side place : ℕ) → Type 0
+IsAskedAt p cell side place =
+    (x : Side) × (place ≡ place_asked x)
+    × (((side_count p.board ≤ side) × (x ≡ Border None)) ⊎ ((side < side_count p.board) × IsSide p cell side x))
+
 -- The table has all sides of each cell.
 pub record AreSides (p : Task) (table : List CellSides) : Type 0 where
   pub long : length table ≡ cell_count p.board
   pub is : (cell side : ℕ) (sides : CellSides) (x : Side) → slice_get table cell ≡ Some sides
       → side < side_count p.board → slice_get sides.sides side ≡ Some x → IsSide p cell side x
+  pub outside : (cell side : ℕ) (sides : CellSides) → slice_get table cell ≡ Some sides
+      → side_count p.board ≤ side → side < 4 → slice_get sides.sides side ≡ Some (Border None)
+  pub asked : (cell : ℕ) (sides : CellSides) → slice_get table cell ≡ Some sides
+      → AreAskedAt sides.sides sides.asked_at
 
 -- how many turns of a tile are legal
 abbrev pub IsTurnCount : Task → (tile count : ℕ) → Type 0

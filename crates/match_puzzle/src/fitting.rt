@@ -8,17 +8,14 @@ ghost use Rattle.match_puzzle.specs.declared.placements.Placement.{Placement as 
 ghost use Rattle.match_puzzle.specs.declared.placements.Pair.{Pair as StandingPair};
 ghost use Rattle.match_puzzle.specs.declared.items.Item.TheVariants as items;
 ghost use Rattle.match_puzzle.specs.Puzzle.{IsPuzzle};
-ghost use Rattle.match_puzzle.specs.Fitting.{Fits, AreFitting, AreAsAsked, IsAsked, IsItem, tile_turn, turned_tile};
+ghost use Rattle.match_puzzle.specs.Fitting.{Fits, AreFitting, AreAsAsked, IsItem, tile_turn, turned_tile};
 
 use crate::fitting_pairs::FittingPairs;
 use crate::items::Item;
 use crate::number_sets::NumberSet;
 use crate::partials::Partial;
-use crate::placement_sets::ANY_COLOUR;
 use crate::placements::{Pair, Placement};
 use crate::puzzles::Puzzle;
-use crate::tables::Side;
-use match_board::limits::MOST_COLOURS;
 use std::alloc::{AllocError, Global};
 
 impl<'a> Partial<'a> {
@@ -97,24 +94,6 @@ impl<'a> Partial<'a> {
         ensures { AreAsAsked self.now.puzzle self.now.placed cell side result.now }
     {
         self.puzzle().showing(self.asked(cell, side), side)
-    }
-
-    // The colour that is asked on the side of the cell, or any.
-    fn asked(&self, cell: u16, side: u8) -> u8
-        requires cell { cell < cell_count self.now.puzzle.board }
-        requires side { side < 4 }
-        ensures most { result ≤ ANY_COLOUR }
-        ensures asked { (colour : ℕ) → IsAsked self.now.puzzle self.now.placed cell side colour
-            ↔ ((result ≡ colour) × (colour < MOST_COLOURS)) }
-        ensures puzzle { IsPuzzle self.now.puzzle }
-    {
-        if side >= self.puzzle().board().sides() {
-            return ANY_COLOUR;
-        }
-        match self.puzzle().side(cell, side) {
-            Side::Border(rule) => rule.unwrap_or(ANY_COLOUR),
-            Side::Edge { cell, side } => self.shown(cell, side),
-        }
     }
 }
 

@@ -5,12 +5,14 @@ ghost use Rattle.std.specs.Prelude.{false, map, None, Some, List, length, slice_
 ghost use Rattle.match_board.specs.Board.{cell_count, side_count};
 ghost use Rattle.match_puzzle.specs.Puzzle.{colour_of};
 ghost use Rattle.match_puzzle.specs.Prefix.{IsWithin, Has};
+ghost use Rattle.match_puzzle.specs.Fitting.{IsAsked};
 
 use crate::number_sets::NumberSet;
 use crate::placement_sets::ANY_COLOUR;
 use crate::placements::{Pair, Placement};
 use crate::puzzles::Puzzle;
-use match_board::limits::MOST_COLOURS;
+use crate::tables::FIRST_PLACE;
+use match_board::limits::{MOST_CELLS, MOST_COLOURS};
 use std::alloc::{AllocError, Global};
 use std::marker::Model;
 
@@ -21,7 +23,8 @@ pub struct Partial<'a> {
     placed: Vec<Option<Placement>>,
     // the legal placements of tiles that are not placed
     free: NumberSet,
-    // the colour on each of four sides of each cell, or any where nothing stands
+    // each colour at its own place, and behind them any; then the colour on each of four sides of each cell, or any where
+    // nothing stands
     shown: Vec<u8>,
 }
 
@@ -51,7 +54,7 @@ impl<'a> Partial<'a> {
     {
         let cells = usize::from(puzzle.board().cells());
         let placed = vec![in alloc; None; cells]?;
-        let shown = vec![in alloc; ANY_COLOUR; 4 * cells]?;
+        let shown = nothing_shown(alloc, cells)?;
         Ok(Partial {
             puzzle,
             placed,
@@ -102,16 +105,16 @@ impl<'a> Partial<'a> {
         &self.free
     }
 
-    // The colour that stands on the side of the cell, or any where nothing stands.
-    pub(crate) fn shown(&self, cell: u16, side: u8) -> u8
+    // The colour that is asked on the side of the cell, or any.
+    pub(crate) fn asked(&self, cell: u16, side: u8) -> u8
         requires cell { cell < cell_count self.now.puzzle.board }
-        requires side { side < side_count self.now.puzzle.board }
-        ensures placed { (x : Placement) → Has self.now.placed cell x → (result ≡ colour_of self.now.puzzle x side)
-            × (result < MOST_COLOURS) }
-        ensures empty { IsFree self.now.placed cell → result ≡ ANY_COLOUR }
-        ensures long { length self.now.placed ≡ cell_count self.now.puzzle.board }
+        requires side { side < 4 }
+        ensures most { result ≤ ANY_COLOUR }
+        ensures asked { (colour : ℕ) → IsAsked self.now.puzzle self.now.placed cell side colour
+            ↔ ((result ≡ colour) × (colour < MOST_COLOURS)) }
+        ensures puzzle { IsPuzzle self.now.puzzle }
     {
-        self.shown[4 * usize::from(cell) + usize::from(side)]
+        self.shown[self.puzzle.asked_at(cell, side)]
     }
 
     /// What stands at the cell.
@@ -212,16 +215,32 @@ impl<'a> Partial<'a> {
     }
 }
 
+// What is shown where nothing is placed on so many cells.
+fn nothing_shown(alloc: Global, cells: usize) -> Result<Vec<u8>, AllocError>
+    requires { cells ≤ MOST_CELLS }
+    ensures long { IfOk result (λ v. length v.items ≡ FIRST_PLACE + 4 * cells) }
+    ensures colours { IfOk result (λ v. (colour : ℕ) → colour < ANY_COLOUR → slice_index v.items colour ≡ colour) }
+    ensures any { IfOk result (λ v. (place : ℕ) → ANY_COLOUR ≤ place → place < FIRST_PLACE + 4 * cells
+        → slice_index v.items place ≡ ANY_COLOUR) }
+{
+    let mut shown = vec![in alloc; ANY_COLOUR; FIRST_PLACE + 4 * cells]?;
+    for colour in 0..ANY_COLOUR {
+        shown[usize::from(colour)] = colour;
+    }
+    Ok(shown)
+}
+
 // Puts down what is seen on the four sides of the cell.
 fn put(shown: &mut Vec<u8>, cell: u16, colours: [u8; 4])
-    requires { 4 * cell + 4 ≤ length shown.old.items }
+    requires { FIRST_PLACE + 4 * cell + 4 ≤ length shown.old.items }
     ensures long { length shown.new.items ≡ length shown.old.items }
-    ensures colours { (side : ℕ) → side < 4 → slice_index shown.new.items (4 * cell + side) ≡ slice_index colours side }
-    ensures others { (place : ℕ) → (place < 4 * cell) ⊎ (4 * cell + 4 ≤ place)
+    ensures colours { (side : ℕ) → side < 4
+        → slice_index shown.new.items (FIRST_PLACE + 4 * cell + side) ≡ slice_index colours side }
+    ensures others { (place : ℕ) → (place < FIRST_PLACE + 4 * cell) ⊎ (FIRST_PLACE + 4 * cell + 4 ≤ place)
         → slice_index shown.new.items place ≡ slice_index shown.old.items place }
 {
     for side in 0..4 {
-        shown[4 * usize::from(cell) + side] = colours[side];
+        shown[FIRST_PLACE + 4 * usize::from(cell) + side] = colours[side];
     }
 }
 

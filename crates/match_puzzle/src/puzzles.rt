@@ -47,7 +47,7 @@ impl Puzzle {
     ghost use Rattle.match_board.specs.Tile.{word};
     ghost use Rattle.match_puzzle.specs.Puzzle.{IsLegal, HasRule, colour_of, word_of};
     ghost use Rattle.match_puzzle.specs.Colours.{IsColourCount};
-    ghost use Rattle.match_puzzle.specs.Tables.{IsSide, IsTurnCount};
+    ghost use Rattle.match_puzzle.specs.Tables.{IsSide, IsAskedAt, IsTurnCount};
     ghost use Rattle.match_puzzle.specs.PlacementSets.{AreLegalNumbers, AreUnturnedLegal, AreShowing, ShowsColours};
 
     /// The puzzle of this board and these tiles, where tiles may be turned or not.
@@ -166,6 +166,15 @@ impl Puzzle {
         ensures { IsSide self.now cell side result }
     {
         self.sides[usize::from(cell)].sides[usize::from(side)]
+    }
+
+    // Where in a table of what is shown the colour stands that is asked of the side; none, where there is no such side.
+    pub(crate) fn asked_at(&self, cell: u16, side: u8) -> usize
+        requires cell { cell < cell_count self.now.board }
+        requires side { side < 4 }
+        ensures { IsAskedAt self.now cell side result }
+    {
+        self.sides[usize::from(cell)].asked_at[usize::from(side)]
     }
 
     // How many turns of a tile are legal.

@@ -1,7 +1,7 @@
 //! What a puzzle looks up and does not work out anew.
 
 ghost use Rattle.std.specs.Prelude.{◌≡◌, ◌≢◌, ◌<◌, ◌≤◌, ◌+◌, ◌^◌, ℕ, Bool, List, IfOk, MatchOption, MatchBool};
-ghost use Rattle.std.specs.Prelude.{Contains, Some, [], length, map, slice_get, slice_index_or};
+ghost use Rattle.std.specs.Prelude.{Contains, None, Some, [], length, map, slice_get, slice_index_or};
 ghost use Rattle.match_board.specs.Board.{cell_count, side_count};
 ghost use Rattle.match_board.specs.declared.figures.Figure.{Figure};
 ghost use Rattle.match_board.specs.First.{IsLeast};
@@ -12,8 +12,11 @@ ghost use Rattle.match_puzzle.specs.declared.borders.Border.{Border as BorderRul
 ghost use Rattle.match_puzzle.specs.Puzzle.{Task, task_of, rule_of, StandsInRule, IsAsLongAsBorder};
 ghost use Rattle.match_puzzle.specs.Colours.{IsColourCount};
 ghost use Rattle.match_puzzle.specs.Tables.{IsSide, AreSides, AreTurnCounts, IsNextNumber};
+ghost use Rattle.match_puzzle.specs.Tables.{place_asked, AreAskedAt};
+ghost use Rattle.match_puzzle.specs.declared.tables.Side.TheVariants as sides;
 
 use crate::borders::Border;
+use crate::placement_sets::ANY_COLOUR;
 use match_board::limits::MOST_COLOURS;
 use match_board::{Board, Tile};
 use std::alloc::{AllocError, Global};
@@ -31,7 +34,13 @@ pub(crate) enum Side {
 #[derive(Clone, Copy, PartialEq, Eq, Debug)]
 pub(crate) struct CellSides {
     pub(crate) sides: [Side; 4],
+    /// Where in a table of what is shown the colour stands that is asked of each side.
+    pub(crate) asked_at: [usize; 4],
 }
+
+/// Where the first cell begins in a table of what is shown, which has four places to a cell. Before it stands each
+/// colour at its own place, and behind the last one what stands for none.
+pub(crate) const FIRST_PLACE: usize = ANY_COLOUR as usize + 1;
 
 /// The sides of each cell.
 pub(crate) fn sides_table(
@@ -59,13 +68,42 @@ fn cell_sides(board: Board, border: &Border, cell: u16, number: &mut u16) -> Cel
     requires number { IsNextNumber board (cell, 0) number.old }
     ensures sides { (turns : Bool) (tiles : List BoardTile) (side : ℕ) (x : Side) → side < side_count board
         → slice_get result.sides side ≡ Some x → IsSide (task_of board turns border.now tiles) cell side x }
+    ensures outside { (side : ℕ) → side_count board ≤ side → side < 4
+        → slice_get result.sides side ≡ Some (sides.Border None) }
+    ensures asked { AreAskedAt result.sides result.asked_at }
     ensures number { IsNextNumber board (cell + 1, 0) number.new }
 {
     let mut sides = [Side::Border(None); 4];
     for side in 0..board.sides() {
         sides[usize::from(side)] = side_at(board, border, cell, side, number);
     }
-    CellSides { sides }
+    CellSides {
+        sides,
+        asked_at: asked_places(&sides),
+    }
+}
+
+// Where the colours stand that are asked of the sides.
+fn asked_places(sides: &[Side; 4]) -> [usize; 4]
+    ensures { AreAskedAt sides.now result }
+{
+    [
+        asked_place(sides[0]),
+        asked_place(sides[1]),
+        asked_place(sides[2]),
+        asked_place(sides[3]),
+    ]
+}
+
+// Where the colour stands that is asked of the side: at its own place where the border asks for it, and else where the
+// side stands that is met.
+fn asked_place(side: Side) -> usize
+    ensures { result ≡ place_asked side }
+{
+    match side {
+        Side::Border(rule) => usize::from(rule.unwrap_or(ANY_COLOUR)),
+        Side::Edge { cell, side } => FIRST_PLACE + 4 * usize::from(cell) + usize::from(side),
+    }
 }
 
 // What a side of a cell is; the number is that of the next border pair.

@@ -1,4 +1,4 @@
-use Rattle.std.proofs.Common.{◌≡◌, ◌<◌, ◌/◌, ◌%◌, ◌∷◌, ◌∙◌, [], map, length, length-append, slice_index_or, below_more, arith, sym, ap, subst}
+use Rattle.std.proofs.Common.{◌<◌, ◌/◌, ◌%◌, ◌∷◌, ◌∙◌, [], map, length, length-append, slice_index_or, below_more, arith, sym, ap, subst}
 use Rattle.std.proofs.lemmas.List.{get_or_append_left, get_or_push, length-map}
 use Rattle.match_board.specs.Tile.{word}
 use Rattle.match_puzzle.specs.PlacementSets.{AreColoursAfter}

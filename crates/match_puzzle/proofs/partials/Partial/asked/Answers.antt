@@ -1,45 +1,31 @@
-use Rattle.std.proofs.Common.{IfSome, ◌<◌, ◌≤◌, arith, sym, subst}
+use Rattle.std.proofs.Common.{◌≡◌, ◌<◌, ◌≤◌, ◌∙◌, ℕ, length, get_or, slice_index, arith, sym, subst}
+use Rattle.std.proofs.lemmas.List.{get_or_default}
 use Rattle.match_board.specs.declared.limits.TheConstants.{MOST_COLOURS}
-use Rattle.match_board.proofs.Places.{StandsAt-in_range}
-use Rattle.match_puzzle.specs.Puzzle.{Task}
-use Rattle.match_puzzle.specs.Tables.{IsSide}
-use Rattle.match_puzzle.specs.declared.tables.Side.TheVariants.{Border, Edge}
-use Rattle.match_puzzle.proofs.FittingLemmas.{at_most_36, border_asks, edge_asks}
-use Rattle.match_puzzle.proofs.TableLemmas.{rule_below}
+use Rattle.match_puzzle.specs.Prefix.{Layout}
+use Rattle.match_puzzle.proofs.FittingLemmas.{AsksBelow}
+use Rattle.match_puzzle.proofs.ShownLemmas.{asked_there}
 use Rattle.match_puzzle.proofs.partials.Partial.asked.Goals as goal
-use Rattle.match_puzzle.proofs.partials.Partial.asked.Goals.{In-Edge, In-Border}
+use Rattle.match_puzzle.proofs.partials.Partial.asked.Goals.{After-asked_at}
 
--- where a side meets another
-side_is : (c : In-Edge) → IsSide c.args.self.now.puzzle c.args.cell c.args.side (Edge c.in-Edge.cell c.in-Edge.side)
-side_is c = subst (λ (p : Task). IsSide p c.args.cell c.args.side (Edge c.in-Edge.cell c.in-Edge.side)) c.puzzle-2.ensures.same c.in-Edge.ensures
+there : (c : After-asked_at) → (c.asked_at.result < length c.self.inside.shown.items) × (slice_index c.self.inside.shown.items c.asked_at.result ≤ MOST_COLOURS)
+    × AsksBelow c.self.inside.puzzle.now c.self.inside.placed.items c.args.cell c.args.side (slice_index c.self.inside.shown.items c.asked_at.result)
+there c =
+    let kept = c.self.invariant in
+    asked_there c.self.inside.puzzle.now c.self.inside.placed.items c.self.inside.shown.items kept.puzzle kept.prefix.cells kept.shows c.args.cell c.args.side c.asked_at.result c.asked_at.ensures
 
-pub shown-requires-clause-cell : goal.shown-requires-clause-cell
-shown-requires-clause-cell c = StandsAt-in_range (side_is (goal.at.shown-requires-clause-cell c).In-Edge).0.there
+pub index-requires : goal.index-requires
+index-requires c = let within = (there c).0 in let long = c.self.inside.shown.ok.0 in omega (arith, within, long)
 
-border_is : (c : In-Border) → IsSide c.args.self.now.puzzle c.args.cell c.args.side (Border c.in-Border.rule)
-border_is c = subst (λ (p : Task). IsSide p c.args.cell c.args.side (Border c.in-Border.rule)) c.puzzle-2.ensures.same c.in-Border.ensures
+read : (c : After-asked_at) (n : ℕ) → n ≡ get_or c.self.inside.shown.items c.asked_at.result n → n ≡ slice_index c.self.inside.shown.items c.asked_at.result
+read c n is = is ∙ sym (get_or_default c.self.inside.shown.items c.asked_at.result 0 n (there c).0)
 
-few : (c : In-Border) → IfSome c.in-Border.rule (λ colour. colour < MOST_COLOURS)
-few c = rule_below c.args.self.now.puzzle c.args.cell c.args.side c.in-Border.rule c.puzzle-2.ensures.puzzle (λ colour. ((border_is c).1 colour).0)
+pub returns-clause-most : goal.returns-clause-most
+returns-clause-most c =
+    let at = (goal.at.returns-clause-most c).After-asked_at in
+    subst (λ n. n ≤ MOST_COLOURS) (sym (read at c.index.result.now c.index.ensures)) (there at).1
 
-pub returns-in-Border-clause-most : goal.returns-in-Border-clause-most
-returns-in-Border-clause-most c = let there = (goal.at.returns-in-Border-clause-most c).In-Border in subst (λ n. n ≤ MOST_COLOURS) (sym c.unwrap_or.ensures) (at_most_36 c.in-Border.rule (few there))
-
-pub returns-in-Border-clause-asked : goal.returns-in-Border-clause-asked
-returns-in-Border-clause-asked c =
-    let there = (goal.at.returns-in-Border-clause-asked c).In-Border in
-    border_asks c.args.self.now.puzzle c.args.self.now.placed c.args.cell c.args.side c.in-Border.rule c.unwrap_or.result (border_is there) (few there) c.unwrap_or.ensures
-
-pub returns-in-Edge-clause-most : goal.returns-in-Edge-clause-most
-returns-in-Edge-clause-most c =
-    let is = side_is (goal.at.returns-in-Edge-clause-most c).In-Edge in
-    let long = c.shown.ensures.long in
-    let within = StandsAt-in_range is.0.there in
-    (edge_asks c.args.self.now.puzzle c.args.self.now.placed c.args.cell c.args.side c.in-Edge.cell c.in-Edge.side c.shown.result is (omega (arith, within, long)) c.shown.ensures.placed c.shown.ensures.empty).0
-
-pub returns-in-Edge-clause-asked : goal.returns-in-Edge-clause-asked
-returns-in-Edge-clause-asked c =
-    let is = side_is (goal.at.returns-in-Edge-clause-asked c).In-Edge in
-    let long = c.shown.ensures.long in
-    let within = StandsAt-in_range is.0.there in
-    (edge_asks c.args.self.now.puzzle c.args.self.now.placed c.args.cell c.args.side c.in-Edge.cell c.in-Edge.side c.shown.result is (omega (arith, within, long)) c.shown.ensures.placed c.shown.ensures.empty).1
+pub returns-clause-asked : goal.returns-clause-asked
+returns-clause-asked c =
+    let at = (goal.at.returns-clause-asked c).After-asked_at in
+    subst (λ n. AsksBelow c.args.self.now.puzzle c.args.self.now.placed c.args.cell c.args.side n) (sym (read at c.index.result.now c.index.ensures))
+    (subst (λ (v : Layout). AsksBelow v.puzzle v.placed c.args.cell c.args.side (slice_index c.self.inside.shown.items c.asked_at.result)) c.self.view_is (there at).2)
