@@ -13,6 +13,8 @@ use Rattle.steal_crew.specs.Queues.{Handle, Owner, Place, dealt_to, once_dealt, 
 use Rattle.steal_crew.proofs.CountLemmas.{total-append, total_set_at, times-snoc, once_below-next, once_below-above, same_one}
 use Rattle.steal_crew.proofs.QueueRuleLemmas.{all_snoc, all_map, append_nil}
 use Rattle.steal_crew.proofs.BesideLemmas.{default, snoc_last, beside_at, beside_set, beside_more, beside_both, beside_less, beside_last}
+use Rattle.steal_crew.specs.QueueRule.{part_count}
+use Rattle.match_board.specs.declared.limits.TheConstants.{MOST_WORKERS}
 
 -- the numbers dealt to a queue
 
@@ -90,7 +92,7 @@ owner_else w n q t o ne h = record {
   dealt = h.dealt ∙ sym (dealt_else w q n ne);
 }
 
-owner_cut : (k k' w n q : ℕ) (t : Handle) (o o' : Owner) → k' ≡ k + 1 → k < 64 → Same o o' → worker_view o' ≡ view_with ((worker_view o).parts - 1) (worker_view o).below (worker_view o).dealt (worker_view o).taken → IsOwner k w n q t o → IsOwner k' w n q t o'
+owner_cut : (k k' w n q : ℕ) (t : Handle) (o o' : Owner) → k' ≡ k + 1 → k < MOST_WORKERS → Same o o' → worker_view o' ≡ view_with ((worker_view o).parts - 1) (worker_view o).below (worker_view o).dealt (worker_view o).taken → IsOwner k w n q t o → IsOwner k' w n q t o'
 owner_cut k k' w n q t o o' more few same became h = record {
   deque = same.0 ∙ h.deque;
   fifo = same.1 ∙ h.fifo;
@@ -138,7 +140,7 @@ owners_out k k' w n ts os e h = record {
   each = λ q t o lt. owner_out (k q) (k' q) w n q _ _ (e q lt) (h.each q t o lt);
 }
 
-pub owners_more : (n n' : ℕ) (ts : List Handle) (os : List Owner) (t : Handle) (o : Owner) → n' ≡ n + 1 → Owners (λ _. 0) n 0 ts os → stealer_deque t ≡ worker_deque o → stealer_flavor t ≡ worker_flavor o → worker_flavor o ≡ 0 → worker_view o ≡ view_with 65 0 [] []
+pub owners_more : (n n' : ℕ) (ts : List Handle) (os : List Owner) (t : Handle) (o : Owner) → n' ≡ n + 1 → Owners (λ _. 0) n 0 ts os → stealer_deque t ≡ worker_deque o → stealer_flavor t ≡ worker_flavor o → worker_flavor o ≡ 0 → worker_view o ≡ view_with part_count 0 [] []
     → Owners (λ _. 0) n' 0 (ts ++ t ∷ []) (os ++ o ∷ [])
 owners_more n n' ts os t o more h deque flavor fifo is = subst (λ (m : ℕ). Owners (λ _. 0) m 0 (ts ++ t ∷ []) (os ++ o ∷ [])) (sym more) (record {
   handles = (let a = length-append ts (t ∷ []) in let b = h.handles in omega arith);
@@ -160,7 +162,7 @@ pub owners_dealt : (w n at : ℕ) (ts : List Handle) (os : List Owner) (o o' : O
 owners_dealt w n at ts os o o' h inside e is same became = owners_set (λ _. 0) (λ _. 0) w n (n + 1) ts os at o o' h inside is
     (λ t i. owner_dealt w n at t o o' e same became i) (λ j t u ne i. owner_else w n j t u (λ same. ne (same ∙ sym e)) i)
 
-pub owners_cut : (k w n q : ℕ) (ts : List Handle) (os : List Owner) (o o' : Owner) → Owners (λ j. k + once_below j q) w n ts os → q < w → k < 64 → o ≡ get_or os q o → Same o o'
+pub owners_cut : (k w n q : ℕ) (ts : List Handle) (os : List Owner) (o o' : Owner) → Owners (λ j. k + once_below j q) w n ts os → q < w → k < MOST_WORKERS → o ≡ get_or os q o → Same o o'
     → worker_view o' ≡ view_with ((worker_view o).parts - 1) (worker_view o).below (worker_view o).dealt (worker_view o).taken → Owners (λ j. k + once_below j (q + 1)) w n ts (set os q o')
 owners_cut k w n q ts os o o' h inside few is same became = owners_set (λ j. k + once_below j q) (λ j. k + once_below j (q + 1)) w n n ts os q o o' h inside is
     (λ t i. let a = once_here q in let z = once_below-above q q (omega arith) in owner_cut (k + once_below q q) (k + once_below q (q + 1)) w n q t o o' (omega arith) (omega arith) same became i)
@@ -227,7 +229,7 @@ places_popped n m m' ts ps ps' p h is more =
     )
 
 -- what is known of a queue without its handle
-pub owner_known : (k : ℕ → ℕ) (w n at : ℕ) (ts : List Handle) (os : List Owner) (o : Owner) → Owners k w n ts os → at < w → o ≡ get_or os at o → ((worker_view o).parts + k at ≡ 65) × ((worker_view o).dealt ≡ dealt_to w at n) × (worker_flavor o ≡ 0)
+pub owner_known : (k : ℕ → ℕ) (w n at : ℕ) (ts : List Handle) (os : List Owner) (o : Owner) → Owners k w n ts os → at < w → o ≡ get_or os at o → ((worker_view o).parts + k at ≡ part_count) × ((worker_view o).dealt ≡ dealt_to w at n) × (worker_flavor o ≡ 0)
 owner_known k w n at [] os o h inside is = let l = h.handles in absurd (omega arith)
 owner_known k w n at (t ∷ ts) os o h inside is = let i = owner_at k w n at (t ∷ ts) os o t h inside is in (i.parts, i.dealt, i.fifo)
 
@@ -236,7 +238,7 @@ pub place_of : (k : ℕ → ℕ) (w n at : ℕ) (ts : List Handle) (os : List Ow
 place_of k w n at [] os o p h inside is place = let l = h.handles in absurd (omega arith)
 place_of k w n at (t ∷ ts) os o p h inside is place = subst (λ (d : _). IsPassOf d p) (sym (owner_at k w n at (t ∷ ts) os o t h inside is).deque) (place t).pass
 
-pub owners_opened : (n : ℕ) (ts ts' : List Handle) (os os' : List Owner) (t : Handle) (o : Owner) → Owners (λ _. 0) n 0 ts os → ts' ≡ ts ++ t ∷ [] → os' ≡ os ++ o ∷ [] → stealer_deque t ≡ worker_deque o → stealer_flavor t ≡ worker_flavor o → worker_flavor o ≡ 0 → worker_view o ≡ view_with 65 0 [] []
+pub owners_opened : (n : ℕ) (ts ts' : List Handle) (os os' : List Owner) (t : Handle) (o : Owner) → Owners (λ _. 0) n 0 ts os → ts' ≡ ts ++ t ∷ [] → os' ≡ os ++ o ∷ [] → stealer_deque t ≡ worker_deque o → stealer_flavor t ≡ worker_flavor o → worker_flavor o ≡ 0 → worker_view o ≡ view_with part_count 0 [] []
     → Owners (λ _. 0) (n + 1) 0 ts' os'
 owners_opened n ts ts' os os' t o h e f deque flavor fifo is = subst (λ (z : List Handle). Owners (λ _. 0) (n + 1) 0 z os') (sym e) (subst (λ (z : List Owner). Owners (λ _. 0) (n + 1) 0 (ts ++ t ∷ []) z) (sym f) (owners_more n (n + 1) ts os t o refl h deque flavor fifo is))
 
@@ -252,14 +254,14 @@ place_at n q m ts p e h t = subst (λ (i : ℕ). IsPlace n (get_or ts i t) p) (s
 pub places_len : (m m' n : ℕ) (ts : List Handle) (ps ps' : List Place) → m ≡ m' → ps' ≡ ps → Places m n ts ps → Places m' n ts ps'
 places_len m m' n ts ps ps' e f h = subst (λ (i : ℕ). Places i n ts ps') e (subst (λ (z : List Place). Places m n ts z) (sym f) h)
 
-pub owners_drained : (w n at : ℕ) (ts : List Handle) (os : List Owner) (o o' : Owner) → Owners (λ _. 0) w n ts os → at < w → o ≡ get_or os at o → worker_deque o' ≡ worker_deque o → worker_flavor o' ≡ 0 → (worker_view o').parts ≡ 65 → (worker_view o').below ≡ (worker_view o).below → (worker_view o').dealt ≡ (worker_view o).dealt
+pub owners_drained : (w n at : ℕ) (ts : List Handle) (os : List Owner) (o o' : Owner) → Owners (λ _. 0) w n ts os → at < w → o ≡ get_or os at o → worker_deque o' ≡ worker_deque o → worker_flavor o' ≡ 0 → (worker_view o').parts ≡ part_count → (worker_view o').below ≡ (worker_view o).below → (worker_view o').dealt ≡ (worker_view o).dealt
     → Owners (λ _. 0) w n ts (set os at o')
 owners_drained w n at ts os o o' h inside is deque fifo whole below dealt = owners_set (λ _. 0) (λ _. 0) w n n ts os at o o' h inside is
     (λ t i. record { deque = deque ∙ i.deque; fifo = fifo; handle_fifo = i.handle_fifo; parts = omega arith; below = (let b = i.below in omega arith); dealt = dealt ∙ i.dealt })
     (λ j t u ne i. i)
 
 -- one more queue is spent
-pub spent_more : (w n at : ℕ) (os : List Owner) (o' : Owner) → ((j : ℕ) (o : Owner) → j < at → IsSpent w n j (worker_view (get_or os j o))) → at < length os → (worker_view o').parts ≡ 65 → (worker_view o').dealt ≡ dealt_to w at n → ((x : ℕ) → times x (worker_view o').taken ≡ times x (worker_view o').dealt)
+pub spent_more : (w n at : ℕ) (os : List Owner) (o' : Owner) → ((j : ℕ) (o : Owner) → j < at → IsSpent w n j (worker_view (get_or os j o))) → at < length os → (worker_view o').parts ≡ part_count → (worker_view o').dealt ≡ dealt_to w at n → ((x : ℕ) → times x (worker_view o').taken ≡ times x (worker_view o').dealt)
     → (j : ℕ) (o : Owner) → j < at + 1 → IsSpent w n j (worker_view (get_or (set os at o') j o))
 spent_more w n at os o' h inside whole dealt taken j o lt = dite (ℕ_discrete j at)
     (λ (e : j ≡ at). subst (λ (i : ℕ). IsSpent w n i (worker_view (get_or (set os at o') i o))) (sym e) (subst (λ (z : Owner). IsSpent w n at (worker_view z)) (sym (get_or-set_same os at o' o inside))

@@ -11,6 +11,7 @@ use Rattle.steal_crew.specs.declared.queues.View.{View}
 use Rattle.steal_crew.specs.Counts.{total, times}
 use Rattle.steal_crew.specs.QueueRule.{view_with, Rises, Kept}
 use Rattle.steal_crew.proofs.CountLemmas.{total-set, total-append, total-part, total-alone, times-snoc}
+use Rattle.steal_crew.specs.QueueRule.{part_count}
 
 abbrev parts : View → ℕ
 parts v = v.parts
@@ -74,7 +75,7 @@ below (y ∷ ys) b h = (
 )
 
 -- where one pass has every part, another has none
-lone : (views : List View) (port : ℕ) (v : View) → get_elem? views port ≡ some v → (j : ℕ) (u : View) → get_elem? views j ≡ some u → j ≢ port → {items : List ℕ} → Kept items views → v.parts ≡ 65 → 0 < u.parts → ⊥
+lone : (views : List View) (port : ℕ) (v : View) → get_elem? views port ≡ some v → (j : ℕ) (u : View) → get_elem? views j ≡ some u → j ≢ port → {items : List ℕ} → Kept items views → v.parts ≡ part_count → 0 < u.parts → ⊥
 lone views port v at j u e other k whole some_part = let z : View = view_with 0 0 [] [] in let t = total-set parts views port v z at in let p = k.parts in
     let p' = total-part parts (set views port z) j u (set_else views port j z other ∙ e) in omega arith
 
@@ -94,19 +95,19 @@ nothing : (items : List ℕ) (x : ℕ) → length items ≤ 0 → times x items 
 nothing [] x h = refl
 nothing (y ∷ ys) x h = absurd (omega arith)
 
-pub begins : Kept [] (view_with 65 0 [] [] ∷ [])
+pub begins : Kept [] (view_with part_count 0 [] [] ∷ [])
 begins = record {
   parts = refl;
   counts = λ x. refl;
   lengths = refl;
-  idle = each_one (λ v. v.parts ≡ 0 → (v.dealt ≡ []) × (v.taken ≡ [])) (view_with 65 0 [] []) (λ z. (refl, refl));
-  limits = each_one (λ v. 0 < v.parts → AllByRecursion (λ x. x < v.below) []) (view_with 65 0 [] []) (λ z. tt);
+  idle = each_one (λ v. v.parts ≡ 0 → (v.dealt ≡ []) × (v.taken ≡ [])) (view_with part_count 0 [] []) (λ z. (refl, refl));
+  limits = each_one (λ v. 0 < v.parts → AllByRecursion (λ x. x < v.below) []) (view_with part_count 0 [] []) (λ z. tt);
   rises = tt;
-  above = each_one (λ v. AllByRecursion (λ x. AllByRecursion (λ y. y < x) v.taken) []) (view_with 65 0 [] []) tt;
+  above = each_one (λ v. AllByRecursion (λ x. AllByRecursion (λ y. y < x) v.taken) []) (view_with part_count 0 [] []) tt;
 }
 
 -- Only the pass with every part deals, and numbers above all that it dealt
-pub deals : (port : ℕ) (v : View) (x : ℕ) → v.parts ≡ 65 → AllByRecursion (λ y. y < x) v.dealt
+pub deals : (port : ℕ) (v : View) (x : ℕ) → v.parts ≡ part_count → AllByRecursion (λ y. y < x) v.dealt
     → Pushes Kept port v (x ∷ []) (λ w. AllByRecursion (λ y. w ≡ view_with v.parts (y + 1) (v.dealt ++ x ∷ []) v.taken) (x ∷ []))
 deals port v x whole over items views k at = let w : View = view_with v.parts (x + 1) (v.dealt ++ x ∷ []) v.taken in
     let alone : (y : ℕ) → total (dealt y) views ≡ times y v.dealt = λ y. total-alone (dealt y) parts views port v at (λ j u e z. ap (times y) (k.idle j u e z).0) (k.parts ∙ sym whole) in
@@ -133,7 +134,7 @@ deals port v x whole over items views k at = let w : View = view_with v.parts (x
     )
 
 pub takes : (port : ℕ) (v : View) → 0 < v.parts
-    → Takes Kept port v 1 (λ xs w. (w ≡ view_with v.parts v.below v.dealt (v.taken ++ xs)) × AllByRecursion (λ x. (x < v.below) × AllByRecursion (λ y. y < x) v.taken) xs × (v.parts ≡ 65 → length v.taken < length v.dealt))
+    → Takes Kept port v 1 (λ xs w. (w ≡ view_with v.parts v.below v.dealt (v.taken ++ xs)) × AllByRecursion (λ x. (x < v.below) × AllByRecursion (λ y. y < x) v.taken) xs × (v.parts ≡ part_count → length v.taken < length v.dealt))
 takes port v some_part [] items views full few k at = absurd (omega arith)
 takes port v some_part (x ∷ y ∷ xs) items views full few k at = absurd (omega arith)
 takes port v some_part (x ∷ []) items views full few k at = let w : View = view_with v.parts v.below v.dealt (v.taken ++ x ∷ []) in (
@@ -158,7 +159,7 @@ takes port v some_part (x ∷ []) items views full few k at = let w : View = vie
   ),
 )
 
-pub finds : (port : ℕ) (v : View) → FindsFew Kept 0 port v (v.parts ≡ 65 → (x : ℕ) → times x v.dealt ≡ times x v.taken)
+pub finds : (port : ℕ) (v : View) → FindsFew Kept 0 port v (v.parts ≡ part_count → (x : ℕ) → times x v.dealt ≡ times x v.taken)
 finds port v items views few k at whole x = let none = nothing items x few in let c = k.counts x in
     let a = total-alone (dealt x) parts views port v at (λ j u e z. ap (times x) (k.idle j u e z).0) (k.parts ∙ sym whole) in
     let b = total-alone (took x) parts views port v at (λ j u e z. ap (times x) (k.idle j u e z).1) (k.parts ∙ sym whole) in omega arith

@@ -12,6 +12,7 @@ use Rattle.steal_crew.specs.declared.works.Station.{Station}
 use Rattle.steal_crew.specs.declared.works.Share.{Share}
 use Rattle.steal_crew.specs.Counts.{total, times, once_below}
 use Rattle.steal_crew.specs.Results.{done_numbers}
+use Rattle.steal_crew.specs.QueueRule.{part_count}
 
 -- what others take from a queue by
 abbrev pub Handle : Type 0
@@ -74,7 +75,7 @@ pub record IsOwner (out queues n q : ℕ) (handle : Handle) (owner : Owner) : Ty
   pub deque : worker_deque owner ≡ stealer_deque handle
   pub fifo : worker_flavor owner ≡ 0
   pub handle_fifo : stealer_flavor handle ≡ 0
-  pub parts : (worker_view owner).parts + out ≡ 65
+  pub parts : (worker_view owner).parts + out ≡ part_count
   pub below : (worker_view owner).below ≤ n
   pub dealt : (worker_view owner).dealt ≡ dealt_to queues q n
 
@@ -87,7 +88,7 @@ pub record Owners (out : ℕ → ℕ) (queues n : ℕ) (list : List Handle) (own
 
 -- All is known of queue q: the numbers that were dealt to it were taken from it, each once.
 pub record IsSpent (queues count q : ℕ) (known : View) : Type 0 where
-  pub whole : known.parts ≡ 65
+  pub whole : known.parts ≡ part_count
   pub dealt : known.dealt ≡ dealt_to queues q count
   pub taken : (x : ℕ) → times x known.taken ≡ times x known.dealt
   pub once : (x : ℕ) → times x known.taken ≡ once_dealt queues q count x

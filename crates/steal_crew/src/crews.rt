@@ -13,6 +13,7 @@ use crate::results::settle_rest;
 use crate::taking::work_at;
 use crate::works::{Share, Station, Work};
 use crossbeam_deque::Pass;
+use match_board::limits::{MOST_LEMMAS, MOST_WORKERS};
 use std::alloc::{AllocError, Global};
 use std::thread;
 use std::thread::Threads;
@@ -101,7 +102,7 @@ fn work_queues<W: Work + Sync, R: Threads + Sync>(
     count: u32,
     queues: usize,
 ) -> Result<Worked<W::R>, AllocError>
-    requires queues { (1 ≤ queues) × (queues ≤ 64) }
+    requires queues { (1 ≤ queues) × (queues ≤ MOST_WORKERS) }
     requires accepts { (n : ℕ) → n < count → W.accepts work.now n }
     ensures queues { IfOk result (λ w. (vec_len w.queues ≡ queues) × ShowSpent queues count w.queues.items) }
     ensures slots { IfOk result (λ w. (vec_len w.slots ≡ count) × Entered (W.gives work.now) w.slots.items) }
@@ -145,8 +146,8 @@ pub fn run_crew<W: Work + Sync, R: Threads + Sync>(
     count: u32,
     workers: u8,
 ) -> Result<Crew<W::R>, AllocError>
-    requires workers { (1 ≤ workers) × (workers ≤ 64) }
-    requires count { count ≤ 1000000 }
+    requires workers { (1 ≤ workers) × (workers ≤ MOST_WORKERS) }
+    requires count { count ≤ MOST_LEMMAS }
     requires accepts { (n : ℕ) → n < count → W.accepts work.now n }
     ensures results { IfOk result (λ c. (vec_len c.results ≡ count) × Belongs (W.gives work.now) c.results.items) }
     ensures workers { IfOk result (λ c. vec_len c.tallies ≡ workers) }

@@ -6,6 +6,7 @@ ghost use Rattle.steal_crew.specs.Queues.{Owners, Places, IsStation, taken_by};
 use crate::queues::{Deals, Handle, Owner, Parts, View};
 use crate::works::Station;
 use crossbeam_deque::Pass;
+use match_board::limits::MOST_WORKERS;
 use std::alloc::{AllocError, Global};
 
 // Empty queues, and a handle for each.
@@ -55,7 +56,7 @@ fn places(
     _out: usize,
 ) -> Result<Vec<Pass<u32, View>>, AllocError>
     requires owners { Owners (λ _. _out) queues _count _handles.now.items owners.old.items }
-    requires few { _out < 64 }
+    requires few { _out < MOST_WORKERS }
     ensures owners { OnOk result (Owners (λ _. _out + 1) queues _count _handles.now.items owners.new.items) }
     ensures places { IfOk result (λ v. Places queues _count _handles.now.items v.items) }
     ensures fresh { IfOk result (λ v. (x : ℕ) → taken_by x v.items ≡ 0) }
@@ -78,7 +79,7 @@ pub fn stations(
     count: u32,
 ) -> Result<Vec<Station>, AllocError>
     requires owners { Owners (λ _. 0) queues count handles.now.items owners.old.items }
-    requires few { queues ≤ 64 }
+    requires few { queues ≤ MOST_WORKERS }
     ensures owners { OnOk result (Owners (λ _. queues) queues count handles.now.items owners.new.items) }
     ensures each { IfOk result (λ v. All (IsStation queues count handles.now.items) v.items) }
     ensures len { IfOk result (λ v. vec_len v ≡ queues) }

@@ -4,12 +4,14 @@ ghost use Rattle.std.specs.Prelude.{◌≡◌, ◌≤◌, ◌<◌, ◌+◌, ℕ,
 ghost use Rattle.crossbeam_deque.specs.Handles.{worker_view, worker_deque, worker_flavor};
 ghost use Rattle.steal_crew.specs.Counts.{total, times};
 ghost use Rattle.steal_crew.specs.Results.{Entered, filled};
+ghost use Rattle.steal_crew.specs.QueueRule.{part_count};
 ghost use Rattle.steal_crew.specs.Queues.{AreSpent, Owners, Places, IsShare, ShowSpent};
 
 use crate::queues::{Handle, Owner, Parts, Takes, View, Whole};
 use crate::results::enter_first;
 use crate::works::{Share, Work};
 use crossbeam_deque::Pass;
+use match_board::limits::MOST_WORKERS;
 use std::alloc::{AllocError, Global};
 
 // Takes in the places of one worker.
@@ -23,7 +25,7 @@ fn take_in(
 )
     requires owners { Owners (λ _. _out + 1) _queues _count _handles.now.items owners.old.items }
     requires places { Places _queues _count _handles.now.items places.items }
-    requires few { _out < 64 }
+    requires few { _out < MOST_WORKERS }
     ensures { Owners (λ _. _out) _queues _count _handles.now.items owners.new.items }
 {
     while let Some(place) = places.pop() {
@@ -45,7 +47,7 @@ pub fn collect<W: Work>(
 ) -> Result<Vec<Vec<u32>>, AllocError>
     requires shares { All (λ t. IfOk t (IsShare queues count handles.now.items (W.gives work.now))) shares.items }
     requires owners { Owners (λ _. vec_len shares) queues count handles.now.items owners.old.items }
-    requires few { vec_len shares ≤ 64 }
+    requires few { vec_len shares ≤ MOST_WORKERS }
     requires slots { Entered (W.gives work.now) slots.old.items }
     ensures owners { OnOk result (Owners (λ _. 0) queues count handles.now.items owners.new.items) }
     ensures slots { OnOk result (Entered (W.gives work.now) slots.new.items × (vec_len slots.new ≡ vec_len slots.old)) }
@@ -66,10 +68,10 @@ pub fn collect<W: Work>(
 // Takes what is left on a queue of which no part is out.
 fn drain(owner: &mut Owner)
     requires fifo { worker_flavor owner.old ≡ 0 }
-    requires whole { (worker_view owner.old).parts ≡ 65 }
+    requires whole { (worker_view owner.old).parts ≡ part_count }
     ensures deque { worker_deque owner.new ≡ worker_deque owner.old }
     ensures fifo { worker_flavor owner.new ≡ 0 }
-    ensures whole { (worker_view owner.new).parts ≡ 65 }
+    ensures whole { (worker_view owner.new).parts ≡ part_count }
     ensures below { (worker_view owner.new).below ≡ (worker_view owner.old).below }
     ensures dealt { (worker_view owner.new).dealt ≡ (worker_view owner.old).dealt }
     ensures taken { (x : ℕ) → times x (worker_view owner.new).taken ≡ times x (worker_view owner.new).dealt }

@@ -17,12 +17,12 @@ pub struct View {
 pub struct InOrder;
 
 impl Protocol<u32, View> for InOrder {
-    ghost use Rattle.steal_crew.specs.QueueRule.{view_with, Kept};
+    ghost use Rattle.steal_crew.specs.QueueRule.{part_count, view_with, Kept};
     ghost use Rattle.std.specs.Prelude.{[]};
 
     ghost holds = { Kept };
 
-    ghost first = { view_with 65 0 [] [] };
+    ghost first = { view_with part_count 0 [] [] };
 
     ghost guest = { view_with 0 0 [] [] };
 }
@@ -75,16 +75,16 @@ impl Outcome<u32, View> for Deals {
 pub struct Takes;
 
 impl Outcome<u32, View> for Takes {
-    ghost use Rattle.steal_crew.specs.QueueRule.{view_with};
+    ghost use Rattle.steal_crew.specs.QueueRule.{part_count, view_with};
     ghost use Rattle.steal_crew.specs.Counts.{times};
     ghost use Rattle.std.specs.Prelude.{◌≡◌, ◌++◌, ◌<◌, ℕ, length};
     ghost use Rattle.std.specs.List.{AllByRecursion};
 
     ghost then = { λ v xs w. (w ≡ view_with v.parts v.below v.dealt (v.taken ++ xs))
         × AllByRecursion (λ x. (x < v.below) × AllByRecursion (λ y. y < x) v.taken) xs
-        × (v.parts ≡ 65 → length v.taken < length v.dealt) };
+        × (v.parts ≡ part_count → length v.taken < length v.dealt) };
 
-    ghost empty = { λ v. v.parts ≡ 65 → (x : ℕ) → times x v.dealt ≡ times x v.taken };
+    ghost empty = { λ v. v.parts ≡ part_count → (x : ℕ) → times x v.dealt ≡ times x v.taken };
 }
 
 // What the caller deals by.

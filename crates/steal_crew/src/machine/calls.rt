@@ -7,6 +7,7 @@ ghost use Rattle.steal_crew.specs.Machine.{event_of};
 use crate::machine::events::Event;
 use crate::machine::states::{Queue, State, Worker};
 use crate::machine::steps::StepFault;
+use match_board::limits::MOST_WORKERS;
 use std::alloc::{AllocError, Global};
 
 // So many queues in which nothing waits.
@@ -43,8 +44,8 @@ impl State {
     /// The opening state of 1 to 64 workers and 1 to 64 queues, numbered from 0, in which at most `limit` numbers can
     /// be drawn: every list is empty, and nobody is busy or has stopped.
     pub fn new(alloc: Global, workers: u8, queues: u8, limit: u32) -> Result<State, AllocError>
-        requires workers { (1 ≤ workers) × (workers ≤ 64) }
-        requires queues { (1 ≤ queues) × (queues ≤ 64) }
+        requires workers { (1 ≤ workers) × (workers ≤ MOST_WORKERS) }
+        requires queues { (1 ≤ queues) × (queues ≤ MOST_WORKERS) }
         ensures { IfOk result (λ s. s ≡ opening workers queues limit) }
     {
         let queues = empty_queues(alloc, queues)?;

@@ -7,6 +7,8 @@ use Rattle.steal_crew.proofs.CountLemmas.{once_below-above}
 use Rattle.steal_crew.proofs.QueueLemmas.{taken_none, owners_out, owners_cut, owner_known, places_none, places_cut, places_len, once_none, once_all}
 use Rattle.steal_crew.proofs.QueueRuleLemmas.{forks}
 use Rattle.steal_crew.proofs.dealing.places.Goals as goal
+use Rattle.steal_crew.specs.QueueRule.{part_count}
+use Rattle.match_board.specs.declared.limits.TheConstants.{MOST_WORKERS}
 
 pub loop-q-init : goal.loop-q-init
 loop-q-init c = record {
@@ -16,7 +18,7 @@ loop-q-init c = record {
 }
 
 pub another-pass-requires : goal.another-pass-requires
-another-pass-requires c = let q : ℕ = c.loop-q.q in let out : ℕ = c.args._out in let few : out < 64 = c.requires.few in let parts : (worker_view c.index_mut.result.now).parts + (out + once_below q q) ≡ 65 = (owner_known _ _ _ _ _ _ _ c.loop-q.invariant.owners c.loop-q-test.true c.index_mut.ensures.value).0 in
+another-pass-requires c = let q : ℕ = c.loop-q.q in let out : ℕ = c.args._out in let few : out < MOST_WORKERS = c.requires.few in let parts : (worker_view c.index_mut.result.now).parts + (out + once_below q q) ≡ part_count = (owner_known _ _ _ _ _ _ _ c.loop-q.invariant.owners c.loop-q-test.true c.index_mut.ensures.value).0 in
     let z : once_below q q ≡ 0 = once_below-above q q (omega arith) in forks _ _ (omega arith)
 
 pub loop-q-preserved : goal.loop-q-preserved

@@ -5,6 +5,7 @@ use Rattle.steal_crew.proofs.CountLemmas.{tallies_more}
 use Rattle.steal_crew.proofs.QueueLemmas.{owners_out}
 use Rattle.steal_crew.proofs.QueueRuleLemmas.{all_popped}
 use Rattle.steal_crew.proofs.gathering.collect.Goals as goal
+use Rattle.match_board.specs.declared.limits.TheConstants.{MOST_WORKERS}
 
 pub take_in-requires-clause-owners : goal.take_in-requires-clause-owners
 take_in-requires-clause-owners g c = let l : vec_len c.pop.new.self + 1 ≡ vec_len c.loop-share.shares = c.in-Some.ensures.len in let n : c.len.result ≡ vec_len c.pop.new.self = c.len.ensures in
@@ -19,7 +20,7 @@ enter_first-requires-clause-done g c = let rest = all_popped (λ z. IfOk z (IsSh
     λ _ _. (subst (λ z. IfOk z (IsShare c.args.queues c.args.count c.args.handles.now.items (g.W.Work.gives c.args.work.now))) c.in_ok-places.was rest.1).done
 
 pub loop-share-preserved : goal.loop-share-preserved
-loop-share-preserved g c = let inv = c.loop-share.invariant in let l : vec_len c.pop.new.self + 1 ≡ vec_len c.loop-share.shares = c.in-Some.ensures.len in let n : c.len.result ≡ vec_len c.pop.new.self = c.len.ensures in let few : vec_len c.loop-share.shares ≤ 64 = inv.few in
+loop-share-preserved g c = let inv = c.loop-share.invariant in let l : vec_len c.pop.new.self + 1 ≡ vec_len c.loop-share.shares = c.in-Some.ensures.len in let n : c.len.result ≡ vec_len c.pop.new.self = c.len.ensures in let few : vec_len c.loop-share.shares ≤ MOST_WORKERS = inv.few in
     let rest = all_popped (λ z. IfOk z (IsShare c.args.queues c.args.count c.args.handles.now.items (g.W.Work.gives c.args.work.now))) _ _ c.in-Some.share inv.shares c.in-Some.ensures.items in record {
       shares = rest.0;
       owners = owners_out (λ _. c.len.result) (λ _. vec_len c.pop.new.self) _ _ _ _ (λ _ _. n) c.take_in.ensures;

@@ -2,12 +2,13 @@ use Rattle.std.proofs.Common.{◌≡◌, ◌+◌, ◌<◌, ◌∙◌, arith, len
 use Rattle.crossbeam_deque.specs.Handles.{worker_view}
 use Rattle.steal_crew.proofs.QueueLemmas.{owner_known, owners_drained, spent_more}
 use Rattle.steal_crew.proofs.gathering.drain_all.Goals as goal
+use Rattle.steal_crew.specs.QueueRule.{part_count}
 
 pub drain-requires-clause-fifo : goal.drain-requires-clause-fifo
 drain-requires-clause-fifo c = (owner_known _ _ _ _ _ _ _ c.loop-q.invariant.owners c.loop-q-test.true c.index_mut.ensures.value).2
 
 pub drain-requires-clause-whole : goal.drain-requires-clause-whole
-drain-requires-clause-whole c = let p : (worker_view c.index_mut.result.now).parts + 0 ≡ 65 = (owner_known _ _ _ _ _ _ _ c.loop-q.invariant.owners c.loop-q-test.true c.index_mut.ensures.value).0 in omega arith
+drain-requires-clause-whole c = let p : (worker_view c.index_mut.result.now).parts + 0 ≡ part_count = (owner_known _ _ _ _ _ _ _ c.loop-q.invariant.owners c.loop-q-test.true c.index_mut.ensures.value).0 in omega arith
 
 pub loop-q-preserved : goal.loop-q-preserved
 loop-q-preserved c = let inv = c.loop-q.invariant in let d = c.drain.ensures in let known = owner_known _ _ _ _ _ _ _ inv.owners c.loop-q-test.true c.index_mut.ensures.value in let n : length c.loop-q.owners.items ≡ c.args.queues = inv.owners.len in let lt : c.loop-q.q < c.args.queues = c.loop-q-test.true in record {

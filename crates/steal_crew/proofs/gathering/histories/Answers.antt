@@ -4,12 +4,13 @@ use Rattle.steal_crew.specs.Queues.{IsSpent}
 use Rattle.steal_crew.proofs.QueueLemmas.{histories_more, left_more}
 use Rattle.steal_crew.proofs.QueueRuleLemmas.{yields}
 use Rattle.steal_crew.proofs.gathering.histories.Goals as goal
+use Rattle.steal_crew.specs.QueueRule.{part_count}
 
 spent : (c : goal.After-index_mut) → IsSpent c.args.queues c.args._count c.loop-q.q (worker_view c.index_mut.result.now)
 spent c = subst (λ z. IsSpent c.args.queues c.args._count c.loop-q.q (worker_view z)) (sym c.index_mut.ensures.value) (c.loop-q.invariant.left c.loop-q.q c.index_mut.result.now (omega arith) c.loop-q-test.true)
 
 pub another-history-requires : goal.another-history-requires
-another-history-requires c = yields _ _ (let p : (worker_view c.index_mut.result.now).parts ≡ 65 = (spent c).whole in omega arith)
+another-history-requires c = yields _ _ (let p : (worker_view c.index_mut.result.now).parts ≡ part_count = (spent c).whole in omega arith)
 
 pub loop-q-preserved : goal.loop-q-preserved
 loop-q-preserved c = let inv = c.loop-q.invariant in let n : vec_len c.loop-q.list ≡ length c.loop-q.list.items = c.loop-q.list.ok.0 in let l : vec_len c.loop-q.list ≡ c.loop-q.q = inv.list_len in

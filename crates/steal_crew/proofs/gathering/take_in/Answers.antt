@@ -4,6 +4,8 @@ use Rattle.steal_crew.specs.Counts.{once_below}
 use Rattle.steal_crew.proofs.QueueLemmas.{owners_out, owners_less, owner_known, place_of, place_at, places_popped, places_len, once_none, once_all}
 use Rattle.steal_crew.proofs.QueueRuleLemmas.{merges}
 use Rattle.steal_crew.proofs.gathering.take_in.Goals as goal
+use Rattle.steal_crew.specs.QueueRule.{part_count}
+use Rattle.match_board.specs.declared.limits.TheConstants.{MOST_WORKERS}
 
 pub loop-place-init : goal.loop-place-init
 loop-place-init c = let n : vec_len c.args.places ≡ length c.args.places.items = c.args.places.ok.0 in let l : length c.args.places.items ≡ c.args._queues = c.requires.places.len in record {
@@ -17,8 +19,8 @@ absorb-requires-clause-table c = let inv = c.loop-place.invariant in let l : vec
     place_of _ _ _ _ _ _ _ _ inv.owners inside c.index_mut.ensures.value (place_at _ _ _ _ _ q (places_popped _ _ _ _ _ _ _ inv.places c.in-Some.ensures.items (sym l)).1)
 
 pub absorb-requires-clause-rule : goal.absorb-requires-clause-rule
-absorb-requires-clause-rule c = let inv = c.loop-place.invariant in let l : vec_len c.pop.new.self + 1 ≡ vec_len c.loop-place.places = c.in-Some.ensures.len in let few : vec_len c.loop-place.places ≤ c.args._queues = inv.few in let q : c.len-q.result ≡ vec_len c.pop.new.self = c.len-q.ensures in let out : c.args._out < 64 = c.requires.few in let inside : c.len-q.result < c.args._queues = omega arith in
-    let parts : (worker_view c.index_mut.result.now).parts + (c.args._out + once_below c.len-q.result (vec_len c.loop-place.places)) ≡ 65 = (owner_known _ _ c.args._count c.len-q.result _ _ _ inv.owners inside c.index_mut.ensures.value).0 in
+absorb-requires-clause-rule c = let inv = c.loop-place.invariant in let l : vec_len c.pop.new.self + 1 ≡ vec_len c.loop-place.places = c.in-Some.ensures.len in let few : vec_len c.loop-place.places ≤ c.args._queues = inv.few in let q : c.len-q.result ≡ vec_len c.pop.new.self = c.len-q.ensures in let out : c.args._out < MOST_WORKERS = c.requires.few in let inside : c.len-q.result < c.args._queues = omega arith in
+    let parts : (worker_view c.index_mut.result.now).parts + (c.args._out + once_below c.len-q.result (vec_len c.loop-place.places)) ≡ part_count = (owner_known _ _ c.args._count c.len-q.result _ _ _ inv.owners inside c.index_mut.ensures.value).0 in
     let one = once_all c.len-q.result (vec_len c.loop-place.places) (omega arith) in merges _ _ _ _ (omega arith)
 
 pub loop-place-preserved : goal.loop-place-preserved
