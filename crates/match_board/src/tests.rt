@@ -1,6 +1,6 @@
 //! Boards and tiles whose numbers are known.
 
-use crate::{Board, BoardFault, Tile, TilesFault, all_tiles, limits};
+use crate::{Board, BoardFault, Tile, TileFault, TilesFault, all_tiles, limits};
 use std::test::Fail;
 
 #[test]
@@ -90,13 +90,6 @@ fn squares_of_three_colours(rt: HostRuntime) -> Result<(), Fail> {
 }
 
 #[test]
-fn triangles_of_four_colours(rt: HostRuntime) -> Result<(), Fail> {
-    let tiles = all_tiles(rt.alloc(), 3, 4)?;
-    assert_eq!(rt; tiles.len(), 24);
-    Ok(())
-}
-
-#[test]
 fn triangles_of_two_colours(rt: HostRuntime) -> Result<(), Fail> {
     let tiles = all_tiles(rt.alloc(), 3, 2)?;
     let words = [[0, 0, 0, 0], [0, 0, 1, 0], [0, 1, 1, 0], [1, 1, 1, 0]];
@@ -118,11 +111,17 @@ fn too_many_tiles(rt: HostRuntime) {
     }
 }
 
+// MacMahon's counts: (q^3 + 2q) / 3 triangles and (q^4 + q^2 + 2q) / 4 squares of q colours.
 #[test]
-fn most_tiles(rt: HostRuntime) -> Result<(), Fail> {
-    assert_eq!(rt; all_tiles(rt.alloc(), 4, 4)?.len(), 70);
-    assert_eq!(rt; all_tiles(rt.alloc(), 3, 6)?.len(), 76);
-    assert_eq!(rt; all_tiles(rt.alloc(), 4, 1)?.len(), 1);
+fn as_many_tiles_as_classes(rt: HostRuntime) -> Result<(), Fail> {
+    let triangles = [(1, 1), (2, 4), (3, 11), (4, 24), (5, 45), (6, 76)];
+    for (colours, count) in triangles {
+        assert_eq!(rt; all_tiles(rt.alloc(), 3, colours)?.len(), count);
+    }
+    let squares = [(1, 1), (2, 6), (3, 24), (4, 70)];
+    for (colours, count) in squares {
+        assert_eq!(rt; all_tiles(rt.alloc(), 4, colours)?.len(), count);
+    }
     Ok(())
 }
 
@@ -136,6 +135,10 @@ fn faults_in_the_programs_words(rt: HostRuntime) -> Result<(), Fail> {
     assert_eq!(rt;
         format!(in alloc; "{}", BoardFault::TooLarge)?.as_str(),
         "board too-large"
+    );
+    assert_eq!(rt;
+        format!(in alloc; "{}", TileFault::BadColour)?.as_str(),
+        "bad-colour"
     );
     assert_eq!(rt;
         format!(in alloc; "{}", TilesFault::TooMany)?.as_str(),
