@@ -5,7 +5,7 @@ use Rattle.std.proofs.lemmas.List.Sums.{sum_by-cons, count_by_more_yes, count_by
 use Rattle.std.proofs.lemmas.Bool.{ne_eqb, eq-eqb, cases_lt, cases_eq, lt-ltb, le-ltb}
 use Rattle.match_board.specs.First.{AtMost, IsLeast, IsFirst}
 use Rattle.cert_tree.specs.declared.faults.AssembleFault.TheVariants.{Stranger, Double, Missing, Memory}
-use Rattle.cert_tree.specs.Assembly.{how_often, IsOnly, IsAssembly, AssemblyFails, assembly_rank, Assembles, TellsLeast}
+use Rattle.cert_tree.specs.Assembly.{how_often, IsOnly, HaveNoStranger, IsAssembly, AssemblyFails, assembly_rank, Assembles, TellsLeast}
 use Rattle.cert_tree.specs.Slots.{lesser_of, stranger_of, IsFilled, IsEntered, IsPut, IsTaken, IsFirstEmpty}
 use Rattle.cert_tree.specs.Spans.{number_of}
 use Rattle.cert_tree.specs.declared.flat_lemmas.LemmaSpan.{LemmaSpan}
@@ -122,6 +122,12 @@ module _ {X : Type 0} (number_of : X → ℕ) where
       more_other : (m : ℕ) → (number_of (get_or xs i d) ≡ m → ⊥) → how_often number_of (take i xs) m ≡ 0 → how_often number_of (take (i + 1) xs) m ≡ 0
       more_other m other none = omega (arith, often_more xs i d m lt ∙ ap (λ t. cond t 1 0 + how_often number_of (take i xs) m) (ne_eqb (number_of (get_or xs i d)) m other), none)
 
+-- a number stands among what pieces are made to as often as among the pieces
+pub often-map : {X Y : Type 0} (number_of : Y → ℕ) (f : X → Y) (xs : List X) (n : ℕ) → how_often number_of (map f xs) n ≡ how_often (λ x. number_of (f x)) xs n
+often-map number_of f [] n = refl
+often-map number_of f (x ∷ xs) n =
+    often-cons number_of (f x) (map f xs) n ∙ ap (λ m. cond (eqb (number_of (f x)) n) 1 0 + m) (often-map number_of f xs n) ∙ sym (often-cons (λ y. number_of (f y)) x xs n)
+
 -- ---- places
 
 -- a piece stands in the list
@@ -230,11 +236,7 @@ empty_entered count = record {
   least = λ n twice. omega (arith, twice);
 }
 
--- there is no piece at or past the count
-abbrev pub NoStranger : ℕ → List LemmaSpan → Type 0
-NoStranger count pieces = (n : ℕ) → count ≤ n → how_often number_of pieces n ≡ 0
-
-pub all_below : (count : ℕ) (pieces : List LemmaSpan) → NoStranger count pieces → (piece : LemmaSpan) → Contains pieces piece → piece.number < count
+pub all_below : (count : ℕ) (pieces : List LemmaSpan) → HaveNoStranger number_of count pieces → (piece : LemmaSpan) → Contains pieces piece → piece.number < count
 all_below count pieces none piece at = elim (cases_lt piece.number count) [
   | inl lt ↦ lt
   | inr ge ↦ absurd (often_contained number_of pieces piece at (none piece.number ge))
@@ -244,29 +246,30 @@ all_below count pieces none piece at = elim (cases_lt piece.number count) [
 earlier : (f g : AssembleFault) → (assembly_rank f).first < (assembly_rank g).first → AtMost (assembly_rank f) (assembly_rank g)
 earlier f g lt = record { first = omega (arith, lt); second = λ same. absurd (omega (arith, same, lt)); third = λ same b. absurd (omega (arith, same, lt)) }
 
-module _ (count : ℕ) (pieces : List LemmaSpan) where
-  abbrev Fails : AssembleFault → Type 0
-  Fails = AssemblyFails number_of count pieces
+-- ---- a stranger
 
-  -- ---- a stranger
-
+module _ {X : Type 0} (number_of : X → ℕ) (count : ℕ) (pieces : List X) where
   module _ (n : ℕ) (least : IsLeast (λ m. (count ≤ m) × (how_often number_of pieces m ≢ 0)) n) where
-    stranger_first : (g : AssembleFault) → Fails g → AtMost (assembly_rank (Stranger n)) (assembly_rank g)
+    stranger_first : (g : AssembleFault) → AssemblyFails number_of count pieces g → AtMost (assembly_rank (Stranger n)) (assembly_rank g)
     stranger_first (Stranger m) occurs = record { first = omega arith; second = λ same. least.least m occurs; third = λ a b. omega arith }
     stranger_first (Double m) occurs = earlier (Stranger n) (Double m) (omega arith)
     stranger_first (Missing m) occurs = earlier (Stranger n) (Missing m) (omega arith)
     stranger_first Memory occurs = absurd occurs
 
-    pub first_stranger : IsFirst assembly_rank Fails (Stranger n)
+    pub first_stranger : IsFirst assembly_rank (AssemblyFails number_of count pieces) (Stranger n)
     first_stranger = record { occurs = least.holds; first = stranger_first }
 
-  pub no_strangers : TellsLeast (λ m. (count ≤ m) × (how_often number_of pieces m ≢ 0)) None → NoStranger count pieces
+  pub no_strangers : TellsLeast (λ m. (count ≤ m) × (how_often number_of pieces m ≢ 0)) None → HaveNoStranger number_of count pieces
   no_strangers none n past = elim (cases_eq (how_often number_of pieces n) 0) [
     | inl is ↦ is
     | inr some ↦ absurd (none n (past, some))
   ]
 
-  module _ (home : NoStranger count pieces) where
+module _ (count : ℕ) (pieces : List LemmaSpan) where
+  abbrev Fails : AssembleFault → Type 0
+  Fails = AssemblyFails number_of count pieces
+
+  module _ (home : HaveNoStranger number_of count pieces) where
     -- ---- a number that stands twice
 
     module _ (n : ℕ) (least : IsLeast (λ m. 1 < how_often number_of pieces m) n) where

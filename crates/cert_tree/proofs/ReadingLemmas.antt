@@ -1,5 +1,5 @@
 -- What calls that read have returned, by the laws of the texts.
-use Rattle.std.proofs.Common.{◌≡◌, ℕ, ◌^◌, ◌≤◌, zero, suc, ◌+◌, ◌<◌, List, [], ◌∷◌, Some, length, take, map, Result, Ok, Err, cond, eqb, refl, sym, ap, subst, ◌∙◌, arith}
+use Rattle.std.proofs.Common.{◌≡◌, ◌≢◌, ℕ, ◌^◌, ◌≤◌, zero, suc, ◌+◌, ◌<◌, List, [], ◌∷◌, Option, Some, length, take, map, Result, Ok, Err, refl, sym, ap, subst, ◌∙◌, arith}
 use Rattle.match_board.specs.declared.limits.TheConstants.{MOST_SYMMETRIES}
 use Rattle.std.specs.Prelude.{IfOk, All, Contains, slice_get}
 use Rattle.std.specs.List.{AllByRecursion}
@@ -21,11 +21,11 @@ use Rattle.cert_tree.specs.Certificate.{Contents, Piece, piece_of, piece_number}
 use Rattle.cert_tree.specs.Spans.{piece_in, number_of, AreSpans}
 use Rattle.cert_tree.specs.declared.heads.Head.{Head}
 use Rattle.match_puzzle.specs.declared.placements.Pair.{Pair}
-use Rattle.cert_tree.specs.Assembly.{how_often, IsOnly, IsAssembly, AssemblyFails, assembly_rank, Assembles}
+use Rattle.cert_tree.specs.Assembly.{how_often, IsOnly, IsAssembly, AssemblyFails, assembly_rank, Assembles, TellsLeast}
 use Rattle.cert_tree.specs.CertificateText.{Said, lemma_of, LemmaGives, certificate_of, Makes, CertificateGives}
 use Rattle.cert_tree.specs.CertificateSpelling.{lemma_spelling, certificate_spelling, IsSymmetryWithin, IsLemmaWithin, IsCertificateWithin}
 use Rattle.cert_tree.specs.Writing.{said_by}
-use Rattle.cert_tree.proofs.AssemblyLemmas.{often-cons, later_contained}
+use Rattle.cert_tree.proofs.AssemblyLemmas.{often-map, later_contained, tells_same}
 use Rattle.cert_tree.proofs.CertificateTextLemmas.{lemma_found, lemma_only, lemma_short, certificate_found, certificate_only, certificate_short}
 
 -- ---- a lemma
@@ -58,10 +58,8 @@ module _ (pairs : List Pair) (heads : List Head) where
   abbrev to_piece : LemmaSpan → Piece
   to_piece span = piece_in pairs heads span
 
-  often-map : (lemmas : List LemmaSpan) (n : ℕ) → how_often piece_number (map to_piece lemmas) n ≡ how_often number_of lemmas n
-  often-map [] n = refl
-  often-map (lemma ∷ lemmas) n =
-      often-cons piece_number (to_piece lemma) (map to_piece lemmas) n ∙ ap (λ m. cond (eqb lemma.number n) 1 0 + m) (often-map lemmas n) ∙ sym (often-cons number_of lemma lemmas n)
+  often-pieces : (lemmas : List LemmaSpan) (n : ℕ) → how_often piece_number (map to_piece lemmas) n ≡ how_often number_of lemmas n
+  often-pieces lemmas n = often-map piece_number to_piece lemmas n
 
   contained_map : (lemmas : List LemmaSpan) (lemma : LemmaSpan) → Contains lemmas lemma → Contains (map to_piece lemmas) (to_piece lemma)
   contained_map [] lemma at = absurd (omega (arith, at.1))
@@ -75,25 +73,25 @@ module _ (pairs : List Pair) (heads : List Head) where
   piece_at (l ∷ lemmas) (suc n) piece e = piece_at lemmas n piece e
 
   only_map : (pieces : List LemmaSpan) (n : ℕ) (lemma : LemmaSpan) → IsOnly number_of pieces n lemma → IsOnly piece_number (map to_piece pieces) n (to_piece lemma)
-  only_map pieces n lemma is = record { among = contained_map pieces lemma is.among; number = is.number; once = often-map pieces n ∙ is.once }
+  only_map pieces n lemma is = record { among = contained_map pieces lemma is.among; number = is.number; once = often-pieces pieces n ∙ is.once }
 
   assembly_map : (count : ℕ) (pieces lemmas : List LemmaSpan) → IsAssembly number_of count pieces lemmas → IsAssembly piece_number count (map to_piece pieces) (map to_piece lemmas)
   assembly_map count pieces lemmas is = record {
     many = length-map lemmas to_piece ∙ is.many;
     only = λ n piece at. let l = piece_at lemmas n piece at in subst (IsOnly piece_number (map to_piece pieces) n) (sym l.2) (only_map pieces n l.0 (is.only n l.0 l.1));
-    no_stranger = λ n past. often-map pieces n ∙ is.no_stranger n past;
+    no_stranger = λ n past. often-pieces pieces n ∙ is.no_stranger n past;
   }
 
   fails_map : (count : ℕ) (pieces : List LemmaSpan) (fault : AssembleFault) → AssemblyFails number_of count pieces fault → AssemblyFails piece_number count (map to_piece pieces) fault
-  fails_map count pieces (Stranger n) fails = (fails.0, λ e. fails.1 (sym (often-map pieces n) ∙ e))
-  fails_map count pieces (Double n) fails = omega (arith, fails, often-map pieces n)
-  fails_map count pieces (Missing n) fails = (fails.0, often-map pieces n ∙ fails.1)
+  fails_map count pieces (Stranger n) fails = (fails.0, λ e. fails.1 (sym (often-pieces pieces n) ∙ e))
+  fails_map count pieces (Double n) fails = omega (arith, fails, often-pieces pieces n)
+  fails_map count pieces (Missing n) fails = (fails.0, often-pieces pieces n ∙ fails.1)
   fails_map count pieces Memory fails = fails
 
   fails_back : (count : ℕ) (pieces : List LemmaSpan) (fault : AssembleFault) → AssemblyFails piece_number count (map to_piece pieces) fault → AssemblyFails number_of count pieces fault
-  fails_back count pieces (Stranger n) fails = (fails.0, λ e. fails.1 (often-map pieces n ∙ e))
-  fails_back count pieces (Double n) fails = omega (arith, fails, often-map pieces n)
-  fails_back count pieces (Missing n) fails = (fails.0, sym (often-map pieces n) ∙ fails.1)
+  fails_back count pieces (Stranger n) fails = (fails.0, λ e. fails.1 (often-pieces pieces n ∙ e))
+  fails_back count pieces (Double n) fails = omega (arith, fails, often-pieces pieces n)
+  fails_back count pieces (Missing n) fails = (fails.0, sym (often-pieces pieces n) ∙ fails.1)
   fails_back count pieces Memory fails = fails
 
   first_map : (count : ℕ) (pieces : List LemmaSpan) (fault : AssembleFault) → IsFirst assembly_rank (AssemblyFails number_of count pieces) fault → IsFirst assembly_rank (AssemblyFails piece_number count (map to_piece pieces)) fault
@@ -166,3 +164,12 @@ made_within said c fits made = record {
 pub certificate_within_of : (text : List ℕ) (result : Result Contents CertTextFault) → CertificateGives result (certificate_of text) → IfOk result (λ c. IsCertificateWithin (said_by c))
 certificate_within_of text (Err f) gives = tt
 certificate_within_of text (Ok c) gives = let found = certificate_found_of text (Ok c) gives in made_within found.0 c found.1 found.3
+
+-- ---- lemmas whose nodes own their children have the numbers of their pieces
+
+-- the least number at or past the count, among the lemmas and among their pieces
+pub tells_of_pieces : (count : ℕ) (lemmas : List Lemma) (least : Option ℕ) → TellsLeast (λ n. (count ≤ n) × (how_often (λ (lemma : Lemma). lemma.number) lemmas n ≢ 0)) least
+    → TellsLeast (λ n. (count ≤ n) × (how_often piece_number (map piece_of lemmas) n ≢ 0)) least
+tells_of_pieces count lemmas least told =
+    tells_same (λ n. (count ≤ n) × (how_often (λ (lemma : Lemma). lemma.number) lemmas n ≢ 0)) (λ n. (count ≤ n) × (how_often piece_number (map piece_of lemmas) n ≢ 0)) least told (λ n p. (p.0, λ none. p.1 (sym (often-map piece_number piece_of lemmas n) ∙ none)))
+    (λ n p. (p.0, λ none. p.1 (often-map piece_number piece_of lemmas n ∙ none)))

@@ -18,11 +18,15 @@ module _ {X : Type 0} (number_of : X → ℕ) where
     pub number : number_of x ≡ n
     pub once : how_often pieces n ≡ 1
 
+  -- No piece has a number at or past the count.
+  abbrev pub HaveNoStranger : (count : ℕ) (pieces : List X) → Type 0
+  HaveNoStranger count pieces = (n : ℕ) → count ≤ n → how_often pieces n ≡ 0
+
   -- Each number below the count has one piece, these are the pieces by their numbers, and there are no others.
   pub record IsAssembly (count : ℕ) (pieces xs : List X) : Type 0 where
     pub many : length xs ≡ count
     pub only : (n : ℕ) (x : X) → slice_get xs n ≡ Some x → IsOnly pieces n x
-    pub no_stranger : (n : ℕ) → count ≤ n → how_often pieces n ≡ 0
+    pub no_stranger : HaveNoStranger count pieces
 
   -- When a fault occurs.
   abbrev pub AssemblyFails : (count : ℕ) (pieces : List X) → AssembleFault → Type 0

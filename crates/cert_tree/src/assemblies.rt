@@ -1,12 +1,12 @@
 //! Certificates are assembled of numbered pieces.
 
 ghost use Rattle.std.specs.Prelude.{◌≡◌, ◌↔◌, ◌≢◌, ◌≤◌, ◌<◌, ◌^◌, ◌∷◌, [], ℕ, List, None, Some, Ok, Err, All, Contains};
-ghost use Rattle.std.specs.Prelude.{IfOk, IfErr, IsTrue, MatchBool, length, map, replicate};
+ghost use Rattle.std.specs.Prelude.{IfOk, IfErr, IsErrOf, IsTrue, MatchBool, length, map, replicate};
 ghost use Rattle.cert_tree.specs.declared.flat_lemmas.LemmaSpan.{LemmaSpan as Span};
 ghost use Rattle.cert_tree.specs.Certificate.{piece_number, piece_of};
 ghost use Rattle.cert_tree.specs.Spans.{number_of};
 ghost use Rattle.cert_tree.specs.Tree.{tree_of, IsNarrow};
-ghost use Rattle.cert_tree.specs.Assembly.{how_often, Assembles, TellsLeast, IsOneInAnyOrder};
+ghost use Rattle.cert_tree.specs.Assembly.{how_often, Assembles, HaveNoStranger, TellsLeast, IsOneInAnyOrder};
 ghost use Rattle.cert_tree.specs.Slots.{lesser_of, stranger_of, IsPut, IsTaken, IsEntered, IsFirstEmpty};
 
 use crate::certificates::{Certificate, Lemma};
@@ -37,13 +37,37 @@ fn stranger_so_far(count: u32, least: Option<u32>, number: u32) -> Option<u32>
     Some(lesser(least, number))
 }
 
+// What has a number: a lemma, in memory of its own or among the others.
+trait Numbered {
+    ghost numbered: { Self → ℕ };
+
+    fn number(&self) -> u32
+        ensures { result ≡ numbered self.now };
+}
+
+impl Numbered for LemmaSpan {
+    ghost numbered = { number_of };
+
+    fn number(&self) -> u32 {
+        self.number
+    }
+}
+
+impl Numbered for Lemma {
+    ghost numbered = { λ lemma. lemma.number };
+
+    fn number(&self) -> u32 {
+        self.number
+    }
+}
+
 // The least number at or past the count that a piece has.
-fn least_stranger(pieces: &[LemmaSpan], count: u32) -> Option<u32>
-    ensures { TellsLeast (λ n. (count ≤ n) × (how_often number_of pieces.now n ≢ 0)) result }
+fn least_stranger<N: Numbered>(pieces: &[N], count: u32) -> Option<u32>
+    ensures { TellsLeast (λ n. (count ≤ n) × (how_often N.numbered pieces.now n ≢ 0)) result }
 {
     let mut least = None;
     for piece in pieces {
-        least = stranger_so_far(count, least, piece.number);
+        least = stranger_so_far(count, least, piece.number());
     }
     least
 }
@@ -126,7 +150,7 @@ fn in_order(
     count: u32,
     pieces: Vec<LemmaSpan>,
 ) -> Result<Vec<LemmaSpan>, AssembleFault>
-    requires { (n : ℕ) → count ≤ n → how_often number_of pieces.items n ≡ 0 }
+    requires { HaveNoStranger number_of count pieces.items }
     ensures ok { IfOk result (λ lemmas. Assembles number_of count pieces.items (Ok lemmas.items)) }
     ensures err { IfErr result (λ fault. Assembles number_of count pieces.items (Err fault)) }
 {
@@ -195,8 +219,8 @@ pub(crate) fn assemble_flat(
 /// The certificate of these symmetries, whose lemma i is the only piece with number i.
 ///
 /// An `Err` is the first fault in the order of [`AssembleFault`], with its least number: `Stranger`, `Double`,
-/// `Missing`; `Memory` only where memory is refused. The order of the pieces doesn't matter. On an `Err` all are
-/// dropped.
+/// `Missing`; `Memory` only where memory is refused, and then no number is at or past the count. The order of the pieces
+/// doesn't matter. On an `Err` all are dropped.
 ///
 /// The trees are laid out flat by a recursion that is as deep as they are, into 8 bytes a node beside the pieces. The
 /// rest takes a step for each piece and each number below the count.
@@ -214,7 +238,13 @@ pub fn assemble(
     ensures lemmas { IfOk result
         (λ certificate. Assembles piece_number count (map piece_of pieces.items) (Ok certificate.lemmas)) }
     ensures fault { IfErr result (λ fault. Assembles piece_number count (map piece_of pieces.items) (Err fault)) }
+    ensures memory { IsErrOf result AssembleFault.Memory
+        → HaveNoStranger piece_number count (map piece_of pieces.items) }
 {
+    // before memory is asked for, which may be refused
+    if let Some(stranger) = least_stranger(&pieces, count) {
+        return Err(AssembleFault::Stranger(stranger));
+    }
     let flat = flat_lemmas(alloc, &pieces)?;
     assemble_flat(alloc, count, symmetries, flat)
 }

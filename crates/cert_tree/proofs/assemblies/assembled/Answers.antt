@@ -7,12 +7,12 @@ use Rattle.cert_tree.proofs.assemblies.assembled.Goals as goal
 pub returns-in-Some-clause-err : goal.returns-in-Some-clause-err
 returns-in-Some-clause-err c =
     let least = subst (λ xs. TellsLeast (λ n. (c.args.count ≤ n) × (how_often number_of xs n ≢ 0)) c.least_stranger.result) c.deref-2.ensures.value c.least_stranger.ensures in
-    first_stranger c.args.count c.args.pieces.items c.in-Some.number (subst (TellsLeast (λ n. (c.args.count ≤ n) × (how_often number_of c.args.pieces.items n ≢ 0))) c.in-Some.is least)
+    first_stranger number_of c.args.count c.args.pieces.items c.in-Some.number (subst (TellsLeast (λ n. (c.args.count ≤ n) × (how_often number_of c.args.pieces.items n ≢ 0))) c.in-Some.is least)
 
 pub in_order-requires : goal.in_order-requires
 in_order-requires c =
     let least = subst (λ xs. TellsLeast (λ n. (c.args.count ≤ n) × (how_often number_of xs n ≢ 0)) c.least_stranger.result) c.deref-2.ensures.value c.least_stranger.ensures in
-    no_strangers c.args.count c.args.pieces.items (subst (TellsLeast (λ n. (c.args.count ≤ n) × (how_often number_of c.args.pieces.items n ≢ 0))) c.in_default.is least)
+    no_strangers number_of c.args.count c.args.pieces.items (subst (TellsLeast (λ n. (c.args.count ≤ n) × (how_often number_of c.args.pieces.items n ≢ 0))) c.in_default.is least)
 
 pub returns-then-are_assembled-clause-ok : goal.returns-then-are_assembled-clause-ok
 returns-then-are_assembled-clause-ok c = subst (λ pieces. IsAssembly number_of c.args.count pieces pieces) c.deref.ensures.value (c.are_assembled.ensures.0 c.if-are_assembled.true)
