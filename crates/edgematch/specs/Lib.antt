@@ -5,4 +5,5 @@ pub mod FaultText
 pub mod Runs
 pub mod Solving
 pub mod Files
+pub mod HeldFiles
 pub mod OrderRuns

@@ -1,6 +1,6 @@
 //! Files by their names.
 
-ghost use Rattle.std.specs.Prelude.{◌≡◌, ◌≢◌, ◌↔◌, ℕ, List, Option, None, IfOk, IfErr, IsTrue};
+ghost use Rattle.std.specs.Prelude.{◌≡◌, ◌≢◌, ◌↔◌, ℕ, List, Option, None, false, IfOk, IfErr, IsTrue};
 ghost use Rattle.edgematch.specs.Files.{LeavesAll};
 
 use crate::faults::{Document, RunFault};
@@ -21,10 +21,14 @@ pub trait FileSystem {
 
     /// The file of this name, opened, with nothing read of it.
     fn open(&self, name: &str) -> Result<Self::Reader, Failed>
-        ensures { IfOk result (λ reader. LeavesAll (holds self.now name.now) (Self.Reader.left reader)) };
+        ensures left { IfOk result (λ reader. LeavesAll (holds self.now name.now) (Self.Reader.left reader)) }
+        ensures unread { IfOk result
+            (λ reader. (Self.Reader.ended reader ≡ false) × (Self.Reader.errors reader ≡ 0)) };
 
     /// A file of this name made anew, empty, whatever stood under it.
-    fn make(&self, name: &str) -> Result<Self::Writer, Failed>;
+    fn make(&self, name: &str) -> Result<Self::Writer, Failed>
+        ensures unwritten { IfOk result
+            (λ writer. (Self.Writer.idle writer ≡ false) × (Self.Writer.errors writer ≡ 0)) };
 }
 
 /// The files of the system. What they hold is not told.
@@ -70,6 +74,7 @@ pub fn open<S: FileSystem>(
     document: Document,
 ) -> Result<S::Reader, RunFault>
     ensures left { IfOk result (λ reader. LeavesAll (S.holds system.now name.now) (S.Reader.left reader)) }
+    ensures unread { IfOk result (λ reader. (S.Reader.ended reader ≡ false) × (S.Reader.errors reader ≡ 0)) }
     ensures fault { IfErr result (λ fault. fault ≡ RunFault.Read document) }
 {
     match system.open(name) {
@@ -80,6 +85,7 @@ pub fn open<S: FileSystem>(
 
 /// A file made anew, empty, whatever stood under its name. `Write` where it can't be made.
 pub fn make<S: FileSystem>(system: &S, name: &str) -> Result<S::Writer, RunFault>
+    ensures unwritten { IfOk result (λ writer. (S.Writer.idle writer ≡ false) × (S.Writer.errors writer ≡ 0)) }
     ensures fault { IfErr result (λ fault. fault ≡ RunFault.Write) }
 {
     match system.make(name) {

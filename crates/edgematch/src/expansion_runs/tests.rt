@@ -2,7 +2,8 @@ use super::run_expand;
 use crate::faults::RunFault;
 use crate::runs::Status;
 use crate::runs::tests::citations::{
-    LISTED_TRIANGLE, LISTED_TWINS, TURNING_TRIANGLE, TWIN_TILES, WALK_OF_TWINS, walk_of_triangle,
+    FIVE_CELLS, LISTED_FIVE, LISTED_TRIANGLE, LISTED_TWINS, TURNING_TRIANGLE, TWIN_TILES,
+    WALK_OF_FIVE, WALK_OF_TWINS, walk_of_triangle,
 };
 use crate::streams::fakes::Fake;
 use std::alloc::{AllocError, Global};
@@ -23,21 +24,35 @@ fn expansion(
     Ok((Vec::from_slice(alloc, writer.written())?, status))
 }
 
+// Under one symmetry, under one that moves the cells, and under two.
 #[test]
 fn prints_all_arrangements(rt: HostRuntime) -> Result<(), Fail> {
-    let (written, status) = expansion(rt.alloc(), TWIN_TILES, LISTED_TWINS, WALK_OF_TWINS)?;
-    assert_eq!(rt;
-        written.as_slice(),
-        b"list 1\narrangements 2\n0.0 1.0\n1.0 0.0\nend\n".as_slice()
-    );
-    assert_eq!(rt; status, Ok(Status::Complete));
-    let text = walk_of_triangle(rt.alloc())?;
-    let (written, status) = expansion(rt.alloc(), TURNING_TRIANGLE, LISTED_TRIANGLE, &text)?;
-    assert_eq!(rt;
-        written.as_slice(),
-        b"list 1\narrangements 3\n2.2 1.0 0.0 3.1\n1.2 3.0 0.2 2.1\n3.2 2.0 0.1 1.1\nend\n".as_slice()
-    );
-    assert_eq!(rt; status, Ok(Status::Complete));
+    let of_triangle = walk_of_triangle(rt.alloc())?;
+    let rows = [
+        (
+            TWIN_TILES,
+            LISTED_TWINS,
+            WALK_OF_TWINS,
+            b"list 1\narrangements 2\n0.0 1.0\n1.0 0.0\nend\n".as_slice(),
+        ),
+        (
+            TURNING_TRIANGLE,
+            LISTED_TRIANGLE,
+            of_triangle.as_slice(),
+            b"list 1\narrangements 3\n2.2 1.0 0.0 3.1\n1.2 3.0 0.2 2.1\n3.2 2.0 0.1 1.1\nend\n".as_slice(),
+        ),
+        (
+            FIVE_CELLS,
+            LISTED_FIVE,
+            WALK_OF_FIVE,
+            b"list 1\narrangements 4\n0.0 2.0 1.0 3.0 4.0\n1.0 2.0 0.0 3.0 4.0\n0.0 3.0 1.0 2.0 4.0\n1.0 3.0 0.0 2.0 4.0\nend\n".as_slice(),
+        ),
+    ];
+    for (puzzle, list, certificate, all) in rows {
+        let (written, status) = expansion(rt.alloc(), puzzle, list, certificate)?;
+        assert_eq!(rt; written.as_slice(), all);
+        assert_eq!(rt; status, Ok(Status::Complete));
+    }
     Ok(())
 }
 

@@ -1,6 +1,7 @@
 //! Files in memory, for tests.
 
-ghost use Rattle.std.specs.Prelude.{None};
+ghost use Rattle.std.specs.Prelude.{◌≡◌, None, Some};
+ghost use Rattle.edgematch.specs.HeldFiles.{held_by};
 
 use super::FileSystem;
 use crate::streams::fakes::Fake;
@@ -37,6 +38,47 @@ impl FileSystem for FakeFiles<'_> {
             }
         }
         Err(Failed)
+    }
+
+    fn make(&self, _name: &str) -> Result<Fake, Failed> {
+        Ok(Fake::new(self.alloc, Vec::new(self.alloc), 5, usize::MAX))
+    }
+}
+
+/// The files of three documents, whose names begin with `p`, with `l` and with anything else. It tells what they hold.
+#[derive(Clone, Copy)]
+pub struct HeldFiles<'a> {
+    pub alloc: Global,
+    pub puzzle: &'a [u8],
+    pub list: &'a [u8],
+    pub certificate: &'a [u8],
+}
+
+impl<'a> HeldFiles<'a> {
+    // What the file of this name holds.
+    fn held(&self, name: &str) -> &'a [u8]
+        ensures { result.now ≡ held_by self.now.puzzle.now self.now.list.now self.now.certificate.now name.now }
+    {
+        match name.as_bytes().first() {
+            Some(b'p') => self.puzzle,
+            Some(b'l') => self.list,
+            _ => self.certificate,
+        }
+    }
+}
+
+impl FileSystem for HeldFiles<'_> {
+    type Reader = Fake;
+
+    type Writer = Fake;
+
+    ghost holds = { λ f name. Some (held_by f.puzzle.now f.list.now f.certificate.now name) };
+
+    fn open(&self, name: &str) -> Result<Fake, Failed> {
+        let Ok(bytes) = Vec::from_slice(self.alloc, self.held(name)) else {
+            return Err(Failed);
+        };
+        Ok(Fake::new(self.alloc, bytes, 7, usize::MAX))
     }
 
     fn make(&self, _name: &str) -> Result<Fake, Failed> {

@@ -1,8 +1,10 @@
+ghost use Rattle.std.specs.Prelude.{◌≡◌, IfOk};
 ghost use Rattle.command_words.specs.Orders.{IsInRange};
+ghost use Rattle.edgematch.specs.Runs.{SpellCompleteList};
 
 use super::{fault_status, run_order};
 use crate::faults::{Document, RunFault, SolveFault};
-use crate::files::fakes::FakeFiles;
+use crate::files::fakes::{FakeFiles, HeldFiles};
 use crate::runs::tests::citations::{LISTED_TWINS, TWIN_TILES, WALK_OF_TWINS};
 use crate::streams::fakes::Fake;
 use command_words::{Files, Order};
@@ -96,4 +98,46 @@ fn makes_no_file_of_the_name_of_another(rt: HostRuntime) -> Result<(), Fail> {
     assert_eq!(rt; fault_status(&RunFault::Write), 2);
     assert_eq!(rt; fault_status(&RunFault::Solve(SolveFault::GaveUp)), 3);
     Ok(())
+}
+
+// The status of a check of three files that hold these texts. What `run_order` shows is said of the texts here: where
+// it is 0, they spell a list that is complete.
+fn status_of(alloc: Global, puzzle: &[u8], list: &[u8], certificate: &[u8]) -> Result<u8, RunFault>
+    ensures { IfOk result (λ code. code ≡ 0 → SpellCompleteList (record {
+      puzzle = puzzle.now;
+      list = list.now;
+      certificate = certificate.now;
+    })) }
+{
+    let system = HeldFiles {
+        alloc,
+        puzzle,
+        list,
+        certificate,
+    };
+    let first = String::from_str(alloc, "p")?;
+    let second = String::from_str(alloc, "l")?;
+    let third = String::from_str(alloc, "c")?;
+    let order = Order::Check(Files {
+        puzzle: first,
+        list: second,
+        certificate: third,
+    });
+    let mut input = Fake::new(alloc, Vec::new(alloc), 7, usize::MAX);
+    let mut output = Fake::new(alloc, Vec::new(alloc), 5, usize::MAX);
+    let code = run_order(alloc, &order, &system, &mut input, &mut output)?;
+    Ok(code)
+}
+
+#[test]
+fn status_0_is_of_a_complete_list(rt: HostRuntime) {
+    let alloc = rt.alloc();
+    assert_eq!(rt;
+        status_of(alloc, TWIN_TILES, LISTED_TWINS, WALK_OF_TWINS),
+        Ok(0)
+    );
+    assert_eq!(rt;
+        status_of(alloc, TWIN_TILES, LISTED_TWINS, DEAD_TWINS),
+        Ok(1)
+    );
 }

@@ -2,6 +2,7 @@ mod boards;
 mod checks;
 pub(crate) mod citations;
 mod examples;
+mod long_texts;
 
 use super::{Status, run_joined};
 use crate::faults::{RunFault, fault_text};

@@ -1,6 +1,6 @@
 //! A source and a sink over memory, for tests.
 
-ghost use Rattle.std.specs.Prelude.{◌≡◌, ◌≤◌, [], Some, drop, length};
+ghost use Rattle.std.specs.Prelude.{◌≡◌, ◌≤◌, [], Some, drop, false, length};
 
 use super::sinks::Sink;
 use super::sources::{Failed, Source};
@@ -31,6 +31,8 @@ impl Fake {
         ensures written { result.written.items ≡ [] }
         ensures most { result.most ≡ most }
         ensures fails_after { result.fails_after ≡ fails_after }
+        ensures ended { result.ended ≡ false }
+        ensures idle { result.idle ≡ false }
         ensures errors { result.errors ≡ 0 }
     {
         Fake {

@@ -3,6 +3,7 @@ use super::fakes::Fake;
 use super::sinks::{Sink, write_whole};
 use super::sources::{Failed, ReadWholeFault, Source, read_whole};
 use super::systems::{Input, Output};
+use std::alloc::{AllocError, Global};
 use std::io::{self, ErrorKind, Read, Write};
 use std::test::Fail;
 
@@ -43,6 +44,34 @@ fn tells_what_went_wrong(rt: HostRuntime) -> Result<(), Fail> {
     let mut writer = Fake::new(rt.alloc(), Vec::new(rt.alloc()), 0, usize::MAX);
     assert_eq!(rt; write_whole(&mut writer, b"complete 1\n"), Err(Failed));
     assert_eq!(rt; (writer.written().len(), writer.errors()), (0, 0));
+    Ok(())
+}
+
+// So many bytes, the numbers below 251 over and over.
+fn many_bytes(alloc: Global, count: u32) -> Result<Vec<u8>, AllocError> {
+    let mut bytes = Vec::new(alloc);
+    for number in 0..count {
+        bytes.push((number % 251) as u8)?;
+    }
+    Ok(bytes)
+}
+
+// Whether a source that gives at most so many of these bytes a call, and the system's reader over them, are read whole.
+fn are_read_whole(alloc: Global, bytes: &[u8], most: usize) -> Result<bool, Fail> {
+    let mut fake = Fake::new(alloc, Vec::from_slice(alloc, bytes)?, most, usize::MAX);
+    let of_fake = read_whole(alloc, &mut fake, 1_000_000)?;
+    let mut input = Input::new(bytes);
+    let of_system = read_whole(alloc, &mut input, 1_000_000)?;
+    Ok(of_fake.as_slice() == bytes && of_system.as_slice() == bytes)
+}
+
+#[test]
+fn reads_long_inputs_whole(rt: HostRuntime) -> Result<(), Fail> {
+    for count in [1_001, 65_536, 65_537, 200_000] {
+        let bytes = many_bytes(rt.alloc(), count)?;
+        assert!(rt; are_read_whole(rt.alloc(), &bytes, 1_000)?);
+        assert!(rt; are_read_whole(rt.alloc(), &bytes, usize::MAX)?);
+    }
     Ok(())
 }
 

@@ -11,6 +11,17 @@ fn lists_the_triangles_of_two_colours(rt: HostRuntime) -> Result<(), Fail> {
     Ok(())
 }
 
+// MacMahon's count, (q^3 + 2q) / 3: 76 lines of three colours and an LF.
+#[test]
+fn lists_the_triangles_of_six_colours(rt: HostRuntime) -> Result<(), Fail> {
+    let mut writer = Fake::new(rt.alloc(), Vec::new(rt.alloc()), usize::MAX, usize::MAX);
+    assert_eq!(rt; run_tiles(rt.alloc(), 3, 6, &mut writer), Ok(()));
+    assert_eq!(rt; writer.written().len(), 76 * 4);
+    assert!(rt; writer.written().starts_with(b"000\n001\n"));
+    assert!(rt; writer.written().ends_with(b"\n455\n555\n"));
+    Ok(())
+}
+
 #[test]
 fn lists_no_more_than_100_tiles(rt: HostRuntime) -> Result<(), Fail> {
     let mut writer = Fake::new(rt.alloc(), Vec::new(rt.alloc()), 3, usize::MAX);

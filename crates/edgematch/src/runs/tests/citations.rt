@@ -16,6 +16,16 @@ pub const TURNING_TRIANGLE: &[u8] =
 
 pub const LISTED_TRIANGLE: &[u8] = b"list 1\narrangements 1\n2.2 1.0 0.0 3.1\nend\n";
 
+// A row of five cells. Its tiles are two of one word, two of another, which go after those, and one that fits the last
+// cell alone.
+pub const FIVE_CELLS: &[u8] =
+    b"match 1\nboard rect 5 1\nturns no\nborder each 0 - 0 0 - 0 - 0 - - - -\ntiles 5\ntile 0100\ntile 0100\ntile 0001\ntile 0001\ntile 1200\nend\n";
+
+pub const LISTED_FIVE: &[u8] = b"list 1\narrangements 1\n0.0 2.0 1.0 3.0 4.0\nend\n";
+
+pub const WALK_OF_FIVE: &[u8] =
+    b"certificate 1\nsymmetries 2\nsymmetry 0 + cells 0 1 2 3 4 colours 0 1 2 tiles 1 0 2 3 4\nsymmetry 0 + cells 0 1 2 3 4 colours 0 1 2 tiles 0 1 3 2 4\nlemmas 4\nlemma 0 prefix 0:0.0 1:2.0 tree c 2 1 c 3 1 c 4 1 f 0\nlemma 1 prefix 0:0.0 1:3.0 tree i 0 1\nlemma 2 prefix 0:0.0 tree c 1 2 s 0 s 1\nlemma 3 prefix tree c 0 2 s 2 i 2 0\nend\n";
+
 const FIRST: &[u8] = b"lemma 0 prefix 2:0.0 tree c 0 1 c 1 1 c 3 1 f 0\n";
 
 const SECOND: &[u8] = b"lemma 1 prefix 2:0.2 tree i 0 0\n";
