@@ -18,7 +18,7 @@ use Rattle.cert_tree.specs.Certificate.{Piece}
 use Rattle.cert_check.specs.Setting.{Question, setting_at}
 use Rattle.cert_check.specs.TreeFaults.{FailsAt}
 use Rattle.cert_check.specs.Covered.{IsCovered}
-use Rattle.cert_check.specs.Derivation.{start_of, HasRoot, IsDerivation}
+use Rattle.cert_check.specs.Derivation.{start_of, HavePrefixes, HasRoot, IsDerivation}
 
 -- Each listed one is an arrangement of the puzzle.
 abbrev pub AreArrangements : Task → List (List Placement) → Type 0
@@ -53,6 +53,14 @@ pub record IsShown (question : Question) : Type 0 where
   pub arrangements : AreArrangements question.puzzle question.listed
   pub symmetries : AreSymmetries question.puzzle question.symmetries
   pub derivation : IsDerivation question
+
+-- All is right but perhaps the trees.
+pub record IsPrepared (question : Question) : Type 0 where
+  pub distinct : AreDistinct question.listed
+  pub arrangements : AreArrangements question.puzzle question.listed
+  pub symmetries : AreSymmetries question.puzzle question.symmetries
+  pub prefixes : HavePrefixes question
+  pub root : HasRoot question.lemmas
 
 -- Each arrangement that extends a lemma's prefix is reached.
 abbrev pub AreCovered : Question → Type 0

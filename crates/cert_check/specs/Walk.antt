@@ -5,6 +5,7 @@ use Rattle.match_puzzle.specs.Puzzle.{Task}
 use Rattle.match_puzzle.specs.Arrangement.{IsArrangement}
 use Rattle.match_puzzle.specs.ArrangementFaults.{IsArrangementFault}
 use Rattle.match_puzzle.specs.Prefix.{Prefix}
+use Rattle.match_puzzle.specs.declared.faults.ArrangementFault.{ArrangementFault}
 use Rattle.match_puzzle.specs.declared.placements.Placement.{Placement}
 use Rattle.cert_tree.specs.Tree.{Tree}
 use Rattle.cert_tree.specs.Certificate.{Piece}
@@ -46,6 +47,12 @@ TellsOfTrees question said =
     (λ n lemma fault.
     FailsAt (setting_at question n) lemma.tree (start_of question.puzzle lemma) fault.path fault.fault)
     question.lemmas r.0 r.1)
+
+-- What is said of the members of the list: that each is an arrangement, or the first that isn't, with its first fault.
+abbrev pub TellsOfArrangements : Task → List (List Placement) → Option (ℕ × ArrangementFault) → Type 0
+TellsOfArrangements p listed said =
+    MatchOption said (AreArrangements p listed)
+    (λ r. IsFirstBad (λ n a. IsArrangement p a) (λ n a fault. IsArrangementFault p a fault) listed r.0 r.1)
 
 -- What is said of the list: that it has different arrangements, or its first fault.
 abbrev pub TellsOfListing : Task → List (List Placement) → Option Fault → Type 0

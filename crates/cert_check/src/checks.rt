@@ -8,12 +8,11 @@ ghost use Rattle.cert_check.specs.Setting.{question_of, line_of, AreOfPuzzle, Be
 ghost use Rattle.cert_check.specs.Walk.{TellsOfLemma, TellsOfTrees, TellsOfListing};
 ghost use Rattle.cert_check.specs.Answer.{AreArrangements, IsAnswer, IsCompleteList, AreCovered, OneAnswer};
 
-use crate::faults::{Answer, Fault, TreeFault};
+use crate::faults::{Answer, TreeFault};
+use crate::gates::{Gate, Open};
 use crate::list_faults::list_fault;
-use crate::prefixes::{ends_at_a_root, prefixes_fault};
-use crate::repeats::first_repeated;
 use crate::settings::Setting;
-use crate::symmetries::{SymmetriesFault, make_symmetries};
+use crate::stages::{answer_of, prepare};
 use crate::walks::walk;
 use cert_tree::Certificate;
 use match_puzzle::{Arrangement, Partial, Puzzle};
@@ -46,54 +45,32 @@ pub fn check(
     // Want of memory hides no fault of a listed one.
     ensures memory { OnErr result (AreArrangements puzzle.now listed.now) }
 {
-    if let Some(fault) = listing_fault(alloc, puzzle, listed)? {
-        return Ok(Answer::Refused(fault));
-    }
-    let symmetries = match make_symmetries(alloc, puzzle, certificate.symmetries()) {
+    let prepared = prepare(
+        alloc,
+        puzzle,
+        listed,
+        certificate,
+        list_fault(puzzle, listed),
+    )?;
+    let symmetries = match prepared {
         Ok(symmetries) => symmetries,
-        Err(SymmetriesFault::Line(number, fault)) => {
-            return Ok(Answer::Refused(Fault::Symmetry(number, fault)));
-        }
-        Err(SymmetriesFault::Memory) => return Err(AllocError),
+        Err(fault) => return Ok(Answer::Refused(fault)),
     };
-    if let Some((number, fault)) = prefixes_fault(puzzle, certificate.lemmas()) {
-        return Ok(Answer::Refused(Fault::Prefix(number, fault)));
-    }
-    if !ends_at_a_root(certificate.lemmas()) {
-        return Ok(Answer::Refused(Fault::Root));
-    }
-    match trees_fault(alloc, puzzle, listed, &symmetries, certificate)? {
-        None => Ok(Answer::Complete),
-        Some((number, fault)) => Ok(Answer::Refused(Fault::Tree(number, fault))),
-    }
+    let found = trees_fault(alloc, puzzle, listed, &symmetries, certificate, &Open)?;
+    Ok(answer_of(puzzle, listed, certificate, found))
 }
 
-// What is wrong with the list alone.
-fn listing_fault(
-    alloc: Global,
-    puzzle: &Puzzle,
-    listed: &[Arrangement],
-) -> Result<Option<Fault>, AllocError>
-    requires { length listed.now < 2 ^ 32 }
-    ensures told { IfOk result (TellsOfListing puzzle.now listed.now) }
-    ensures memory { OnErr result (AreArrangements puzzle.now listed.now) }
-{
-    if let Some((number, fault)) = list_fault(puzzle, listed) {
-        return Ok(Some(Fault::List(number, fault)));
-    }
-    match first_repeated(alloc, listed)? {
-        None => Ok(None),
-        Some(number) => Ok(Some(Fault::Repeated(number))),
-    }
-}
-
-// The first lemma whose tree has a fault, and that fault.
-fn trees_fault(
+/// The first lemma whose tree has a fault, with its first fault in preorder, or none where all hold. The gate is told of
+/// each lemma before its tree is walked.
+///
+/// The symmetries are those of the certificate's lines, in order. An `Err` comes where memory is refused.
+pub fn trees_fault<G: Gate>(
     alloc: Global,
     puzzle: &Puzzle,
     listed: &[Arrangement],
     symmetries: &[Symmetry<'_>],
     certificate: &Certificate,
+    gate: &G,
 ) -> Result<Option<(u32, TreeFault)>, AllocError>
     requires puzzle { AreOfPuzzle puzzle.now symmetries.now }
     requires lines { map line_of symmetries.now ≡ certificate.now.symmetries }
@@ -103,6 +80,7 @@ fn trees_fault(
 {
     let mut partial = Partial::new(alloc, puzzle)?;
     for lemma in 0..certificate.lemmas().len() as u32 {
+        gate.enter(lemma);
         let fault = lemma_fault(
             alloc,
             puzzle,

@@ -3,14 +3,19 @@
 
 mod checks;
 mod faults;
+mod gates;
 mod list_faults;
 mod node_faults;
 mod prefixes;
 mod repeats;
 mod settings;
+mod stages;
 mod symmetries;
 mod walks;
 
-pub use checks::{check, one_answer, tree_fault};
+pub use checks::{check, one_answer, tree_fault, trees_fault};
 pub use faults::{Answer, Fault, NodeFault, Path, TreeFault};
+pub use gates::{Gate, Open};
+pub use list_faults::list_fault;
+pub use stages::{answer_of, prepare};
 pub use symmetries::{SymmetriesFault, make_symmetries};
