@@ -93,6 +93,13 @@ impl<'a> Trees<'a> {
         Trees { heads }
     }
 
+    /// The same trees, to be walked apart from these. It takes no memory.
+    pub fn copy(&self) -> Trees<'a>
+        ensures { result ≡ self.now }
+    {
+        Trees { heads: self.heads }
+    }
+
     /// Goes past the first node, whose children are then the first trees, and gives its head.
     pub fn next(&mut self) -> Head
         requires { self.old ≢ none }
