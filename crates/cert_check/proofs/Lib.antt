@@ -6,3 +6,4 @@ pub mod AnswerLemmas
 pub mod CheckLemmas
 pub mod WalkLemmas
 pub mod RepeatLemmas
+pub mod ForkLemmas

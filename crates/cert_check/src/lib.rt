@@ -3,6 +3,7 @@
 
 mod checks;
 mod faults;
+mod forks;
 mod gates;
 mod list_faults;
 mod node_faults;
@@ -15,6 +16,7 @@ mod walks;
 
 pub use checks::{check, one_answer, tree_fault, trees_fault};
 pub use faults::{Answer, Fault, NodeFault, Path, TreeFault};
+pub use forks::forked_tree_fault;
 pub use gates::{Gate, Open};
 pub use list_faults::list_fault;
 pub use stages::{answer_of, prepare};

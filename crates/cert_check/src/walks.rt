@@ -93,7 +93,11 @@ fn walk_branch(
 }
 
 // Puts a fault of the first node down. Whether there is none.
-fn at_top(alloc: Global, of_node: Option<NodeFault>, fault: &mut Option<TreeFault>) -> bool
+pub(crate) fn at_top(
+    alloc: Global,
+    of_node: Option<NodeFault>,
+    fault: &mut Option<TreeFault>,
+) -> bool
     requires { fault.old ≡ None }
     ensures holds { MatchBool result (fault.new ≡ None) (fault.new ≢ None) }
     ensures fault { IsAtTop of_node fault.new }

@@ -1,0 +1,282 @@
+//! The walk of a tree in whose first levels the halves of a branch's children are walked at once.
+
+ghost use Rattle.std.specs.Prelude.{◌≡◌, ◌≢◌, ◌<◌, ◌≤◌, ◌^◌, ℕ, List, IfOk, None, Ok, length, map, drop};
+ghost use Rattle.std.specs.Fn.{FnReturnsAt};
+ghost use Rattle.std.specs.Thread.{IsSync};
+ghost use Rattle.match_puzzle.specs.Puzzle.{IsPuzzle};
+ghost use Rattle.match_puzzle.specs.Fitting.{AreFitting, IsItem};
+ghost use Rattle.match_puzzle.specs.declared.placements.Pair.{Pair};
+ghost use Rattle.cert_tree.specs.Tree.{branch, count, none};
+ghost use Rattle.cert_tree.specs.Heads.{first, front, past};
+ghost use Rattle.cert_check.specs.Setting.{question_of, line_of, AreOfPuzzle, BeginWithPrefixes};
+ghost use Rattle.cert_check.specs.Walk.{Tells, HasChildren, TellsOfChildren, TellsOfLemma};
+
+use crate::faults::TreeFault;
+use crate::node_faults::branch_pairs;
+use crate::settings::Setting;
+use crate::walks::{at_top, walk};
+use cert_tree::{Certificate, Head, Trees};
+use match_board::limits::MOST_FORKS;
+use match_puzzle::{Arrangement, FittingPairs, Item, Partial, Puzzle};
+use match_symmetry::Symmetry;
+use std::alloc::{AllocError, Global};
+use std::thread::Threads;
+use steal_crew::both;
+
+/// The same as `tree_fault` answers, for every number of forks, by a walk on several threads.
+///
+/// In the first `forks` levels, at most 6, a branch's children are cut into two halves, which are walked at once, each
+/// on a copy of what is placed, and the fault of the left half wins. A half is walked on the caller's thread where no
+/// other can be started. An `Err` comes where memory is refused, in either half.
+pub fn forked_tree_fault<R: Threads + Sync>(
+    rt: &R,
+    alloc: Global,
+    puzzle: &Puzzle,
+    listed: &[Arrangement],
+    symmetries: &[Symmetry<'_>],
+    certificate: &Certificate,
+    lemma: u32,
+    forks: u8,
+) -> Result<Option<TreeFault>, AllocError>
+    requires puzzle { AreOfPuzzle puzzle.now symmetries.now }
+    requires lines { map line_of symmetries.now ≡ certificate.now.symmetries }
+    requires prefixes { BeginWithPrefixes puzzle.now certificate.now.lemmas }
+    requires lemma { lemma < length certificate.now.lemmas }
+    requires forks { forks ≤ MOST_FORKS }
+    ensures tree { IfOk result (TellsOfLemma (question_of puzzle.now listed.now certificate.now) lemma) }
+    ensures made { IfOk result (λ r. IsPuzzle puzzle.now) }
+{
+    let lemmas = certificate.lemmas();
+    let number = lemma as usize;
+    let lemma = lemmas.at(number);
+    let setting = Setting::new(puzzle, listed, symmetries, lemmas, number);
+    let mut partial = Partial::of(alloc, puzzle, lemma.prefix)?;
+    let trees = lemma.tree.trees();
+    forked_walk(rt, alloc, &setting, forks, &trees, &mut partial)
+}
+
+// The first fault of the first tree at what is placed, in preorder, or none where it holds; what is placed is then as
+// before. In the first so many levels halves are walked at once.
+#[cycle(forking)]
+fn forked_walk<R: Threads + Sync>(
+    rt: &R,
+    alloc: Global,
+    setting: &Setting<'_>,
+    forks: u8,
+    trees: &Trees<'_>,
+    partial: &mut Partial<'_>,
+) -> Result<Option<TreeFault>, AllocError>
+    requires made { partial.old.puzzle ≡ setting.now.puzzle }
+    requires some { trees.now ≢ none }
+    ensures tells { IfOk result (Tells setting.now (first trees.now) partial.old.placed) }
+    ensures restored { IfOk result (λ fault. fault ≡ None → partial.new ≡ partial.old) }
+{
+    if forks == 0 {
+        return plain_walk(alloc, setting, trees, partial);
+    }
+    let fewer = forks - 1;
+    let mut below = trees.copy();
+    match below.next() {
+        Head::Cell { cell, children } => {
+            let item = Item::Cell(cell);
+            forked_branch(rt, alloc, setting, fewer, item, children, &below, partial)
+        }
+        Head::Tile { tile, children } => {
+            let item = Item::Tile(tile);
+            forked_branch(rt, alloc, setting, fewer, item, children, &below, partial)
+        }
+        _ => plain_walk(alloc, setting, trees, partial),
+    }
+}
+
+// The same on one thread.
+fn plain_walk(
+    alloc: Global,
+    setting: &Setting<'_>,
+    trees: &Trees<'_>,
+    partial: &mut Partial<'_>,
+) -> Result<Option<TreeFault>, AllocError>
+    requires made { partial.old.puzzle ≡ setting.now.puzzle }
+    requires some { trees.now ≢ none }
+    ensures tells { IfOk result (Tells setting.now (first trees.now) partial.old.placed) }
+    ensures restored { IfOk result (λ fault. fault ≡ None → partial.new ≡ partial.old) }
+{
+    let mut rest = trees.copy();
+    let mut fault = None;
+    walk(alloc, setting, &mut rest, partial, &mut fault)?;
+    Ok(fault)
+}
+
+// The same of a branch, whose children are the first so many trees.
+#[cycle(forking)]
+fn forked_branch<R: Threads + Sync>(
+    rt: &R,
+    alloc: Global,
+    setting: &Setting<'_>,
+    forks: u8,
+    item: Item,
+    children: u32,
+    trees: &Trees<'_>,
+    partial: &Partial<'_>,
+) -> Result<Option<TreeFault>, AllocError>
+    requires made { partial.now.puzzle ≡ setting.now.puzzle }
+    requires counted { children ≤ count trees.now }
+    ensures { IfOk result (Tells setting.now (branch item (front children trees.now)) partial.now.placed) }
+{
+    if let Err(of_node) = branch_pairs(item, children, partial) {
+        let mut fault = None;
+        at_top(alloc, Some(of_node), &mut fault);
+        return Ok(fault);
+    }
+    let all = Part {
+        setting: &*setting,
+        item,
+        start: 0,
+        end: children,
+        trees: &*trees,
+        partial: &*partial,
+    };
+    if children == 1 {
+        return walk_part(rt, alloc, forks, &all);
+    }
+    walk_halves(rt, alloc, forks, &all)
+}
+
+// Some children of a branch, from one number up to another, and what they are walked on.
+#[derive(Drop)]
+struct Part<'a> {
+    setting: &'a Setting<'a>,
+    item: Item,
+    start: u32,
+    end: u32,
+    // all children of the branch come first
+    trees: &'a Trees<'a>,
+    partial: &'a Partial<'a>,
+}
+
+// The same of some children, the halves of which are walked at once.
+#[cycle(forking)]
+fn walk_halves<R: Threads + Sync>(
+    rt: &R,
+    alloc: Global,
+    forks: u8,
+    part: &Part<'_>,
+) -> Result<Option<TreeFault>, AllocError>
+    requires children { HasChildren part.now.setting.now part.now.partial.now part.now.item part.now.trees.now
+        part.now.end }
+    requires range { part.now.start ≤ part.now.end }
+    ensures { IfOk result (TellsOfChildren part.now.setting.now part.now.item part.now.trees.now
+        part.now.partial.now.placed part.now.start part.now.end) }
+{
+    let middle = part.start + (part.end - part.start) / 2;
+    let left = Part {
+        setting: part.setting,
+        item: part.item,
+        start: part.start,
+        end: middle,
+        trees: part.trees,
+        partial: part.partial,
+    };
+    let right = Part {
+        setting: part.setting,
+        item: part.item,
+        start: middle,
+        end: part.end,
+        trees: part.trees,
+        partial: part.partial,
+    };
+    let (left, right) = at_once(
+        rt,
+        &left,
+        &right,
+        &|half: &Part<'_>| -> Result<Option<TreeFault>, AllocError>
+            requires { IsSync R.row × (half.now.start ≤ half.now.end)
+                × HasChildren half.now.setting.now half.now.partial.now half.now.item half.now.trees.now half.now.end }
+            ensures { IfOk result (TellsOfChildren half.now.setting.now half.now.item half.now.trees.now
+                half.now.partial.now.placed half.now.start half.now.end) }
+        { walk_part(rt, alloc, forks, half) },
+    )?;
+    Ok(left.or(right))
+}
+
+// What the walk gives of both, at once.
+fn at_once<P: Sync, F: Fn(&P) -> Result<Option<TreeFault>, AllocError> + Sync, R: Threads + Sync>(
+    rt: &R,
+    left: &P,
+    right: &P,
+    walk: &F,
+) -> Result<(Option<TreeFault>, Option<TreeFault>), AllocError>
+    requires left { F.pre walk.now left }
+    requires right { F.pre walk.now right }
+    ensures left { IfOk result (λ r. FnReturnsAt F.Fn walk.now left.now (Ok r.0)) }
+    ensures right { IfOk result (λ r. FnReturnsAt F.Fn walk.now right.now (Ok r.1)) }
+{
+    both(
+        rt,
+        || -> Result<Option<TreeFault>, AllocError>
+            requires { F.pre walk.now left }
+            ensures { FnReturnsAt F.Fn walk.entry.now left.entry.now result }
+        { walk(left) },
+        || -> Result<Option<TreeFault>, AllocError>
+            requires { F.pre walk.now right }
+            ensures { FnReturnsAt F.Fn walk.entry.now right.entry.now result }
+        { walk(right) },
+    )
+}
+
+// The same of some children, one after the other on a copy of what is placed.
+#[cycle(forking)]
+fn walk_part<R: Threads + Sync>(
+    rt: &R,
+    alloc: Global,
+    forks: u8,
+    part: &Part<'_>,
+) -> Result<Option<TreeFault>, AllocError>
+    requires children { HasChildren part.now.setting.now part.now.partial.now part.now.item part.now.trees.now
+        part.now.end }
+    requires range { part.now.start ≤ part.now.end }
+    ensures { IfOk result (TellsOfChildren part.now.setting.now part.now.item part.now.trees.now
+        part.now.partial.now.placed part.now.start part.now.end) }
+{
+    let mut own = part.partial.copy(alloc)?;
+    let mut pairs = pairs_from(part.item, part.start, part.partial);
+    let mut rest = trees_from(part.start, part.trees);
+    for number in part.start..part.end {
+        let Some(pair) = pairs.take_first() else {
+            unreachable!();
+        };
+        own.place(pair.cell, pair.placement);
+        let fault = forked_walk(rt, alloc, part.setting, forks, &rest, &mut own)?;
+        if let Some(fault) = fault {
+            return Ok(Some(fault.below(number as u16)?));
+        }
+        own.lift(pair.cell);
+        rest.skip();
+    }
+    Ok(None)
+}
+
+// The trees from this number on.
+fn trees_from<'a>(number: u32, trees: &Trees<'a>) -> Trees<'a>
+    requires { number ≤ count trees.now }
+    ensures { result ≡ past number trees.now }
+{
+    let mut rest = trees.copy();
+    for _ in 0..number {
+        rest.skip();
+    }
+    rest
+}
+
+// The pairs that fit and settle the item, from this number on.
+fn pairs_from(item: Item, number: u32, partial: &Partial<'_>) -> FittingPairs
+    requires { IsItem partial.now.puzzle item }
+    ensures { (xs : List Pair) × AreFitting partial.now.puzzle partial.now.placed item xs
+        × (result ≡ drop number xs) }
+{
+    let mut pairs = partial.fitting(item);
+    for _ in 0..number {
+        pairs.take_first();
+    }
+    pairs
+}
