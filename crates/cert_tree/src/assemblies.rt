@@ -219,8 +219,8 @@ pub(crate) fn assemble_flat(
 /// The certificate of these symmetries, whose lemma i is the only piece with number i.
 ///
 /// An `Err` is the first fault in the order of [`AssembleFault`], with its least number: `Stranger`, `Double`,
-/// `Missing`; `Memory` only where memory is refused, and then no number is at or past the count. The order of the pieces
-/// doesn't matter. On an `Err` all are dropped.
+/// `Missing`; `Memory` only where memory is refused, and then no number is at or past the count. The order of the
+/// pieces doesn't matter. On an `Err` all are dropped.
 ///
 /// The trees are laid out flat by a recursion that is as deep as they are, into 8 bytes a node beside the pieces. The
 /// rest takes a step for each piece and each number below the count.
