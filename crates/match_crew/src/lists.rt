@@ -1,0 +1,44 @@
+//! The list is verified by many threads.
+
+ghost use Rattle.std.specs.Prelude.{◌<◌, ◌^◌, MatchBool, length};
+ghost use Rattle.match_puzzle.specs.Arrangement.{IsArrangement};
+ghost use Rattle.cert_check.specs.Walk.{TellsOfArrangements};
+
+use match_puzzle::{Arrangement, ArrangementFault, Puzzle};
+use rayon::prelude::*;
+use std::thread::Threads;
+
+// The first listed one that is no arrangement, with its first fault, or none where each is one.
+pub(crate) fn list_fault<R: Threads + Sync>(
+    rt: &R,
+    puzzle: &Puzzle,
+    listed: &[Arrangement],
+) -> Option<(u32, ArrangementFault)>
+    requires { length listed.now < 2 ^ 32 }
+    ensures { TellsOfArrangements puzzle.now listed.now result }
+{
+    let found = listed.par_iter().position_first(
+        rt,
+        |arrangement: &Arrangement| -> bool
+            ensures { MatchBool result (IsArrangement puzzle.entry.now arrangement.now → ⊥)
+                (IsArrangement puzzle.entry.now arrangement.now) }
+        { has_fault(puzzle, arrangement) },
+    );
+    let Some(place) = found else {
+        return None;
+    };
+    let Some(fault) = puzzle.arrangement_fault(listed[place].placements()) else {
+        unreachable!();
+    };
+    Some((place as u32, fault))
+}
+
+fn has_fault(puzzle: &Puzzle, arrangement: &Arrangement) -> bool
+    ensures { MatchBool result (IsArrangement puzzle.now arrangement.now → ⊥)
+        (IsArrangement puzzle.now arrangement.now) }
+{
+    let None = puzzle.arrangement_fault(arrangement.placements()) else {
+        return true;
+    };
+    false
+}
