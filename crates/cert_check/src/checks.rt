@@ -60,8 +60,8 @@ pub fn check(
     Ok(answer_of(puzzle, listed, certificate, found))
 }
 
-/// The first lemma whose tree has a fault, with its first fault in preorder, or none where all hold. The gate is told of
-/// each lemma before its tree is walked.
+/// The first lemma whose tree has a fault, with its first fault in preorder, or none where all hold. The gate is told
+/// of each lemma before its tree is walked.
 ///
 /// The symmetries are those of the certificate's lines, in order. An `Err` comes where memory is refused.
 pub fn trees_fault<G: Gate>(

@@ -19,8 +19,8 @@ use std::alloc::{AllocError, Global};
 
 /// The symmetries of the certificate, where all is right but perhaps the trees; else the first fault.
 ///
-/// `bad` is the first listed one that is no arrangement, with its first fault, or none where each is one. An `Err` comes
-/// where memory is refused before a fault is found.
+/// `bad` is the first listed one that is no arrangement, with its first fault, or none where each is one. An `Err`
+/// comes where memory is refused before a fault is found.
 pub fn prepare<'a>(
     alloc: Global,
     puzzle: &'a Puzzle,
