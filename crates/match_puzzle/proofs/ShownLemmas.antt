@@ -119,10 +119,11 @@ asked_there p q shown puzzle cells is cell side place there = by_side there.0 th
     by_side (Border None) at of =
         let here = is.colours MOST_COLOURS (omega arith) in
         let long = is.long in
-        subst Told (sym at)
-        (omega (arith, long),
-        omega (arith, here),
-        ⊎_elim (λ o. rw here (outside_asks p q cell side o.0)) (λ o. border_asks p q cell side None (get_or shown MOST_COLOURS 0) o.1 tt here) of)
+        subst Told (sym at) (
+          omega (arith, long),
+          omega (arith, here),
+          ⊎_elim (λ o. rw here (outside_asks p q cell side o.0)) (λ o. border_asks p q cell side None (get_or shown MOST_COLOURS 0) o.1 tt here) of,
+        )
     by_side (Border (Some colour)) at of =
         ⊎_elim
         (λ o. absurd (some_rule o.1))

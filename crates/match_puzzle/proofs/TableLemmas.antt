@@ -37,11 +37,14 @@ border_is s cell side cell_in side_in only = record { cell_in = cell_in; side_in
 -- a place of the table is that of the side
 pub side_asked_at : (p : Task) (table : List CellSides) → AreSides p table → (cell side : ℕ) (sides : CellSides) → slice_get table cell ≡ Some sides → side < 4 → IsAskedAt p cell side (get_or sides.asked_at side 0)
 side_asked_at p table is cell side sides there lt =
-    let at = is.asked cell sides there side lt in
-    (at.0, at.2, ⊎_elim
-    (λ side_in. inr (side_in, is.is cell side sides at.0 there side_in at.1))
-    (λ past. inl (past, inside (sym at.1 ∙ is.outside cell side sides there past lt)))
-    (lt_or_le side (side_count p.board)))
+    let at = is.asked cell sides there side lt in (
+      at.0,
+      at.2,
+      ⊎_elim
+          (λ side_in. inr (side_in, is.is cell side sides at.0 there side_in at.1))
+          (λ past. inl (past, inside (sym at.1 ∙ is.outside cell side sides there past lt)))
+          (lt_or_le side (side_count p.board)),
+    )
 
 -- ---- the number of a border pair
 
