@@ -1,10 +1,11 @@
 //! A job for each lemma.
 
 ghost use Rattle.std.specs.Prelude.{◌≡◌, ◌<◌, ◌^◌, IfOk, length};
+ghost use Rattle.std.specs.Thread.{IsSync};
 ghost use Rattle.cert_check.specs.Setting.{question_of};
 ghost use Rattle.match_crew.specs.Jobs.{IsJob, IsFinding, IsFirstFound};
 
-use cert_check::{Gate, Path, TreeFault, tree_fault};
+use cert_check::{Gate, Path, TreeFault, forked_tree_fault};
 use cert_tree::Certificate;
 use match_puzzle::{Arrangement, Puzzle};
 use match_symmetry::Symmetry;
@@ -29,19 +30,21 @@ pub(crate) struct Walks<'a, T: Threads + Sync, G: Gate + Sync> {
 impl<'a, T: Threads + Sync, G: Gate + Sync> Work for Walks<'a, T, G> {
     type R = Option<Box<TreeFault>>;
 
-    ghost accepts = { λ w n. IsJob w.puzzle.now w.symmetries.now w.certificate.now w.forks n };
+    ghost accepts = { λ w n. IsSync T.row × IsJob w.puzzle.now w.symmetries.now w.certificate.now w.forks n };
 
     ghost gives = { λ w n r. IsFinding (question_of w.puzzle.now w.listed.now w.certificate.now) n r };
 
     fn one(&self, number: u32) -> Result<Option<Box<TreeFault>>, AllocError> {
         self.gate.enter(number);
-        let found = tree_fault(
+        let found = forked_tree_fault(
+            self.rt,
             self.alloc,
             self.puzzle,
             self.listed,
             self.symmetries,
             self.certificate,
             number,
+            self.forks,
         )?;
         let Some(fault) = found else {
             return Ok(None);
