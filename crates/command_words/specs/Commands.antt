@@ -1,6 +1,6 @@
 -- The program's commands, as `clap` reads them.
 use Rattle.std.specs.Prelude.{◌≡◌, ℕ, List, true, false, [], ◌∷◌, Some, codes, fold}
-use Rattle.match_board.specs.declared.limits.TheConstants.{MOST_COLOURS, MOST_FUEL}
+use Rattle.match_board.specs.declared.limits.TheConstants.{MOST_COLOURS, MOST_FORKS, MOST_FUEL, MOST_WORKERS}
 use Rattle.clap.specs.Words.{App, Rule, Text, new_app, new_rule, with_rule, with_subcommand}
 use Rattle.clap.specs.Simple.{on_top}
 use Rattle.clap.specs.declared.builder.command.Command.{Command}
@@ -32,7 +32,10 @@ with_files app =
     (wanted (codes "CERTIFICATE"))
 
 abbrev pub check_app : App
-check_app = with_files (new_app (codes "check"))
+check_app =
+    with_rule
+    (with_rule (with_files (new_app (codes "check"))) (optional_number (codes "workers") 1 MOST_WORKERS (codes "1")))
+    (optional_number (codes "forks") 0 MOST_FORKS (codes "0"))
 
 abbrev pub solve_app : App
 solve_app =

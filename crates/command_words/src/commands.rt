@@ -8,7 +8,7 @@ ghost use Rattle.command_words.specs.Commands.{whole_app, with_files};
 
 use clap::builder::ValueParser;
 use clap::{Arg, Command};
-use match_board::limits::{MOST_COLOURS, MOST_FUEL};
+use match_board::limits::{MOST_COLOURS, MOST_FORKS, MOST_FUEL, MOST_WORKERS};
 use std::alloc::{AllocError, Global};
 
 const NAME: &str = "edgematch";
@@ -28,6 +28,8 @@ Exit status:
 
 const CHECKED: &str = "\
 Prints the answer in one line: complete, or refused and why.
+
+The answer is the same for any number of workers and forks.
 
 Exit status:
   0  the list is complete
@@ -117,12 +119,31 @@ fn check<'a>(alloc: Global) -> Result<Command<'a>, AllocError>
     ensures app { IfOk result (λ c. app_of c ≡ check_app) }
     ensures local { IfOk result IsLocal }
 {
-    of_files(
+    let workers = optional_number(
+        alloc,
+        "workers",
+        1,
+        u64::from(MOST_WORKERS),
+        "1",
+        "How many workers check the lemmas at once, 1 to 64",
+    );
+    let forks = optional_number(
+        alloc,
+        "forks",
+        0,
+        u64::from(MOST_FORKS),
+        "0",
+        "In how many levels of a tree the halves of a branch are walked at once, 0 to 6",
+    );
+    let command = of_files(
         alloc,
         "check",
         "Checks that a list has every arrangement of a puzzle",
         CHECKED,
-    )
+    )?
+    .arg(workers)?
+    .arg(forks)?;
+    Ok(command)
 }
 
 fn solve<'a>(alloc: Global) -> Result<Command<'a>, AllocError>

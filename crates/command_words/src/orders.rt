@@ -13,13 +13,24 @@ pub struct Files {
 pub enum Order {
     /// To check the documents that stand on standard input, joined.
     Joined,
-    /// To check the documents in these files.
-    Check(Files),
+    /// To check the documents in these files, by so many workers, 1 to 64, whose lemmas' trees are walked
+    /// with so many levels of forks, 0 to 6.
+    Check {
+        files: Files,
+        workers: u8,
+        forks: u8,
+    },
     /// To search for all arrangements of the puzzle in its file, by at most `fuel` branch nodes, 1 to
     /// 1,000,000, and to make the files of their list and of a certificate.
-    Solve { files: Files, fuel: u32 },
+    Solve {
+        files: Files,
+        fuel: u32,
+    },
     /// To check the documents in these files, and to print all arrangements.
     Expand(Files),
     /// To list the tiles of so many sides, 3 or 4, and colours, 1 to 36.
-    Tiles { sides: u8, colours: u8 },
+    Tiles {
+        sides: u8,
+        colours: u8,
+    },
 }

@@ -11,7 +11,7 @@ use crate::commands::program;
 use crate::faults::WordsFault;
 use crate::orders::{Files, Order};
 use clap::ArgMatches;
-use match_board::limits::{MOST_COLOURS, MOST_FUEL};
+use match_board::limits::{MOST_COLOURS, MOST_FORKS, MOST_FUEL, MOST_WORKERS};
 use std::alloc::{AllocError, Global};
 
 // The text under this id.
@@ -61,6 +61,21 @@ fn files(alloc: Global, matches: &ArgMatches<'_>) -> Result<Files, AllocError>
     })
 }
 
+fn check(alloc: Global, matches: &ArgMatches<'_>) -> Result<Order, AllocError>
+    requires files { HasFiles (rows_of (found_of matches.now)) }
+    requires workers { HasNumber (codes "workers") 1 MOST_WORKERS (rows_of (found_of matches.now)) }
+    requires forks { HasNumber (codes "forks") 0 MOST_FORKS (rows_of (found_of matches.now)) }
+    ensures order { IfOk result (IsOrderOf (Some (codes "check", rows_of (found_of matches.now)))) }
+    ensures range { IfOk result IsInRange }
+{
+    let files = files(alloc, matches)?;
+    Ok(Order::Check {
+        files,
+        workers: small_number(matches, "workers"),
+        forks: small_number(matches, "forks"),
+    })
+}
+
 fn solve(alloc: Global, matches: &ArgMatches<'_>) -> Result<Order, AllocError>
     requires files { HasFiles (rows_of (found_of matches.now)) }
     requires fuel { HasNumber (codes "fuel") 1 MOST_FUEL (rows_of (found_of matches.now)) }
@@ -104,7 +119,7 @@ pub fn order(alloc: Global, words: &[String]) -> Result<Order, WordsFault>
         return Ok(Order::Joined);
     };
     match name {
-        "check" => Ok(Order::Check(files(alloc, matches)?)),
+        "check" => Ok(check(alloc, matches)?),
         "solve" => Ok(solve(alloc, matches)?),
         "expand" => Ok(Order::Expand(files(alloc, matches)?)),
         "tiles" => Ok(tiles(matches)),

@@ -31,7 +31,14 @@ fn orders_what_the_words_say(rt: HostRuntime) -> Result<(), Fail> {
         list: String::from_str(rt.alloc(), "l")?,
         certificate: String::from_str(rt.alloc(), "c")?,
     };
-    assert!(rt; check == Order::Check(files));
+    assert!(rt;
+        check
+            == Order::Check {
+                files,
+                workers: 1,
+                forks: 0,
+            }
+    );
     let expand = order(rt.alloc(), &words(rt.alloc(), &["expand", "p", "l", "c"])?)?;
     assert!(rt; matches!(expand, Order::Expand(_)));
     let tiles = order(rt.alloc(), &words(rt.alloc(), &["tiles", "3", "2"])?)?;
@@ -59,6 +66,115 @@ fn refuses_wrong_words(rt: HostRuntime) -> Result<(), Fail> {
         "error: the following required arguments were not provided:\n  <LIST>\n  <CERTIFICATE>\n\nUsage: edgematch check <PUZZLE> <LIST> <CERTIFICATE>\n\nFor more information, try '--help'.\n"
     );
     assert!(rt; on_errors);
+    Ok(())
+}
+
+// What words that check the files p, l and c order, with these words behind them.
+fn checking(alloc: Global, texts: &[&str]) -> Result<Order, Fail> {
+    let mut all = words(alloc, &["check", "p", "l", "c"])?;
+    for text in texts {
+        all.push(String::from_str(alloc, text)?)?;
+    }
+    Ok(order(alloc, &all)?)
+}
+
+// The order to check the files p, l and c.
+fn by_workers(alloc: Global, workers: u8, forks: u8) -> Result<Order, AllocError> {
+    let files = Files {
+        puzzle: String::from_str(alloc, "p")?,
+        list: String::from_str(alloc, "l")?,
+        certificate: String::from_str(alloc, "c")?,
+    };
+    Ok(Order::Check {
+        files,
+        workers,
+        forks,
+    })
+}
+
+#[test]
+fn takes_the_workers_and_the_forks(rt: HostRuntime) -> Result<(), Fail> {
+    let alloc = rt.alloc();
+    let around = order(
+        alloc,
+        &words(
+            alloc,
+            &["check", "--workers", "64", "p", "l", "c", "--forks=6"],
+        )?,
+    )?;
+    assert!(rt; around == by_workers(alloc, 64, 6)?);
+    assert!(rt; checking(alloc, &["--workers", "2"])? == by_workers(alloc, 2, 0)?);
+    assert!(rt; checking(alloc, &["--forks", "3"])? == by_workers(alloc, 1, 3)?);
+    assert!(rt; checking(alloc, &["--workers=1", "--forks=0"])? == by_workers(alloc, 1, 0)?);
+    Ok(())
+}
+
+#[test]
+fn refuses_a_wrong_check(rt: HostRuntime) -> Result<(), Fail> {
+    let (text, on_errors) = refusal(rt.alloc(), &["check", "p", "l", "c", "--workers", "0"])?;
+    assert_eq!(rt;
+        text.as_str(),
+        "error: invalid value '0' for '--workers <N>': 0 is not in 1..=64\n\nFor more information, try '--help'.\n"
+    );
+    assert!(rt; on_errors);
+    let (text, _) = refusal(rt.alloc(), &["check", "p", "l", "c", "--workers", "65"])?;
+    assert_eq!(rt;
+        text.as_str(),
+        "error: invalid value '65' for '--workers <N>': 65 is not in 1..=64\n\nFor more information, try '--help'.\n"
+    );
+    let (text, _) = refusal(rt.alloc(), &["check", "p", "l", "c", "--forks", "7"])?;
+    assert_eq!(rt;
+        text.as_str(),
+        "error: invalid value '7' for '--forks <N>': 7 is not in 0..=6\n\nFor more information, try '--help'.\n"
+    );
+    let (text, on_errors) = refusal(rt.alloc(), &["expand", "p", "l", "c", "--workers", "2"])?;
+    assert_eq!(rt;
+        text.as_str(),
+        "\
+error: unexpected argument '--workers' found
+
+  tip: to pass '--workers' as a value, use '-- --workers'
+
+Usage: edgematch expand <PUZZLE> <LIST> <CERTIFICATE>
+
+For more information, try '--help'.
+"
+    );
+    assert!(rt; on_errors);
+    Ok(())
+}
+
+#[test]
+fn explains_the_check(rt: HostRuntime) -> Result<(), Fail> {
+    let (text, on_errors) = refusal(rt.alloc(), &["check", "--help"])?;
+    assert_eq!(rt;
+        text.as_str(),
+        "\
+Checks that a list has every arrangement of a puzzle
+
+Usage: edgematch check [OPTIONS] <PUZZLE> <LIST> <CERTIFICATE>
+
+Arguments:
+  <PUZZLE>       File of the puzzle
+  <LIST>         File of the list of arrangements
+  <CERTIFICATE>  File of the certificate
+
+Options:
+      --workers <N>  How many workers check the lemmas at once, 1 to 64 [default: 1]
+      --forks <N>    In how many levels of a tree the halves of a branch are walked at once, 0 to 6 [default: 0]
+  -h, --help         Print help
+
+Prints the answer in one line: complete, or refused and why.
+
+The answer is the same for any number of workers and forks.
+
+Exit status:
+  0  the list is complete
+  1  the certificate does not show that the list is complete
+  2  anything else, which is said on standard error
+"
+    );
+    assert!(rt; !on_errors);
     Ok(())
 }
 

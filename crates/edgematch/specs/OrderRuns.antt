@@ -37,7 +37,7 @@ Expands output code texts =
 -- What an order without a fault did, by what the files hold, and the exit status.
 abbrev pub OrderGives : (holds : List ℕ → Option (List ℕ)) (input : Reading) (output : Writing) → Order → ℕ → Type 0
 OrderGives holds input output Joined code = InputReadToEnd input (Checks output code)
-OrderGives holds input output (Check files) code = FilesHold holds files (Checks output code)
+OrderGives holds input output (Check files workers forks) code = FilesHold holds files (Checks output code)
 OrderGives holds input output (Solve files fuel) code =
     (code ≡ 0)
     × (text : List ℕ) × HoldsText (holds (string_bytes files.puzzle)) text
@@ -48,13 +48,13 @@ OrderGives holds input output (Tiles sides colours) code = (code ≡ 0) × Write
 -- What exit status 0 of a check says of what was checked.
 abbrev pub OrderShows : (holds : List ℕ → Option (List ℕ)) (input : Reading) → Order → Type 0
 OrderShows holds input Joined = InputReadToEnd input SpellCompleteList
-OrderShows holds input (Check files) = FilesHold holds files SpellCompleteList
+OrderShows holds input (Check files workers forks) = FilesHold holds files SpellCompleteList
 OrderShows holds input order = Unit {0}
 
 -- The fault is one that the order can end with.
 abbrev pub IsOfOrder : Order → RunFault → Type 0
 IsOfOrder Joined fault = IsOfChecking fault
-IsOfOrder (Check files) fault = IsOfChecking fault
+IsOfOrder (Check files workers forks) fault = IsOfChecking fault
 IsOfOrder (Solve files fuel) fault = IsOfSolving fault
 IsOfOrder (Expand files) fault = IsOfExpanding fault
 IsOfOrder (Tiles sides colours) fault = IsOfTiles fault

@@ -38,6 +38,7 @@ fn main(rt: HostRuntime) -> ExitCode {
     let mut input = Input::new(rt.stdin());
     let mut output = Output::new(rt.stdout());
     match run_order(
+        &rt,
         rt.alloc(),
         &order,
         &System::new(&rt),

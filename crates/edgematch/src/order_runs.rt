@@ -18,8 +18,9 @@ use crate::streams::sinks::Sink;
 use crate::streams::sources::Source;
 use crate::tile_runs::run_tiles;
 use command_words::{Files, Order};
-use match_board::limits::MOST_FUEL;
+use match_board::limits::{MOST_FORKS, MOST_FUEL, MOST_WORKERS};
 use std::alloc::Global;
+use std::thread::Threads;
 
 // A check that shows that the list is complete.
 const COMPLETE: u8 = 0;
@@ -39,28 +40,33 @@ const UNSOLVED: u8 = 3;
 /// The files of an order are all opened before one is read: the puzzle's, the list's, the certificate's. `Read` of
 /// the first that can't be opened. A solve opens the puzzle's and makes the other two; where two of the three names
 /// are the same, or one can't be made, `Write`.
-pub fn run_order<S: FileSystem, R: Source, W: Sink>(
+pub fn run_order<S: FileSystem, I: Source, W: Sink, R: Threads + Sync>(
+    rt: &R,
     alloc: Global,
     order: &Order,
     system: &S,
-    input: &mut R,
+    input: &mut I,
     output: &mut W,
 ) -> Result<u8, RunFault>
     requires { IsInRange order.now }
-    ensures given { IfOk result (OrderGives (S.holds system.now) (reading_of R.Source input.old input.new)
+    ensures given { IfOk result (OrderGives (S.holds system.now) (reading_of I.Source input.old input.new)
         (writing_of W.Sink output.old output.new) order.now) }
     ensures fault { IfErr result (IsOfOrder order.now) }
     ensures untouched { IfErr result (λ fault. fault ≢ RunFault.Write → output.new ≡ output.old) }
     // Status 0 of a check says that the list is complete.
     ensures shown { IfOk result (λ code. code ≡ 0
-        → OrderShows (S.holds system.now) (reading_of R.Source input.old input.new) order.now) }
+        → OrderShows (S.holds system.now) (reading_of I.Source input.old input.new) order.now) }
 {
     match order {
         Order::Joined => {
-            let status = run_joined(alloc, input, 1, 0, output)?;
+            let status = run_joined(rt, alloc, input, 1, 0, output)?;
             Ok(status_code(status))
         }
-        Order::Check(files) => check(alloc, files, system, output),
+        Order::Check {
+            files,
+            workers,
+            forks,
+        } => check(rt, alloc, files, *workers, *forks, system, output),
         Order::Solve { files, fuel } => {
             solve(alloc, files, *fuel, system, output)?;
             Ok(COMPLETE)
@@ -98,12 +104,17 @@ fn open_all<S: FileSystem>(system: &S, files: &Files) -> Result<Opened<S::Reader
     })
 }
 
-fn check<S: FileSystem, W: Sink>(
+fn check<S: FileSystem, W: Sink, R: Threads + Sync>(
+    rt: &R,
     alloc: Global,
     files: &Files,
+    workers: u8,
+    forks: u8,
     system: &S,
     output: &mut W,
 ) -> Result<u8, RunFault>
+    requires workers { (1 ≤ workers) × (workers ≤ MOST_WORKERS) }
+    requires forks { forks ≤ MOST_FORKS }
     ensures given { IfOk result (λ code.
         FilesHold (S.holds system.now) files.now (Checks (writing_of W.Sink output.old output.new) code)) }
     ensures shown { IfOk result (λ code. code ≡ 0 → FilesHold (S.holds system.now) files.now SpellCompleteList) }
@@ -112,12 +123,13 @@ fn check<S: FileSystem, W: Sink>(
 {
     let mut opened = open_all(system, files)?;
     let status = run_check(
+        rt,
         alloc,
         &mut opened.puzzle,
         &mut opened.list,
         &mut opened.certificate,
-        1,
-        0,
+        workers,
+        forks,
         output,
     )?;
     Ok(status_code(status))

@@ -13,10 +13,12 @@ use crate::questions::read_question;
 use crate::streams::documents::{Documents, cut_joined};
 use crate::streams::sinks::{Sink, write_whole};
 use crate::streams::sources::{ReadWholeFault, Source, read_whole};
-use cert_check::{Answer, check};
-use match_board::limits::MOST_BYTES;
+use cert_check::Answer;
+use match_board::limits::{MOST_BYTES, MOST_FORKS, MOST_WORKERS};
+use match_crew::{Open, check_with};
 use match_report::write_answer;
 use std::alloc::Global;
+use std::thread::Threads;
 
 /// What a check found.
 #[derive(Clone, Copy, PartialEq, Eq, Debug)]
@@ -28,12 +30,13 @@ pub enum Status {
 }
 
 /// Reads a puzzle, a list and a certificate, each to its end and in this order, and writes the
-/// answer to them and nothing else.
+/// answer to them and nothing else. The answer is the same for any number of workers, 1 to 64, and of forks, 0 to 6.
 ///
 /// `Read` and `TooLong` name the document, and the ones after it are not touched then; a fault of a
 /// document is the first one, in the order of the documents. Where a fault other than `Write` is
 /// answered, nothing was written.
-pub fn run_check<P: Source, L: Source, C: Source, W: Sink>(
+pub fn run_check<P: Source, L: Source, C: Source, W: Sink, R: Threads + Sync>(
+    rt: &R,
     alloc: Global,
     puzzle: &mut P,
     list: &mut L,
@@ -42,8 +45,8 @@ pub fn run_check<P: Source, L: Source, C: Source, W: Sink>(
     forks: u8,
     writer: &mut W,
 ) -> Result<Status, RunFault>
-    requires workers { workers ≡ 1 }
-    requires forks { forks ≡ 0 }
+    requires workers { (1 ≤ workers) × (workers ≤ MOST_WORKERS) }
+    requires forks { forks ≤ MOST_FORKS }
 
     // What was written is the answer's line on the texts that came.
     ensures ok { IfOk result (λ status. ReadToEnds (reading_of P.Source puzzle.old puzzle.new)
@@ -73,7 +76,6 @@ pub fn run_check<P: Source, L: Source, C: Source, W: Sink>(
         (λ texts. WritesFront (writing_of W.Sink writer.old writer.new)
         (λ text. (status : Status) × CheckGives texts text status)) }
 {
-    let _one_thread = (workers, forks);
     let puzzle = read_document(alloc, puzzle, Document::Puzzle)?;
     let list = read_document(alloc, list, Document::List)?;
     let certificate = read_document(alloc, certificate, Document::Certificate)?;
@@ -82,48 +84,49 @@ pub fn run_check<P: Source, L: Source, C: Source, W: Sink>(
         list: &list,
         certificate: &certificate,
     };
-    write_answer_to(alloc, &documents, writer)
+    write_answer_to(rt, alloc, &documents, workers, forks, writer)
 }
 
-/// Reads a puzzle, a list and a certificate, joined, to the end, and writes the answer to them and nothing else.
+/// Reads a puzzle, a list and a certificate, joined, to the end, and writes the answer to them and nothing else. The
+/// answer is the same for any number of workers, 1 to 64, and of forks, 0 to 6.
 ///
 /// `Read` and `TooLong` are of the input; a fault of a document is the first one, in the order of the documents.
 /// Where a fault other than `Write` is answered, nothing was written.
-pub fn run_joined<R: Source, W: Sink>(
+pub fn run_joined<S: Source, W: Sink, R: Threads + Sync>(
+    rt: &R,
     alloc: Global,
-    reader: &mut R,
+    reader: &mut S,
     workers: u8,
     forks: u8,
     writer: &mut W,
 ) -> Result<Status, RunFault>
-    requires workers { workers ≡ 1 }
-    requires forks { forks ≡ 0 }
+    requires workers { (1 ≤ workers) × (workers ≤ MOST_WORKERS) }
+    requires forks { forks ≤ MOST_FORKS }
 
     // What was written is the answer's line on the texts in what came.
-    ensures ok { IfOk result (λ status. InputReadToEnd (reading_of R.Source reader.old reader.new)
+    ensures ok { IfOk result (λ status. InputReadToEnd (reading_of S.Source reader.old reader.new)
         (λ texts. WritesWhole (writing_of W.Sink writer.old writer.new) (λ text. CheckGives texts text status))) }
     // Where the status is Complete, the symmetries of the certificate reach every arrangement of
     // the puzzle from the list.
     ensures complete { IfOk result (λ status. status ≡ Status.Complete
-        → InputReadToEnd (reading_of R.Source reader.old reader.new) SpellCompleteList) }
+        → InputReadToEnd (reading_of S.Source reader.old reader.new) SpellCompleteList) }
     // A fault of a document is what the texts come to.
     ensures document { IfErr result (λ fault. IsOfDocuments fault
-        → InputReadToEnd (reading_of R.Source reader.old reader.new) (λ texts. RunGives texts (Err fault))) }
+        → InputReadToEnd (reading_of S.Source reader.old reader.new) (λ texts. RunGives texts (Err fault))) }
     ensures fault { IfErr result IsOfChecking }
     ensures untouched { IfErr result (λ fault. fault ≢ RunFault.Write → writer.new ≡ writer.old) }
 
     // Reading fails only where the source answered an error, or more bytes came than are read. Want of memory hides
     // neither.
-    ensures reading { IfErr result (StopsReadingInput (reading_of R.Source reader.old reader.new)) }
+    ensures reading { IfErr result (StopsReadingInput (reading_of S.Source reader.old reader.new)) }
     // Writing fails only where the sink answered an error, or took nothing; then a front of the line went out.
-    ensures write { IsErrOf result RunFault.Write → InputReadToEnd (reading_of R.Source reader.old reader.new)
+    ensures write { IsErrOf result RunFault.Write → InputReadToEnd (reading_of S.Source reader.old reader.new)
         (λ texts. WritesFront (writing_of W.Sink writer.old writer.new)
         (λ text. (status : Status) × CheckGives texts text status)) }
 {
-    let _one_thread = (workers, forks);
     let input = read_document(alloc, reader, Document::Input)?;
     let documents = cut_joined(&input);
-    write_answer_to(alloc, &documents, writer)
+    write_answer_to(rt, alloc, &documents, workers, forks, writer)
 }
 
 // All bytes of a document.
@@ -163,12 +166,17 @@ pub(crate) fn write_text<W: Sink>(writer: &mut W, text: &[u8]) -> Result<(), Run
 }
 
 // Writes the answer to the documents, and nothing else.
-fn write_answer_to<W: Sink>(
+fn write_answer_to<W: Sink, R: Threads + Sync>(
+    rt: &R,
     alloc: Global,
     documents: &Documents<'_>,
+    workers: u8,
+    forks: u8,
     writer: &mut W,
 ) -> Result<Status, RunFault>
-    requires { AreShort (texts_of documents.now) }
+    requires short { AreShort (texts_of documents.now) }
+    requires workers { (1 ≤ workers) × (workers ≤ MOST_WORKERS) }
+    requires forks { forks ≤ MOST_FORKS }
     ensures ok { IfOk result (λ status. WritesWhole (writing_of W.Sink writer.old writer.new)
         (λ text. CheckGives (texts_of documents.now) text status)) }
     ensures complete { IfOk result (λ status. status ≡ Status.Complete → SpellCompleteList (texts_of documents.now)) }
@@ -180,11 +188,15 @@ fn write_answer_to<W: Sink>(
         (λ text. (status : Status) × CheckGives (texts_of documents.now) text status) }
 {
     let question = read_question(alloc, documents)?;
-    let answer = check(
+    let answer = check_with(
+        rt,
         alloc,
         &question.puzzle,
         &question.listed,
         &question.certificate,
+        workers,
+        forks,
+        &Open,
     )?;
     let text = write_answer(alloc, &answer, question.listed.len() as u32)?;
     write_text(writer, &text)?;

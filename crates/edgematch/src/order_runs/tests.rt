@@ -1,4 +1,4 @@
-ghost use Rattle.std.specs.Prelude.{◌≡◌, IfOk};
+ghost use Rattle.std.specs.Prelude.{◌≡◌, ◌≤◌, IfOk};
 ghost use Rattle.command_words.specs.Orders.{IsInRange};
 ghost use Rattle.edgematch.specs.Runs.{SpellCompleteList};
 
@@ -8,8 +8,10 @@ use crate::files::fakes::{FakeFiles, HeldFiles};
 use crate::runs::tests::citations::{LISTED_TWINS, TWIN_TILES, WALK_OF_TWINS};
 use crate::streams::fakes::Fake;
 use command_words::{Files, Order};
+use match_board::limits::{MOST_FORKS, MOST_WORKERS};
 use std::alloc::{AllocError, Global};
 use std::test::Fail;
+use std::thread::Threads;
 
 // Both tiles fit the first cell, so that it isn't dead.
 const DEAD_TWINS: &[u8] = b"certificate 1\nsymmetries 0\nlemmas 1\nlemma 0 prefix tree d 0\nend\n";
@@ -29,38 +31,70 @@ fn names(alloc: Global, texts: [&str; 3]) -> Result<Files, AllocError> {
     })
 }
 
+// The order to check these files by so many workers, and with so many forks.
+fn check_by(alloc: Global, texts: [&str; 3], workers: u8, forks: u8) -> Result<Order, AllocError>
+    requires workers { (1 ≤ workers) × (workers ≤ MOST_WORKERS) }
+    requires forks { forks ≤ MOST_FORKS }
+    ensures { IfOk result IsInRange }
+{
+    Ok(Order::Check {
+        files: names(alloc, texts)?,
+        workers,
+        forks,
+    })
+}
+
 // What an order writes, and what it comes to.
-fn run(alloc: Global, order: &Order) -> Result<(Vec<u8>, Result<u8, RunFault>), AllocError>
+fn run<R: Threads + Sync>(
+    rt: &R,
+    alloc: Global,
+    order: &Order,
+) -> Result<(Vec<u8>, Result<u8, RunFault>), AllocError>
     requires { IsInRange order.now }
 {
     let mut input = Fake::new(alloc, Vec::new(alloc), 7, usize::MAX);
     let mut output = Fake::new(alloc, Vec::new(alloc), 5, usize::MAX);
     let system = FakeFiles::new(alloc, &FILES);
-    let status = run_order(alloc, order, &system, &mut input, &mut output);
+    let status = run_order(rt, alloc, order, &system, &mut input, &mut output);
     Ok((Vec::from_slice(alloc, output.written())?, status))
 }
 
 #[test]
 fn ends_with_the_status_of_its_outcome(rt: HostRuntime) -> Result<(), Fail> {
     let alloc = rt.alloc();
-    let (written, status) = run(alloc, &Order::Check(names(alloc, ["p", "l", "c"])?))?;
-    assert_eq!(rt; written.as_slice(), b"complete 1\n".as_slice());
-    assert_eq!(rt; status, Ok(0));
-    let (written, status) = run(alloc, &Order::Check(names(alloc, ["p", "l", "dead"])?))?;
-    assert_eq!(rt;
-        written.as_slice(),
-        b"refused tree 0 at - not-dead 2\n".as_slice()
-    );
-    assert_eq!(rt; status, Ok(1));
-    let (written, status) = run(alloc, &Order::Expand(names(alloc, ["p", "l", "c"])?))?;
+    for (workers, forks) in [(1, 0), (64, 6u8)] {
+        let (written, status) = run(
+            &rt,
+            alloc,
+            &check_by(alloc, ["p", "l", "c"], workers, forks)?,
+        )?;
+        assert_eq!(rt; written.as_slice(), b"complete 1\n".as_slice());
+        assert_eq!(rt; status, Ok(0));
+        let (written, status) = run(
+            &rt,
+            alloc,
+            &check_by(alloc, ["p", "l", "dead"], workers, forks)?,
+        )?;
+        assert_eq!(rt;
+            written.as_slice(),
+            b"refused tree 0 at - not-dead 2\n".as_slice()
+        );
+        assert_eq!(rt; status, Ok(1));
+    }
+    let (written, status) = run(&rt, alloc, &Order::Expand(names(alloc, ["p", "l", "c"])?))?;
     assert_eq!(rt;
         written.as_slice(),
         b"list 1\narrangements 2\n0.0 1.0\n1.0 0.0\nend\n".as_slice()
     );
     assert_eq!(rt; status, Ok(0));
-    let (_, status) = run(alloc, &Order::Expand(names(alloc, ["p", "l", "dead"])?))?;
+    let (_, status) = run(
+        &rt,
+        alloc,
+        &Order::Expand(names(alloc, ["p", "l", "dead"])?),
+    )?;
     assert_eq!(rt; status, Ok(1));
     let (written, status) = run(
+        &rt,
         alloc,
         &Order::Tiles {
             sides: 3,
@@ -81,9 +115,9 @@ fn names_the_first_file_that_is_missing(rt: HostRuntime) -> Result<(), Fail> {
         (["p", "l", "no"], Document::Certificate),
     ];
     for (texts, document) in rows {
-        let (written, status) = run(alloc, &Order::Check(names(alloc, texts)?))?;
+        let (written, status) = run(&rt, alloc, &check_by(alloc, texts, 1, 0)?)?;
         assert_eq!(rt; (written.len(), status), (0, Err(RunFault::Read(document))));
-        let (written, status) = run(alloc, &Order::Expand(names(alloc, texts)?))?;
+        let (written, status) = run(&rt, alloc, &Order::Expand(names(alloc, texts)?))?;
         assert_eq!(rt; (written.len(), status), (0, Err(RunFault::Read(document))));
     }
     Ok(())
@@ -93,7 +127,7 @@ fn names_the_first_file_that_is_missing(rt: HostRuntime) -> Result<(), Fail> {
 fn makes_no_file_of_the_name_of_another(rt: HostRuntime) -> Result<(), Fail> {
     let alloc = rt.alloc();
     let files = names(alloc, ["p", "p", "c"])?;
-    let (written, status) = run(alloc, &Order::Solve { files, fuel: 10 })?;
+    let (written, status) = run(&rt, alloc, &Order::Solve { files, fuel: 10 })?;
     assert_eq!(rt; (written.len(), status), (0, Err(RunFault::Write)));
     assert_eq!(rt; fault_status(&RunFault::Write), 2);
     assert_eq!(rt; fault_status(&RunFault::Solve(SolveFault::GaveUp)), 3);
@@ -102,7 +136,13 @@ fn makes_no_file_of_the_name_of_another(rt: HostRuntime) -> Result<(), Fail> {
 
 // The status of a check of three files that hold these texts. What `run_order` shows is said of the texts here: where
 // it is 0, they spell a list that is complete.
-fn status_of(alloc: Global, puzzle: &[u8], list: &[u8], certificate: &[u8]) -> Result<u8, RunFault>
+fn status_of<R: Threads + Sync>(
+    rt: &R,
+    alloc: Global,
+    puzzle: &[u8],
+    list: &[u8],
+    certificate: &[u8],
+) -> Result<u8, RunFault>
     ensures { IfOk result (λ code. code ≡ 0 → SpellCompleteList (record {
       puzzle = puzzle.now;
       list = list.now;
@@ -118,14 +158,18 @@ fn status_of(alloc: Global, puzzle: &[u8], list: &[u8], certificate: &[u8]) -> R
     let first = String::from_str(alloc, "p")?;
     let second = String::from_str(alloc, "l")?;
     let third = String::from_str(alloc, "c")?;
-    let order = Order::Check(Files {
-        puzzle: first,
-        list: second,
-        certificate: third,
-    });
+    let order = Order::Check {
+        files: Files {
+            puzzle: first,
+            list: second,
+            certificate: third,
+        },
+        workers: 2,
+        forks: 1,
+    };
     let mut input = Fake::new(alloc, Vec::new(alloc), 7, usize::MAX);
     let mut output = Fake::new(alloc, Vec::new(alloc), 5, usize::MAX);
-    let code = run_order(alloc, &order, &system, &mut input, &mut output)?;
+    let code = run_order(rt, alloc, &order, &system, &mut input, &mut output)?;
     Ok(code)
 }
 
@@ -133,11 +177,11 @@ fn status_of(alloc: Global, puzzle: &[u8], list: &[u8], certificate: &[u8]) -> R
 fn status_0_is_of_a_complete_list(rt: HostRuntime) {
     let alloc = rt.alloc();
     assert_eq!(rt;
-        status_of(alloc, TWIN_TILES, LISTED_TWINS, WALK_OF_TWINS),
+        status_of(&rt, alloc, TWIN_TILES, LISTED_TWINS, WALK_OF_TWINS),
         Ok(0)
     );
     assert_eq!(rt;
-        status_of(alloc, TWIN_TILES, LISTED_TWINS, DEAD_TWINS),
+        status_of(&rt, alloc, TWIN_TILES, LISTED_TWINS, DEAD_TWINS),
         Ok(1)
     );
 }

@@ -1,3 +1,5 @@
+ghost use Rattle.std.specs.Prelude.{◌≤◌};
+
 mod boards;
 mod checks;
 pub(crate) mod citations;
@@ -7,8 +9,10 @@ mod long_texts;
 use super::{Status, run_joined};
 use crate::faults::{RunFault, fault_text};
 use crate::streams::fakes::Fake;
+use match_board::limits::{MOST_FORKS, MOST_WORKERS};
 use std::alloc::{AllocError, Global};
 use std::test::Fail;
+use std::thread::Threads;
 
 const SQUARE_OF_FOUR: &[u8] =
     b"match 1\nboard rect 2 2\nturns no\nborder one 5\ntiles 4\ntile 5135\ntile 5541\ntile 3255\ntile 4552\nend\n";
@@ -45,19 +49,36 @@ fn certificate(alloc: Global, tree: &[u8]) -> Result<Vec<u8>, AllocError> {
     Ok(text)
 }
 
-// What a run on the three documents writes, and what it comes to.
-fn run(
+// What a run on the three documents writes, joined, by one worker, and what it comes to.
+fn run<R: Threads + Sync>(
+    rt: &R,
     alloc: Global,
     puzzle: &[u8],
     list: &[u8],
     certificate: &[u8],
 ) -> Result<(Vec<u8>, Result<Status, RunFault>), AllocError> {
+    run_by(rt, alloc, puzzle, list, certificate, 1, 0)
+}
+
+// The same by so many workers, and with so many forks.
+fn run_by<R: Threads + Sync>(
+    rt: &R,
+    alloc: Global,
+    puzzle: &[u8],
+    list: &[u8],
+    certificate: &[u8],
+    workers: u8,
+    forks: u8,
+) -> Result<(Vec<u8>, Result<Status, RunFault>), AllocError>
+    requires workers { (1 ≤ workers) × (workers ≤ MOST_WORKERS) }
+    requires forks { forks ≤ MOST_FORKS }
+{
     let mut input = Vec::from_slice(alloc, puzzle)?;
     input.extend_from_slice(list)?;
     input.extend_from_slice(certificate)?;
     let mut reader = Fake::new(alloc, input, 7, usize::MAX);
     let mut writer = Fake::new(alloc, Vec::new(alloc), 5, usize::MAX);
-    let status = run_joined(alloc, &mut reader, 1, 0, &mut writer);
+    let status = run_joined(rt, alloc, &mut reader, workers, forks, &mut writer);
     let written = Vec::from_slice(alloc, writer.written())?;
     Ok((written, status))
 }
@@ -77,7 +98,7 @@ fn finds_lists_complete(rt: HostRuntime) -> Result<(), Fail> {
     ];
     for (puzzle, list, tree, line) in rows {
         let text = certificate(rt.alloc(), tree)?;
-        let (written, status) = run(rt.alloc(), puzzle, list, &text)?;
+        let (written, status) = run(&rt, rt.alloc(), puzzle, list, &text)?;
         assert_eq!(rt; written.as_slice(), line.as_slice());
         assert_eq!(rt; status, Ok(Status::Complete));
     }
@@ -116,7 +137,7 @@ fn refuses_what_is_not_shown(rt: HostRuntime) -> Result<(), Fail> {
         ),
     ];
     for (puzzle, list, text, line) in rows {
-        let (written, status) = run(rt.alloc(), puzzle, list, text)?;
+        let (written, status) = run(&rt, rt.alloc(), puzzle, list, text)?;
         assert_eq!(rt; written.as_slice(), line);
         assert_eq!(rt; status, Ok(Status::Refused));
     }
@@ -136,7 +157,7 @@ fn deep_tree(alloc: Global, branches: u32) -> Result<Vec<u8>, AllocError> {
 #[test]
 fn reads_101_levels_of_a_tree(rt: HostRuntime) -> Result<(), Fail> {
     let text = certificate(rt.alloc(), &deep_tree(rt.alloc(), 100)?)?;
-    let (written, status) = run(rt.alloc(), ONE_CELL, LISTED_CELL, &text)?;
+    let (written, status) = run(&rt, rt.alloc(), ONE_CELL, LISTED_CELL, &text)?;
     assert_eq!(rt;
         written.as_slice(),
         b"refused tree 0 at 0 cell-taken\n".as_slice()
@@ -144,20 +165,21 @@ fn reads_101_levels_of_a_tree(rt: HostRuntime) -> Result<(), Fail> {
     assert_eq!(rt; status, Ok(Status::Refused));
     let text = certificate(rt.alloc(), &deep_tree(rt.alloc(), 101)?)?;
     assert_eq!(rt;
-        fault_line(rt.alloc(), ONE_CELL, LISTED_CELL, &text)?.as_slice(),
+        fault_line(&rt, rt.alloc(), ONE_CELL, LISTED_CELL, &text)?.as_slice(),
         b"certificate: line 4: too-deep\n".as_slice()
     );
     Ok(())
 }
 
 // The line that a run prints where there is a fault; empty where there is none.
-fn fault_line(
+fn fault_line<R: Threads + Sync>(
+    rt: &R,
     alloc: Global,
     puzzle: &[u8],
     list: &[u8],
     certificate: &[u8],
 ) -> Result<Vec<u8>, AllocError> {
-    let (_, status) = run(alloc, puzzle, list, certificate)?;
+    let (_, status) = run(rt, alloc, puzzle, list, certificate)?;
     match status {
         Ok(_) => Ok(Vec::new(alloc)),
         Err(fault) => fault_text(alloc, &fault),
@@ -212,7 +234,7 @@ fn prints_the_first_fault_of_the_documents(rt: HostRuntime) -> Result<(), Fail> 
         ),
     ];
     for (puzzle, list, certificate, line) in rows {
-        let printed = fault_line(rt.alloc(), puzzle, list, certificate)?;
+        let printed = fault_line(&rt, rt.alloc(), puzzle, list, certificate)?;
         assert_eq!(rt; printed.as_slice(), line);
     }
     Ok(())
@@ -225,7 +247,7 @@ fn writes_a_front_where_the_writer_fails(rt: HostRuntime) -> Result<(), Fail> {
     input.extend_from_slice(&certificate(rt.alloc(), b"c 0 1 f 0")?)?;
     let mut reader = Fake::new(rt.alloc(), input, usize::MAX, usize::MAX);
     let mut writer = Fake::new(rt.alloc(), Vec::new(rt.alloc()), usize::MAX, 3);
-    let fault = run_joined(rt.alloc(), &mut reader, 1, 0, &mut writer).err();
+    let fault = run_joined(&rt, rt.alloc(), &mut reader, 1, 0, &mut writer).err();
     assert_eq!(rt; fault, Some(RunFault::Write));
     assert_eq!(rt; writer.written(), b"com".as_slice());
     Ok(())

@@ -9,6 +9,7 @@ use crate::runs::{Status, run_joined};
 use crate::streams::fakes::Fake;
 use std::alloc::{AllocError, Global};
 use std::test::Fail;
+use std::thread::Threads;
 
 const SQUARE_OF_FOUR: &[u8] =
     b"match 1\nboard rect 2 2\nturns no\nborder one 5\ntiles 4\ntile 5135\ntile 5541\ntile 3255\ntile 4552\nend\n";
@@ -57,13 +58,18 @@ fn solve(alloc: Global, puzzle: &[u8], fuel: u32) -> Result<Written, AllocError>
 }
 
 // Whether a check of what was written answers Complete.
-fn checks(alloc: Global, puzzle: &[u8], solve: &Written) -> Result<bool, AllocError> {
+fn checks<R: Threads + Sync>(
+    rt: &R,
+    alloc: Global,
+    puzzle: &[u8],
+    solve: &Written,
+) -> Result<bool, AllocError> {
     let mut input = Vec::from_slice(alloc, puzzle)?;
     input.extend_from_slice(&solve.list)?;
     input.extend_from_slice(&solve.certificate)?;
     let mut reader = Fake::new(alloc, input, 1000, usize::MAX);
     let mut writer = Fake::new(alloc, Vec::new(alloc), 1000, usize::MAX);
-    let status = run_joined(alloc, &mut reader, 1, 0, &mut writer);
+    let status = run_joined(rt, alloc, &mut reader, 1, 0, &mut writer);
     Ok(status == Ok(Status::Complete))
 }
 
@@ -84,7 +90,7 @@ fn solves_with_just_enough_fuel(rt: HostRuntime) -> Result<(), Fail> {
         square.report.as_slice(),
         b"found 1\nlemmas 1\nworker 0 took 0\n0 0.0 5135\n1 1.0 5541\n2 2.0 3255\n3 3.0 4552\n".as_slice()
     );
-    assert!(rt; checks(alloc, SQUARE_OF_FOUR, &square)?);
+    assert!(rt; checks(&rt, alloc, SQUARE_OF_FOUR, &square)?);
     let triangle = solve(alloc, TURNING_TRIANGLE, 10)?;
     assert_eq!(rt; triangle.outcome, Ok(()));
     assert_eq!(rt;
@@ -96,7 +102,7 @@ fn solves_with_just_enough_fuel(rt: HostRuntime) -> Result<(), Fail> {
             .report
             .starts_with(b"found 3\nlemmas 1\nworker 0 took 0\n0 1.2 ")
     );
-    assert!(rt; checks(alloc, TURNING_TRIANGLE, &triangle)?);
+    assert!(rt; checks(&rt, alloc, TURNING_TRIANGLE, &triangle)?);
     Ok(())
 }
 
@@ -132,13 +138,13 @@ fn shows_dead_ends(rt: HostRuntime) -> Result<(), Fail> {
         cell.report.as_slice(),
         b"found 0\nlemmas 1\nworker 0 took 0\n".as_slice()
     );
-    assert!(rt; checks(alloc, DEAD_CELL, &cell)?);
+    assert!(rt; checks(&rt, alloc, DEAD_CELL, &cell)?);
     let tile = solve(alloc, DEAD_TILE, 1)?;
     assert_eq!(rt;
         tile.certificate.as_slice(),
         b"certificate 1\nsymmetries 0\nlemmas 1\nlemma 0 prefix tree e 1\nend\n".as_slice()
     );
-    assert!(rt; checks(alloc, DEAD_TILE, &tile)?);
+    assert!(rt; checks(&rt, alloc, DEAD_TILE, &tile)?);
     Ok(())
 }
 

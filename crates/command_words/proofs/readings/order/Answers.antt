@@ -1,7 +1,7 @@
 use Rattle.std.proofs.Common.{◌≡◌, ◌≢◌, Some, sym, subst, map, codes, true, false, refl, rules}
 use Rattle.std.specs.String.{string_bytes}
 use Rattle.std.proofs.lemmas.Result.{err_from_is_err_and}
-use Rattle.match_board.specs.declared.limits.TheConstants.{MOST_COLOURS, MOST_FUEL}
+use Rattle.match_board.specs.declared.limits.TheConstants.{MOST_COLOURS, MOST_FORKS, MOST_FUEL, MOST_WORKERS}
 use Rattle.clap.specs.Words.{App, app_of, found_of, rows_of, takes}
 use Rattle.clap.specs.Walk.{Text}
 use Rattle.std.specs.Str.{bytes_eq}
@@ -25,8 +25,14 @@ entered c =
 needed : (c : In-Some) (name : Text) → c.in-Some.name.now ≡ name → command_named name ≡ Some (command_at name) → HasNeeded (command_at name) (rows_of (found_of c.in-Some.matches.now))
 needed c name is = needed_at name c.in-Some.name.now (rows_of (found_of c.in-Some.matches.now)) (entered c) is
 
-pub files-requires : goal.files-requires
-files-requires c = has_files (command_at (codes "check")) (rows_of (found_of c.in-Some.matches.now)) (needed (goal.at.files-requires c).In-Some (codes "check") (search rules) refl) refl refl refl
+pub check-requires-clause-files : goal.check-requires-clause-files
+check-requires-clause-files c = has_files (command_at (codes "check")) (rows_of (found_of c.in-Some.matches.now)) (needed (goal.at.check-requires-clause-files c).In-Some (codes "check") (search rules) refl) refl refl refl
+
+pub check-requires-clause-workers : goal.check-requires-clause-workers
+check-requires-clause-workers c = has_number (command_at (codes "check")) (rows_of (found_of c.in-Some.matches.now)) (rule_at (command_at (codes "check")) 3) 1 MOST_WORKERS (needed (goal.at.check-requires-clause-workers c).In-Some (codes "check") (search rules) refl) refl refl refl
+
+pub check-requires-clause-forks : goal.check-requires-clause-forks
+check-requires-clause-forks c = has_number (command_at (codes "check")) (rows_of (found_of c.in-Some.matches.now)) (rule_at (command_at (codes "check")) 4) 0 MOST_FORKS (needed (goal.at.check-requires-clause-forks c).In-Some (codes "check") (search rules) refl) refl refl refl
 
 pub solve-requires-clause-files : goal.solve-requires-clause-files
 solve-requires-clause-files c = has_files (command_at (codes "solve")) (rows_of (found_of c.in-Some.matches.now)) (needed (goal.at.solve-requires-clause-files c).In-Some (codes "solve") (search rules) refl) refl refl refl
@@ -34,8 +40,8 @@ solve-requires-clause-files c = has_files (command_at (codes "solve")) (rows_of 
 pub solve-requires-clause-fuel : goal.solve-requires-clause-fuel
 solve-requires-clause-fuel c = has_number (command_at (codes "solve")) (rows_of (found_of c.in-Some.matches.now)) (rule_at (command_at (codes "solve")) 3) 1 MOST_FUEL (needed (goal.at.solve-requires-clause-fuel c).In-Some (codes "solve") (search rules) refl) refl refl refl
 
-pub files-requires-in-expand : goal.files-requires-in-expand
-files-requires-in-expand c = has_files (command_at (codes "expand")) (rows_of (found_of c.in-Some.matches.now)) (needed (goal.at.files-requires-in-expand c).In-Some (codes "expand") (search rules) refl) refl refl refl
+pub files-requires : goal.files-requires
+files-requires c = has_files (command_at (codes "expand")) (rows_of (found_of c.in-Some.matches.now)) (needed (goal.at.files-requires c).In-Some (codes "expand") (search rules) refl) refl refl refl
 
 pub tiles-requires-clause-sides : goal.tiles-requires-clause-sides
 tiles-requires-clause-sides c = has_number (command_at (codes "tiles")) (rows_of (found_of c.in-Some.matches.now)) (rule_at (command_at (codes "tiles")) 0) 3 4 (needed (goal.at.tiles-requires-clause-sides c).In-Some (codes "tiles") (search rules) refl) refl refl refl

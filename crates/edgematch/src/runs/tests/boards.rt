@@ -3,6 +3,7 @@ use crate::faults::fault_text;
 use crate::runs::Status;
 use std::alloc::{AllocError, Global};
 use std::test::Fail;
+use std::thread::Threads;
 
 const ONE_COLOUR: &[u8] =
     b"match 1\nboard rect 1 1\nturns yes\nborder free\ntiles 1\ntile aaaa\nend\n";
@@ -31,9 +32,15 @@ const LISTED_OF_TRIANGLE: &[u8] =
     b"list 1\narrangements 3\n2.2 1.0 0.0 3.1\n3.2 2.0 0.1 1.1\n1.2 3.0 0.2 2.1\nend\n";
 
 // The lines that a run on the tree alone prints: the answer's, or the fault's.
-fn line(alloc: Global, puzzle: &[u8], list: &[u8], tree: &[u8]) -> Result<Vec<u8>, AllocError> {
+fn line<R: Threads + Sync>(
+    rt: &R,
+    alloc: Global,
+    puzzle: &[u8],
+    list: &[u8],
+    tree: &[u8],
+) -> Result<Vec<u8>, AllocError> {
     let certificate = super::certificate(alloc, tree)?;
-    let (written, status) = run(alloc, puzzle, list, &certificate)?;
+    let (written, status) = run(rt, alloc, puzzle, list, &certificate)?;
     match status {
         Ok(Status::Complete | Status::Refused) => Ok(written),
         Err(fault) => fault_text(alloc, &fault),
@@ -65,7 +72,7 @@ fn turns_tiles_by_their_period(rt: HostRuntime) -> Result<(), Fail> {
         ),
     ];
     for (puzzle, list, answer) in rows {
-        let text = line(rt.alloc(), puzzle, list, b"c 0 1 f 0")?;
+        let text = line(&rt, rt.alloc(), puzzle, list, b"c 0 1 f 0")?;
         assert_eq!(rt; text.as_slice(), answer);
     }
     Ok(())
@@ -83,7 +90,7 @@ fn asks_what_a_border_list_asks(rt: HostRuntime) -> Result<(), Fail> {
         (SHORT_BORDER, b"puzzle: border-length\n".as_slice()),
     ];
     for (puzzle, answer) in rows {
-        let text = line(rt.alloc(), puzzle, LISTED_OF_FOUR, walk)?;
+        let text = line(&rt, rt.alloc(), puzzle, LISTED_OF_FOUR, walk)?;
         assert_eq!(rt; text.as_slice(), answer);
     }
     Ok(())
@@ -122,7 +129,7 @@ fn walks_the_turning_triangle(rt: HostRuntime) -> Result<(), Fail> {
         ),
     ];
     for (tree, answer) in rows {
-        let text = line(rt.alloc(), TURNING_TRIANGLE, LISTED_OF_TRIANGLE, tree)?;
+        let text = line(&rt, rt.alloc(), TURNING_TRIANGLE, LISTED_OF_TRIANGLE, tree)?;
         assert_eq!(rt; text.as_slice(), answer);
     }
     Ok(())
@@ -130,7 +137,13 @@ fn walks_the_turning_triangle(rt: HostRuntime) -> Result<(), Fail> {
 
 #[test]
 fn refuses_triangles_that_are_not_turned(rt: HostRuntime) -> Result<(), Fail> {
-    let text = line(rt.alloc(), FIXED_TRIANGLE, LISTED_OF_TRIANGLE, b"c 0 1 f 0")?;
+    let text = line(
+        &rt,
+        rt.alloc(),
+        FIXED_TRIANGLE,
+        LISTED_OF_TRIANGLE,
+        b"c 0 1 f 0",
+    )?;
     assert_eq!(rt; text.as_slice(), b"puzzle: fixed-triangles\n".as_slice());
     Ok(())
 }

@@ -1,33 +1,55 @@
+ghost use Rattle.std.specs.Prelude.{◌≤◌};
+
 use super::{LISTED, SQUARE_OF_FOUR, WALK_OF_FOUR, certificate};
 use crate::faults::{Document, RunFault, fault_text};
 use crate::runs::{Status, run_check};
 use crate::streams::fakes::Fake;
+use match_board::limits::{MOST_FORKS, MOST_WORKERS};
 use std::alloc::{AllocError, Global};
 use std::test::Fail;
+use std::thread::Threads;
 
 // A reader of this text, some bytes at a time, that fails after so many.
 fn reader(alloc: Global, text: &[u8], fails_after: usize) -> Result<Fake, AllocError> {
     Ok(Fake::new(alloc, Vec::from_slice(alloc, text)?, 7, fails_after))
 }
 
-// What a check of three documents writes, and what it comes to.
-pub fn check(
+// What a check of three documents by one worker writes, and what it comes to.
+pub fn check<R: Threads + Sync>(
+    rt: &R,
     alloc: Global,
     puzzle: &[u8],
     list: &[u8],
     certificate: &[u8],
 ) -> Result<(Vec<u8>, Result<Status, RunFault>), AllocError> {
+    check_by(rt, alloc, puzzle, list, certificate, 1, 0)
+}
+
+// The same by so many workers, and with so many forks.
+pub fn check_by<R: Threads + Sync>(
+    rt: &R,
+    alloc: Global,
+    puzzle: &[u8],
+    list: &[u8],
+    certificate: &[u8],
+    workers: u8,
+    forks: u8,
+) -> Result<(Vec<u8>, Result<Status, RunFault>), AllocError>
+    requires workers { (1 ≤ workers) × (workers ≤ MOST_WORKERS) }
+    requires forks { forks ≤ MOST_FORKS }
+{
     let mut puzzle = reader(alloc, puzzle, usize::MAX)?;
     let mut list = reader(alloc, list, usize::MAX)?;
     let mut certificate = reader(alloc, certificate, usize::MAX)?;
     let mut writer = Fake::new(alloc, Vec::new(alloc), 5, usize::MAX);
     let status = run_check(
+        rt,
         alloc,
         &mut puzzle,
         &mut list,
         &mut certificate,
-        1,
-        0,
+        workers,
+        forks,
         &mut writer,
     );
     Ok((Vec::from_slice(alloc, writer.written())?, status))
@@ -41,6 +63,7 @@ fn reads_nothing_after_a_failed_read(rt: HostRuntime) -> Result<(), Fail> {
     let mut certificate = reader(rt.alloc(), &text, usize::MAX)?;
     let mut writer = Fake::new(rt.alloc(), Vec::new(rt.alloc()), 5, usize::MAX);
     let fault = run_check(
+        &rt,
         rt.alloc(),
         &mut puzzle,
         &mut list,
@@ -63,6 +86,7 @@ fn writes_a_front_of_the_answer(rt: HostRuntime) -> Result<(), Fail> {
     let mut certificate = reader(rt.alloc(), &text, usize::MAX)?;
     let mut writer = Fake::new(rt.alloc(), Vec::new(rt.alloc()), usize::MAX, 3);
     let fault = run_check(
+        &rt,
         rt.alloc(),
         &mut puzzle,
         &mut list,
@@ -99,7 +123,7 @@ fn names_the_document_of_a_fault(rt: HostRuntime) -> Result<(), Fail> {
         ),
     ];
     for (puzzle, list, line) in rows {
-        let (written, status) = check(rt.alloc(), puzzle, list, b"")?;
+        let (written, status) = check(&rt, rt.alloc(), puzzle, list, b"")?;
         let Err(fault) = status else {
             return Err(Fail::from("there is an answer"));
         };

@@ -2,6 +2,7 @@ use super::run;
 use crate::faults::fault_text;
 use std::alloc::{AllocError, Global};
 use std::test::Fail;
+use std::thread::Threads;
 
 pub const TWIN_TILES: &[u8] =
     b"match 1\nboard rect 2 1\nturns no\nborder free\ntiles 2\ntile 0101\ntile 0101\nend\n";
@@ -51,13 +52,14 @@ pub fn walk_of_triangle(alloc: Global) -> Result<Vec<u8>, AllocError> {
 }
 
 // The line that a run prints: the answer's, or the fault's.
-fn line(
+fn line<R: Threads + Sync>(
+    rt: &R,
     alloc: Global,
     puzzle: &[u8],
     list: &[u8],
     certificate: &[u8],
 ) -> Result<Vec<u8>, AllocError> {
-    let (written, status) = run(alloc, puzzle, list, certificate)?;
+    let (written, status) = run(rt, alloc, puzzle, list, certificate)?;
     match status {
         Ok(_) => Ok(written),
         Err(fault) => fault_text(alloc, &fault),
@@ -76,10 +78,10 @@ fn takes_lemmas_in_any_order(rt: HostRuntime) -> Result<(), Fail> {
     ];
     for (one, two, three) in orders {
         let text = turning(rt.alloc(), one, two, three)?;
-        let printed = line(rt.alloc(), TURNING_TRIANGLE, LISTED_TRIANGLE, &text)?;
+        let printed = line(&rt, rt.alloc(), TURNING_TRIANGLE, LISTED_TRIANGLE, &text)?;
         assert_eq!(rt; printed.as_slice(), b"complete 1\n".as_slice());
     }
-    let printed = line(rt.alloc(), TWIN_TILES, LISTED_TWINS, WALK_OF_TWINS)?;
+    let printed = line(&rt, rt.alloc(), TWIN_TILES, LISTED_TWINS, WALK_OF_TWINS)?;
     assert_eq!(rt; printed.as_slice(), b"complete 1\n".as_slice());
     Ok(())
 }
@@ -128,7 +130,7 @@ fn refuses_wrong_citations(rt: HostRuntime) -> Result<(), Fail> {
     ];
     for ((one, two, three), wanted) in rows {
         let text = turning(rt.alloc(), one, two, three)?;
-        let printed = line(rt.alloc(), TURNING_TRIANGLE, LISTED_TRIANGLE, &text)?;
+        let printed = line(&rt, rt.alloc(), TURNING_TRIANGLE, LISTED_TRIANGLE, &text)?;
         assert_eq!(rt; printed.as_slice(), wanted);
     }
     Ok(())
@@ -155,7 +157,7 @@ fn names_what_is_wrong_with_a_certificate(rt: HostRuntime) -> Result<(), Fail> {
         ),
     ];
     for (text, wanted) in rows {
-        let printed = line(rt.alloc(), TWIN_TILES, LISTED_TWINS, text)?;
+        let printed = line(&rt, rt.alloc(), TWIN_TILES, LISTED_TWINS, text)?;
         assert_eq!(rt; printed.as_slice(), wanted);
     }
     Ok(())

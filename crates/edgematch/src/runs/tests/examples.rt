@@ -1,7 +1,12 @@
-use super::checks::check;
-use super::{LISTED, SQUARE_OF_FOUR, WALK_OF_FOUR, certificate};
+use super::checks::check_by;
+use super::citations::{
+    LISTED_TRIANGLE, LISTED_TWINS, TURNING_TRIANGLE, TWIN_TILES, WALK_OF_TWINS, walk_of_triangle,
+};
+use super::{LISTED, SQUARE_OF_FOUR, WALK_OF_FOUR, certificate, run_by};
 use crate::runs::Status;
+use std::alloc::{AllocError, Global};
 use std::test::Fail;
+use std::thread::Threads;
 
 const BORDERED_RECTANGLE: &[u8] =
     b"match 1\nboard rect 2 2\nturns yes\nborder each 0 - 1 - - 2 2 2\ntiles 4\ntile 1101\ntile 1210\ntile 2200\ntile 2201\nend\n";
@@ -52,9 +57,46 @@ fn checks_the_examples(rt: HostRuntime) -> Result<(), Fail> {
     ];
     for (puzzle, list, tree, line) in rows {
         let text = certificate(rt.alloc(), tree)?;
-        let (written, status) = check(rt.alloc(), puzzle, list, &text)?;
-        assert_eq!(rt; written.as_slice(), line);
-        assert_eq!(rt; status, Ok(Status::Complete));
+        assert!(rt; is_complete_by_all(&rt, rt.alloc(), puzzle, list, &text, line)?);
     }
     Ok(())
+}
+
+// The others.
+#[test]
+fn checks_the_examples_of_symmetries(rt: HostRuntime) -> Result<(), Fail> {
+    let of_triangle = walk_of_triangle(rt.alloc())?;
+    let rows = [
+        (TWIN_TILES, LISTED_TWINS, WALK_OF_TWINS),
+        (TURNING_TRIANGLE, LISTED_TRIANGLE, of_triangle.as_slice()),
+    ];
+    for (puzzle, list, text) in rows {
+        assert!(rt; is_complete_by_all(&rt, rt.alloc(), puzzle, list, text, b"complete 1\n")?);
+    }
+    Ok(())
+}
+
+// Whether a check by crews of each kind, apart and joined, finds the list complete, and writes this line.
+fn is_complete_by_all<R: Threads + Sync>(
+    rt: &R,
+    alloc: Global,
+    puzzle: &[u8],
+    list: &[u8],
+    text: &[u8],
+    line: &[u8],
+) -> Result<bool, AllocError> {
+    let complete = Ok(Status::Complete);
+    for workers in [1, 3, 64u8] {
+        for forks in [0, 2, 6u8] {
+            let (written, status) = check_by(rt, alloc, puzzle, list, text, workers, forks)?;
+            let (joined, joined_status) = run_by(rt, alloc, puzzle, list, text, workers, forks)?;
+            if status != complete || joined_status != complete {
+                return Ok(false);
+            }
+            if written.as_slice() != line || joined.as_slice() != line {
+                return Ok(false);
+            }
+        }
+    }
+    Ok(true)
 }

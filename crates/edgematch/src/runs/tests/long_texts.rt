@@ -36,10 +36,10 @@ fn checks_long_documents(rt: HostRuntime) -> Result<(), Fail> {
     let puzzle = dead_square(alloc)?;
     for count in [1, 200, 3_000] {
         let text = dead_lemmas(alloc, count)?;
-        let (written, status) = run(alloc, &puzzle, LISTED_NONE, &text)?;
+        let (written, status) = run(&rt, alloc, &puzzle, LISTED_NONE, &text)?;
         assert_eq!(rt; written.as_slice(), b"complete 0\n".as_slice());
         assert_eq!(rt; status, Ok(Status::Complete));
-        let (written, status) = check(alloc, &puzzle, LISTED_NONE, &text)?;
+        let (written, status) = check(&rt, alloc, &puzzle, LISTED_NONE, &text)?;
         assert_eq!(rt; written.as_slice(), b"complete 0\n".as_slice());
         assert_eq!(rt; status, Ok(Status::Complete));
     }

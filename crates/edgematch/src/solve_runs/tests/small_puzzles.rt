@@ -105,7 +105,7 @@ fn finds_what_is_among_all_placements(rt: HostRuntime) -> Result<(), Fail> {
         let puzzle = read_puzzle(alloc, &text[..text.len().min(1_000_000)])?;
         let solve = solve(alloc, text, 1_000_000)?;
         assert_eq!(rt; solve.outcome, Ok(()));
-        assert!(rt; checks(alloc, text, &solve)?);
+        assert!(rt; checks(&rt, alloc, text, &solve)?);
         let Some(count) = count_all(alloc, &puzzle, &solve.list)? else {
             return Err("another list".into());
         };
