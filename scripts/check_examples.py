@@ -1,0 +1,87 @@
+#!/usr/bin/env python3
+"""Runs the program on each example, with its words, and compares what it prints and its exit status.
+
+usage: check_examples.py PROGRAM
+
+What is wanted comes from the examples' own lists, and from the plain search beside this script, which finds all
+arrangements by itself. It ends with 0 where each run is as wanted, and names those that aren't.
+"""
+import os
+import subprocess
+import sys
+import tempfile
+
+HERE = os.path.dirname(os.path.abspath(__file__))
+EXAMPLES = os.path.join(HERE, "..", "examples")
+WORKERS, FORKS = (1, 3, 64), (0, 2, 6)
+
+
+def arrangements(text):
+    """The arrangements of a list, in no order."""
+    return sorted(text.splitlines()[2:-1])
+
+
+def contents(path):
+    with open(path, encoding="ascii") as file:
+        return file.read()
+
+
+class Runs:
+    def __init__(self, program):
+        self.program, self.count, self.wrong = program, 0, []
+
+    def run(self, words, stdin=""):
+        done = subprocess.run([self.program, *words], input=stdin, capture_output=True, text=True, check=False)
+        return done.returncode, done.stdout, done.stderr
+
+    def wants(self, name, is_so):
+        self.count += 1
+        if not is_so:
+            self.wrong.append(name)
+
+    def example(self, name, into):
+        files = [os.path.join(EXAMPLES, name, it) for it in ("puzzle", "list", "certificate")]
+        texts = [contents(it) for it in files]
+        line = "complete " + texts[1].splitlines()[1].split()[1] + "\n"
+        self.wants(f"{name}, joined", self.run([], "".join(texts)) == (0, line, ""))
+        for workers in WORKERS:
+            for forks in FORKS:
+                words = ["--workers", str(workers), "--forks", str(forks)]
+                self.wants(f"{name}, check {' '.join(words)}", self.run(["check", *files, *words]) == (0, line, ""))
+        made = [files[0], os.path.join(into, "list"), os.path.join(into, "certificate")]
+        subprocess.run([sys.executable, os.path.join(HERE, "plain_search.py"), *made], check=True, capture_output=True)
+        all_there_are = arrangements(contents(made[1]))
+        status, expansion, errors = self.run(["expand", *files])
+        self.wants(f"{name}, expand", (status, arrangements(expansion), errors) == (0, all_there_are, ""))
+        status, report, errors = self.run(["solve", *made])
+        begins = report.startswith(f"found {len(all_there_are)}\nlemmas 1\n")
+        self.wants(f"{name}, solve", (status, begins, errors) == (0, True, ""))
+        self.wants(f"{name}, what solve listed", arrangements(contents(made[1])) == all_there_are)
+        solved = self.run(["check", *made, "--workers", "3", "--forks", "2"])
+        self.wants(f"{name}, check of solve", solved == (0, f"complete {len(all_there_are)}\n", ""))
+        empty = os.path.join(into, "empty")
+        with open(empty, "w", encoding="ascii") as file:
+            file.write("list 1\narrangements 0\nend\n")
+        status, answer, errors = self.run(["check", files[0], empty, files[2]])
+        self.wants(f"{name}, without its list", (status, answer[:8], errors) == (1, "refused ", ""))
+        for place, document in enumerate(("puzzle", "list", "certificate")):
+            missing = [os.path.join(into, "no") if it == place else files[it] for it in range(3)]
+            wanted = (2, "", f"cannot read {document}\n")
+            self.wants(f"{name}, no {document}", self.run(["check", *missing]) == wanted)
+
+
+def main():
+    if len(sys.argv) != 2:
+        sys.exit(__doc__)
+    runs = Runs(os.path.abspath(sys.argv[1]))
+    for name in sorted(os.listdir(EXAMPLES)):
+        with tempfile.TemporaryDirectory() as into:
+            runs.example(name, into)
+    print(f"{runs.count} runs, {len(runs.wrong)} not as wanted")
+    for name in runs.wrong:
+        print(name)
+    sys.exit(1 if runs.wrong else 0)
+
+
+if __name__ == "__main__":
+    main()
