@@ -4,3 +4,5 @@ pub mod QueueRuleLemmas
 pub mod QueueLemmas
 pub mod ResultLemmas
 pub mod MachineLemmas
+pub mod NumberSourceLemmas
+pub mod TicketLemmas

@@ -11,8 +11,10 @@ mod results;
 mod taking;
 #[cfg(test)]
 mod tests;
+mod tickets;
 mod works;
 
 pub use crews::{Crew, run_crew};
 pub use joins::both;
+pub use tickets::{TicketSeat, Tickets};
 pub use works::Work;

@@ -1,0 +1,29 @@
+//! A number source and its seats.
+
+ghost use Rattle.std.specs.Prelude.{◌≡◌, ◌<◌, [], cond};
+
+use super::rules::{EachOnce, SeatView};
+use atomic_table::{Seat, Table};
+use std::alloc::Global;
+
+/// The numbers from 0 up to a limit, each of which is drawn once, by whichever thread comes first.
+#[derive(Drop)]
+pub struct Tickets {
+    // One word: the next number. At the limit and above, nothing is left.
+    pub(crate) table: Table<(), SeatView, (u64, u64), EachOnce, Global>,
+    pub(crate) limit: u32,
+    ghost one_word: { table.shared.table_id.words ≡ 1 },
+    ghost no_slot: { table.shared.table_id.slots ≡ 0 },
+    ghost some_seat: { 0 < table.shared.key.1 },
+    ghost told: { table.shared.key.0 ≡ limit },
+}
+
+/// What one thread at a time draws by. It is out once it answered none.
+#[derive(Drop)]
+pub struct TicketSeat {
+    pub(crate) seat: Seat<(), SeatView>,
+    pub(crate) out: bool,
+    ghost one_part: { seat.me.0.parts ≡ 1 },
+    ghost free: { seat.me.1 ≡ [] },
+    ghost marked: { seat.me.0.marks ≡ cond out 1 0 },
+}
