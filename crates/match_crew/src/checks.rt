@@ -61,8 +61,8 @@ fn trees_fault_by_crew<R: Threads + Sync, G: Gate + Sync>(
 /// and of those with a fault the first counts. One worker without forks does all in turn, on the caller's thread, and
 /// stops at the first fault.
 ///
-/// It joins threads: one for each worker but the caller, and with forks one more for each branch with children in the
-/// first `forks` levels, of which at most 2^`forks` - 1 run at once for a worker. Forks pay where a tree has many nodes
+/// It joins threads: one for each worker but the caller, and with forks one more for each branch with several children in
+/// the first `forks` levels, of which at most 2^`forks` - 1 run at once for a worker. Forks pay where a tree has many nodes
 /// below these levels. An `Err` comes where memory is refused, to any of the workers.
 pub fn check_with<R: Threads + Sync, G: Gate + Sync>(
     rt: &R,
