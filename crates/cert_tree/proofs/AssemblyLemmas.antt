@@ -7,8 +7,6 @@ use Rattle.match_board.specs.First.{AtMost, IsLeast, IsFirst}
 use Rattle.cert_tree.specs.declared.faults.AssembleFault.TheVariants.{Stranger, Double, Missing, Memory}
 use Rattle.cert_tree.specs.Assembly.{how_often, IsOnly, HaveNoStranger, IsAssembly, AssemblyFails, assembly_rank, Assembles, TellsLeast}
 use Rattle.cert_tree.specs.Slots.{lesser_of, stranger_of, IsFilled, IsEntered, IsPut, IsTaken, IsFirstEmpty}
-use Rattle.cert_tree.specs.Spans.{number_of}
-use Rattle.cert_tree.specs.declared.flat_lemmas.LemmaSpan.{LemmaSpan}
 use Rattle.match_puzzle.proofs.Prefixes.{inside, slice_get-set_same, slice_get-set_other, slice_get-replicate}
 use Rattle.std.proofs.lemmas.Option.{slice_get_within, slice_get-map, slice_get-get_or}
 use Rattle.std.proofs.lemmas.List.{length-map}
@@ -137,59 +135,60 @@ first_contained x xs = (0, omega arith, refl)
 pub later_contained : {X : Type 0} (x y : X) (xs : List X) → Contains xs x → Contains (y ∷ xs) x
 later_contained x y xs at = (suc at.0, omega (arith, at.1), at.2)
 
-filled_on : (pieces : List LemmaSpan) (piece : LemmaSpan) (n : ℕ) (slot : Option LemmaSpan) → piece.number ≢ n → IsFilled pieces n slot → IsFilled (piece ∷ pieces) n slot
-filled_on pieces piece n None other filled = often-other number_of piece pieces n other ∙ filled
-filled_on pieces piece n (Some lemma) other filled = (later_contained lemma piece pieces filled.0, filled.1)
+module _ {X : Type 0} (number_of : X → ℕ) where
+  filled_on : (pieces : List X) (piece : X) (n : ℕ) (slot : Option X) → number_of piece ≢ n → IsFilled number_of pieces n slot → IsFilled number_of (piece ∷ pieces) n slot
+  filled_on pieces piece n None other filled = often-other number_of piece pieces n other ∙ filled
+  filled_on pieces piece n (Some lemma) other filled = (later_contained lemma piece pieces filled.0, filled.1)
 
-pub put_entered : (pieces : List LemmaSpan) (piece : LemmaSpan) (before after : List (Option LemmaSpan)) (double : Option ℕ) → IsPut before after piece → IsEntered pieces before double → IsEntered (piece ∷ pieces) after double
-put_entered pieces piece before after double put entered =
-    let none : how_often number_of pieces piece.number ≡ 0 = entered.filled piece.number None put.0 in
-    let within : piece.number < length before = slice_get_within before piece.number None put.0 in
-    record {
-      filled = λ n slot at.
-          elim (cases_eq piece.number n) [
-            | inl same ↦
-                let is : slot ≡ Some piece = inside (sym at ∙ rw (put.1, sym same) (slice_get-set_same before piece.number (Some piece) within)) in
-                rw is (first_contained piece pieces, same)
-            | inr other ↦
-                let there : slice_get before n ≡ Some slot = sym (slice_get-set_other before piece.number n (Some piece) (λ e. other (sym e))) ∙ ap (λ s. slice_get s n) (sym put.1) ∙ at in
-                filled_on pieces piece n slot other (entered.filled n slot there)
-          ];
-      least =
-          tells_same (λ n. 1 < how_often number_of pieces n) (λ n. 1 < how_often number_of (piece ∷ pieces) n) double entered.least
-          (λ m twice. omega (arith, often-cons number_of piece pieces m, twice))
-          (λ m twice. elim (cases_eq piece.number m) [
-            | inl same ↦ absurd (omega (arith, often-same number_of piece pieces m same, subst (λ k. how_often number_of pieces k ≡ 0) same none, twice))
-            | inr other ↦ omega (arith, often-other number_of piece pieces m other, twice)
-          ]);
-    }
+  pub put_entered : (pieces : List X) (piece : X) (before after : List (Option X)) (double : Option ℕ) → IsPut number_of before after piece → IsEntered number_of pieces before double → IsEntered number_of (piece ∷ pieces) after double
+  put_entered pieces piece before after double put entered =
+      let none : how_often number_of pieces (number_of piece) ≡ 0 = entered.filled (number_of piece) None put.0 in
+      let within : number_of piece < length before = slice_get_within before (number_of piece) None put.0 in
+      record {
+        filled = λ n slot at.
+            elim (cases_eq (number_of piece) n) [
+              | inl same ↦
+                  let is : slot ≡ Some piece = inside (sym at ∙ rw (put.1, sym same) (slice_get-set_same before (number_of piece) (Some piece) within)) in
+                  rw is (first_contained piece pieces, same)
+              | inr other ↦
+                  let there : slice_get before n ≡ Some slot = sym (slice_get-set_other before (number_of piece) n (Some piece) (λ e. other (sym e))) ∙ ap (λ s. slice_get s n) (sym put.1) ∙ at in
+                  filled_on pieces piece n slot other (entered.filled n slot there)
+            ];
+        least =
+            tells_same (λ n. 1 < how_often number_of pieces n) (λ n. 1 < how_often number_of (piece ∷ pieces) n) double entered.least
+            (λ m twice. omega (arith, often-cons number_of piece pieces m, twice))
+            (λ m twice. elim (cases_eq (number_of piece) m) [
+              | inl same ↦ absurd (omega (arith, often-same number_of piece pieces m same, subst (λ k. how_often number_of pieces k ≡ 0) same none, twice))
+              | inr other ↦ omega (arith, often-other number_of piece pieces m other, twice)
+            ]);
+      }
 
-pub taken_entered : (pieces : List LemmaSpan) (piece : LemmaSpan) (before after : List (Option LemmaSpan)) (double : Option ℕ) → IsTaken before after piece → IsEntered pieces before double → IsEntered (piece ∷ pieces) after (Some (lesser_of double piece.number))
-taken_entered pieces piece before after double taken entered =
-    let other = entered.filled piece.number (Some taken.0) taken.1 in
-    let some : how_often number_of pieces piece.number ≢ 0 = subst (λ k. how_often number_of pieces k ≢ 0) other.1 (often_contained number_of pieces taken.0 other.0) in
-    record {
-      filled = λ n slot at.
-          let there = entered.filled n slot (ap (λ s. slice_get s n) (sym taken.2) ∙ at) in
-          elim (cases_eq piece.number n) [
-            | inl same ↦ filled_again slot n same there at
-            | inr apart ↦ filled_on pieces piece n slot apart there
-          ];
-      least =
-          tells_more (λ n. 1 < how_often number_of pieces n) (λ n. 1 < how_often number_of (piece ∷ pieces) n) double piece.number entered.least
-          (omega (arith, often-same number_of piece pieces piece.number refl, some))
-          (λ m twice. omega (arith, often-cons number_of piece pieces m, twice))
-          (λ m twice. elim (cases_eq piece.number m) [
-            | inl same ↦ inr (sym same)
-            | inr apart ↦ inl (omega (arith, often-other number_of piece pieces m apart, twice))
-          ]);
-    }
-  where
-    filled_again : (slot : Option LemmaSpan) (n : ℕ) → piece.number ≡ n → IsFilled pieces n slot → slice_get after n ≡ Some slot → IsFilled (piece ∷ pieces) n slot
-    filled_again None n same filled at =
-        let is : Some None ≡ Some (Some taken.0) = sym at ∙ ap (λ s. slice_get s n) taken.2 ∙ ap (slice_get before) (sym same) ∙ taken.1 in
-        absurd cc
-    filled_again (Some lemma) n same filled at = (later_contained lemma piece pieces filled.0, filled.1)
+  pub taken_entered : (pieces : List X) (piece : X) (before after : List (Option X)) (double : Option ℕ) → IsTaken number_of before after piece → IsEntered number_of pieces before double → IsEntered number_of (piece ∷ pieces) after (Some (lesser_of double (number_of piece)))
+  taken_entered pieces piece before after double taken entered =
+      let other = entered.filled (number_of piece) (Some taken.0) taken.1 in
+      let some : how_often number_of pieces (number_of piece) ≢ 0 = subst (λ k. how_often number_of pieces k ≢ 0) other.1 (often_contained number_of pieces taken.0 other.0) in
+      record {
+        filled = λ n slot at.
+            let there = entered.filled n slot (ap (λ s. slice_get s n) (sym taken.2) ∙ at) in
+            elim (cases_eq (number_of piece) n) [
+              | inl same ↦ filled_again slot n same there at
+              | inr apart ↦ filled_on pieces piece n slot apart there
+            ];
+        least =
+            tells_more (λ n. 1 < how_often number_of pieces n) (λ n. 1 < how_often number_of (piece ∷ pieces) n) double (number_of piece) entered.least
+            (omega (arith, often-same number_of piece pieces (number_of piece) refl, some))
+            (λ m twice. omega (arith, often-cons number_of piece pieces m, twice))
+            (λ m twice. elim (cases_eq (number_of piece) m) [
+              | inl same ↦ inr (sym same)
+              | inr apart ↦ inl (omega (arith, often-other number_of piece pieces m apart, twice))
+            ]);
+      }
+    where
+      filled_again : (slot : Option X) (n : ℕ) → number_of piece ≡ n → IsFilled number_of pieces n slot → slice_get after n ≡ Some slot → IsFilled number_of (piece ∷ pieces) n slot
+      filled_again None n same filled at =
+          let is : Some None ≡ Some (Some taken.0) = sym at ∙ ap (λ s. slice_get s n) taken.2 ∙ ap (slice_get before) (sym same) ∙ taken.1 in
+          absurd cc
+      filled_again (Some lemma) n same filled at = (later_contained lemma piece pieces filled.0, filled.1)
 
 pub mid_contained : {X : Type 0} (front : List X) (x : X) (back : List X) → Contains (front ++ x ∷ back) x
 mid_contained [] x back = first_contained x back
@@ -216,31 +215,32 @@ slice_get-take (x ∷ xs) (suc n) zero lt = refl
 slice_get-take (x ∷ xs) (suc n) (suc m) lt = slice_get-take xs n m (omega (arith, lt))
 
 -- a place that was reached is not empty
-pub not_before : (lemmas : List LemmaSpan) (slots : List (Option LemmaSpan)) (number m : ℕ) → number ≤ length slots → map Some lemmas ≡ take number slots → slice_get slots m ≡ Some None → number ≤ m
-not_before lemmas slots number m few taken none = elim (cases_lt m number) [
+pub not_before : {X : Type 0} (lemmas : List X) (slots : List (Option X)) (number m : ℕ) → number ≤ length slots → map Some lemmas ≡ take number slots → slice_get slots m ≡ Some None → number ≤ m
+not_before {X} lemmas slots number m few taken none = elim (cases_lt m number) [
   | inl lt ↦
       let at : slice_get (take number slots) m ≡ Some None = slice_get-take slots number m lt ∙ none in
       absurd (is_some_none (slice_get lemmas m) (sym (slice_get-map Some lemmas m) ∙ ap (λ s. slice_get s m) taken ∙ at))
   | inr ge ↦ ge
 ]
   where
-    is_some_none : (o : Option LemmaSpan) → option_map Some o ≡ Some None → ⊥
+    is_some_none : (o : Option X) → option_map Some o ≡ Some None → ⊥
     is_some_none None e = absurd cc
     is_some_none (Some l) e = absurd cc
 
 -- ---- what the places say of the pieces
 
-empty_entered : (count : ℕ) → IsEntered [] (replicate count None) None
-empty_entered count = record {
-  filled = λ n slot at. rw (slice_get-replicate count n None slot at) refl;
-  least = λ n twice. omega (arith, twice);
-}
+module _ {X : Type 0} (number_of : X → ℕ) where
+  empty_entered : (count : ℕ) → IsEntered number_of [] (replicate count None) None
+  empty_entered count = record {
+    filled = λ n slot at. rw (slice_get-replicate count n None slot at) refl;
+    least = λ n twice. omega (arith, twice);
+  }
 
-pub all_below : (count : ℕ) (pieces : List LemmaSpan) → HaveNoStranger number_of count pieces → (piece : LemmaSpan) → Contains pieces piece → piece.number < count
-all_below count pieces none piece at = elim (cases_lt piece.number count) [
-  | inl lt ↦ lt
-  | inr ge ↦ absurd (often_contained number_of pieces piece at (none piece.number ge))
-]
+  pub all_below : (count : ℕ) (pieces : List X) → HaveNoStranger number_of count pieces → (piece : X) → Contains pieces piece → number_of piece < count
+  all_below count pieces none piece at = elim (cases_lt (number_of piece) count) [
+    | inl lt ↦ lt
+    | inr ge ↦ absurd (often_contained number_of pieces piece at (none (number_of piece) ge))
+  ]
 
 -- a fault of an earlier kind
 earlier : (f g : AssembleFault) → (assembly_rank f).first < (assembly_rank g).first → AtMost (assembly_rank f) (assembly_rank g)
@@ -265,7 +265,7 @@ module _ {X : Type 0} (number_of : X → ℕ) (count : ℕ) (pieces : List X) wh
     | inr some ↦ absurd (none n (past, some))
   ]
 
-module _ (count : ℕ) (pieces : List LemmaSpan) where
+module _ {X : Type 0} (number_of : X → ℕ) (count : ℕ) (pieces : List X) where
   abbrev Fails : AssembleFault → Type 0
   Fails = AssemblyFails number_of count pieces
 
@@ -284,8 +284,8 @@ module _ (count : ℕ) (pieces : List LemmaSpan) where
 
     -- ---- each number at most once
 
-    module _ (slots : List (Option LemmaSpan)) (long : length slots ≡ count) (entered : IsEntered pieces slots None) where
-      once_at : (n : ℕ) (lemma : LemmaSpan) → slice_get slots n ≡ Some (Some lemma) → IsOnly number_of pieces n lemma
+    module _ (slots : List (Option X)) (long : length slots ≡ count) (entered : IsEntered number_of pieces slots None) where
+      once_at : (n : ℕ) (lemma : X) → slice_get slots n ≡ Some (Some lemma) → IsOnly number_of pieces n lemma
       once_at n lemma at =
           let filled = entered.filled n (Some lemma) at in
           let some : how_often number_of pieces n ≢ 0 = subst (λ k. how_often number_of pieces k ≢ 0) filled.1 (often_contained number_of pieces lemma filled.0) in
@@ -298,7 +298,7 @@ module _ (count : ℕ) (pieces : List LemmaSpan) where
             | inr few ↦ few
           ]
 
-      pub assembled : (lemmas : List LemmaSpan) → map Some lemmas ≡ slots → IsAssembly number_of count pieces lemmas
+      pub assembled : (lemmas : List X) → map Some lemmas ≡ slots → IsAssembly number_of count pieces lemmas
       assembled lemmas all = record {
         many = sym (length-map lemmas Some) ∙ ap length all ∙ long;
         only = λ n lemma at. once_at n lemma (ap (λ s. slice_get s n) (sym all) ∙ slice_get-map Some lemmas n ∙ ap (option_map Some) at);
@@ -306,7 +306,7 @@ module _ (count : ℕ) (pieces : List LemmaSpan) where
       }
 
       module _ (n : ℕ) (empty : slice_get slots n ≡ Some None) (first : (m : ℕ) → slice_get slots m ≡ Some None → n ≤ m) where
-        not_empty : (m : ℕ) (slot : Option LemmaSpan) → slice_get slots m ≡ Some slot → how_often number_of pieces m ≡ 0 → n ≤ m
+        not_empty : (m : ℕ) (slot : Option X) → slice_get slots m ≡ Some slot → how_often number_of pieces m ≡ 0 → n ≤ m
         not_empty m None at none = first m at
         not_empty m (Some lemma) at none = absurd (omega (arith, (once_at m lemma at).once, none))
 

@@ -17,3 +17,4 @@ pub mod TreeLimitLemmas
 pub mod SpacedLemmas
 pub mod WholeLemmas
 pub mod LawLemmas
+pub mod TurningLemmas

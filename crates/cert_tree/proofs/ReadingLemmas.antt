@@ -18,10 +18,10 @@ use Rattle.cert_tree.specs.declared.faults.LemmaTextFault.{LemmaTextFault}
 use Rattle.cert_tree.specs.declared.faults.CertTextFault.{CertTextFault}
 use Rattle.cert_tree.specs.Faults.{of_assembly}
 use Rattle.cert_tree.specs.Certificate.{Contents, Piece, piece_of, piece_number}
-use Rattle.cert_tree.specs.Spans.{piece_in, number_of, AreSpans}
+use Rattle.cert_tree.specs.Spans.{number_of, AreSpans}
 use Rattle.cert_tree.specs.declared.heads.Head.{Head}
 use Rattle.match_puzzle.specs.declared.placements.Pair.{Pair}
-use Rattle.cert_tree.specs.Assembly.{how_often, IsOnly, IsAssembly, AssemblyFails, assembly_rank, Assembles, TellsLeast}
+use Rattle.cert_tree.specs.Assembly.{how_often, IsOnly, HaveNoStranger, IsAssembly, AssemblyFails, assembly_rank, Assembles, TellsLeast}
 use Rattle.cert_tree.specs.CertificateText.{Said, lemma_of, LemmaGives, certificate_of, Makes, CertificateGives}
 use Rattle.cert_tree.specs.CertificateSpelling.{lemma_spelling, certificate_spelling, IsSymmetryWithin, IsLemmaWithin, IsCertificateWithin}
 use Rattle.cert_tree.specs.Writing.{said_by}
@@ -54,68 +54,77 @@ short_within (piece ∷ pieces) fits (suc k) d lt = short_within pieces fits.1 k
 
 -- ---- lemmas are assembled as their pieces are
 
-module _ (pairs : List Pair) (heads : List Head) where
-  abbrev to_piece : LemmaSpan → Piece
-  to_piece span = piece_in pairs heads span
+module _ {X : Type 0} (to_piece : X → Piece) where
+  abbrev number_by : X → ℕ
+  number_by x = (to_piece x).number
 
-  often-pieces : (lemmas : List LemmaSpan) (n : ℕ) → how_often piece_number (map to_piece lemmas) n ≡ how_often number_of lemmas n
-  often-pieces lemmas n = often-map piece_number to_piece lemmas n
+  often-pieces : (xs : List X) (n : ℕ) → how_often piece_number (map to_piece xs) n ≡ how_often number_by xs n
+  often-pieces xs n = often-map piece_number to_piece xs n
 
-  contained_map : (lemmas : List LemmaSpan) (lemma : LemmaSpan) → Contains lemmas lemma → Contains (map to_piece lemmas) (to_piece lemma)
-  contained_map [] lemma at = absurd (omega (arith, at.1))
-  contained_map (l ∷ lemmas) lemma (zero, at, is) = (0, omega arith, ap to_piece is)
-  contained_map (l ∷ lemmas) lemma (suc k, at, is) = later_contained (to_piece lemma) (to_piece l) (map to_piece lemmas) (contained_map lemmas lemma (k, omega (arith, at), is))
+  contained_map : (xs : List X) (x : X) → Contains xs x → Contains (map to_piece xs) (to_piece x)
+  contained_map [] x at = absurd (omega (arith, at.1))
+  contained_map (y ∷ xs) x (zero, at, is) = (0, omega arith, ap to_piece is)
+  contained_map (y ∷ xs) x (suc k, at, is) = later_contained (to_piece x) (to_piece y) (map to_piece xs) (contained_map xs x (k, omega (arith, at), is))
 
   -- what stands at a place of the pieces
-  piece_at : (lemmas : List LemmaSpan) (n : ℕ) (piece : Piece) → slice_get (map to_piece lemmas) n ≡ Some piece → (lemma : LemmaSpan) × (slice_get lemmas n ≡ Some lemma) × (piece ≡ to_piece lemma)
+  pub piece_at : (xs : List X) (n : ℕ) (piece : Piece) → slice_get (map to_piece xs) n ≡ Some piece → (x : X) × (slice_get xs n ≡ Some x) × (piece ≡ to_piece x)
   piece_at [] n piece e = absurd cc
-  piece_at (l ∷ lemmas) zero piece e = (l, refl, inside (sym e))
-  piece_at (l ∷ lemmas) (suc n) piece e = piece_at lemmas n piece e
+  piece_at (x ∷ xs) zero piece e = (x, refl, inside (sym e))
+  piece_at (x ∷ xs) (suc n) piece e = piece_at xs n piece e
 
-  only_map : (pieces : List LemmaSpan) (n : ℕ) (lemma : LemmaSpan) → IsOnly number_of pieces n lemma → IsOnly piece_number (map to_piece pieces) n (to_piece lemma)
-  only_map pieces n lemma is = record { among = contained_map pieces lemma is.among; number = is.number; once = often-pieces pieces n ∙ is.once }
+  only_map : (xs : List X) (n : ℕ) (x : X) → IsOnly number_by xs n x → IsOnly piece_number (map to_piece xs) n (to_piece x)
+  only_map xs n x is = record { among = contained_map xs x is.among; number = is.number; once = often-pieces xs n ∙ is.once }
 
-  assembly_map : (count : ℕ) (pieces lemmas : List LemmaSpan) → IsAssembly number_of count pieces lemmas → IsAssembly piece_number count (map to_piece pieces) (map to_piece lemmas)
-  assembly_map count pieces lemmas is = record {
-    many = length-map lemmas to_piece ∙ is.many;
-    only = λ n piece at. let l = piece_at lemmas n piece at in subst (IsOnly piece_number (map to_piece pieces) n) (sym l.2) (only_map pieces n l.0 (is.only n l.0 l.1));
-    no_stranger = λ n past. often-pieces pieces n ∙ is.no_stranger n past;
+  pub assembly_map : (count : ℕ) (xs sorted : List X) → IsAssembly number_by count xs sorted → IsAssembly piece_number count (map to_piece xs) (map to_piece sorted)
+  assembly_map count xs sorted is = record {
+    many = length-map sorted to_piece ∙ is.many;
+    only = λ n piece at. let l = piece_at sorted n piece at in subst (IsOnly piece_number (map to_piece xs) n) (sym l.2) (only_map xs n l.0 (is.only n l.0 l.1));
+    no_stranger = λ n past. often-pieces xs n ∙ is.no_stranger n past;
   }
 
-  fails_map : (count : ℕ) (pieces : List LemmaSpan) (fault : AssembleFault) → AssemblyFails number_of count pieces fault → AssemblyFails piece_number count (map to_piece pieces) fault
-  fails_map count pieces (Stranger n) fails = (fails.0, λ e. fails.1 (sym (often-pieces pieces n) ∙ e))
-  fails_map count pieces (Double n) fails = omega (arith, fails, often-pieces pieces n)
-  fails_map count pieces (Missing n) fails = (fails.0, often-pieces pieces n ∙ fails.1)
-  fails_map count pieces Memory fails = fails
+  fails_map : (count : ℕ) (xs : List X) (fault : AssembleFault) → AssemblyFails number_by count xs fault → AssemblyFails piece_number count (map to_piece xs) fault
+  fails_map count xs (Stranger n) fails = (fails.0, λ e. fails.1 (sym (often-pieces xs n) ∙ e))
+  fails_map count xs (Double n) fails = omega (arith, fails, often-pieces xs n)
+  fails_map count xs (Missing n) fails = (fails.0, often-pieces xs n ∙ fails.1)
+  fails_map count xs Memory fails = fails
 
-  fails_back : (count : ℕ) (pieces : List LemmaSpan) (fault : AssembleFault) → AssemblyFails piece_number count (map to_piece pieces) fault → AssemblyFails number_of count pieces fault
-  fails_back count pieces (Stranger n) fails = (fails.0, λ e. fails.1 (often-pieces pieces n ∙ e))
-  fails_back count pieces (Double n) fails = omega (arith, fails, often-pieces pieces n)
-  fails_back count pieces (Missing n) fails = (fails.0, sym (often-pieces pieces n) ∙ fails.1)
-  fails_back count pieces Memory fails = fails
+  fails_back : (count : ℕ) (xs : List X) (fault : AssembleFault) → AssemblyFails piece_number count (map to_piece xs) fault → AssemblyFails number_by count xs fault
+  fails_back count xs (Stranger n) fails = (fails.0, λ e. fails.1 (often-pieces xs n ∙ e))
+  fails_back count xs (Double n) fails = omega (arith, fails, often-pieces xs n)
+  fails_back count xs (Missing n) fails = (fails.0, sym (often-pieces xs n) ∙ fails.1)
+  fails_back count xs Memory fails = fails
 
-  first_map : (count : ℕ) (pieces : List LemmaSpan) (fault : AssembleFault) → IsFirst assembly_rank (AssemblyFails number_of count pieces) fault → IsFirst assembly_rank (AssemblyFails piece_number count (map to_piece pieces)) fault
-  first_map count pieces fault is = record { occurs = fails_map count pieces fault is.occurs; first = λ other fails. is.first other (fails_back count pieces other fails) }
+  first_map : (count : ℕ) (xs : List X) (fault : AssembleFault) → IsFirst assembly_rank (AssemblyFails number_by count xs) fault → IsFirst assembly_rank (AssemblyFails piece_number count (map to_piece xs)) fault
+  first_map count xs fault is = record { occurs = fails_map count xs fault is.occurs; first = λ other fails. is.first other (fails_back count xs other fails) }
 
-  assembles_map : (count : ℕ) (pieces : List LemmaSpan) (fault : AssembleFault) → Assembles number_of count pieces (Err fault) → Assembles piece_number count (map to_piece pieces) (Err fault)
-  assembles_map count pieces (Stranger n) is = first_map count pieces (Stranger n) is
-  assembles_map count pieces (Double n) is = first_map count pieces (Double n) is
-  assembles_map count pieces (Missing n) is = first_map count pieces (Missing n) is
-  assembles_map count pieces Memory is = tt
+  pub assembles_map : (count : ℕ) (xs : List X) (fault : AssembleFault) → Assembles number_by count xs (Err fault) → Assembles piece_number count (map to_piece xs) (Err fault)
+  assembles_map count xs (Stranger n) is = first_map count xs (Stranger n) is
+  assembles_map count xs (Double n) is = first_map count xs (Double n) is
+  assembles_map count xs (Missing n) is = first_map count xs (Missing n) is
+  assembles_map count xs Memory is = tt
 
-  -- what is assembled lies there still
-  pub assembled_spans : (count : ℕ) (pieces lemmas : List LemmaSpan) → AreSpans pairs heads pieces → Assembles number_of count pieces (Ok lemmas) → AreSpans pairs heads lemmas
-  assembled_spans count pieces lemmas are is span at =
-      let there : slice_get lemmas at.0 ≡ Some span = contained_at lemmas span at in
-      are span (is.only at.0 span there).among
+  -- the same of lemmas and their pieces
+  pub assembled_lemmas : (count : ℕ) (xs sorted : List X) (pieces lemmas : List Piece) → pieces ≡ map to_piece xs → lemmas ≡ map to_piece sorted → Assembles number_by count xs (Ok sorted) → IsAssembly piece_number count pieces lemmas
+  assembled_lemmas count xs sorted pieces lemmas are made is =
+      subst (λ ps. IsAssembly piece_number count ps lemmas) (sym are) (subst (λ ls. IsAssembly piece_number count (map to_piece xs) ls) (sym made) (assembly_map count xs sorted is))
 
-  -- the same of lemmas and where they lie
-  pub assembled_lemmas : (count : ℕ) (spans sorted : List LemmaSpan) (pieces lemmas : List Piece) → pieces ≡ map to_piece spans → lemmas ≡ map to_piece sorted → Assembles number_of count spans (Ok sorted) → IsAssembly piece_number count pieces lemmas
-  assembled_lemmas count spans sorted pieces lemmas are made is =
-      subst (λ ps. IsAssembly piece_number count ps lemmas) (sym are) (subst (λ ls. IsAssembly piece_number count (map to_piece spans) ls) (sym made) (assembly_map count spans sorted is))
+  pub failed_lemmas : (count : ℕ) (xs : List X) (pieces : List Piece) (fault : AssembleFault) → pieces ≡ map to_piece xs → Assembles number_by count xs (Err fault) → Assembles piece_number count pieces (Err fault)
+  failed_lemmas count xs pieces fault are is = subst (λ ps. Assembles piece_number count ps (Err fault)) (sym are) (assembles_map count xs fault is)
 
-  pub failed_lemmas : (count : ℕ) (spans : List LemmaSpan) (pieces : List Piece) (fault : AssembleFault) → pieces ≡ map to_piece spans → Assembles number_of count spans (Err fault) → Assembles piece_number count pieces (Err fault)
-  failed_lemmas count spans pieces fault are is = subst (λ ps. Assembles piece_number count ps (Err fault)) (sym are) (assembles_map count spans fault is)
+  -- the least number at or past the count, among them and among their pieces
+  pub tells_of_pieces : (count : ℕ) (xs : List X) (least : Option ℕ) → TellsLeast (λ n. (count ≤ n) × (how_often number_by xs n ≢ 0)) least → TellsLeast (λ n. (count ≤ n) × (how_often piece_number (map to_piece xs) n ≢ 0)) least
+  tells_of_pieces count xs least told =
+      tells_same (λ n. (count ≤ n) × (how_often number_by xs n ≢ 0)) (λ n. (count ≤ n) × (how_often piece_number (map to_piece xs) n ≢ 0)) least told (λ n p. (p.0, λ none. p.1 (sym (often-pieces xs n) ∙ none)))
+      (λ n p. (p.0, λ none. p.1 (often-pieces xs n ∙ none)))
+
+  pub no_strangers_of : (count : ℕ) (xs : List X) → HaveNoStranger piece_number count (map to_piece xs) → HaveNoStranger number_by count xs
+  no_strangers_of count xs none n past = sym (often-pieces xs n) ∙ none n past
+
+-- what is assembled lies there still
+pub assembled_spans : (pairs : List Pair) (heads : List Head) (count : ℕ) (spans sorted : List LemmaSpan) → AreSpans pairs heads spans → Assembles number_of count spans (Ok sorted) → AreSpans pairs heads sorted
+assembled_spans pairs heads count spans sorted are is span at =
+    let there : slice_get sorted at.0 ≡ Some span = contained_at sorted span at in
+    are span (is.only at.0 span there).among
 
 -- ---- a certificate
 
@@ -164,12 +173,3 @@ made_within said c fits made = record {
 pub certificate_within_of : (text : List ℕ) (result : Result Contents CertTextFault) → CertificateGives result (certificate_of text) → IfOk result (λ c. IsCertificateWithin (said_by c))
 certificate_within_of text (Err f) gives = tt
 certificate_within_of text (Ok c) gives = let found = certificate_found_of text (Ok c) gives in made_within found.0 c found.1 found.3
-
--- ---- lemmas whose nodes own their children have the numbers of their pieces
-
--- the least number at or past the count, among the lemmas and among their pieces
-pub tells_of_pieces : (count : ℕ) (lemmas : List Lemma) (least : Option ℕ) → TellsLeast (λ n. (count ≤ n) × (how_often (λ (lemma : Lemma). lemma.number) lemmas n ≢ 0)) least
-    → TellsLeast (λ n. (count ≤ n) × (how_often piece_number (map piece_of lemmas) n ≢ 0)) least
-tells_of_pieces count lemmas least told =
-    tells_same (λ n. (count ≤ n) × (how_often (λ (lemma : Lemma). lemma.number) lemmas n ≢ 0)) (λ n. (count ≤ n) × (how_often piece_number (map piece_of lemmas) n ≢ 0)) least told (λ n p. (p.0, λ none. p.1 (sym (often-map piece_number piece_of lemmas n) ∙ none)))
-    (λ n p. (p.0, λ none. p.1 (often-map piece_number piece_of lemmas n ∙ none)))

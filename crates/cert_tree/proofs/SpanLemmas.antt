@@ -7,13 +7,14 @@ use Rattle.std.proofs.Math.Seq.{drop-append_seam}
 use Rattle.match_puzzle.specs.declared.placements.Pair.{Pair}
 use Rattle.cert_tree.specs.declared.heads.Head.{Head}
 use Rattle.cert_tree.specs.declared.flat_lemmas.LemmaSpan.{LemmaSpan}
-use Rattle.cert_tree.specs.Heads.{AreOfTree}
+use Rattle.cert_tree.specs.Heads.{heads_of, trees_in, first, AreOfTree}
 use Rattle.std.specs.Prelude.{All}
 use Rattle.match_puzzle.proofs.Prefixes.{inside}
 use Rattle.cert_tree.specs.declared.certificates.Lemma.{Lemma}
-use Rattle.cert_tree.specs.Tree.{tree_of, IsNarrow}
+use Rattle.cert_tree.specs.Tree.{Tree, tree_of, IsNarrow}
 use Rattle.cert_tree.specs.Certificate.{Piece, piece_of}
 use Rattle.cert_tree.specs.Spans.{piece_in, IsSpan, AreSpans}
+use Rattle.cert_tree.proofs.HeadLemmas.{of_tree}
 
 -- ---- what stands behind other things
 
@@ -79,6 +80,23 @@ module _ (pairs pairs' : List Pair) (heads heads' : List Head) (more_pairs : IsB
     more_pieces =
         ap (map (piece_in pairs' heads')) pushed ∙ map-append (piece_in pairs' heads') spans (span ∷ [])
         ∙ ap (λ pieces. pieces ++ piece_in pairs' heads' span ∷ []) (same_pieces spans are)
+
+-- ---- a lemma that was put behind the others
+
+module _ (tree : Tree) (heads heads' : List Head) (start : ℕ) (at : start ≡ length heads) (more : heads' ≡ heads ++ heads_of tree) where
+  put_heads : drop start heads' ≡ heads_of tree
+  put_heads = ap (λ n. drop n heads') at ∙ behind_is heads heads' (heads_of tree) more
+
+  pub put_tree : AreOfTree (drop start heads')
+  put_tree = (of_tree tree (drop start heads') put_heads).0
+
+  pub put_piece : (number : ℕ) (prefix pairs pairs' : List Pair) (pairs_start : ℕ) → pairs_start ≡ length pairs → pairs' ≡ pairs ++ prefix → (piece : Piece)
+      → piece ≡ record { number = number; prefix = drop pairs_start pairs'; tree = first (trees_in (drop start heads')) } → piece ≡ record { number = number; prefix = prefix; tree = tree }
+  put_piece number prefix pairs pairs' pairs_start pairs_at more_pairs piece is =
+      let same_prefix : drop pairs_start pairs' ≡ prefix = ap (λ n. drop n pairs') pairs_at ∙ behind_is pairs pairs' prefix more_pairs in
+      is
+      ∙ ap (λ (xs : List Pair). let p : Piece = record { number = number; prefix = xs; tree = first (trees_in (drop start heads')) } in p) same_prefix
+      ∙ ap (λ (t : Tree). let p : Piece = record { number = number; prefix = prefix; tree = t } in p) (of_tree tree (drop start heads') put_heads).1
 
 -- ---- lemmas by number
 

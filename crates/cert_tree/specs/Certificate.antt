@@ -1,5 +1,6 @@
 -- Certificates as plain data.
 use Rattle.std.specs.Prelude.{◌≡◌, ◌≤◌, ◌<◌, ◌^◌, ℕ, List, Some, length, slice_get}
+use Rattle.std.specs.Borrow.{Bor}
 use Rattle.match_board.specs.declared.limits.TheConstants.{MOST_LEMMAS}
 use Rattle.match_puzzle.specs.declared.placements.Pair.{Pair}
 use Rattle.match_symmetry.specs.declared.lines.SymmetryLine.{SymmetryLine}
@@ -20,6 +21,10 @@ pub record Contents : Type 0 where
 
 abbrev pub piece_of : Lemma → Piece
 piece_of lemma = record { number = lemma.number; prefix = lemma.prefix; tree = tree_of lemma.tree }
+
+-- the same of a lemma that is lent
+abbrev pub lent_piece : Bor Lemma → Piece
+lent_piece lemma = piece_of lemma.now
 
 -- the same of a lemma of a certificate
 abbrev pub flat_piece : FlatLemma → Piece

@@ -5,6 +5,7 @@ pub mod Certificate
 pub mod Spans
 pub mod Assembly
 pub mod TurnedAssembly
+pub mod Turning
 pub mod Slots
 pub mod Faults
 pub mod Entries

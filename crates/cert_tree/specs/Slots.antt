@@ -1,10 +1,8 @@
--- Places for numbered lemmas, while a certificate is assembled: where each of them lies.
+-- Places for numbered pieces, while a certificate is assembled.
 use Rattle.std.specs.Prelude.{◌≡◌, ◌≤◌, ◌<◌, ℕ, List, Option, Some, None, Contains, min, nat_lt, if◌then◌else◌}
 use Rattle.std.specs.Prelude.{slice_get, slice_set}
-use Rattle.cert_tree.specs.declared.flat_lemmas.LemmaSpan.{LemmaSpan}
 use Rattle.cert_tree.specs.declared.faults.AssembleFault.{AssembleFault}
 use Rattle.cert_tree.specs.declared.faults.AssembleFault.TheVariants.{Stranger, Double, Missing, Memory}
-use Rattle.cert_tree.specs.Spans.{number_of}
 use Rattle.cert_tree.specs.Assembly.{how_often, TellsLeast}
 
 -- the number, or the other one if that is less
@@ -16,31 +14,32 @@ lesser_of (Some other) n = min other n
 abbrev pub stranger_of : ℕ → Option ℕ → ℕ → Option ℕ
 stranger_of count least n = if nat_lt n count then least else Some (lesser_of least n)
 
--- A place has a piece with its number, if there is one.
-abbrev pub IsFilled : List LemmaSpan → ℕ → Option LemmaSpan → Type 0
-IsFilled pieces n None = how_often number_of pieces n ≡ 0
-IsFilled pieces n (Some lemma) = Contains pieces lemma × (lemma.number ≡ n)
+module _ {X : Type 0} (number_of : X → ℕ) where
+  -- A place has a piece with its number, if there is one.
+  abbrev pub IsFilled : List X → ℕ → Option X → Type 0
+  IsFilled pieces n None = how_often number_of pieces n ≡ 0
+  IsFilled pieces n (Some piece) = Contains pieces piece × (number_of piece ≡ n)
 
-abbrev pub AreFilled : List LemmaSpan → List (Option LemmaSpan) → Type 0
-AreFilled pieces slots = (n : ℕ) (slot : Option LemmaSpan) → slice_get slots n ≡ Some slot → IsFilled pieces n slot
+  abbrev pub AreFilled : List X → List (Option X) → Type 0
+  AreFilled pieces slots = (n : ℕ) (slot : Option X) → slice_get slots n ≡ Some slot → IsFilled pieces n slot
 
--- The places have what the pieces are, and the number is the least that more than one of them has.
-pub record IsEntered (pieces : List LemmaSpan) (slots : List (Option LemmaSpan)) (double : Option ℕ) : Type 0 where
-  pub filled : AreFilled pieces slots
-  pub least : TellsLeast (λ n. 1 < how_often number_of pieces n) double
+  -- The places have what the pieces are, and the number is the least that more than one of them has.
+  pub record IsEntered (pieces : List X) (slots : List (Option X)) (double : Option ℕ) : Type 0 where
+    pub filled : AreFilled pieces slots
+    pub least : TellsLeast (λ n. 1 < how_often number_of pieces n) double
 
--- The piece was put into its place.
-abbrev pub IsPut : List (Option LemmaSpan) → List (Option LemmaSpan) → LemmaSpan → Type 0
-IsPut before after piece =
-    (slice_get before piece.number ≡ Some None) × (after ≡ slice_set before piece.number (Some piece))
+  -- The piece was put into its place.
+  abbrev pub IsPut : List (Option X) → List (Option X) → X → Type 0
+  IsPut before after piece =
+      (slice_get before (number_of piece) ≡ Some None) × (after ≡ slice_set before (number_of piece) (Some piece))
 
--- There was another one in its place.
-abbrev pub IsTaken : List (Option LemmaSpan) → List (Option LemmaSpan) → LemmaSpan → Type 0
-IsTaken before after piece =
-    (other : LemmaSpan) × (slice_get before piece.number ≡ Some (Some other)) × (after ≡ before)
+  -- There was another one in its place.
+  abbrev pub IsTaken : List (Option X) → List (Option X) → X → Type 0
+  IsTaken before after piece =
+      (other : X) × (slice_get before (number_of piece) ≡ Some (Some other)) × (after ≡ before)
 
 -- The fault is that of the first empty place. Of want of memory nothing is said.
-abbrev pub IsFirstEmpty : List (Option LemmaSpan) → AssembleFault → Type 0
+abbrev pub IsFirstEmpty : {X : Type 0} → List (Option X) → AssembleFault → Type 0
 IsFirstEmpty slots Memory = Unit {0}
 IsFirstEmpty slots (Missing n) = (slice_get slots n ≡ Some None) × ((m : ℕ) → slice_get slots m ≡ Some None → n ≤ m)
 IsFirstEmpty slots (Stranger n) = ⊥

@@ -2,7 +2,6 @@
 
 ghost use Rattle.std.specs.Prelude.{◌≡◌, ◌↔◌, ◌≢◌, ◌≤◌, ◌<◌, ◌^◌, ◌∷◌, [], ℕ, List, None, Some, Ok, Err, All, Contains};
 ghost use Rattle.std.specs.Prelude.{IfOk, IfErr, IsErrOf, IsTrue, MatchBool, length, map, replicate};
-ghost use Rattle.cert_tree.specs.declared.flat_lemmas.LemmaSpan.{LemmaSpan as Span};
 ghost use Rattle.cert_tree.specs.Certificate.{piece_number, piece_of};
 ghost use Rattle.cert_tree.specs.Spans.{number_of};
 ghost use Rattle.cert_tree.specs.Tree.{tree_of, IsNarrow};
@@ -37,8 +36,8 @@ fn stranger_so_far(count: u32, least: Option<u32>, number: u32) -> Option<u32>
     Some(lesser(least, number))
 }
 
-// What has a number: a lemma, in memory of its own or among the others.
-trait Numbered {
+// What has a number: a lemma, in memory of its own, lent, or among the others.
+pub(crate) trait Numbered {
     ghost numbered: { Self → ℕ };
 
     fn number(&self) -> u32
@@ -61,8 +60,16 @@ impl Numbered for Lemma {
     }
 }
 
+impl Numbered for &Lemma {
+    ghost numbered = { λ lemma. lemma.now.number };
+
+    fn number(&self) -> u32 {
+        self.number
+    }
+}
+
 // The least number at or past the count that a piece has.
-fn least_stranger<N: Numbered>(pieces: &[N], count: u32) -> Option<u32>
+pub(crate) fn least_stranger<N: Numbered>(pieces: &[N], count: u32) -> Option<u32>
     ensures { TellsLeast (λ n. (count ≤ n) × (how_often N.numbered pieces.now n ≢ 0)) result }
 {
     let mut least = None;
@@ -73,7 +80,7 @@ fn least_stranger<N: Numbered>(pieces: &[N], count: u32) -> Option<u32>
 }
 
 // A place for each number below the count, with nothing in it.
-fn empty_slots(alloc: Global, count: u32) -> Result<Vec<Option<LemmaSpan>>, AllocError>
+fn empty_slots<N: Drop>(alloc: Global, count: u32) -> Result<Vec<Option<N>>, AllocError>
     ensures { IfOk result (λ slots. slots.items ≡ replicate count None) }
 {
     let mut slots = Vec::with_capacity(alloc, count as usize)?;
@@ -84,12 +91,12 @@ fn empty_slots(alloc: Global, count: u32) -> Result<Vec<Option<LemmaSpan>>, Allo
 }
 
 // Puts the piece into the place of its number, if nothing is there; whether it did.
-fn put(slots: &mut Vec<Option<LemmaSpan>>, piece: LemmaSpan) -> bool
-    requires { piece.number < length slots.old.items }
-    ensures { MatchBool result (IsPut slots.old.items slots.new.items piece)
-        (IsTaken slots.old.items slots.new.items piece) }
+fn put<N: Numbered + Drop>(slots: &mut Vec<Option<N>>, piece: N) -> bool
+    requires { N.numbered piece < length slots.old.items }
+    ensures { MatchBool result (IsPut N.numbered slots.old.items slots.new.items piece)
+        (IsTaken N.numbered slots.old.items slots.new.items piece) }
 {
-    let number = piece.number as usize;
+    let number = piece.number() as usize;
     if slots[number].is_some() {
         return false;
     }
@@ -98,13 +105,17 @@ fn put(slots: &mut Vec<Option<LemmaSpan>>, piece: LemmaSpan) -> bool
 }
 
 // The same, and answers the least number that more than one piece has, by that of the pieces before.
-fn enter(slots: &mut Vec<Option<LemmaSpan>>, double: Option<u32>, piece: LemmaSpan) -> Option<u32>
-    requires { piece.number < length slots.old.items }
+fn enter<N: Numbered + Drop>(
+    slots: &mut Vec<Option<N>>,
+    double: Option<u32>,
+    piece: N,
+) -> Option<u32>
+    requires { N.numbered piece < length slots.old.items }
     ensures long { length slots.new.items ≡ length slots.old.items }
-    ensures entered { (before : List Span) → IsEntered before slots.old.items double
-        → IsEntered (piece ∷ before) slots.new.items result }
+    ensures entered { (before : List N) → IsEntered N.numbered before slots.old.items double
+        → IsEntered N.numbered (piece ∷ before) slots.new.items result }
 {
-    let number = piece.number;
+    let number = piece.number();
     if put(slots, piece) {
         return double;
     }
@@ -112,11 +123,11 @@ fn enter(slots: &mut Vec<Option<LemmaSpan>>, double: Option<u32>, piece: LemmaSp
 }
 
 // Puts each piece into the place of its number, and answers the least number that more than one piece has.
-fn fill(slots: &mut Vec<Option<LemmaSpan>>, mut pieces: Vec<LemmaSpan>) -> Option<u32>
-    requires empty { IsEntered [] slots.old.items None }
-    requires below { (piece : Span) → Contains pieces.items piece → piece.number < length slots.old.items }
+fn fill<N: Numbered + Drop>(slots: &mut Vec<Option<N>>, mut pieces: Vec<N>) -> Option<u32>
+    requires empty { IsEntered N.numbered [] slots.old.items None }
+    requires below { (piece : N) → Contains pieces.items piece → N.numbered piece < length slots.old.items }
     ensures long { length slots.new.items ≡ length slots.old.items }
-    ensures entered { IsEntered pieces.items slots.new.items result }
+    ensures entered { IsEntered N.numbered pieces.items slots.new.items result }
 {
     let mut double = None;
     while let Some(piece) = pieces.pop() {
@@ -126,10 +137,7 @@ fn fill(slots: &mut Vec<Option<LemmaSpan>>, mut pieces: Vec<LemmaSpan>) -> Optio
 }
 
 // What stands in the places, in order. Missing, where one is empty.
-fn take_each(
-    alloc: Global,
-    mut slots: Vec<Option<LemmaSpan>>,
-) -> Result<Vec<LemmaSpan>, AssembleFault>
+fn take_each<N: Drop>(alloc: Global, mut slots: Vec<Option<N>>) -> Result<Vec<N>, AssembleFault>
     requires { length slots.items < 2 ^ 32 }
     ensures all { IfOk result (λ lemmas. map Some lemmas.items ≡ slots.items) }
     ensures missing { IfErr result (IsFirstEmpty slots.items) }
@@ -145,14 +153,14 @@ fn take_each(
 }
 
 // The pieces by number, each of which is below the count.
-fn in_order(
+pub(crate) fn in_order<N: Numbered + Drop>(
     alloc: Global,
     count: u32,
-    pieces: Vec<LemmaSpan>,
-) -> Result<Vec<LemmaSpan>, AssembleFault>
-    requires { HaveNoStranger number_of count pieces.items }
-    ensures ok { IfOk result (λ lemmas. Assembles number_of count pieces.items (Ok lemmas.items)) }
-    ensures err { IfErr result (λ fault. Assembles number_of count pieces.items (Err fault)) }
+    pieces: Vec<N>,
+) -> Result<Vec<N>, AssembleFault>
+    requires { HaveNoStranger N.numbered count pieces.items }
+    ensures ok { IfOk result (λ lemmas. Assembles N.numbered count pieces.items (Ok lemmas.items)) }
+    ensures err { IfErr result (λ fault. Assembles N.numbered count pieces.items (Err fault)) }
 {
     let mut slots = empty_slots(alloc, count)?;
     if let Some(number) = fill(&mut slots, pieces) {

@@ -17,7 +17,7 @@ use std::alloc::{AllocError, Global};
 // The heads of the node's tree go behind these, in preorder.
 #[cycle(flattening)]
 #[tactic(auto, using(crate::proofs::TreeLemmas::tree_laws))]
-fn put_node(heads: &mut Vec<Head>, node: &Node) -> Result<(), AllocError>
+pub(crate) fn put_node(heads: &mut Vec<Head>, node: &Node) -> Result<(), AllocError>
     requires { IsNarrow (tree_of node.now) }
     ensures { OnOk result (heads.new.items ≡ heads.old.items ++ heads_of (tree_of node.now)) }
 {

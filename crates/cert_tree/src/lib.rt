@@ -17,6 +17,7 @@ mod spellings;
 #[cfg(test)]
 mod tests;
 mod tree_readers;
+mod turnings;
 mod within_limits;
 
 pub use assemblies::{assemble, assembly_laws};
@@ -29,3 +30,4 @@ pub use laws::{certificate_laws, head_laws, lemma_laws};
 pub use nodes::{Children, Node};
 pub use readers::{read_certificate, read_lemma};
 pub use spellings::{write_certificate, write_lemma};
+pub use turnings::assemble_turned;

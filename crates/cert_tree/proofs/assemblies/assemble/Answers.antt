@@ -12,7 +12,7 @@ use Rattle.cert_tree.proofs.assemblies.assemble.Goals.{After-least_stranger}
 -- the least number at or past the count among the pieces
 least_of : (c : After-least_stranger) → TellsLeast (λ n. (c.args.count ≤ n) × (how_often piece_number (map piece_of c.args.pieces.items) n ≢ 0)) c.least_stranger.result
 least_of c =
-    tells_of_pieces c.args.count c.args.pieces.items c.least_stranger.result
+    tells_of_pieces piece_of c.args.count c.args.pieces.items c.least_stranger.result
     (subst (λ lemmas. TellsLeast (λ n. (c.args.count ≤ n) × (how_often (λ (lemma : Lemma). lemma.number) lemmas n ≢ 0)) c.least_stranger.result) c.deref.ensures.value c.least_stranger.ensures)
 
 none_past : (c : After-least_stranger) → c.least_stranger.result ≡ None → HaveNoStranger piece_number c.args.count (map piece_of c.args.pieces.items)

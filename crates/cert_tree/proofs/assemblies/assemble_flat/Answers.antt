@@ -3,6 +3,7 @@ use Rattle.match_board.specs.declared.limits.TheConstants.{MOST_LEMMAS}
 use Rattle.std.specs.Prelude.{All}
 use Rattle.match_symmetry.specs.declared.lines.SymmetryLine.{SymmetryLine}
 use Rattle.cert_tree.specs.Certificate.{Contents, Piece, IsNumbered, piece_number}
+use Rattle.cert_tree.specs.Spans.{piece_in}
 use Rattle.cert_tree.specs.Assembly.{IsAssembly}
 use Rattle.cert_tree.proofs.AssemblyLemmas.{assembled_all}
 use Rattle.cert_tree.proofs.ReadingLemmas.{assembled_spans, assembled_lemmas}
@@ -25,7 +26,7 @@ of-lemmas-requires c =
 
 assembled : (c : After-of-lemmas) → IsAssembly piece_number c.args.count c.args.pieces c.of-lemmas.result
 assembled c =
-    assembled_lemmas c.apart-pairs.result.0.items c.apart-pairs.result.1.items c.args.count c.apart-pairs.result.2.items c.in_ok-spans.spans.items c.args.pieces c.of-lemmas.result c.apart-pairs.ensures.lemmas c.of-lemmas.ensures c.in_ok-spans.ensures.ok
+    assembled_lemmas (piece_in c.apart-pairs.result.0.items c.apart-pairs.result.1.items) c.args.count c.apart-pairs.result.2.items c.in_ok-spans.spans.items c.args.pieces c.of-lemmas.result c.apart-pairs.ensures.lemmas c.of-lemmas.ensures c.in_ok-spans.ensures.ok
 
 pub of-requires : goal.of-requires
 of-requires c = numbered c.args.count c.args.symmetries.items c.args.pieces c.of-lemmas.result c.requires.count c.requires.symmetries c.requires.prefixes (assembled c)

@@ -2,4 +2,4 @@ use Rattle.std.proofs.Common.{◌≡◌, None, replicate}
 use Rattle.cert_tree.proofs.assemblies.empty_slots.Given as goal
 
 abbrev pub invariant-loop : goal.invariant-loop
-invariant-loop l = l.slots.items ≡ replicate l.counter None
+invariant-loop g l = l.slots.items ≡ replicate l.counter None

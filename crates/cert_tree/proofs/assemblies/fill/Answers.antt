@@ -4,7 +4,7 @@ use Rattle.cert_tree.proofs.AssemblyLemmas.{mid_contained}
 use Rattle.cert_tree.proofs.assemblies.fill.Goals as goal
 
 pub enter-double-requires : goal.enter-double-requires
-enter-double-requires c =
+enter-double-requires g c =
     let so_far = c.loop-piece.invariant in
     let popped : c.loop-piece.pieces.items ≡ c.pop.new.self.items ++ c.in-Some.piece ∷ [] = c.pop.ensures.items ∙ ap (λ o. c.pop.new.self.items ++ option_to_list o) c.in-Some.is in
     let whole : c.args.pieces.items ≡ c.pop.new.self.items ++ c.in-Some.piece ∷ so_far.0 = so_far.1 ∙ ap (λ xs. xs ++ so_far.0) popped ∙ append_assoc c.pop.new.self.items (c.in-Some.piece ∷ []) so_far.0 in
@@ -12,7 +12,7 @@ enter-double-requires c =
     omega (arith, below, so_far.2)
 
 pub loop-piece-preserved : goal.loop-piece-preserved
-loop-piece-preserved c =
+loop-piece-preserved g c =
     let so_far = c.loop-piece.invariant in
     let popped : c.loop-piece.pieces.items ≡ c.pop.new.self.items ++ c.in-Some.piece ∷ [] = c.pop.ensures.items ∙ ap (λ o. c.pop.new.self.items ++ option_to_list o) c.in-Some.is in
     let whole : c.args.pieces.items ≡ c.pop.new.self.items ++ c.in-Some.piece ∷ so_far.0 = so_far.1 ∙ ap (λ xs. xs ++ so_far.0) popped ∙ append_assoc c.pop.new.self.items (c.in-Some.piece ∷ []) so_far.0 in

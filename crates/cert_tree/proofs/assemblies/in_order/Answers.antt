@@ -14,24 +14,24 @@ each_err (Ok x) f p = tt
 each_err (Err e) f p = f e p
 
 pub fill-requires-clause-below : goal.fill-requires-clause-below
-fill-requires-clause-below c = λ piece at.
+fill-requires-clause-below g c = λ piece at.
     let long : length c.in_ok-slots.slots.items ≡ c.args.count = ap length c.in_ok-slots.ensures ∙ length-replicate c.args.count _ in
-    let lt = all_below c.args.count c.args.pieces.items c.requires piece at in
+    let lt = all_below g.N.Numbered.numbered c.args.count c.args.pieces.items c.requires piece at in
     omega (arith, lt, long)
 
 pub returns-in-Some-clause-err : goal.returns-in-Some-clause-err
-returns-in-Some-clause-err c =
-    let entered = subst (IsEntered c.args.pieces.items c.fill.new.slots.items) c.in-Some.is c.fill.ensures.entered in
-    first_double c.args.count c.args.pieces.items c.requires c.in-Some.number entered.least
+returns-in-Some-clause-err g c =
+    let entered = subst (IsEntered g.N.Numbered.numbered c.args.pieces.items c.fill.new.slots.items) c.in-Some.is c.fill.ensures.entered in
+    first_double g.N.Numbered.numbered c.args.count c.args.pieces.items c.requires c.in-Some.number entered.least
 
 pub returns-clause-ok : goal.returns-clause-ok
-returns-clause-ok c =
-    let entered = subst (IsEntered c.args.pieces.items c.fill.new.slots.items) c.in_default.is c.fill.ensures.entered in
+returns-clause-ok g c =
+    let entered = subst (IsEntered g.N.Numbered.numbered c.args.pieces.items c.fill.new.slots.items) c.in_default.is c.fill.ensures.entered in
     let long : length c.fill.new.slots.items ≡ c.args.count = c.fill.ensures.long ∙ ap length c.in_ok-slots.ensures ∙ length-replicate c.args.count _ in
-    each_ok c.take_each.result (λ lemmas all. assembled c.args.count c.args.pieces.items c.requires c.fill.new.slots.items long entered lemmas.items all) c.take_each.ensures.all
+    each_ok c.take_each.result (λ lemmas all. assembled g.N.Numbered.numbered c.args.count c.args.pieces.items c.requires c.fill.new.slots.items long entered lemmas.items all) c.take_each.ensures.all
 
 pub returns-clause-err : goal.returns-clause-err
-returns-clause-err c =
-    let entered = subst (IsEntered c.args.pieces.items c.fill.new.slots.items) c.in_default.is c.fill.ensures.entered in
+returns-clause-err g c =
+    let entered = subst (IsEntered g.N.Numbered.numbered c.args.pieces.items c.fill.new.slots.items) c.in_default.is c.fill.ensures.entered in
     let long : length c.fill.new.slots.items ≡ c.args.count = c.fill.ensures.long ∙ ap length c.in_ok-slots.ensures ∙ length-replicate c.args.count _ in
-    each_err c.take_each.result (λ fault first. missing_of c.args.count c.args.pieces.items c.requires c.fill.new.slots.items long entered fault first) c.take_each.ensures.missing
+    each_err c.take_each.result (λ fault first. missing_of g.N.Numbered.numbered c.args.count c.args.pieces.items c.requires c.fill.new.slots.items long entered fault first) c.take_each.ensures.missing

@@ -5,7 +5,7 @@ use Rattle.cert_tree.proofs.AssemblyLemmas.{same_head, not_before}
 use Rattle.cert_tree.proofs.assemblies.take_each.Goals as goal
 
 pub returns-in_default-clause-missing : goal.returns-in_default-clause-missing
-returns-in_default-clause-missing c =
+returns-in_default-clause-missing g c =
     let so_far = c.loop-number.invariant in
     let lt : c.loop-number.number < length c.args.slots.items = omega (arith, c.loop-number-test.true, c.len-number-end.ensures, c.args.slots.ok.0) in
     let head = same_head c.loop-number.slots.items c.args.slots.items c.loop-number.number c.index_mut.result.now (omega (arith, lt, so_far.long)) so_far.long so_far.left in
@@ -15,7 +15,7 @@ returns-in_default-clause-missing c =
     )
 
 pub loop-number-preserved : goal.loop-number-preserved
-loop-number-preserved c =
+loop-number-preserved g c =
     let so_far = c.loop-number.invariant in
     let lt : c.loop-number.number < length c.args.slots.items = omega (arith, c.loop-number-test.true, c.len-number-end.ensures, c.args.slots.ok.0) in
     let head = same_head c.loop-number.slots.items c.args.slots.items c.loop-number.number c.index_mut.result.now (omega (arith, lt, so_far.long)) so_far.long so_far.left in

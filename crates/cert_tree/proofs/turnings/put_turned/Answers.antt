@@ -1,0 +1,56 @@
+use Rattle.std.proofs.Common.{◌≡◌, ℕ, ◌++◌, List, length, drop, get_or, ap, sym, subst, ◌∙◌, arith}
+use Rattle.std.specs.Prelude.{All}
+use Rattle.match_board.specs.declared.limits.TheConstants.{MOST_LEVELS, MOST_ARRANGEMENTS}
+use Rattle.match_puzzle.specs.declared.placements.Pair.{Pair}
+use Rattle.cert_tree.specs.declared.heads.Head.{Head}
+use Rattle.cert_tree.specs.Tree.{tree_of}
+use Rattle.cert_tree.specs.Heads.{heads_of}
+use Rattle.cert_tree.specs.Certificate.{Piece}
+use Rattle.cert_tree.specs.Spans.{piece_in}
+use Rattle.cert_tree.specs.TurnedAssembly.{turned_tree}
+use Rattle.cert_tree.specs.Turning.{IsFoundBelow}
+use Rattle.cert_tree.proofs.TreeLimitLemmas.{narrow_within}
+use Rattle.cert_tree.proofs.TurningLemmas.{found_below, turned_behind}
+use Rattle.cert_tree.proofs.SpanLemmas.{behind_is, put_tree, put_piece}
+use Rattle.cert_tree.proofs.turnings.put_turned.Goals as goal
+use Rattle.cert_tree.proofs.turnings.put_turned.Goals.{After-deref-2}
+
+pub put_node-requires : goal.put_node-requires
+put_node-requires c = narrow_within MOST_LEVELS (tree_of c.args.lemma.now.tree) c.requires.within.tree
+
+pub turn_heads-requires-clause-found : goal.turn_heads-requires-clause-found
+turn_heads-requires-clause-found c =
+    let tree = tree_of c.args.lemma.now.tree in
+    let start : c.len-heads_start.result ≡ length c.args.heads.now.items = omega (arith, c.len-heads_start.ensures, c.args.heads.now.ok.0) in
+    let put : drop c.len-heads_start.result c.put_node.new.heads.items ≡ heads_of tree = ap (λ n. drop n c.put_node.new.heads.items) start
+    ∙ behind_is c.args.heads.now.items c.put_node.new.heads.items (heads_of tree) c.in_ok-put_node.ensures in
+    subst (λ (hs : List Head). All (IsFoundBelow MOST_ARRANGEMENTS) hs) (sym put) (found_below MOST_LEVELS tree c.requires.within.tree)
+
+module _ (c : After-deref-2) where
+  abbrev first : ℕ
+  first = get_or c.args.first.now c.args.lemma.now.number 0
+
+  start : c.len-heads_start.result ≡ length c.args.heads.now.items
+  start = omega (arith, c.len-heads_start.ensures, c.args.heads.now.ok.0)
+
+  more : c.deref-2.result.now ≡ c.args.heads.now.items ++ heads_of (turned_tree c.args.count first (tree_of c.args.lemma.now.tree))
+  more =
+      c.deref-2.ensures.value
+      ∙ turned_behind c.args.count first (tree_of c.args.lemma.now.tree) c.args.heads.now.items c.put_node.new.heads.items c.turn_heads.new.heads.items c.len-heads_start.result start c.in_ok-put_node.ensures c.turn_heads.ensures
+
+pub of_last-requires-clause-tree : goal.of_last-requires-clause-tree
+of_last-requires-clause-tree c =
+    put_tree (turned_tree c.args.count (first c) (tree_of c.args.lemma.now.tree)) c.args.heads.now.items c.deref-2.result.now c.len-heads_start.result (start c) (more c)
+
+pub returns-clause-lemma : goal.returns-clause-lemma
+returns-clause-lemma c =
+    let here = (goal.at.returns-clause-lemma c).After-deref-2 in
+    let lemma = c.args.lemma.now in
+    let pairs_start : c.len-pairs_start.result ≡ length c.args.pairs.now.items = omega (arith, c.len-pairs_start.ensures, c.args.pairs.now.ok.0) in
+    let more_pairs = c.deref.ensures.value ∙ c.in_ok-extend_from_slice.ensures.items ∙ ap (λ (xs : List Pair). c.args.pairs.now.items ++ xs) c.as_slice.ensures in
+    let tree_turned = turned_tree c.args.count (first here) (tree_of lemma.tree) in
+    ap (λ (pairs : List Pair). piece_in pairs c.turn_heads.new.heads.items c.of_last.result) (sym c.deref.ensures.value)
+    ∙ ap (λ (heads : List Head). piece_in c.deref.result.now heads c.of_last.result) (sym c.deref-2.ensures.value)
+    ∙ put_piece tree_turned c.args.heads.now.items c.deref-2.result.now c.len-heads_start.result (start here) (more here) c.turned_number-number.result lemma.prefix c.args.pairs.now.items c.deref.result.now c.len-pairs_start.result pairs_start more_pairs
+    (piece_in c.deref.result.now c.deref-2.result.now c.of_last.result) c.of_last.ensures.piece
+    ∙ ap (λ n. let p : Piece = record { number = n; prefix = lemma.prefix; tree = tree_turned } in p) c.turned_number-number.ensures

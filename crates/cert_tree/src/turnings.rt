@@ -1,0 +1,153 @@
+//! Lemmas whose numbers run upwards from the root, counted from the other end.
+
+ghost use Rattle.std.specs.Prelude.{◌≡◌, ◌<◌, ◌≤◌, ◌^◌, ◌++◌, Ok, Err, All, IfOk, IfErr, IsErrOf, OnOk, length, map};
+ghost use Rattle.std.specs.Prelude.{reverse, take, drop};
+ghost use Rattle.cert_tree.specs.Tree.{tree_of};
+ghost use Rattle.cert_tree.specs.Certificate.{piece_of, lent_piece, piece_number};
+ghost use Rattle.cert_tree.specs.CertificateSpelling.{IsLemmaWithin};
+ghost use Rattle.cert_tree.specs.Heads.{heads_of};
+ghost use Rattle.cert_tree.specs.Spans.{piece_in, IsSpan};
+ghost use Rattle.cert_tree.specs.Assembly.{HaveNoStranger};
+ghost use Rattle.cert_tree.specs.TurnedAssembly.{turned_number as number_of_turned, turned_piece, AssemblesTurned};
+ghost use Rattle.cert_tree.specs.Turning.{turned_head as head_of_turned, IsFoundBelow};
+
+use crate::assemblies::{in_order, least_stranger};
+use crate::certificates::{Certificate, Lemma};
+use crate::conversions::put_node;
+use crate::faults::AssembleFault;
+use crate::flat_lemmas::{LemmaSpan, Lemmas};
+use crate::heads::Head;
+use match_board::limits::{MOST_ARRANGEMENTS, MOST_LEMMAS};
+use match_puzzle::Pair;
+use match_symmetry::SymmetryLine;
+use std::alloc::{AllocError, Global};
+
+// A number below the count, counted from the other end; another one as it is.
+fn turned_number(count: u32, number: u32) -> u32
+    ensures { result ≡ number_of_turned count number }
+{
+    if number >= count {
+        return number;
+    }
+    count - 1 - number
+}
+
+// The head with its citation turned, or its arrangement counted from the first.
+fn turned_head(count: u32, first: u32, head: Head) -> Head
+    requires first { first ≤ MOST_ARRANGEMENTS }
+    requires found { IsFoundBelow MOST_ARRANGEMENTS head }
+    ensures { result ≡ head_of_turned count first head }
+{
+    match head {
+        Head::Found(number) => Head::Found(first + number),
+        Head::Same(lemma) => Head::Same(turned_number(count, lemma)),
+        Head::Image { symmetry, lemma } => {
+            Head::Image {
+                symmetry,
+                lemma: turned_number(count, lemma),
+            }
+        }
+        Head::Cell { .. } | Head::Tile { .. } | Head::DeadCell(_) | Head::DeadTile(_) => head,
+    }
+}
+
+// Turns the heads from the start on, where they lie.
+fn turn_heads(heads: &mut Vec<Head>, start: usize, count: u32, first: u32)
+    requires start { start ≤ length heads.old.items }
+    requires first { first ≤ MOST_ARRANGEMENTS }
+    requires found { All (IsFoundBelow MOST_ARRANGEMENTS) (drop start heads.old.items) }
+    ensures { heads.new.items
+        ≡ take start heads.old.items ++ map (head_of_turned count first) (drop start heads.old.items) }
+{
+    for place in start..heads.len() {
+        heads[place] = turned_head(count, first, heads[place]);
+    }
+}
+
+// The pairs of the lemma and the heads of its turned tree go behind these, by a recursion that is as deep as its tree.
+// Where it lies there.
+fn put_turned(
+    pairs: &mut Vec<Pair>,
+    heads: &mut Vec<Head>,
+    count: u32,
+    first: &[u32],
+    lemma: &Lemma,
+) -> Result<LemmaSpan, AllocError>
+    requires number { lemma.now.number < length first.now }
+    requires first { All (λ n. n ≤ MOST_ARRANGEMENTS) first.now }
+    requires within { IsLemmaWithin (piece_of lemma.now) }
+    ensures span { IfOk result (IsSpan pairs.new.items heads.new.items) }
+    ensures lemma { IfOk result
+        (λ span. piece_in pairs.new.items heads.new.items span ≡ turned_piece count first.now (piece_of lemma.now)) }
+    ensures pairs { OnOk result (pairs.new.items ≡ pairs.old.items ++ drop (length pairs.old.items) pairs.new.items) }
+    ensures heads { OnOk result (heads.new.items ≡ heads.old.items ++ drop (length heads.old.items) heads.new.items) }
+{
+    let pairs_start = pairs.len();
+    let heads_start = heads.len();
+    pairs.extend_from_slice(lemma.prefix.as_slice())?;
+    put_node(heads, &lemma.tree)?;
+    turn_heads(heads, heads_start, count, first[lemma.number as usize]);
+    let number = turned_number(count, lemma.number);
+    Ok(LemmaSpan::of_last(number, pairs, pairs_start, heads, heads_start))
+}
+
+// The turned lemmas, the last first.
+fn turned_lemmas(
+    alloc: Global,
+    count: u32,
+    first: &[u32],
+    lemmas: &[&Lemma],
+) -> Result<Lemmas, AllocError>
+    requires numbers { All (λ lemma. lemma.now.number < length first.now) lemmas.now }
+    requires first { All (λ n. n ≤ MOST_ARRANGEMENTS) first.now }
+    requires within { All (λ lemma. IsLemmaWithin (lent_piece lemma)) lemmas.now }
+    ensures { IfOk result
+        (λ turned. turned ≡ reverse (map (turned_piece count first.now) (map lent_piece lemmas.now))) }
+{
+    let mut pairs = Vec::new(alloc);
+    let mut heads = Vec::new(alloc);
+    let mut spans = Vec::with_capacity(alloc, lemmas.len())?;
+    for lemma in lemmas {
+        let span = put_turned(&mut pairs, &mut heads, count, first, lemma)?;
+        spans.push(span)?;
+    }
+    spans.reverse();
+    Ok(Lemmas::of(pairs, heads, spans))
+}
+
+/// The certificate of these symmetries and pieces, whose numbers run upwards from the root, which is 0: number t of a
+/// piece, and a cited one below the count, becomes count - 1 - t, and arrangement i of piece t becomes `first[t] + i`.
+///
+/// An `Err` is that of [`assemble`](crate::assemble) on these pieces, and so names a number before it is turned:
+/// `Stranger`, `Double`, `Missing`; `Memory` only where memory is refused, and then no number is at or past the count.
+/// On an `Err` the symmetries are dropped.
+///
+/// Each tree is laid out once, by a recursion that is as deep as it is, into 8 bytes a node, and is turned where it
+/// lies. The rest takes a step for each piece and each number below the count.
+pub fn assemble_turned(
+    alloc: Global,
+    count: u32,
+    first: &[u32],
+    symmetries: Vec<SymmetryLine>,
+    pieces: Vec<&Lemma>,
+) -> Result<Certificate, AssembleFault>
+    requires count { count ≤ MOST_LEMMAS }
+    requires many { length first.now ≡ count }
+    requires first { All (λ n. n ≤ MOST_ARRANGEMENTS) first.now }
+    requires symmetries { length symmetries.items < 2 ^ 32 }
+    requires within { All (λ piece. IsLemmaWithin (lent_piece piece)) pieces.items }
+    ensures symmetries { IfOk result (λ certificate. certificate.symmetries ≡ symmetries.items) }
+    ensures lemmas { IfOk result (λ certificate. AssemblesTurned count first.now
+        (map lent_piece pieces.entry.items) (Ok certificate.lemmas)) }
+    ensures fault { IfErr result (λ fault. AssemblesTurned count first.now
+        (map lent_piece pieces.entry.items) (Err fault)) }
+    ensures memory { IsErrOf result AssembleFault.Memory
+        → HaveNoStranger piece_number count (map lent_piece pieces.entry.items) }
+{
+    if let Some(stranger) = least_stranger(&pieces, count) {
+        return Err(AssembleFault::Stranger(stranger));
+    }
+    let lemmas = in_order(alloc, count, pieces)?;
+    let lemmas = turned_lemmas(alloc, count, first, &lemmas)?;
+    Ok(Certificate::of(symmetries, lemmas))
+}

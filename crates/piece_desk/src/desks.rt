@@ -1,0 +1,159 @@
+//! Desks, receipts of what was posted there, and walks over it.
+
+ghost use Rattle.std.specs.Prelude.{All, ◌≡◌, ◌<◌, ◌≤◌, ◌^◌, Ok, Err, IfOk, IfErr, IfSome, length, map};
+ghost use Rattle.std.specs.Iterator.{at_most};
+ghost use Rattle.cert_tree.specs.Certificate.{piece_of, lent_piece};
+ghost use Rattle.cert_tree.specs.CertificateSpelling.{IsLemmaWithin};
+ghost use Rattle.cert_tree.specs.TurnedAssembly.{AssemblesTurned};
+ghost use Rattle.piece_desk.specs.Desks.{IsOf, lemma_of, posted_piece, places_left};
+
+use boxcar::tag::Tag;
+use boxcar::{Iter, Keeps, Pushed, Vec as Places};
+use cert_tree::{AssembleFault, Certificate, Lemma, assemble_turned};
+use match_board::limits::{MOST_ARRANGEMENTS, MOST_LEMMAS};
+use match_symmetry::SymmetryLine;
+use std::alloc::{AllocError, Global};
+use std::marker::Model;
+use std::sync::Wait;
+
+// Each lemma on a desk is within the limits of its text.
+struct Within;
+
+impl Keeps<Lemma> for Within {
+    ghost use Rattle.cert_tree.specs.Certificate.{piece_of};
+    ghost use Rattle.cert_tree.specs.CertificateSpelling.{IsLemmaWithin};
+
+    ghost holds = { λ _ _ lemma. IsLemmaWithin (piece_of lemma) };
+}
+
+/// Lemmas that threads put there for each other. None is ever taken away or changed.
+#[derive(Drop)]
+pub struct Desk {
+    posted: Places<Lemma, Global, Within>,
+}
+
+/// Stands for the one lemma that was posted for it. It takes no memory.
+#[derive(Drop)]
+pub struct Receipt {
+    token: Pushed<Lemma, Global, Within>,
+}
+
+impl Model for Receipt {
+    ghost use Rattle.boxcar.specs.Table.{Where, where_coded};
+    ghost use Rattle.cert_tree.specs.declared.certificates.Lemma.{Lemma};
+    ghost use Rattle.cert_tree.specs.contracts.certificates.Lemma as lemma;
+
+    ghost Value = { Where Lemma };
+
+    ghost coded = { where_coded lemma.the_row.coded };
+
+    ghost view = { λ receipt. receipt.token };
+
+    ghost use Rattle.cert_tree.specs.Certificate.{piece_of};
+    ghost use Rattle.cert_tree.specs.CertificateSpelling.{IsLemmaWithin};
+
+    ghost invariant = { λ receipt. IsLemmaWithin (piece_of receipt.token.value) };
+}
+
+/// A walk over lemmas that were posted.
+#[derive(Drop)]
+pub struct Shown<'a> {
+    rest: Iter<'a, Lemma, Global, Within>,
+}
+
+impl Desk {
+    /// A desk with nothing on it. Want of memory is the one error.
+    pub fn new(alloc: Global) -> Result<Desk, AllocError> {
+        let posted = Places::with_rule(alloc, Tag::empty())?;
+        Ok(Desk { posted })
+    }
+
+    /// Puts the lemma on the desk. Where memory is refused the lemma comes back, and the desk is as it was.
+    ///
+    /// A post takes no lock, but while another thread makes room for further lemmas it waits until there is room.
+    pub fn post<R: Wait>(&self, rt: &R, lemma: Lemma) -> Result<Receipt, Lemma>
+        requires { IsLemmaWithin (piece_of lemma) }
+        ensures posted { IfOk result (λ receipt. IsOf self.now receipt × (lemma_of receipt ≡ lemma)) }
+        ensures back { IfErr result (λ same. same ≡ lemma) }
+    {
+        let token = self.posted.push_shown(rt, lemma)?;
+        Ok(Receipt { token })
+    }
+
+    /// The lemma that the receipt stands for, at any time and on any thread, whatever others post. It waits for nobody.
+    pub fn read<'a>(&'a self, receipt: &Receipt) -> &'a Lemma
+        requires { IsOf self.now receipt.now }
+        ensures lemma { result.now ≡ lemma_of receipt.now }
+        ensures within { IsLemmaWithin (piece_of result.now) }
+    {
+        self.posted.value(&receipt.token)
+    }
+
+    /// A walk over lemmas that were posted. Which of them it gives, and in what order, isn't promised while others
+    /// post.
+    pub fn shown(&self) -> Shown<'_> {
+        Shown {
+            rest: self.posted.iter(),
+        }
+    }
+
+    // The lemmas that the receipts stand for, in their order.
+    fn lent<'a>(&'a self, alloc: Global, receipts: &[Receipt]) -> Result<Vec<&'a Lemma>, AllocError>
+        requires { All (λ receipt. IsOf self.now receipt) receipts.now }
+        ensures pieces { IfOk result (λ lemmas. map lent_piece lemmas.items ≡ map posted_piece receipts.now) }
+        ensures within { IfOk result (λ lemmas. All (λ lemma. IsLemmaWithin (lent_piece lemma)) lemmas.items) }
+    {
+        let mut lemmas = Vec::with_capacity(alloc, receipts.len())?;
+        for receipt in receipts {
+            lemmas.push(self.read(receipt))?;
+        }
+        Ok(lemmas)
+    }
+
+    /// The certificate of these symmetries and of the receipts' lemmas, whose numbers run upwards from the root, which
+    /// is 0: number t of a lemma, and a cited one below the count, becomes count - 1 - t, and arrangement i of lemma t
+    /// becomes `first[t] + i`. The order of the receipts doesn't matter.
+    ///
+    /// An `Err` is the first fault in the order of [`AssembleFault`], and names a number as it is on the desk:
+    /// `Stranger`, `Double`, `Missing`; `Memory` only where memory is refused. On an `Err` the symmetries are dropped.
+    ///
+    /// Each tree is copied once, in a step for each node, by a recursion that is as deep as it is. The rest takes a step
+    /// for each receipt and each number below the count.
+    pub fn gather(
+        &self,
+        alloc: Global,
+        receipts: &[Receipt],
+        symmetries: Vec<SymmetryLine>,
+        count: u32,
+        first: &[u32],
+    ) -> Result<Certificate, AssembleFault>
+        requires receipts { All (λ receipt. IsOf self.now receipt) receipts.now }
+        requires count { count ≤ MOST_LEMMAS }
+        requires many { length first.now ≡ count }
+        requires first { All (λ n. n ≤ MOST_ARRANGEMENTS) first.now }
+        requires symmetries { length symmetries.items < 2 ^ 32 }
+        ensures symmetries { IfOk result (λ certificate. certificate.symmetries ≡ symmetries.items) }
+        ensures lemmas { IfOk result (λ certificate. AssemblesTurned count first.now
+            (map posted_piece receipts.now) (Ok certificate.lemmas)) }
+        ensures fault { IfErr result (λ fault. AssemblesTurned count first.now
+            (map posted_piece receipts.now) (Err fault)) }
+    {
+        let lemmas = self.lent(alloc, receipts)?;
+        assemble_turned(alloc, count, first, symmetries, lemmas)
+    }
+}
+
+impl<'a> Iterator for Shown<'a> {
+    type Item = &'a Lemma;
+
+    ghost next_gives = { λ old item new. IfSome item (λ lemma. IsLemmaWithin (lent_piece lemma))
+        × (places_left new ≤ places_left old)
+        × IfSome item (λ _. places_left new < places_left old) };
+
+    ghost remaining = { λ shown. at_most (places_left shown) };
+
+    fn next(&mut self) -> Option<&'a Lemma> {
+        let (_, lemma) = self.rest.next()?;
+        Some(lemma)
+    }
+}

@@ -1,0 +1,227 @@
+ghost use Rattle.std.specs.Prelude.{◌≡◌, ◌<◌, ◌≤◌, ◌+◌, All, IfOk, length, vec_len};
+ghost use Rattle.cert_tree.specs.Certificate.{piece_of};
+ghost use Rattle.cert_tree.specs.CertificateSpelling.{IsLemmaWithin};
+ghost use Rattle.piece_desk.specs.Desks.{IsOf};
+
+use crate::{Desk, Receipt};
+use cert_tree::{AssembleFault, Lemma, Node, Pairs, read_lemma, write_certificate, write_lemma};
+use match_symmetry::{ColourImages, Images, SymmetryLine};
+use std::alloc::{AllocError, Global};
+use std::sync::Wait;
+use std::test::Fail;
+use std::thread;
+
+const ROOT: &[u8] = b"lemma 0 prefix tree c 0 2 s 1 i 1 0\n";
+
+const OTHER: &[u8] = b"lemma 1 prefix 0:0.0 tree c 1 1 f 0\n";
+
+const TWIN_TILES: &[u8] =
+    b"certificate 1\nsymmetries 1\nsymmetry 0 + cells 0 1 colours 0 1 tiles 1 0\nlemmas 2\nlemma 0 prefix 0:0.0 tree c 1 1 f 0\nlemma 1 prefix tree c 0 2 s 0 i 0 0\nend\n";
+
+const FIVE_LISTED_BEFORE: &[u8] =
+    b"certificate 1\nsymmetries 1\nsymmetry 0 + cells 0 1 colours 0 1 tiles 1 0\nlemmas 2\nlemma 0 prefix 0:0.0 tree c 1 1 f 5\nlemma 1 prefix tree c 0 2 s 0 i 0 0\nend\n";
+
+// The twin tiles' symmetry.
+fn exchange(alloc: Global) -> Result<Vec<SymmetryLine>, AllocError>
+    ensures { IfOk result (λ lines. vec_len lines ≡ 1) }
+{
+    let line = SymmetryLine {
+        shift: 0,
+        mirrored: false,
+        cells: Images::new(Vec::from_array(alloc, [0, 1])?),
+        colours: ColourImages::new(Vec::from_array(alloc, [0, 1])?),
+        tiles: Images::new(Vec::from_array(alloc, [1, 0])?),
+    };
+    let mut lines = Vec::new(alloc);
+    lines.push(line)?;
+    Ok(lines)
+}
+
+// Posts a lemma whose one node is the arrangement with its number.
+fn post_leaf<R: Wait>(
+    rt: &R,
+    alloc: Global,
+    desk: &Desk,
+    number: u32,
+) -> Result<Receipt, AllocError>
+    ensures { IfOk result (IsOf desk.now) }
+{
+    let lemma = Lemma {
+        number,
+        prefix: Pairs::new(Vec::new(alloc)),
+        tree: Node::Found(number),
+    };
+    if !lemma.within_limits() {
+        return Err(AllocError);
+    }
+    match desk.post(rt, lemma) {
+        Ok(receipt) => Ok(receipt),
+        Err(_) => Err(AllocError),
+    }
+}
+
+// Posts a copy of the lemma that the text says, which is to be read back as the same text.
+fn post_text<R: Wait>(rt: &R, alloc: Global, desk: &Desk, text: &[u8]) -> Result<Receipt, Fail>
+    ensures { IfOk result (IsOf desk.now) }
+{
+    if text.len() > 1000 {
+        return Err(AllocError.into());
+    }
+    let copy = read_lemma(alloc, text)?.copy(alloc)?;
+    let Ok(receipt) = desk.post(rt, copy) else {
+        return Err(AllocError.into());
+    };
+    if write_lemma(alloc, desk.read(&receipt))?.as_slice() != text {
+        return Err(Fail::new("another lemma is read back"));
+    }
+    Ok(receipt)
+}
+
+// The text of what is gathered of two receipts.
+fn gathered(
+    alloc: Global,
+    desk: &Desk,
+    one: Receipt,
+    other: Receipt,
+    first: [u32; 2],
+) -> Result<Vec<u8>, Fail>
+    requires { IsOf desk.now one × IsOf desk.now other }
+{
+    let mut receipts = Vec::new(alloc);
+    receipts.push(one)?;
+    receipts.push(other)?;
+    if first[0] > 10 || first[1] > 10 {
+        return Ok(Vec::new(alloc));
+    }
+    let certificate = desk.gather(alloc, &receipts, exchange(alloc)?, 2, &first)?;
+    if !certificate.within_limits() {
+        return Ok(Vec::new(alloc));
+    }
+    Ok(write_certificate(alloc, &certificate)?)
+}
+
+// Posts a hundred lemmas, with the numbers from there on.
+fn post_hundred<R: Wait>(
+    rt: &R,
+    alloc: Global,
+    desk: &Desk,
+    from: u8,
+) -> Result<Vec<Receipt>, AllocError>
+    ensures { IfOk result (λ receipts. All (IsOf desk.now) receipts.items) }
+{
+    let mut receipts = Vec::new(alloc);
+    for place in 0..100 {
+        receipts.push(post_leaf(rt, alloc, desk, u32::from(from) + place)?)?;
+    }
+    Ok(receipts)
+}
+
+// Posts a hundred lemmas and reads each back at once. Whether each was what was posted.
+fn post_and_read<R: Wait>(rt: &R, alloc: Global, desk: &Desk, row: u8) -> bool {
+    for place in 0..100 {
+        let number = 100 * u32::from(row) + place;
+        let Ok(receipt) = post_leaf(rt, alloc, desk, number) else {
+            return false;
+        };
+        if desk.read(&receipt).number != number {
+            return false;
+        }
+    }
+    true
+}
+
+// The numbers that a walk over the desk gives, in order.
+fn numbers_shown(alloc: Global, desk: &Desk) -> Result<Vec<u32>, AllocError> {
+    let mut numbers = Vec::new(alloc);
+    for lemma in desk.shown() {
+        numbers.push(lemma.number)?;
+    }
+    numbers.sort()?;
+    Ok(numbers)
+}
+
+// The text of what is gathered of the twin tiles' lemmas, posted in either order.
+fn gathered_texts<R: Wait>(
+    rt: &R,
+    alloc: Global,
+    desk: &Desk,
+    first: [u32; 2],
+) -> Result<[Vec<u8>; 2], Fail> {
+    let root = post_text(rt, alloc, desk, ROOT)?;
+    let other = post_text(rt, alloc, desk, OTHER)?;
+    let upwards = gathered(alloc, desk, root, other, first)?;
+    let other = post_text(rt, alloc, desk, OTHER)?;
+    let root = post_text(rt, alloc, desk, ROOT)?;
+    let downwards = gathered(alloc, desk, other, root, first)?;
+    Ok([upwards, downwards])
+}
+
+#[test]
+fn gathers_the_twin_tiles(rt: HostRuntime) -> Result<(), Fail> {
+    let alloc = rt.alloc();
+    let desk = Desk::new(alloc)?;
+    for text in gathered_texts(&rt, alloc, &desk, [0, 0])? {
+        assert_eq!(rt; text.as_slice(), TWIN_TILES);
+    }
+    for text in gathered_texts(&rt, alloc, &desk, [0, 5])? {
+        assert_eq!(rt; text.as_slice(), FIVE_LISTED_BEFORE);
+    }
+    let alone = [post_text(&rt, alloc, &desk, ROOT)?];
+    let missing = desk.gather(alloc, &alone, exchange(alloc)?, 2, &[0, 0]);
+    assert!(rt; matches!(missing, Err(AssembleFault::Missing(1))));
+    Ok(())
+}
+
+#[test]
+fn two_threads_read_what_the_other_posted(rt: HostRuntime) -> Result<(), Fail> {
+    let desk = Desk::new(rt.alloc())?;
+    let alloc = rt.alloc();
+    let (shared, wait) = (&desk, &rt);
+    let (left, right) = thread::join(
+        &rt,
+        move ||
+            ensures { IfOk result (λ receipts. All (IsOf shared.entry.now) receipts.items) }
+        { post_hundred(wait, alloc, shared, 0) },
+        move ||
+            ensures { IfOk result (λ receipts. All (IsOf shared.entry.now) receipts.items) }
+        { post_hundred(wait, alloc, shared, 100) },
+    );
+    let (left, right) = (left?, right?);
+    let numbers = numbers_shown(alloc, &desk)?;
+    assert_eq!(rt; numbers.len(), 200);
+    for (place, number) in numbers.iter().enumerate() {
+        assert_eq!(rt; place, *number as usize);
+    }
+    for (place, receipt) in left.iter().enumerate() {
+        assert_eq!(rt; desk.read(receipt).number as usize, place);
+    }
+    for (place, receipt) in right.iter().enumerate() {
+        assert_eq!(rt; desk.read(receipt).number as usize, 100 + place);
+    }
+    Ok(())
+}
+
+#[test]
+fn sixty_four_threads_post_and_read(rt: HostRuntime) -> Result<(), Fail> {
+    let desk = Desk::new(rt.alloc())?;
+    let alloc = rt.alloc();
+    let (shared, wait) = (&desk, &rt);
+    let mut rows = Vec::new(alloc);
+    for row in 0..64u8 {
+        rows.push(row)?;
+    }
+    let right = thread::map_vec(
+        &rt,
+        rows,
+        &|row: u8| post_and_read(wait, alloc, shared, row),
+    )?;
+    for each in right.iter() {
+        assert!(rt; *each);
+    }
+    let numbers = numbers_shown(alloc, &desk)?;
+    assert_eq!(rt; numbers.len(), 6400);
+    for (place, number) in numbers.iter().enumerate() {
+        assert_eq!(rt; place, *number as usize);
+    }
+    Ok(())
+}
