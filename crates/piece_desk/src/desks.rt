@@ -32,7 +32,7 @@ pub struct Desk {
     posted: Places<Lemma, Global, Within>,
 }
 
-/// Stands for the one lemma that was posted for it. It takes no memory.
+/// Stands for the one lemma that was posted for it. It is three numbers, and asks for no memory of its own.
 #[derive(Drop)]
 pub struct Receipt {
     token: Pushed<Lemma, Global, Within>,
@@ -89,8 +89,8 @@ impl Desk {
         self.posted.value(&receipt.token)
     }
 
-    /// A walk over lemmas that were posted. Which of them it gives, and in what order, isn't promised while others
-    /// post.
+    /// A walk over lemmas that were posted, each within the limits of its text. Which of them it gives, and in what
+    /// order, is no part of any contract.
     pub fn shown(&self) -> Shown<'_> {
         Shown {
             rest: self.posted.iter(),
@@ -115,7 +115,8 @@ impl Desk {
     /// becomes `first[t] + i`. The order of the receipts doesn't matter.
     ///
     /// An `Err` is the first fault in the order of [`AssembleFault`], and names a number as it is on the desk:
-    /// `Stranger`, `Double`, `Missing`; `Memory` only where memory is refused. On an `Err` the symmetries are dropped.
+    /// `Stranger`, `Double`, `Missing`; `Memory` where memory is refused, perhaps before a number was looked at. On an
+    /// `Err` the symmetries are dropped.
     ///
     /// Each tree is copied once, in a step for each node, by a recursion that is as deep as it is. The rest takes a step
     /// for each receipt and each number below the count.
