@@ -61,7 +61,10 @@ pub const MOST_LEVELS: u16 = MOST_CELLS + 1;
 /// The most branch nodes that a search may be asked to make.
 pub const MOST_FUEL: u32 = 1_000_000;
 
-/// The most workers that share a check.
+/// The most levels of branches that a solve makes lemmas of before it searches.
+pub const MOST_DEPTH: u8 = 3;
+
+/// The most workers that share a check or a search.
 pub const MOST_WORKERS: u8 = 64;
 
 /// The most levels of a tree in which the halves of a branch's children are walked at once.

@@ -6,3 +6,7 @@ pub mod ResultLemmas
 pub mod MachineLemmas
 pub mod NumberSourceLemmas
 pub mod TicketLemmas
+pub mod LiveHandLemmas
+pub mod LiveQueueLemmas
+pub mod LiveWorkerLemmas
+pub mod LiveResultLemmas

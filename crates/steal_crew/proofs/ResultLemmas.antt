@@ -12,10 +12,10 @@ use Rattle.steal_crew.specs.Results.{one_if_some, filled, left_out, done_numbers
 use Rattle.steal_crew.proofs.BesideLemmas.{default}
 use Rattle.steal_crew.proofs.CountLemmas.{total-append, once_below-next}
 
-times-append : (x : ℕ) (xs ys : List ℕ) → times x (xs ++ ys) ≡ times x xs + times x ys
+pub times-append : (x : ℕ) (xs ys : List ℕ) → times x (xs ++ ys) ≡ times x xs + times x ys
 times-append x xs ys = total-append (λ (z : ℕ). cond (z == x) 1 0) xs ys
 
-none_of : (p x : ℕ) → x ≢ p → times x (p ∷ []) ≡ 0
+pub none_of : (p x : ℕ) → x ≢ p → times x (p ∷ []) ≡ 0
 none_of p x ne = let z : cond {A = ℕ} (p == x) 1 0 ≡ 0 = ap (λ (b : Bool). cond b 1 0) (ne_eqb p x (λ e. ne (sym e))) in omega arith
 
 one_of : (p : ℕ) → times p (p ∷ []) ≡ 1
@@ -41,7 +41,7 @@ module _ {X : Type 0} where
   pub filled_other : (slots : List (Option X)) (p x : ℕ) (o : Option X) → x ≢ p → filled x (set slots p o) ≡ filled x slots
   filled_other slots p x o ne = ap one_if_some (get_or-set_other slots p x o None ne)
 
-  done_snoc : (xs : List (ℕ × X)) (p : ℕ) (r : X) → done_numbers (xs ++ (p, r) ∷ []) ≡ done_numbers xs ++ p ∷ []
+  pub done_snoc : (xs : List (ℕ × X)) (p : ℕ) (r : X) → done_numbers (xs ++ (p, r) ∷ []) ≡ done_numbers xs ++ p ∷ []
   done_snoc xs p r = map-append (λ (e : ℕ × X). e.0) xs ((p, r) ∷ [])
 
   popped_times : (x : ℕ) (done rest : List (ℕ × X)) (p : ℕ) (r : X) → done ≡ rest ++ (p, r) ∷ [] → times x (done_numbers done) ≡ times x (done_numbers rest) + times x (p ∷ [])

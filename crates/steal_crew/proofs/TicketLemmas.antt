@@ -46,7 +46,7 @@ first source all rest s is ours = let P : TicketSeat → Type 0 = λ s. seat_sou
 }
 
 pub more : (source : TableId × ℕ) (mine mine' : TableSeat) (was rest all : List TicketSeat) (s : TicketSeat) → Gathered source mine was all → was ≡ s ∷ rest → mine'.table_id ≡ mine.table_id
-    → mine'.me.0 ≡ seat_view_with mine.me.0.limit (mine.me.0.parts + s.seat.me.0.parts) (mine.me.0.marks + s.seat.me.0.marks) (mine.me.0.drawn ++ s.seat.me.0.drawn)
+    → mine'.me.0 ≡ seat_view_with mine.me.0.limit mine.me.0.seats (mine.me.0.parts + s.seat.me.0.parts) (mine.me.0.marks + s.seat.me.0.marks) (mine.me.0.drawn ++ s.seat.me.0.drawn)
     → Gathered source mine' rest all
 more source mine mine' was rest all s g is table me = let P : TicketSeat → Type 0 = λ s. seat_source s ≡ source in let h : All P (s ∷ rest) = subst (All P) is g.ours in let one = s.one_part in
     let p : mine'.me.0.parts ≡ mine.me.0.parts + s.seat.me.0.parts = ap (λ (v : SeatView). v.parts) me in

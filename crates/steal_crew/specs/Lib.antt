@@ -5,3 +5,6 @@ pub mod Results
 pub mod Machine
 pub mod NumberSource
 pub mod Tickets
+pub mod LiveQueue
+pub mod LiveHands
+pub mod LiveWorkers

@@ -8,14 +8,15 @@ use Rattle.match_board.specs.declared.limits.TheConstants.{MOST_WORKERS}
 use Rattle.steal_crew.specs.declared.tickets.rules.SeatView.{SeatView}
 use Rattle.steal_crew.specs.Counts.{total, times, once_below}
 
--- what a seat knows: the limit, how many parts of the source it has, how many of them found the limit, and what was
--- drawn by them, in order
-abbrev pub seat_view_with : (limit parts marks : ℕ) (drawn : List ℕ) → SeatView
-seat_view_with limit parts marks drawn = record { limit = limit; parts = parts; marks = marks; drawn = drawn }
+-- what a seat knows: the limit, how many seats there are, how many parts of the source it has, how many of them found
+-- the limit, and what was drawn by them, in order
+abbrev pub seat_view_with : (limit seats parts marks : ℕ) (drawn : List ℕ) → SeatView
+seat_view_with limit seats parts marks drawn =
+    record { limit = limit; seats = seats; parts = parts; marks = marks; drawn = drawn }
 
 -- what holds of one seat, where the next number is n
-pub record IsFair (limit n : ℕ) (v : SeatView) : Type 0 where
-  pub told : 0 < v.parts → v.limit ≡ limit
+pub record IsFair (limit seats n : ℕ) (v : SeatView) : Type 0 where
+  pub told : 0 < v.parts → (v.limit ≡ limit) × (v.seats ≡ seats)
   pub one_mark : v.marks ≤ v.parts
   pub out : 0 < v.marks → limit ≤ n
   pub spent : v.parts ≡ 0 → v.drawn ≡ []
@@ -26,7 +27,7 @@ pub record Drawn (limit seats n : ℕ) (views : List SeatView) : Type 0 where
   pub parts : total (λ v. v.parts) views ≡ seats
   pub numbers : (x : ℕ) → total (λ v. times x v.drawn) views ≡ once_below x (min n limit)
   pub word : n ≤ limit + total (λ v. v.marks) views
-  pub fair : (id : ℕ) (v : SeatView) → get_elem? views id ≡ some v → IsFair limit n v
+  pub fair : (id : ℕ) (v : SeatView) → get_elem? views id ≡ some v → IsFair limit seats n v
 
 -- the same of a table with one word, by the limit and the count of seats
 pub record Holds (key : ℕ × ℕ) (s : State (Unit {0}) SeatView) : Type 0 where
@@ -35,8 +36,10 @@ pub record Holds (key : ℕ × ℕ) (s : State (Unit {0}) SeatView) : Type 0 whe
   pub rule : Drawn key.0 key.1 (slice_index s.words 0) s.views
 
 -- A draw that finds a number below the limit puts it at the end of the seat's list, and it is above all that stood
--- there; any other draw marks that the seat found the limit.
+-- there; any other draw marks that the seat found the limit. The first draw of all finds 0.
 abbrev pub IsDraw : Step (Unit {0}) → Me (Unit {0}) SeatView → ℕ → Me (Unit {0}) SeatView → Type 0
-IsDraw s v found w = (w.1 ≡ v.1) × MatchBool (nat_lt found v.0.limit)
-    ((w.0 ≡ seat_view_with v.0.limit v.0.parts v.0.marks (v.0.drawn ++ found ∷ [])) × All (λ x. x < found) v.0.drawn)
-    (w.0 ≡ seat_view_with v.0.limit v.0.parts 1 v.0.drawn)
+IsDraw s v found w = (w.1 ≡ v.1) × (v.0.parts ≡ v.0.seats → v.0.drawn ≡ [] → 0 < v.0.limit → found ≡ 0)
+    × MatchBool (nat_lt found v.0.limit)
+    ((w.0 ≡ seat_view_with v.0.limit v.0.seats v.0.parts v.0.marks (v.0.drawn ++ found ∷ []))
+    × All (λ x. x < found) v.0.drawn)
+    (w.0 ≡ seat_view_with v.0.limit v.0.seats v.0.parts 1 v.0.drawn)

@@ -1,5 +1,5 @@
 -- A crew's queues: one for each worker, from which all workers take.
-use Rattle.std.specs.Prelude.{◌≡◌, ℕ, zero, suc, ◌+◌, ◌<◌, ◌≤◌, ◌%◌, ◌==◌, cond, List, [], ◌∷◌, ◌++◌, All, length}
+use Rattle.std.specs.Prelude.{◌≡◌, ℕ, zero, suc, ◌+◌, ◌<◌, ◌≤◌, ◌%◌, ◌==◌, cond, List, [], ◌∷◌, ◌++◌, length}
 use Rattle.std.specs.Prelude.{slice_index_or}
 use Rattle.std.specs.declared.alloc.Global.{Global}
 use Rattle.crossbeam_deque.specs.Handles.{Pass, view, IsPassOf, worker_view, worker_deque, worker_flavor}
@@ -11,7 +11,7 @@ use Rattle.steal_crew.specs.declared.queues.InOrder.{InOrder}
 use Rattle.steal_crew.specs.declared.works.Station.{Station}
 use Rattle.steal_crew.specs.declared.works.Share.{Share}
 use Rattle.steal_crew.specs.Counts.{total, times, once_below}
-use Rattle.steal_crew.specs.Results.{done_numbers}
+use Rattle.steal_crew.specs.Results.{AreDone, done_numbers}
 use Rattle.steal_crew.specs.QueueRule.{part_count}
 
 -- what others take from a queue by
@@ -65,7 +65,7 @@ pub record IsStation (queues count : ℕ) (handles : List Handle) (station : Sta
 pub record IsShare {X : Type 0} (queues count : ℕ) (handles : List Handle) (gives : ℕ → X → Type 0)
     (share : Share X) : Type 0 where
   pub places : Places queues count handles share.places.items
-  pub done : All (λ e. gives e.0 e.1) share.done.items
+  pub done : AreDone gives share.done.items
   pub all : (x : ℕ) → times x (done_numbers share.done.items) ≡ taken_by x share.places.items
 
 -- ---- what the caller has

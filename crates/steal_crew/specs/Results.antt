@@ -1,5 +1,5 @@
 -- Results by number.
-use Rattle.std.specs.Prelude.{map, ◌<◌, ℕ, List, [], ◌∷◌, IfSome, Option, Some, None, length, slice_index_or}
+use Rattle.std.specs.Prelude.{map, ◌<◌, ℕ, List, [], ◌∷◌, All, IfSome, Option, Some, None, length, slice_index_or}
 
 -- each result that is entered belongs to its number
 abbrev pub Entered : {X : Type 0} → (ℕ → X → Type 0) → List (Option X) → Type 0
@@ -8,6 +8,10 @@ Entered {X} gives slots = (n : ℕ) (d : Option X) → n < length slots → IfSo
 -- each result belongs to its number
 abbrev pub Belongs : {X : Type 0} → (ℕ → X → Type 0) → List X → Type 0
 Belongs {X} gives results = (n : ℕ) (d : X) → n < length results → gives n (slice_index_or results n d)
+
+-- each result in the list belongs to the number beside it
+abbrev pub AreDone : {X : Type 0} → (ℕ → X → Type 0) → List (ℕ × X) → Type 0
+AreDone {X} gives done = All (λ e. gives e.0 e.1) done
 
 -- 1 where there is one, else 0
 abbrev pub one_if_some : {X : Type 0} → Option X → ℕ

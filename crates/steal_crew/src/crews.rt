@@ -3,13 +3,13 @@
 ghost use Rattle.std.specs.Prelude.{◌≡◌, ◌≤◌, ◌<◌, ◌+◌, ℕ, Vec, IfOk, OnOk, All, length, vec_len, slice_index_or};
 ghost use Rattle.std.specs.declared.alloc.Global.{Global};
 ghost use Rattle.steal_crew.specs.Counts.{total, times, once_below};
-ghost use Rattle.steal_crew.specs.Results.{Entered, Belongs, filled};
+ghost use Rattle.steal_crew.specs.Results.{Entered, Belongs, AreDone, filled};
 ghost use Rattle.steal_crew.specs.Queues.{IsStation, IsShare, ShowSpent};
 
 use crate::dealing::{deal, open, stations};
 use crate::gathering::{collect, drain_all, histories};
 use crate::queues::{Handle, View};
-use crate::results::settle_rest;
+use crate::results::{enter_all, settle_rest};
 use crate::taking::work_at;
 use crate::works::{Share, Station, Work};
 use crossbeam_deque::Pass;
@@ -21,10 +21,10 @@ use std::thread::Threads;
 /// What a crew did.
 #[derive(Drop)]
 pub struct Crew<X: Drop> {
-    results: Vec<X>,
-    tallies: Vec<Vec<u32>>,
+    pub(crate) results: Vec<X>,
+    pub(crate) tallies: Vec<Vec<u32>>,
     // What was dealt to each queue and taken from it. It takes no memory, and is there for contracts alone.
-    queues: Vec<Pass<u32, View>>,
+    pub(crate) queues: Vec<Pass<u32, View>>,
 }
 
 impl<X: Drop> Crew<X> {
@@ -33,6 +33,18 @@ impl<X: Drop> Crew<X> {
         ensures { result.now ≡ self.now.results.items }
     {
         &self.results
+    }
+
+    /// The results by number, and for each worker the numbers whose results it brought. Worker 0 is the caller's thread.
+    pub fn into_parts(self) -> (Vec<X>, Vec<Vec<u32>>)
+        ensures { result ≡ (self.results, self.tallies) }
+    {
+        let Crew {
+            results,
+            tallies,
+            queues: _,
+        } = self;
+        (results, tallies)
     }
 
     /// The numbers whose results this worker brought. Worker 0 is the caller's thread.
@@ -90,11 +102,10 @@ fn empty_slots<W: Work>(
 // What the workers did, once all numbers that were dealt to a queue were taken from it.
 struct Worked<X: Drop> {
     queues: Vec<Pass<u32, View>>,
-    slots: Vec<Option<X>>,
-    tallies: Vec<Vec<u32>>,
+    brought: Vec<Vec<(u32, X)>>,
 }
 
-// All that happens on the queues.
+// All that happens on the queues, which are let go here.
 fn work_queues<W: Work + Sync, R: Threads + Sync>(
     rt: &R,
     alloc: Global,
@@ -105,31 +116,19 @@ fn work_queues<W: Work + Sync, R: Threads + Sync>(
     requires queues { (1 ≤ queues) × (queues ≤ MOST_WORKERS) }
     requires accepts { (n : ℕ) → n < count → W.accepts work.now n }
     ensures queues { IfOk result (λ w. (vec_len w.queues ≡ queues) × ShowSpent queues count w.queues.items) }
-    ensures slots { IfOk result (λ w. (vec_len w.slots ≡ count) × Entered (W.gives work.now) w.slots.items) }
-    ensures tallies { IfOk result (λ w. (vec_len w.tallies ≡ queues)
-        × ((x : ℕ) → total (λ t. times x t.items) w.tallies.items ≡ filled x w.slots.items)) }
+    ensures brought { IfOk result (λ w. (vec_len w.brought ≡ queues)
+        × All (λ done. AreDone (W.gives work.now) done.items) w.brought.items) }
 {
     let (mut owners, handles) = open(alloc, queues)?;
     deal(&mut owners, &handles, queues, count)?;
     let places = stations(alloc, &mut owners, &handles, queues, count)?;
     let shares = work_all(rt, alloc, work, &handles, places, count)?;
-    let mut slots = empty_slots(work, alloc, count)?;
-    let tallies = collect(
-        work,
-        alloc,
-        &mut owners,
-        &handles,
-        shares,
-        &mut slots,
-        queues,
-        count,
-    )?;
+    let brought = collect(work, alloc, &mut owners, &handles, shares, queues, count)?;
     drain_all(&mut owners, &handles, queues, count);
     let histories = histories(alloc, &mut owners, queues, count)?;
     Ok(Worked {
         queues: histories,
-        slots,
-        tallies,
+        brought,
     })
 }
 
@@ -155,11 +154,9 @@ pub fn run_crew<W: Work + Sync, R: Threads + Sync>(
     ensures queues { IfOk result (λ c. (vec_len c.queues ≡ workers) × ShowSpent workers count c.queues.items) }
 {
     let worked = work_queues(rt, alloc, work, count, usize::from(workers))?;
-    let Worked {
-        queues,
-        slots,
-        mut tallies,
-    } = worked;
+    let Worked { queues, brought } = worked;
+    let mut slots = empty_slots(work, alloc, count)?;
+    let mut tallies = enter_all(work, alloc, &mut slots, brought)?;
     let results = settle_rest(work, alloc, slots, &mut tallies[0])?;
     Ok(Crew {
         results,

@@ -1,14 +1,13 @@
 //! What the workers bring back. What begins with `_` is there for the contracts alone.
 
-ghost use Rattle.std.specs.Prelude.{◌≡◌, ◌≤◌, ◌<◌, ◌+◌, ℕ, IfOk, OnOk, All, length, vec_len, slice_index_or};
+ghost use Rattle.std.specs.Prelude.{◌≡◌, ◌≤◌, ◌<◌, ◌+◌, ℕ, IfOk, OnOk, All, vec_len};
 ghost use Rattle.crossbeam_deque.specs.Handles.{worker_view, worker_deque, worker_flavor};
-ghost use Rattle.steal_crew.specs.Counts.{total, times};
-ghost use Rattle.steal_crew.specs.Results.{Entered, filled};
+ghost use Rattle.steal_crew.specs.Counts.{times};
+ghost use Rattle.steal_crew.specs.Results.{AreDone};
 ghost use Rattle.steal_crew.specs.QueueRule.{part_count};
 ghost use Rattle.steal_crew.specs.Queues.{AreSpent, Owners, Places, IsShare, ShowSpent};
 
 use crate::queues::{Handle, Owner, Parts, Takes, View, Whole};
-use crate::results::enter_first;
 use crate::works::{Share, Work};
 use crossbeam_deque::Pass;
 use match_board::limits::MOST_WORKERS;
@@ -34,35 +33,30 @@ fn take_in(
     }
 }
 
-// Takes in the places of all workers, and enters their results. The first tally is that of the last share.
+// Takes in the places of all workers, and answers what each brought. The first is that of the last share.
 pub fn collect<W: Work>(
-    work: &W,
+    _work: &W,
     alloc: Global,
     owners: &mut Vec<Owner>,
     handles: &Vec<Handle>,
     mut shares: Vec<Result<Share<W::R>, AllocError>>,
-    slots: &mut Vec<Option<W::R>>,
     queues: usize,
     count: u32,
-) -> Result<Vec<Vec<u32>>, AllocError>
-    requires shares { All (λ t. IfOk t (IsShare queues count handles.now.items (W.gives work.now))) shares.items }
+) -> Result<Vec<Vec<(u32, W::R)>>, AllocError>
+    requires shares { All (λ t. IfOk t (IsShare queues count handles.now.items (W.gives _work.now))) shares.items }
     requires owners { Owners (λ _. vec_len shares) queues count handles.now.items owners.old.items }
     requires few { vec_len shares ≤ MOST_WORKERS }
-    requires slots { Entered (W.gives work.now) slots.old.items }
     ensures owners { OnOk result (Owners (λ _. 0) queues count handles.now.items owners.new.items) }
-    ensures slots { OnOk result (Entered (W.gives work.now) slots.new.items × (vec_len slots.new ≡ vec_len slots.old)) }
-    ensures tallies { IfOk result (λ v. (x : ℕ)
-        → total (λ t. times x t.items) v.items + filled x slots.old.items ≡ filled x slots.new.items) }
+    ensures brought { IfOk result (λ v. All (λ done. AreDone (W.gives _work.now) done.items) v.items) }
     ensures len { IfOk result (λ v. vec_len v ≡ vec_len shares) }
 {
-    let mut tallies = Vec::new(alloc);
+    let mut brought = Vec::new(alloc);
     while let Some(share) = shares.pop() {
         let Share { places, done } = share?;
         take_in(owners, handles, places, queues, count, shares.len());
-        let tally = enter_first(work, alloc, slots, done)?;
-        tallies.push(tally)?;
+        brought.push(done)?;
     }
-    Ok(tallies)
+    Ok(brought)
 }
 
 // Takes what is left on a queue of which no part is out.

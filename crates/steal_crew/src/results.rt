@@ -1,8 +1,8 @@
 //! Results and tallies are entered by number.
 
 ghost use Rattle.std.specs.Prelude.{◌≡◌, ◌≤◌, ◌<◌, ◌+◌, ◌^◌, ◌++◌, ℕ, IfOk, OnOk, IfSome, All, length, vec_len};
-ghost use Rattle.steal_crew.specs.Counts.{times, once_below};
-ghost use Rattle.steal_crew.specs.Results.{Entered, Belongs, filled, left_out, done_numbers};
+ghost use Rattle.steal_crew.specs.Counts.{total, times, once_below};
+ghost use Rattle.steal_crew.specs.Results.{Entered, Belongs, AreDone, filled, left_out, done_numbers};
 
 use crate::works::Work;
 use std::alloc::{AllocError, Global};
@@ -14,7 +14,7 @@ pub fn enter_first<W: Work>(
     slots: &mut Vec<Option<W::R>>,
     mut done: Vec<(u32, W::R)>,
 ) -> Result<Vec<u32>, AllocError>
-    requires done { All (λ e. W.gives _work.now e.0 e.1) done.items }
+    requires done { AreDone (W.gives _work.now) done.items }
     requires slots { Entered (W.gives _work.now) slots.old.items }
     ensures slots { OnOk result (Entered (W.gives _work.now) slots.new.items) }
     ensures len { OnOk result (vec_len slots.new ≡ vec_len slots.old) }
@@ -34,6 +34,29 @@ pub fn enter_first<W: Work>(
         }
     }
     Ok(tally)
+}
+
+// Enters what each worker brought, and answers the numbers of each that were entered.
+pub fn enter_all<W: Work>(
+    work: &W,
+    alloc: Global,
+    slots: &mut Vec<Option<W::R>>,
+    brought: Vec<Vec<(u32, W::R)>>,
+) -> Result<Vec<Vec<u32>>, AllocError>
+    requires brought { All (λ done. AreDone (W.gives work.now) done.items) brought.items }
+    requires slots { Entered (W.gives work.now) slots.old.items }
+    ensures slots { OnOk result (Entered (W.gives work.now) slots.new.items) }
+    ensures slots_len { OnOk result (vec_len slots.new ≡ vec_len slots.old) }
+    ensures tallies { IfOk result (λ v. (x : ℕ)
+        → total (λ t. times x t.items) v.items + filled x slots.old.items ≡ filled x slots.new.items) }
+    ensures len { IfOk result (λ v. vec_len v ≡ vec_len brought) }
+{
+    let mut tallies = Vec::new(alloc);
+    for done in brought {
+        let tally = enter_first(work, alloc, slots, done)?;
+        tallies.push(tally)?;
+    }
+    Ok(tallies)
 }
 
 // The result that was entered, or else that of the call, whose number stands in the tally then.

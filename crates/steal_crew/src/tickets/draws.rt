@@ -1,6 +1,6 @@
 //! The calls of a number source.
 
-ghost use Rattle.std.specs.Prelude.{◌≡◌, ◌<◌, ◌≤◌, ◌+◌, ◌++◌, [], ◌∷◌, ℕ, true, All, Any};
+ghost use Rattle.std.specs.Prelude.{◌≡◌, ◌<◌, ◌≤◌, ◌+◌, ◌++◌, [], ◌∷◌, ℕ, true, false, All, Any};
 ghost use Rattle.std.specs.Prelude.{IfSome, IfNone, IfOk, vec_len};
 ghost use Rattle.steal_crew.specs.Counts.{total, times, once_below};
 ghost use Rattle.steal_crew.specs.Tickets.{source_of, limit_of, seats_of, seat_source, drawn, is_out, IsFresh};
@@ -36,6 +36,36 @@ impl Tickets {
             out: false,
         });
         Ok((Tickets { table, limit }, list))
+    }
+
+    /// A source of the numbers from 0 up to `limit` and without it, at least 1, and its 1 to 65 seats, of which the one
+    /// that comes apart has drawn 0. All memory is taken here, and want of memory is the one error.
+    pub(crate) fn begun(
+        alloc: Global,
+        limit: u32,
+        seats: u8,
+    ) -> Result<(Tickets, TicketSeat, Vec<TicketSeat>), AllocError>
+        requires seats { (1 ≤ seats) × (seats ≤ MOST_WORKERS + 1) }
+        requires limit { 0 < limit }
+        ensures limit { IfOk result (λ r. limit_of r.0 ≡ limit) }
+        ensures seats { IfOk result (λ r. (seats_of r.0 ≡ seats) × (vec_len r.2 + 1 ≡ seats)) }
+        ensures first { IfOk result (λ r.
+            (seat_source r.1 ≡ source_of r.0) × (drawn r.1 ≡ 0 ∷ []) × (is_out r.1 ≡ false)) }
+        ensures fresh { IfOk result (λ r. All (IsFresh (source_of r.0)) r.2.items) }
+    {
+        let mut list = Vec::with_capacity(alloc, usize::from(seats))?;
+        let key = (u64::from(limit), u64::from(seats));
+        let (table, mut first) = Table::of_words(alloc, &[0], &key)?;
+        table.shared.fetch_add::<Draws>(&mut first, 0, 1);
+        for _ in 1..seats {
+            let seat = table.shared.split_seat::<Parts>(&mut first);
+            list.push_reserved(TicketSeat { seat, out: false });
+        }
+        let seat = TicketSeat {
+            seat: first,
+            out: false,
+        };
+        Ok((Tickets { table, limit }, seat, list))
     }
 
     /// The least number that nobody drew yet, or none where each below the limit was drawn. Once a seat answered none

@@ -6,6 +6,7 @@ use std::collections::LinkedList;
 // What a seat knows of its source. No value of it is made.
 pub struct SeatView {
     pub limit: u64,
+    pub seats: u64,
     pub parts: u64,
     pub marks: u64,
     pub drawn: LinkedList<u64>,
@@ -20,7 +21,7 @@ impl TableRule<(), SeatView, (u64, u64)> for EachOnce {
 
     ghost holds = { Holds };
 
-    ghost first = { λ key. seat_view_with key.0 key.1 0 [] };
+    ghost first = { λ key. seat_view_with key.0 key.1 key.1 0 [] };
 }
 
 // A number is drawn, or the limit is found.
@@ -39,16 +40,17 @@ impl Split<SeatView> for Parts {
     ghost use Rattle.steal_crew.specs.NumberSource.{seat_view_with};
     ghost use Rattle.std.specs.Prelude.{[], ◌-◌};
 
-    ghost left = { λ v. seat_view_with v.limit (v.parts - 1) v.marks v.drawn };
+    ghost left = { λ v. seat_view_with v.limit v.seats (v.parts - 1) v.marks v.drawn };
 
-    ghost right = { λ v. seat_view_with v.limit 1 0 [] };
+    ghost right = { λ v. seat_view_with v.limit v.seats 1 0 [] };
 }
 
 impl Join<SeatView> for Parts {
     ghost use Rattle.steal_crew.specs.NumberSource.{seat_view_with};
     ghost use Rattle.std.specs.Prelude.{[], ◌+◌, ◌++◌};
 
-    ghost both = { λ v w. seat_view_with v.limit (v.parts + w.parts) (v.marks + w.marks) (v.drawn ++ w.drawn) };
+    ghost both = { λ v w.
+        seat_view_with v.limit v.seats (v.parts + w.parts) (v.marks + w.marks) (v.drawn ++ w.drawn) };
 
-    ghost spent = { seat_view_with 0 0 0 [] };
+    ghost spent = { seat_view_with 0 0 0 0 [] };
 }

@@ -9,5 +9,5 @@ invariant-loop l = record {
   count : vec_len l.list + 1 ≡ l.counter;
   room : vec_capacity l.list ≡ vec_capacity l.initial.list;
   same : l.first.table_id ≡ l.table.shared.table_id;
-  first : l.first.me ≡ (seat_view_with l.limit (l.seats - vec_len l.list) 0 [], []);
+  first : l.first.me ≡ (seat_view_with l.limit l.seats (l.seats - vec_len l.list) 0 [], []);
 }

@@ -1,0 +1,206 @@
+-- What a worker got more is what it put more.
+use Rattle.std.proofs.Common.{◌≡◌, ℕ, ◌+◌, ◌-◌, List, [], ◌∷◌, ◌++◌, length, length-append, All, Vec, sym, refl, ap}
+use Rattle.std.proofs.Common.{◌∙◌, subst, arith}
+use Rattle.std.proofs.lemmas.List.Elements.{All-append, All-cons, All-nil}
+use Rattle.std.specs.declared.alloc.Global.{Global}
+use Rattle.crossbeam_deque.specs.Injected.{InjectorPass, injector_view, IsInjectorPassOf}
+use Rattle.crossbeam_deque.specs.declared.injector.Injector.{Injector}
+use Rattle.steal_crew.specs.Tickets.{source_of, seat_source, drawn}
+use Rattle.steal_crew.specs.declared.live.jobs.JobView.{JobView}
+use Rattle.steal_crew.specs.declared.live.jobs.NumberedJob.{NumberedJob}
+use Rattle.steal_crew.specs.declared.live.jobs.NoneLost.{NoneLost}
+use Rattle.steal_crew.specs.declared.live.hands.Hand.{Hand}
+use Rattle.steal_crew.specs.declared.live.hands.LiveWorker.{LiveWorker}
+use Rattle.steal_crew.specs.LiveQueue.{job_view_with, job_numbers}
+use Rattle.steal_crew.specs.Counts.{total, times}
+use Rattle.steal_crew.specs.LiveHands.{Gave}
+use Rattle.steal_crew.specs.Results.{done_numbers}
+use Rattle.steal_crew.specs.LiveWorkers.{BelongsToSome, got, put, IsReady, Moved, IsLiveShare, Brings}
+use Rattle.steal_crew.specs.declared.live.hands.LiveShare.{LiveShare}
+use Rattle.atomic_table.specs.Seated.{TableId}
+use Rattle.steal_crew.specs.declared.tickets.seats.TicketSeat.{TicketSeat}
+use Rattle.steal_crew.specs.QueueRule.{part_count}
+use Rattle.steal_crew.proofs.CountLemmas.{total-append, times-snoc}
+use Rattle.steal_crew.proofs.ResultLemmas.{times-append, done_snoc}
+use Rattle.steal_crew.proofs.QueueRuleLemmas.{all_more}
+
+module _ {J X : Type 0} where
+  module _ (queue : Injector (NumberedJob J) Global JobView NoneLost) (gives : ℕ → J → X → Type 0) where
+    pub ready_more : (old : LiveWorker J X) (hand : Hand J) (done : Vec (ℕ × X) Global) (n : ℕ) (job : J) (r : X)
+        → IsReady queue gives old → gives n job r → done.items ≡ old.done.items ++ (n, r) ∷ []
+        → IsReady queue gives (record { pass = old.pass; hand = hand; done = done })
+    ready_more old hand done n job r ready belongs is = let P : ℕ × X → Type 0 = λ e. BelongsToSome gives e.0 e.1 in
+        record {
+          pass = ready.pass;
+          some_part = ready.some_part;
+          done = subst (All P) (sym is) (All-append P old.done.items ((n, r) ∷ []) ready.done
+              (All-cons P (n, r) [] (job, belongs) (All-nil P)));
+        }
+
+    pub ready_at : (old new : LiveWorker J X) → IsReady queue gives old → IsInjectorPassOf queue new.pass
+        → (injector_view new.pass).parts ≡ (injector_view old.pass).parts → new.done ≡ old.done
+        → IsReady queue gives new
+    ready_at old new ready pass parts done = let p = ready.some_part in record {
+      pass = pass;
+      some_part = omega arith;
+      done = subst (λ (d : Vec (ℕ × X) Global). All (λ e. BelongsToSome gives e.0 e.1) d.items) (sym done) ready.done;
+    }
+
+  pub moved_one : (old : LiveWorker J X) (hand : Hand J) (done : Vec (ℕ × X) Global) (n : ℕ) (r : X)
+      → Gave old.hand hand → done.items ≡ old.done.items ++ (n, r) ∷ []
+      → Moved (n ∷ []) old (record { pass = old.pass; hand = hand; done = done })
+  moved_one old hand done n r gave is = record {
+    source = gave.same;
+    parts = refl;
+    even = λ x. (let a = ap (times x) gave.drew in let b = times-append x (drawn old.hand.seat) gave.more in
+        let c = ap (times x) gave.listed in let d = times-append x (job_numbers old.hand.jobs.items) gave.more in
+        let e = ap (λ (l : List (ℕ × X)). times x (done_numbers l)) is in
+        let f = ap (times x) (done_snoc old.done.items n r) in
+        let h = times-append x (done_numbers old.done.items) (n ∷ []) in
+        let g : times x (done_numbers done.items) ≡ times x (done_numbers old.done.items) + times x (n ∷ []) =
+        e ∙ f ∙ h in omega arith);
+  }
+
+  pub moved_none : (old : LiveWorker J X) → Moved [] old old
+  moved_none old = record { source = refl; parts = refl; even = λ x. omega arith }
+
+  pub moved_then : (held : List ℕ) (a b c : LiveWorker J X) → Moved held a b → Moved [] b c → Moved held a c
+  moved_then held a b c m n = record {
+    source = n.source ∙ m.source;
+    parts = n.parts ∙ m.parts;
+    even = λ x. (let p = m.even x in let q = n.even x in omega arith);
+  }
+
+  -- the first job of the list goes to the queue
+  pub moved_put : (i a b : LiveWorker J X) (n : ℕ) → Moved [] i a
+      → source_of b.hand.source.now ≡ source_of a.hand.source.now → drawn b.hand.seat ≡ drawn a.hand.seat
+      → job_numbers a.hand.jobs.items ≡ n ∷ job_numbers b.hand.jobs.items → b.done ≡ a.done
+      → injector_view b.pass ≡ job_view_with (injector_view a.pass).parts ((injector_view a.pass).dealt ++ n ∷ [])
+      (injector_view a.pass).taken → Moved [] i b
+  moved_put i a b n m source seat list done view = record {
+    source = source ∙ m.source;
+    parts = ap (λ (v : JobView). v.parts) view ∙ m.parts;
+    even = λ x. (let p = m.even x in let s = ap (times x) seat in
+        let l : times x (job_numbers a.hand.jobs.items) ≡ times x (n ∷ job_numbers b.hand.jobs.items) =
+        ap (times x) list in
+        let d = ap (λ (l : Vec (ℕ × X) Global). times x (done_numbers l.items)) done in
+        let t = ap (λ (v : JobView). times x v.taken) view in let u = ap (λ (v : JobView). times x v.dealt) view in
+        let w = times-snoc x (injector_view a.pass).dealt n in omega arith);
+  }
+
+  -- the queue can't take the first job of the list, and it is done
+  pub moved_refused : (i a b c : LiveWorker J X) (n k : ℕ) → Moved [] i a
+      → source_of b.hand.source.now ≡ source_of a.hand.source.now → drawn b.hand.seat ≡ drawn a.hand.seat
+      → job_numbers a.hand.jobs.items ≡ n ∷ job_numbers b.hand.jobs.items → b.done ≡ a.done
+      → injector_view b.pass ≡ injector_view a.pass → k ≡ n → Moved (k ∷ []) b c → Moved [] i c
+  moved_refused i a b c n k m source seat list done view is more = record {
+    source = more.source ∙ source ∙ m.source;
+    parts = more.parts ∙ ap (λ (v : JobView). v.parts) view ∙ m.parts;
+    even = λ x. (let p = m.even x in let q = more.even x in let s = ap (times x) seat in
+        let l : times x (job_numbers a.hand.jobs.items) ≡ times x (n ∷ job_numbers b.hand.jobs.items) =
+        ap (times x) list in
+        let d = ap (λ (l : Vec (ℕ × X) Global). times x (done_numbers l.items)) done in
+        let t = ap (λ (v : JobView). times x v.taken) view in let u = ap (λ (v : JobView). times x v.dealt) view in
+        let e : times x (k ∷ []) ≡ times x (n ∷ []) = ap (λ (j : ℕ). times x (j ∷ [])) is in omega arith);
+  }
+
+  -- a job from the queue is done
+  pub moved_took : (i a b c : LiveWorker J X) (n : ℕ) → Moved [] i a → b.hand ≡ a.hand → b.done ≡ a.done
+      → injector_view b.pass ≡ job_view_with (injector_view a.pass).parts (injector_view a.pass).dealt
+      ((injector_view a.pass).taken ++ n ∷ []) → Moved (n ∷ []) b c → Moved [] i c
+  moved_took i a b c n m hand done view more = record {
+    source = more.source ∙ ap (λ (v : Hand J). source_of v.source.now) hand ∙ m.source;
+    parts = more.parts ∙ ap (λ (v : JobView). v.parts) view ∙ m.parts;
+    even = λ x. (let p = m.even x in let q = more.even x in let s = ap (λ (v : Hand J). times x (drawn v.seat)) hand in
+        let l = ap (λ (v : Hand J). times x (job_numbers v.jobs.items)) hand in
+        let d = ap (λ (l : Vec (ℕ × X) Global). times x (done_numbers l.items)) done in
+        let t = ap (λ (v : JobView). times x v.taken) view in let u = ap (λ (v : JobView). times x v.dealt) view in
+        let w = times-snoc x (injector_view a.pass).taken n in omega arith);
+  }
+
+  -- the queue told nothing
+  pub moved_same : (i a b : LiveWorker J X) → Moved [] i a → b.hand ≡ a.hand → b.done ≡ a.done
+      → injector_view b.pass ≡ injector_view a.pass → Moved [] i b
+  moved_same i a b m hand done view = record {
+    source = ap (λ (v : Hand J). source_of v.source.now) hand ∙ m.source;
+    parts = ap (λ (v : JobView). v.parts) view ∙ m.parts;
+    even = λ x. (let p = m.even x in let s = ap (λ (v : Hand J). times x (drawn v.seat)) hand in
+        let l = ap (λ (v : Hand J). times x (job_numbers v.jobs.items)) hand in
+        let d = ap (λ (l : Vec (ℕ × X) Global). times x (done_numbers l.items)) done in
+        let t = ap (λ (v : JobView). times x v.taken) view in let u = ap (λ (v : JobView). times x v.dealt) view in
+        omega arith);
+  }
+
+-- one part more is cut off
+pub forked : (v w : JobView) (n m : ℕ) → v ≡ job_view_with (part_count - n) [] []
+    → w ≡ job_view_with (v.parts - 1) v.dealt v.taken → m ≡ n + 1 → w ≡ job_view_with (part_count - m) [] []
+forked v w n m is became more = became ∙ ap (λ (u : JobView). job_view_with (u.parts - 1) u.dealt u.taken) is
+    ∙ ap (λ (k : ℕ). job_view_with k [] []) (let e : (part_count - n) - 1 ≡ part_count - m = omega arith in e)
+
+-- one share more is taken in
+pub brings_more : {J X : Type 0} (queue : Injector (NumberedJob J) Global JobView NoneLost) (source : TableId × ℕ)
+    (gives : ℕ → J → X → Type 0) (old v v' : JobView) (n n' : ℕ) (seats seats' : List TicketSeat)
+    (others others' : List (Vec (ℕ × X) Global)) (t : LiveShare J X)
+    → Brings source (BelongsToSome gives) old v n seats others → IsLiveShare queue source gives t
+    → v' ≡ job_view_with (v.parts + (injector_view t.pass).parts) (v.dealt ++ (injector_view t.pass).dealt)
+    (v.taken ++ (injector_view t.pass).taken) → n' ≡ n + 1
+    → seats' ≡ seats ++ t.seat ∷ [] → others' ≡ others ++ t.done ∷ []
+    → Brings source (BelongsToSome gives) old v' n' seats' others'
+brings_more {J} {X} queue source gives old v v' n n' seats seats' others others' t g share became next more_seats
+    more_others = record {
+      parts = (let p = ap (λ (u : JobView). u.parts) became in let q = share.parts in let r = g.parts in omega arith);
+      ours = all_more (λ (s : TicketSeat). seat_source s ≡ source) seats seats' t.seat g.ours share.seat more_seats;
+      seats_len = (let p = ap length more_seats in let q = length-append seats (t.seat ∷ []) in let r = g.seats_len in
+          omega arith);
+      done = all_more (λ (s : Vec (ℕ × X) Global). All (λ e. BelongsToSome gives e.0 e.1) s.items) others others' t.done
+          g.done share.done more_others;
+      others_len = (let p = ap length more_others in let q = length-append others (t.done ∷ []) in
+          let r = g.others_len in
+          omega arith);
+      even = λ x. (let p = ap (total (λ (s : TicketSeat). times x (drawn s))) more_seats in
+          let q = total-append (λ (s : TicketSeat). times x (drawn s)) seats (t.seat ∷ []) in
+          let r = ap (total (λ (s : Vec (ℕ × X) Global). times x (done_numbers s.items))) more_others in
+          let u = total-append (λ (s : Vec (ℕ × X) Global). times x (done_numbers s.items)) others (t.done ∷ []) in
+          let a = ap (λ (u : JobView). times x u.taken) became in
+          let b = times-append x v.taken (injector_view t.pass).taken in
+          let c = ap (λ (u : JobView). times x u.dealt) became in
+          let d = times-append x v.dealt (injector_view t.pass).dealt in
+          let e = share.even x in let f = g.even x in omega arith);
+    }
+
+module _ {J X : Type 0} where
+  -- the caller after the first job
+  pub opened : (old new : Hand J) (pass : InjectorPass (NumberedJob J) JobView Global) (done : Vec (ℕ × X) Global)
+      (n : ℕ) → Gave old new → drawn old.seat ≡ 0 ∷ [] → job_numbers old.jobs.items ≡ []
+      → injector_view pass ≡ job_view_with n [] [] → done.items ≡ []
+      → (x : ℕ) → (let l : LiveWorker J X = record { pass = pass; hand = new; done = done } in
+      got x l ≡ put x l + times x (0 ∷ []))
+  opened old new pass done n gave drew empty view none x =
+      let a = ap (times x) gave.drew in let b = times-append x (drawn old.seat) gave.more in
+      let c : times x (drawn old.seat) ≡ times x (0 ∷ []) = ap (times x) drew in
+      let d = ap (times x) gave.listed in let e = times-append x (job_numbers old.jobs.items) gave.more in
+      let f : times x (job_numbers old.jobs.items) ≡ 0 = ap (times x) empty in
+      let t : times x (injector_view pass).taken ≡ 0 = ap (λ (v : JobView). times x v.taken) view in
+      let u : times x (injector_view pass).dealt ≡ 0 = ap (λ (v : JobView). times x v.dealt) view in
+      let w : times x (done_numbers done.items) ≡ 0 = ap (λ (l : List (ℕ × X)). times x (done_numbers l)) none in
+      omega arith
+
+  -- what was drawn is 0 and what was done, once the queue was found empty
+  pub ended : (source : TableId × ℕ) (belongs : ℕ → X → Type 0) (l0 l2 l3 l4 : LiveWorker J X) (n : ℕ)
+      (seats seats' : List TicketSeat) (others : List (Vec (ℕ × X) Global)) (x : ℕ)
+      → got x l0 ≡ put x l0 + times x (0 ∷ []) → Moved [] l0 l2
+      → Brings source belongs (injector_view l2.pass) (injector_view l3.pass) n seats others → l3.hand ≡ l2.hand
+      → l3.done ≡ l2.done → Moved [] l3 l4
+      → times x (injector_view l4.pass).dealt ≡ times x (injector_view l4.pass).taken
+      → job_numbers l4.hand.jobs.items ≡ [] → seats' ≡ seats ++ l4.hand.seat ∷ []
+      → total (λ (s : TicketSeat). times x (drawn s)) seats'
+      ≡ times x (0 ∷ []) + times x (done_numbers l4.done.items) + total
+      (λ (s : Vec (ℕ × X) Global). times x (done_numbers s.items)) others
+  ended source belongs l0 l2 l3 l4 n seats seats' others x opens worked g hand done last drained empty more =
+      let a = worked.even x in let b = g.even x in let c = last.even x in
+      let s = ap (λ (v : Hand J). times x (drawn v.seat)) hand in
+      let l = ap (λ (v : Hand J). times x (job_numbers v.jobs.items)) hand in
+      let d = ap (λ (l : Vec (ℕ × X) Global). times x (done_numbers l.items)) done in
+      let e : times x (job_numbers l4.hand.jobs.items) ≡ 0 = ap (times x) empty in
+      let p = ap (total (λ (s : TicketSeat). times x (drawn s))) more in
+      let q = total-append (λ (s : TicketSeat). times x (drawn s)) seats (l4.hand.seat ∷ []) in omega arith

@@ -1,0 +1,20 @@
+use Rattle.std.proofs.Common.{◌≡◌, ◌+◌, ◌∙◌, All, Vec, Global, ℕ, suc, ap, arith, length, vec_len, subst}
+use Rattle.std.proofs.lemmas.List.Elements.{All-head, All-rest}
+use Rattle.steal_crew.specs.Counts.{times}
+use Rattle.steal_crew.specs.Results.{AreDone}
+use Rattle.steal_crew.proofs.CountLemmas.{tallies_more}
+use Rattle.steal_crew.proofs.results.enter_all.Goals as goal
+
+pub enter_first-requires-clause-done : goal.enter_first-requires-clause-done
+enter_first-requires-clause-done g c = λ _ _. All-head (λ done. AreDone (g.W.Work.gives c.args.work.now) done.items) c.in-Some.done c.next.new.self.rest.items
+    (subst (All (λ done. AreDone (g.W.Work.gives c.args.work.now) done.items)) c.in-Some.ensures.steps.0 c.loop-done.invariant.rest)
+
+pub loop-done-preserved : goal.loop-done-preserved
+loop-done-preserved g c = let inv = c.loop-done.invariant in let steps = c.in-Some.ensures.steps.0 in
+    let one : length c.loop-done.done-iterator.rest.items ≡ suc (length c.next.new.self.rest.items) = ap length steps in record {
+      rest = All-rest (λ done. AreDone (g.W.Work.gives c.args.work.now) done.items) c.in-Some.done c.next.new.self.rest.items _ steps inv.rest;
+      slots = c.in_ok-tally.ensures.slots;
+      slots_len = c.in_ok-tally.ensures.len ∙ inv.slots_len;
+      tallies = λ x. tallies_more (λ (t : Vec ℕ Global). times x t.items) c.loop-done.tallies.items _ c.in_ok-tally.tally _ _ _ c.in_ok-push.ensures.items (inv.tallies x) (c.in_ok-tally.ensures.tally x);
+      len = (let k : vec_len c.loop-done.tallies + length c.loop-done.done-iterator.rest.items ≡ length c.args.brought.items = inv.len in let a : vec_len c.push.new.self ≡ vec_len c.loop-done.tallies + 1 = c.in_ok-push.ensures.len in omega arith);
+    }

@@ -1,0 +1,132 @@
+//! A run from its first job to the results.
+
+ghost use Rattle.std.specs.Prelude.{◌≡◌, ◌≤◌, ◌<◌, ◌+◌, ◌∷◌, [], ℕ, IfOk, All, vec_len};
+ghost use Rattle.steal_crew.specs.Counts.{total, times, once_below};
+ghost use Rattle.steal_crew.specs.Results.{done_numbers};
+ghost use Rattle.steal_crew.specs.Tickets.{source_of, seat_source, drawn, IsFresh};
+ghost use Rattle.steal_crew.specs.LiveWorkers.{BelongsToSome, BelongFrom};
+
+use super::crews::{stations, work_together};
+use super::gathering::{Brought, collect};
+use super::hands::{Hand, LiveWorker};
+use super::jobs::JobQueue;
+use super::limits::MOST_GIVEN;
+use super::publishing::publish;
+use super::working::{put_all, work_on};
+use super::works::LiveWork;
+use crate::crews::Crew;
+use crate::tickets::{TicketSeat, Tickets};
+use match_board::limits::{MOST_LEMMAS, MOST_WORKERS};
+use std::alloc::{AllocError, Global};
+use std::sync::Wait;
+use std::sync::atomic::AtomicU64;
+use std::thread::Threads;
+
+// What was done with the numbers of one source: the first result, the caller's others and those of each other worker,
+// and all seats.
+struct LiveRun<X: Drop> {
+    first: X,
+    own: Vec<(u32, X)>,
+    others: Vec<Vec<(u32, X)>>,
+    seats: Vec<TicketSeat>,
+}
+
+// Does the first job, and then those that are given away, by one worker for each seat.
+fn run_from<W: LiveWork + Sync, R: Threads + Wait + Sync>(
+    rt: &R,
+    alloc: Global,
+    work: &W,
+    source: &Tickets,
+    seat: TicketSeat,
+    seats: Vec<TicketSeat>,
+    first: W::Job,
+) -> Result<LiveRun<W::R>, AllocError>
+    requires seat { (seat_source seat ≡ source_of source.now) × (drawn seat ≡ 0 ∷ []) }
+    requires seats { All (IsFresh (source_of source.now)) seats.items × (vec_len seats < MOST_WORKERS) }
+    ensures first { IfOk result (λ r. W.gives work.now 0 first r.first) }
+    ensures own { IfOk result (λ r. All (λ e. BelongsToSome (W.gives work.now) e.0 e.1) r.own.items) }
+    ensures others { IfOk result (λ r.
+        All (λ d. All (λ e. BelongsToSome (W.gives work.now) e.0 e.1) d.items) r.others.items
+        × (vec_len r.others ≡ vec_len seats)) }
+    ensures seats { IfOk result (λ r. All (λ s. seat_source s ≡ source_of source.now) r.seats.items
+        × (vec_len r.seats ≡ vec_len seats + 1)) }
+    ensures even { IfOk result (λ r. (x : ℕ) → total (λ s. times x (drawn s)) r.seats.items
+        ≡ times x (0 ∷ []) + times x (done_numbers r.own.items)
+        + total (λ d. times x (done_numbers d.items)) r.others.items) }
+{
+    let (queue, mut pass) = JobQueue::new_as(alloc)?;
+    let open = AtomicU64::new(0);
+    let places = stations(alloc, &queue, source, &mut pass, seats)?;
+    let jobs = Vec::with_capacity(alloc, MOST_GIVEN)?;
+    let mut hand = Hand { source, seat, jobs };
+    let result = work.one(0, first, &mut hand)?;
+    let done = Vec::new(alloc);
+    let mut worker = LiveWorker { pass, hand, done };
+    put_all(rt, work, &queue, &open, &mut worker)?;
+    let (shares, mut worker) = work_together(
+        rt, alloc, work, &queue, source, &open, places, worker,
+    )?;
+    let Brought { mut seats, others } = collect(
+        work,
+        alloc,
+        &queue,
+        source,
+        &mut worker.pass,
+        shares,
+    )?;
+    work_on(rt, work, &queue, &open, &mut worker)?;
+    let LiveWorker {
+        pass: _pass,
+        hand,
+        done,
+    } = worker;
+    let Hand {
+        source: _source,
+        seat,
+        jobs: _jobs,
+    } = hand;
+    seats.push(seat)?;
+    Ok(LiveRun {
+        first: result,
+        own: done,
+        others,
+        seats,
+    })
+}
+
+/// Does the first job, which has number 0, and each job that is given away, which has the number that was drawn for it.
+/// There are 1 to 64 workers, and numbers below `limit`, at least 1 and at most 1,000,000. The caller's thread is
+/// worker 0; where a thread can't be started, its share is done by the others.
+///
+/// The caller does the first job before any thread starts. After a job is done its worker puts what it gave away on the
+/// one queue, first in first out, from which all workers take; what the queue can't take it does itself. A worker that
+/// finds the queue empty looks again while a job is being done or put there. After all threads are joined the caller
+/// does what is still queued. There is one result for each number that was drawn. Where one job wants memory, so does
+/// the call, after joining all; jobs and results are let go then.
+pub fn run_live<W: LiveWork + Sync, R: Threads + Wait + Sync>(
+    rt: &R,
+    alloc: Global,
+    work: &W,
+    first: W::Job,
+    limit: u32,
+    workers: u8,
+) -> Result<Crew<W::R>, AllocError>
+    requires workers { (1 ≤ workers) × (workers ≤ MOST_WORKERS) }
+    requires limit { (1 ≤ limit) × (limit ≤ MOST_LEMMAS) }
+    ensures limit { IfOk result (λ c. vec_len c.results ≤ limit) }
+    ensures results { IfOk result (λ c. BelongFrom (W.gives work.now) first c.results.items) }
+    ensures workers { IfOk result (λ c. vec_len c.tallies ≡ workers) }
+    ensures once { IfOk result (λ c. (x : ℕ)
+        → total (λ t. times x t.items) c.tallies.items ≡ once_below x (vec_len c.results)) }
+{
+    let (source, seat, seats) = Tickets::begun(alloc, limit, workers)?;
+    let LiveRun {
+        first,
+        own,
+        others,
+        seats,
+    } = run_from(rt, alloc, work, &source, seat, seats, first)?;
+    let drawn = source.finish(seats);
+    let crew = publish(work, alloc, first, own, others, drawn)?;
+    Ok(crew)
+}

@@ -1,0 +1,81 @@
+use super::{Hand, LiveWork, run_live};
+use std::alloc::AllocError;
+use std::sync::atomic::{AtomicBool, Ordering};
+use std::test::Fail;
+use std::thread;
+
+// A job below 3 gives away the next one. Each answers itself.
+struct Countup;
+
+impl LiveWork for Countup {
+    type Job = u32;
+
+    type R = u32;
+
+    ghost use Rattle.std.specs.Prelude.{◌≡◌};
+
+    ghost gives = { λ _ _ job r. r ≡ job };
+
+    fn one(&self, _number: u32, job: u32, hand: &mut Hand<'_, u32>) -> Result<u32, AllocError> {
+        if job < 3 {
+            let _ = hand.give(job + 1);
+        }
+        Ok(job)
+    }
+}
+
+// Job 0 gives away two jobs, and each of them looks for the other's flag.
+#[derive(Drop)]
+struct Meeting {
+    first: AtomicBool,
+    second: AtomicBool,
+}
+
+impl LiveWork for Meeting {
+    type Job = u8;
+
+    type R = bool;
+
+    ghost gives = { λ _ _ _ _. Unit {0} };
+
+    fn one(&self, _number: u32, job: u8, hand: &mut Hand<'_, u8>) -> Result<bool, AllocError> {
+        if job == 0 {
+            return Ok(hand.give(1).is_ok() && hand.give(2).is_ok());
+        }
+        let (mine, other) = if job == 1 {
+            (&self.first, &self.second)
+        } else {
+            (&self.second, &self.first)
+        };
+        mine.store(true, Ordering::SeqCst);
+        for _ in 0..10_000_000u32 {
+            if other.load(Ordering::SeqCst) {
+                return Ok(true);
+            }
+            thread::yield_now();
+        }
+        Ok(false)
+    }
+}
+
+#[test]
+fn each_given_job_is_done(rt: HostRuntime) -> Result<(), Fail> {
+    for workers in [1, 2, 7, 64] {
+        let crew = run_live(&rt, rt.alloc(), &Countup, 0, 9, workers)?;
+        assert_eq!(rt; crew.results(), [0, 1, 2, 3].as_slice());
+        let few = run_live(&rt, rt.alloc(), &Countup, 0, 2, workers)?;
+        assert_eq!(rt; few.results(), [0, 1].as_slice());
+    }
+    Ok(())
+}
+
+#[test]
+fn two_given_at_once(rt: HostRuntime) -> Result<(), Fail> {
+    let meeting = Meeting {
+        first: AtomicBool::new(false),
+        second: AtomicBool::new(false),
+    };
+    let crew = run_live(&rt, rt.alloc(), &meeting, 0, 3, 2)?;
+    assert_eq!(rt; crew.results(), [true, true, true].as_slice());
+    Ok(())
+}
