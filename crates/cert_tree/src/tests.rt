@@ -57,6 +57,17 @@ fn repeated(
     Ok(text)
 }
 
+// The fault of the text that these make.
+fn repeated_fault(
+    alloc: Global,
+    head: &[u8],
+    word: &[u8],
+    count: u32,
+    rest: &[u8],
+) -> Result<Option<CertTextFault>, AllocError> {
+    Ok(certificate_fault(alloc, &repeated(alloc, head, word, count, rest)?))
+}
+
 // What is written of what the text says.
 fn written(alloc: Global, text: &[u8]) -> Result<Vec<u8>, Fail>
     requires { length text.now < 100000 }
@@ -87,17 +98,26 @@ fn writes_what_was_read(rt: HostRuntime) -> Result<(), Fail> {
     Ok(())
 }
 
-// Trees of so many nodes that each takes the vector that it is read into, and a small one between them.
+// The rest of a lemma line with a tree of so many nodes that it takes the vector that it is read into.
+fn large_tree(alloc: Global) -> Result<Vec<u8>, AllocError> {
+    let branch = repeated(alloc, b" c 1 400", b" d 2", 400, b"")?;
+    repeated(alloc, b" prefix tree c 0 11", &branch, 11, b"\n")
+}
+
+// A certificate of two lemmas with this tree, and a small one between them.
+fn with_small_tree_between(alloc: Global, tree: &[u8]) -> Result<Vec<u8>, AllocError> {
+    let mut text = Vec::from_slice(alloc, b"certificate 1\nsymmetries 0\nlemmas 3\nlemma 0")?;
+    text.extend_from_slice(tree)?;
+    text.extend_from_slice(b"lemma 1 prefix 3:2.1 tree e 4\nlemma 2")?;
+    text.extend_from_slice(tree)?;
+    text.extend_from_slice(b"end\n")?;
+    Ok(text)
+}
+
 #[test]
 fn writes_large_trees_that_were_read(rt: HostRuntime) -> Result<(), Fail> {
     let alloc = rt.alloc();
-    let branch = repeated(alloc, b" c 1 400", b" d 2", 400, b"")?;
-    let tree = repeated(alloc, b" prefix tree c 0 11", &branch, 11, b"\n")?;
-    let mut text = Vec::from_slice(alloc, b"certificate 1\nsymmetries 0\nlemmas 3\nlemma 0")?;
-    text.extend_from_slice(&tree)?;
-    text.extend_from_slice(b"lemma 1 prefix 3:2.1 tree e 4\nlemma 2")?;
-    text.extend_from_slice(&tree)?;
-    text.extend_from_slice(b"end\n")?;
+    let text = with_small_tree_between(alloc, &large_tree(alloc)?)?;
     assert!(rt; text.len() < 100_000);
     assert_eq!(rt; written(alloc, &text)?.as_slice(), text.as_slice());
     Ok(())
@@ -138,6 +158,18 @@ fn skips_a_tree(rt: HostRuntime) -> Result<(), Fail> {
     Ok(())
 }
 
+// The turning triangle's certificate with its lemma lines in this order.
+fn in_order(alloc: Global, order: [usize; 3], lines: &[&[u8]]) -> Result<Vec<u8>, AllocError> {
+    let mut text = Vec::from_slice(alloc, TURNING_TRIANGLE_HEAD)?;
+    for number in order {
+        if let Some(line) = lines.get(number) {
+            text.extend_from_slice(line)?;
+        }
+    }
+    text.extend_from_slice(b"end\n")?;
+    Ok(text)
+}
+
 #[test]
 fn reads_lemma_lines_in_any_order(rt: HostRuntime) -> Result<(), Fail> {
     let lines = [
@@ -154,13 +186,7 @@ fn reads_lemma_lines_in_any_order(rt: HostRuntime) -> Result<(), Fail> {
         [2, 1, 0],
     ];
     for order in orders {
-        let mut text = Vec::from_slice(rt.alloc(), TURNING_TRIANGLE_HEAD)?;
-        for number in order {
-            if let Some(line) = lines.get(number) {
-                text.extend_from_slice(line)?;
-            }
-        }
-        text.extend_from_slice(b"end\n")?;
+        let text = in_order(rt.alloc(), order, &lines)?;
         assert!(rt; text.len() < 1000);
         assert_eq!(rt; written(rt.alloc(), &text)?.as_slice(), TURNING_TRIANGLE);
     }
@@ -247,28 +273,16 @@ fn tells_faults_of_symmetries(rt: HostRuntime) -> Result<(), Fail> {
         assert_eq!(rt; certificate_fault(rt.alloc(), text), in_text(line, kind));
     }
     let head = b"certificate 1\nsymmetries 1\nsymmetry 0 + cells";
-    let text = repeated(rt.alloc(), head, b" 0", 100, b" x")?;
-    assert_eq!(rt;
-        certificate_fault(rt.alloc(), &text),
-        in_text(3, TextKind::Ends)
-    );
-    let text = repeated(rt.alloc(), head, b" 0", 100, b" x\n")?;
-    assert_eq!(rt;
-        certificate_fault(rt.alloc(), &text),
-        in_text(3, TextKind::Limit)
-    );
+    let fault = repeated_fault(rt.alloc(), head, b" 0", 100, b" x")?;
+    assert_eq!(rt; fault, in_text(3, TextKind::Ends));
+    let fault = repeated_fault(rt.alloc(), head, b" 0", 100, b" x\n")?;
+    assert_eq!(rt; fault, in_text(3, TextKind::Limit));
     let head = b"certificate 1\nsymmetries 1\nsymmetry 0 + cells colours";
-    let text = repeated(rt.alloc(), head, b" 0", 36, b" X\n")?;
-    assert_eq!(rt;
-        certificate_fault(rt.alloc(), &text),
-        in_text(3, TextKind::Limit)
-    );
+    let fault = repeated_fault(rt.alloc(), head, b" 0", 36, b" X\n")?;
+    assert_eq!(rt; fault, in_text(3, TextKind::Limit));
     let head = b"certificate 1\nsymmetries 1\nsymmetry 0 + cells colours tiles";
-    let text = repeated(rt.alloc(), head, b" 0", 100, b" x\n")?;
-    assert_eq!(rt;
-        certificate_fault(rt.alloc(), &text),
-        in_text(3, TextKind::Limit)
-    );
+    let fault = repeated_fault(rt.alloc(), head, b" 0", 100, b" x\n")?;
+    assert_eq!(rt; fault, in_text(3, TextKind::Limit));
     Ok(())
 }
 
@@ -384,22 +398,14 @@ fn tells_faults_of_lemmas(rt: HostRuntime) -> Result<(), Fail> {
             TextKind::After,
         ),
     ];
+    let head = b"certificate 1\nsymmetries 0\nlemmas 1\n";
     for (line, number, kind) in lines {
-        let text = repeated(
-            rt.alloc(),
-            b"certificate 1\nsymmetries 0\nlemmas 1\n",
-            b"",
-            0,
-            line,
-        )?;
-        assert_eq!(rt; certificate_fault(rt.alloc(), &text), in_text(number, kind));
+        let fault = repeated_fault(rt.alloc(), head, b"", 0, line)?;
+        assert_eq!(rt; fault, in_text(number, kind));
     }
     let head = b"certificate 1\nsymmetries 0\nlemmas 1\nlemma 0 prefix";
-    let text = repeated(rt.alloc(), head, b" 0:0.0", 100, b" x tree d 0\nend\n")?;
-    assert_eq!(rt;
-        certificate_fault(rt.alloc(), &text),
-        in_text(4, TextKind::Limit)
-    );
+    let fault = repeated_fault(rt.alloc(), head, b" 0:0.0", 100, b" x tree d 0\nend\n")?;
+    assert_eq!(rt; fault, in_text(4, TextKind::Limit));
     Ok(())
 }
 
@@ -407,17 +413,11 @@ fn tells_faults_of_lemmas(rt: HostRuntime) -> Result<(), Fail> {
 fn tells_a_tree_that_is_too_deep(rt: HostRuntime) -> Result<(), Fail> {
     let head = b"certificate 1\nsymmetries 0\nlemmas 1\nlemma 0 prefix tree";
     for last in [b" f 0\nend\n".as_slice(), b" x\nend\n".as_slice()] {
-        let text = repeated(rt.alloc(), head, b" c 0 1", 101, last)?;
-        assert_eq!(rt;
-            certificate_fault(rt.alloc(), &text),
-            in_text(4, TextKind::TooDeep)
-        );
+        let fault = repeated_fault(rt.alloc(), head, b" c 0 1", 101, last)?;
+        assert_eq!(rt; fault, in_text(4, TextKind::TooDeep));
     }
-    let text = repeated(rt.alloc(), head, b" c 0 1", 101, b"\nend\n")?;
-    assert_eq!(rt;
-        certificate_fault(rt.alloc(), &text),
-        in_text(4, TextKind::Word)
-    );
+    let fault = repeated_fault(rt.alloc(), head, b" c 0 1", 101, b"\nend\n")?;
+    assert_eq!(rt; fault, in_text(4, TextKind::Word));
     let text = repeated(rt.alloc(), head, b" c 0 1", 100, b" f 0\nend\n")?;
     assert!(rt; text.len() < 1000);
     assert_eq!(rt; written(rt.alloc(), &text)?.as_slice(), text.as_slice());
@@ -441,11 +441,8 @@ fn tells_faults_of_assembly(rt: HostRuntime) -> Result<(), Fail> {
         ),
     ];
     for (lines, fault) in texts {
-        let text = repeated(rt.alloc(), b"certificate 1\nsymmetries 0\n", b"", 0, lines)?;
-        assert_eq!(rt;
-            certificate_fault(rt.alloc(), &text),
-            Some(CertTextFault::Assemble(fault))
-        );
+        let told = repeated_fault(rt.alloc(), b"certificate 1\nsymmetries 0\n", b"", 0, lines)?;
+        assert_eq!(rt; told, Some(CertTextFault::Assemble(fault)));
     }
     Ok(())
 }
@@ -565,13 +562,18 @@ fn assembles_lemmas(rt: HostRuntime) -> Result<(), Fail> {
     for (count, numbers, fault) in faults {
         assert_eq!(rt; assembled(rt.alloc(), count, numbers).err(), Some(fault));
     }
+    assert_eq!(rt; assembled(rt.alloc(), 0, &[])?.lemmas().len(), 0);
+    Ok(())
+}
+
+#[test]
+fn assembles_by_number(rt: HostRuntime) -> Result<(), Fail> {
     let certificate = assembled(rt.alloc(), 3, &[2, 0, 1])?;
     assert!(rt; certificate.symmetries().is_empty());
     for (number, place) in [(0, 1), (1, 2), (2, 0)] {
         let lemma = lemma_at(&certificate, number).ok_or("missing")?;
         assert!(rt; matches!(lemma.tree.trees().next(), Head::Found(found) if found == place));
     }
-    assert_eq!(rt; assembled(rt.alloc(), 0, &[])?.lemmas().len(), 0);
     Ok(())
 }
 

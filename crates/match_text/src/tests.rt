@@ -346,42 +346,72 @@ fn tells_faults_of_placements(rt: HostRuntime) -> Result<(), Fail> {
     Ok(())
 }
 
+// The fault of a puzzle's text of one cell whose border has so many rules, and then this.
+fn rules_fault(alloc: Global, rest: &[u8]) -> Result<Option<PuzzleTextFault>, AllocError> {
+    let head = b"match 1\nboard rect 1 1\nturns yes\nborder each".as_slice();
+    Ok(puzzle_fault(alloc, &repeated(alloc, head, b" 1", 400, rest)?))
+}
+
+// The fault of a list's text of this head, a word so many times, and the rest.
+fn repeated_fault(
+    alloc: Global,
+    head: &[u8],
+    word: &[u8],
+    count: u32,
+    rest: &[u8],
+) -> Result<Option<ListTextFault>, AllocError> {
+    Ok(list_fault(alloc, &repeated(alloc, head, word, count, rest)?))
+}
+
 #[test]
 fn tells_limits_before_what_is_beyond_them(rt: HostRuntime) -> Result<(), Fail> {
-    let head = b"match 1\nboard rect 1 1\nturns yes\nborder each".as_slice();
-    let most = repeated(rt.alloc(), head, b" 1", 400, b"\n")?;
+    let alloc = rt.alloc();
+    assert_eq!(rt; rules_fault(alloc, b"\n")?, in_puzzle(5, TextKind::Ends));
+    assert_eq!(rt; rules_fault(alloc, b" 1\n")?, in_puzzle(4, TextKind::Limit));
     assert_eq!(rt;
-        puzzle_fault(rt.alloc(), &most),
-        in_puzzle(5, TextKind::Ends)
-    );
-    let surplus = repeated(rt.alloc(), head, b" 1", 400, b" 1\n")?;
-    assert_eq!(rt;
-        puzzle_fault(rt.alloc(), &surplus),
+        rules_fault(alloc, b" !!\n")?,
         in_puzzle(4, TextKind::Limit)
     );
-    let wrong = repeated(rt.alloc(), head, b" 1", 400, b" !!\n")?;
-    assert_eq!(rt;
-        puzzle_fault(rt.alloc(), &wrong),
-        in_puzzle(4, TextKind::Limit)
-    );
-
-    let head = b"list 1\narrangements 1\n0.0".as_slice();
-    let most = repeated(rt.alloc(), head, b" 1.1", 99, b"\n")?;
-    assert_eq!(rt; list_fault(rt.alloc(), &most), in_list(4, TextKind::Ends));
-    let wrong = repeated(rt.alloc(), head, b" 1.1", 99, b" !!\n")?;
-    assert_eq!(rt; list_fault(rt.alloc(), &wrong), in_list(3, TextKind::Limit));
-
-    let head = b"list 1\narrangements ".as_slice();
-    let digits = repeated(rt.alloc(), head, b"1", 4000, b"\n")?;
-    assert_eq!(rt;
-        list_fault(rt.alloc(), &digits),
-        in_list(2, TextKind::Limit)
-    );
-    let zeros = repeated(rt.alloc(), head, b"0", 4000, b"\n")?;
-    assert_eq!(rt;
-        list_fault(rt.alloc(), &zeros),
-        in_list(2, TextKind::Number)
-    );
+    let row = b"list 1\narrangements 1\n0.0".as_slice();
+    let count = b"list 1\narrangements ".as_slice();
+    let rows = [
+        (
+            row,
+            b" 1.1".as_slice(),
+            99,
+            b"\n".as_slice(),
+            4,
+            TextKind::Ends,
+        ),
+        (
+            row,
+            b" 1.1".as_slice(),
+            99,
+            b" !!\n".as_slice(),
+            3,
+            TextKind::Limit,
+        ),
+        (
+            count,
+            b"1".as_slice(),
+            4000,
+            b"\n".as_slice(),
+            2,
+            TextKind::Limit,
+        ),
+        (
+            count,
+            b"0".as_slice(),
+            4000,
+            b"\n".as_slice(),
+            2,
+            TextKind::Number,
+        ),
+    ];
+    for (head, word, times, rest, line, kind) in rows {
+        let fault = repeated_fault(alloc, head, word, times, rest)?;
+        assert_eq!(rt; fault, in_list(line, kind));
+    }
     Ok(())
 }
 
@@ -392,6 +422,11 @@ fn reads_the_square_of_four(rt: HostRuntime) -> Result<(), Fail> {
     assert!(rt; !puzzle.turns());
     assert!(rt; matches!(puzzle.border(), Border::One(5)));
     assert_eq!(rt; puzzle.colours(), 6);
+    Ok(())
+}
+
+#[test]
+fn reads_the_list_of_the_square_of_four(rt: HostRuntime) -> Result<(), Fail> {
     let list = read_list(rt.alloc(), SQUARE_OF_FOUR_LIST)?;
     assert_eq!(rt; list.len(), 1);
     let last = Placement { tile: 3, turn: 0 };
@@ -399,20 +434,32 @@ fn reads_the_square_of_four(rt: HostRuntime) -> Result<(), Fail> {
     Ok(())
 }
 
+// What is written of what a puzzle's text says.
+fn puzzle_again(alloc: Global, text: &[u8]) -> Result<Vec<u8>, Fail>
+    requires { length text.now < 1000 }
+{
+    let puzzle = read_puzzle(alloc, text)?;
+    Ok(write_puzzle(alloc, &puzzle)?)
+}
+
+// The same of a list's text.
+fn list_again(alloc: Global, text: &[u8]) -> Result<Vec<u8>, Fail>
+    requires { length text.now < 1000 }
+{
+    let list = read_list(alloc, text)?;
+    Ok(write_list(alloc, &list)?)
+}
+
 #[test]
 fn writes_what_was_read(rt: HostRuntime) -> Result<(), Fail> {
     for text in [SQUARE_OF_FOUR, TURNING_TRIANGLE, ONE_CELL] {
         if text.len() < 1000 {
-            let puzzle = read_puzzle(rt.alloc(), text)?;
-            let written = write_puzzle(rt.alloc(), &puzzle)?;
-            assert_eq!(rt; written.as_slice(), text);
+            assert_eq!(rt; puzzle_again(rt.alloc(), text)?.as_slice(), text);
         }
     }
     for text in [SQUARE_OF_FOUR_LIST, TURNING_TRIANGLE_LIST] {
         if text.len() < 1000 {
-            let list = read_list(rt.alloc(), text)?;
-            let written = write_list(rt.alloc(), &list)?;
-            assert_eq!(rt; written.as_slice(), text);
+            assert_eq!(rt; list_again(rt.alloc(), text)?.as_slice(), text);
         }
     }
     list_laws();
