@@ -1,0 +1,57 @@
+-- What a solve of a puzzle comes to.
+use Rattle.std.specs.Prelude.{◌≡◌, ◌≤◌, ℕ, List, All, Contains, Vec, length}
+use Rattle.std.specs.declared.alloc.Global.{Global}
+use Rattle.match_board.specs.declared.limits.TheConstants.{MOST_LEMMAS}
+use Rattle.match_puzzle.specs.Puzzle.{Task}
+use Rattle.match_puzzle.specs.Arrangement.{IsArrangement}
+use Rattle.match_puzzle.specs.declared.placements.Placement.{Placement}
+use Rattle.match_text.specs.ListSpelling.{IsListWithin}
+use Rattle.cert_tree.specs.Certificate.{Contents}
+use Rattle.cert_tree.specs.CertificateSpelling.{IsCertificateWithin}
+use Rattle.cert_tree.specs.Writing.{said_by}
+use Rattle.steal_crew.specs.Counts.{total, times, once_below}
+use Rattle.piece_desk.specs.Desks.{IsOf}
+use Rattle.piece_desk.specs.declared.desks.Desk.{Desk}
+use Rattle.xcc_form.specs.declared.faults.CompileFault.{CompileFault}
+use Rattle.xcc_form.specs.declared.faults.CompileFault.TheVariants as compile
+use Rattle.match_crew.specs.declared.solving.faults.SolveFault.{SolveFault}
+use Rattle.match_crew.specs.declared.solving.faults.SolveFault.TheVariants as solve
+use Rattle.match_crew.specs.declared.solving.searches.Searched.{Searched}
+use Rattle.match_crew.specs.declared.solving.searches.Searched.TheVariants.{Posted, GaveUp, Full}
+
+-- the fault of a solve that a fault of a compilation is
+abbrev pub solve_of_compile : CompileFault → SolveFault
+solve_of_compile compile.TooMany = solve.TooMany
+solve_of_compile compile.Memory = solve.Memory
+
+-- All of these are arrangements of the puzzle.
+abbrev pub AreArrangementsOf : Task → List (List Placement) → Type 0
+AreArrangementsOf p found = (a : List Placement) → Contains found a → IsArrangement p a
+
+-- Its lemma is on the desk, and what it found are arrangements; or the branch was given up.
+abbrev pub IsOutcomeOf : Task → Desk → Searched → Type 0
+IsOutcomeOf p desk (Posted receipt found) = IsOf desk receipt × AreArrangementsOf p found.items
+IsOutcomeOf p desk GaveUp = Unit {0}
+IsOutcomeOf p desk Full = Unit {0}
+
+-- Each number below the count stands once in one of the lists, and no other does.
+abbrev pub IsTally : (count : ℕ) → List (Vec ℕ Global) → Type 0
+IsTally count tally = (x : ℕ) → total (λ t. times x t.items) tally ≡ once_below x count
+
+-- What so many workers came to: an outcome for each number, of which each stands in one tally.
+pub record IsSearchedBy (p : Task) (desk : Desk) (count : ℕ) (results : List Searched)
+    (tally : List (Vec ℕ Global)) : Type 0 where
+  pub outcomes : All (IsOutcomeOf p desk) results
+  pub few : length results ≤ MOST_LEMMAS
+  pub workers : length tally ≡ count
+  pub taken : IsTally (length results) tally
+
+-- Arrangements of the puzzle and a certificate, both within the limits of their texts, and which worker took which
+-- lemma.
+pub record IsSolvedBy (p : Task) (count : ℕ) (listed : List (List Placement)) (tally : List (Vec ℕ Global))
+    (c : Contents) : Type 0 where
+  pub arrangements : AreArrangementsOf p listed
+  pub list : IsListWithin listed
+  pub certificate : IsCertificateWithin (said_by c)
+  pub workers : length tally ≡ count
+  pub taken : IsTally (length c.lemmas) tally

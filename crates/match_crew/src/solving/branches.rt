@@ -1,0 +1,46 @@
+//! Open branches.
+
+ghost use Rattle.std.specs.Prelude.{◌≡◌, true, IfOk};
+ghost use Rattle.match_puzzle.specs.Fitting.{Fits};
+ghost use Rattle.xcc_dance.specs.Placing.{FitInTurn};
+
+use cert_tree::Pairs;
+use match_puzzle::{Pair, Partial, Puzzle};
+use std::alloc::{AllocError, Global};
+
+// A branch whose arrangements are still to be found: its pairs, in the order of their placing.
+#[derive(Drop)]
+pub struct OpenBranch {
+    pub pairs: Vec<Pair>,
+}
+
+// Whether each pair fits those before it.
+pub fn fit_in_turn(alloc: Global, puzzle: &Puzzle, pairs: &[Pair]) -> Result<bool, AllocError>
+    ensures { IfOk result (λ fit. fit ≡ true → FitInTurn puzzle.now pairs.now) }
+{
+    let mut partial = Partial::new(alloc, puzzle)?;
+    for pair in pairs {
+        if !fits(puzzle, &partial, *pair) {
+            return Ok(false);
+        }
+        partial.place(pair.cell, pair.placement);
+    }
+    Ok(true)
+}
+
+// Whether the pair is of a cell and a tile of the puzzle, and fits what is placed.
+fn fits(puzzle: &Puzzle, partial: &Partial<'_>, pair: Pair) -> bool
+    requires { partial.now.puzzle ≡ puzzle.now }
+    ensures { result ≡ true → Fits puzzle.now partial.now.placed pair.cell pair.placement }
+{
+    pair.cell < puzzle.board().cells()
+        && (usize::from(pair.placement.tile) < puzzle.tiles().len()
+            && puzzle.fits(partial, pair.cell, pair.placement))
+}
+
+// The same pairs by cell, as a lemma's prefix has them.
+pub fn prefix_of(alloc: Global, pairs: &[Pair]) -> Result<Pairs, AllocError> {
+    let mut rising = pairs.to_vec(alloc)?;
+    rising.sort_unstable_by_key(|pair| pair.cell);
+    Ok(Pairs::new(rising))
+}
