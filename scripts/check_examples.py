@@ -13,7 +13,7 @@ import tempfile
 
 HERE = os.path.dirname(os.path.abspath(__file__))
 EXAMPLES = os.path.join(HERE, "..", "examples")
-WORKERS, FORKS = (1, 3, 64), (0, 2, 6)
+WORKERS, FORKS, DEPTHS = (1, 3, 64), (0, 2, 6), (0, 1, 2, 3)
 
 
 def arrangements(text):
@@ -39,6 +39,21 @@ class Runs:
         if not is_so:
             self.wrong.append(name)
 
+    def expansion(self, name, files, all_there_are):
+        """Whether what is listed expands to all arrangements."""
+        status, expansion, errors = self.run(["expand", *files])
+        self.wants(name, (status, arrangements(expansion), errors) == (0, all_there_are, ""))
+
+    def solve(self, name, made, words, all_there_are):
+        """Whether what is made of a puzzle checks, and expands to all arrangements."""
+        name = f"{name}, solve {' '.join(words)}"
+        status, report, errors = self.run(["solve", *made, *words])
+        listed = len(arrangements(contents(made[1])))
+        self.wants(name, (status, report.startswith(f"found {listed}\nlemmas "), errors) == (0, True, ""))
+        solved = self.run(["check", *made, "--workers", "3", "--forks", "2"])
+        self.wants(f"{name}, its check", solved == (0, f"complete {listed}\n", ""))
+        self.expansion(f"{name}, its expansion", made, all_there_are)
+
     def example(self, name, into):
         files = [os.path.join(EXAMPLES, name, it) for it in ("puzzle", "list", "certificate")]
         texts = [contents(it) for it in files]
@@ -51,14 +66,16 @@ class Runs:
         made = [files[0], os.path.join(into, "list"), os.path.join(into, "certificate")]
         subprocess.run([sys.executable, os.path.join(HERE, "plain_search.py"), *made], check=True, capture_output=True)
         all_there_are = arrangements(contents(made[1]))
-        status, expansion, errors = self.run(["expand", *files])
-        self.wants(f"{name}, expand", (status, arrangements(expansion), errors) == (0, all_there_are, ""))
-        status, report, errors = self.run(["solve", *made])
-        begins = report.startswith(f"found {len(all_there_are)}\nlemmas 1\n")
-        self.wants(f"{name}, solve", (status, begins, errors) == (0, True, ""))
+        self.expansion(f"{name}, expand", files, all_there_are)
+        status, report, errors = self.run(["solve", *made, "--depth", "0"])
+        begins = report.startswith(f"found {len(all_there_are)}\nlemmas 1\nworker 0 took 0\n")
+        self.wants(f"{name}, solve in one lemma", (status, begins, errors) == (0, True, ""))
         self.wants(f"{name}, what solve listed", arrangements(contents(made[1])) == all_there_are)
-        solved = self.run(["check", *made, "--workers", "3", "--forks", "2"])
-        self.wants(f"{name}, check of solve", solved == (0, f"complete {len(all_there_are)}\n", ""))
+        self.solve(name, made, [], all_there_are)
+        for depth in DEPTHS:
+            for workers in WORKERS:
+                words = ["--depth", str(depth), "--workers", str(workers)]
+                self.solve(name, made, words, all_there_are)
         empty = os.path.join(into, "empty")
         with open(empty, "w", encoding="ascii") as file:
             file.write("list 1\narrangements 0\nend\n")

@@ -1,6 +1,6 @@
 -- The program's commands, as `clap` reads them.
 use Rattle.std.specs.Prelude.{◌≡◌, ℕ, List, true, false, [], ◌∷◌, Some, codes, fold}
-use Rattle.match_board.specs.declared.limits.TheConstants.{MOST_COLOURS, MOST_FORKS, MOST_FUEL, MOST_WORKERS}
+use Rattle.match_board.specs.declared.limits.TheConstants.{MOST_COLOURS, MOST_DEPTH, MOST_FORKS, MOST_FUEL, MOST_WORKERS}
 use Rattle.clap.specs.Words.{App, Rule, Text, new_app, new_rule, with_rule, with_subcommand}
 use Rattle.clap.specs.Simple.{on_top}
 use Rattle.clap.specs.declared.builder.command.Command.{Command}
@@ -39,7 +39,11 @@ check_app =
 
 abbrev pub solve_app : App
 solve_app =
-    with_rule (with_files (new_app (codes "solve"))) (optional_number (codes "fuel") 1 MOST_FUEL (codes "1000000"))
+    with_rule
+    (with_rule
+    (with_rule (with_files (new_app (codes "solve"))) (optional_number (codes "depth") 0 MOST_DEPTH (codes "1")))
+    (optional_number (codes "fuel") 1 MOST_FUEL (codes "1000000")))
+    (optional_number (codes "workers") 1 MOST_WORKERS (codes "1"))
 
 abbrev pub expand_app : App
 expand_app = with_files (new_app (codes "expand"))

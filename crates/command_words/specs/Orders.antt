@@ -2,7 +2,7 @@
 use Rattle.std.specs.Prelude.{◌≡◌, ◌≢◌, ◌≤◌, ◌⊎◌, ℕ, List, Option, Some, None, codes, option_map}
 use Rattle.std.specs.String.{string_bytes}
 use Rattle.std.specs.Str.Parse.{digits_value, without_leading_plus}
-use Rattle.match_board.specs.declared.limits.TheConstants.{MOST_COLOURS, MOST_FORKS, MOST_FUEL, MOST_WORKERS}
+use Rattle.match_board.specs.declared.limits.TheConstants.{MOST_COLOURS, MOST_DEPTH, MOST_FORKS, MOST_FUEL, MOST_WORKERS}
 use Rattle.clap.specs.Words.{IsAmong, IsUnsignedIn, Kinds, Row, Text, first_of, kind_of, subcommand_of}
 use Rattle.clap.specs.declared.error.Error.{Error}
 use Rattle.clap.specs.declared.error.kind.ErrorKind.TheVariants.{OutOfMemory}
@@ -42,8 +42,9 @@ IsOrderOf None Joined = Unit {0}
 IsOrderOf (Some (name, rows)) (Check files workers forks) =
     (name ≡ codes "check") × NameFiles rows files × (number_of (codes "workers") rows ≡ Some workers)
     × (number_of (codes "forks") rows ≡ Some forks)
-IsOrderOf (Some (name, rows)) (Solve files fuel) =
-    (name ≡ codes "solve") × NameFiles rows files × (number_of (codes "fuel") rows ≡ Some fuel)
+IsOrderOf (Some (name, rows)) (Solve files depth fuel workers) =
+    (name ≡ codes "solve") × NameFiles rows files × (number_of (codes "depth") rows ≡ Some depth)
+    × (number_of (codes "fuel") rows ≡ Some fuel) × (number_of (codes "workers") rows ≡ Some workers)
 IsOrderOf (Some (name, rows)) (Expand files) = (name ≡ codes "expand") × NameFiles rows files
 IsOrderOf (Some (name, rows)) (Tiles sides colours) =
     (name ≡ codes "tiles") × (number_of (codes "SIDES") rows ≡ Some sides)
@@ -58,7 +59,8 @@ IsOrder words order = IsOrderOf (subcommand_of whole_app words) order
 abbrev pub IsInRange : Order → Type 0
 IsInRange Joined = Unit {0}
 IsInRange (Check files workers forks) = ((1 ≤ workers) × (workers ≤ MOST_WORKERS)) × (forks ≤ MOST_FORKS)
-IsInRange (Solve files fuel) = (1 ≤ fuel) × (fuel ≤ MOST_FUEL)
+IsInRange (Solve files depth fuel workers) =
+    (depth ≤ MOST_DEPTH) × ((1 ≤ fuel) × (fuel ≤ MOST_FUEL)) × ((1 ≤ workers) × (workers ≤ MOST_WORKERS))
 IsInRange (Expand files) = Unit {0}
 IsInRange (Tiles sides colours) = ((sides ≡ 3) ⊎ (sides ≡ 4)) × (1 ≤ colours) × (colours ≤ MOST_COLOURS)
 

@@ -1,6 +1,7 @@
 //! The program's commands, with their help.
 
-ghost use Rattle.std.specs.Prelude.{◌≡◌, IfOk, false};
+ghost use Rattle.std.specs.Prelude.{◌≡◌, IfOk, codes, false};
+ghost use Rattle.match_board.specs.declared.limits.TheConstants.{MOST_WORKERS};
 ghost use Rattle.clap.specs.Words.{app_of, new_app, rule_of};
 ghost use Rattle.command_words.specs.Commands.{IsLocal, optional_number, wanted, wanted_number};
 ghost use Rattle.command_words.specs.Commands.{check_app, expand_app, solve_app, tiles_app};
@@ -8,7 +9,7 @@ ghost use Rattle.command_words.specs.Commands.{whole_app, with_files};
 
 use clap::builder::ValueParser;
 use clap::{Arg, Command};
-use match_board::limits::{MOST_COLOURS, MOST_FORKS, MOST_FUEL, MOST_WORKERS};
+use match_board::limits::{MOST_COLOURS, MOST_DEPTH, MOST_FORKS, MOST_FUEL, MOST_WORKERS};
 use std::alloc::{AllocError, Global};
 
 const NAME: &str = "edgematch";
@@ -42,10 +43,18 @@ the certificate that there is no other, both as check reads them. Prints how man
 were found, how many lemmas the certificate has, which of these each worker took, and the first \
 arrangement.
 
-The fuel is the most branch nodes that the search makes: cells or tiles at which it tries what \
-fits. Where the fuel runs out before the search is done, it says gave up, and nothing is written, \
-so that both files are empty. Then give more fuel, up to 1000000, or take a smaller puzzle. Where \
-it says too many options or too many arrangements, only a smaller puzzle helps.
+With a depth of 1 or more it looks for symmetries of the puzzle first, makes lemmas of at most 64 \
+branches of so many levels, and cites these, and their images, instead of searching again: most \
+puzzles with symmetries take a fraction of the time then, and their list has one of the \
+arrangements that are images of each other. With a depth of 0 every arrangement is listed. The \
+workers share the branches. What is found is the same in any case, in another order.
+
+The fuel is the most branch nodes that are made for one lemma: cells or tiles at which it is tried \
+what fits. Where more than one worker searches, or the depth isn't 0, a lemma that is short of fuel \
+makes further lemmas of its branches. Where the fuel runs out all the same, it says gave up, and \
+nothing is written, so that both files are empty. Then give more fuel, up to 1000000, or a depth, \
+or take a smaller puzzle. Where it says too many options or too many arrangements, only a smaller \
+puzzle helps.
 
 Exit status:
   0  the list and the certificate are written
@@ -97,6 +106,14 @@ fn optional_number<'a>(
         .help(help)
 }
 
+// How many workers there are.
+fn workers<'a>(alloc: Global, help: &'a str) -> Arg<'a>
+    ensures rule { rule_of result ≡ optional_number (codes "workers") 1 MOST_WORKERS (codes "1") }
+    ensures local { result.global ≡ false }
+{
+    optional_number(alloc, "workers", 1, u64::from(MOST_WORKERS), "1", help)
+}
+
 // The command of this name, with three files by their names.
 fn of_files<'a>(
     alloc: Global,
@@ -119,14 +136,7 @@ fn check<'a>(alloc: Global) -> Result<Command<'a>, AllocError>
     ensures app { IfOk result (λ c. app_of c ≡ check_app) }
     ensures local { IfOk result IsLocal }
 {
-    let workers = optional_number(
-        alloc,
-        "workers",
-        1,
-        u64::from(MOST_WORKERS),
-        "1",
-        "How many workers check the lemmas at once, 1 to 64",
-    );
+    let workers = workers(alloc, "How many workers check the lemmas at once, 1 to 64");
     let forks = optional_number(
         alloc,
         "forks",
@@ -150,21 +160,32 @@ fn solve<'a>(alloc: Global) -> Result<Command<'a>, AllocError>
     ensures app { IfOk result (λ c. app_of c ≡ solve_app) }
     ensures local { IfOk result IsLocal }
 {
+    let depth = optional_number(
+        alloc,
+        "depth",
+        0,
+        u64::from(MOST_DEPTH),
+        "1",
+        "Of how many levels of branches lemmas are made at first, 0 to 3",
+    );
     let fuel = optional_number(
         alloc,
         "fuel",
         1,
         u64::from(MOST_FUEL),
         "1000000",
-        "The most branch nodes that the search makes, 1 to 1000000",
+        "The most branch nodes that are made for a lemma, 1 to 1000000",
     );
+    let workers = workers(alloc, "How many workers search at once, 1 to 64");
     let command = of_files(
         alloc,
         "solve",
         "Searches for every arrangement of a puzzle, and writes their list and a certificate",
         SOLVED,
     )?
-    .arg(fuel)?;
+    .arg(depth)?
+    .arg(fuel)?
+    .arg(workers)?;
     Ok(command)
 }
 

@@ -20,11 +20,14 @@ pub enum Order {
         workers: u8,
         forks: u8,
     },
-    /// To search for all arrangements of the puzzle in its file, by at most `fuel` branch nodes, 1 to
-    /// 1,000,000, and to make the files of their list and of a certificate.
+    /// To search for all arrangements of the puzzle in its file, and to make the files of their list and of a
+    /// certificate: lemmas are made of branches of so many levels, 0 to 3, at first; each has at most `fuel` branch
+    /// nodes, 1 to 1,000,000; so many workers search, 1 to 64.
     Solve {
         files: Files,
+        depth: u8,
         fuel: u32,
+        workers: u8,
     },
     /// To check the documents in these files, and to print all arrangements.
     Expand(Files),

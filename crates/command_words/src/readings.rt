@@ -11,7 +11,7 @@ use crate::commands::program;
 use crate::faults::WordsFault;
 use crate::orders::{Files, Order};
 use clap::ArgMatches;
-use match_board::limits::{MOST_COLOURS, MOST_FORKS, MOST_FUEL, MOST_WORKERS};
+use match_board::limits::{MOST_COLOURS, MOST_DEPTH, MOST_FORKS, MOST_FUEL, MOST_WORKERS};
 use std::alloc::{AllocError, Global};
 
 // The text under this id.
@@ -78,14 +78,19 @@ fn check(alloc: Global, matches: &ArgMatches<'_>) -> Result<Order, AllocError>
 
 fn solve(alloc: Global, matches: &ArgMatches<'_>) -> Result<Order, AllocError>
     requires files { HasFiles (rows_of (found_of matches.now)) }
+    requires depth { HasNumber (codes "depth") 0 MOST_DEPTH (rows_of (found_of matches.now)) }
     requires fuel { HasNumber (codes "fuel") 1 MOST_FUEL (rows_of (found_of matches.now)) }
+    requires workers { HasNumber (codes "workers") 1 MOST_WORKERS (rows_of (found_of matches.now)) }
     ensures order { IfOk result (IsOrderOf (Some (codes "solve", rows_of (found_of matches.now)))) }
     ensures range { IfOk result IsInRange }
 {
     let files = files(alloc, matches)?;
+    let workers = small_number(matches, "workers");
     Ok(Order::Solve {
         files,
+        depth: small_number(matches, "depth"),
         fuel: number(matches, "fuel"),
+        workers,
     })
 }
 

@@ -21,10 +21,8 @@ use Rattle.cert_tree.specs.declared.faults.CertTextFault.{CertTextFault}
 use Rattle.cert_tree.specs.declared.faults.CertTextFault.TheVariants as cert_text
 use Rattle.match_report.specs.declared.expansions.ExpandFault.{ExpandFault}
 use Rattle.match_report.specs.declared.expansions.ExpandFault.TheVariants as expansions
-use Rattle.xcc_form.specs.declared.faults.CompileFault.{CompileFault}
-use Rattle.xcc_form.specs.declared.faults.CompileFault.TheVariants as compilations
-use Rattle.edgematch.specs.declared.faults.SolveFault.{SolveFault}
-use Rattle.edgematch.specs.declared.faults.SolveFault.TheVariants as solves
+use Rattle.match_crew.specs.declared.solving.faults.SolveFault.{SolveFault}
+use Rattle.match_crew.specs.declared.solving.faults.SolveFault.TheVariants as solves
 use Rattle.edgematch.specs.declared.faults.RunFault.{RunFault}
 use Rattle.edgematch.specs.declared.faults.RunFault.TheVariants.{Read, TooLong, Puzzle, List as Listing, Certificate}
 use Rattle.edgematch.specs.declared.faults.RunFault.TheVariants.{Solve, Expand, Tiles, Write, Memory}
@@ -47,10 +45,6 @@ abbrev pub run_of_certificate : CertTextFault → RunFault
 run_of_certificate (cert_text.Text fault) = Certificate (cert_text.Text fault)
 run_of_certificate (cert_text.Assemble fault) = Certificate (cert_text.Assemble fault)
 run_of_certificate cert_text.Memory = Memory
-
-abbrev pub solve_of_compile : CompileFault → SolveFault
-solve_of_compile compilations.TooMany = solves.TooMany
-solve_of_compile compilations.Memory = solves.Memory
 
 abbrev pub run_of_solve : SolveFault → RunFault
 run_of_solve solves.GaveUp = Solve solves.GaveUp

@@ -38,10 +38,10 @@ Expands output code texts =
 abbrev pub OrderGives : (holds : List ℕ → Option (List ℕ)) (input : Reading) (output : Writing) → Order → ℕ → Type 0
 OrderGives holds input output Joined code = InputReadToEnd input (Checks output code)
 OrderGives holds input output (Check files workers forks) code = FilesHold holds files (Checks output code)
-OrderGives holds input output (Solve files fuel) code =
+OrderGives holds input output (Solve files depth fuel workers) code =
     (code ≡ 0)
     × (text : List ℕ) × HoldsText (holds (string_bytes files.puzzle)) text
-    × WritesWhole output (λ report. (made : Products) × SolveGives text made × (report ≡ made.report))
+    × WritesWhole output (λ report. (made : Products) × SolveGives workers text made × (report ≡ made.report))
 OrderGives holds input output (Expand files) code = FilesHold holds files (Expands output code)
 OrderGives holds input output (Tiles sides colours) code = (code ≡ 0) × WritesWhole output (TilesGive sides colours)
 
@@ -55,6 +55,6 @@ OrderShows holds input order = Unit {0}
 abbrev pub IsOfOrder : Order → RunFault → Type 0
 IsOfOrder Joined fault = IsOfChecking fault
 IsOfOrder (Check files workers forks) fault = IsOfChecking fault
-IsOfOrder (Solve files fuel) fault = IsOfSolving fault
+IsOfOrder (Solve files depth fuel workers) fault = IsOfSolving fault
 IsOfOrder (Expand files) fault = IsOfExpanding fault
 IsOfOrder (Tiles sides colours) fault = IsOfTiles fault

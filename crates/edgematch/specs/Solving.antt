@@ -1,38 +1,27 @@
 -- What a solve of a puzzle makes.
-use Rattle.std.specs.Prelude.{◌≡◌, ◌⊎◌, ◌++◌, ℕ, List, [], ◌∷◌, Ok, Err, Contains, codes, length}
+use Rattle.std.specs.Prelude.{◌≡◌, ◌⊎◌, ◌++◌, ℕ, List, [], ◌∷◌, Ok, Err, Vec, codes, length, map}
+use Rattle.std.specs.declared.alloc.Global.{Global}
 use Rattle.std.specs.Io.KnownBytes.{Appends}
 use Rattle.match_puzzle.specs.Puzzle.{Task}
-use Rattle.match_puzzle.specs.Arrangement.{IsArrangement}
 use Rattle.match_puzzle.specs.declared.placements.Placement.{Placement}
 use Rattle.match_text.specs.Puzzles.{PuzzleReads}
-use Rattle.match_text.specs.ListSpelling.{list_spelling, IsListWithin}
+use Rattle.match_text.specs.ListSpelling.{list_spelling}
 use Rattle.match_text.specs.Spelling.{count_words, text_of}
-use Rattle.cert_tree.specs.Tree.{Tree}
 use Rattle.cert_tree.specs.Certificate.{Contents}
-use Rattle.cert_tree.specs.CertificateSpelling.{certificate_spelling, IsCertificateWithin}
+use Rattle.cert_tree.specs.CertificateSpelling.{certificate_spelling}
 use Rattle.cert_tree.specs.Writing.{said_by}
 use Rattle.match_report.specs.BoardText.{board_text}
 use Rattle.match_report.specs.TallyText.{tally_text}
 use Rattle.match_text.specs.declared.faults.PuzzleTextFault.TheVariants as puzzles
 use Rattle.xcc_form.specs.Options.{HasTooManyEntries}
+use Rattle.match_crew.specs.Solving.{IsSolvedBy}
+use Rattle.match_crew.specs.declared.solving.faults.SolveFault.TheVariants as solves
 use Rattle.edgematch.specs.Moves.{FailsToRead, FrontOf, Reading, ReadsAtMost, ReadsPast, ReadsWhole, Writing}
 use Rattle.edgematch.specs.declared.faults.Document.TheVariants as documents
 use Rattle.edgematch.specs.declared.faults.RunFault.{RunFault}
 use Rattle.edgematch.specs.declared.faults.RunFault.TheVariants as runs
-use Rattle.edgematch.specs.declared.faults.SolveFault.TheVariants as solves
 use Rattle.match_board.specs.declared.limits.TheConstants.{MOST_BYTES}
 use Rattle.edgematch.specs.declared.solve_runs.Made.{Made}
-
--- The certificate has one lemma, whose prefix is empty, and no symmetry.
-abbrev pub IsOfOneLemma : Contents → Type 0
-IsOfOneLemma c = (tree : Tree) × (c.symmetries ≡ []) × (c.lemmas ≡ record { number = 0; prefix = []; tree = tree } ∷ [])
-
--- Arrangements of the puzzle, and a certificate of one lemma, both within the limits of their texts.
-pub record IsSolved (p : Task) (listed : List (List Placement)) (c : Contents) : Type 0 where
-  pub arrangements : (a : List Placement) → Contains listed a → IsArrangement p a
-  pub list : IsListWithin listed
-  pub one_lemma : IsOfOneLemma c
-  pub certificate : IsCertificateWithin (said_by c)
 
 -- the first arrangement as it lies on the board, if there is one
 abbrev pub first_board : Task → List (List Placement) → List ℕ
@@ -49,9 +38,9 @@ report_text p listed lemmas tally =
     number_line (codes "found") (length listed) ++ number_line (codes "lemmas") lemmas ++ tally_text tally
     ++ first_board p listed
 
--- one worker took the one lemma
-abbrev pub one_share : List (List ℕ)
-one_share = (0 ∷ []) ∷ []
+-- the numbers that each worker took
+abbrev pub shares_of : List (Vec ℕ Global) → List (List ℕ)
+shares_of tally = map (λ (taken : Vec ℕ Global). taken.items) tally
 
 -- a list, a certificate and a report
 pub record Products : Type 0 where
@@ -59,17 +48,18 @@ pub record Products : Type 0 where
   pub certificate : List ℕ
   pub report : List ℕ
 
--- The text spells a puzzle, and this is made of it: the spellings of arrangements of it and of a certificate, and the
--- report on them.
-pub record SolveGives (text : List ℕ) (made : Products) : Type 0 where
+-- The text spells a puzzle, and this is made of it by so many workers: the spellings of arrangements of it and of a
+-- certificate, and the report on them.
+pub record SolveGives (workers : ℕ) (text : List ℕ) (made : Products) : Type 0 where
   pub puzzle : Task
   pub puzzle_read : PuzzleReads text (Ok puzzle)
   pub listed : List (List Placement)
+  pub tally : List (Vec ℕ Global)
   pub contents : Contents
-  pub solved : IsSolved puzzle listed contents
+  pub solved : IsSolvedBy puzzle workers listed tally contents
   pub list_text : made.list ≡ list_spelling listed
   pub certificate_text : made.certificate ≡ certificate_spelling (said_by contents)
-  pub report : made.report ≡ report_text puzzle listed (length contents.lemmas) one_share
+  pub report : made.report ≡ report_text puzzle listed (length contents.lemmas) (shares_of tally)
 
 -- ---- writing
 

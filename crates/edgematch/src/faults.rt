@@ -8,17 +8,15 @@ ghost use Rattle.edgematch.specs.FaultText.{text_fault_words, puzzle_fault_words
 ghost use Rattle.edgematch.specs.FaultText.{list_text_fault_words, assemble_fault_words, cert_text_fault_words};
 ghost use Rattle.edgematch.specs.declared.faults.RunFault.TheVariants as run_fault;
 ghost use Rattle.edgematch.specs.FaultText.{run_of_puzzle, run_of_list, run_of_certificate};
-ghost use Rattle.edgematch.specs.FaultText.{run_of_expand, run_of_solve, run_of_tiles, solve_of_compile};
-ghost use Rattle.edgematch.specs.FaultText.{solve_fault_words};
-ghost use Rattle.edgematch.specs.declared.faults.SolveFault.TheVariants as solve_fault;
+ghost use Rattle.edgematch.specs.FaultText.{run_of_expand, run_of_solve, run_of_tiles, solve_fault_words};
 
 use cert_tree::{AssembleFault, CertTextFault};
 use match_board::{BoardFault, TilesFault};
+use match_crew::SolveFault;
 use match_puzzle::PuzzleFault;
 use match_report::{ExpandFault, Line};
 use match_text::{ListTextFault, PuzzleTextFault, TextFault, TextKind};
 use std::alloc::{AllocError, Global};
-use xcc_form::CompileFault;
 
 /// What a run reads.
 #[derive(Clone, Copy, PartialEq, Eq, Debug)]
@@ -28,37 +26,6 @@ pub enum Document {
     Certificate,
     /// The three joined.
     Input,
-}
-
-/// Why a puzzle was not solved.
-#[derive(Clone, Copy, PartialEq, Eq, Debug)]
-pub enum SolveFault {
-    /// The fuel was spent before the search was done.
-    GaveUp,
-    /// The puzzle has more options than are searched.
-    TooMany,
-    /// More arrangements were found than are listed.
-    Full,
-    Memory,
-}
-
-impl From<CompileFault> for SolveFault {
-    ghost from_gives = { λ fault e. e ≡ solve_of_compile fault };
-
-    fn from(fault: CompileFault) -> SolveFault {
-        match fault {
-            CompileFault::TooMany => SolveFault::TooMany,
-            CompileFault::Memory => SolveFault::Memory,
-        }
-    }
-}
-
-impl From<AllocError> for SolveFault {
-    ghost from_gives = { λ _ e. e ≡ solve_fault.Memory };
-
-    fn from(_error: AllocError) -> SolveFault {
-        SolveFault::Memory
-    }
 }
 
 /// Why a run stopped.

@@ -9,7 +9,6 @@ mod questions;
 mod repetitions;
 mod runs;
 mod solve_runs;
-mod solving;
 mod streams;
 mod tile_runs;
 

@@ -18,8 +18,9 @@ use crate::streams::sinks::Sink;
 use crate::streams::sources::Source;
 use crate::tile_runs::run_tiles;
 use command_words::{Files, Order};
-use match_board::limits::{MOST_FORKS, MOST_FUEL, MOST_WORKERS};
+use match_board::limits::{MOST_DEPTH, MOST_FORKS, MOST_FUEL, MOST_WORKERS};
 use std::alloc::Global;
+use std::sync::Wait;
 use std::thread::Threads;
 
 // A check that shows that the list is complete.
@@ -40,7 +41,7 @@ const UNSOLVED: u8 = 3;
 /// The files of an order are all opened before one is read: the puzzle's, the list's, the certificate's. `Read` of
 /// the first that can't be opened. A solve opens the puzzle's and makes the other two; where two of the three names
 /// are the same, or one can't be made, `Write`.
-pub fn run_order<S: FileSystem, I: Source, W: Sink, R: Threads + Sync>(
+pub fn run_order<S: FileSystem, I: Source, W: Sink, R: Threads + Wait + Sync>(
     rt: &R,
     alloc: Global,
     order: &Order,
@@ -67,8 +68,13 @@ pub fn run_order<S: FileSystem, I: Source, W: Sink, R: Threads + Sync>(
             workers,
             forks,
         } => check(rt, alloc, files, *workers, *forks, system, output),
-        Order::Solve { files, fuel } => {
-            solve(alloc, files, *fuel, system, output)?;
+        Order::Solve {
+            files,
+            depth,
+            fuel,
+            workers,
+        } => {
+            solve(rt, alloc, files, *depth, *fuel, *workers, system, output)?;
             Ok(COMPLETE)
         }
         Order::Expand(files) => expand(alloc, files, system, output),
@@ -137,17 +143,22 @@ fn check<S: FileSystem, W: Sink, R: Threads + Sync>(
 
 // Opens the puzzle's file and makes the others before anything is read. A file that has the name of another is not
 // made.
-fn solve<S: FileSystem, W: Sink>(
+fn solve<S: FileSystem, W: Sink, R: Threads + Wait + Sync>(
+    rt: &R,
     alloc: Global,
     files: &Files,
+    depth: u8,
     fuel: u32,
+    workers: u8,
     system: &S,
     output: &mut W,
 ) -> Result<(), RunFault>
-    requires { (1 ≤ fuel) × (fuel ≤ MOST_FUEL) }
+    requires depth { depth ≤ MOST_DEPTH }
+    requires fuel { (1 ≤ fuel) × (fuel ≤ MOST_FUEL) }
+    requires workers { (1 ≤ workers) × (workers ≤ MOST_WORKERS) }
     ensures given { OnOk result ((text : List ℕ) × HoldsText (S.holds system.now (string_bytes files.now.puzzle)) text
         × WritesWhole (writing_of W.Sink output.old output.new)
-        (λ report. (made : Products) × SolveGives text made × (report ≡ made.report))) }
+        (λ report. (made : Products) × SolveGives workers text made × (report ≡ made.report))) }
     ensures fault { IfErr result IsOfSolving }
     ensures untouched { IfErr result (λ fault. fault ≢ RunFault.Write → output.new ≡ output.old) }
 {
@@ -158,11 +169,12 @@ fn solve<S: FileSystem, W: Sink>(
     let mut list = make(system, &files.list)?;
     let mut certificate = make(system, &files.certificate)?;
     run_solve(
+        rt,
         alloc,
         &mut puzzle,
-        0,
+        depth,
         fuel,
-        1,
+        workers,
         &mut list,
         &mut certificate,
         output,

@@ -3,13 +3,16 @@ ghost use Rattle.command_words.specs.Orders.{IsInRange};
 ghost use Rattle.edgematch.specs.Runs.{SpellCompleteList};
 
 use super::{fault_status, run_order};
-use crate::faults::{Document, RunFault, SolveFault};
+use crate::faults::{Document, RunFault};
 use crate::files::fakes::{FakeFiles, HeldFiles};
 use crate::runs::tests::citations::{LISTED_TWINS, TWIN_TILES, WALK_OF_TWINS};
 use crate::streams::fakes::Fake;
 use command_words::{Files, Order};
-use match_board::limits::{MOST_FORKS, MOST_WORKERS};
+use match_board::limits::{MOST_DEPTH, MOST_FORKS, MOST_WORKERS};
+use match_crew::SolveFault;
+use memchr::memmem;
 use std::alloc::{AllocError, Global};
+use std::sync::Wait;
 use std::test::Fail;
 use std::thread::Threads;
 
@@ -44,8 +47,22 @@ fn check_by(alloc: Global, texts: [&str; 3], workers: u8, forks: u8) -> Result<O
     })
 }
 
+// The order to solve the puzzle in the first of these files, at this depth and by so many workers.
+fn solve_by(alloc: Global, texts: [&str; 3], depth: u8, workers: u8) -> Result<Order, AllocError>
+    requires depth { depth ≤ MOST_DEPTH }
+    requires workers { (1 ≤ workers) × (workers ≤ MOST_WORKERS) }
+    ensures { IfOk result IsInRange }
+{
+    Ok(Order::Solve {
+        files: names(alloc, texts)?,
+        depth,
+        fuel: 10,
+        workers,
+    })
+}
+
 // What an order writes, and what it comes to.
-fn run<R: Threads + Sync>(
+fn run<R: Threads + Wait + Sync>(
     rt: &R,
     alloc: Global,
     order: &Order,
@@ -124,10 +141,25 @@ fn names_the_first_file_that_is_missing(rt: HostRuntime) -> Result<(), Fail> {
 }
 
 #[test]
+fn solves_with_the_depth_and_the_workers(rt: HostRuntime) -> Result<(), Fail> {
+    let alloc = rt.alloc();
+    let (written, status) = run(&rt, alloc, &solve_by(alloc, ["p", "x", "y"], 0, 1)?)?;
+    assert_eq!(rt;
+        written.as_slice(),
+        b"found 2\nlemmas 1\nworker 0 took 0\n0 0.0 0101\n1 1.0 0101\n".as_slice()
+    );
+    assert_eq!(rt; status, Ok(0));
+    let (written, status) = run(&rt, alloc, &solve_by(alloc, ["p", "x", "y"], 1, 2)?)?;
+    assert!(rt; memmem::find(&written, b"\nworker 1 took").is_some());
+    assert_eq!(rt; status, Ok(0));
+    Ok(())
+}
+
+#[test]
 fn makes_no_file_of_the_name_of_another(rt: HostRuntime) -> Result<(), Fail> {
     let alloc = rt.alloc();
-    let files = names(alloc, ["p", "p", "c"])?;
-    let (written, status) = run(&rt, alloc, &Order::Solve { files, fuel: 10 })?;
+    let order = solve_by(alloc, ["p", "p", "c"], 0, 1)?;
+    let (written, status) = run(&rt, alloc, &order)?;
     assert_eq!(rt; (written.len(), status), (0, Err(RunFault::Write)));
     assert_eq!(rt; fault_status(&RunFault::Write), 2);
     assert_eq!(rt; fault_status(&RunFault::Solve(SolveFault::GaveUp)), 3);
@@ -136,7 +168,7 @@ fn makes_no_file_of_the_name_of_another(rt: HostRuntime) -> Result<(), Fail> {
 
 // The status of a check of three files that hold these texts. What `run_order` shows is said of the texts here: where
 // it is 0, they spell a list that is complete.
-fn status_of<R: Threads + Sync>(
+fn status_of<R: Threads + Wait + Sync>(
     rt: &R,
     alloc: Global,
     puzzle: &[u8],

@@ -1,13 +1,17 @@
+mod crews;
 mod small_puzzles;
 
 ghost use Rattle.std.specs.Prelude.{◌≤◌};
 
 use super::run_solve;
-use crate::faults::{Document, RunFault, SolveFault};
+use crate::faults::{Document, RunFault};
 use crate::runs::tests::citations::TURNING_TRIANGLE;
 use crate::runs::{Status, run_joined};
 use crate::streams::fakes::Fake;
+use match_board::limits::{MOST_DEPTH, MOST_FUEL, MOST_WORKERS};
+use match_crew::SolveFault;
 use std::alloc::{AllocError, Global};
+use std::sync::Wait;
 use std::test::Fail;
 use std::thread::Threads;
 
@@ -31,20 +35,29 @@ struct Written {
     outcome: Result<(), RunFault>,
 }
 
-fn solve(alloc: Global, puzzle: &[u8], fuel: u32) -> Result<Written, AllocError>
-    requires some { 1 ≤ fuel }
-    requires few { fuel ≤ 1000000 }
+fn solve<R: Threads + Wait + Sync>(
+    rt: &R,
+    alloc: Global,
+    puzzle: &[u8],
+    depth: u8,
+    fuel: u32,
+    workers: u8,
+) -> Result<Written, AllocError>
+    requires depth { depth ≤ MOST_DEPTH }
+    requires fuel { (1 ≤ fuel) × (fuel ≤ MOST_FUEL) }
+    requires workers { (1 ≤ workers) × (workers ≤ MOST_WORKERS) }
 {
     let mut puzzle = Fake::new(alloc, Vec::from_slice(alloc, puzzle)?, 7, usize::MAX);
     let mut list = Fake::new(alloc, Vec::new(alloc), 5, usize::MAX);
     let mut certificate = Fake::new(alloc, Vec::new(alloc), 5, usize::MAX);
     let mut writer = Fake::new(alloc, Vec::new(alloc), 5, usize::MAX);
     let outcome = run_solve(
+        rt,
         alloc,
         &mut puzzle,
-        0,
+        depth,
         fuel,
-        1,
+        workers,
         &mut list,
         &mut certificate,
         &mut writer,
@@ -55,6 +68,18 @@ fn solve(alloc: Global, puzzle: &[u8], fuel: u32) -> Result<Written, AllocError>
         report: Vec::from_slice(alloc, writer.written())?,
         outcome,
     })
+}
+
+// The same by one worker, in one lemma.
+fn solve_alone<R: Threads + Wait + Sync>(
+    rt: &R,
+    alloc: Global,
+    puzzle: &[u8],
+    fuel: u32,
+) -> Result<Written, AllocError>
+    requires { (1 ≤ fuel) × (fuel ≤ MOST_FUEL) }
+{
+    solve(rt, alloc, puzzle, 0, fuel, 1)
 }
 
 // Whether a check of what was written answers Complete.
@@ -76,7 +101,7 @@ fn checks<R: Threads + Sync>(
 #[test]
 fn solves_with_just_enough_fuel(rt: HostRuntime) -> Result<(), Fail> {
     let alloc = rt.alloc();
-    let square = solve(alloc, SQUARE_OF_FOUR, 4)?;
+    let square = solve_alone(&rt, alloc, SQUARE_OF_FOUR, 4)?;
     assert_eq!(rt; square.outcome, Ok(()));
     assert_eq!(rt;
         square.list.as_slice(),
@@ -91,7 +116,7 @@ fn solves_with_just_enough_fuel(rt: HostRuntime) -> Result<(), Fail> {
         b"found 1\nlemmas 1\nworker 0 took 0\n0 0.0 5135\n1 1.0 5541\n2 2.0 3255\n3 3.0 4552\n".as_slice()
     );
     assert!(rt; checks(&rt, alloc, SQUARE_OF_FOUR, &square)?);
-    let triangle = solve(alloc, TURNING_TRIANGLE, 10)?;
+    let triangle = solve_alone(&rt, alloc, TURNING_TRIANGLE, 10)?;
     assert_eq!(rt; triangle.outcome, Ok(()));
     assert_eq!(rt;
         triangle.list.as_slice(),
@@ -110,9 +135,9 @@ fn solves_with_just_enough_fuel(rt: HostRuntime) -> Result<(), Fail> {
 fn gives_up_and_writes_nothing(rt: HostRuntime) -> Result<(), Fail> {
     let alloc = rt.alloc();
     for solve in [
-        solve(alloc, SQUARE_OF_FOUR, 3)?,
-        solve(alloc, TURNING_TRIANGLE, 9)?,
-        solve(alloc, SQUARE_OF_FOUR, 1)?,
+        solve_alone(&rt, alloc, SQUARE_OF_FOUR, 3)?,
+        solve_alone(&rt, alloc, TURNING_TRIANGLE, 9)?,
+        solve_alone(&rt, alloc, SQUARE_OF_FOUR, 1)?,
     ] {
         assert_eq!(rt; solve.outcome, Err(RunFault::Solve(SolveFault::GaveUp)));
         assert_eq!(rt; solve.list.len(), 0);
@@ -125,7 +150,7 @@ fn gives_up_and_writes_nothing(rt: HostRuntime) -> Result<(), Fail> {
 #[test]
 fn shows_dead_ends(rt: HostRuntime) -> Result<(), Fail> {
     let alloc = rt.alloc();
-    let cell = solve(alloc, DEAD_CELL, 1)?;
+    let cell = solve_alone(&rt, alloc, DEAD_CELL, 1)?;
     assert_eq!(rt;
         cell.list.as_slice(),
         b"list 1\narrangements 0\nend\n".as_slice()
@@ -139,7 +164,7 @@ fn shows_dead_ends(rt: HostRuntime) -> Result<(), Fail> {
         b"found 0\nlemmas 1\nworker 0 took 0\n".as_slice()
     );
     assert!(rt; checks(&rt, alloc, DEAD_CELL, &cell)?);
-    let tile = solve(alloc, DEAD_TILE, 1)?;
+    let tile = solve_alone(&rt, alloc, DEAD_TILE, 1)?;
     assert_eq!(rt;
         tile.certificate.as_slice(),
         b"certificate 1\nsymmetries 0\nlemmas 1\nlemma 0 prefix tree e 1\nend\n".as_slice()
@@ -164,13 +189,14 @@ fn too_many(alloc: Global) -> Result<Vec<u8>, AllocError> {
 #[test]
 fn says_why_it_stops(rt: HostRuntime) -> Result<(), Fail> {
     let alloc = rt.alloc();
-    let many = solve(alloc, &too_many(alloc)?, 1)?;
+    let many = solve_alone(&rt, alloc, &too_many(alloc)?, 1)?;
     assert_eq!(rt; many.outcome, Err(RunFault::Solve(SolveFault::TooMany)));
     let mut puzzle = Fake::new(alloc, Vec::from_slice(alloc, SQUARE_OF_FOUR)?, 7, 20);
     let mut list = Fake::new(alloc, Vec::new(alloc), 5, usize::MAX);
     let mut certificate = Fake::new(alloc, Vec::new(alloc), 5, usize::MAX);
     let mut writer = Fake::new(alloc, Vec::new(alloc), 5, usize::MAX);
     let outcome = run_solve(
+        &rt,
         alloc,
         &mut puzzle,
         0,
@@ -190,6 +216,7 @@ fn says_why_it_stops(rt: HostRuntime) -> Result<(), Fail> {
     );
     let mut certificate = Fake::new(alloc, Vec::new(alloc), 5, 12);
     let outcome = run_solve(
+        &rt,
         alloc,
         &mut puzzle,
         0,

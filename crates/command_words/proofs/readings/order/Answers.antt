@@ -1,7 +1,7 @@
 use Rattle.std.proofs.Common.{◌≡◌, ◌≢◌, Some, sym, subst, map, codes, true, false, refl, rules}
 use Rattle.std.specs.String.{string_bytes}
 use Rattle.std.proofs.lemmas.Result.{err_from_is_err_and}
-use Rattle.match_board.specs.declared.limits.TheConstants.{MOST_COLOURS, MOST_FORKS, MOST_FUEL, MOST_WORKERS}
+use Rattle.match_board.specs.declared.limits.TheConstants.{MOST_COLOURS, MOST_DEPTH, MOST_FORKS, MOST_FUEL, MOST_WORKERS}
 use Rattle.clap.specs.Words.{App, app_of, found_of, rows_of, takes}
 use Rattle.clap.specs.Walk.{Text}
 use Rattle.std.specs.Str.{bytes_eq}
@@ -37,8 +37,14 @@ check-requires-clause-forks c = has_number (command_at (codes "check")) (rows_of
 pub solve-requires-clause-files : goal.solve-requires-clause-files
 solve-requires-clause-files c = has_files (command_at (codes "solve")) (rows_of (found_of c.in-Some.matches.now)) (needed (goal.at.solve-requires-clause-files c).In-Some (codes "solve") (search rules) refl) refl refl refl
 
+pub solve-requires-clause-depth : goal.solve-requires-clause-depth
+solve-requires-clause-depth c = has_number (command_at (codes "solve")) (rows_of (found_of c.in-Some.matches.now)) (rule_at (command_at (codes "solve")) 3) 0 MOST_DEPTH (needed (goal.at.solve-requires-clause-depth c).In-Some (codes "solve") (search rules) refl) refl refl refl
+
 pub solve-requires-clause-fuel : goal.solve-requires-clause-fuel
-solve-requires-clause-fuel c = has_number (command_at (codes "solve")) (rows_of (found_of c.in-Some.matches.now)) (rule_at (command_at (codes "solve")) 3) 1 MOST_FUEL (needed (goal.at.solve-requires-clause-fuel c).In-Some (codes "solve") (search rules) refl) refl refl refl
+solve-requires-clause-fuel c = has_number (command_at (codes "solve")) (rows_of (found_of c.in-Some.matches.now)) (rule_at (command_at (codes "solve")) 4) 1 MOST_FUEL (needed (goal.at.solve-requires-clause-fuel c).In-Some (codes "solve") (search rules) refl) refl refl refl
+
+pub solve-requires-clause-workers : goal.solve-requires-clause-workers
+solve-requires-clause-workers c = has_number (command_at (codes "solve")) (rows_of (found_of c.in-Some.matches.now)) (rule_at (command_at (codes "solve")) 5) 1 MOST_WORKERS (needed (goal.at.solve-requires-clause-workers c).In-Some (codes "solve") (search rules) refl) refl refl refl
 
 pub files-requires : goal.files-requires
 files-requires c = has_files (command_at (codes "expand")) (rows_of (found_of c.in-Some.matches.now)) (needed (goal.at.files-requires c).In-Some (codes "expand") (search rules) refl) refl refl refl

@@ -1,12 +1,12 @@
 //! Puzzles of at most six cells, of every board, against a search through all placements.
 
-use super::{checks, solve};
+use super::{checks, solve_alone};
 use match_puzzle::{Placement, Puzzle};
 use match_text::{read_list, read_puzzle};
 use std::alloc::{AllocError, Global};
 use std::test::Fail;
 
-const PUZZLES: [&[u8]; 20] = [
+pub const PUZZLES: [&[u8]; 20] = [
     b"match 1\nboard rect 1 1\nturns yes\nborder free\ntiles 1\ntile 0123\nend\n",
     b"match 1\nboard rect 1 1\nturns yes\nborder each 0 1 2 3\ntiles 1\ntile 3012\nend\n",
     b"match 1\nboard rect 2 1\nturns yes\nborder free\ntiles 2\ntile 0011\ntile 1100\nend\n",
@@ -103,7 +103,7 @@ fn finds_what_is_among_all_placements(rt: HostRuntime) -> Result<(), Fail> {
     let mut found: u32 = 0;
     for text in PUZZLES {
         let puzzle = read_puzzle(alloc, &text[..text.len().min(1_000_000)])?;
-        let solve = solve(alloc, text, 1_000_000)?;
+        let solve = solve_alone(&rt, alloc, text, 1_000_000)?;
         assert_eq!(rt; solve.outcome, Ok(()));
         assert!(rt; checks(&rt, alloc, text, &solve)?);
         let Some(count) = count_all(alloc, &puzzle, &solve.list)? else {
