@@ -86,11 +86,22 @@ class Runs:
             wanted = (2, "", f"cannot read {document}\n")
             self.wants(f"{name}, no {document}", self.run(["check", *missing]) == wanted)
 
+    def words(self):
+        """Help and the version are printed, and words that order nothing are refused."""
+        for words in (["--help"], ["--version"], *([name, "--help"] for name in ("check", "solve", "expand", "tiles"))):
+            status, printed, errors = self.run(words)
+            self.wants(" ".join(words), (status, bool(printed), errors) == (0, True, ""))
+        for words in (["prove"], ["check", "p", "l"], ["solve", "p", "l", "c", "--depth", "4"], ["tiles", "5", "1"]):
+            status, printed, errors = self.run(words)
+            self.wants(" ".join(words), (status, printed, bool(errors)) == (2, "", True))
+        self.wants("tiles 3 2", self.run(["tiles", "3", "2"]) == (0, "000\n001\n011\n111\n", ""))
+
 
 def main():
     if len(sys.argv) != 2:
         sys.exit(__doc__)
     runs = Runs(os.path.abspath(sys.argv[1]))
+    runs.words()
     for name in sorted(os.listdir(EXAMPLES)):
         with tempfile.TemporaryDirectory() as into:
             runs.example(name, into)

@@ -153,4 +153,4 @@ fn all_text(alloc: Global, question: &Question) -> Result<Vec<u8>, RunFault>
 }
 
 #[cfg(test)]
-mod tests;
+pub(crate) mod tests;

@@ -10,7 +10,7 @@ use std::alloc::{AllocError, Global};
 use std::test::Fail;
 
 // What an expansion writes, and what it comes to.
-fn expansion(
+pub fn expansion(
     alloc: Global,
     puzzle: &[u8],
     list: &[u8],

@@ -1,12 +1,19 @@
 //! Puzzles of at most six cells, of every board, against a search through all placements.
 
-use super::{checks, solve_alone};
+ghost use Rattle.std.specs.Prelude.{◌≤◌};
+
+use super::{Written, checks, solve};
+use crate::expansion_runs::tests::expansion;
+use crate::runs::Status;
+use match_board::limits::{MOST_DEPTH, MOST_FUEL, MOST_WORKERS};
 use match_puzzle::{Placement, Puzzle};
 use match_text::{read_list, read_puzzle};
 use std::alloc::{AllocError, Global};
+use std::sync::Wait;
 use std::test::Fail;
+use std::thread::Threads;
 
-pub const PUZZLES: [&[u8]; 20] = [
+const PUZZLES: [&[u8]; 20] = [
     b"match 1\nboard rect 1 1\nturns yes\nborder free\ntiles 1\ntile 0123\nend\n",
     b"match 1\nboard rect 1 1\nturns yes\nborder each 0 1 2 3\ntiles 1\ntile 3012\nend\n",
     b"match 1\nboard rect 2 1\nturns yes\nborder free\ntiles 2\ntile 0011\ntile 1100\nend\n",
@@ -70,46 +77,85 @@ fn numbered(
     Ok(placements)
 }
 
-// How many arrangements there are among all placements, all of which are to be listed.
-fn count_all(alloc: Global, puzzle: &Puzzle, list: &[u8]) -> Result<Option<u32>, Fail> {
-    // shorter than any number of lines needs
-    let listed = read_list(alloc, &list[..list.len().min(1_000_000)])?;
+// All arrangements, found among all placements.
+fn all_arrangements(alloc: Global, puzzle: &Puzzle) -> Result<Vec<Vec<Placement>>, AllocError> {
     let cells = puzzle.board().cells();
     let turns = if puzzle.turns() {
         u32::from(puzzle.board().sides())
     } else {
         1
     };
-    let mut count: u32 = 0;
+    let mut all = Vec::new(alloc);
     for number in 0..placements_of(cells, turns) {
         let placements = numbered(alloc, cells, turns, number)?;
         if puzzle.arrangement_fault(&placements).is_none() {
-            if !listed.iter().any(|arrangement| arrangement.placements() == placements.as_slice()) {
-                return Ok(None);
-            }
-            count = count.saturating_add(1);
+            all.push(placements)?;
         }
     }
-    if count as usize == listed.len() {
-        Ok(Some(count))
-    } else {
-        Ok(None)
+    Ok(all)
+}
+
+// Whether the list's text has just these, in any order.
+fn lists_all(alloc: Global, list: &[u8], all: &[Vec<Placement>]) -> Result<bool, Fail> {
+    // shorter than any number of lines needs
+    let listed = read_list(alloc, &list[..list.len().min(1_000_000)])?;
+    Ok(
+        listed.len() == all.len()
+            && all.iter().all(|placements| {
+                listed.iter().any(|arrangement| arrangement.placements() == placements.as_slice())
+            }),
+    )
+}
+
+// Whether what was written checks as complete, and expands to these.
+fn shows_all<R: Threads + Sync>(
+    rt: &R,
+    alloc: Global,
+    puzzle: &[u8],
+    solved: &Written,
+    all: &[Vec<Placement>],
+) -> Result<bool, Fail> {
+    let (expanded, status) = expansion(alloc, puzzle, &solved.list, &solved.certificate)?;
+    Ok(
+        checks(rt, alloc, puzzle, solved)?
+            && status == Ok(Status::Complete)
+            && lists_all(alloc, &expanded, all)?,
+    )
+}
+
+// Whether that holds of each number of workers.
+fn is_solved<R: Threads + Wait + Sync>(
+    rt: &R,
+    alloc: Global,
+    puzzle: &[u8],
+    depth: u8,
+    all: &[Vec<Placement>],
+) -> Result<bool, Fail>
+    requires { depth ≤ MOST_DEPTH }
+{
+    for workers in [1, 2, 7, 64] {
+        let solved = solve(rt, alloc, puzzle, depth, MOST_FUEL, workers)?;
+        if !shows_all(rt, alloc, puzzle, &solved, all)? {
+            return Ok(false);
+        }
     }
+    Ok(true)
 }
 
 #[test]
 fn finds_what_is_among_all_placements(rt: HostRuntime) -> Result<(), Fail> {
     let alloc = rt.alloc();
-    let mut found: u32 = 0;
+    let mut found: usize = 0;
     for text in PUZZLES {
         let puzzle = read_puzzle(alloc, &text[..text.len().min(1_000_000)])?;
-        let solve = solve_alone(&rt, alloc, text, 1_000_000)?;
-        assert_eq!(rt; solve.outcome, Ok(()));
-        assert!(rt; checks(&rt, alloc, text, &solve)?);
-        let Some(count) = count_all(alloc, &puzzle, &solve.list)? else {
-            return Err("another list".into());
-        };
-        found = found.saturating_add(count);
+        let all = all_arrangements(alloc, &puzzle)?;
+        for depth in [0, 1, 2, 3] {
+            assert!(rt;
+                is_solved(&rt, alloc, text, depth, &all)?,
+                "at depth {depth}"
+            );
+        }
+        found = found.saturating_add(all.len());
     }
     assert!(rt; found > 20);
     Ok(())
