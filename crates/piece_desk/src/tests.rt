@@ -117,17 +117,15 @@ fn post_hundred<R: Wait>(
 }
 
 // Posts a hundred lemmas and reads each back at once. Whether each was what was posted.
-fn post_and_read<R: Wait>(rt: &R, alloc: Global, desk: &Desk, row: u8) -> bool {
+fn post_and_read<R: Wait>(rt: &R, alloc: Global, desk: &Desk, row: u8) -> Result<bool, AllocError> {
     for place in 0..100 {
         let number = 100 * u32::from(row) + place;
-        let Ok(receipt) = post_leaf(rt, alloc, desk, number) else {
-            return false;
-        };
+        let receipt = post_leaf(rt, alloc, desk, number)?;
         if desk.read(&receipt).number != number {
-            return false;
+            return Ok(false);
         }
     }
-    true
+    Ok(true)
 }
 
 // The numbers that a walk over the desk gives, in order.
@@ -168,7 +166,65 @@ fn gathers_the_twin_tiles(rt: HostRuntime) -> Result<(), Fail> {
     }
     let alone = [post_text(&rt, alloc, &desk, ROOT)?];
     let missing = desk.gather(alloc, &alone, exchange(alloc)?, 2, &[0, 0]);
-    assert!(rt; matches!(missing, Err(AssembleFault::Missing(1))));
+    assert_eq!(rt; missing.err(), Some(AssembleFault::Missing(1)));
+    Ok(())
+}
+
+// The text of the lemma that is posted in this place.
+fn text_at(place: usize) -> &'static [u8]
+    ensures { length result.now < 100 }
+{
+    if place % 2 == 0 { ROOT } else { OTHER }
+}
+
+// Posts the lemma of this text. Where it comes back for want of memory, it is to be the same, and is posted again.
+fn post_at_last<R: Wait>(rt: &R, alloc: Global, desk: &Desk, text: &[u8]) -> Result<Receipt, Fail>
+    requires { length text.now < 100 }
+    ensures { IfOk result (IsOf desk.now) }
+{
+    let lemma = match desk.post(rt, read_lemma(alloc, text)?) {
+        Ok(receipt) => return Ok(receipt),
+        Err(lemma) => lemma,
+    };
+    if write_lemma(alloc, &lemma)?.as_slice() != text {
+        return Err(Fail::new("another lemma comes back"));
+    }
+    match desk.post(rt, lemma) {
+        Ok(receipt) => Ok(receipt),
+        Err(_) => Err(AllocError.into()),
+    }
+}
+
+// Posts a hundred lemmas, by turns of two texts.
+fn post_by_turns<R: Wait>(rt: &R, alloc: Global, desk: &Desk) -> Result<Vec<Receipt>, Fail>
+    ensures { IfOk result (λ receipts. All (IsOf desk.now) receipts.items) }
+{
+    let mut receipts = Vec::new(alloc);
+    for place in 0..100 {
+        receipts.push(post_at_last(rt, alloc, desk, text_at(place))?)?;
+    }
+    Ok(receipts)
+}
+
+// Whether each of the receipts reads what was posted by turns.
+fn read_by_turns(alloc: Global, desk: &Desk, receipts: &[Receipt]) -> Result<bool, AllocError>
+    requires { All (IsOf desk.now) receipts.now }
+{
+    for (place, receipt) in receipts.iter().enumerate() {
+        if write_lemma(alloc, desk.read(receipt))?.as_slice() != text_at(place) {
+            return Ok(false);
+        }
+    }
+    Ok(true)
+}
+
+#[test]
+fn desk_after_refusal(rt: HostRuntime) -> Result<(), Fail> {
+    let alloc = rt.alloc();
+    let desk = Desk::new(alloc)?;
+    let receipts = post_by_turns(&rt, alloc, &desk)?;
+    assert_eq!(rt; receipts.len(), 100);
+    assert!(rt; read_by_turns(alloc, &desk, &receipts)?);
     Ok(())
 }
 
@@ -216,7 +272,7 @@ fn sixty_four_threads_post_and_read(rt: HostRuntime) -> Result<(), Fail> {
         &|row: u8| post_and_read(wait, alloc, shared, row),
     )?;
     for each in right.iter() {
-        assert!(rt; *each);
+        assert_eq!(rt; *each, Ok(true));
     }
     let numbers = numbers_shown(alloc, &desk)?;
     assert_eq!(rt; numbers.len(), 6400);
