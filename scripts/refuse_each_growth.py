@@ -189,7 +189,7 @@ def commands():
 
 
 def is_named(subject, names):
-    return not names or any(subject.name == it or subject.name.startswith((f"{it}:", f"{it}::")) for it in names)
+    return not names or any(f"{subject.name}:".startswith(f"{it}:") for it in names)
 
 
 def main():

@@ -17,7 +17,8 @@ fn refusal(alloc: Global, texts: &[&str]) -> Result<(String, bool), Fail> {
             let text = format!(in alloc; "{error}")?;
             Ok((text, error.use_stderr()))
         }
-        _ => Err(Fail::from("the words are not refused")),
+        Err(WordsFault::Memory) => Err(AllocError.into()),
+        Ok(_) => Err(Fail::from("the words are not refused")),
     }
 }
 

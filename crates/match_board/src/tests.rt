@@ -103,11 +103,12 @@ fn triangles_of_two_colours(rt: HostRuntime) -> Result<(), Fail> {
 #[test]
 fn too_many_tiles(rt: HostRuntime) {
     for (sides, colours) in [(4, 5), (4, 36), (3, 7), (3, 36)] {
-        let too_many = matches!(
-            all_tiles(rt.alloc(), sides, colours),
-            Err(TilesFault::TooMany)
+        let fault = all_tiles(rt.alloc(), sides, colours).err();
+        assert_eq!(rt;
+            fault,
+            Some(TilesFault::TooMany),
+            "{sides} sides, {colours} colours"
         );
-        assert!(rt; too_many, "{sides} sides, {colours} colours");
     }
 }
 

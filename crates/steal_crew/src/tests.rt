@@ -72,7 +72,9 @@ fn two_at_once(rt: HostRuntime) -> Result<(), Fail> {
         second: AtomicBool::new(false),
     };
     let crew = run_crew(&rt, rt.alloc(), &meeting, 2, 2)?;
-    assert_eq!(rt; crew.results(), [true, true].as_slice());
+    if crew.results() != [true, true].as_slice() {
+        return Err(Fail::new("no other thread came"));
+    }
     Ok(())
 }
 
@@ -107,7 +109,9 @@ fn takes_from_another_queue(rt: HostRuntime) -> Result<(), Fail> {
     };
     let neighbours = Neighbours { meeting };
     let crew = run_crew(&rt, rt.alloc(), &neighbours, 3, 2)?;
-    assert_eq!(rt; crew.results(), [true, true, true].as_slice());
+    if crew.results() != [true, true, true].as_slice() {
+        return Err(Fail::new("no other thread came"));
+    }
     Ok(())
 }
 

@@ -17,6 +17,18 @@ fn meets(mine: &AtomicBool, other: &AtomicBool) -> bool {
 }
 
 #[test]
+fn squares_of_three_and_four(rt: HostRuntime) -> Result<(), Fail> {
+    let (three, four) = (3u32, 4u32);
+    let squares = both(
+        &rt,
+        || -> Result<u32, AllocError> { Ok(three * three) },
+        || -> Result<u32, AllocError> { Ok(four * four) },
+    )?;
+    assert_eq!(rt; squares, (9, 16));
+    Ok(())
+}
+
+#[test]
 fn halves_at_once(rt: HostRuntime) -> Result<(), Fail> {
     let first = AtomicBool::new(false);
     let second = AtomicBool::new(false);
@@ -25,6 +37,8 @@ fn halves_at_once(rt: HostRuntime) -> Result<(), Fail> {
         || -> Result<bool, AllocError> { Ok(meets(&first, &second)) },
         || -> Result<bool, AllocError> { Ok(meets(&second, &first)) },
     )?;
-    assert_eq!(rt; saw, (true, true));
+    if saw != (true, true) {
+        return Err(Fail::new("no other thread came"));
+    }
     Ok(())
 }

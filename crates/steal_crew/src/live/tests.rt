@@ -69,6 +69,16 @@ fn each_given_job_is_done(rt: HostRuntime) -> Result<(), Fail> {
     Ok(())
 }
 
+// Where memory is refused, that is the outcome: no job is lost.
+#[test]
+fn live_after_refusal(rt: HostRuntime) -> Result<(), Fail> {
+    for workers in [1, 2, 3] {
+        let crew = run_live(&rt, rt.alloc(), &Countup, 0, 9, workers)?;
+        assert_eq!(rt; crew.results(), [0, 1, 2, 3].as_slice());
+    }
+    Ok(())
+}
+
 #[test]
 fn two_given_at_once(rt: HostRuntime) -> Result<(), Fail> {
     let meeting = Meeting {
@@ -76,6 +86,8 @@ fn two_given_at_once(rt: HostRuntime) -> Result<(), Fail> {
         second: AtomicBool::new(false),
     };
     let crew = run_live(&rt, rt.alloc(), &meeting, 0, 3, 2)?;
-    assert_eq!(rt; crew.results(), [true, true, true].as_slice());
+    if crew.results() != [true, true, true].as_slice() {
+        return Err(Fail::new("no other thread came"));
+    }
     Ok(())
 }

@@ -26,7 +26,7 @@ fn two_workers_at_one_queue(rt: HostRuntime) -> Result<(), Fail> {
         Event::Finish { worker: 1 },
     ];
     for event in events.iter() {
-        assert!(rt; state.step(event).is_ok());
+        assert_eq!(rt; state.step(event), Ok(()));
     }
     assert_eq!(rt;
         state.step(&Event::Take {

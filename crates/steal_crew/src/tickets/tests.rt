@@ -6,7 +6,7 @@ use match_board::limits::MOST_WORKERS;
 use std::test::Fail;
 use std::thread;
 
-// Draws until none is left.
+// Draws until none is left. There is room for all that is drawn.
 fn draw_all(tickets: &Tickets, mut seat: TicketSeat, mut into: Vec<u32>) -> (TicketSeat, Vec<u32>)
     requires { seat_source seat ≡ source_of tickets.now }
     ensures { seat_source result.0 ≡ source_of tickets.now }
@@ -43,12 +43,12 @@ fn two_seats_take_turns(rt: HostRuntime) -> Result<(), Fail> {
 
 #[test]
 fn two_threads_draw_each_number(rt: HostRuntime) -> Result<(), Fail> {
+    let left: Vec<u32> = Vec::with_capacity(rt.alloc(), 100)?;
+    let right: Vec<u32> = Vec::with_capacity(rt.alloc(), 100)?;
     let (tickets, mut seats) = Tickets::new(rt.alloc(), 100, 2)?;
     let b = seats.remove(1);
     let a = seats.remove(0);
     let shared = &tickets;
-    let left: Vec<u32> = Vec::new(rt.alloc());
-    let right: Vec<u32> = Vec::new(rt.alloc());
     let ((a, left), (b, right)) = thread::join(
         &rt,
         move ||
