@@ -8,11 +8,11 @@ its Nth request for memory refused, for N = 1, 2, .. until a run meets no refusa
 some are refused, as is said then. With --rest all requests after the Nth are refused too. With names only those crates
 and tests are run; `program` is the program.
 
-A test has to pass, or to end with want of memory: as its error, or as the answer that an `assert_eq!` finds in the
-place of the wanted one. A test of threads that meet may also end because no other thread came: without memory for a
-thread its work is done on another. The program has to write what it writes with ample memory, or nothing but `out of
-memory` on standard error, with status 2. The script ends with 0 where that is so of each run, and names those of which
-it isn't. It needs a C compiler (cc, or what CC names) and the C library glibc.
+A test has to pass, or to end with want of memory: as its error, or as the answer, or that answer's text, which an
+`assert_eq!` finds in the place of the wanted one. A test of threads that meet may also end because no other thread
+came: without memory for a thread its work is done on another. The program has to write what it writes with ample
+memory, or nothing but `out of memory` on standard error, with status 2. The script ends with 0 where that is so of each
+run, and names those of which it isn't. It needs a C compiler (cc, or what CC names) and the C library glibc.
 """
 import argparse
 import collections
@@ -28,11 +28,12 @@ HERE = os.path.dirname(os.path.abspath(__file__))
 TOP = os.path.dirname(HERE)
 EXAMPLES = os.path.join(TOP, "examples")
 EACH, FURTHER = 2000, 500
-MEMORY = r"(\w+\()*(Memory|AllocError|AllocFailed \{ \.\. \})\)*"
+REFUSED = (2, "", "out of memory\n")
+TEXT = re.escape(str(list(b"out of memory\n")))
+MEMORY = rf"({TEXT}|(\w+\()*(Memory|AllocError|AllocFailed {{ \.\. }})\)*)"
 ENDED = re.compile(rf"error: {MEMORY}")
 ALONE = "no other thread came"
 ANSWERED = re.compile(rf"assertion `left == right` failed.*\n  left: {MEMORY}\n.*", re.DOTALL)
-REFUSED = (2, "", "out of memory\n")
 AS_EVER = "as with ample memory"
 
 Run = collections.namedtuple("Run", "status out err made requests")
