@@ -34,9 +34,10 @@ ReadsWhole source text = GivesWhole source.before source.after source.ended text
 abbrev pub ReadsToEnd : Reading → Type 0
 ReadsToEnd source = IsReadToEnd source.after source.ended
 
--- it answered an error
-abbrev pub FailsToRead : Reading → Type 0
-FailsToRead source = source.errors_after ≡ one_more source.errors_before
+-- it answered an error, and at most so many bytes came before
+abbrev pub FailsToRead : ℕ → Reading → Type 0
+FailsToRead bound source =
+    GivesUpTo bound source.before source.after × (source.errors_after ≡ one_more source.errors_before)
 
 -- more bytes came, and no error
 abbrev pub ReadsPast : ℕ → Reading → Type 0

@@ -194,7 +194,7 @@ ReadWithoutFault puzzle list certificate =
 -- What a fault says of the three sources: the one that it names answered an error, or gave more bytes than are read.
 -- Want of memory hides neither.
 abbrev pub StopsReading : (puzzle list certificate : Reading) → RunFault → Type 0
-StopsReading puzzle list certificate (runs.Read of) = StopsAt puzzle list certificate FailsToRead of
+StopsReading puzzle list certificate (runs.Read of) = StopsAt puzzle list certificate (FailsToRead MOST_BYTES) of
 StopsReading puzzle list certificate (runs.TooLong of) = StopsAt puzzle list certificate (ReadsPast MOST_BYTES) of
 StopsReading puzzle list certificate runs.Memory = ReadWithoutFault puzzle list certificate
 StopsReading puzzle list certificate fault = Unit {0}
@@ -205,7 +205,7 @@ InputReadToEnd source Holds = (input : List ℕ) × ReadsWhole source input × H
 
 -- What a fault says of one source.
 abbrev pub StopsReadingInput : Reading → RunFault → Type 0
-StopsReadingInput source (runs.Read of) = (of ≡ documents.Input) × FailsToRead source
+StopsReadingInput source (runs.Read of) = (of ≡ documents.Input) × FailsToRead MOST_BYTES source
 StopsReadingInput source (runs.TooLong of) = (of ≡ documents.Input) × ReadsPast MOST_BYTES source
 StopsReadingInput source runs.Memory = ReadsAtMost MOST_BYTES source
 StopsReadingInput source fault = Unit {0}

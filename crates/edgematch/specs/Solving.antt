@@ -93,7 +93,7 @@ PuzzleReadToEnd source Holds = (text : List ℕ) × ReadsWhole source text × Ho
 
 -- What a fault says of the source of the puzzle.
 abbrev pub StopsReadingPuzzle : Reading → RunFault → Type 0
-StopsReadingPuzzle source (runs.Read of) = (of ≡ documents.Puzzle) × FailsToRead source
+StopsReadingPuzzle source (runs.Read of) = (of ≡ documents.Puzzle) × FailsToRead MOST_BYTES source
 StopsReadingPuzzle source (runs.TooLong of) = (of ≡ documents.Puzzle) × ReadsPast MOST_BYTES source
 StopsReadingPuzzle source runs.Memory = ReadsAtMost MOST_BYTES source
 StopsReadingPuzzle source fault = Unit {0}

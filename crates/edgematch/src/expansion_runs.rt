@@ -15,12 +15,13 @@ ghost use Rattle.edgematch.specs.Runs.{AreAllInOrder, ExpansionGives, RunGives, 
 use crate::faults::{Document, RunFault};
 use crate::questions::{Question, read_question};
 use crate::repetitions::distinct_symmetries;
-use crate::runs::{Status, read_document, status_for, write_text};
+use crate::runs::{Status, status_for, write_text};
 use crate::streams::documents::Documents;
+use crate::streams::readings::read_whole;
 use crate::streams::sinks::Sink;
 use crate::streams::sources::Source;
 use cert_check::{Answer, check};
-use match_board::limits::MOST_ARRANGEMENTS;
+use match_board::limits::{MOST_ARRANGEMENTS, MOST_BYTES};
 use match_report::{expand, write_answer};
 use match_text::write_list;
 use std::alloc::Global;
@@ -65,9 +66,9 @@ pub fn run_expand<P: Source, L: Source, C: Source, W: Sink>(
         (λ texts. WritesFront (writing_of W.Sink writer.old writer.new)
         (λ text. (status : Status) × ExpansionGives texts text status)) }
 {
-    let puzzle = read_document(alloc, puzzle, Document::Puzzle)?;
-    let list = read_document(alloc, list, Document::List)?;
-    let certificate = read_document(alloc, certificate, Document::Certificate)?;
+    let puzzle = read_whole(alloc, puzzle, MOST_BYTES, Document::Puzzle)?;
+    let list = read_whole(alloc, list, MOST_BYTES, Document::List)?;
+    let certificate = read_whole(alloc, certificate, MOST_BYTES, Document::Certificate)?;
     let documents = Documents {
         puzzle: &puzzle,
         list: &list,

@@ -1,18 +1,18 @@
 //! Runs of the checker.
 
-ghost use Rattle.std.specs.Prelude.{◌≡◌, ◌≢◌, ◌≤◌, Err, IfOk, IfErr, IsErrOf, OnErr, OnOk, length};
+ghost use Rattle.std.specs.Prelude.{◌≡◌, ◌≢◌, ◌≤◌, Err, IfOk, IfErr, IsErrOf, OnErr, OnOk};
 ghost use Rattle.std.specs.Io.KnownBytes.{Appends};
-ghost use Rattle.edgematch.specs.Moves.{FailsToRead, ReadsAtMost, ReadsPast, ReadsWhole};
 ghost use Rattle.edgematch.specs.Moves.{FrontOf, WritesFront, WritesWhole, reading_of, writing_of};
-ghost use Rattle.edgematch.specs.Runs.{IsOfAnswering, IsOfChecking, IsOfDocuments, IsOfReading};
+ghost use Rattle.edgematch.specs.Runs.{IsOfAnswering, IsOfChecking, IsOfDocuments};
 ghost use Rattle.edgematch.specs.Runs.{AreShort, InputReadToEnd, ReadToEnds, StopsReading, StopsReadingInput, texts_of};
 ghost use Rattle.edgematch.specs.Runs.{CheckGives, RunGives, SpellCompleteList, status_of};
 
 use crate::faults::{Document, RunFault};
 use crate::questions::read_question;
 use crate::streams::documents::{Documents, cut_joined};
+use crate::streams::readings::read_whole;
 use crate::streams::sinks::{Sink, write_whole};
-use crate::streams::sources::{ReadWholeFault, Source, read_whole};
+use crate::streams::sources::Source;
 use cert_check::Answer;
 use match_board::limits::{MOST_BYTES, MOST_FORKS, MOST_WORKERS};
 use match_crew::{Open, check_with};
@@ -76,9 +76,9 @@ pub fn run_check<P: Source, L: Source, C: Source, W: Sink, R: Threads + Sync>(
         (λ texts. WritesFront (writing_of W.Sink writer.old writer.new)
         (λ text. (status : Status) × CheckGives texts text status)) }
 {
-    let puzzle = read_document(alloc, puzzle, Document::Puzzle)?;
-    let list = read_document(alloc, list, Document::List)?;
-    let certificate = read_document(alloc, certificate, Document::Certificate)?;
+    let puzzle = read_whole(alloc, puzzle, MOST_BYTES, Document::Puzzle)?;
+    let list = read_whole(alloc, list, MOST_BYTES, Document::List)?;
+    let certificate = read_whole(alloc, certificate, MOST_BYTES, Document::Certificate)?;
     let documents = Documents {
         puzzle: &puzzle,
         list: &list,
@@ -124,33 +124,9 @@ pub fn run_joined<S: Source, W: Sink, R: Threads + Sync>(
         (λ texts. WritesFront (writing_of W.Sink writer.old writer.new)
         (λ text. (status : Status) × CheckGives texts text status)) }
 {
-    let input = read_document(alloc, reader, Document::Input)?;
+    let input = read_whole(alloc, reader, MOST_BYTES, Document::Input)?;
     let documents = cut_joined(&input);
     write_answer_to(rt, alloc, &documents, workers, forks, writer)
-}
-
-// All bytes of a document.
-pub(crate) fn read_document<R: Source>(
-    alloc: Global,
-    reader: &mut R,
-    document: Document,
-) -> Result<Vec<u8>, RunFault>
-    ensures whole { IfOk result (λ text. ReadsWhole (reading_of R.Source reader.old reader.new) text.items) }
-    ensures bounded { IfOk result (λ text. length text.items ≤ MOST_BYTES) }
-    ensures within { OnOk result (ReadsAtMost MOST_BYTES (reading_of R.Source reader.old reader.new)) }
-    ensures fault { IfErr result (λ fault. IsOfReading fault document) }
-    ensures read { IsErrOf result (RunFault.Read document) → FailsToRead (reading_of R.Source reader.old reader.new) }
-    ensures too_long { IsErrOf result (RunFault.TooLong document)
-        → ReadsPast MOST_BYTES (reading_of R.Source reader.old reader.new) }
-    ensures memory { IsErrOf result RunFault.Memory
-        → ReadsAtMost MOST_BYTES (reading_of R.Source reader.old reader.new) }
-{
-    match read_whole(alloc, reader, MOST_BYTES) {
-        Ok(text) => Ok(text),
-        Err(ReadWholeFault::Read) => Err(RunFault::Read(document)),
-        Err(ReadWholeFault::TooLong) => Err(RunFault::TooLong(document)),
-        Err(ReadWholeFault::Memory) => Err(RunFault::Memory),
-    }
 }
 
 // Writes a text whole, and nothing else.

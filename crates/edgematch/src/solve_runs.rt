@@ -10,7 +10,8 @@ ghost use Rattle.edgematch.specs.Solving.{IsOfMaking, IsOfPuzzle, IsOfSolving, P
 ghost use Rattle.edgematch.specs.Solving.{StopsReadingPuzzle};
 
 use crate::faults::{Document, RunFault};
-use crate::runs::{read_document, write_text};
+use crate::runs::write_text;
+use crate::streams::readings::read_whole;
 use crate::streams::sinks::Sink;
 use crate::streams::sources::Source;
 use cert_tree::{Certificate, write_certificate};
@@ -65,7 +66,7 @@ pub fn run_solve<R: Threads + Wait + Sync, P: Source, L: Sink, C: Sink, W: Sink>
         (λ text. (made : Products) × SolveGives workers text made × StopsWriting (writing_of L.Sink list.old list.new)
         (writing_of C.Sink certificate.old certificate.new) (writing_of W.Sink writer.old writer.new) made) }
 {
-    let text = read_document(alloc, puzzle, Document::Puzzle)?;
+    let text = read_whole(alloc, puzzle, MOST_BYTES, Document::Puzzle)?;
     let made = make_texts(rt, alloc, &text, depth, fuel, workers)?;
     write_texts(&made, list, certificate, writer)
 }

@@ -3,6 +3,7 @@
 pub mod documents;
 #[cfg(test)]
 pub mod fakes;
+pub mod readings;
 pub mod sinks;
 pub mod sources;
 pub mod systems;

@@ -3,7 +3,7 @@ use crate::faults::RunFault;
 use crate::runs::Status;
 use crate::runs::tests::citations::{
     FIVE_CELLS, LISTED_FIVE, LISTED_TRIANGLE, LISTED_TWINS, TURNING_TRIANGLE, TWIN_TILES,
-    WALK_OF_FIVE, WALK_OF_TWINS, walk_of_triangle,
+    WALK_OF_FIVE, WALK_OF_TRIANGLE, WALK_OF_TWINS,
 };
 use crate::streams::fakes::Fake;
 use std::alloc::{AllocError, Global};
@@ -16,10 +16,10 @@ pub fn expansion(
     list: &[u8],
     certificate: &[u8],
 ) -> Result<(Vec<u8>, Result<Status, RunFault>), AllocError> {
-    let mut puzzle = Fake::new(alloc, Vec::from_slice(alloc, puzzle)?, 7, usize::MAX);
-    let mut list = Fake::new(alloc, Vec::from_slice(alloc, list)?, 7, usize::MAX);
-    let mut certificate = Fake::new(alloc, Vec::from_slice(alloc, certificate)?, 7, usize::MAX);
-    let mut writer = Fake::new(alloc, Vec::new(alloc), 5, usize::MAX);
+    let mut puzzle = Fake::new(alloc, puzzle, 7, usize::MAX);
+    let mut list = Fake::new(alloc, list, 7, usize::MAX);
+    let mut certificate = Fake::new(alloc, certificate, 7, usize::MAX);
+    let mut writer = Fake::new(alloc, b"", 5, usize::MAX);
     let status = run_expand(alloc, &mut puzzle, &mut list, &mut certificate, &mut writer);
     Ok((Vec::from_slice(alloc, writer.written())?, status))
 }
@@ -27,7 +27,6 @@ pub fn expansion(
 // Under one symmetry, under one that moves the cells, and under two.
 #[test]
 fn prints_all_arrangements(rt: HostRuntime) -> Result<(), Fail> {
-    let of_triangle = walk_of_triangle(rt.alloc())?;
     let rows = [
         (
             TWIN_TILES,
@@ -38,7 +37,7 @@ fn prints_all_arrangements(rt: HostRuntime) -> Result<(), Fail> {
         (
             TURNING_TRIANGLE,
             LISTED_TRIANGLE,
-            of_triangle.as_slice(),
+            WALK_OF_TRIANGLE,
             b"list 1\narrangements 3\n2.2 1.0 0.0 3.1\n1.2 3.0 0.2 2.1\n3.2 2.0 0.1 1.1\nend\n".as_slice(),
         ),
         (
@@ -50,8 +49,8 @@ fn prints_all_arrangements(rt: HostRuntime) -> Result<(), Fail> {
     ];
     for (puzzle, list, certificate, all) in rows {
         let (written, status) = expansion(rt.alloc(), puzzle, list, certificate)?;
-        assert_eq!(rt; written.as_slice(), all);
         assert_eq!(rt; status, Ok(Status::Complete));
+        assert_eq!(rt; written.as_slice(), all);
     }
     Ok(())
 }

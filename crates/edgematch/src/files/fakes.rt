@@ -21,27 +21,24 @@ impl<'a> FakeFiles<'a> {
     }
 }
 
-impl FileSystem for FakeFiles<'_> {
-    type Reader = Fake;
+impl<'a> FileSystem for FakeFiles<'a> {
+    type Reader = Fake<'a>;
 
-    type Writer = Fake;
+    type Writer = Fake<'a>;
 
     ghost holds = { λ _ _. None };
 
-    fn open(&self, name: &str) -> Result<Fake, Failed> {
+    fn open(&self, name: &str) -> Result<Fake<'a>, Failed> {
         for (own, bytes) in self.files {
             if *own == name {
-                let Ok(bytes) = Vec::from_slice(self.alloc, bytes) else {
-                    return Err(Failed);
-                };
                 return Ok(Fake::new(self.alloc, bytes, 7, usize::MAX));
             }
         }
         Err(Failed)
     }
 
-    fn make(&self, _name: &str) -> Result<Fake, Failed> {
-        Ok(Fake::new(self.alloc, Vec::new(self.alloc), 5, usize::MAX))
+    fn make(&self, _name: &str) -> Result<Fake<'a>, Failed> {
+        Ok(Fake::new(self.alloc, b"", 5, usize::MAX))
     }
 }
 
@@ -67,21 +64,18 @@ impl<'a> HeldFiles<'a> {
     }
 }
 
-impl FileSystem for HeldFiles<'_> {
-    type Reader = Fake;
+impl<'a> FileSystem for HeldFiles<'a> {
+    type Reader = Fake<'a>;
 
-    type Writer = Fake;
+    type Writer = Fake<'a>;
 
     ghost holds = { λ f name. Some (held_by f.puzzle.now f.list.now f.certificate.now name) };
 
-    fn open(&self, name: &str) -> Result<Fake, Failed> {
-        let Ok(bytes) = Vec::from_slice(self.alloc, self.held(name)) else {
-            return Err(Failed);
-        };
-        Ok(Fake::new(self.alloc, bytes, 7, usize::MAX))
+    fn open(&self, name: &str) -> Result<Fake<'a>, Failed> {
+        Ok(Fake::new(self.alloc, self.held(name), 7, usize::MAX))
     }
 
-    fn make(&self, _name: &str) -> Result<Fake, Failed> {
-        Ok(Fake::new(self.alloc, Vec::new(self.alloc), 5, usize::MAX))
+    fn make(&self, _name: &str) -> Result<Fake<'a>, Failed> {
+        Ok(Fake::new(self.alloc, b"", 5, usize::MAX))
     }
 }

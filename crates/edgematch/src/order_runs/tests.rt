@@ -69,8 +69,8 @@ fn run<R: Threads + Wait + Sync>(
 ) -> Result<(Vec<u8>, Result<u8, RunFault>), AllocError>
     requires { IsInRange order.now }
 {
-    let mut input = Fake::new(alloc, Vec::new(alloc), 7, usize::MAX);
-    let mut output = Fake::new(alloc, Vec::new(alloc), 5, usize::MAX);
+    let mut input = Fake::new(alloc, b"", 7, usize::MAX);
+    let mut output = Fake::new(alloc, b"", 5, usize::MAX);
     let system = FakeFiles::new(alloc, &FILES);
     let status = run_order(rt, alloc, order, &system, &mut input, &mut output);
     Ok((Vec::from_slice(alloc, output.written())?, status))
@@ -199,8 +199,8 @@ fn status_of<R: Threads + Wait + Sync>(
         workers: 2,
         forks: 1,
     };
-    let mut input = Fake::new(alloc, Vec::new(alloc), 7, usize::MAX);
-    let mut output = Fake::new(alloc, Vec::new(alloc), 5, usize::MAX);
+    let mut input = Fake::new(alloc, b"", 7, usize::MAX);
+    let mut output = Fake::new(alloc, b"", 5, usize::MAX);
     let code = run_order(rt, alloc, &order, &system, &mut input, &mut output)?;
     Ok(code)
 }

@@ -47,10 +47,10 @@ fn solve<R: Threads + Wait + Sync>(
     requires fuel { (1 ≤ fuel) × (fuel ≤ MOST_FUEL) }
     requires workers { (1 ≤ workers) × (workers ≤ MOST_WORKERS) }
 {
-    let mut puzzle = Fake::new(alloc, Vec::from_slice(alloc, puzzle)?, 7, usize::MAX);
-    let mut list = Fake::new(alloc, Vec::new(alloc), 5, usize::MAX);
-    let mut certificate = Fake::new(alloc, Vec::new(alloc), 5, usize::MAX);
-    let mut writer = Fake::new(alloc, Vec::new(alloc), 5, usize::MAX);
+    let mut puzzle = Fake::new(alloc, puzzle, 7, usize::MAX);
+    let mut list = Fake::new(alloc, b"", 5, usize::MAX);
+    let mut certificate = Fake::new(alloc, b"", 5, usize::MAX);
+    let mut writer = Fake::new(alloc, b"", 5, usize::MAX);
     let outcome = run_solve(
         rt,
         alloc,
@@ -92,8 +92,8 @@ fn checks<R: Threads + Sync>(
     let mut input = Vec::from_slice(alloc, puzzle)?;
     input.extend_from_slice(&solve.list)?;
     input.extend_from_slice(&solve.certificate)?;
-    let mut reader = Fake::new(alloc, input, 1000, usize::MAX);
-    let mut writer = Fake::new(alloc, Vec::new(alloc), 1000, usize::MAX);
+    let mut reader = Fake::new(alloc, &input, 1000, usize::MAX);
+    let mut writer = Fake::new(alloc, b"", 1000, usize::MAX);
     let status = run_joined(rt, alloc, &mut reader, 1, 0, &mut writer);
     Ok(status == Ok(Status::Complete))
 }
@@ -191,10 +191,10 @@ fn says_why_it_stops(rt: HostRuntime) -> Result<(), Fail> {
     let alloc = rt.alloc();
     let many = solve_alone(&rt, alloc, &too_many(alloc)?, 1)?;
     assert_eq!(rt; many.outcome, Err(RunFault::Solve(SolveFault::TooMany)));
-    let mut puzzle = Fake::new(alloc, Vec::from_slice(alloc, SQUARE_OF_FOUR)?, 7, 20);
-    let mut list = Fake::new(alloc, Vec::new(alloc), 5, usize::MAX);
-    let mut certificate = Fake::new(alloc, Vec::new(alloc), 5, usize::MAX);
-    let mut writer = Fake::new(alloc, Vec::new(alloc), 5, usize::MAX);
+    let mut puzzle = Fake::new(alloc, SQUARE_OF_FOUR, 7, 20);
+    let mut list = Fake::new(alloc, b"", 5, usize::MAX);
+    let mut certificate = Fake::new(alloc, b"", 5, usize::MAX);
+    let mut writer = Fake::new(alloc, b"", 5, usize::MAX);
     let outcome = run_solve(
         &rt,
         alloc,
@@ -208,13 +208,8 @@ fn says_why_it_stops(rt: HostRuntime) -> Result<(), Fail> {
     );
     assert_eq!(rt; outcome, Err(RunFault::Read(Document::Puzzle)));
     // the certificate can't be written whole: the report isn't begun
-    let mut puzzle = Fake::new(
-        alloc,
-        Vec::from_slice(alloc, SQUARE_OF_FOUR)?,
-        7,
-        usize::MAX,
-    );
-    let mut certificate = Fake::new(alloc, Vec::new(alloc), 5, 12);
+    let mut puzzle = Fake::new(alloc, SQUARE_OF_FOUR, 7, usize::MAX);
+    let mut certificate = Fake::new(alloc, b"", 5, 12);
     let outcome = run_solve(
         &rt,
         alloc,

@@ -6,12 +6,15 @@ use super::sinks::Sink;
 use super::sources::{Failed, Source};
 use std::alloc::Global;
 
+// How many bytes are written without a further request for memory.
+const ROOM: usize = 16_384;
+
 /// Moves at most so many bytes a call, and fails once so many have moved.
 ///
 /// Where it moves at most 0 a call, a write is idle; a read gives a byte nevertheless, since none means the end.
 #[derive(Drop)]
-pub struct Fake {
-    bytes: Vec<u8>,
+pub struct Fake<'a> {
+    bytes: &'a [u8],
     taken: usize,
     written: Vec<u8>,
     most: usize,
@@ -19,14 +22,14 @@ pub struct Fake {
     ended: bool,
     idle: bool,
     errors: u64,
-    ghost within: { taken ≤ length bytes.items },
+    ghost within: { taken ≤ length bytes.now },
 }
 
-impl Fake {
+impl<'a> Fake<'a> {
     /// Gives these bytes, and holds what is written. A read fails where `fails_after` bytes were
     /// taken, a write where so many were written.
-    pub fn new(alloc: Global, bytes: Vec<u8>, most: usize, fails_after: usize) -> Fake
-        ensures bytes { result.bytes.items ≡ bytes.items }
+    pub fn new(alloc: Global, bytes: &'a [u8], most: usize, fails_after: usize) -> Fake<'a>
+        ensures bytes { result.bytes.now ≡ bytes.now }
         ensures taken { result.taken ≡ 0 }
         ensures written { result.written.items ≡ [] }
         ensures most { result.most ≡ most }
@@ -38,7 +41,7 @@ impl Fake {
         Fake {
             bytes,
             taken: 0,
-            written: Vec::new(alloc),
+            written: Vec::with_capacity(alloc, ROOM).unwrap_or(Vec::new(alloc)),
             most,
             fails_after,
             ended: false,
@@ -69,8 +72,8 @@ impl Fake {
     }
 }
 
-impl Source for Fake {
-    ghost left = { λ f. Some (drop f.taken f.bytes.items) };
+impl Source for Fake<'_> {
+    ghost left = { λ f. Some (drop f.taken f.bytes.now) };
 
     ghost ended = { λ f. f.ended };
 
@@ -94,7 +97,7 @@ impl Source for Fake {
     }
 }
 
-impl Sink for Fake {
+impl Sink for Fake<'_> {
     ghost written = { λ f. Some f.written.items };
 
     ghost idle = { λ f. f.idle };

@@ -1,50 +1,58 @@
 use super::documents::cut_joined;
 use super::fakes::Fake;
+use super::readings::read_whole;
 use super::sinks::{Sink, write_whole};
-use super::sources::{Failed, ReadWholeFault, Source, read_whole};
+use super::sources::{Failed, Source};
 use super::systems::{Input, Output};
+use crate::faults::{Document, RunFault};
 use std::alloc::{AllocError, Global};
 use std::io::{self, ErrorKind, Read, Write};
 use std::test::Fail;
 
+// 64 bytes, and one more.
+const BYTES: &[u8; 65] = b"0123456789abcdef0123456789abcdef0123456789abcdef0123456789abcdef\n";
+
+// The bytes up to the bound come, however many come with each call; one more is too many.
 #[test]
-fn moves_a_text_byte_by_byte(rt: HostRuntime) -> Result<(), Fail> {
-    let bytes = Vec::from_slice(rt.alloc(), b"tile 5135\n")?;
-    let mut reader = Fake::new(rt.alloc(), bytes, 1, usize::MAX);
-    let text = read_whole(rt.alloc(), &mut reader, 10)?;
-    assert_eq!(rt; text.as_slice(), b"tile 5135\n".as_slice());
-    let mut writer = Fake::new(rt.alloc(), Vec::new(rt.alloc()), 1, usize::MAX);
-    write_whole(&mut writer, &text)?;
-    assert_eq!(rt; writer.written(), text.as_slice());
+fn reads_at_most_the_bound(rt: HostRuntime) -> Result<(), Fail> {
+    let alloc = rt.alloc();
+    for most in [1, 7, 64, usize::MAX] {
+        let mut reader = Fake::new(alloc, &BYTES[..64], most, usize::MAX);
+        let text = read_whole(alloc, &mut reader, 64, Document::List)?;
+        assert_eq!(rt; text.as_slice(), &BYTES[..64], "{most} a call");
+        let mut reader = Fake::new(alloc, BYTES, most, usize::MAX);
+        let fault = read_whole(alloc, &mut reader, 64, Document::List).err();
+        assert_eq!(rt;
+            fault,
+            Some(RunFault::TooLong(Document::List)),
+            "{most} a call"
+        );
+    }
     Ok(())
 }
 
+// At each byte, and in place of the end.
 #[test]
-fn tells_what_went_wrong(rt: HostRuntime) -> Result<(), Fail> {
-    let bytes = Vec::from_slice(rt.alloc(), b"tile 5135\n")?;
-    let mut reader = Fake::new(rt.alloc(), bytes, 2, 3);
-    let fault = read_whole(rt.alloc(), &mut reader, 10).err();
-    assert_eq!(rt;
-        (fault, reader.taken(), reader.errors()),
-        (Some(ReadWholeFault::Read), 3, 1)
-    );
+fn reads_up_to_an_error(rt: HostRuntime) {
+    for place in 0..=BYTES.len() {
+        let mut reader = Fake::new(rt.alloc(), BYTES, 2, place);
+        let fault = read_whole(rt.alloc(), &mut reader, 65, Document::Input).err();
+        assert_eq!(rt; fault, Some(RunFault::Read(Document::Input)), "at {place}");
+        assert_eq!(rt; (reader.taken(), reader.errors()), (place, 1));
+    }
+}
 
-    let bytes = Vec::from_slice(rt.alloc(), b"tile 5135\n")?;
-    let mut reader = Fake::new(rt.alloc(), bytes, 2, usize::MAX);
-    let fault = read_whole(rt.alloc(), &mut reader, 9).err();
-    assert_eq!(rt;
-        (fault, reader.taken(), reader.errors()),
-        (Some(ReadWholeFault::TooLong), 10, 0)
-    );
-
-    let mut writer = Fake::new(rt.alloc(), Vec::new(rt.alloc()), 2, 3);
-    assert_eq!(rt; write_whole(&mut writer, b"complete 1\n"), Err(Failed));
-    assert_eq!(rt; (writer.written(), writer.errors()), (b"com".as_slice(), 1));
-
-    let mut writer = Fake::new(rt.alloc(), Vec::new(rt.alloc()), 0, usize::MAX);
-    assert_eq!(rt; write_whole(&mut writer, b"complete 1\n"), Err(Failed));
-    assert_eq!(rt; (writer.written().len(), writer.errors()), (0, 0));
-    Ok(())
+#[test]
+fn writes_up_to_an_error(rt: HostRuntime) {
+    for (most, fails_after, outcome, front, errors) in [
+        (1, usize::MAX, Ok(()), b"complete 1\n".as_slice(), 0),
+        (2, 3, Err(Failed), b"com".as_slice(), 1),
+        (0, usize::MAX, Err(Failed), b"".as_slice(), 0),
+    ] {
+        let mut writer = Fake::new(rt.alloc(), b"", most, fails_after);
+        assert_eq!(rt; write_whole(&mut writer, b"complete 1\n"), outcome);
+        assert_eq!(rt; (writer.written(), writer.errors()), (front, errors));
+    }
 }
 
 // So many bytes, the numbers below 251 over and over.
@@ -58,10 +66,10 @@ fn many_bytes(alloc: Global, count: u32) -> Result<Vec<u8>, AllocError> {
 
 // Whether a source that gives at most so many of these bytes a call, and the system's reader over them, are read whole.
 fn are_read_whole(alloc: Global, bytes: &[u8], most: usize) -> Result<bool, Fail> {
-    let mut fake = Fake::new(alloc, Vec::from_slice(alloc, bytes)?, most, usize::MAX);
-    let of_fake = read_whole(alloc, &mut fake, 1_000_000)?;
+    let mut fake = Fake::new(alloc, bytes, most, usize::MAX);
+    let of_fake = read_whole(alloc, &mut fake, 1_000_000, Document::Input)?;
     let mut input = Input::new(bytes);
-    let of_system = read_whole(alloc, &mut input, 1_000_000)?;
+    let of_system = read_whole(alloc, &mut input, 1_000_000, Document::Input)?;
     Ok(of_fake.as_slice() == bytes && of_system.as_slice() == bytes)
 }
 

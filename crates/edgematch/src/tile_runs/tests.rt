@@ -5,7 +5,7 @@ use std::test::Fail;
 
 #[test]
 fn lists_the_triangles_of_two_colours(rt: HostRuntime) -> Result<(), Fail> {
-    let mut writer = Fake::new(rt.alloc(), Vec::new(rt.alloc()), 3, usize::MAX);
+    let mut writer = Fake::new(rt.alloc(), b"", 3, usize::MAX);
     assert_eq!(rt; run_tiles(rt.alloc(), 3, 2, &mut writer), Ok(()));
     assert_eq!(rt; writer.written(), b"000\n001\n011\n111\n".as_slice());
     Ok(())
@@ -14,7 +14,7 @@ fn lists_the_triangles_of_two_colours(rt: HostRuntime) -> Result<(), Fail> {
 // MacMahon's count, (q^3 + 2q) / 3: 76 lines of three colours and an LF.
 #[test]
 fn lists_the_triangles_of_six_colours(rt: HostRuntime) -> Result<(), Fail> {
-    let mut writer = Fake::new(rt.alloc(), Vec::new(rt.alloc()), usize::MAX, usize::MAX);
+    let mut writer = Fake::new(rt.alloc(), b"", usize::MAX, usize::MAX);
     assert_eq!(rt; run_tiles(rt.alloc(), 3, 6, &mut writer), Ok(()));
     assert_eq!(rt; writer.written().len(), 76 * 4);
     assert!(rt; writer.written().starts_with(b"000\n001\n"));
@@ -24,7 +24,7 @@ fn lists_the_triangles_of_six_colours(rt: HostRuntime) -> Result<(), Fail> {
 
 #[test]
 fn lists_no_more_than_100_tiles(rt: HostRuntime) -> Result<(), Fail> {
-    let mut writer = Fake::new(rt.alloc(), Vec::new(rt.alloc()), 3, usize::MAX);
+    let mut writer = Fake::new(rt.alloc(), b"", 3, usize::MAX);
     assert_eq!(rt;
         run_tiles(rt.alloc(), 4, 5, &mut writer),
         Err(RunFault::Tiles)

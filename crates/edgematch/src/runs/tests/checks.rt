@@ -1,18 +1,13 @@
 ghost use Rattle.std.specs.Prelude.{◌≤◌};
 
-use super::{LISTED, SQUARE_OF_FOUR, WALK_OF_FOUR, certificate};
-use crate::faults::{Document, RunFault, fault_text};
+use super::{LISTED, SQUARE_OF_FOUR};
+use crate::faults::{RunFault, fault_text};
 use crate::runs::{Status, run_check};
 use crate::streams::fakes::Fake;
 use match_board::limits::{MOST_FORKS, MOST_WORKERS};
 use std::alloc::{AllocError, Global};
 use std::test::Fail;
 use std::thread::Threads;
-
-// A reader of this text, some bytes at a time, that fails after so many.
-fn reader(alloc: Global, text: &[u8], fails_after: usize) -> Result<Fake, AllocError> {
-    Ok(Fake::new(alloc, Vec::from_slice(alloc, text)?, 7, fails_after))
-}
 
 // What a check of three documents by one worker writes, and what it comes to.
 pub fn check<R: Threads + Sync>(
@@ -38,10 +33,10 @@ pub fn check_by<R: Threads + Sync>(
     requires workers { (1 ≤ workers) × (workers ≤ MOST_WORKERS) }
     requires forks { forks ≤ MOST_FORKS }
 {
-    let mut puzzle = reader(alloc, puzzle, usize::MAX)?;
-    let mut list = reader(alloc, list, usize::MAX)?;
-    let mut certificate = reader(alloc, certificate, usize::MAX)?;
-    let mut writer = Fake::new(alloc, Vec::new(alloc), 5, usize::MAX);
+    let mut puzzle = Fake::new(alloc, puzzle, 7, usize::MAX);
+    let mut list = Fake::new(alloc, list, 7, usize::MAX);
+    let mut certificate = Fake::new(alloc, certificate, 7, usize::MAX);
+    let mut writer = Fake::new(alloc, b"", 5, usize::MAX);
     let status = run_check(
         rt,
         alloc,
@@ -53,52 +48,6 @@ pub fn check_by<R: Threads + Sync>(
         &mut writer,
     );
     Ok((Vec::from_slice(alloc, writer.written())?, status))
-}
-
-#[test]
-fn reads_nothing_after_a_failed_read(rt: HostRuntime) -> Result<(), Fail> {
-    let text = certificate(rt.alloc(), WALK_OF_FOUR)?;
-    let mut puzzle = reader(rt.alloc(), SQUARE_OF_FOUR, 0)?;
-    let mut list = reader(rt.alloc(), LISTED, usize::MAX)?;
-    let mut certificate = reader(rt.alloc(), &text, usize::MAX)?;
-    let mut writer = Fake::new(rt.alloc(), Vec::new(rt.alloc()), 5, usize::MAX);
-    let fault = run_check(
-        &rt,
-        rt.alloc(),
-        &mut puzzle,
-        &mut list,
-        &mut certificate,
-        1,
-        0,
-        &mut writer,
-    )
-    .err();
-    assert_eq!(rt; fault, Some(RunFault::Read(Document::Puzzle)));
-    assert_eq!(rt; (list.taken(), writer.written().len()), (0, 0));
-    Ok(())
-}
-
-#[test]
-fn writes_a_front_of_the_answer(rt: HostRuntime) -> Result<(), Fail> {
-    let text = certificate(rt.alloc(), WALK_OF_FOUR)?;
-    let mut puzzle = reader(rt.alloc(), SQUARE_OF_FOUR, usize::MAX)?;
-    let mut list = reader(rt.alloc(), LISTED, usize::MAX)?;
-    let mut certificate = reader(rt.alloc(), &text, usize::MAX)?;
-    let mut writer = Fake::new(rt.alloc(), Vec::new(rt.alloc()), usize::MAX, 3);
-    let fault = run_check(
-        &rt,
-        rt.alloc(),
-        &mut puzzle,
-        &mut list,
-        &mut certificate,
-        1,
-        0,
-        &mut writer,
-    )
-    .err();
-    assert_eq!(rt; fault, Some(RunFault::Write));
-    assert_eq!(rt; writer.written(), b"com".as_slice());
-    Ok(())
 }
 
 #[test]

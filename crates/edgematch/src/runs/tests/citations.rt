@@ -17,6 +17,9 @@ pub const TURNING_TRIANGLE: &[u8] =
 
 pub const LISTED_TRIANGLE: &[u8] = b"list 1\narrangements 1\n2.2 1.0 0.0 3.1\nend\n";
 
+pub const WALK_OF_TRIANGLE: &[u8] =
+    b"certificate 1\nsymmetries 1\nsymmetry 1 + cells 3 0 2 1 colours 0 1 2 3 tiles 0 1 2 3\nlemmas 3\nlemma 0 prefix 2:0.0 tree c 0 1 c 1 1 c 3 1 f 0\nlemma 1 prefix 2:0.2 tree i 0 0\nlemma 2 prefix tree t 0 3 s 0 i 1 0 s 1\nend\n";
+
 // A row of five cells. Its tiles are two of one word, two of another, which go after those, and one that fits the last
 // cell alone.
 pub const FIVE_CELLS: &[u8] =
@@ -34,7 +37,7 @@ const SECOND: &[u8] = b"lemma 1 prefix 2:0.2 tree i 0 0\n";
 const ROOT: &[u8] = b"lemma 2 prefix tree t 0 3 s 0 i 1 0 s 1\n";
 
 // A certificate of the turning triangle with these lemma lines.
-pub fn turning(alloc: Global, one: &[u8], two: &[u8], three: &[u8]) -> Result<Vec<u8>, AllocError> {
+fn turning(alloc: Global, one: &[u8], two: &[u8], three: &[u8]) -> Result<Vec<u8>, AllocError> {
     let mut text = Vec::from_slice(
         alloc,
         b"certificate 1\nsymmetries 1\nsymmetry 1 + cells 3 0 2 1 colours 0 1 2 3 tiles 0 1 2 3\nlemmas 3\n",
@@ -44,11 +47,6 @@ pub fn turning(alloc: Global, one: &[u8], two: &[u8], three: &[u8]) -> Result<Ve
     text.extend_from_slice(three)?;
     text.extend_from_slice(b"end\n")?;
     Ok(text)
-}
-
-// The certificate of the turning triangle.
-pub fn walk_of_triangle(alloc: Global) -> Result<Vec<u8>, AllocError> {
-    turning(alloc, FIRST, SECOND, ROOT)
 }
 
 // The line that a run prints: the answer's, or the fault's.

@@ -1,12 +1,41 @@
 use super::checks::check_by;
 use super::citations::{
-    LISTED_TRIANGLE, LISTED_TWINS, TURNING_TRIANGLE, TWIN_TILES, WALK_OF_TWINS, walk_of_triangle,
+    LISTED_TRIANGLE, LISTED_TWINS, TURNING_TRIANGLE, TWIN_TILES, WALK_OF_TRIANGLE, WALK_OF_TWINS,
 };
-use super::{LISTED, SQUARE_OF_FOUR, WALK_OF_FOUR, certificate, run_by};
+use super::{LISTED, LISTED_CELL, ONE_CELL, SQUARE_OF_FOUR, WALK_OF_FOUR, certificate, run_by};
 use crate::runs::Status;
+use crate::streams::documents::Documents;
 use std::alloc::{AllocError, Global};
 use std::test::Fail;
 use std::thread::Threads;
+
+// One cell, and its one tile.
+pub const CELL: Documents<'static> = Documents {
+    puzzle: ONE_CELL,
+    list: LISTED_CELL,
+    certificate: b"certificate 1\nsymmetries 0\nlemmas 1\nlemma 0 prefix tree c 0 1 f 0\nend\n",
+};
+
+// Squares that are not turned, and one border colour.
+pub const SQUARE: Documents<'static> = Documents {
+    puzzle: SQUARE_OF_FOUR,
+    list: LISTED,
+    certificate: b"certificate 1\nsymmetries 0\nlemmas 1\nlemma 0 prefix tree c 0 1 c 1 1 c 2 1 c 3 1 f 0\nend\n",
+};
+
+// Lemmas, and images under an exchange of tiles.
+pub const TWINS: Documents<'static> = Documents {
+    puzzle: TWIN_TILES,
+    list: LISTED_TWINS,
+    certificate: WALK_OF_TWINS,
+};
+
+// Lemmas, and images under a turn of the board.
+pub const TRIANGLE: Documents<'static> = Documents {
+    puzzle: TURNING_TRIANGLE,
+    list: LISTED_TRIANGLE,
+    certificate: WALK_OF_TRIANGLE,
+};
 
 const BORDERED_RECTANGLE: &[u8] =
     b"match 1\nboard rect 2 2\nturns yes\nborder each 0 - 1 - - 2 2 2\ntiles 4\ntile 1101\ntile 1210\ntile 2200\ntile 2201\nend\n";
@@ -65,13 +94,14 @@ fn checks_the_examples(rt: HostRuntime) -> Result<(), Fail> {
 // The others.
 #[test]
 fn checks_the_examples_of_symmetries(rt: HostRuntime) -> Result<(), Fail> {
-    let of_triangle = walk_of_triangle(rt.alloc())?;
-    let rows = [
-        (TWIN_TILES, LISTED_TWINS, WALK_OF_TWINS),
-        (TURNING_TRIANGLE, LISTED_TRIANGLE, of_triangle.as_slice()),
-    ];
-    for (puzzle, list, text) in rows {
-        assert!(rt; is_complete_by_all(&rt, rt.alloc(), puzzle, list, text, b"complete 1\n")?);
+    for Documents {
+        puzzle,
+        list,
+        certificate,
+    } in [TWINS, TRIANGLE] {
+        assert!(rt;
+            is_complete_by_all(&rt, rt.alloc(), puzzle, list, certificate, b"complete 1\n")?
+        );
     }
     Ok(())
 }

@@ -3,4 +3,4 @@ use Rattle.edgematch.proofs.StreamLemmas.{copied}
 use Rattle.edgematch.proofs.streams.fakes.FakeSource.read.Goals as goal
 
 pub returns-clause-bytes : goal.returns-clause-bytes
-returns-clause-bytes c = copied c.args.self.now.taken c.min-count.result c.args.self.now.bytes.items c.copy_from_slice.new.self _ (omega (arith, c.len.ensures, c.min.ensures, c.min-2.ensures, c.min-count.ensures, c.args.self.now.bytes.ok.0)) (search rules)
+returns-clause-bytes c = copied c.args.self.now.taken c.min-count.result c.args.self.now.bytes.now c.copy_from_slice.new.self _ (omega (arith, c.min.ensures, c.min-2.ensures, c.min-count.ensures)) (search rules)
