@@ -53,7 +53,7 @@ impl<'a> Model for Trees<'a> {
 }
 
 impl<'a> FlatTree<'a> {
-    ghost use Rattle.std.specs.Prelude.{◌≡◌};
+    ghost use Rattle.std.specs.Prelude.{◌≡◌, length};
     ghost use Rattle.cert_tree.specs.Tree.{more, none};
     ghost use Rattle.cert_tree.specs.Heads.{heads_of, trees_in, first, AreOfTree};
 
@@ -70,6 +70,13 @@ impl<'a> FlatTree<'a> {
         ensures { result.now ≡ heads_of self.now }
     {
         self.heads
+    }
+
+    /// How many nodes it has, each of which has a head.
+    pub fn nodes(&self) -> usize
+        ensures { result ≡ length (heads_of self.now) }
+    {
+        self.heads().len()
     }
 
     /// The tree alone, to be walked in preorder.

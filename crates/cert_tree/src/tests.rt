@@ -152,6 +152,7 @@ fn skips_a_tree(rt: HostRuntime) -> Result<(), Fail> {
     if EACH_NODE.len() < 1000 {
         let certificate = read_certificate(rt.alloc(), EACH_NODE)?;
         let lemma = lemma_at(&certificate, 0).ok_or("no lemma")?;
+        assert_eq!(rt; lemma.tree.nodes(), 6);
         assert_eq!(rt; second_child(&lemma.tree), Some(Head::Same(999_999)));
     }
     head_laws();

@@ -57,13 +57,13 @@ fn trees_fault_by_crew<R: Threads + Sync, G: Gate + Sync>(
 ///
 /// The list is verified by as many threads as the machine has processors for, and its repetitions are looked for by the
 /// caller. Then each lemma is a job of a crew: the gate is told of it by the worker that took it, which walks its tree
-/// on a board of its own, the halves of a branch's children at once in the first `forks` levels. All lemmas are walked,
-/// and of those with a fault the first counts. One worker without forks does all in turn, on the caller's thread, and
-/// stops at the first fault.
+/// on a board of its own, the halves of a branch's children at once in the first `forks` levels of a tree that has at
+/// least 10,000 nodes. All lemmas are walked, and of those with a fault the first counts. One worker without forks does
+/// all in turn, on the caller's thread, and stops at the first fault.
 ///
 /// It joins threads: one for each worker but the caller, and with forks one more for each branch with several children in
-/// the first `forks` levels, of which at most 2^`forks` - 1 run at once for a worker. Forks pay where a tree has many nodes
-/// below these levels. An `Err` comes where memory is refused, to any of the workers.
+/// these levels, of which at most 2^`forks` - 1 run at once for a worker. Forks pay where a tree has many nodes below
+/// them. An `Err` comes where memory is refused, to any of the workers.
 pub fn check_with<R: Threads + Sync, G: Gate + Sync>(
     rt: &R,
     alloc: Global,

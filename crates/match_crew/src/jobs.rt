@@ -1,6 +1,6 @@
 //! A job for each lemma.
 
-ghost use Rattle.std.specs.Prelude.{◌≡◌, ◌<◌, ◌^◌, IfOk, length};
+ghost use Rattle.std.specs.Prelude.{◌≡◌, ◌≤◌, ◌<◌, ◌^◌, IfOk, length};
 ghost use Rattle.std.specs.Thread.{IsSync};
 ghost use Rattle.cert_check.specs.Setting.{question_of};
 ghost use Rattle.match_crew.specs.Jobs.{IsJob, IsFinding, IsFirstFound};
@@ -12,6 +12,9 @@ use match_symmetry::Symmetry;
 use std::alloc::{AllocError, Global};
 use std::thread::Threads;
 use steal_crew::Work;
+
+// A tree of fewer nodes is walked by one thread, which is done before others would have started.
+const LEAST_FORKED: usize = 10_000;
 
 // What the trees of a certificate's lemmas are walked by.
 #[derive(Drop)]
@@ -44,12 +47,25 @@ impl<'a, T: Threads + Sync, G: Gate + Sync> Work for Walks<'a, T, G> {
             self.symmetries,
             self.certificate,
             number,
-            self.forks,
+            forks_of(self.certificate, number, self.forks),
         )?;
         let Some(fault) = found else {
             return Ok(None);
         };
         Ok(Some(Box::new(self.alloc, fault)?))
+    }
+}
+
+// In how many levels, of at most `forks`, the halves of a branch of the lemma's tree are walked at once.
+fn forks_of(certificate: &Certificate, number: u32, forks: u8) -> u8
+    requires { number < length certificate.now.lemmas }
+    ensures { result ≤ forks }
+{
+    let tree = certificate.lemmas().at(number as usize).tree;
+    if tree.nodes() < LEAST_FORKED {
+        0
+    } else {
+        forks
     }
 }
 
