@@ -158,11 +158,11 @@ def short_lemmas(size):
 
 
 def forked(size):
-    """With six forks a lemma of 700 bytes starts 63 threads, at each branch of two children one."""
+    """With six forks a lemma of more than 10,000 nodes starts 63 threads, at each branch of two children one."""
     ruled = COLOURS[:29]
     border = "each 0 0 - " + " ".join(f"{colour} {colour}" for colour in ruled[1:]) + " z - -"
     tiles = [f"{colour}x{colour}y" for colour in ruled] + ["xxxx"]
-    tree = branches(range(0, 12, 2), 2, 0, "d 29")
+    tree = branches(range(0, 26, 2), 2, 0, "d 29")
     text = certificate([], repeated(size, ([], tree)))
     return [*CHECK, "--forks", "6"], puzzle("rect 30 1", "yes", border, tiles), listing([]), text
 

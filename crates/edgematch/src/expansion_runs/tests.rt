@@ -5,6 +5,7 @@ use crate::runs::tests::citations::{
     FIVE_CELLS, LISTED_FIVE, LISTED_TRIANGLE, LISTED_TWINS, TURNING_TRIANGLE, TWIN_TILES,
     WALK_OF_FIVE, WALK_OF_TRIANGLE, WALK_OF_TWINS,
 };
+use crate::runs::tests::with_memory;
 use crate::streams::fakes::Fake;
 use std::alloc::{AllocError, Global};
 use std::test::Fail;
@@ -21,6 +22,7 @@ pub fn expansion(
     let mut certificate = Fake::new(alloc, certificate, 7, usize::MAX);
     let mut writer = Fake::new(alloc, b"", 5, usize::MAX);
     let status = run_expand(alloc, &mut puzzle, &mut list, &mut certificate, &mut writer);
+    let status = with_memory(status)?;
     Ok((Vec::from_slice(alloc, writer.written())?, status))
 }
 

@@ -6,6 +6,7 @@ use super::{fault_status, run_order};
 use crate::faults::{Document, RunFault};
 use crate::files::fakes::{FakeFiles, HeldFiles};
 use crate::runs::tests::citations::{LISTED_TWINS, TWIN_TILES, WALK_OF_TWINS};
+use crate::runs::tests::with_memory;
 use crate::streams::fakes::Fake;
 use command_words::{Files, Order};
 use match_board::limits::{MOST_DEPTH, MOST_FORKS, MOST_WORKERS};
@@ -73,6 +74,7 @@ fn run<R: Threads + Wait + Sync>(
     let mut output = Fake::new(alloc, b"", 5, usize::MAX);
     let system = FakeFiles::new(alloc, &FILES);
     let status = run_order(rt, alloc, order, &system, &mut input, &mut output);
+    let status = with_memory(status)?;
     Ok((Vec::from_slice(alloc, output.written())?, status))
 }
 

@@ -41,6 +41,16 @@ const NO_LEMMA: &[u8] = b"certificate 1\nsymmetries 0\nlemmas 0\nend\n";
 
 const WALK_OF_FOUR: &[u8] = b"c 0 1 c 1 1 c 2 1 c 3 1 f 0";
 
+// What a run comes to; where it wants memory, so does the test.
+pub fn with_memory<T: Drop>(
+    outcome: Result<T, RunFault>,
+) -> Result<Result<T, RunFault>, AllocError> {
+    match outcome {
+        Err(RunFault::Memory) => Err(AllocError),
+        other => Ok(other),
+    }
+}
+
 // The text of a certificate of this tree alone.
 fn certificate(alloc: Global, tree: &[u8]) -> Result<Vec<u8>, AllocError> {
     let mut text = Vec::from_slice(
@@ -81,9 +91,8 @@ fn run_by<R: Threads + Sync>(
     input.extend_from_slice(certificate)?;
     let mut reader = Fake::new(alloc, &input, 7, usize::MAX);
     let mut writer = Fake::new(alloc, b"", 5, usize::MAX);
-    let status = run_joined(rt, alloc, &mut reader, workers, forks, &mut writer);
-    let written = Vec::from_slice(alloc, writer.written())?;
-    Ok((written, status))
+    let status = with_memory(run_joined(rt, alloc, &mut reader, workers, forks, &mut writer))?;
+    Ok((Vec::from_slice(alloc, writer.written())?, status))
 }
 
 #[test]

@@ -6,6 +6,7 @@ ghost use Rattle.std.specs.Prelude.{◌≤◌};
 use super::run_solve;
 use crate::faults::{Document, RunFault};
 use crate::runs::tests::citations::TURNING_TRIANGLE;
+use crate::runs::tests::with_memory;
 use crate::runs::{Status, run_joined};
 use crate::streams::fakes::Fake;
 use match_board::limits::{MOST_DEPTH, MOST_FUEL, MOST_WORKERS};
@@ -62,6 +63,7 @@ fn solve<R: Threads + Wait + Sync>(
         &mut certificate,
         &mut writer,
     );
+    let outcome = with_memory(outcome)?;
     Ok(Written {
         list: Vec::from_slice(alloc, list.written())?,
         certificate: Vec::from_slice(alloc, certificate.written())?,
@@ -95,7 +97,7 @@ fn checks<R: Threads + Sync>(
     let mut reader = Fake::new(alloc, &input, 1000, usize::MAX);
     let mut writer = Fake::new(alloc, b"", 1000, usize::MAX);
     let status = run_joined(rt, alloc, &mut reader, 1, 0, &mut writer);
-    Ok(status == Ok(Status::Complete))
+    Ok(with_memory(status)? == Ok(Status::Complete))
 }
 
 #[test]

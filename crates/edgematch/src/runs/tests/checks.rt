@@ -1,6 +1,6 @@
 ghost use Rattle.std.specs.Prelude.{◌≤◌};
 
-use super::{LISTED, SQUARE_OF_FOUR};
+use super::{LISTED, SQUARE_OF_FOUR, with_memory};
 use crate::faults::{RunFault, fault_text};
 use crate::runs::{Status, run_check};
 use crate::streams::fakes::Fake;
@@ -47,6 +47,7 @@ pub fn check_by<R: Threads + Sync>(
         forks,
         &mut writer,
     );
+    let status = with_memory(status)?;
     Ok((Vec::from_slice(alloc, writer.written())?, status))
 }
 
