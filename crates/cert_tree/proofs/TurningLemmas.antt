@@ -20,7 +20,7 @@ use Rattle.cert_tree.specs.Certificate.{Piece, piece_number, IsNumbered}
 use Rattle.cert_tree.specs.CertificateSpelling.{IsLemmaWithin}
 use Rattle.cert_tree.specs.Assembly.{IsAssembly, Assembles}
 use Rattle.cert_tree.specs.TurnedAssembly.{turned_tree, turned_forest, turned_piece, AssemblesTurned}
-use Rattle.cert_tree.specs.Turning.{turned_head, IsFoundBelow}
+use Rattle.cert_tree.specs.Turning.{turned_head, IsFoundUpTo}
 use Rattle.cert_tree.proofs.AssemblyLemmas.{assembled_all}
 use Rattle.cert_tree.proofs.ReadingLemmas.{piece_at}
 
@@ -57,16 +57,16 @@ mutual
 
 -- ---- the arrangements of a tree that has a spelling
 
-branch_below : (most : ℕ) (item : Item) (n : ℕ) → IsFoundBelow most (branch_head item n)
+branch_below : (most : ℕ) (item : Item) (n : ℕ) → IsFoundUpTo most (branch_head item n)
 branch_below most (items.Cell cell) n = tt
 branch_below most (items.Tile tile) n = tt
 
-dead_below : (most : ℕ) (item : Item) → IsFoundBelow most (dead_head item)
+dead_below : (most : ℕ) (item : Item) → IsFoundUpTo most (dead_head item)
 dead_below most (items.Cell cell) = tt
 dead_below most (items.Tile tile) = tt
 
 abbrev Below : Head → Type 0
-Below = IsFoundBelow MOST_ARRANGEMENTS
+Below = IsFoundUpTo MOST_ARRANGEMENTS
 
 alone : (head : Head) → Below head → All Below (head ∷ [])
 alone head is = All-cons Below head [] is (All-nil Below)

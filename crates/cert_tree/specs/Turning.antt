@@ -15,11 +15,11 @@ turned_head count first (heads.Same lemma) = heads.Same (turned_number count lem
 turned_head count first (heads.Image symmetry lemma) = heads.Image symmetry (turned_number count lemma)
 
 -- A listed arrangement has a number up to this one.
-abbrev pub IsFoundBelow : ℕ → Head → Type 0
-IsFoundBelow most (heads.Cell cell children) = Unit {0}
-IsFoundBelow most (heads.Tile tile children) = Unit {0}
-IsFoundBelow most (heads.DeadCell cell) = Unit {0}
-IsFoundBelow most (heads.DeadTile tile) = Unit {0}
-IsFoundBelow most (heads.Found number) = number ≤ most
-IsFoundBelow most (heads.Same lemma) = Unit {0}
-IsFoundBelow most (heads.Image symmetry lemma) = Unit {0}
+abbrev pub IsFoundUpTo : ℕ → Head → Type 0
+IsFoundUpTo most (heads.Cell cell children) = Unit {0}
+IsFoundUpTo most (heads.Tile tile children) = Unit {0}
+IsFoundUpTo most (heads.DeadCell cell) = Unit {0}
+IsFoundUpTo most (heads.DeadTile tile) = Unit {0}
+IsFoundUpTo most (heads.Found number) = number ≤ most
+IsFoundUpTo most (heads.Same lemma) = Unit {0}
+IsFoundUpTo most (heads.Image symmetry lemma) = Unit {0}

@@ -9,7 +9,7 @@ ghost use Rattle.cert_tree.specs.Heads.{heads_of};
 ghost use Rattle.cert_tree.specs.Spans.{piece_in, IsSpan};
 ghost use Rattle.cert_tree.specs.Assembly.{HaveNoStranger};
 ghost use Rattle.cert_tree.specs.TurnedAssembly.{turned_number as number_of_turned, turned_piece, AssemblesTurned};
-ghost use Rattle.cert_tree.specs.Turning.{turned_head as head_of_turned, IsFoundBelow};
+ghost use Rattle.cert_tree.specs.Turning.{turned_head as head_of_turned, IsFoundUpTo};
 
 use crate::assemblies::{in_order, least_stranger};
 use crate::certificates::{Certificate, Lemma};
@@ -35,7 +35,7 @@ fn turned_number(count: u32, number: u32) -> u32
 // The head with its citation turned, or its arrangement counted from the first.
 fn turned_head(count: u32, first: u32, head: Head) -> Head
     requires first { first ≤ MOST_ARRANGEMENTS }
-    requires found { IsFoundBelow MOST_ARRANGEMENTS head }
+    requires found { IsFoundUpTo MOST_ARRANGEMENTS head }
     ensures { result ≡ head_of_turned count first head }
 {
     match head {
@@ -55,7 +55,7 @@ fn turned_head(count: u32, first: u32, head: Head) -> Head
 fn turn_heads(heads: &mut Vec<Head>, start: usize, count: u32, first: u32)
     requires start { start ≤ length heads.old.items }
     requires first { first ≤ MOST_ARRANGEMENTS }
-    requires found { All (IsFoundBelow MOST_ARRANGEMENTS) (drop start heads.old.items) }
+    requires found { All (IsFoundUpTo MOST_ARRANGEMENTS) (drop start heads.old.items) }
     ensures { heads.new.items
         ≡ take start heads.old.items ++ map (head_of_turned count first) (drop start heads.old.items) }
 {

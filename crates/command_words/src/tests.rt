@@ -366,7 +366,7 @@ Exit status:
     prints(
         rt.alloc(),
         &["--version"],
-        "edgematch 0.1.0 (proved with rattle-kit-13b logic dac8208d650f15bf)\n",
+        "edgematch 0.1.0 (proved with rattle-kit-13f logic dac8208d650f15bf)\n",
         false,
     )?;
     prints(

@@ -21,6 +21,17 @@ const TWIN_TILES: &[u8] =
 const FIVE_LISTED_BEFORE: &[u8] =
     b"certificate 1\nsymmetries 1\nsymmetry 0 + cells 0 1 colours 0 1 tiles 1 0\nlemmas 2\nlemma 0 prefix 0:0.0 tree c 1 1 f 5\nlemma 1 prefix tree c 0 2 s 0 i 0 0\nend\n";
 
+// Four lemmas, which cite each other, a lemma at their count and one past it.
+const FOUR_LEMMAS: [&[u8]; 4] = [
+    b"lemma 0 prefix tree c 0 3 s 1 i 2 0 s 3\n",
+    b"lemma 1 prefix 0:0.0 tree c 1 2 f 0 s 3\n",
+    b"lemma 2 prefix 0:1.0 tree c 1 1 s 4\n",
+    b"lemma 3 prefix 0:2.0 tree t 1 2 f 3 i 9 0\n",
+];
+
+const FOUR_TURNED: &[u8] =
+    b"certificate 1\nsymmetries 1\nsymmetry 0 + cells 0 1 colours 0 1 tiles 1 0\nlemmas 4\nlemma 0 prefix 0:2.0 tree t 1 2 f 4 i 9 0\nlemma 1 prefix 0:1.0 tree c 1 1 s 4\nlemma 2 prefix 0:0.0 tree c 1 2 f 5 s 0\nlemma 3 prefix tree c 0 3 s 2 i 1 0 s 0\nend\n";
+
 // The twin tiles' symmetry.
 fn exchange(alloc: Global) -> Result<Vec<SymmetryLine>, AllocError>
     ensures { IfOk result (λ lines. vec_len lines ≡ 1) }
@@ -167,6 +178,64 @@ fn gathers_the_twin_tiles(rt: HostRuntime) -> Result<(), Fail> {
     let alone = [post_text(&rt, alloc, &desk, ROOT)?];
     let missing = desk.gather(alloc, &alone, exchange(alloc)?, 2, &[0, 0]);
     assert_eq!(rt; missing.err(), Some(AssembleFault::Missing(1)));
+    Ok(())
+}
+
+// Posts those of the four lemmas that have these numbers.
+fn post_numbers<R: Wait>(
+    rt: &R,
+    alloc: Global,
+    desk: &Desk,
+    numbers: &[usize],
+) -> Result<Vec<Receipt>, Fail>
+    ensures { IfOk result (λ receipts. All (IsOf desk.now) receipts.items) }
+{
+    let mut receipts = Vec::new(alloc);
+    for number in numbers {
+        receipts.push(post_text(rt, alloc, desk, FOUR_LEMMAS[number % 4])?)?;
+    }
+    Ok(receipts)
+}
+
+// The fault of what is gathered of lemmas with these numbers.
+fn fault_of_four<R: Wait>(
+    rt: &R,
+    alloc: Global,
+    numbers: &[usize],
+    count: u32,
+) -> Result<Option<AssembleFault>, Fail> {
+    let desk = Desk::new(alloc)?;
+    let receipts = post_numbers(rt, alloc, &desk, numbers)?;
+    let first = vec![in alloc; 0; count.min(9) as usize]?;
+    let gathered = desk.gather(alloc, &receipts, exchange(alloc)?, count.min(9), &first);
+    Ok(gathered.err())
+}
+
+#[test]
+fn gathers_four_lemmas(rt: HostRuntime) -> Result<(), Fail> {
+    let alloc = rt.alloc();
+    let desk = Desk::new(alloc)?;
+    let receipts = post_numbers(&rt, alloc, &desk, &[2, 0, 3, 1])?;
+    let certificate = desk.gather(alloc, &receipts, exchange(alloc)?, 4, &[0, 5, 2, 1])?;
+    if !certificate.within_limits() {
+        return Err(Fail::new("more is gathered than a text has"));
+    }
+    assert_eq!(rt;
+        write_certificate(alloc, &certificate)?.as_slice(),
+        FOUR_TURNED
+    );
+    Ok(())
+}
+
+#[test]
+fn names_the_first_fault_of_four_lemmas(rt: HostRuntime) -> Result<(), Fail> {
+    let alloc = rt.alloc();
+    let stranger = fault_of_four(&rt, alloc, &[3, 0, 0, 2], 2)?;
+    assert_eq!(rt; stranger, Some(AssembleFault::Stranger(2)));
+    let double = fault_of_four(&rt, alloc, &[3, 1, 3, 1], 4)?;
+    assert_eq!(rt; double, Some(AssembleFault::Double(1)));
+    let missing = fault_of_four(&rt, alloc, &[3, 0], 4)?;
+    assert_eq!(rt; missing, Some(AssembleFault::Missing(1)));
     Ok(())
 }
 

@@ -8,7 +8,7 @@ use Rattle.cert_tree.specs.Heads.{heads_of}
 use Rattle.cert_tree.specs.Certificate.{Piece}
 use Rattle.cert_tree.specs.Spans.{piece_in}
 use Rattle.cert_tree.specs.TurnedAssembly.{turned_tree}
-use Rattle.cert_tree.specs.Turning.{IsFoundBelow}
+use Rattle.cert_tree.specs.Turning.{IsFoundUpTo}
 use Rattle.cert_tree.proofs.TreeLimitLemmas.{narrow_within}
 use Rattle.cert_tree.proofs.TurningLemmas.{found_below, turned_behind}
 use Rattle.cert_tree.proofs.SpanLemmas.{behind_is, put_tree, put_piece}
@@ -24,7 +24,7 @@ turn_heads-requires-clause-found c =
     let start : c.len-heads_start.result ≡ length c.args.heads.now.items = omega (arith, c.len-heads_start.ensures, c.args.heads.now.ok.0) in
     let put : drop c.len-heads_start.result c.put_node.new.heads.items ≡ heads_of tree = ap (λ n. drop n c.put_node.new.heads.items) start
     ∙ behind_is c.args.heads.now.items c.put_node.new.heads.items (heads_of tree) c.in_ok-put_node.ensures in
-    subst (λ (hs : List Head). All (IsFoundBelow MOST_ARRANGEMENTS) hs) (sym put) (found_below MOST_LEVELS tree c.requires.within.tree)
+    subst (λ (hs : List Head). All (IsFoundUpTo MOST_ARRANGEMENTS) hs) (sym put) (found_below MOST_LEVELS tree c.requires.within.tree)
 
 module _ (c : After-deref-2) where
   abbrev first : ℕ
