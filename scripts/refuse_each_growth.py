@@ -6,7 +6,8 @@ usage: refuse_each_growth.py [--rest] [--jobs N] [--seconds N] [CRATE | CRATE::T
 Each test of a crate whose tests `rt test` has built, and the program on each example, where it is built, is run with
 its Nth request for memory refused, for N = 1, 2, .. until a run meets no refusal; past the first 2,000 requests only
 some are refused, as is said then. With --rest all requests after the Nth are refused too. With names only those crates
-and tests are run; `program` is the program.
+and tests are run; `program` is the program. Two tests that take seconds for each run are left out, unless they are named
+themselves.
 
 A test has to pass, or to end with want of memory: as its error, or as the answer, or that answer's text, which an
 `assert_eq!` finds in the place of the wanted one. A test of threads that meet may also end because no other thread
@@ -28,6 +29,10 @@ HERE = os.path.dirname(os.path.abspath(__file__))
 TOP = os.path.dirname(HERE)
 EXAMPLES = os.path.join(TOP, "examples")
 EACH, FURTHER = 2000, 500
+SLOW = (
+    "edgematch::expansion_runs::tests::many_orders::tells_that_too_many_are_reached",
+    "edgematch::solve_runs::tests::small_puzzles::finds_what_is_among_all_placements",
+)
 REFUSED = (2, "", "out of memory\n")
 TEXT = re.escape(str(list(b"out of memory\n")))
 MEMORY = rf"({TEXT}|(\w+\()*(Memory|AllocError|AllocFailed {{ \.\. }})\)*)"
@@ -190,6 +195,8 @@ def commands():
 
 
 def is_named(subject, names):
+    if subject.name in SLOW:
+        return subject.name in names
     return not names or any(f"{subject.name}:".startswith(f"{it}:") for it in names)
 
 

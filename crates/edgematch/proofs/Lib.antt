@@ -4,3 +4,4 @@ pub mod OrderLemmas
 pub mod RepetitionLemmas
 pub mod RunLemmas
 pub mod SolvingLemmas
+mod WordLemmas

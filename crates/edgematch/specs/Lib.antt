@@ -7,3 +7,4 @@ pub mod Solving
 pub mod Files
 pub mod HeldFiles
 pub mod OrderRuns
+pub mod WordRuns

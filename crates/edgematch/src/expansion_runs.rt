@@ -14,6 +14,7 @@ ghost use Rattle.edgematch.specs.Runs.{AreAllInOrder, ExpansionGives, RunGives, 
 
 use crate::faults::{Document, RunFault};
 use crate::questions::{Question, read_question};
+use crate::random_fold::RandomFold;
 use crate::repetitions::distinct_symmetries;
 use crate::runs::{Status, status_for, write_text};
 use crate::streams::documents::Documents;
@@ -25,15 +26,18 @@ use match_board::limits::{MOST_ARRANGEMENTS, MOST_BYTES};
 use match_report::{expand, write_answer};
 use match_text::write_list;
 use std::alloc::Global;
+use std::random::RandomSource;
 
 /// Reads a puzzle, a list and a certificate, each to its end and in this order, and checks them. Where
 /// the list is complete, writes the list of all arrangements of the puzzle, each once: the listed ones
-/// and then their images, in the order of the closure. Where it is refused, writes the answer.
+/// and then their images, in the order of the closure. Where it is refused, writes the answer. The
+/// arrangements are hashed with a secret, so that no list can be made to be dear.
 ///
 /// `Expand` where there are over 1,000,000. The other faults are those of
 /// [`run_check`](crate::runs::run_check). Where a fault other than `Write` is answered, nothing was
 /// written.
-pub fn run_expand<P: Source, L: Source, C: Source, W: Sink>(
+pub fn run_expand<P: Source, L: Source, C: Source, W: Sink, R: RandomSource>(
+    rt: &R,
     alloc: Global,
     puzzle: &mut P,
     list: &mut L,
@@ -74,11 +78,12 @@ pub fn run_expand<P: Source, L: Source, C: Source, W: Sink>(
         list: &list,
         certificate: &certificate,
     };
-    write_expansion_of(alloc, &documents, writer)
+    write_expansion_of(rt, alloc, &documents, writer)
 }
 
 // Writes what is printed for the documents, and nothing else.
-fn write_expansion_of<W: Sink>(
+fn write_expansion_of<W: Sink, R: RandomSource>(
+    rt: &R,
     alloc: Global,
     documents: &Documents<'_>,
     writer: &mut W,
@@ -94,7 +99,7 @@ fn write_expansion_of<W: Sink>(
         → WritesFront (writing_of W.Sink writer.old writer.new)
         (λ text. (status : Status) × ExpansionGives (texts_of documents.now) text status) }
 {
-    let printed = make_text(alloc, documents)?;
+    let printed = make_text(rt, alloc, documents)?;
     write_text(writer, &printed.text)?;
     Ok(printed.status)
 }
@@ -107,7 +112,11 @@ struct Printed {
 }
 
 // What is printed for the documents.
-fn make_text(alloc: Global, documents: &Documents<'_>) -> Result<Printed, RunFault>
+fn make_text<R: RandomSource>(
+    rt: &R,
+    alloc: Global,
+    documents: &Documents<'_>,
+) -> Result<Printed, RunFault>
     requires { AreShort (texts_of documents.now) }
     ensures printed { IfOk result (λ printed.
         ExpansionGives (texts_of documents.now) printed.text.items printed.status) }
@@ -124,7 +133,7 @@ fn make_text(alloc: Global, documents: &Documents<'_>) -> Result<Printed, RunFau
         &question.certificate,
     )?;
     let text = match &answer {
-        Answer::Complete => all_text(alloc, &question)?,
+        Answer::Complete => all_text(rt, alloc, &question)?,
         Answer::Refused(_) => write_answer(alloc, &answer, question.listed.len() as u32)?,
     };
     Ok(Printed {
@@ -134,7 +143,11 @@ fn make_text(alloc: Global, documents: &Documents<'_>) -> Result<Printed, RunFau
 }
 
 // The list of all arrangements of the puzzle, from a complete one.
-fn all_text(alloc: Global, question: &Question) -> Result<Vec<u8>, RunFault>
+fn all_text<R: RandomSource>(
+    rt: &R,
+    alloc: Global,
+    question: &Question,
+) -> Result<Vec<u8>, RunFault>
     requires puzzle { IsPuzzle question.now.puzzle }
     requires complete { IsCompleteList question.now.puzzle question.now.certificate.symmetries
         question.now.listed.items }
@@ -148,7 +161,8 @@ fn all_text(alloc: Global, question: &Question) -> Result<Vec<u8>, RunFault>
 {
     let lines = question.certificate.symmetries();
     let symmetries = distinct_symmetries(alloc, &question.puzzle, lines)?;
-    let all = expand(alloc, &question.listed, &symmetries)?;
+    let hasher = RandomFold::new(rt);
+    let all = expand(alloc, &question.listed, &symmetries, hasher)?;
     let text = write_list(alloc, all.as_slice())?;
     Ok(text)
 }

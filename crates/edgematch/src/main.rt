@@ -6,46 +6,66 @@ mod faults;
 mod files;
 mod order_runs;
 mod questions;
+mod random_fold;
 mod repetitions;
 mod runs;
 mod solve_runs;
 mod streams;
+mod system_limits;
 mod tile_runs;
+mod word_runs;
 
-use crate::faults::{RunFault, fault_text};
+use crate::faults::RunFault;
 use crate::files::System;
-use crate::order_runs::{fault_status, run_order};
 use crate::streams::systems::{Input, Output};
-use command_words::{WordsFault, order};
-use std::io::{ErrorKind, Write};
+use crate::system_limits::SystemLimits;
+use crate::word_runs::{run_words, stopped};
+use std::io::ErrorKind;
 use std::process::ExitCode;
+use std::random::RandomSource;
+use std::sync::Wait;
+use std::thread::{Builder, Threads};
 use std::{env, io};
 
-// The exit status where the words order nothing.
-const WRONG_WORDS: u8 = 2;
+// The exit status where the words can't be read.
+const UNREAD_WORDS: u8 = 2;
 
+// A stack that is enough, in bytes: a search of 100 cells takes 284 KiB. Threads get as much as the limit on stacks says.
+const STACK_LEN: usize = 0x10_0000;
+
+// The stack that a program begins with grows as it is used, and where it can't, the system ends the program. So where
+// memory is limited, all is done on a thread, whose stack is there when it starts.
 fn main(rt: HostRuntime) -> ExitCode {
-    let words = match words(&rt) {
-        Ok(words) => words,
-        Err(error) => return unread(&rt, &error),
+    let limits = SystemLimits::read(&rt);
+    let status = if !limits.allow_stack(STACK_LEN as u64) {
+        out_of_memory(&rt)
+    } else if limits.bound_memory() {
+        match Builder::new()
+            .stack_size(STACK_LEN)
+            .spawn(&rt, move || status(&rt, &rt))
+        {
+            Ok(thread) => thread.join(&rt),
+            Err(_) => out_of_memory(&rt),
+        }
+    } else {
+        status(&rt, &rt)
     };
-    let order = match order(rt.alloc(), &words) {
-        Ok(order) => order,
-        Err(WordsFault::Words(error)) => return explained(&rt, &error),
-        Err(WordsFault::Memory) => return stopped(&rt, &RunFault::Memory),
-    };
-    let mut input = Input::new(rt.stdin());
-    let mut output = Output::new(rt.stdout());
-    match run_order(
-        &rt,
-        rt.alloc(),
-        &order,
-        &System::new(&rt),
-        &mut input,
-        &mut output,
-    ) {
-        Ok(status) => ExitCode::from(status),
-        Err(fault) => stopped(&rt, &fault),
+    ExitCode::from(status)
+}
+
+// Does what the words order, over the system's files and streams, and gives the exit status.
+fn status<R: Threads + Wait + Sync + RandomSource>(threads: &R, rt: &HostRuntime) -> u8 {
+    match words(rt) {
+        Ok(words) => run_words(
+            threads,
+            rt.alloc(),
+            &words,
+            &System::new(rt),
+            &mut Input::new(rt.stdin()),
+            &mut Output::new(rt.stdout()),
+            &mut Output::new(rt.stderr()),
+        ),
+        Err(error) => unread(rt, &error),
     }
 }
 
@@ -55,31 +75,15 @@ fn words(rt: &HostRuntime) -> io::Result<Vec<String>> {
     Ok(words)
 }
 
-// Says why a run stopped, in one line on standard error. Where that can't be written, nothing can
-// be said.
-fn stopped(rt: &HostRuntime, fault: &RunFault) -> ExitCode {
-    let mut errors = rt.stderr();
-    let _ = match fault_text(rt.alloc(), fault) {
-        Ok(text) => errors.write_all(&text),
-        Err(_) => errors.write_all(b"out of memory\n"),
-    };
-    ExitCode::from(fault_status(fault))
-}
-
-// Prints help or the version where it was asked for, else what is wrong with the words.
-fn explained(rt: &HostRuntime, error: &clap::Error) -> ExitCode {
-    match error.print(rt) {
-        Ok(()) if !error.use_stderr() => ExitCode::SUCCESS,
-        Err(_) if !error.use_stderr() => stopped(rt, &RunFault::Write),
-        _ => ExitCode::from(WRONG_WORDS),
-    }
+fn out_of_memory(rt: &HostRuntime) -> u8 {
+    stopped(rt.alloc(), &RunFault::Memory, &mut Output::new(rt.stderr()))
 }
 
 // Says that the words can't be read.
-fn unread(rt: &HostRuntime, error: &io::Error) -> ExitCode {
+fn unread(rt: &HostRuntime, error: &io::Error) -> u8 {
     if error.kind() == ErrorKind::OutOfMemory {
-        return stopped(rt, &RunFault::Memory);
+        return out_of_memory(rt);
     }
     let _ = rt.eprintln("the words of the command line are not UTF-8");
-    ExitCode::from(WRONG_WORDS)
+    UNREAD_WORDS
 }

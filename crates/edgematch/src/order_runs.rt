@@ -20,6 +20,7 @@ use crate::tile_runs::run_tiles;
 use command_words::{Files, Order};
 use match_board::limits::{MOST_DEPTH, MOST_FORKS, MOST_FUEL, MOST_WORKERS};
 use std::alloc::Global;
+use std::random::RandomSource;
 use std::sync::Wait;
 use std::thread::Threads;
 
@@ -41,7 +42,7 @@ const UNSOLVED: u8 = 3;
 /// The files of an order are all opened before one is read: the puzzle's, the list's, the certificate's. `Read` of
 /// the first that can't be opened. A solve opens the puzzle's and makes the other two; where two of the three names
 /// are the same, or one can't be made, `Write`.
-pub fn run_order<S: FileSystem, I: Source, W: Sink, R: Threads + Wait + Sync>(
+pub fn run_order<S: FileSystem, I: Source, W: Sink, R: Threads + Wait + Sync + RandomSource>(
     rt: &R,
     alloc: Global,
     order: &Order,
@@ -77,7 +78,7 @@ pub fn run_order<S: FileSystem, I: Source, W: Sink, R: Threads + Wait + Sync>(
             solve(rt, alloc, files, *depth, *fuel, *workers, system, output)?;
             Ok(COMPLETE)
         }
-        Order::Expand(files) => expand(alloc, files, system, output),
+        Order::Expand(files) => expand(rt, alloc, files, system, output),
         Order::Tiles { sides, colours } => {
             run_tiles(alloc, *sides, *colours, output)?;
             Ok(COMPLETE)
@@ -182,7 +183,8 @@ fn solve<S: FileSystem, W: Sink, R: Threads + Wait + Sync>(
 }
 
 // As a check, and prints all arrangements.
-fn expand<S: FileSystem, W: Sink>(
+fn expand<S: FileSystem, W: Sink, R: RandomSource>(
+    rt: &R,
     alloc: Global,
     files: &Files,
     system: &S,
@@ -195,6 +197,7 @@ fn expand<S: FileSystem, W: Sink>(
 {
     let mut opened = open_all(system, files)?;
     let status = run_expand(
+        rt,
         alloc,
         &mut opened.puzzle,
         &mut opened.list,
@@ -225,4 +228,4 @@ pub fn fault_status(fault: &RunFault) -> u8
 }
 
 #[cfg(test)]
-mod tests;
+pub(crate) mod tests;

@@ -1,3 +1,5 @@
+mod many_orders;
+
 use super::run_expand;
 use crate::faults::RunFault;
 use crate::runs::Status;
@@ -8,10 +10,22 @@ use crate::runs::tests::citations::{
 use crate::runs::tests::with_memory;
 use crate::streams::fakes::Fake;
 use std::alloc::{AllocError, Global};
+use std::io::{self, ErrorKind};
+use std::random::RandomSource;
 use std::test::Fail;
 
+// A system that has no random bytes.
+struct NoRandomBytes;
+
+impl RandomSource for NoRandomBytes {
+    fn fill_bytes(&self, _buf: &mut [u8]) -> io::Result<()> {
+        Err(io::Error::from(ErrorKind::Unsupported))
+    }
+}
+
 // What an expansion writes, and what it comes to.
-pub fn expansion(
+pub fn expansion<R: RandomSource>(
+    rt: &R,
     alloc: Global,
     puzzle: &[u8],
     list: &[u8],
@@ -21,7 +35,14 @@ pub fn expansion(
     let mut list = Fake::new(alloc, list, 7, usize::MAX);
     let mut certificate = Fake::new(alloc, certificate, 7, usize::MAX);
     let mut writer = Fake::new(alloc, b"", 5, usize::MAX);
-    let status = run_expand(alloc, &mut puzzle, &mut list, &mut certificate, &mut writer);
+    let status = run_expand(
+        rt,
+        alloc,
+        &mut puzzle,
+        &mut list,
+        &mut certificate,
+        &mut writer,
+    );
     let status = with_memory(status)?;
     Ok((Vec::from_slice(alloc, writer.written())?, status))
 }
@@ -50,9 +71,10 @@ fn prints_all_arrangements(rt: HostRuntime) -> Result<(), Fail> {
         ),
     ];
     for (puzzle, list, certificate, all) in rows {
-        let (written, status) = expansion(rt.alloc(), puzzle, list, certificate)?;
-        assert_eq!(rt; status, Ok(Status::Complete));
-        assert_eq!(rt; written.as_slice(), all);
+        let (written, status) = expansion(&rt, rt.alloc(), puzzle, list, certificate)?;
+        assert_eq!(rt; (written.as_slice(), status), (all, Ok(Status::Complete)));
+        let (written, status) = expansion(&NoRandomBytes, rt.alloc(), puzzle, list, certificate)?;
+        assert_eq!(rt; (written.as_slice(), status), (all, Ok(Status::Complete)));
     }
     Ok(())
 }
@@ -60,7 +82,7 @@ fn prints_all_arrangements(rt: HostRuntime) -> Result<(), Fail> {
 #[test]
 fn prints_the_answer_where_it_is_refused(rt: HostRuntime) -> Result<(), Fail> {
     let text = b"certificate 1\nsymmetries 0\nlemmas 1\nlemma 0 prefix tree d 0\nend\n";
-    let (written, status) = expansion(rt.alloc(), TWIN_TILES, LISTED_TWINS, text)?;
+    let (written, status) = expansion(&rt, rt.alloc(), TWIN_TILES, LISTED_TWINS, text)?;
     assert_eq!(rt;
         written.as_slice(),
         b"refused tree 0 at - not-dead 2\n".as_slice()

@@ -4,7 +4,7 @@ ghost use Rattle.edgematch.specs.Runs.{SpellCompleteList};
 
 use super::{fault_status, run_order};
 use crate::faults::{Document, RunFault};
-use crate::files::fakes::{FakeFiles, HeldFiles};
+use crate::files::fakes::{FakeFiles, HeldFiles, WantedFiles};
 use crate::runs::tests::citations::{LISTED_TWINS, TWIN_TILES, WALK_OF_TWINS};
 use crate::runs::tests::with_memory;
 use crate::streams::fakes::Fake;
@@ -13,6 +13,7 @@ use match_board::limits::{MOST_DEPTH, MOST_FORKS, MOST_WORKERS};
 use match_crew::SolveFault;
 use memchr::memmem;
 use std::alloc::{AllocError, Global};
+use std::random::RandomSource;
 use std::sync::Wait;
 use std::test::Fail;
 use std::thread::Threads;
@@ -20,7 +21,7 @@ use std::thread::Threads;
 // Both tiles fit the first cell, so that it isn't dead.
 const DEAD_TWINS: &[u8] = b"certificate 1\nsymmetries 0\nlemmas 1\nlemma 0 prefix tree d 0\nend\n";
 
-const FILES: [(&str, &[u8]); 4] = [
+pub const FILES: [(&str, &[u8]); 4] = [
     ("p", TWIN_TILES),
     ("l", LISTED_TWINS),
     ("c", WALK_OF_TWINS),
@@ -63,7 +64,7 @@ fn solve_by(alloc: Global, texts: [&str; 3], depth: u8, workers: u8) -> Result<O
 }
 
 // What an order writes, and what it comes to.
-fn run<R: Threads + Wait + Sync>(
+fn run<R: Threads + Wait + Sync + RandomSource>(
     rt: &R,
     alloc: Global,
     order: &Order,
@@ -122,6 +123,16 @@ fn ends_with_the_status_of_its_outcome(rt: HostRuntime) -> Result<(), Fail> {
     )?;
     assert_eq!(rt; written.as_slice(), b"000\n".as_slice());
     assert_eq!(rt; status, Ok(0));
+    let (written, status) = run(
+        &rt,
+        alloc,
+        &Order::Tiles {
+            sides: 4,
+            colours: 5,
+        },
+    )?;
+    assert_eq!(rt; (written.len(), status), (0, Err(RunFault::Tiles)));
+    assert_eq!(rt; fault_status(&RunFault::Tiles), 2);
     Ok(())
 }
 
@@ -157,6 +168,24 @@ fn solves_with_the_depth_and_the_workers(rt: HostRuntime) -> Result<(), Fail> {
     Ok(())
 }
 
+// Each of the two files that a solve makes gets its text: a write of the other's would fail.
+#[test]
+fn writes_each_text_to_the_file_of_its_name(rt: HostRuntime) -> Result<(), Fail> {
+    let alloc = rt.alloc();
+    let system = WantedFiles {
+        alloc,
+        puzzle: TWIN_TILES,
+        list: b"list 1\narrangements 2\n0.0 1.0\n1.0 0.0\nend\n",
+        certificate: b"certificate 1\nsymmetries 0\nlemmas 1\nlemma 0 prefix tree c 0 2 c 1 1 f 0 c 1 1 f 1\nend\n",
+    };
+    let order = solve_by(alloc, ["p", "l", "c"], 0, 1)?;
+    let mut input = Fake::new(alloc, b"", 7, usize::MAX);
+    let mut output = Fake::new(alloc, b"", 5, usize::MAX);
+    let status = run_order(&rt, alloc, &order, &system, &mut input, &mut output);
+    assert_eq!(rt; with_memory(status)?, Ok(0));
+    Ok(())
+}
+
 #[test]
 fn makes_no_file_of_the_name_of_another(rt: HostRuntime) -> Result<(), Fail> {
     let alloc = rt.alloc();
@@ -170,7 +199,7 @@ fn makes_no_file_of_the_name_of_another(rt: HostRuntime) -> Result<(), Fail> {
 
 // The status of a check of three files that hold these texts. What `run_order` shows is said of the texts here: where
 // it is 0, they spell a list that is complete.
-fn status_of<R: Threads + Wait + Sync>(
+fn status_of<R: Threads + Wait + Sync + RandomSource>(
     rt: &R,
     alloc: Global,
     puzzle: &[u8],

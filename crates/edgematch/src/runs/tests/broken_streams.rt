@@ -1,6 +1,6 @@
 //! Checks over readers and a writer that fail, or that move little at once.
 
-use super::examples::{SQUARE, TRIANGLE, TWINS};
+use super::examples::{CELL, SQUARE, TRIANGLE, TWINS};
 use crate::faults::{Document, RunFault};
 use crate::runs::{Status, run_check};
 use crate::streams::documents::Documents;
@@ -102,7 +102,7 @@ fn writes_a_front_where_the_writer_fails(rt: HostRuntime) {
 
 #[test]
 fn moves_one_byte_at_a_time(rt: HostRuntime) {
-    for documents in [SQUARE, TWINS, TRIANGLE] {
+    for documents in [CELL, SQUARE, TWINS, TRIANGLE] {
         let mut writer = Fake::new(rt.alloc(), b"", 1, usize::MAX);
         let outcome = check_over(&rt, rt.alloc(), &documents, 1, NEVER, &mut writer);
         assert_eq!(rt; outcome, Ok(Status::Complete));

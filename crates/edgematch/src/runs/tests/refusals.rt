@@ -9,6 +9,7 @@ use crate::solve_runs::run_solve;
 use crate::streams::documents::Documents;
 use crate::streams::fakes::Fake;
 use std::alloc::Global;
+use std::random::RandomSource;
 use std::sync::Wait;
 use std::thread::Threads;
 
@@ -38,12 +39,19 @@ fn checks<R: Threads + Sync>(
 }
 
 // Whether an expansion does.
-fn expands(alloc: Global) -> bool {
+fn expands<R: RandomSource>(rt: &R, alloc: Global) -> bool {
     let mut puzzle = Fake::new(alloc, TRIANGLE.puzzle, 7, usize::MAX);
     let mut list = Fake::new(alloc, TRIANGLE.list, 7, usize::MAX);
     let mut certificate = Fake::new(alloc, TRIANGLE.certificate, 7, usize::MAX);
     let mut writer = Fake::new(alloc, b"", 5, usize::MAX);
-    let outcome = run_expand(alloc, &mut puzzle, &mut list, &mut certificate, &mut writer);
+    let outcome = run_expand(
+        rt,
+        alloc,
+        &mut puzzle,
+        &mut list,
+        &mut certificate,
+        &mut writer,
+    );
     is_written(outcome, &writer, ALL_OF_TRIANGLE)
 }
 
@@ -87,6 +95,6 @@ fn solves<R: Threads + Wait + Sync>(rt: &R, alloc: Global) -> bool {
 fn nothing_written(rt: HostRuntime) {
     assert!(rt; checks(&rt, rt.alloc(), &CELL, b"complete 1\n"));
     assert!(rt; checks(&rt, rt.alloc(), &TRIANGLE, b"complete 1\n"));
-    assert!(rt; expands(rt.alloc()));
+    assert!(rt; expands(&rt, rt.alloc()));
     assert!(rt; solves(&rt, rt.alloc()));
 }

@@ -9,6 +9,7 @@ use match_board::limits::{MOST_DEPTH, MOST_FUEL, MOST_WORKERS};
 use match_puzzle::{Placement, Puzzle};
 use match_text::{read_list, read_puzzle};
 use std::alloc::{AllocError, Global};
+use std::random::RandomSource;
 use std::sync::Wait;
 use std::test::Fail;
 use std::thread::Threads;
@@ -108,14 +109,14 @@ fn lists_all(alloc: Global, list: &[u8], all: &[Vec<Placement>]) -> Result<bool,
 }
 
 // Whether what was written checks as complete, and expands to these.
-fn shows_all<R: Threads + Sync>(
+fn shows_all<R: Threads + Sync + RandomSource>(
     rt: &R,
     alloc: Global,
     puzzle: &[u8],
     solved: &Written,
     all: &[Vec<Placement>],
 ) -> Result<bool, Fail> {
-    let (expanded, status) = expansion(alloc, puzzle, &solved.list, &solved.certificate)?;
+    let (expanded, status) = expansion(rt, alloc, puzzle, &solved.list, &solved.certificate)?;
     Ok(
         checks(rt, alloc, puzzle, solved)?
             && status == Ok(Status::Complete)
@@ -124,7 +125,7 @@ fn shows_all<R: Threads + Sync>(
 }
 
 // Whether that holds of each number of workers.
-fn is_solved<R: Threads + Wait + Sync>(
+fn is_solved<R: Threads + Wait + Sync + RandomSource>(
     rt: &R,
     alloc: Global,
     puzzle: &[u8],
