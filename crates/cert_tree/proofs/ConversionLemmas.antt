@@ -1,6 +1,8 @@
 -- Lemmas that are laid out flat, and built again.
-use Rattle.std.proofs.Common.{◌≡◌, ◌<◌, ◌≤◌, ◌+◌, ◌^◌, ℕ, zero, suc, List, [], ◌∷◌, ◌++◌, length, map, drop, get_or, refl, ap, sym, subst, ◌∙◌, arith, append_assoc, length-append}
+use Rattle.std.proofs.Common.{◌≡◌, ◌<◌, ◌≤◌, ◌+◌, ◌^◌, ℕ, zero, suc, List, [], ◌∷◌, ◌++◌, length, map, refl, ap, sym, subst, ◌∙◌, arith, append_assoc}
+use Rattle.std.proofs.lemmas.List.{append-nil}
 use Rattle.std.specs.Prelude.{All}
+use Rattle.std.specs.Borrow.{Bor}
 use Rattle.match_puzzle.specs.declared.items.Item.{Item}
 use Rattle.cert_tree.specs.declared.heads.Head.{Head}
 use Rattle.cert_tree.specs.declared.nodes.Node.{Node}
@@ -10,46 +12,65 @@ use Rattle.cert_tree.specs.Tree.{Forest, branch, more, count, tree_of, forest_of
 use Rattle.cert_tree.specs.Heads.{branch_head, heads_of, heads_in, join, first, front, past}
 use Rattle.cert_tree.specs.HeadCode.{join-none}
 use Rattle.cert_tree.proofs.HeadLemmas.{front_first}
-use Rattle.cert_tree.proofs.TreeLemmas.{count-forest_of, forest_of-drop}
+use Rattle.cert_tree.proofs.TreeLemmas.{count-forest_of}
 
--- the children of a narrow branch
-pub narrow_children : (node : Node) (item : Item) (nodes children : List Node) → tree_of node ≡ branch item (forest_of nodes) → children ≡ nodes → IsNarrow (tree_of node) → (length children < 2 ^ 32) × AreNarrow (forest_of children)
-narrow_children node item nodes children is same narrow =
-    let h = subst IsNarrow is narrow in
-    (omega (arith, h.0, count-forest_of nodes, ap length same), subst (λ xs. AreNarrow (forest_of xs)) (sym same) h.1)
+-- a narrow branch has few children
+pub few_children : (node : Node) (item : Item) (nodes : List Node) → tree_of node ≡ branch item (forest_of nodes) → IsNarrow (tree_of node) → length nodes < 2 ^ 32
+few_children node item nodes is narrow = omega (arith, (subst IsNarrow is narrow).0, count-forest_of nodes)
 
 -- the head of a branch, and then the heads of its children
-pub branch_begun : (old now : List Head) (item : Item) (nodes : List Node) (number : ℕ) → number ≡ length nodes → now ≡ old ++ branch_head item number ∷ [] → now ++ heads_in (forest_of nodes) ≡ old ++ heads_of (branch item (forest_of nodes))
-branch_begun old now item nodes number is written =
-    ap (λ xs. xs ++ heads_in (forest_of nodes)) written ∙ append_assoc old (branch_head item number ∷ []) (heads_in (forest_of nodes))
-    ∙ ap (λ n. old ++ (branch_head item n ∷ heads_in (forest_of nodes))) (is ∙ sym (count-forest_of nodes))
+pub heads_of_branch : (node : Node) (item : Item) (nodes children : List Node) (head : Head) → tree_of node ≡ branch item (forest_of nodes) → head ≡ branch_head item (length nodes) → children ≡ nodes → heads_of (tree_of node) ≡ head ∷ heads_in (forest_of children)
+heads_of_branch node item nodes children head is at same =
+    ap heads_of is ∙ ap (λ n. branch_head item n ∷ heads_in (forest_of nodes)) (count-forest_of nodes) ∙ ap (λ h. h ∷ heads_in (forest_of nodes)) (sym at)
+    ∙ ap (λ ns. head ∷ heads_in (forest_of ns)) (sym same)
 
--- one child more
-pub child_put : (now new whole : List Head) (nodes : List Node) (i : ℕ) (node : Node) → i < length nodes → node ≡ get_or nodes i node → new ≡ now ++ heads_of (tree_of node) → now ++ heads_in (forest_of (drop i nodes)) ≡ whole →
-    new ++ heads_in (forest_of (drop (i + 1) nodes)) ≡ whole
-child_put now new whole nodes i node lt at written so_far =
-    let rest = heads_in (forest_of (drop (i + 1) nodes)) in
-    let next = ap heads_in (forest_of-drop nodes i node lt) ∙ ap (λ n. heads_of (tree_of n) ++ rest) (sym at) in
-    ap (λ xs. xs ++ rest) written ∙ append_assoc now (heads_of (tree_of node)) rest ∙ ap (λ xs. now ++ xs) (sym next) ∙ so_far
+-- ---- what is left to lay out
 
-pub narrow_next : (nodes : List Node) (i : ℕ) (node : Node) → i < length nodes → node ≡ get_or nodes i node → AreNarrow (forest_of (drop i nodes)) → IsNarrow (tree_of node) × AreNarrow (forest_of (drop (i + 1) nodes))
-narrow_next nodes i node lt at narrow =
-    let h = subst AreNarrow (forest_of-drop nodes i node lt) narrow in
-    (subst (λ n. IsNarrow (tree_of n)) (sym at) h.0, h.1)
+-- The heads of what is left: those of the last nodes come first.
+abbrev pub heads_left : List (Bor (List Node)) → List Head
+heads_left [] = []
+heads_left (nodes ∷ left) = heads_left left ++ heads_in (forest_of nodes.now)
 
--- ---- how many nodes there are
+heads_pushed : (left : List (Bor (List Node))) (nodes : Bor (List Node)) → heads_left (left ++ nodes ∷ []) ≡ heads_in (forest_of nodes.now) ++ heads_left left
+heads_pushed [] nodes = sym (append-nil (heads_in (forest_of nodes.now)))
+heads_pushed (first ∷ left) nodes = ap (λ heads. heads ++ heads_in (forest_of first.now)) (heads_pushed left nodes) ∙ append_assoc (heads_in (forest_of nodes.now)) (heads_left left) (heads_in (forest_of first.now))
 
-pub weight_branch : (node : Node) (item : Item) (nodes children : List Node) → tree_of node ≡ branch item (forest_of nodes) → children ≡ nodes → length (heads_in (forest_of children)) + 1 ≡ length (heads_of (tree_of node))
-weight_branch node item nodes children is same =
-    let a = ap (λ tree. length (heads_of tree)) is in
-    let b = ap (λ xs. length (heads_in (forest_of xs))) same in
-    omega arith
+-- the first node of the last ones: its head, and then what is left
+pub head_put : (left : List (Bor (List Node))) (nodes others children : Bor (List Node)) (node : Node) (head : Head) → nodes.now ≡ node ∷ others.now → heads_of (tree_of node) ≡ head ∷ heads_in (forest_of children.now) →
+    heads_left (left ++ nodes ∷ []) ≡ head ∷ heads_left ((left ++ others ∷ []) ++ children ∷ [])
+head_put left nodes others children node head split is =
+    let below = heads_in (forest_of children.now) in
+    let beside = heads_in (forest_of others.now) in
+    heads_pushed left nodes ∙ ap (λ ns. heads_in (forest_of ns) ++ heads_left left) split ∙ ap (λ hs. (hs ++ beside) ++ heads_left left) is
+    ∙ ap (λ hs. head ∷ hs) (append_assoc below beside (heads_left left) ∙ ap (λ hs. below ++ hs) (sym (heads_pushed left others)) ∙ sym (heads_pushed (left ++ others ∷ []) children))
 
-pub weight_next : (nodes : List Node) (i : ℕ) (node : Node) → i < length nodes → node ≡ get_or nodes i node →
-    length (heads_in (forest_of (drop i nodes))) ≡ length (heads_of (tree_of node)) + length (heads_in (forest_of (drop (i + 1) nodes)))
-weight_next nodes i node lt at =
-    ap (λ trees. length (heads_in trees)) (forest_of-drop nodes i node lt) ∙ ap (λ n. length (heads_of (tree_of n) ++ heads_in (forest_of (drop (i + 1) nodes)))) (sym at)
-    ∙ length-append (heads_of (tree_of node)) (heads_in (forest_of (drop (i + 1) nodes)))
+-- one head more
+pub whole_put : (heads longer : List Head) (left next : List (Bor (List Node))) (head : Head) (whole : List Head) → longer ≡ heads ++ head ∷ [] → heads_left left ≡ head ∷ heads_left next → heads ++ heads_left left ≡ whole → longer ++ heads_left next ≡ whole
+whole_put heads longer left next head whole pushed is so_far =
+    ap (λ hs. hs ++ heads_left next) pushed ∙ append_assoc heads (head ∷ []) (heads_left next) ∙ ap (λ hs. heads ++ hs) (sym is) ∙ so_far
+
+no_heads : (nodes : List Node) → length nodes ≡ 0 → heads_in (forest_of nodes) ≡ []
+no_heads [] none = refl
+no_heads (node ∷ nodes) none = absurd (omega (arith, none))
+
+-- nothing of the last nodes
+pub nothing_put : (left : List (Bor (List Node))) (nodes : Bor (List Node)) → length nodes.now ≡ 0 → heads_left (left ++ nodes ∷ []) ≡ heads_left left
+nothing_put left nodes none = heads_pushed left nodes ∙ ap (λ hs. hs ++ heads_left left) (no_heads nodes.now none)
+
+-- no branch that is left has 2^32 children or more
+abbrev pub AreAllNarrow : List (Bor (List Node)) → Type 0
+AreAllNarrow [] = Unit {0}
+AreAllNarrow (nodes ∷ left) = AreNarrow (forest_of nodes.now) × AreAllNarrow left
+
+pub narrow_pushed : (left : List (Bor (List Node))) (nodes : Bor (List Node)) → AreAllNarrow left → AreNarrow (forest_of nodes.now) → AreAllNarrow (left ++ nodes ∷ [])
+narrow_pushed [] nodes narrow last = (last, narrow)
+narrow_pushed (first ∷ left) nodes narrow last = (narrow.0, narrow_pushed left nodes narrow.1 last)
+
+pub narrow_popped : (left : List (Bor (List Node))) (nodes : Bor (List Node)) → AreAllNarrow (left ++ nodes ∷ []) → AreAllNarrow left × AreNarrow (forest_of nodes.now)
+narrow_popped [] nodes narrow = (narrow.1, narrow.0)
+narrow_popped (first ∷ left) nodes narrow =
+    let h = narrow_popped left nodes narrow.1 in
+    ((narrow.0, h.0), h.1)
 
 -- ---- nodes that are built
 

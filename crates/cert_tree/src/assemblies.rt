@@ -230,8 +230,9 @@ pub(crate) fn assemble_flat(
 /// `Missing`; `Memory` only where memory is refused, and then no number is at or past the count. The order of the
 /// pieces doesn't matter. On an `Err` all are dropped.
 ///
-/// The trees are laid out flat by a recursion that is as deep as they are, into 8 bytes a node beside the pieces. The
-/// rest takes a step for each piece and each number below the count.
+/// The trees, which may be of any depth, are laid out flat without recursion, into 8 bytes a node beside the pieces; what
+/// is left of a tree meanwhile takes 32 bytes a level. The rest takes a step for each piece and each number below the
+/// count.
 pub fn assemble(
     alloc: Global,
     count: u32,

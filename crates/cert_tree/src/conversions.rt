@@ -1,10 +1,10 @@
 //! Lemmas in their two forms: of nodes that own their children, and flat.
 
 ghost use Rattle.std.specs.Prelude.{◌≡◌, ◌≢◌, ◌<◌, ◌≤◌, ◌^◌, ◌++◌, ◌∷◌, [], All, IfOk, OnOk, length, map, drop};
-ghost use Rattle.cert_tree.specs.Tree.{branch, count, none, tree_of, forest_of, IsNarrow, AreNarrow};
+ghost use Rattle.cert_tree.specs.Tree.{count, none, tree_of, forest_of, IsNarrow, AreNarrow};
 ghost use Rattle.cert_tree.specs.Certificate.{piece_of, flat_piece};
 ghost use Rattle.cert_tree.specs.Spans.{piece_in, IsSpan};
-ghost use Rattle.cert_tree.specs.Heads.{first, front, heads_of, past};
+ghost use Rattle.cert_tree.specs.Heads.{branch_head, first, front, heads_in, heads_of, past};
 
 use crate::certificates::{Lemma, Pairs};
 use crate::flat_lemmas::{FlatLemma, LemmaSpan, Lemmas};
@@ -13,55 +13,63 @@ use crate::heads::Head;
 use crate::nodes::{Children, Node};
 use match_puzzle::{Item, Pair};
 use std::alloc::{AllocError, Global};
+use std::slice::from_ref;
 
-// The heads of the node's tree go behind these, in preorder.
-#[cycle(flattening)]
+// The head of a branch, and its children.
+fn branch_and_children(item: Item, children: &Children) -> (Head, &[Node])
+    requires { length children.now.nodes.items < 2 ^ 32 }
+    ensures head { result.0 ≡ branch_head item (length children.now.nodes.items) }
+    ensures children { result.1.now ≡ children.now.nodes.items }
+{
+    let nodes = children.as_slice();
+    (Head::branch(item, nodes.len() as u32), nodes)
+}
+
+// The head of a node, and its children.
 #[tactic(auto, using(crate::proofs::TreeLemmas::tree_laws))]
-pub(crate) fn put_node(heads: &mut Vec<Head>, node: &Node) -> Result<(), AllocError>
+fn head_and_children(node: &Node) -> (Head, &[Node])
     requires { IsNarrow (tree_of node.now) }
-    ensures { OnOk result (heads.new.items ≡ heads.old.items ++ heads_of (tree_of node.now)) }
+    ensures heads { heads_of (tree_of node.now) ≡ result.0 ∷ heads_in (forest_of result.1.now) }
+    ensures narrow { AreNarrow (forest_of result.1.now) }
 {
     match node {
-        Node::Cell { cell, children } => put_branch(heads, Item::Cell(*cell), children.as_slice()),
-        Node::Tile { tile, children } => put_branch(heads, Item::Tile(*tile), children.as_slice()),
-        Node::DeadCell(cell) => put_leaf(heads, Head::DeadCell(*cell)),
-        Node::DeadTile(tile) => put_leaf(heads, Head::DeadTile(*tile)),
-        Node::Found(number) => put_leaf(heads, Head::Found(*number)),
-        Node::Same(lemma) => put_leaf(heads, Head::Same(*lemma)),
+        Node::Cell { cell, children } => branch_and_children(Item::Cell(*cell), children),
+        Node::Tile { tile, children } => branch_and_children(Item::Tile(*tile), children),
+        Node::DeadCell(cell) => (Head::DeadCell(*cell), &[]),
+        Node::DeadTile(tile) => (Head::DeadTile(*tile), &[]),
+        Node::Found(number) => (Head::Found(*number), &[]),
+        Node::Same(lemma) => (Head::Same(*lemma), &[]),
         Node::Image { lemma, symmetry } => {
-            put_leaf(
-                heads,
-                Head::Image {
-                    symmetry: *symmetry,
-                    lemma: *lemma,
-                },
-            )
+            let head = Head::Image {
+                symmetry: *symmetry,
+                lemma: *lemma,
+            };
+            (head, &[])
         }
     }
 }
 
-fn put_leaf(heads: &mut Vec<Head>, head: Head) -> Result<(), AllocError>
-    ensures { OnOk result (heads.new.items ≡ heads.old.items ++ head ∷ []) }
+// The heads of the node's tree go behind these, in preorder: by a loop, since a caller's tree may be of any depth.
+pub(crate) fn put_node(heads: &mut Vec<Head>, node: &Node) -> Result<(), AllocError>
+    requires { IsNarrow (tree_of node.now) }
+    ensures { OnOk result (heads.new.items ≡ heads.old.items ++ heads_of (tree_of node.now)) }
 {
-    heads.push(head)?;
-    Ok(())
-}
-
-#[cycle(flattening)]
-#[tactic(auto, using(crate::proofs::TreeLemmas::tree_laws))]
-fn put_branch(heads: &mut Vec<Head>, item: Item, nodes: &[Node]) -> Result<(), AllocError>
-    requires few { length nodes.now < 2 ^ 32 }
-    requires narrow { AreNarrow (forest_of nodes.now) }
-    ensures { OnOk result (heads.new.items ≡ heads.old.items ++ heads_of (branch item (forest_of nodes.now))) }
-{
-    heads.push(Head::branch(item, nodes.len() as u32))?;
-    for node in nodes {
-        put_node(heads, node)?;
+    // the nodes whose heads are still to come, those of the deepest level last
+    let mut left = Vec::new(*heads.allocator());
+    left.push(from_ref(node))?;
+    while let Some(nodes) = left.pop() {
+        let Some((node, others)) = nodes.split_first() else {
+            continue;
+        };
+        let (head, children) = head_and_children(node);
+        heads.push(head)?;
+        left.push(others)?;
+        left.push(children)?;
     }
     Ok(())
 }
 
-// The pairs and heads of the lemma go behind these, by a recursion that is as deep as its tree. Where it lies there.
+// The pairs and heads of the lemma go behind these. Where it lies there.
 fn put_lemma(
     pairs: &mut Vec<Pair>,
     heads: &mut Vec<Head>,
@@ -80,7 +88,7 @@ fn put_lemma(
     Ok(LemmaSpan::of_last(lemma.number, pairs, pairs_start, heads, heads_start))
 }
 
-/// The same lemmas laid out flat, in order, by a recursion that is as deep as a tree.
+/// The same lemmas laid out flat, in order.
 pub(crate) fn flat_lemmas(alloc: Global, lemmas: &[Lemma]) -> Result<Lemmas, AllocError>
     requires { All (λ lemma. IsNarrow (tree_of lemma.tree)) lemmas.now }
     ensures { IfOk result (λ flat. flat ≡ map piece_of lemmas.now) }

@@ -64,8 +64,7 @@ fn turn_heads(heads: &mut Vec<Head>, start: usize, count: u32, first: u32)
     }
 }
 
-// The pairs of the lemma and the heads of its turned tree go behind these, by a recursion that is as deep as its tree.
-// Where it lies there.
+// The pairs of the lemma and the heads of its turned tree go behind these. Where it lies there.
 fn put_turned(
     pairs: &mut Vec<Pair>,
     heads: &mut Vec<Head>,
@@ -122,8 +121,8 @@ fn turned_lemmas(
 /// `Stranger`, `Double`, `Missing`; `Memory` only where memory is refused, and then no number is at or past the count.
 /// On an `Err` the symmetries are dropped.
 ///
-/// Each tree is laid out once, by a recursion that is as deep as it is, into 8 bytes a node, and is turned where it
-/// lies. The rest takes a step for each piece and each number below the count.
+/// Each tree is laid out once, into 8 bytes a node, and is turned where it lies. The rest takes a step for each piece and
+/// each number below the count.
 pub fn assemble_turned(
     alloc: Global,
     count: u32,

@@ -53,7 +53,9 @@ fn main(rt: HostRuntime) -> ExitCode {
     ExitCode::from(status)
 }
 
-// Does what the words order, over the system's files and streams, and gives the exit status.
+// Does what the words order, over the system's files and streams, and gives the exit status. Apart from `main`, whose
+// share of the stack has to be small.
+#[inline(never)]
 fn status<R: Threads + Wait + Sync + RandomSource>(threads: &R, rt: &HostRuntime) -> u8 {
     match words(rt) {
         Ok(words) => run_words(

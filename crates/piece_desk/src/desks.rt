@@ -118,8 +118,8 @@ impl Desk {
     /// `Stranger`, `Double`, `Missing`; `Memory` where memory is refused, perhaps before a number was looked at. On an
     /// `Err` the symmetries are dropped.
     ///
-    /// Each tree is copied once, in a step for each node, by a recursion that is as deep as it is. The rest takes a step
-    /// for each receipt and each number below the count.
+    /// Each tree is copied once, in a step for each node. The rest takes a step for each receipt and each number below the
+    /// count.
     pub fn gather(
         &self,
         alloc: Global,
