@@ -36,7 +36,7 @@ const STACK_LEN: usize = 0x10_0000;
 // The stack that a program begins with grows as it is used, and where it can't, the system ends the program. So where
 // memory is limited, all is done on a thread, whose stack is there when it starts.
 fn main(rt: HostRuntime) -> ExitCode {
-    let limits = SystemLimits::read(&rt);
+    let limits = limits(&rt, rt);
     let status = if !limits.allow_stack(STACK_LEN as u64) {
         out_of_memory(&rt)
     } else if limits.bound_memory() {
@@ -51,6 +51,17 @@ fn main(rt: HostRuntime) -> ExitCode {
         status(&rt, &rt)
     };
     ExitCode::from(status)
+}
+
+// What the system grants: asked for on a thread too, or here where none starts.
+fn limits<R: Threads>(threads: &R, rt: HostRuntime) -> SystemLimits {
+    match Builder::new()
+        .stack_size(STACK_LEN)
+        .spawn(threads, move || SystemLimits::read(&rt))
+    {
+        Ok(thread) => thread.join(threads),
+        Err(_) => SystemLimits::read(&rt),
+    }
 }
 
 // Does what the words order, over the system's files and streams, and gives the exit status. Apart from `main`, whose
