@@ -1,12 +1,13 @@
 #!/usr/bin/env python3
 """Writes a list of all arrangements of a puzzle, and a certificate, by a plain search.
 
-usage: plain_search.py PUZZLE LIST CERTIFICATE [DEPTH [MOST]]
+usage: plain_search.py [--items] PUZZLE LIST CERTIFICATE [DEPTH [MOST]]
 
 Reads the puzzle's text from the file PUZZLE, and writes the other two. At each node the cell with the fewest fitting
-placements is filled, the least number at a tie; a cell or a tile that nothing fits ends a branch. Nodes with DEPTH pairs
-(0, unless given) are lemmas of their own, which the root cites. After MOST nodes (no bound, unless given) it gives up.
-Nobody has to trust it: `edgematch check` reads what it wrote.
+placements is filled, the least number at a tie; a cell that nothing fits ends a branch. Nodes with DEPTH pairs (0,
+unless given) are lemmas of their own, which the root cites. After MOST nodes (no bound, unless given) it gives up. With
+--items a branch is on the cell or tile with the fewest fitting pairs, a cell at a tie, as `edgematch solve --depth 0`
+has it, which then writes the same. Nobody has to trust it: `edgematch check` reads what it wrote.
 """
 import sys
 
@@ -86,7 +87,7 @@ def read_puzzle(text):
 class Search:
     def __init__(self, puzzle, depth, most):
         self.cells, self.sides, self.meets, self.rules, self.shown = puzzle
-        self.depth, self.most, self.nodes = depth, most, 0
+        self.depth, self.most, self.nodes, self.branches = depth, most, 0, 0
         self.at = [None] * self.cells
         self.free = list(range(len(self.shown)))
         self.listed, self.lemmas = [], []
@@ -108,28 +109,34 @@ class Search:
             if all(face[side] == colour for side, colour in asked)
         ]
 
+    def item(self):
+        """The words of a branch and of a dead end there, and the pairs that fit: of the cell with the fewest."""
+        best = None
+        for cell in range(self.cells):
+            if self.at[cell] is None:
+                fits = [(cell, placement) for placement in self.fitting(cell)]
+                if best is None or len(fits) < len(best[2]):
+                    best = f"c {cell}", f"d {cell}", fits
+                if not fits:
+                    break
+        return best
+
     def node(self, out, placed):
         self.nodes += 1
         if self.nodes > self.most:
             raise GaveUp
-        best = None
-        for cell in range(self.cells):
-            if self.at[cell] is None:
-                fits = self.fitting(cell)
-                if best is None or len(fits) < len(best[1]):
-                    best = cell, fits
-                if not fits:
-                    break
+        best = self.item()
         if best is None:
             self.listed.append(list(self.at))
             out.append(f"f {len(self.listed) - 1}")
             return
-        cell, fits = best
+        branch, dead, fits = best
         if not fits:
-            out.append(f"d {cell}")
+            out.append(dead)
             return
-        out.append(f"c {cell} {len(fits)}")
-        for placement in fits:
+        self.branches += 1
+        out.append(f"{branch} {len(fits)}")
+        for cell, placement in fits:
             self.at[cell] = placement
             self.free.remove(placement[0])
             self.child(out, placed + 1)
@@ -148,26 +155,53 @@ class Search:
         self.lemmas.append(f"{prefix} tree {' '.join(tree)}")
 
 
-def main():
-    puzzle_name, list_name, certificate_name = sys.argv[1:4]
-    depth = int(sys.argv[4]) if len(sys.argv) > 4 else 0
-    most = int(sys.argv[5]) if len(sys.argv) > 5 else sys.maxsize
+    def run(self):
+        root = []
+        self.node(root, 0)
+        self.lemmas.append(f"tree {' '.join(root)}")
+
+    def list_text(self):
+        rows = (" ".join(f"{tile}.{turn}" for tile, turn in row) for row in self.listed)
+        return f"list 1\narrangements {len(self.listed)}\n" + "".join(row + "\n" for row in rows) + "end\n"
+
+    def certificate_text(self):
+        lemmas = (f"lemma {number} prefix {lemma}\n" for number, lemma in enumerate(self.lemmas))
+        return f"certificate 1\nsymmetries 0\nlemmas {len(self.lemmas)}\n" + "".join(lemmas) + "end\n"
+
+
+class ItemSearch(Search):
+    """The same, where a branch may be on a tile too."""
+
+    def item(self):
+        if None not in self.at:
+            return None
+        pairs = [
+            (cell, placement)
+            for cell in range(self.cells)
+            if self.at[cell] is None
+            for placement in self.fitting(cell)
+        ]
+        cells = [cell for cell in range(self.cells) if self.at[cell] is None]
+        items = [(f"c {cell}", f"d {cell}", [it for it in pairs if it[0] == cell]) for cell in cells]
+        items += [(f"t {tile}", f"e {tile}", [it for it in pairs if it[1][0] == tile]) for tile in self.free]
+        return min(items, key=lambda it: len(it[2]))
+
+
+def main(words):
+    kind = ItemSearch if words[:1] == ["--items"] else Search
+    puzzle_name, list_name, certificate_name, *numbers = words[1:] if kind is ItemSearch else words
+    depth = int(numbers[0]) if numbers else 0
+    most = int(numbers[1]) if len(numbers) > 1 else sys.maxsize
     with open(puzzle_name) as file:
-        search = Search(read_puzzle(file.read()), depth, most)
+        search = kind(read_puzzle(file.read()), depth, most)
     sys.setrecursionlimit(10_000)
-    root = []
-    search.node(root, 0)
-    search.lemmas.append(f"tree {' '.join(root)}")
+    search.run()
     with open(list_name, "w") as file:
-        rows = (" ".join(f"{tile}.{turn}" for tile, turn in row) for row in search.listed)
-        file.write(f"list 1\narrangements {len(search.listed)}\n" + "".join(row + "\n" for row in rows) + "end\n")
+        file.write(search.list_text())
     with open(certificate_name, "w") as file:
-        file.write(f"certificate 1\nsymmetries 0\nlemmas {len(search.lemmas)}\n")
-        for number, lemma in enumerate(search.lemmas):
-            file.write(f"lemma {number} prefix {lemma}\n")
-        file.write("end\n")
+        file.write(search.certificate_text())
     print(f"found {len(search.listed)}, {search.nodes} nodes, {len(search.lemmas)} lemmas")
 
 
 if __name__ == "__main__":
-    main()
+    main(sys.argv[1:])

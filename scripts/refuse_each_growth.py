@@ -3,15 +3,13 @@
 
 usage: refuse_each_growth.py [--rest] [--jobs N] [--seconds N] [CRATE | CRATE::TEST | program]..
 
-Each test of a crate whose tests `rt test` has built, and the program on each example, where it is built, is run with
+Each test of a crate whose tests `rt ci` or `rt test` has built, and the program on each example, where it is built, is run with
 its Nth request for memory refused, for N = 1, 2, .. until a run meets no refusal; past the first 2,000 requests only
 some are refused, as is said then. With --rest all requests after the Nth are refused too. With names only those crates
-and tests are run; `program` is the program. Two tests that take seconds for each run are left out, unless they are named
-themselves.
+and tests are run; `program` is the program.
 
-A test has to pass, or to end with want of memory: as its error, or as the answer, or that answer's text, which an
-`assert_eq!` finds in the place of the wanted one. A test of threads that meet may also end because no other thread
-came: without memory for a thread its work is done on another. The program has to write what it writes with ample
+A test has to pass, or to end with want of memory as its error: it hands on what its calls answer. A test of threads that
+meet may also end because no other thread came: without memory for a thread its work is done on another. The program has to write what it writes with ample
 memory, or nothing but `out of memory` on standard error, with status 2. The script ends with 0 where that is so of each
 run, and names those of which it isn't. It needs a C compiler (cc, or what CC names) and the C library glibc.
 """
@@ -29,16 +27,9 @@ HERE = os.path.dirname(os.path.abspath(__file__))
 TOP = os.path.dirname(HERE)
 EXAMPLES = os.path.join(TOP, "examples")
 EACH, FURTHER = 2000, 500
-SLOW = (
-    "edgematch::expansion_runs::tests::many_orders::tells_that_too_many_are_reached",
-    "edgematch::solve_runs::tests::small_puzzles::finds_what_is_among_all_placements",
-)
 REFUSED = (2, "", "out of memory\n")
-TEXT = re.escape(str(list(b"out of memory\n")))
-MEMORY = rf"({TEXT}|(\w+\()*(Memory|AllocError|AllocFailed {{ \.\. }})\)*)"
-ENDED = re.compile(rf"error: {MEMORY}")
+ENDED = re.compile(r"error: (\w+\()*(Memory|AllocError|AllocFailed \{ \.\. \})\)*")
 ALONE = "no other thread came"
-ANSWERED = re.compile(rf"assertion `left == right` failed.*\n  left: {MEMORY}\n.*", re.DOTALL)
 AS_EVER = "as with ample memory"
 
 Run = collections.namedtuple("Run", "status out err made requests")
@@ -100,8 +91,7 @@ class Test(Subject):
         error = run.err.partition("\n")[0] if run.status == 101 else ""
         if error == ALONE:
             return "on one thread" if run is not ample else None
-        has_answered = run.status == -signal.SIGABRT and ANSWERED.fullmatch(run.err)
-        return "want of memory" if has_answered or ENDED.fullmatch(error) else None
+        return "want of memory" if ENDED.fullmatch(error) else None
 
 
 class Command(Subject):
@@ -195,8 +185,6 @@ def commands():
 
 
 def is_named(subject, names):
-    if subject.name in SLOW:
-        return subject.name in names
     return not names or any(f"{subject.name}:".startswith(f"{it}:") for it in names)
 
 

@@ -8,11 +8,11 @@ use Rattle.match_puzzle.specs.declared.placements.Placement.{Placement}
 use Rattle.match_puzzle.specs.declared.placements.Pair.{Pair}
 use Rattle.match_puzzle.specs.declared.faults.PrefixFault.{PrefixFault}
 use Rattle.match_puzzle.specs.declared.faults.PrefixFault.TheVariants as prefixes
-use Rattle.match_symmetry.specs.SymmetryFaults.{SymmetryFails, symmetry_rank, IsSymmetryFault}
-use Rattle.match_symmetry.specs.declared.faults.SymmetryFault.{SymmetryFault}
-use Rattle.match_symmetry.specs.declared.faults.SymmetryFault.TheVariants as symmetries
-use Rattle.match_symmetry.specs.declared.lines.SymmetryLine.{SymmetryLine}
-use Rattle.match_symmetry.proofs.FaultLemmas.{no_fault}
+use Rattle.puzzle_symmetry.specs.SymmetryFaults.{SymmetryFails, symmetry_rank, IsSymmetryFault}
+use Rattle.puzzle_symmetry.specs.declared.faults.SymmetryFault.{SymmetryFault}
+use Rattle.puzzle_symmetry.specs.declared.faults.SymmetryFault.TheVariants as symmetries
+use Rattle.puzzle_symmetry.specs.declared.lines.SymmetryLine.{SymmetryLine}
+use Rattle.puzzle_symmetry.proofs.FaultLemmas.{no_fault}
 use Rattle.match_puzzle.specs.declared.faults.ArrangementFault.{ArrangementFault}
 use Rattle.match_puzzle.specs.declared.faults.ArrangementFault.TheVariants.{Length, TileRange, Turn, TileTwice, BorderBroken, EdgeBroken}
 use Rattle.cert_check.specs.declared.faults.NodeFault.{NodeFault}

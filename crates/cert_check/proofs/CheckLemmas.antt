@@ -8,17 +8,17 @@ use Rattle.match_puzzle.specs.Arrangement.{IsArrangement}
 use Rattle.match_puzzle.specs.Prefix.{empty_prefix, with_pairs}
 use Rattle.match_puzzle.specs.declared.placements.Pair.{Pair}
 use Rattle.match_puzzle.proofs.Prefixes.{inside}
-use Rattle.match_symmetry.specs.Motion.{Motion}
+use Rattle.puzzle_symmetry.specs.Motion.{Motion}
 use Rattle.match_puzzle.specs.ArrangementFaults.{IsArrangementFault}
 use Rattle.match_puzzle.specs.PrefixFaults.{IsPairList, IsPrefixFault}
 use Rattle.match_puzzle.specs.declared.placements.Placement.{Placement}
 use Rattle.match_puzzle.specs.declared.faults.ArrangementFault.{ArrangementFault}
 use Rattle.match_puzzle.specs.declared.faults.PrefixFault.{PrefixFault}
-use Rattle.match_symmetry.specs.Symmetry.{IsSymmetry}
-use Rattle.match_symmetry.specs.SymmetryFaults.{IsSymmetryFault}
-use Rattle.match_symmetry.specs.declared.faults.SymmetryFault.{SymmetryFault}
-use Rattle.match_symmetry.specs.declared.lines.SymmetryLine.{SymmetryLine}
-use Rattle.match_symmetry.proofs.FaultLemmas.{no_fault}
+use Rattle.puzzle_symmetry.specs.Symmetry.{IsSymmetry}
+use Rattle.puzzle_symmetry.specs.SymmetryFaults.{IsSymmetryFault}
+use Rattle.puzzle_symmetry.specs.declared.faults.SymmetryFault.{SymmetryFault}
+use Rattle.puzzle_symmetry.specs.declared.lines.SymmetryLine.{SymmetryLine}
+use Rattle.puzzle_symmetry.proofs.FaultLemmas.{no_fault}
 use Rattle.cert_tree.specs.Certificate.{Contents, Piece}
 use Rattle.cert_check.specs.declared.faults.TreeFault.{TreeFault}
 use Rattle.cert_check.specs.declared.faults.Fault.{Fault}

@@ -11,7 +11,7 @@ use Rattle.match_puzzle.specs.declared.placements.Placement.{Placement}
 use Rattle.match_puzzle.specs.declared.placements.Pair.{Pair}
 use Rattle.match_puzzle.proofs.Prefixes.{inside}
 use Rattle.match_puzzle.proofs.Kept.{has_none}
-use Rattle.match_symmetry.specs.Images.{HasPairs}
+use Rattle.puzzle_symmetry.specs.Images.{HasPairs}
 use Rattle.cert_tree.specs.Certificate.{Piece}
 use Rattle.cert_check.specs.Setting.{prefix_of}
 use Rattle.cert_check.specs.Derivation.{start_of, HasRoot}

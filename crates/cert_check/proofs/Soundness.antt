@@ -12,10 +12,10 @@ use Rattle.match_puzzle.specs.declared.items.Item.{Item}
 use Rattle.match_puzzle.specs.declared.items.Item.TheVariants.{Cell, Tile}
 use Rattle.match_puzzle.specs.declared.placements.Placement.{Placement}
 use Rattle.match_puzzle.specs.declared.placements.Pair.{Pair}
-use Rattle.match_symmetry.specs.Images.{HasPairs, HasImages}
-use Rattle.match_symmetry.specs.Reached.{IsReached}
-use Rattle.match_symmetry.proofs.Carrying.{source_has}
-use Rattle.match_symmetry.proofs.Reaching.{reached_at_once, reached_image}
+use Rattle.puzzle_symmetry.specs.Images.{HasPairs, HasImages}
+use Rattle.puzzle_symmetry.specs.Reached.{IsReached}
+use Rattle.puzzle_symmetry.proofs.Carrying.{source_has}
+use Rattle.puzzle_symmetry.proofs.Reaching.{reached_at_once, reached_image}
 use Rattle.cert_tree.specs.Certificate.{Piece}
 use Rattle.cert_check.specs.Setting.{Question, Setting, prefix_of, setting_at}
 use Rattle.cert_tree.specs.Tree.{Tree, Forest, branch, dead, found, same, image, none, more}

@@ -6,10 +6,10 @@ use Rattle.match_puzzle.specs.Arrangement.{IsArrangement}
 use Rattle.match_puzzle.specs.ArrangementFaults.{IsArrangementFault}
 use Rattle.match_puzzle.specs.PrefixFaults.{IsPrefixFault}
 use Rattle.match_puzzle.specs.declared.placements.Placement.{Placement}
-use Rattle.match_symmetry.specs.Symmetry.{IsSymmetry}
-use Rattle.match_symmetry.specs.SymmetryFaults.{IsSymmetryFault}
-use Rattle.match_symmetry.specs.Reached.{IsReached}
-use Rattle.match_symmetry.specs.declared.lines.SymmetryLine.{SymmetryLine}
+use Rattle.puzzle_symmetry.specs.Symmetry.{IsSymmetry}
+use Rattle.puzzle_symmetry.specs.SymmetryFaults.{IsSymmetryFault}
+use Rattle.puzzle_symmetry.specs.Reached.{IsReached}
+use Rattle.puzzle_symmetry.specs.declared.lines.SymmetryLine.{SymmetryLine}
 use Rattle.cert_check.specs.declared.faults.Fault.{Fault}
 use Rattle.cert_check.specs.declared.faults.Fault.TheVariants as faults
 use Rattle.cert_check.specs.declared.faults.Answer.{Answer}

@@ -3,9 +3,9 @@ use Rattle.std.specs.Prelude.{◌≡◌, ℕ, List}
 use Rattle.match_puzzle.specs.Puzzle.{Task}
 use Rattle.match_puzzle.specs.PrefixFaults.{IsPairList, IsPrefixFault}
 use Rattle.match_puzzle.specs.declared.faults.PrefixFault.{PrefixFault}
-use Rattle.match_symmetry.specs.Symmetry.{IsSymmetry}
-use Rattle.match_symmetry.specs.SymmetryFaults.{IsSymmetryFault}
-use Rattle.match_symmetry.specs.declared.lines.SymmetryLine.{SymmetryLine}
+use Rattle.puzzle_symmetry.specs.Symmetry.{IsSymmetry}
+use Rattle.puzzle_symmetry.specs.SymmetryFaults.{IsSymmetryFault}
+use Rattle.puzzle_symmetry.specs.declared.lines.SymmetryLine.{SymmetryLine}
 use Rattle.cert_tree.specs.Certificate.{Piece}
 use Rattle.cert_check.specs.declared.symmetries.SymmetriesFault.{SymmetriesFault}
 use Rattle.cert_check.specs.declared.symmetries.SymmetriesFault.TheVariants.{Line, Memory}

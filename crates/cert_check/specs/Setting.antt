@@ -4,8 +4,8 @@ use Rattle.match_puzzle.specs.Puzzle.{Task}
 use Rattle.match_puzzle.specs.PrefixFaults.{IsPairList}
 use Rattle.match_puzzle.specs.declared.placements.Placement.{Placement}
 use Rattle.match_puzzle.specs.declared.placements.Pair.{Pair}
-use Rattle.match_symmetry.specs.declared.lines.SymmetryLine.{SymmetryLine}
-use Rattle.match_symmetry.specs.Motion.{Motion}
+use Rattle.puzzle_symmetry.specs.declared.lines.SymmetryLine.{SymmetryLine}
+use Rattle.puzzle_symmetry.specs.Motion.{Motion}
 use Rattle.cert_tree.specs.Certificate.{Contents, Piece}
 
 -- what is asked of the checker: whether these are all arrangements of the puzzle, by these symmetries and lemmas

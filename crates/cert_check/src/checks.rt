@@ -16,7 +16,7 @@ use crate::stages::{answer_of, prepare};
 use crate::walks::walk;
 use cert_tree::Certificate;
 use match_puzzle::{Arrangement, Partial, Puzzle};
-use match_symmetry::Symmetry;
+use puzzle_symmetry::Symmetry;
 use std::alloc::{AllocError, Global};
 
 /// Whether the certificate shows that the list, with the images of its members under the named symmetries, has each
@@ -163,6 +163,3 @@ pub fn tree_fault(
 pub fn one_answer()
     ensures { OneAnswer }
 {}
-
-#[cfg(test)]
-mod tests;

@@ -1,7 +1,7 @@
 //! What may be wrong with a list or its certificate.
 
 use match_puzzle::{ArrangementFault, PrefixFault};
-use match_symmetry::SymmetryFault;
+use puzzle_symmetry::SymmetryFault;
 use std::alloc::AllocError;
 use std::marker::Model;
 

@@ -18,7 +18,7 @@ use crate::walks::{at_top, walk};
 use cert_tree::{Certificate, Head, Trees};
 use match_board::limits::MOST_FORKS;
 use match_puzzle::{Arrangement, FittingPairs, Item, Partial, Puzzle};
-use match_symmetry::Symmetry;
+use puzzle_symmetry::Symmetry;
 use std::alloc::{AllocError, Global};
 use std::thread::Threads;
 use steal_crew::both;

@@ -6,7 +6,7 @@ ghost use Rattle.cert_check.specs.Setting.{setting_of, line_of, prefix_of, AreOf
 
 use cert_tree::Lemmas;
 use match_puzzle::{Arrangement, Pair, Puzzle};
-use match_symmetry::Symmetry;
+use puzzle_symmetry::Symmetry;
 use std::marker::Model;
 
 // The listed arrangements, the symmetries, and the lemmas before a lemma, each by number.

@@ -14,7 +14,7 @@ use crate::repeats::first_repeated;
 use crate::symmetries::{SymmetriesFault, make_symmetries};
 use cert_tree::Certificate;
 use match_puzzle::{Arrangement, ArrangementFault, Puzzle};
-use match_symmetry::Symmetry;
+use puzzle_symmetry::Symmetry;
 use std::alloc::{AllocError, Global};
 
 /// The symmetries of the certificate, where all is right but perhaps the trees; else the first fault.

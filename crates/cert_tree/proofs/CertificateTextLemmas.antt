@@ -4,7 +4,7 @@ use Rattle.match_board.specs.declared.limits.TheConstants.{MOST_SYMMETRIES, MOST
 use Rattle.std.specs.List.{flat_map}
 use Rattle.std.proofs.lemmas.List.{append-nil}
 use Rattle.std.proofs.lemmas.List.Concat.{flat_map_single}
-use Rattle.match_symmetry.specs.declared.lines.SymmetryLine.{SymmetryLine}
+use Rattle.puzzle_symmetry.specs.declared.lines.SymmetryLine.{SymmetryLine}
 use Rattle.match_text.specs.Laws.{ReadsSpellingsAlone, ReadsEachSpelling, EndsWhereCut}
 use Rattle.match_text.specs.Place.{Place, Read, ◌>>=◌, give, times, opening, counted, closing, end_of_text, start}
 use Rattle.match_text.specs.Spelling.{text_of, first_words, count_words, end_lines}

@@ -10,7 +10,7 @@ use Rattle.std.proofs.lemmas.Fmt.{digits_decimal}
 use Rattle.std.proofs.lemmas.Bool.{ne_eqb}
 use Rattle.std.proofs.lemmas.Slice.Eq.{bytes_eq-Decides}
 use Rattle.match_puzzle.specs.declared.placements.Pair.{Pair}
-use Rattle.match_symmetry.specs.declared.lines.SymmetryLine.{SymmetryLine}
+use Rattle.puzzle_symmetry.specs.declared.lines.SymmetryLine.{SymmetryLine}
 use Rattle.match_text.specs.declared.faults.TextKind.{TextKind}
 use Rattle.match_text.specs.declared.faults.TextKind.TheVariants.{Word, Number}
 use Rattle.match_text.specs.Bytes.{cut_at}

@@ -4,7 +4,7 @@ use Rattle.match_board.specs.declared.limits.TheConstants.{MOST_CELLS, LAST_CELL
 use Rattle.match_board.specs.declared.limits.TheConstants.{MOST_SYMMETRIES, MOST_LEMMAS, LAST_LEMMA, MOST_LEVELS}
 use Rattle.std.specs.List.{AllByRecursion}
 use Rattle.match_puzzle.specs.declared.placements.Pair.{Pair}
-use Rattle.match_symmetry.specs.declared.lines.SymmetryLine.{SymmetryLine}
+use Rattle.puzzle_symmetry.specs.declared.lines.SymmetryLine.{SymmetryLine}
 use Rattle.match_text.specs.Spelling.{text_of, colour_word, placement_word, first_words, count_words, end_lines}
 use Rattle.match_text.specs.ListSpelling.{IsPlacementWithin}
 use Rattle.cert_tree.specs.Certificate.{Piece}

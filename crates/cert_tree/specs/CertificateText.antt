@@ -4,7 +4,7 @@ use Rattle.match_board.specs.declared.limits.TheConstants.{MOST_CELLS, LAST_CELL
 use Rattle.match_board.specs.declared.limits.TheConstants.{MOST_COLOURS, MOST_SYMMETRIES, MOST_LEMMAS, LAST_LEMMA}
 use Rattle.match_board.specs.declared.limits.TheConstants.{MOST_LEVELS}
 use Rattle.std.specs.Str.{bytes_eq}
-use Rattle.match_symmetry.specs.declared.lines.SymmetryLine.{SymmetryLine}
+use Rattle.puzzle_symmetry.specs.declared.lines.SymmetryLine.{SymmetryLine}
 use Rattle.match_text.specs.declared.faults.TextFault.{TextFault}
 use Rattle.match_text.specs.declared.faults.TextKind.{TextKind}
 use Rattle.match_text.specs.declared.faults.TextKind.TheVariants.{Word}

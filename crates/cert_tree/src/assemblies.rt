@@ -13,7 +13,7 @@ use crate::conversions::flat_lemmas;
 use crate::faults::AssembleFault;
 use crate::flat_lemmas::{LemmaSpan, Lemmas};
 use match_board::limits::MOST_LEMMAS;
-use match_symmetry::SymmetryLine;
+use puzzle_symmetry::SymmetryLine;
 use std::alloc::{AllocError, Global};
 
 // The number, or the one that was found before, if that is less.

@@ -3,7 +3,7 @@
 use crate::flat_lemmas::Lemmas;
 use crate::nodes::Node;
 use match_puzzle::Pair;
-use match_symmetry::SymmetryLine;
+use puzzle_symmetry::SymmetryLine;
 use std::marker::Model;
 
 /// Pairs of cells and placements, in order. Nothing is promised of them.

@@ -14,8 +14,6 @@ mod laws;
 mod nodes;
 mod readers;
 mod spellings;
-#[cfg(test)]
-mod tests;
 mod tree_readers;
 mod turnings;
 mod within_limits;

@@ -26,8 +26,8 @@ use crate::heads::Head;
 use crate::tree_readers::tree;
 use match_board::limits::{LAST_LEMMA, LAST_SIDE, MOST_LEMMAS, MOST_LEVELS, MOST_SYMMETRIES};
 use match_puzzle::Pair;
-use match_symmetry::{ColourImages, Images, SymmetryLine};
 use match_text::{ReadFault, Scan, TextFault, TextKind};
+use puzzle_symmetry::{ColourImages, Images, SymmetryLine};
 use std::alloc::Global;
 
 fn mirrored_word(word: &[u8]) -> Result<bool, TextKind>

@@ -18,8 +18,8 @@ use crate::flat_lemmas::{FlatLemma, Lemmas};
 use crate::heads::Head;
 use match_board::limits::MOST_COLOURS;
 use match_puzzle::Pair;
-use match_symmetry::SymmetryLine;
 use match_text::{character, put_end, put_number, put_number_line, put_placement};
+use puzzle_symmetry::SymmetryLine;
 use std::alloc::{AllocError, Global};
 use std::slice::from_ref;
 

@@ -19,7 +19,7 @@ use crate::flat_lemmas::{LemmaSpan, Lemmas};
 use crate::heads::Head;
 use match_board::limits::{MOST_ARRANGEMENTS, MOST_LEMMAS};
 use match_puzzle::Pair;
-use match_symmetry::SymmetryLine;
+use puzzle_symmetry::SymmetryLine;
 use std::alloc::{AllocError, Global};
 
 // A number below the count, counted from the other end; another one as it is.

@@ -21,7 +21,7 @@ use match_board::limits::{
     MOST_CELLS, MOST_CHILDREN, MOST_COLOURS, MOST_LEMMAS, MOST_LEVELS, MOST_SYMMETRIES,
 };
 use match_puzzle::Pair;
-use match_symmetry::SymmetryLine;
+use puzzle_symmetry::SymmetryLine;
 
 // Stops below the last level.
 #[cycle(limits)]

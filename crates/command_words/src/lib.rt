@@ -5,8 +5,6 @@ mod commands;
 mod faults;
 mod orders;
 mod readings;
-#[cfg(test)]
-mod tests;
 
 pub use faults::WordsFault;
 pub use orders::{Files, Order};

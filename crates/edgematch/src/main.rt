@@ -1,25 +1,7 @@
 //! Solves edge-matching puzzles, and checks whether a list of arrangements is complete, by a certificate.
 #![tactic(auto)]
 
-mod expansion_runs;
-mod faults;
-mod files;
-mod order_runs;
-mod questions;
-mod random_fold;
-mod repetitions;
-mod runs;
-mod solve_runs;
-mod streams;
-mod system_limits;
-mod tile_runs;
-mod word_runs;
-
-use crate::faults::RunFault;
-use crate::files::System;
-use crate::streams::systems::{Input, Output};
-use crate::system_limits::SystemLimits;
-use crate::word_runs::{run_words, stopped};
+use match_runs::{Input, Output, RunFault, System, SystemLimits, run_words, stopped};
 use std::io::ErrorKind;
 use std::process::ExitCode;
 use std::random::RandomSource;

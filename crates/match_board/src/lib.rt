@@ -7,8 +7,6 @@ mod figures;
 mod hexagons;
 pub mod limits;
 mod rectangles;
-#[cfg(test)]
-mod tests;
 mod tiles;
 mod triangles;
 

@@ -1,3 +1,1 @@
-pub mod FindingLemmas
-pub mod PlaceLemmas
 pub mod SolvingLemmas

@@ -14,10 +14,10 @@ use Rattle.piece_desk.specs.Desks.{IsOf}
 use Rattle.piece_desk.specs.declared.desks.Desk.{Desk}
 use Rattle.xcc_form.specs.declared.faults.CompileFault.{CompileFault}
 use Rattle.xcc_form.specs.declared.faults.CompileFault.TheVariants as compile
-use Rattle.match_crew.specs.declared.solving.faults.SolveFault.{SolveFault}
-use Rattle.match_crew.specs.declared.solving.faults.SolveFault.TheVariants as solve
-use Rattle.match_crew.specs.declared.solving.searches.Searched.{Searched}
-use Rattle.match_crew.specs.declared.solving.searches.Searched.TheVariants.{Posted, GaveUp, Full}
+use Rattle.match_crew.specs.declared.faults.SolveFault.{SolveFault}
+use Rattle.match_crew.specs.declared.faults.SolveFault.TheVariants as solve
+use Rattle.match_crew.specs.declared.searches.Searched.{Searched}
+use Rattle.match_crew.specs.declared.searches.Searched.TheVariants.{Posted, GaveUp, Full}
 
 -- the fault of a solve that a fault of a compilation is
 abbrev pub solve_of_compile : CompileFault → SolveFault

@@ -1,13 +1,16 @@
-//! Checks of certificates by a crew of workers.
+//! Arrangements of a puzzle, with a certificate, by a crew of workers that give open branches away; and the check of a
+//! certificate by a crew, which is that of `check_crew`.
 #![tactic(auto)]
 
-mod checks;
-mod jobs;
-mod lists;
-mod solving;
-#[cfg(test)]
-mod tests;
+mod branches;
+mod choices;
+mod faults;
+mod images;
+mod plans;
+mod rules;
+mod searches;
+mod solves;
 
-pub use cert_check::{Gate, Open};
-pub use checks::check_with;
-pub use solving::{SolveFault, Solved, solve_with};
+pub use check_crew::{Gate, Open, check_with};
+pub use faults::SolveFault;
+pub use solves::{Solved, solve_with};

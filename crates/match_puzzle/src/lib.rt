@@ -15,8 +15,6 @@ mod placements;
 mod prefix_faults;
 mod puzzles;
 mod tables;
-#[cfg(test)]
-mod tests;
 
 pub use arrangements::Arrangement;
 pub use borders::{Border, BorderRules};

@@ -4,8 +4,8 @@ use Rattle.match_puzzle.specs.declared.faults.ArrangementFault.{ArrangementFault
 use Rattle.match_puzzle.specs.declared.faults.ArrangementFault.TheVariants as arrangements
 use Rattle.match_puzzle.specs.declared.faults.PrefixFault.{PrefixFault}
 use Rattle.match_puzzle.specs.declared.faults.PrefixFault.TheVariants as prefixes
-use Rattle.match_symmetry.specs.declared.faults.SymmetryFault.{SymmetryFault}
-use Rattle.match_symmetry.specs.declared.faults.SymmetryFault.TheVariants as symmetries
+use Rattle.puzzle_symmetry.specs.declared.faults.SymmetryFault.{SymmetryFault}
+use Rattle.puzzle_symmetry.specs.declared.faults.SymmetryFault.TheVariants as symmetries
 use Rattle.cert_check.specs.declared.faults.NodeFault.{NodeFault}
 use Rattle.cert_check.specs.declared.faults.NodeFault.TheVariants as nodes
 use Rattle.cert_check.specs.declared.faults.Fault.{Fault}

@@ -8,7 +8,7 @@ ghost use Rattle.match_report.specs.AnswerText.{arrangement_fault_words, symmetr
 use crate::lines::Line;
 use cert_check::{Answer, Fault, NodeFault};
 use match_puzzle::{ArrangementFault, PrefixFault};
-use match_symmetry::SymmetryFault;
+use puzzle_symmetry::SymmetryFault;
 use std::alloc::{AllocError, Global};
 
 #[tactic(auto, using(crate::proofs::LineLemmas::line_laws))]
@@ -144,6 +144,3 @@ pub fn write_answer(alloc: Global, answer: &Answer, listed: u32) -> Result<Vec<u
     };
     line.end()
 }
-
-#[cfg(test)]
-mod tests;

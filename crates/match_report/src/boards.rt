@@ -58,6 +58,3 @@ pub fn write_board(
     }
     Ok(text)
 }
-
-#[cfg(test)]
-mod tests;

@@ -75,6 +75,3 @@ pub fn write_tally(alloc: Global, tally: &[Taken]) -> Result<Vec<u8>, AllocError
     }
     Ok(text)
 }
-
-#[cfg(test)]
-mod tests;

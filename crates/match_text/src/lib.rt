@@ -9,8 +9,6 @@ mod puzzle_spellings;
 mod puzzles;
 mod scans;
 mod spellings;
-#[cfg(test)]
-mod tests;
 mod tile_spellings;
 mod words;
 

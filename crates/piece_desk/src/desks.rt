@@ -11,7 +11,7 @@ use boxcar::tag::Tag;
 use boxcar::{Iter, Keeps, Pushed, Vec as Places};
 use cert_tree::{AssembleFault, Certificate, Lemma, assemble_turned};
 use match_board::limits::{MOST_ARRANGEMENTS, MOST_LEMMAS};
-use match_symmetry::SymmetryLine;
+use puzzle_symmetry::SymmetryLine;
 use std::alloc::{AllocError, Global};
 use std::marker::Model;
 use std::sync::Wait;

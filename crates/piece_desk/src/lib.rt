@@ -2,7 +2,5 @@
 #![tactic(auto)]
 
 mod desks;
-#[cfg(test)]
-mod tests;
 
 pub use desks::{Desk, Receipt, Shown};

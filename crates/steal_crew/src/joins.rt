@@ -23,6 +23,3 @@ pub fn both<
     let (a, b) = thread::join(rt, left, right);
     Ok((a?, b?))
 }
-
-#[cfg(test)]
-mod tests;

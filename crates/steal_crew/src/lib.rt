@@ -11,8 +11,6 @@ pub mod machine;
 mod queues;
 mod results;
 mod taking;
-#[cfg(test)]
-mod tests;
 mod tickets;
 mod works;
 

@@ -8,8 +8,6 @@ mod jobs;
 mod limits;
 mod publishing;
 mod runs;
-#[cfg(test)]
-mod tests;
 mod working;
 mod works;
 

@@ -18,6 +18,3 @@ pub use steps::StepFault;
 pub fn every_run_is_sound()
     ensures { EveryRun }
 {}
-
-#[cfg(test)]
-mod tests;

@@ -3,7 +3,5 @@
 mod draws;
 mod rules;
 mod seats;
-#[cfg(test)]
-mod tests;
 
 pub use seats::{TicketSeat, Tickets};

@@ -9,8 +9,6 @@ mod paths;
 mod progress;
 mod searches;
 mod searching;
-#[cfg(test)]
-mod tests;
 
 pub use cites::{Cite, Cites, NoCites};
 pub use faults::SearchFault;

@@ -12,8 +12,6 @@ mod arrays;
 mod committing;
 mod making;
 mod tables;
-#[cfg(test)]
-pub(crate) mod tests;
 
 use arrays::LinkArrays;
 use match_board::limits::MOST_CELLS;

@@ -6,9 +6,6 @@ ghost use Rattle.xcc_dance.specs.LinkStates.{selection_of};
 ghost use Rattle.xcc_dance.specs.Placing.{FitInTurn};
 ghost use Rattle.xcc_dance.specs.Outcome.{IsOutcome};
 
-#[cfg(test)]
-mod tests;
-
 use crate::cites::Cites;
 use crate::faults::SearchFault;
 use crate::paths::Path;

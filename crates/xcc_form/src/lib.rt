@@ -6,8 +6,6 @@ mod edges;
 mod faults;
 mod laws;
 mod lists;
-#[cfg(test)]
-mod tests;
 mod xccs;
 
 pub use edges::Edge;

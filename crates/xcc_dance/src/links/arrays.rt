@@ -12,7 +12,7 @@ use std::alloc::AllocError;
 
 /// The neighbours of a node in the list of its item, which goes round. A node that is taken out keeps them, so that it
 /// can be put back between them.
-#[derive(Clone, Copy, PartialEq, Eq, Debug)]
+#[derive(Clone, Copy)]
 pub(crate) struct Link {
     pub(crate) up: u32,
     pub(crate) down: u32,

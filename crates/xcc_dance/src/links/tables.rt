@@ -9,7 +9,7 @@ use std::alloc::{AllocError, Global};
 use xcc_form::{Edge, Xcc};
 
 /// What a node stands for: an option's item, with the colour that it has there. A primary item has colour 0.
-#[derive(Clone, Copy, PartialEq, Eq, Debug)]
+#[derive(Clone, Copy)]
 pub(crate) struct Entry {
     pub(crate) item: u32,
     pub(crate) option: u32,

@@ -1,0 +1,124 @@
+//! Certificates are assembled of a caller's own lemmas.
+
+ghost use Rattle.std.specs.Prelude.{◌<◌, ◌^◌, All, IfOk, length};
+ghost use Rattle.cert_tree.specs.Tree.{tree_of, IsNarrow};
+
+use crate::texts::lemma_of;
+use cert_tree::{
+    AssembleFault, Certificate, Head, Lemma, Node, Pairs, assemble, assemble_turned, assembly_laws,
+    write_certificate,
+};
+use puzzle_symmetry::{ColourImages, Images, SymmetryLine};
+use sample_puzzles::TWIN_TILES_CERTIFICATE;
+use std::alloc::{AllocError, Global};
+use std::test::Fail;
+
+fn piece(alloc: Global, number: u32, tree: Node) -> Lemma
+    requires { IsNarrow (tree_of tree) }
+    ensures narrow { IsNarrow (tree_of result.tree) }
+    ensures prefix { length result.prefix < 2 ^ 32 }
+{
+    Lemma {
+        number,
+        prefix: Pairs::new(Vec::new(alloc)),
+        tree,
+    }
+}
+
+// A lemma for each of the numbers, with the tree that finds the arrangement of its place here.
+#[tactic(auto, using(cert_tree::proofs::TreeLemmas::tree_laws))]
+fn pieces(alloc: Global, numbers: &[u32]) -> Result<Vec<Lemma>, AllocError>
+    requires { length numbers.now < 1000 }
+    ensures narrow { IfOk result (λ pieces. All (λ piece. IsNarrow (tree_of piece.tree)) pieces.items) }
+    ensures prefixes { IfOk result (λ pieces. All (λ piece. length piece.prefix < 2 ^ 32) pieces.items) }
+{
+    let mut pieces = Vec::new(alloc);
+    for (place, number) in numbers.iter().enumerate() {
+        let piece = piece(alloc, *number, Node::Found(place as u32));
+        pieces.push(piece)?;
+    }
+    Ok(pieces)
+}
+
+fn assembled(alloc: Global, count: u32, numbers: &[u32]) -> Result<Certificate, AssembleFault> {
+    if count > 1_000_000 || numbers.len() >= 1000 {
+        return Err(AssembleFault::Memory);
+    }
+    assemble(alloc, count, Vec::new(alloc), pieces(alloc, numbers)?)
+}
+
+#[test]
+fn assembles_lemmas_by_number(rt: HostRuntime) -> Result<(), Fail> {
+    let faults = [
+        (3, [0, 1].as_slice(), AssembleFault::Missing(2)),
+        (4, [2].as_slice(), AssembleFault::Missing(0)),
+        (1, [].as_slice(), AssembleFault::Missing(0)),
+        (3, [2, 0, 2, 0].as_slice(), AssembleFault::Double(0)),
+        (2, [5, 5, 0, 0].as_slice(), AssembleFault::Stranger(5)),
+        (2, [7, 2, 0].as_slice(), AssembleFault::Stranger(2)),
+        (0, [0].as_slice(), AssembleFault::Stranger(0)),
+    ];
+    for (count, numbers, fault) in faults {
+        assert!(rt; assembled(rt.alloc(), count, numbers).err() == Some(fault));
+    }
+    assert!(rt; assembled(rt.alloc(), 0, &[])?.lemmas().len() == 0);
+    let certificate = assembled(rt.alloc(), 3, &[2, 0, 1])?;
+    assert!(rt; certificate.symmetries().is_empty());
+    let lemmas = certificate.lemmas();
+    assert!(rt; lemmas.len() == 3);
+    for (number, place) in [(0, 1), (1, 2), (2, 0)] {
+        let found = Head::Found(place);
+        assert!(rt; lemmas.at(number).tree.trees().next() == found);
+    }
+    assembly_laws();
+    Ok(())
+}
+
+// The symmetry that exchanges the twin tiles.
+fn exchange(alloc: Global) -> Result<Vec<SymmetryLine>, AllocError>
+    ensures { IfOk result (λ lines. length lines.items < 2 ^ 32) }
+{
+    let line = SymmetryLine {
+        shift: 0,
+        mirrored: false,
+        cells: Images::new(vec![in alloc; 0, 1]?),
+        colours: ColourImages::new(vec![in alloc; 0, 1]?),
+        tiles: Images::new(vec![in alloc; 1, 0]?),
+    };
+    Ok(vec![in alloc; line]?)
+}
+
+// The twin tiles' lemmas, numbered from the root.
+const FROM_THE_ROOT: [&[u8]; 2] = [
+    b"lemma 0 prefix tree c 0 2 s 1 i 1 0\n",
+    b"lemma 1 prefix 0:0.0 tree c 1 1 f 0\n",
+];
+
+// What is written of these two lemmas, turned, where the arrangements of the second begin at this number.
+fn turned(alloc: Global, root: &Lemma, other: &Lemma, first: u32) -> Result<Vec<u8>, Fail> {
+    if !root.within_limits() || !other.within_limits() || first > 1_000_000 {
+        return Err(Fail::from("a number is out of range"));
+    }
+    let pieces = vec![in alloc; other, root]?;
+    let certificate = assemble_turned(alloc, 2, &[0, first], exchange(alloc)?, pieces)?;
+    if !certificate.within_limits() {
+        return Err(Fail::from("what was assembled can't be written"));
+    }
+    Ok(write_certificate(alloc, &certificate)?)
+}
+
+#[test]
+fn assembles_lemmas_counted_from_the_root(rt: HostRuntime) -> Result<(), Fail> {
+    let alloc = rt.alloc();
+    let [root, other] = FROM_THE_ROOT;
+    let root = lemma_of(alloc, root)?;
+    let other = lemma_of(alloc, other)?;
+    let sixth =
+        b"certificate 1\nsymmetries 1\nsymmetry 0 + cells 0 1 colours 0 1 tiles 1 0\nlemmas 2\nlemma 0 prefix 0:0.0 tree c 1 1 f 5\nlemma 1 prefix tree c 0 2 s 0 i 0 0\nend\n";
+    assert!(rt; turned(alloc, &root, &other, 0)?.as_slice() == TWIN_TILES_CERTIFICATE);
+    assert!(rt; turned(alloc, &root, &other, 5)?.as_slice() == sixth.as_slice());
+    assert!(rt; root.within_limits());
+    let alone = assemble_turned(alloc, 2, &[0, 0], exchange(alloc)?, vec![in alloc; &root]?);
+    assert!(rt; alone.err() == Some(AssembleFault::Missing(1)));
+    Ok(())
+}

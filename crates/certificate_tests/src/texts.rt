@@ -1,0 +1,62 @@
+//! Texts are made and read.
+
+ghost use Rattle.std.specs.Prelude.{◌<◌, ◌^◌, IfOk, OnOk, length};
+
+use cert_tree::{Certificate, Lemma, read_certificate, read_lemma};
+use match_puzzle::{Arrangement, Puzzle};
+use match_text::{read_list, read_puzzle};
+use std::alloc::{AllocError, Global};
+use std::test::Fail;
+
+// No test has a text of so many bytes.
+const TOO_LONG: usize = 100_000;
+
+/// The texts, one after the other, each so many times.
+pub fn joined(alloc: Global, parts: &[(&[u8], u32)]) -> Result<Vec<u8>, AllocError> {
+    let mut text = Vec::new(alloc);
+    for (part, count) in parts {
+        for _ in 0..*count {
+            text.extend_from_slice(part)?;
+        }
+    }
+    Ok(text)
+}
+
+fn short(text: &[u8]) -> Result<(), Fail>
+    ensures { OnOk result (length text.now < 100000) }
+{
+    if text.len() >= TOO_LONG {
+        return Err(Fail::from("the text is long"));
+    }
+    Ok(())
+}
+
+/// The puzzle of this text.
+pub fn puzzle_of(alloc: Global, text: &[u8]) -> Result<Puzzle, Fail> {
+    short(text)?;
+    Ok(read_puzzle(alloc, text)?)
+}
+
+/// The list of this text.
+pub fn list_of(alloc: Global, text: &[u8]) -> Result<Vec<Arrangement>, Fail>
+    ensures { IfOk result (λ listed. length listed.items < 2 ^ 32) }
+{
+    short(text)?;
+    let listed = read_list(alloc, text)?;
+    if listed.len() >= TOO_LONG {
+        return Err(Fail::from("the list is long"));
+    }
+    Ok(listed)
+}
+
+/// The certificate of this text.
+pub fn certificate_of(alloc: Global, text: &[u8]) -> Result<Certificate, Fail> {
+    short(text)?;
+    Ok(read_certificate(alloc, text)?)
+}
+
+/// The lemma of this text.
+pub fn lemma_of(alloc: Global, text: &[u8]) -> Result<Lemma, Fail> {
+    short(text)?;
+    Ok(read_lemma(alloc, text)?)
+}

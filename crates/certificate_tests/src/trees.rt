@@ -1,0 +1,227 @@
+//! Lemmas and certificates are read, walked, copied and written.
+
+use crate::texts::{certificate_of, joined, lemma_of};
+use cert_tree::{
+    Children, FlatTree, Head, Lemma, LemmaTextFault, Node, Pairs, certificate_laws, head_laws,
+    lemma_laws, read_lemma, write_certificate, write_lemma,
+};
+use match_puzzle::{Pair, Placement};
+use match_text::{TextFault, TextKind};
+use sample_puzzles::{
+    SQUARE_OF_FOUR_CERTIFICATE, TURNING_TRIANGLE_CERTIFICATE, TWIN_TILES_CERTIFICATE,
+};
+use std::alloc::{AllocError, Global};
+use std::test::Fail;
+
+// Each kind of node, and a symmetry with a mirror and colours that are letters.
+const EACH_NODE: &[u8] =
+    b"certificate 1\nsymmetries 2\nsymmetry 3 - cells colours z a tiles\nsymmetry 0 + cells 99 colours tiles 99\nlemmas 2\nlemma 0 prefix 99:99.3 0:0.0 tree t 99 2 c 99 3 d 99 e 99 f 999999 s 999999\nlemma 1 prefix tree i 999999 1023\nend\n";
+
+const ONE_CELL: &[u8] =
+    b"certificate 1\nsymmetries 0\nlemmas 1\nlemma 0 prefix tree c 0 1 f 0\nend\n";
+
+const TURNING_HEAD: &[u8] =
+    b"certificate 1\nsymmetries 1\nsymmetry 1 + cells 3 0 2 1 colours 0 1 2 3 tiles 0 1 2 3\nlemmas 3\n";
+
+const FIRST: &[u8] = b"lemma 0 prefix 2:0.0 tree c 0 1 c 1 1 c 3 1 f 0\n";
+
+const SECOND: &[u8] = b"lemma 1 prefix 2:0.2 tree i 0 0\n";
+
+const ROOT: &[u8] = b"lemma 2 prefix tree t 0 3 s 0 i 1 0 s 1\n";
+
+const END: &[u8] = b"end\n";
+
+// The certificate of the turning triangle with its lemma lines in this order.
+fn turning(alloc: Global, lines: [&[u8]; 3]) -> Result<Vec<u8>, AllocError> {
+    let [first, second, third] = lines;
+    joined(
+        alloc,
+        &[
+            (TURNING_HEAD, 1),
+            (first, 1),
+            (second, 1),
+            (third, 1),
+            (END, 1),
+        ],
+    )
+}
+
+// A certificate of a small tree between two so large that each takes the memory that it is read into.
+fn large(alloc: Global) -> Result<Vec<u8>, AllocError> {
+    let branch = joined(alloc, &[(b" c 1 400", 1), (b" d 2", 400)])?;
+    joined(
+        alloc,
+        &[
+            (b"certificate 1\nsymmetries 0\nlemmas 3\n", 1),
+            (b"lemma 0 prefix tree c 0 11", 1),
+            (&branch, 11),
+            (
+                b"\nlemma 1 prefix 3:2.1 tree e 4\nlemma 2 prefix tree c 0 11",
+                1,
+            ),
+            (&branch, 11),
+            (b"\nend\n", 1),
+        ],
+    )
+}
+
+// A certificate of a tree of 101 levels, the most there may be.
+fn deep(alloc: Global) -> Result<Vec<u8>, AllocError> {
+    joined(
+        alloc,
+        &[
+            (
+                b"certificate 1\nsymmetries 0\nlemmas 1\nlemma 0 prefix tree",
+                1,
+            ),
+            (b" c 0 1", 100),
+            (b" f 0\nend\n", 1),
+        ],
+    )
+}
+
+// What is written of the certificate that the text says.
+fn written(alloc: Global, text: &[u8]) -> Result<Vec<u8>, Fail> {
+    let certificate = certificate_of(alloc, text)?;
+    if !certificate.within_limits() {
+        return Err(Fail::from("what was read can't be written"));
+    }
+    Ok(write_certificate(alloc, &certificate)?)
+}
+
+#[test]
+fn writes_certificates_that_were_read(rt: HostRuntime) -> Result<(), Fail> {
+    let alloc = rt.alloc();
+    let large = large(alloc)?;
+    let deep = deep(alloc)?;
+    for text in [
+        ONE_CELL,
+        SQUARE_OF_FOUR_CERTIFICATE,
+        TWIN_TILES_CERTIFICATE,
+        TURNING_TRIANGLE_CERTIFICATE,
+        EACH_NODE,
+        &large,
+        &deep,
+    ] {
+        assert!(rt; written(alloc, text)?.as_slice() == text);
+    }
+    for lines in [
+        [FIRST, SECOND, ROOT],
+        [FIRST, ROOT, SECOND],
+        [SECOND, FIRST, ROOT],
+        [SECOND, ROOT, FIRST],
+        [ROOT, FIRST, SECOND],
+        [ROOT, SECOND, FIRST],
+    ] {
+        let text = turning(alloc, lines)?;
+        assert!(rt; written(alloc, &text)?.as_slice() == TURNING_TRIANGLE_CERTIFICATE);
+    }
+    certificate_laws();
+    Ok(())
+}
+
+// A lemma whose prefix is empty, one pair or two, and nodes of most kinds.
+const LEMMAS: [&[u8]; 3] = [
+    b"lemma 1 prefix tree c 0 2 s 0 i 0 0\n",
+    FIRST,
+    b"lemma 999999 prefix 99:99.3 0:0.0 tree t 99 2 d 99 e 99\n",
+];
+
+// What is written of a copy of the lemma that the text says.
+fn copied(alloc: Global, text: &[u8]) -> Result<Vec<u8>, Fail> {
+    let lemma = lemma_of(alloc, text)?;
+    if !lemma.within_limits() {
+        return Err(Fail::from("what was read can't be copied"));
+    }
+    let copy = lemma.copy(alloc)?;
+    Ok(write_lemma(alloc, &copy)?)
+}
+
+#[test]
+fn reads_copies_and_writes_lemmas(rt: HostRuntime) -> Result<(), Fail> {
+    for text in LEMMAS {
+        assert!(rt; copied(rt.alloc(), text)?.as_slice() == text);
+    }
+    let text = b"lemma 1 prefix tree d 0\nlemma 2 prefix tree d 0\n";
+    let after = LemmaTextFault::Text(TextFault {
+        line: 2,
+        kind: TextKind::After,
+    });
+    assert!(rt; read_lemma(rt.alloc(), text).err() == Some(after));
+    lemma_laws();
+    Ok(())
+}
+
+// The second child of a branch of two, once the first is skipped.
+fn second_child(tree: &FlatTree<'_>) -> Option<Head> {
+    let mut trees = tree.trees();
+    let children = match trees.next() {
+        Head::Tile { children, .. } => children,
+        _ => 0,
+    };
+    if children != 2 {
+        return None;
+    }
+    trees.skip();
+    Some(trees.next())
+}
+
+#[test]
+fn skips_a_tree(rt: HostRuntime) -> Result<(), Fail> {
+    let certificate = certificate_of(rt.alloc(), EACH_NODE)?;
+    let lemmas = certificate.lemmas();
+    assert!(rt; lemmas.len() == 2);
+    let lemma = lemmas.at(0);
+    assert!(rt; lemma.tree.nodes() == 6);
+    assert!(rt; second_child(&lemma.tree) == Some(Head::Same(999_999)));
+    head_laws();
+    Ok(())
+}
+
+// A tree of so many branches below one another, and a leaf.
+fn tall(alloc: Global, branches: u32, leaf: Node) -> Result<Node, AllocError> {
+    let mut tree = leaf;
+    for _ in 0..branches {
+        let children = Children::new(vec![in alloc; tree]?);
+        tree = Node::Tile { tile: 0, children };
+    }
+    Ok(tree)
+}
+
+fn is_within(alloc: Global, number: u32, pairs: usize, tree: Node) -> Result<bool, AllocError> {
+    let placement = Placement { tile: 99, turn: 3 };
+    let pair = Pair {
+        cell: 99,
+        placement,
+    };
+    let prefix = Pairs::new(vec![in alloc; pair; pairs]?);
+    let lemma = Lemma {
+        number,
+        prefix,
+        tree,
+    };
+    Ok(lemma.within_limits())
+}
+
+#[test]
+fn tells_which_lemmas_have_a_spelling(rt: HostRuntime) -> Result<(), Fail> {
+    let alloc = rt.alloc();
+    let image = Node::Image {
+        lemma: 0,
+        symmetry: 1_024,
+    };
+    let empty = Node::Cell {
+        cell: 0,
+        children: Children::new(Vec::new(alloc)),
+    };
+    assert!(rt; is_within(alloc, 999_999, 100, tall(alloc, 100, Node::DeadCell(99))?)?);
+    assert!(rt; !is_within(alloc, 1_000_000, 0, Node::DeadCell(0))?);
+    assert!(rt; !is_within(alloc, 0, 101, Node::DeadCell(0))?);
+    assert!(rt; !is_within(alloc, 0, 0, tall(alloc, 101, Node::DeadCell(0))?)?);
+    assert!(rt; !is_within(alloc, 0, 0, tall(alloc, 3, Node::DeadTile(100))?)?);
+    assert!(rt; !is_within(alloc, 0, 0, Node::Found(1_000_000))?);
+    assert!(rt; !is_within(alloc, 0, 0, Node::Same(1_000_000))?);
+    assert!(rt; !is_within(alloc, 0, 0, image)?);
+    assert!(rt; !is_within(alloc, 0, 0, empty)?);
+    Ok(())
+}

@@ -1,0 +1,84 @@
+ghost use Rattle.std.specs.Prelude.{◌≡◌, ◌*◌};
+
+use crate::meetings::Meeting;
+use std::alloc::AllocError;
+use std::test::Fail;
+use steal_crew::{Work, run_crew};
+
+struct Squares;
+
+impl Work for Squares {
+    type R = u64;
+
+    ghost accepts = { λ _ _. Unit {0} };
+
+    ghost gives = { λ _ n r. r ≡ n * n };
+
+    fn one(&self, number: u32) -> Result<u64, AllocError> {
+        let wide = u64::from(number);
+        Ok(wide * wide)
+    }
+}
+
+// Number 0 and the last one look for each other.
+#[derive(Drop)]
+struct Callers {
+    meeting: Meeting,
+    last: u32,
+}
+
+impl Work for Callers {
+    type R = bool;
+
+    ghost accepts = { λ _ _. Unit {0} };
+
+    ghost gives = { λ _ _ _. Unit {0} };
+
+    fn one(&self, number: u32) -> Result<bool, AllocError> {
+        let is_between = number != 0 && number != self.last;
+        Ok(is_between || self.meeting.meets(number == 0))
+    }
+}
+
+#[test]
+fn squares_by_any_number_of_workers(rt: HostRuntime) -> Result<(), Fail> {
+    let alloc = rt.alloc();
+    for workers in 1..65u8 {
+        let crew = run_crew(&rt, alloc, &Squares, 5, workers)?;
+        assert!(rt;
+            crew.results() == [0, 1, 4, 9, 16].as_slice(),
+            "by {workers}"
+        );
+        let mut taken = Vec::new(alloc);
+        for worker in 0..workers {
+            taken.extend_from_slice(crew.tally(worker))?;
+        }
+        taken.sort()?;
+        assert!(rt;
+            taken.as_slice() == [0, 1, 2, 3, 4].as_slice(),
+            "by {workers}"
+        );
+    }
+    let (results, tallies) = run_crew(&rt, alloc, &Squares, 0, 3)?.into_parts();
+    assert!(rt; results.len() == 0);
+    assert!(rt; tallies.len() == 3);
+    for tally in tallies.iter() {
+        assert!(rt; tally.len() == 0);
+    }
+    Ok(())
+}
+
+// Where the last number is 1, each of the two waits in a queue of its own. Where it is 2, both wait in one queue, and
+// one of them has to be taken by the other queue's worker.
+#[test]
+fn two_at_once(rt: HostRuntime) -> Result<(), Fail> {
+    for last in [1, 2] {
+        let meeting = Meeting::new();
+        let callers = Callers { meeting, last };
+        let crew = run_crew(&rt, rt.alloc(), &callers, last + 1, 2)?;
+        if crew.results().contains(&false) {
+            return Err(Fail::new("no other thread came"));
+        }
+    }
+    Ok(())
+}

@@ -1,0 +1,25 @@
+//! Tests of crews of workers, and of searches and checks by them.
+#![tactic(auto)]
+
+#[cfg(test)]
+mod checks;
+#[cfg(test)]
+mod crews;
+#[cfg(test)]
+mod desks;
+#[cfg(test)]
+mod joins;
+#[cfg(test)]
+mod links;
+#[cfg(test)]
+mod live_crews;
+#[cfg(test)]
+mod machines;
+#[cfg(test)]
+mod meetings;
+#[cfg(test)]
+mod searches;
+#[cfg(test)]
+mod solves;
+#[cfg(test)]
+mod tickets;

@@ -1,0 +1,145 @@
+//! The turning triangle, worked out by hand: its tree, what is found, and what is cited.
+
+use cert_tree::{Lemma, Node, Pairs, write_lemma};
+use match_puzzle::{Arrangement, Pair};
+use sample_puzzles::turning_triangle;
+use std::alloc::{AllocError, Global};
+use std::test::Fail;
+use xcc_dance::{Cite, Cites, NoCites, Outcome, Search, SearchFault};
+use xcc_form::compile;
+
+// The lemma with this tree, as a line.
+fn lemma_line(alloc: Global, tree: Node) -> Result<Vec<u8>, Fail> {
+    let prefix = Pairs::new(Vec::new(alloc));
+    let lemma = Lemma {
+        number: 0,
+        prefix,
+        tree,
+    };
+    if !lemma.within_limits() {
+        return Err(Fail::new("not within limits"));
+    }
+    Ok(write_lemma(alloc, &lemma)?)
+}
+
+// What stands after the digits of an arrangement, which no placement has.
+const NEXT: u16 = 100;
+
+// The placements of each arrangement as two digits each, tile and turn, and what stands after them.
+fn digits_of(alloc: Global, found: &[Arrangement]) -> Result<Vec<u16>, AllocError> {
+    let mut digits = Vec::new(alloc);
+    for arrangement in found {
+        for placement in arrangement.placements() {
+            digits.push(10 * placement.tile.min(9) + u16::from(placement.turn.min(9)))?;
+        }
+        digits.push(NEXT)?;
+    }
+    Ok(digits)
+}
+
+// What a run tells: the digits of what it found, and its tree as the line of a lemma.
+#[derive(Drop)]
+struct Findings {
+    digits: Vec<u16>,
+    line: Vec<u8>,
+}
+
+fn told(alloc: Global, outcome: Outcome) -> Result<Findings, Fail> {
+    let Outcome::Done { tree, found } = outcome else {
+        return Err(Fail::new("gave up"));
+    };
+    Ok(Findings {
+        digits: digits_of(alloc, &found)?,
+        line: lemma_line(alloc, tree)?,
+    })
+}
+
+// Whether it runs no more.
+fn has_failed(search: &mut Search<'_>) -> bool {
+    matches!(search.run(&[], 10, &mut NoCites), Err(SearchFault::Failed))
+}
+
+// What a run comes to. Where memory is refused, each further run is to fail.
+fn outcome(search: &mut Search<'_>, fuel: u32) -> Result<Outcome, Fail> {
+    match search.run(&[], fuel.min(1_000_000), &mut NoCites) {
+        Ok(outcome) => Ok(outcome),
+        Err(SearchFault::Memory) if has_failed(search) && has_failed(search) => Err(
+            SearchFault::Memory.into(),
+        ),
+        Err(_) => Err(Fail::new("runs after it failed")),
+    }
+}
+
+#[test]
+fn searches_the_turning_triangle(rt: HostRuntime) -> Result<(), Fail> {
+    let alloc = rt.alloc();
+    let puzzle = turning_triangle(alloc)?;
+    let xcc = compile(alloc, &puzzle)?;
+    let mut search = Search::new(alloc, &xcc)?;
+    assert!(rt; search.branches() == 0);
+    // a search that is done runs again, and finds the same
+    for _ in 0..2 {
+        let told = told(alloc, outcome(&mut search, 10)?)?;
+        assert!(rt; search.branches() == 10);
+        assert!(rt;
+            told.digits.as_slice()
+                == [
+                    12, 30, 2, 21, NEXT, 22, 10, 0, 31, NEXT, 32, 20, 1, 11, NEXT,
+                ]
+                .as_slice()
+        );
+        assert!(rt;
+            told.line.as_slice()
+                == b"lemma 0 prefix tree c 0 3 c 2 1 c 1 1 c 3 1 f 0 c 2 1 c 1 1 c 3 1 f 1 c 2 1 c 1 1 c 3 1 f 2\n".as_slice()
+        );
+    }
+    // with one branch node too few it gives up, and then it fails
+    assert!(rt; matches!(outcome(&mut search, 9)?, Outcome::GaveUp));
+    assert!(rt; search.branches() == 9);
+    assert!(rt; has_failed(&mut search));
+    assert!(rt; search.branches() == 9);
+    Ok(())
+}
+
+// Knows a lemma for each tile but 1 at cell 0.
+#[derive(Clone, Copy)]
+struct Known;
+
+impl Cites for Known {
+    ghost takes = { λ _ _. Unit {0} };
+
+    ghost moves = { λ _ _. Unit {0} };
+
+    ghost stays = { λ _. tt };
+
+    ghost goes_on = { λ _ _ _ _ _. tt };
+
+    ghost takes_still = { λ _ _ _ _ _. tt };
+
+    fn cite(&mut self, prefix: &[Pair]) -> Result<Option<Cite>, AllocError> {
+        if prefix.len() != 1 {
+            return Ok(None);
+        }
+        Ok(match prefix[0].placement.tile {
+            2 => Some(Cite::Same(7)),
+            3 => Some(Cite::Image(8, 1)),
+            _ => None,
+        })
+    }
+}
+
+#[test]
+fn cites_known_lemmas(rt: HostRuntime) -> Result<(), Fail> {
+    let alloc = rt.alloc();
+    let puzzle = turning_triangle(alloc)?;
+    let xcc = compile(alloc, &puzzle)?;
+    let mut search = Search::new(alloc, &xcc)?;
+    let told = told(alloc, search.run(&[], 4, &mut Known)?)?;
+    assert!(rt; search.branches() == 4);
+    assert!(rt; told.digits.len() == 5);
+    assert!(rt;
+        told.line.as_slice()
+            == b"lemma 0 prefix tree c 0 3 c 2 1 c 1 1 c 3 1 f 0 s 7 i 8 1\n".as_slice()
+    );
+    Ok(())
+}

@@ -1,0 +1,60 @@
+//! The turning triangle as an exact cover, worked out by hand, and a puzzle with too many options.
+
+use crate::fixtures::{pair, tile, turned};
+use match_board::Board;
+use match_puzzle::{Border, Puzzle};
+use sample_puzzles::turning_triangle;
+use std::test::Fail;
+use xcc_form::{CompileFault, Edge, FormFault, compile};
+
+#[test]
+fn options_of_the_turning_triangle(rt: HostRuntime) -> Result<(), Fail> {
+    let alloc = rt.alloc();
+    let puzzle = turning_triangle(alloc)?;
+    let xcc = compile(alloc, &puzzle)?;
+    assert!(rt; xcc.cells() == 4);
+    assert!(rt; xcc.primaries() == 8);
+    assert!(rt; xcc.secondaries() == 3);
+    assert!(rt; xcc.options() == 21);
+    assert!(rt; xcc.entries() == 87);
+    assert!(rt; xcc.puzzle().colours() == 4);
+    assert!(rt; xcc.pair(6) == pair(2, 0, 0));
+    let shown = [(8, 2), (9, 1), (10, 3)].map(|(item, colour)| Edge { item, colour });
+    assert!(rt; xcc.edges(6) == shown.as_slice());
+    Ok(())
+}
+
+#[test]
+fn solutions_of_the_turning_triangle(rt: HostRuntime) -> Result<(), Fail> {
+    let alloc = rt.alloc();
+    let puzzle = turning_triangle(alloc)?;
+    let xcc = compile(alloc, &puzzle)?;
+    let listed = [turned(2, 2), turned(1, 0), turned(0, 0), turned(3, 1)];
+    assert!(rt; xcc.options_of(alloc, &listed)?.as_slice() == [1, 3, 6, 20].as_slice());
+    for options in [[1, 3, 6, 20], [20, 6, 1, 3]] {
+        let found = xcc.arrangement_of(alloc, &options)?;
+        assert!(rt; found.placements() == listed.as_slice(), "{options:?}");
+    }
+    let refused = Some(FormFault::NotASolution);
+    for options in [[1, 3, 6, 19], [1, 3, 6, 6]] {
+        let found = xcc.arrangement_of(alloc, &options).err();
+        assert!(rt; found == refused, "{options:?}");
+    }
+    let mismatched = [turned(1, 2), turned(2, 0), turned(0, 0), turned(3, 1)];
+    assert!(rt; xcc.options_of(alloc, &mismatched).err() == refused);
+    Ok(())
+}
+
+#[test]
+fn a_hundred_tiles_that_fit_everywhere(rt: HostRuntime) -> Result<(), Fail> {
+    let alloc = rt.alloc();
+    let tiles = vec![in alloc; tile([0, 1, 2, 3], 4)?; 100]?;
+    let puzzle = Puzzle::new(alloc, Board::rect(10, 10)?, true, &Border::Free, &tiles)?;
+    let are_too_many = match compile(alloc, &puzzle) {
+        Ok(_) => false,
+        Err(CompileFault::TooMany) => true,
+        Err(fault) => return Err(Fail::from(fault)),
+    };
+    assert!(rt; are_too_many);
+    Ok(())
+}

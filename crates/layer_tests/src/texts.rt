@@ -1,0 +1,110 @@
+//! Texts of puzzles and lists that are read, and written again.
+
+use crate::fixtures::{SIX_TRIANGLES, puzzle_of, turned};
+use match_puzzle::Arrangement;
+use match_text::{list_laws, list_within_limits, puzzle_laws, read_list, write_list, write_puzzle};
+use sample_puzzles::{
+    SQUARE_OF_FOUR, SQUARE_OF_FOUR_LIST, TURNING_TRIANGLE, TURNING_TRIANGLE_LIST, TWIN_TILES,
+    TWIN_TILES_LIST,
+};
+use std::alloc::{AllocError, Global};
+use std::test::Fail;
+
+// A puzzle with a rule of its own for each of the border's four pairs.
+const ONE_CELL: &[u8] =
+    b"match 1\nboard rect 1 1\nturns yes\nborder each 9 - a z\ntiles 1\ntile 9aaz\nend\n";
+
+// Rows of one to three placements.
+const UNEVEN_LIST: &[u8] = b"list 1\narrangements 3\n10.1 2.0\n3.3 4.2 50.0\n6.1\nend\n";
+
+const UNEVEN_ROWS: [&[(u16, u8)]; 3] = [&[(10, 1), (2, 0)], &[(3, 3), (4, 2), (50, 0)], &[(6, 1)]];
+
+// The list of a short text.
+fn list_of(alloc: Global, text: &[u8]) -> Result<Vec<Arrangement>, Fail> {
+    if text.len() > 1000 {
+        return Err(Fail::from("too long"));
+    }
+    Ok(read_list(alloc, text)?)
+}
+
+// What is written of the list of a short text.
+fn list_again(alloc: Global, text: &[u8]) -> Result<Vec<u8>, Fail> {
+    if text.len() > 1000 {
+        return Err(Fail::from("too long"));
+    }
+    let list = read_list(alloc, text)?;
+    Ok(write_list(alloc, &list)?)
+}
+
+#[test]
+fn writes_what_was_read(rt: HostRuntime) -> Result<(), Fail> {
+    let alloc = rt.alloc();
+    for text in [
+        SQUARE_OF_FOUR,
+        TWIN_TILES,
+        TURNING_TRIANGLE,
+        ONE_CELL,
+        SIX_TRIANGLES,
+    ] {
+        let puzzle = puzzle_of(alloc, text)?;
+        assert!(rt; write_puzzle(alloc, &puzzle)?.as_slice() == text);
+    }
+    for text in [
+        SQUARE_OF_FOUR_LIST,
+        TWIN_TILES_LIST,
+        TURNING_TRIANGLE_LIST,
+        UNEVEN_LIST,
+    ] {
+        assert!(rt; list_again(alloc, text)?.as_slice() == text);
+    }
+    list_laws();
+    puzzle_laws();
+    Ok(())
+}
+
+#[test]
+fn keeps_each_row_by_itself(rt: HostRuntime) -> Result<(), Fail> {
+    let list = list_of(rt.alloc(), UNEVEN_LIST)?;
+    assert!(rt; list.len() == 3);
+    for (arrangement, row) in list.iter().zip(UNEVEN_ROWS) {
+        let placements = arrangement.placements();
+        assert!(rt; placements.len() == row.len());
+        for (placement, (tile, turn)) in placements.iter().zip(row) {
+            assert!(rt; *placement == turned(*tile, *turn), "{tile}.{turn}");
+        }
+    }
+    Ok(())
+}
+
+// A list of one row of so many equal placements.
+fn list_with(
+    alloc: Global,
+    count: usize,
+    tile: u16,
+    turn: u8,
+) -> Result<Vec<Arrangement>, AllocError> {
+    let placements = vec![in alloc; turned(tile, turn); count]?;
+    let mut list = Vec::new(alloc);
+    list.push(Arrangement::new(placements))?;
+    Ok(list)
+}
+
+#[test]
+fn tells_which_lists_have_a_spelling(rt: HostRuntime) -> Result<(), Fail> {
+    let rows = [
+        (1, 99, 3, true),
+        (100, 0, 0, true),
+        (0, 0, 0, false),
+        (101, 0, 0, false),
+        (1, 100, 0, false),
+        (1, 0, 4, false),
+    ];
+    for (count, tile, turn, within) in rows {
+        let list = list_with(rt.alloc(), count, tile, turn)?;
+        assert!(rt;
+            list_within_limits(&list) == within,
+            "{count} of {tile}.{turn}"
+        );
+    }
+    Ok(())
+}

@@ -1,0 +1,15 @@
+use Rattle.std.proofs.Common.{◌≡◌, ◌+◌, ◌≤◌, All, length, vec_len}
+use Rattle.match_board.specs.declared.limits.TheConstants.{MOST_ARRANGEMENTS}
+use Rattle.piece_desk.specs.Desks.{IsOf}
+use Rattle.match_crew.specs.Solving.{AreArrangementsOf, IsOutcomeOf}
+use Rattle.match_crew.proofs.solves.collect.Given as goal
+
+abbrev pub invariant-loop-searched : goal.invariant-loop-searched
+invariant-loop-searched l = record {
+  rest : All (IsOutcomeOf l._puzzle l._desk) l.searched-iterator.rest.items;
+  receipts : All (λ receipt. IsOf l._desk receipt) l.collected.receipts.items;
+  many : vec_len l.collected.first + length l.searched-iterator.rest.items ≡ length l.fn.results.items;
+  first : All (λ n. n ≤ MOST_ARRANGEMENTS) l.collected.first.items;
+  listed : AreArrangementsOf l._puzzle l.collected.listed.items;
+  few : vec_len l.collected.listed ≤ MOST_ARRANGEMENTS;
+}

@@ -1,0 +1,130 @@
+//! What a job answers when it is asked for a child: it cites, gives away, or searches on.
+
+ghost use Rattle.std.specs.Prelude.{◌≡◌, IfOk, IfSome};
+ghost use Rattle.steal_crew.specs.LiveHands.{Gave};
+ghost use Rattle.xcc_dance.specs.Outcome.{IsCiteWithin};
+
+use crate::branches::OpenBranch;
+use crate::images::Placed;
+use crate::rules::Rules;
+use match_board::limits::MOST_LEMMAS;
+use match_puzzle::Pair;
+use std::alloc::AllocError;
+use std::sync::atomic::Ordering;
+use steal_crew::Hand;
+use xcc_dance::{Cite, Cites};
+
+// After so many children a job looks whether others wait for work, and then at each sixteenth.
+const LONG: u32 = 1_000;
+
+// So many levels below its prefix a job gives children away.
+const LEVELS_GIVEN: usize = 6;
+
+// What a job is asked.
+#[derive(Drop)]
+pub struct Choices<'a, 'h> {
+    pub rules: &'a Rules<'a>,
+    pub hand: &'a mut Hand<'h, OpenBranch>,
+    pub number: u32,
+    // how many pairs the job's prefix has
+    pub level: usize,
+    // whether that prefix holds an image of a later lemma, so that each child does
+    pub holds: bool,
+    // how often it was asked
+    pub asked: u32,
+    // whether it gives children away
+    pub gives: bool,
+}
+
+impl<'a, 'h> Choices<'a, 'h> {
+    // What is known to stand for the child.
+    fn known(&self, placed: &[Pair]) -> Option<Cite>
+        ensures { IfSome result IsCiteWithin }
+    {
+        let images = &self.rules.plan.images;
+        if self.holds {
+            images.cite_any(placed, self.number)
+        } else {
+            images.cite(placed, self.number)
+        }
+    }
+
+    // Gives the branch away, and answers what stands for it then.
+    fn give(&mut self, pairs: &[Pair]) -> Result<Option<Cite>, AllocError>
+        ensures within { IfOk result (λ o. IfSome o IsCiteWithin) }
+        ensures same { self.new.hand.ghost_name ≡ self.old.hand.ghost_name }
+        ensures gave { Gave self.old.hand.now self.new.hand.now }
+    {
+        let pairs = pairs.to_vec(self.rules.alloc)?;
+        match self.hand.give(OpenBranch { pairs }) {
+            Ok(number) if number < MOST_LEMMAS => {
+                self.rules.waiting.fetch_add(1, Ordering::Relaxed);
+                Ok(Some(Cite::Same(number)))
+            }
+            _ => Ok(None),
+        }
+    }
+
+    // Gives the planned branches away, which then have the numbers from 1 on: nobody drew before.
+    fn give_planned(&mut self) -> Result<(), AllocError>
+        ensures same { self.new.hand.ghost_name ≡ self.old.hand.ghost_name }
+        ensures gave { Gave self.old.hand.now self.new.hand.now }
+    {
+        for prefix in &self.rules.plan.prefixes {
+            let _cite = self.give(prefix)?;
+        }
+        Ok(())
+    }
+
+    // Whether the child is to be given away: where little fuel is left, or others wait for work and no later lemma may
+    // still be cited below it.
+    fn is_to_give(&mut self, placed: &[Pair]) -> bool
+        ensures same { self.new.hand.ghost_name ≡ self.old.hand.ghost_name }
+        ensures gave { self.new.hand.now ≡ self.old.hand.now }
+    {
+        if self.rules.nearly_spent(self.asked) {
+            return true;
+        }
+        if !self.gives && self.asked >= LONG && self.asked % 16 == 0 {
+            self.gives = self.rules.few_wait();
+        }
+        self.gives
+            && placed.len() <= self.level.saturating_add(LEVELS_GIVEN)
+            && !self
+                .rules
+                .plan
+                .images
+                .may_come(&Placed::of(placed), self.number)
+    }
+}
+
+impl<'a, 'h> Cites for Choices<'a, 'h> {
+    ghost use Rattle.steal_crew.specs.LiveHands.{Gave};
+    ghost use Rattle.std.specs.Prelude.{◌≡◌, refl};
+    ghost use Rattle.std.proofs.Common.{◌∙◌};
+    ghost use Rattle.steal_crew.proofs.LiveHandLemmas.{gave_nothing, gave_both};
+
+    ghost takes = { λ _ _. Unit {0} };
+
+    ghost moves = { λ c d. (d.hand.ghost_name ≡ c.hand.ghost_name) × Gave c.hand.now d.hand.now };
+
+    ghost stays = { λ c. (refl, gave_nothing c.hand.now) };
+
+    ghost goes_on = { λ c d e one two. (two.0 ∙ one.0, gave_both c.hand.now d.hand.now e.hand.now one.1 two.1) };
+
+    ghost takes_still = { λ _ _ _ _ _. tt };
+
+    fn cite(&mut self, prefix: &[Pair]) -> Result<Option<Cite>, AllocError> {
+        if self.number == 0 && self.asked == 0 {
+            self.give_planned()?;
+        }
+        self.asked = self.asked.saturating_add(1);
+        if let Some(cite) = self.known(prefix) {
+            return Ok(Some(cite));
+        }
+        if !self.is_to_give(prefix) {
+            return Ok(None);
+        }
+        self.give(prefix)
+    }
+}

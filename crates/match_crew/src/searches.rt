@@ -1,0 +1,159 @@
+//! A job for each open branch.
+
+ghost use Rattle.std.specs.Prelude.{Contains, List, IfOk, IfSome};
+ghost use Rattle.match_puzzle.specs.declared.placements.Pair.{Pair as Placed};
+ghost use Rattle.match_puzzle.specs.declared.placements.Placement.{Placement};
+ghost use Rattle.steal_crew.specs.LiveHands.{Gave};
+ghost use Rattle.match_puzzle.specs.Arrangement.{IsArrangement};
+ghost use Rattle.match_crew.specs.Solving.{AreArrangementsOf, IsOutcomeOf};
+
+use crate::branches::{OpenBranch, fit_in_turn, prefix_of};
+use crate::choices::Choices;
+use crate::rules::Rules;
+use cert_tree::{Lemma, Node};
+use match_board::limits::{MOST_ARRANGEMENTS, MOST_FUEL};
+use match_puzzle::{Arrangement, Pair};
+use piece_desk::{Desk, Receipt};
+use std::alloc::AllocError;
+use std::sync::Wait;
+use std::sync::atomic::{AtomicBool, Ordering};
+use steal_crew::{Hand, LiveWork};
+use xcc_dance::{Cites, NoCites, Outcome, Search, SearchFault};
+use xcc_form::Xcc;
+
+// What an open branch came to.
+#[derive(Drop)]
+pub enum Searched {
+    // Its lemma is on the desk, and this is what it found.
+    Posted {
+        receipt: Receipt,
+        found: Vec<Arrangement>,
+    },
+    // Its fuel was spent, or another job came to no lemma before it began.
+    GaveUp,
+    // It found more than are listed.
+    Full,
+}
+
+// What open branches are searched by.
+#[derive(Drop)]
+pub struct Searches<'a, T: Wait> {
+    pub rt: &'a T,
+    pub xcc: &'a Xcc<'a>,
+    pub desk: &'a Desk,
+    pub rules: Rules<'a>,
+    // whether a job gave up or found too many
+    pub is_over: AtomicBool,
+}
+
+// A tree, and the arrangements that it numbers.
+#[derive(Drop)]
+struct Finished {
+    tree: Node,
+    found: Vec<Arrangement>,
+}
+
+impl<'a, T: Wait> Searches<'a, T> {
+    // Searches below these pairs, which fit in turn, or finds that the fuel doesn't do.
+    fn run<C: Cites>(&self, pairs: &[Pair], cites: &mut C) -> Result<Option<Finished>, AllocError>
+        requires takes { (asked : List Placed) → C.takes cites.old asked }
+        ensures found { IfOk result (λ o. IfSome o
+            (λ f. AreArrangementsOf self.now.xcc.now.puzzle f.found.items)) }
+        ensures moved { C.moves cites.old cites.new }
+    {
+        let rules = &self.rules;
+        if !fit_in_turn(rules.alloc, self.xcc.puzzle(), pairs)? {
+            return Ok(None);
+        }
+        let mut search = Search::new(rules.alloc, self.xcc)?;
+        match search.run(pairs, rules.fuel.min(MOST_FUEL), cites) {
+            Ok(Outcome::Done { tree, found }) => Ok(Some(Finished { tree, found })),
+            Ok(Outcome::GaveUp) => Ok(None),
+            // it did not run before
+            Err(SearchFault::Failed) => unreachable!(),
+            Err(SearchFault::Memory) => Err(AllocError),
+        }
+    }
+
+    // The same of a job, which may cite lemmas and give branches away where there are several workers or levels.
+    fn run_job(
+        &self,
+        number: u32,
+        pairs: &[Pair],
+        hand: &mut Hand<'_, OpenBranch>,
+    ) -> Result<Option<Finished>, AllocError>
+        ensures found { IfOk result (λ o. IfSome o
+            (λ f. AreArrangementsOf self.now.xcc.now.puzzle f.found.items)) }
+        ensures gave { Gave hand.old hand.new }
+    {
+        if self.rules.is_alone() {
+            return self.run(pairs, &mut NoCites);
+        }
+        let rules = &self.rules;
+        let mut choices = Choices {
+            rules,
+            hand,
+            number,
+            level: pairs.len(),
+            holds: rules.plan.images.cite_any(pairs, number).is_some(),
+            asked: 0,
+            gives: false,
+        };
+        self.run(pairs, &mut choices)
+    }
+
+    // Puts the lemma with this number on the desk.
+    fn post(&self, number: u32, pairs: &[Pair], finished: Finished) -> Result<Searched, AllocError>
+        requires { AreArrangementsOf self.now.xcc.now.puzzle finished.found.items }
+        ensures { IfOk result (IsOutcomeOf self.now.xcc.now.puzzle self.now.desk.now) }
+    {
+        let Finished { tree, found } = finished;
+        if found.len() > MOST_ARRANGEMENTS as usize {
+            return Ok(Searched::Full);
+        }
+        let prefix = prefix_of(self.rules.alloc, pairs)?;
+        let lemma = Lemma {
+            number,
+            prefix,
+            tree,
+        };
+        if !lemma.within_limits() {
+            return Ok(Searched::GaveUp);
+        }
+        match self.desk.post(self.rt, lemma) {
+            Ok(receipt) => Ok(Searched::Posted { receipt, found }),
+            Err(_) => Err(AllocError),
+        }
+    }
+}
+
+impl<'a, T: Wait> LiveWork for Searches<'a, T> {
+    type Job = OpenBranch;
+
+    type R = Searched;
+
+    ghost gives = { λ s _ _ r. IsOutcomeOf s.xcc.now.puzzle s.desk.now r };
+
+    fn one(
+        &self,
+        number: u32,
+        job: OpenBranch,
+        hand: &mut Hand<'_, OpenBranch>,
+    ) -> Result<Searched, AllocError> {
+        if number > 0 {
+            self.rules.waiting.fetch_sub(1, Ordering::Relaxed);
+        }
+        if self.is_over.load(Ordering::Relaxed) {
+            return Ok(Searched::GaveUp);
+        }
+        let OpenBranch { pairs } = job;
+        let searched = match self.run_job(number, &pairs, hand)? {
+            None => Searched::GaveUp,
+            Some(finished) => self.post(number, &pairs, finished)?,
+        };
+        if !matches!(searched, Searched::Posted { .. }) {
+            self.is_over.store(true, Ordering::Relaxed);
+        }
+        Ok(searched)
+    }
+}

@@ -1,0 +1,249 @@
+//! Solving a puzzle.
+
+ghost use Rattle.std.specs.Prelude.{◌≡◌, ◌≢◌, ◌≤◌, ◌<◌, ◌+◌, ◌^◌, ◌++◌, ◌∷◌, [], All, IfOk, IfErr, IsErrOf, OnOk, length, vec_len};
+ghost use Rattle.match_board.specs.declared.limits.TheConstants.{MOST_DEPTH, MOST_FUEL, MOST_SYMMETRIES, MOST_WORKERS};
+ghost use Rattle.match_puzzle.specs.Arrangement.{IsArrangement};
+ghost use Rattle.match_puzzle.specs.declared.placements.Placement.{Placement};
+ghost use Rattle.puzzle_symmetry.specs.Symmetry.{IsSymmetry};
+ghost use Rattle.cert_tree.specs.CertificateSpelling.{IsCertificateWithin};
+ghost use Rattle.cert_tree.specs.Writing.{said_by};
+ghost use Rattle.piece_desk.specs.Desks.{IsOf};
+ghost use Rattle.xcc_form.specs.Options.{HasTooManyEntries};
+ghost use Rattle.match_crew.specs.Solving.{AreArrangementsOf, IsOutcomeOf, IsSearchedBy, IsSolvedBy};
+
+use crate::branches::OpenBranch;
+use crate::faults::SolveFault;
+use crate::plans::Plan;
+use crate::rules::Rules;
+use crate::searches::{Searched, Searches};
+use cert_tree::{AssembleFault, Certificate};
+use match_board::limits::{MOST_ARRANGEMENTS, MOST_LEMMAS};
+use match_puzzle::{Arrangement, Puzzle};
+use match_symmetry::suggest;
+use match_text::list_within_limits;
+use piece_desk::{Desk, Receipt};
+use puzzle_symmetry::{Symmetry, SymmetryFault, SymmetryLine};
+use std::alloc::{AllocError, Global};
+use std::sync::Wait;
+use std::sync::atomic::{AtomicBool, AtomicU64};
+use std::thread::Threads;
+use steal_crew::{Crew, run_live};
+use xcc_form::{Xcc, compile};
+
+/// Arrangements of a puzzle, with a certificate, and who took which lemma: for each worker the numbers of those that it
+/// searched, as they were on the desk, where the root is 0.
+#[derive(Drop)]
+pub struct Solved {
+    pub listed: Vec<Arrangement>,
+    pub certificate: Certificate,
+    pub tally: Vec<Vec<u32>>,
+}
+
+// The symmetries by which lemmas may be cited.
+fn lines_of(alloc: Global, puzzle: &Puzzle, depth: u8) -> Result<Vec<SymmetryLine>, AllocError>
+    ensures symmetries { IfOk result (λ v. All (IsSymmetry puzzle.now) v.items) }
+    ensures few { IfOk result (λ v. vec_len v ≤ MOST_SYMMETRIES) }
+{
+    if depth == 0 {
+        return Ok(Vec::new(alloc));
+    }
+    let lines = suggest(alloc, puzzle)?;
+    Ok(lines)
+}
+
+fn symmetries_of<'a>(
+    alloc: Global,
+    puzzle: &'a Puzzle,
+    lines: &[SymmetryLine],
+) -> Result<Vec<Symmetry<'a>>, AllocError>
+    requires { All (IsSymmetry puzzle.now) lines.now }
+{
+    let mut symmetries = Vec::with_capacity(alloc, lines.len())?;
+    for line in lines {
+        match Symmetry::new(alloc, puzzle, line) {
+            Ok(symmetry) => symmetries.push(symmetry)?,
+            Err(SymmetryFault::Memory) => return Err(AllocError),
+            Err(_) => unreachable!(),
+        }
+    }
+    Ok(symmetries)
+}
+
+// Searches from the empty prefix, and each branch that is given away.
+fn search_all<R: Threads + Wait + Sync>(
+    rt: &R,
+    xcc: &Xcc<'_>,
+    desk: &Desk,
+    rules: Rules<'_>,
+) -> Result<Crew<Searched>, AllocError>
+    requires { (1 ≤ rules.workers) × (rules.workers ≤ MOST_WORKERS) }
+    ensures { IfOk result (λ c. IsSearchedBy xcc.now.puzzle desk.now rules.entry.workers c.results.items c.tallies.items) }
+{
+    let (alloc, workers) = (rules.alloc, rules.workers);
+    let searches = Searches {
+        rt,
+        xcc,
+        desk,
+        rules,
+        is_over: AtomicBool::new(false),
+    };
+    let root = OpenBranch {
+        pairs: Vec::new(alloc),
+    };
+    let crew = run_live(rt, alloc, &searches, root, MOST_LEMMAS, workers)?;
+    Ok(crew)
+}
+
+// What all jobs posted and found, by their numbers.
+#[derive(Drop)]
+struct Collected {
+    receipts: Vec<Receipt>,
+    // for each lemma the number of the first that it found
+    first: Vec<u32>,
+    listed: Vec<Arrangement>,
+}
+
+// Adds what the next lemma found.
+fn add(
+    collected: &mut Collected,
+    receipt: Receipt,
+    mut found: Vec<Arrangement>,
+) -> Result<(), AllocError>
+    requires few { vec_len collected.old.listed + vec_len found ≤ MOST_ARRANGEMENTS }
+    ensures receipts { OnOk result (collected.new.receipts.items ≡ collected.old.receipts.items ++ receipt ∷ []) }
+    ensures first { OnOk result (collected.new.first.items
+        ≡ collected.old.first.items ++ vec_len collected.old.listed ∷ []) }
+    ensures listed { OnOk result (collected.new.listed.items ≡ collected.old.listed.items ++ found.items) }
+{
+    collected.receipts.push(receipt)?;
+    collected.first.push(collected.listed.len() as u32)?;
+    collected.listed.append(&mut found)?;
+    Ok(())
+}
+
+// The receipt of a lemma, and what it found.
+fn posted(
+    _puzzle: &Puzzle,
+    _desk: &Desk,
+    searched: Searched,
+) -> Result<(Receipt, Vec<Arrangement>), SolveFault>
+    requires { IsOutcomeOf _puzzle.now _desk.now searched }
+    ensures receipt { IfOk result (λ r. IsOf _desk.now r.0) }
+    ensures found { IfOk result (λ r. AreArrangementsOf _puzzle.now r.1.items) }
+    ensures fault { IfErr result (λ f. f ≢ SolveFault.TooMany) }
+{
+    match searched {
+        Searched::Posted { receipt, found } => Ok((receipt, found)),
+        Searched::GaveUp => Err(SolveFault::GaveUp),
+        Searched::Full => Err(SolveFault::Full),
+    }
+}
+
+// What all lemmas found, in the order of their numbers.
+fn collect(
+    alloc: Global,
+    _puzzle: &Puzzle,
+    _desk: &Desk,
+    results: Vec<Searched>,
+) -> Result<Collected, SolveFault>
+    requires { All (IsOutcomeOf _puzzle.now _desk.now) results.items }
+    ensures receipts { IfOk result (λ c. All (λ receipt. IsOf _desk.now receipt) c.receipts.items) }
+    ensures many { IfOk result (λ c. vec_len c.first ≡ vec_len results) }
+    ensures first { IfOk result (λ c. All (λ n. n ≤ MOST_ARRANGEMENTS) c.first.items) }
+    ensures listed { IfOk result (λ c. AreArrangementsOf _puzzle.now c.listed.items) }
+    ensures fault { IfErr result (λ f. f ≢ SolveFault.TooMany) }
+{
+    let mut collected = Collected {
+        receipts: Vec::new(alloc),
+        first: Vec::new(alloc),
+        listed: Vec::new(alloc),
+    };
+    for searched in results {
+        let (receipt, found) = posted(_puzzle, _desk, searched)?;
+        if collected.listed.len() + found.len() > MOST_ARRANGEMENTS as usize {
+            return Err(SolveFault::Full);
+        }
+        add(&mut collected, receipt, found)?;
+    }
+    Ok(collected)
+}
+
+// The certificate of what was posted, turned over: the root comes last.
+fn certificate_of(
+    alloc: Global,
+    desk: &Desk,
+    receipts: &[Receipt],
+    lines: Vec<SymmetryLine>,
+    count: u32,
+    first: &[u32],
+) -> Result<Certificate, SolveFault>
+    requires receipts { All (λ receipt. IsOf desk.now receipt) receipts.now }
+    requires count { count ≤ MOST_LEMMAS }
+    requires many { length first.now ≡ count }
+    requires first { All (λ n. n ≤ MOST_ARRANGEMENTS) first.now }
+    requires lines { length lines.items < 2 ^ 32 }
+    ensures within { IfOk result (λ c. IsCertificateWithin (said_by c)) }
+    ensures many { IfOk result (λ c. length c.lemmas ≡ count) }
+    ensures fault { IfErr result (λ f. f ≢ SolveFault.TooMany) }
+{
+    match desk.gather(alloc, receipts, lines, count, first) {
+        Ok(certificate) if certificate.within_limits() => Ok(certificate),
+        Ok(_) => Err(SolveFault::Full),
+        Err(AssembleFault::Memory) => Err(SolveFault::Memory),
+        Err(_) => Err(SolveFault::GaveUp),
+    }
+}
+
+/// Searches for all arrangements of the puzzle by 1 to 64 workers, each lemma by at most `fuel` branch nodes, 1 to
+/// 1,000,000. Their list is in the order of the lemmas' numbers on the desk, and of each lemma as they were found.
+///
+/// With depth 0 and one worker there is one lemma, and no symmetry. With a depth of 1 to 3 branches of so many levels
+/// become lemmas before the search begins, at most 64, and are cited wherever they, or their images under symmetries
+/// that are looked for first, lie within what is placed. Several workers give each other branches, and so does a lemma
+/// that comes near the end of its fuel, where there are several workers or levels.
+///
+/// `GaveUp` where the fuel of a lemma doesn't do, `TooMany` where the puzzle's options have over 200,000 items, `Full`
+/// where over 1,000,000 arrangements were found.
+pub fn solve_with<R: Threads + Wait + Sync>(
+    rt: &R,
+    alloc: Global,
+    puzzle: &Puzzle,
+    depth: u8,
+    fuel: u32,
+    workers: u8,
+) -> Result<Solved, SolveFault>
+    requires depth { depth ≤ MOST_DEPTH }
+    requires fuel { (1 ≤ fuel) × (fuel ≤ MOST_FUEL) }
+    requires workers { (1 ≤ workers) × (workers ≤ MOST_WORKERS) }
+    ensures solved { IfOk result (λ s. IsSolvedBy puzzle.now workers s.listed.items s.tally.items s.certificate) }
+    ensures too_many { IsErrOf result SolveFault.TooMany → HasTooManyEntries puzzle.now }
+{
+    let xcc = compile(alloc, puzzle)?;
+    let lines = lines_of(alloc, puzzle, depth)?;
+    let symmetries = symmetries_of(alloc, puzzle, &lines)?;
+    let plan = Plan::new(alloc, &xcc, &symmetries, depth)?;
+    let desk = Desk::new(alloc)?;
+    let rules = Rules {
+        alloc,
+        plan: &plan,
+        fuel,
+        workers,
+        waiting: AtomicU64::new(0),
+    };
+    let (results, tally) = search_all(rt, &xcc, &desk, rules)?.into_parts();
+    let count = results.len() as u32;
+    let Collected {
+        receipts,
+        first,
+        listed,
+    } = collect(alloc, puzzle, &desk, results)?;
+    if !list_within_limits(&listed) {
+        return Err(SolveFault::Full);
+    }
+    let certificate = certificate_of(alloc, &desk, &receipts, lines, count, &first)?;
+    Ok(Solved {
+        listed,
+        certificate,
+        tally,
+    })
+}

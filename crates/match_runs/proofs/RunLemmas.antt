@@ -1,0 +1,149 @@
+-- What the parts of a run read.
+use Rattle.std.proofs.Common.{◌≡◌, ◌≤◌, ℕ, suc, List, [], ◌∷◌, Some, Result, Ok, Err, IsErrOf, Contains, length, map, slice_get, arith, refl, ap, sym, ◌∙◌, subst, ⊎_elim}
+use Rattle.match_board.specs.declared.limits.TheConstants.{MOST_ARRANGEMENTS}
+use Rattle.std.specs.List.{AllByRecursion}
+use Rattle.match_puzzle.specs.Puzzle.{Task, IsPuzzle}
+use Rattle.match_puzzle.specs.Arrangement.{IsArrangement}
+use Rattle.match_puzzle.specs.declared.placements.Placement.{Placement}
+use Rattle.match_puzzle.proofs.FittingLemmas.{small_turn}
+use Rattle.puzzle_symmetry.specs.Motion.{Motion}
+use Rattle.puzzle_symmetry.specs.declared.lines.SymmetryLine.{SymmetryLine}
+use Rattle.puzzle_symmetry.specs.Symmetry.{IsSymmetry}
+use Rattle.puzzle_symmetry.proofs.Reaching.{reached_is}
+use Rattle.match_text.specs.ListSpelling.{IsPlacementWithin, IsRowWithin, IsListWithin}
+use Rattle.match_text.specs.declared.faults.TextFault.{TextFault}
+use Rattle.cert_tree.specs.Certificate.{Contents, Piece}
+use Rattle.cert_tree.specs.CertificateText.{Said, Makes, CertificateGives}
+use Rattle.cert_tree.specs.declared.faults.AssembleFault.{AssembleFault}
+use Rattle.cert_tree.specs.declared.faults.CertTextFault.TheVariants.{Text, Assemble}
+use Rattle.cert_check.specs.Setting.{Question, line_of}
+use Rattle.cert_check.specs.Answer.{AreSymmetries, IsAnswer, IsCompleteList}
+use Rattle.cert_check.proofs.ListLemmas.{contains_at, contains_none, mapped_at, place_of}
+use Rattle.cert_check.specs.declared.faults.Answer.{Answer}
+use Rattle.match_report.specs.Closure.{AddsEach}
+use Rattle.match_report.proofs.ClosureLemmas.{each_only}
+use Rattle.match_report.proofs.ExpansionLemmas.{has_what_is_reached}
+use Rattle.match_runs.proofs.RepetitionLemmas.{more_are_reached}
+use Rattle.match_report.specs.AnswerText.{HoldsNoMemory}
+use Rattle.match_report.specs.declared.expansions.ExpandFault.{ExpandFault}
+use Rattle.match_report.specs.declared.expansions.ExpandFault.TheVariants as expansions
+use Rattle.match_report.specs.Expansion.{AreMoreReached, AreOf, IsExpansion, HasWhatIsReached}
+use Rattle.match_runs.specs.declared.faults.RunFault.TheVariants as runs
+use Rattle.match_runs.specs.FaultText.{run_of_expand}
+use Rattle.match_runs.specs.Documents.{first_of, second_of, third_of, texts_in}
+use Rattle.match_runs.specs.Runs.{motion_of, AreAllInOrder, texts_of}
+use Rattle.match_runs.specs.declared.streams.documents.Documents.{Documents}
+
+-- where a certificate is given, the text says what it is made of
+pub certificate_said : (c : Contents) (outcome : Result Said TextFault) → CertificateGives (Ok c) outcome → (said : Said) × (outcome ≡ Ok said) × Makes said (Ok c)
+certificate_said c (Ok said) makes = (said, refl, makes)
+certificate_said c (Err fault) gives = absurd gives
+
+-- where a fault of the text is given, the text has it
+pub text_fails : (fault : TextFault) (outcome : Result Said TextFault) → CertificateGives (Err (Text fault)) outcome → outcome ≡ Err fault
+text_fails fault (Ok said) gives = absurd gives
+text_fails fault (Err other) same = ap Err (sym same)
+
+-- where a fault of the lemmas is given, the text says lemmas that have it
+pub lemmas_fail : (fault : AssembleFault) (outcome : Result Said TextFault) → CertificateGives (Err (Assemble fault)) outcome → (said : Said) × (outcome ≡ Ok said) × Makes said (Err (Assemble fault))
+lemmas_fail fault (Ok said) makes = (said, refl, makes)
+lemmas_fail fault (Err other) gives = absurd gives
+
+-- an answer is no want of memory
+pub no_memory : (question : Question) (answer : Answer) → IsAnswer question answer → HoldsNoMemory answer
+no_memory question answer is number e = let occurs = (subst (IsAnswer question) e is).occurs in absurd (occurs.2.occurs)
+
+-- ---- lists of all arrangements
+
+all_by_place : {X : Type 0} (P : X → Type 0) (xs : List X) → ((i : ℕ) (x : X) → slice_get xs i ≡ Some x → P x) → AllByRecursion P xs
+all_by_place P [] each = tt
+all_by_place P (x ∷ xs) each = (each 0 x refl, all_by_place P xs (λ i y at. each (suc i) y at))
+
+-- an arrangement has a spelling
+row_within : (p : Task) (a : List Placement) → IsPuzzle p → IsArrangement p a → IsRowWithin a
+row_within p a puzzle is = (
+  omega (arith, is.cells, puzzle.board.0),
+  omega (arith, is.cells, puzzle.board.1),
+  all_by_place IsPlacementWithin a (λ cell x at.
+      let legal = is.legal cell x at in
+      (omega (arith, legal.tile, puzzle.tiles, puzzle.board.1), omega (arith, small_turn p x puzzle legal))),
+)
+
+-- arrangements that are few enough have a spelling
+pub arrangements_within : (p : Task) (listed : List (List Placement)) → IsPuzzle p → ((a : List Placement) → Contains listed a → IsArrangement p a) → length listed ≤ MOST_ARRANGEMENTS → IsListWithin listed
+arrangements_within p listed puzzle are few = (few, all_by_place IsRowWithin listed (λ i a at. row_within p a puzzle (are a (contains_at listed i a at))))
+
+-- the lines of the symmetries with these lines
+lines_of : (p : Task) (lines : List SymmetryLine) → map line_of (map (motion_of p) lines) ≡ lines
+lines_of p [] = refl
+lines_of p (g ∷ lines) = ap (λ gs. g ∷ gs) (lines_of p lines)
+
+module _ (p : Task) (listed : List (List Placement)) (lines : List SymmetryLine) (puzzle : IsPuzzle p) (complete : IsCompleteList p lines listed) where
+  -- each symmetry that is kept has one of the lines
+  kept_line : (kept : List Motion) → AddsEach [] (map (motion_of p) lines) kept → (m : Motion) → Contains kept m → (number : ℕ) × (g : SymmetryLine) × (slice_get lines number ≡ Some g) × (m ≡ motion_of p g)
+  kept_line kept adds m among =
+      let from = ⊎_elim (λ none. absurd (contains_none m none)) (λ old. old) (each_only [] (map (motion_of p) lines) kept adds m among) in
+      let at = place_of (map (motion_of p) lines) m from in
+      let g = mapped_at (motion_of p) lines at.0 m at.1 in
+      (at.0, g.0, g.1, g.2)
+
+  pub kept_are : (kept : List Motion) → AddsEach [] (map (motion_of p) lines) kept → AreOf p listed kept
+  kept_are kept adds = record {
+    puzzle = puzzle;
+    arrangements = complete.arrangements;
+    made = λ number m at. let from = kept_line kept adds m (contains_at kept number m at) in ap (λ (n : Motion). n.puzzle) from.3;
+    symmetries = λ number g at.
+        let m = mapped_at line_of kept number g at in
+        let from = kept_line kept adds m.0 (contains_at kept number m.0 m.1) in
+        subst (IsSymmetry p) (sym (m.2 ∙ ap line_of from.3)) (complete.symmetries from.0 from.1 from.2);
+  }
+
+  pub kept_reach : (most : ℕ) (kept : List Motion) → AddsEach [] (map (motion_of p) lines) kept → AreMoreReached most p (map line_of kept) listed → AreMoreReached most p lines listed
+  kept_reach most kept adds more =
+      more_are_reached most p (map line_of kept) lines listed (λ g among.
+      let at = place_of (map line_of kept) g among in
+      let m = mapped_at line_of kept at.0 g at.1 in
+      let from = kept_line kept adds m.0 (contains_at kept at.0 m.0 m.1) in
+      subst (Contains lines) (sym (m.2 ∙ ap line_of from.3)) (contains_at lines from.0 from.1 from.2)) more
+
+  all_are : AreOf p listed (map (motion_of p) lines)
+  all_are = record {
+    puzzle = puzzle;
+    arrangements = complete.arrangements;
+    made = λ number m at. let g = mapped_at (motion_of p) lines number m at in ap (λ (n : Motion). n.puzzle) g.2;
+    symmetries = subst (AreSymmetries p) (sym (lines_of p lines)) complete.symmetries;
+  }
+
+  listed_are : (a : List Placement) → Contains listed a → IsArrangement p a
+  listed_are a among = let at = place_of listed a among in complete.arrangements at.0 a at.1
+
+  module _ (all : List (List Placement)) (is : IsExpansion (map (motion_of p) lines) listed all) where
+    all_reached : HasWhatIsReached p lines listed all
+    all_reached = subst (λ gs. HasWhatIsReached p gs listed all) (lines_of p lines) (has_what_is_reached p listed (map (motion_of p) lines) all_are all is)
+
+    are_arrangements : (a : List Placement) → Contains all a → IsArrangement p a
+    are_arrangements a among = reached_is p lines listed puzzle complete.symmetries listed_are a ((all_reached.just a).0 among)
+
+    pub all_within : length all ≤ MOST_ARRANGEMENTS → IsListWithin all
+    all_within few = arrangements_within p all puzzle are_arrangements few
+
+    pub all_in_order : length all ≤ MOST_ARRANGEMENTS → (lemmas : List Piece) → AreAllInOrder (record { puzzle = p; listed = listed; symmetries = lines; lemmas = lemmas }) all
+    all_in_order few lemmas = record {
+      expansion = is;
+      just = λ a. (are_arrangements a, λ arranged. (all_reached.just a).1 (complete.reached a arranged));
+      once = all_reached.once;
+      few = few;
+    }
+
+-- an expansion that is called too long is too long
+pub expand_fails : {T U : Type 0} {fault : ExpandFault} → IsErrOf {T = T} (Err (run_of_expand fault)) runs.Expand → IsErrOf {T = U} (Err fault) expansions.TooMany
+expand_fails {fault = expansions.TooMany} e = refl
+expand_fails {fault = expansions.Memory} e = absurd (other_fault e)
+  where
+    other_fault : {T : Type 0} → IsErrOf {T = T} (Err runs.Memory) runs.Expand → ⊥
+    other_fault h = cc
+
+-- ---- texts in one input
+
+pub same_texts : (documents : Documents) (input : List ℕ) → documents.puzzle.now ≡ first_of input → documents.list.now ≡ second_of input → documents.certificate.now ≡ third_of input → texts_of documents ≡ texts_in input
+same_texts documents input puzzle list certificate = rw (puzzle, list, certificate) refl

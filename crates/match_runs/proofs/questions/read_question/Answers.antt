@@ -1,0 +1,27 @@
+use Rattle.std.proofs.Common.{◌≡◌, ◌≢◌, List, Ok, Err, sym, subst}
+use Rattle.std.proofs.lemmas.Result.{err_from_is_err_and}
+use Rattle.match_puzzle.specs.Puzzle.{Task}
+use Rattle.match_puzzle.specs.declared.placements.Placement.{Placement}
+use Rattle.match_text.specs.Lists.{list_of}
+use Rattle.cert_tree.specs.CertificateText.{CertificateGives, certificate_of}
+use Rattle.cert_tree.specs.declared.faults.CertTextFault.{CertTextFault}
+use Rattle.cert_tree.specs.declared.faults.CertTextFault.TheVariants as certificates
+use Rattle.match_runs.specs.declared.faults.RunFault.{RunFault}
+use Rattle.match_runs.specs.declared.faults.RunFault.TheVariants as runs
+use Rattle.match_runs.specs.FaultText.{run_of_certificate}
+use Rattle.match_text.specs.Puzzles.{PuzzleReads}
+use Rattle.match_runs.specs.Documents.{Texts}
+use Rattle.match_runs.specs.Runs.{RunGives, texts_of}
+use Rattle.match_runs.proofs.RunLemmas.{text_fails, lemmas_fail}
+use Rattle.match_runs.proofs.questions.read_question.Goals as goal
+
+certificate_fails : (ts : Texts) (e : CertTextFault) (fault : RunFault) (p : Task) (listed : List (List Placement)) → PuzzleReads ts.puzzle (Ok p) → list_of ts.list ≡ Ok listed → CertificateGives (Err e) (certificate_of ts.certificate) → fault ≡ run_of_certificate e → fault ≢ runs.Memory → RunGives ts (Err fault)
+certificate_fails ts (certificates.Text f) fault p listed reads lists gives is ne = subst (λ x. RunGives ts (Err x)) (sym is) (p, listed, reads, lists, text_fails f (certificate_of ts.certificate) gives)
+certificate_fails ts (certificates.Assemble f) fault p listed reads lists gives is ne = let w = lemmas_fail f (certificate_of ts.certificate) gives in subst (λ x. RunGives ts (Err x)) (sym is) (p, listed, reads, lists, (w.0, w.1, w.2.0, w.2.1))
+certificate_fails ts certificates.Memory fault p listed reads lists gives is ne = absurd (ne is)
+
+pub returns-in_err-certificate-clause-fault : goal.returns-in_err-certificate-clause-fault
+returns-in_err-certificate-clause-fault c =
+    let r = err_from_is_err_and c.from_residual-in_err-certificate.result c.from_residual-in_err-certificate.ensures.1 in
+    let d = c.args.documents.now in
+    rw (r.1) (λ ne. certificate_fails (texts_of d) c.in_err-certificate.field-0.0 r.0 c.in_ok-puzzle.puzzle _ c.in_ok-puzzle.ensures.exact c.in_ok-listed.ensures.exact c.in_err-certificate.ensures.exact r.2 ne)

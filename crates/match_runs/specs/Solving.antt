@@ -1,0 +1,128 @@
+-- What a solve of a puzzle makes.
+use Rattle.std.specs.Prelude.{◌≡◌, ◌⊎◌, ◌++◌, ℕ, List, [], ◌∷◌, Ok, Err, Vec, codes, length, map}
+use Rattle.std.specs.declared.alloc.Global.{Global}
+use Rattle.std.specs.Io.KnownBytes.{Appends}
+use Rattle.match_puzzle.specs.Puzzle.{Task}
+use Rattle.match_puzzle.specs.declared.placements.Placement.{Placement}
+use Rattle.match_text.specs.Puzzles.{PuzzleReads}
+use Rattle.match_text.specs.ListSpelling.{list_spelling}
+use Rattle.match_text.specs.Spelling.{count_words, text_of}
+use Rattle.cert_tree.specs.Certificate.{Contents}
+use Rattle.cert_tree.specs.CertificateSpelling.{certificate_spelling}
+use Rattle.cert_tree.specs.Writing.{said_by}
+use Rattle.match_report.specs.BoardText.{board_text}
+use Rattle.match_report.specs.TallyText.{tally_text}
+use Rattle.match_text.specs.declared.faults.PuzzleTextFault.TheVariants as puzzles
+use Rattle.xcc_form.specs.Options.{HasTooManyEntries}
+use Rattle.match_crew.specs.Solving.{IsSolvedBy}
+use Rattle.match_crew.specs.declared.faults.SolveFault.TheVariants as solves
+use Rattle.match_runs.specs.Moves.{FailsToRead, FrontOf, Reading, ReadsAtMost, ReadsPast, ReadsWhole, Writing}
+use Rattle.match_runs.specs.declared.faults.Document.TheVariants as documents
+use Rattle.match_runs.specs.declared.faults.RunFault.{RunFault}
+use Rattle.match_runs.specs.declared.faults.RunFault.TheVariants as runs
+use Rattle.match_board.specs.declared.limits.TheConstants.{MOST_BYTES}
+use Rattle.match_runs.specs.declared.solve_runs.Made.{Made}
+
+-- the first arrangement as it lies on the board, if there is one
+abbrev pub first_board : Task → List (List Placement) → List ℕ
+first_board p [] = []
+first_board p (a ∷ listed) = board_text p a
+
+-- a line of a word and a number
+abbrev pub number_line : (name : List ℕ) → (number : ℕ) → List ℕ
+number_line name number = text_of (count_words name number ∷ [])
+
+-- how much was found, by how many lemmas; who took them; and the first arrangement
+abbrev pub report_text : Task → (listed : List (List Placement)) → (lemmas : ℕ) → (tally : List (List ℕ)) → List ℕ
+report_text p listed lemmas tally =
+    number_line (codes "found") (length listed) ++ number_line (codes "lemmas") lemmas ++ tally_text tally
+    ++ first_board p listed
+
+-- the numbers that each worker took
+abbrev pub shares_of : List (Vec ℕ Global) → List (List ℕ)
+shares_of tally = map (λ (taken : Vec ℕ Global). taken.items) tally
+
+-- a list, a certificate and a report
+pub record Products : Type 0 where
+  pub list : List ℕ
+  pub certificate : List ℕ
+  pub report : List ℕ
+
+-- The text spells a puzzle, and this is made of it by so many workers: the spellings of arrangements of it and of a
+-- certificate, and the report on them.
+pub record SolveGives (workers : ℕ) (text : List ℕ) (made : Products) : Type 0 where
+  pub puzzle : Task
+  pub puzzle_read : PuzzleReads text (Ok puzzle)
+  pub listed : List (List Placement)
+  pub tally : List (Vec ℕ Global)
+  pub contents : Contents
+  pub solved : IsSolvedBy puzzle workers listed tally contents
+  pub list_text : made.list ≡ list_spelling listed
+  pub certificate_text : made.certificate ≡ certificate_spelling (said_by contents)
+  pub report : made.report ≡ report_text puzzle listed (length contents.lemmas) (shares_of tally)
+
+-- ---- writing
+
+-- All three were written whole.
+pub record WritesAll (list certificate report : Writing) (made : Products) : Type 0 where
+  pub list_written : Appends list.before list.after made.list
+  pub certificate_written : Appends certificate.before certificate.after made.certificate
+  pub report_written : Appends report.before report.after made.report
+
+-- Nothing was written.
+abbrev pub IsUnwritten : Writing → Type 0
+IsUnwritten sink = (sink.after ≡ sink.before) × (sink.errors_after ≡ sink.errors_before)
+
+-- One of the three was not written whole: those before it were, and of those after it nothing.
+abbrev pub StopsWriting : (list certificate report : Writing) → Products → Type 0
+StopsWriting list certificate report made =
+    (FrontOf list made.list × IsUnwritten certificate × IsUnwritten report)
+    ⊎ ((Appends list.before list.after made.list × FrontOf certificate made.certificate × IsUnwritten report)
+    ⊎ (Appends list.before list.after made.list × Appends certificate.before certificate.after made.certificate
+    × FrontOf report made.report))
+
+-- ---- runs
+
+-- the texts that were made
+abbrev pub products_of : Made → Products
+products_of made = record { list = made.list.items; certificate = made.certificate.items; report = made.report.items }
+
+-- The source of the puzzle was read to its end, and this holds of the text that came.
+abbrev pub PuzzleReadToEnd : Reading → (List ℕ → Type 0) → Type 0
+PuzzleReadToEnd source Holds = (text : List ℕ) × ReadsWhole source text × Holds text
+
+-- What a fault says of the source of the puzzle.
+abbrev pub StopsReadingPuzzle : Reading → RunFault → Type 0
+StopsReadingPuzzle source (runs.Read of) = (of ≡ documents.Puzzle) × FailsToRead MOST_BYTES source
+StopsReadingPuzzle source (runs.TooLong of) = (of ≡ documents.Puzzle) × ReadsPast MOST_BYTES source
+StopsReadingPuzzle source runs.Memory = ReadsAtMost MOST_BYTES source
+StopsReadingPuzzle source fault = Unit {0}
+
+-- The text spells no puzzle, with this fault, or one that is not solved for this reason.
+abbrev pub SolveFails : (text : List ℕ) → RunFault → Type 0
+SolveFails text (runs.Puzzle puzzles.Memory) = ⊥
+SolveFails text (runs.Puzzle fault) = PuzzleReads text (Err fault)
+SolveFails text (runs.Solve solves.TooMany) = (p : Task) × PuzzleReads text (Ok p) × HasTooManyEntries p
+SolveFails text (runs.Solve solves.Memory) = ⊥
+SolveFails text (runs.Solve fault) = (p : Task) × PuzzleReads text (Ok p)
+SolveFails text fault = Unit {0}
+
+-- The fault is of what was read, or want of memory.
+abbrev pub IsOfMaking : RunFault → Type 0
+IsOfMaking (runs.Puzzle fault) = Unit {0}
+IsOfMaking (runs.Solve fault) = Unit {0}
+IsOfMaking runs.Memory = Unit {0}
+IsOfMaking fault = ⊥
+
+-- The fault is one of a solve.
+abbrev pub IsOfSolving : RunFault → Type 0
+IsOfSolving (runs.Read of) = of ≡ documents.Puzzle
+IsOfSolving (runs.TooLong of) = of ≡ documents.Puzzle
+IsOfSolving runs.Write = Unit {0}
+IsOfSolving fault = IsOfMaking fault
+
+-- The fault is of what was read, and not want of memory.
+abbrev pub IsOfPuzzle : RunFault → Type 0
+IsOfPuzzle (runs.Puzzle fault) = Unit {0}
+IsOfPuzzle (runs.Solve fault) = Unit {0}
+IsOfPuzzle fault = ⊥

@@ -1,0 +1,168 @@
+//! Runs that print all arrangements.
+
+ghost use Rattle.std.specs.Prelude.{◌≡◌, ◌≢◌, ◌⊎◌, List, Err, IfOk, IfErr, IsErrOf};
+ghost use Rattle.match_puzzle.specs.Puzzle.{IsPuzzle};
+ghost use Rattle.match_puzzle.specs.declared.placements.Placement.{Placement};
+ghost use Rattle.match_text.specs.ListSpelling.{list_spelling};
+ghost use Rattle.cert_check.specs.Setting.{question_of};
+ghost use Rattle.cert_check.specs.Answer.{IsCompleteList};
+ghost use Rattle.match_report.specs.Expansion.{AreMoreReached};
+ghost use Rattle.match_runs.specs.Moves.{WritesFront, WritesWhole, reading_of, writing_of};
+ghost use Rattle.match_runs.specs.Runs.{IsOfDocuments, IsOfExpanding, IsOfPrinting};
+ghost use Rattle.match_runs.specs.Runs.{AreShort, ReadToEnds, StopsReading, texts_of};
+ghost use Rattle.match_runs.specs.Runs.{AreAllInOrder, ExpansionGives, RunGives, SpellTooMany};
+
+use crate::faults::{Document, RunFault};
+use crate::questions::{Question, read_question};
+use crate::random_fold::RandomFold;
+use crate::repetitions::distinct_symmetries;
+use crate::runs::{Status, status_for, write_text};
+use crate::streams::documents::Documents;
+use crate::streams::readings::read_whole;
+use crate::streams::sinks::Sink;
+use crate::streams::sources::Source;
+use cert_check::{Answer, check};
+use match_board::limits::{MOST_ARRANGEMENTS, MOST_BYTES};
+use match_report::{expand, write_answer};
+use match_text::write_list;
+use std::alloc::Global;
+use std::random::RandomSource;
+
+/// Reads a puzzle, a list and a certificate, each to its end and in this order, and checks them. Where
+/// the list is complete, writes the list of all arrangements of the puzzle, each once: the listed ones
+/// and then their images, in the order of the closure. Where it is refused, writes the answer. The
+/// arrangements are hashed with a secret, so that no list can be made to be dear.
+///
+/// `Expand` where there are over 1,000,000. The other faults are those of
+/// [`run_check`](crate::runs::run_check). Where a fault other than `Write` is answered, nothing was
+/// written.
+pub fn run_expand<P: Source, L: Source, C: Source, W: Sink, R: RandomSource>(
+    rt: &R,
+    alloc: Global,
+    puzzle: &mut P,
+    list: &mut L,
+    certificate: &mut C,
+    writer: &mut W,
+) -> Result<Status, RunFault>
+    // What was written is what the texts that came ask for.
+    ensures ok { IfOk result (λ status. ReadToEnds (reading_of P.Source puzzle.old puzzle.new)
+        (reading_of L.Source list.old list.new) (reading_of C.Source certificate.old certificate.new)
+        (λ texts. WritesWhole (writing_of W.Sink writer.old writer.new) (λ text. ExpansionGives texts text status))) }
+    // A fault of a document is what the texts come to.
+    ensures document { IfErr result (λ fault. IsOfDocuments fault
+        → ReadToEnds (reading_of P.Source puzzle.old puzzle.new) (reading_of L.Source list.old list.new)
+        (reading_of C.Source certificate.old certificate.new) (λ texts. RunGives texts (Err fault))) }
+    ensures expand { IsErrOf result RunFault.Expand
+        → ReadToEnds (reading_of P.Source puzzle.old puzzle.new) (reading_of L.Source list.old list.new)
+        (reading_of C.Source certificate.old certificate.new) SpellTooMany }
+    ensures fault { IfErr result IsOfExpanding }
+    ensures untouched { IfErr result (λ fault. fault ≢ RunFault.Write → writer.new ≡ writer.old) }
+
+    // Reading fails only where the document's source answered an error, or more bytes came than are
+    // read. The documents before it were read to their ends, and the ones after it not at all. Want of memory hides
+    // neither.
+    ensures reading { IfErr result (StopsReading (reading_of P.Source puzzle.old puzzle.new)
+        (reading_of L.Source list.old list.new) (reading_of C.Source certificate.old certificate.new)) }
+    // Writing fails only where the sink answered an error, or took nothing; then a front of the text went out.
+    ensures write { IsErrOf result RunFault.Write
+        → ReadToEnds (reading_of P.Source puzzle.old puzzle.new) (reading_of L.Source list.old list.new)
+        (reading_of C.Source certificate.old certificate.new)
+        (λ texts. WritesFront (writing_of W.Sink writer.old writer.new)
+        (λ text. (status : Status) × ExpansionGives texts text status)) }
+{
+    let puzzle = read_whole(alloc, puzzle, MOST_BYTES, Document::Puzzle)?;
+    let list = read_whole(alloc, list, MOST_BYTES, Document::List)?;
+    let certificate = read_whole(alloc, certificate, MOST_BYTES, Document::Certificate)?;
+    let documents = Documents {
+        puzzle: &puzzle,
+        list: &list,
+        certificate: &certificate,
+    };
+    write_expansion_of(rt, alloc, &documents, writer)
+}
+
+// Writes what is printed for the documents, and nothing else.
+fn write_expansion_of<W: Sink, R: RandomSource>(
+    rt: &R,
+    alloc: Global,
+    documents: &Documents<'_>,
+    writer: &mut W,
+) -> Result<Status, RunFault>
+    requires { AreShort (texts_of documents.now) }
+    ensures ok { IfOk result (λ status. WritesWhole (writing_of W.Sink writer.old writer.new)
+        (λ text. ExpansionGives (texts_of documents.now) text status)) }
+    ensures document { IfErr result (λ fault. IsOfDocuments fault → RunGives (texts_of documents.now) (Err fault)) }
+    ensures expand { IsErrOf result RunFault.Expand → SpellTooMany (texts_of documents.now) }
+    ensures fault { IfErr result IsOfPrinting }
+    ensures untouched { IfErr result (λ fault. fault ≢ RunFault.Write → writer.new ≡ writer.old) }
+    ensures write { IsErrOf result RunFault.Write
+        → WritesFront (writing_of W.Sink writer.old writer.new)
+        (λ text. (status : Status) × ExpansionGives (texts_of documents.now) text status) }
+{
+    let printed = make_text(rt, alloc, documents)?;
+    write_text(writer, &printed.text)?;
+    Ok(printed.status)
+}
+
+// A text, and the status of the run that prints it.
+#[derive(Drop)]
+struct Printed {
+    text: Vec<u8>,
+    status: Status,
+}
+
+// What is printed for the documents.
+fn make_text<R: RandomSource>(
+    rt: &R,
+    alloc: Global,
+    documents: &Documents<'_>,
+) -> Result<Printed, RunFault>
+    requires { AreShort (texts_of documents.now) }
+    ensures printed { IfOk result (λ printed.
+        ExpansionGives (texts_of documents.now) printed.text.items printed.status) }
+    ensures document { IfErr result (λ fault. IsOfDocuments fault → RunGives (texts_of documents.now) (Err fault)) }
+    ensures expand { IsErrOf result RunFault.Expand → SpellTooMany (texts_of documents.now) }
+    ensures kind { IfErr result IsOfPrinting }
+    ensures write { IfErr result (λ fault. fault ≢ RunFault.Write) }
+{
+    let question = read_question(alloc, documents)?;
+    let answer = check(
+        alloc,
+        &question.puzzle,
+        &question.listed,
+        &question.certificate,
+    )?;
+    let text = match &answer {
+        Answer::Complete => all_text(rt, alloc, &question)?,
+        Answer::Refused(_) => write_answer(alloc, &answer, question.listed.len() as u32)?,
+    };
+    Ok(Printed {
+        text,
+        status: status_for(&answer),
+    })
+}
+
+// The list of all arrangements of the puzzle, from a complete one.
+fn all_text<R: RandomSource>(
+    rt: &R,
+    alloc: Global,
+    question: &Question,
+) -> Result<Vec<u8>, RunFault>
+    requires puzzle { IsPuzzle question.now.puzzle }
+    requires complete { IsCompleteList question.now.puzzle question.now.certificate.symmetries
+        question.now.listed.items }
+    ensures all { IfOk result (λ text. (all : List (List Placement))
+        × AreAllInOrder (question_of question.now.puzzle question.now.listed.items question.now.certificate) all
+        × (text.items ≡ list_spelling all)) }
+    ensures expand { IsErrOf result RunFault.Expand
+        → AreMoreReached MOST_ARRANGEMENTS question.now.puzzle question.now.certificate.symmetries
+        question.now.listed.items }
+    ensures kind { IfErr result (λ fault. (fault ≡ RunFault.Expand) ⊎ (fault ≡ RunFault.Memory)) }
+{
+    let lines = question.certificate.symmetries();
+    let symmetries = distinct_symmetries(alloc, &question.puzzle, lines)?;
+    let hasher = RandomFold::new(rt);
+    let all = expand(alloc, &question.listed, &symmetries, hasher)?;
+    let text = write_list(alloc, all.as_slice())?;
+    Ok(text)
+}

@@ -1,0 +1,33 @@
+//! The runs of the program: checks, solves, expansions and lists of tiles, from bytes to bytes; the words that order
+//! them; and what is told of faults.
+#![tactic(auto)]
+
+mod expansion_runs;
+mod faults;
+mod files;
+mod order_runs;
+mod questions;
+mod random_fold;
+mod repetitions;
+mod runs;
+mod solve_runs;
+mod streams;
+mod system_limits;
+mod tile_runs;
+mod word_runs;
+
+pub use expansion_runs::run_expand;
+pub use faults::{Document, RunFault, fault_text};
+pub use files::{FileSystem, System, have_different_names, make, open};
+pub use order_runs::{fault_status, run_order};
+pub use random_fold::RandomFold;
+pub use runs::{Status, run_check, run_joined};
+pub use solve_runs::run_solve;
+pub use streams::documents::{Documents, cut_joined};
+pub use streams::readings::read_whole;
+pub use streams::sinks::{Sink, write_whole};
+pub use streams::sources::{Failed, Source};
+pub use streams::systems::{Input, Output};
+pub use system_limits::SystemLimits;
+pub use tile_runs::run_tiles;
+pub use word_runs::{run_words, stopped};

@@ -1,0 +1,228 @@
+//! Runs of orders: over which files each runs, and the exit status.
+
+ghost use Rattle.std.specs.Prelude.{◌≡◌, ◌≢◌, ◌≤◌, ℕ, List, IfOk, IfErr, OnOk};
+ghost use Rattle.match_runs.specs.Files.{FilesHold, HoldsText, LeavesAll};
+ghost use Rattle.match_runs.specs.Moves.{WritesWhole, reading_of, writing_of};
+ghost use Rattle.match_runs.specs.OrderRuns.{Checks, Expands, IsOfOrder, OrderGives, OrderShows, code_of, fault_code};
+ghost use Rattle.match_runs.specs.Runs.{IsOfChecking, IsOfExpanding, SpellCompleteList};
+ghost use Rattle.match_runs.specs.Solving.{IsOfSolving, Products, SolveGives};
+ghost use Rattle.std.specs.String.{string_bytes};
+ghost use Rattle.command_words.specs.Orders.{IsInRange};
+
+use crate::expansion_runs::run_expand;
+use crate::faults::{Document, RunFault};
+use crate::files::{FileSystem, have_different_names, make, open};
+use crate::runs::{Status, run_check, run_joined};
+use crate::solve_runs::run_solve;
+use crate::streams::sinks::Sink;
+use crate::streams::sources::Source;
+use crate::tile_runs::run_tiles;
+use command_words::{Files, Order};
+use match_board::limits::{MOST_DEPTH, MOST_FORKS, MOST_FUEL, MOST_WORKERS};
+use std::alloc::Global;
+use std::random::RandomSource;
+use std::sync::Wait;
+use std::thread::Threads;
+
+// A check that shows that the list is complete.
+const COMPLETE: u8 = 0;
+
+// A check that does not show it.
+const REFUSED: u8 = 1;
+
+// What is neither an answer nor a fault of the documents that a solver makes.
+const OTHER: u8 = 2;
+
+// The puzzle was not solved.
+const UNSOLVED: u8 = 3;
+
+/// Does what is ordered, and gives the exit status where no fault came: 0, or 1 where a list is not shown to be
+/// complete.
+///
+/// The files of an order are all opened before one is read: the puzzle's, the list's, the certificate's. `Read` of
+/// the first that can't be opened. A solve opens the puzzle's and makes the other two; where two of the three names
+/// are the same, or one can't be made, `Write`.
+pub fn run_order<S: FileSystem, I: Source, W: Sink, R: Threads + Wait + Sync + RandomSource>(
+    rt: &R,
+    alloc: Global,
+    order: &Order,
+    system: &S,
+    input: &mut I,
+    output: &mut W,
+) -> Result<u8, RunFault>
+    requires { IsInRange order.now }
+    ensures given { IfOk result (OrderGives (S.holds system.now) (reading_of I.Source input.old input.new)
+        (writing_of W.Sink output.old output.new) order.now) }
+    ensures fault { IfErr result (IsOfOrder order.now) }
+    ensures untouched { IfErr result (λ fault. fault ≢ RunFault.Write → output.new ≡ output.old) }
+    // Status 0 of a check says that the list is complete.
+    ensures shown { IfOk result (λ code. code ≡ 0
+        → OrderShows (S.holds system.now) (reading_of I.Source input.old input.new) order.now) }
+{
+    match order {
+        Order::Joined => {
+            let status = run_joined(rt, alloc, input, 1, 0, output)?;
+            Ok(status_code(status))
+        }
+        Order::Check {
+            files,
+            workers,
+            forks,
+        } => check(rt, alloc, files, *workers, *forks, system, output),
+        Order::Solve {
+            files,
+            depth,
+            fuel,
+            workers,
+        } => {
+            solve(rt, alloc, files, *depth, *fuel, *workers, system, output)?;
+            Ok(COMPLETE)
+        }
+        Order::Expand(files) => expand(rt, alloc, files, system, output),
+        Order::Tiles { sides, colours } => {
+            run_tiles(alloc, *sides, *colours, output)?;
+            Ok(COMPLETE)
+        }
+    }
+}
+
+// The files of three documents.
+#[derive(Drop)]
+struct Opened<R> {
+    puzzle: R,
+    list: R,
+    certificate: R,
+}
+
+// Opens all three files before any is read.
+fn open_all<S: FileSystem>(system: &S, files: &Files) -> Result<Opened<S::Reader>, RunFault>
+    ensures puzzle { IfOk result (λ opened.
+        LeavesAll (S.holds system.now (string_bytes files.now.puzzle)) (S.Reader.left opened.puzzle)) }
+    ensures list { IfOk result (λ opened.
+        LeavesAll (S.holds system.now (string_bytes files.now.list)) (S.Reader.left opened.list)) }
+    ensures certificate { IfOk result (λ opened.
+        LeavesAll (S.holds system.now (string_bytes files.now.certificate)) (S.Reader.left opened.certificate)) }
+    ensures fault { IfErr result (λ fault. (document : Document) × (fault ≡ RunFault.Read document)) }
+{
+    Ok(Opened {
+        puzzle: open(system, &files.puzzle, Document::Puzzle)?,
+        list: open(system, &files.list, Document::List)?,
+        certificate: open(system, &files.certificate, Document::Certificate)?,
+    })
+}
+
+fn check<S: FileSystem, W: Sink, R: Threads + Sync>(
+    rt: &R,
+    alloc: Global,
+    files: &Files,
+    workers: u8,
+    forks: u8,
+    system: &S,
+    output: &mut W,
+) -> Result<u8, RunFault>
+    requires workers { (1 ≤ workers) × (workers ≤ MOST_WORKERS) }
+    requires forks { forks ≤ MOST_FORKS }
+    ensures given { IfOk result (λ code.
+        FilesHold (S.holds system.now) files.now (Checks (writing_of W.Sink output.old output.new) code)) }
+    ensures shown { IfOk result (λ code. code ≡ 0 → FilesHold (S.holds system.now) files.now SpellCompleteList) }
+    ensures fault { IfErr result IsOfChecking }
+    ensures untouched { IfErr result (λ fault. fault ≢ RunFault.Write → output.new ≡ output.old) }
+{
+    let mut opened = open_all(system, files)?;
+    let status = run_check(
+        rt,
+        alloc,
+        &mut opened.puzzle,
+        &mut opened.list,
+        &mut opened.certificate,
+        workers,
+        forks,
+        output,
+    )?;
+    Ok(status_code(status))
+}
+
+// Opens the puzzle's file and makes the others before anything is read. A file that has the name of another is not
+// made.
+fn solve<S: FileSystem, W: Sink, R: Threads + Wait + Sync>(
+    rt: &R,
+    alloc: Global,
+    files: &Files,
+    depth: u8,
+    fuel: u32,
+    workers: u8,
+    system: &S,
+    output: &mut W,
+) -> Result<(), RunFault>
+    requires depth { depth ≤ MOST_DEPTH }
+    requires fuel { (1 ≤ fuel) × (fuel ≤ MOST_FUEL) }
+    requires workers { (1 ≤ workers) × (workers ≤ MOST_WORKERS) }
+    ensures given { OnOk result ((text : List ℕ) × HoldsText (S.holds system.now (string_bytes files.now.puzzle)) text
+        × WritesWhole (writing_of W.Sink output.old output.new)
+        (λ report. (made : Products) × SolveGives workers text made × (report ≡ made.report))) }
+    ensures fault { IfErr result IsOfSolving }
+    ensures untouched { IfErr result (λ fault. fault ≢ RunFault.Write → output.new ≡ output.old) }
+{
+    let mut puzzle = open(system, &files.puzzle, Document::Puzzle)?;
+    if !have_different_names(&files.puzzle, &files.list, &files.certificate) {
+        return Err(RunFault::Write);
+    }
+    let mut list = make(system, &files.list)?;
+    let mut certificate = make(system, &files.certificate)?;
+    run_solve(
+        rt,
+        alloc,
+        &mut puzzle,
+        depth,
+        fuel,
+        workers,
+        &mut list,
+        &mut certificate,
+        output,
+    )
+}
+
+// As a check, and prints all arrangements.
+fn expand<S: FileSystem, W: Sink, R: RandomSource>(
+    rt: &R,
+    alloc: Global,
+    files: &Files,
+    system: &S,
+    output: &mut W,
+) -> Result<u8, RunFault>
+    ensures given { IfOk result (λ code.
+        FilesHold (S.holds system.now) files.now (Expands (writing_of W.Sink output.old output.new) code)) }
+    ensures fault { IfErr result IsOfExpanding }
+    ensures untouched { IfErr result (λ fault. fault ≢ RunFault.Write → output.new ≡ output.old) }
+{
+    let mut opened = open_all(system, files)?;
+    let status = run_expand(
+        rt,
+        alloc,
+        &mut opened.puzzle,
+        &mut opened.list,
+        &mut opened.certificate,
+        output,
+    )?;
+    Ok(status_code(status))
+}
+
+// The exit status of what a check found.
+fn status_code(status: Status) -> u8
+    ensures { result ≡ code_of status }
+{
+    match status {
+        Status::Complete => COMPLETE,
+        Status::Refused => REFUSED,
+    }
+}
+
+/// The exit status of a fault: 3 where the puzzle was not solved, else 2.
+pub fn fault_status(fault: &RunFault) -> u8
+    ensures { result ≡ fault_code fault.now }
+{
+    match fault {
+        RunFault::Solve(_) => UNSOLVED,
+        _ => OTHER,
+    }
+}

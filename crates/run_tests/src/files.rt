@@ -1,0 +1,46 @@
+//! Files in memory.
+
+ghost use Rattle.std.specs.Prelude.{◌≡◌, Some};
+ghost use Rattle.run_tests.specs.HeldFiles.{held_by};
+
+use crate::fakes::Fake;
+use match_runs::{Failed, FileSystem};
+use std::alloc::Global;
+
+/// The files of three documents, whose names begin with `p`, with `l` and with anything else. It tells what they hold.
+#[derive(Clone, Copy)]
+pub struct HeldFiles<'a> {
+    pub alloc: Global,
+    pub puzzle: &'a [u8],
+    pub list: &'a [u8],
+    pub certificate: &'a [u8],
+}
+
+impl<'a> HeldFiles<'a> {
+    // What the file of this name holds.
+    fn held(&self, name: &str) -> &'a [u8]
+        ensures { result.now ≡ held_by self.now.puzzle.now self.now.list.now self.now.certificate.now name.now }
+    {
+        match name.as_bytes().first() {
+            Some(b'p') => self.puzzle,
+            Some(b'l') => self.list,
+            _ => self.certificate,
+        }
+    }
+}
+
+impl<'a> FileSystem for HeldFiles<'a> {
+    type Reader = Fake<'a>;
+
+    type Writer = Fake<'a>;
+
+    ghost holds = { λ f name. Some (held_by f.puzzle.now f.list.now f.certificate.now name) };
+
+    fn open(&self, name: &str) -> Result<Fake<'a>, Failed> {
+        Ok(Fake::new(self.alloc, self.held(name), 7, usize::MAX))
+    }
+
+    fn make(&self, _name: &str) -> Result<Fake<'a>, Failed> {
+        Ok(Fake::new(self.alloc, b"", 5, usize::MAX))
+    }
+}

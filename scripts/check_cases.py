@@ -1,0 +1,442 @@
+#!/usr/bin/env python3
+"""Runs the built program on each case of `cases/` and each folder of `examples/`, and shows what isn't as wanted.
+
+usage: check_cases.py PROGRAM [CASE..]
+
+CASE is the name of a case, of a file of `cases/` (without its ending) or of a folder of `examples/`; without any, all
+are run. docs/TESTING.md says how a case is written. It ends with 0 where each case passes, with 1 where one fails, and
+with 2 where a case can't be read. Cases run side by side, as many as there are processors.
+"""
+import difflib
+import multiprocessing
+import os
+import subprocess
+import sys
+import tempfile
+import time
+import tomllib
+from dataclasses import dataclass, field
+
+from plain_search import ItemSearch, Search, read_puzzle
+
+TOP = os.path.join(os.path.dirname(os.path.abspath(__file__)), "..")
+CASES, EXAMPLES = os.path.join(TOP, "cases"), os.path.join(TOP, "examples")
+DOCUMENTS = ("puzzle", "list", "certificate")
+WORKERS, FORKS, DEPTHS = (1, 2, 7, 64), (0, 3, 6), (0, 1, 2, 3)
+# The seconds that one run of the program may take.
+LONGEST = 300
+
+# What a table of a case may have, by what it is.
+TEXTS = {"like", "change", *DOCUMENTS}
+CHECKED = {"answer", "fault", "joined", "rows", "expansion", "arrangements", "cut"}
+STREAMED = {f"{stream}{end}" for stream in ("stdout", "stderr") for end in ("", "_begins", "_has")}
+ORDERED = {"words", "stdin", "status", "files", "files_have", *STREAMED}
+SOLVED = {"solve"}
+WANTED = {"answer", "fault", "rows", "expansion", "arrangements", "words", "solve"}
+
+
+class Unreadable(Exception):
+    """A case that isn't written as it should be."""
+
+
+@dataclass
+class Case:
+    """A case: its documents, and the keys of its table that say what is run and wanted."""
+
+    name: str
+    documents: dict
+    keys: dict = field(default_factory=dict)
+
+
+@dataclass
+class Outcome:
+    """What a run came to."""
+
+    status: int
+    stdout: bytes
+    stderr: bytes
+
+
+# Reading cases
+
+
+def text_of(value):
+    """A text as a case has it: a string, or a list of parts. A part is a text, or a text and how often it stands, with
+    `{}` in it for which time that is, from 0."""
+    if isinstance(value, str):
+        return value.encode("latin-1")
+    if len(value) == 2 and isinstance(value[1], int):
+        text = text_of(value[0])
+        return b"".join(text.replace(b"{}", b"%d" % number) for number in range(value[1]))
+    return b"".join(text_of(it) for it in value)
+
+
+def example_documents(name):
+    """The documents of a folder of `examples/`."""
+    documents = {}
+    for document in DOCUMENTS:
+        with open(os.path.join(EXAMPLES, name, document), "rb") as file:
+            documents[document] = file.read()
+    return documents
+
+
+def changed(name, text, changes):
+    """The text with each old part, which stands in it just once, replaced by its new one."""
+    for old, new in changes:
+        old, new = text_of(old), text_of(new)
+        if text.count(old) != 1:
+            raise Unreadable(f"{name}: {old!r} stands {text.count(old)} times in the text, and not once")
+        text = text.replace(old, new)
+    return text
+
+
+def documents_of(name, table, earlier):
+    """The documents of a case, which may be those of an earlier one or of an example, changed."""
+    like, documents = table.get("like"), {}
+    if like in earlier:
+        documents = dict(earlier[like].documents)
+    elif like is not None:
+        if not os.path.isdir(os.path.join(EXAMPLES, like)):
+            raise Unreadable(f"{name}: there is no earlier case and no example {like}")
+        documents = example_documents(like)
+    documents.update({it: text_of(table[it]) for it in DOCUMENTS if it in table})
+    for document, changes in table.get("change", {}).items():
+        if document not in documents:
+            raise Unreadable(f"{name}: there is no {document} to change")
+        documents[document] = changed(f"{name}, {document}", documents[document], changes)
+    return documents
+
+
+def rows_of(case):
+    """The cases of a table of rows: each row's text takes the place of the one `@` in the documents."""
+    marked = [it for it in case.documents if b"@" in case.documents[it]]
+    if len(marked) != 1 or case.documents[marked[0]].count(b"@") != 1:
+        raise Unreadable(f"{case.name}: one '@' stands in its documents, where a row's text goes")
+    for text, wanted, *joined in case.keys["rows"]:
+        text = text_of(text)
+        documents = dict(case.documents)
+        documents[marked[0]] = documents[marked[0]].replace(b"@", text)
+        shown = repr(text[:60].decode("latin-1"))
+        keys = {"answer": wanted, "joined": joined[0] if joined else case.keys.get("joined")}
+        yield Case(f"{case.name}[{shown}]", documents, {it: keys[it] for it in keys if keys[it] is not None})
+
+
+def cases_of(path):
+    """The cases of a file, in their order."""
+    stem = os.path.splitext(os.path.basename(path))[0]
+    with open(path, "rb") as file:
+        tables = tomllib.load(file)
+    earlier = {}
+    for key, table in tables.items():
+        name = f"{stem}/{key}"
+        strange = set(table) - TEXTS - CHECKED - ORDERED - SOLVED
+        if strange or not set(table) & WANTED:
+            why = f"has no key {', '.join(sorted(strange))}" if strange else "wants nothing"
+            raise Unreadable(f"{name}: a case {why}")
+        case = Case(name, documents_of(name, table, earlier), {it: table[it] for it in table if it not in TEXTS})
+        earlier[key] = case
+        if "rows" in table:
+            yield from rows_of(case)
+        else:
+            yield case
+
+
+# Running them
+
+
+class Trial:
+    """The runs of one case in a folder of its own, and how those that aren't as wanted differ."""
+
+    def __init__(self, program, folder, documents):
+        self.program, self.folder, self.runs, self.differences = program, folder, 0, []
+        for document, text in documents.items():
+            self.put(document, text)
+
+    def path(self, document):
+        return os.path.join(self.folder, document)
+
+    def put(self, document, text):
+        with open(self.path(document), "wb") as file:
+            file.write(text)
+
+    def paths(self):
+        return [self.path(it) for it in DOCUMENTS]
+
+    def contents(self, document):
+        try:
+            with open(self.path(document), "rb") as file:
+                return file.read()
+        except FileNotFoundError:
+            return b"(no file)"
+
+    def run(self, words, stdin=b""):
+        self.runs += 1
+        how = {"input": stdin, "capture_output": True, "timeout": LONGEST, "check": False, "close_fds": False}
+        done = subprocess.run([self.program, *words], **how)
+        return Outcome(done.returncode, done.stdout, done.stderr)
+
+    def differs(self, way, what, wanted, got):
+        """Notes a difference, line by line."""
+        wanted, got = wanted.decode("latin-1"), got.decode("latin-1")
+        lines = difflib.unified_diff(wanted.splitlines(True), got.splitlines(True), "wanted", "got", n=1)
+        shown = "".join(it if it.endswith("\n") else f"{it}\n\\ no line end\n" for it in lines)
+        self.differences.append(f"{way}: {what}\n{shown}")
+
+    def wants(self, way, what, wanted, got):
+        if wanted != got:
+            self.differs(way, what, wanted, got)
+
+    def wants_status(self, way, wanted, got):
+        if wanted != got:
+            self.differences.append(f"{way}: exit status {got}, and not {wanted}\n")
+
+    def wants_outcome(self, way, wanted, got):
+        self.wants_status(way, wanted.status, got.status)
+        self.wants(way, "standard output", wanted.stdout, got.stdout)
+        self.wants(way, "standard error", wanted.stderr, got.stderr)
+
+
+def outcome_of(line):
+    """What a check comes to that answers this line, or that tells this fault."""
+    text = line.encode("latin-1") + b"\n"
+    if line.startswith("complete "):
+        return Outcome(0, text, b"")
+    if line.startswith("refused "):
+        return Outcome(1, text, b"")
+    return Outcome(2, b"", text)
+
+
+def ways_of(wanted):
+    """The options that a check is run with: all, where the documents are read, and otherwise some."""
+    if wanted.status == 2:
+        return [[], ["--workers", "3", "--forks", "2"]]
+    return [[], *(["--workers", str(it), "--forks", str(forks)] for it in WORKERS for forks in FORKS)]
+
+
+def check(trial, case):
+    """A check of the documents in every way that they can come."""
+    line = case.keys.get("answer", case.keys.get("fault"))
+    wanted = outcome_of(line)
+    for options in ways_of(wanted):
+        way = " ".join(["check", *options])
+        trial.wants_outcome(way, wanted, trial.run(["check", *trial.paths(), *options]))
+    joined = case.keys.get("joined", line)
+    if joined is not False:
+        stdin = b"".join(case.documents[it] for it in DOCUMENTS)
+        trial.wants_outcome("joined", outcome_of(joined), trial.run([], stdin))
+
+
+def list_text(arrangements):
+    """The text of a list of these arrangements."""
+    lines = "".join(f"{it}\n" for it in arrangements)
+    return f"list 1\narrangements {len(arrangements)}\n{lines}end\n".encode("latin-1")
+
+
+def arrangements_in(text):
+    """The arrangements of a list's text, in its order."""
+    return [it.decode("latin-1") for it in text.splitlines()[2:-1]]
+
+
+def expand(trial, case):
+    """The expansion of the documents: the very list, or how many are on it."""
+    got = trial.run(["expand", *trial.paths()])
+    if "expansion" in case.keys:
+        trial.wants_outcome("expand", Outcome(0, list_text(case.keys["expansion"]), b""), got)
+    if "arrangements" in case.keys:
+        trial.wants_status("expand", 0, got.status)
+        wanted = f"arrangements {case.keys['arrangements']}".encode("latin-1")
+        trial.wants("expand", "the list's second line", wanted, b"".join(got.stdout.splitlines()[1:2]))
+
+
+def order(trial, case):
+    """The words of a case, with what it wants of their run."""
+    keys, way = case.keys, " ".join(case.keys["words"])
+    known = {it.upper(): trial.path(it) for it in DOCUMENTS}
+    got = trial.run([known.get(it, it) for it in keys["words"]], text_of(keys.get("stdin", "")))
+    trial.wants_status(way, keys.get("status", 0), got.status)
+    for stream, text in (("stdout", got.stdout), ("stderr", got.stderr)):
+        begins, has = keys.get(f"{stream}_begins"), keys.get(f"{stream}_has")
+        if begins is not None:
+            begins = text_of(begins)
+            trial.wants(way, f"{stream}, its begin", begins, text[: len(begins)])
+        if has is not None and text_of(has) not in text:
+            trial.differs(way, f"{stream}, a part of it", text_of(has), text)
+        if begins is None and has is None:
+            trial.wants(way, stream, text_of(keys.get(stream, "")), text)
+    for document, text in keys.get("files", {}).items():
+        trial.wants(way, f"the file {document}", text_of(text), trial.contents(document))
+    for document, text in keys.get("files_have", {}).items():
+        if text_of(text) not in trial.contents(document):
+            trial.differs(way, f"the file {document}, a part of it", text_of(text), trial.contents(document))
+
+
+def solve(trial, options, count, every=None):
+    """A solve: what it writes is complete by a check, and expands to all arrangements, so many or these."""
+    way = " ".join(["solve", *options])
+    report = trial.run(["solve", *trial.paths(), *options])
+    listed = len(arrangements_in(trial.contents("list")))
+    trial.wants_status(way, 0, report.status)
+    begins = f"found {listed}\nlemmas ".encode("latin-1")
+    trial.wants(way, "its report's begin", begins, report.stdout[: len(begins)])
+    trial.wants(way, "standard error", b"", report.stderr)
+    checked = trial.run(["check", *trial.paths(), "--workers", "3", "--forks", "2"])
+    trial.wants_outcome(f"{way}, its check", outcome_of(f"complete {listed}"), checked)
+    expanded = sorted(arrangements_in(trial.run(["expand", *trial.paths()]).stdout))
+    trial.wants(f"{way}, its expansion", "how many", str(count).encode(), str(len(expanded)).encode())
+    if every is not None:
+        trial.wants(f"{way}, its expansion", "which", list_text(every), list_text(expanded))
+
+
+def searched(trial, kind):
+    """A plain search of the puzzle that has found all."""
+    search = kind(read_puzzle(trial.contents("puzzle").decode("latin-1")), 0, sys.maxsize)
+    search.run()
+    return search
+
+
+def solve_in_one_lemma(trial):
+    """A solve without symmetries by one worker: what a plain search of its kind comes to, and just the fuel of that."""
+    plain = searched(trial, ItemSearch)
+    texts = [it.encode("latin-1") for it in (plain.list_text(), plain.certificate_text())]
+    for fuel in sorted({1, 2, 5, 20, plain.branches - 1, plain.branches, 100_000}):
+        if fuel < 1:
+            continue
+        way = f"solve --depth 0 --fuel {fuel}"
+        got = trial.run(["solve", *trial.paths(), "--depth", "0", "--fuel", str(fuel)])
+        if fuel < plain.branches:
+            trial.wants_outcome(way, Outcome(3, b"", b"gave up\n"), got)
+        else:
+            begins = f"found {len(plain.listed)}\nlemmas 1\nworker 0 took 0\n".encode("latin-1")
+            trial.wants(way, "its report's begin", begins, got.stdout[: len(begins)])
+        for document, text in zip(DOCUMENTS[1:], texts):
+            trial.wants(way, f"the {document}", b"" if fuel < plain.branches else text, trial.contents(document))
+
+
+def solves(trial, count, every=None):
+    """Solves of the puzzle at each depth and by several numbers of workers."""
+    solve(trial, [], count, every)
+    for depth in DEPTHS:
+        for workers in WORKERS:
+            solve(trial, ["--depth", str(depth), "--workers", str(workers)], count, every)
+
+
+def cut(trial, documents, document):
+    """The document cut at every byte: the end is missing on the last line that there is."""
+    text = documents[document]
+    for length in range(len(text)):
+        trial.put(document, text[:length])
+        line = text.count(b"\n", 0, length) + 1
+        wanted = outcome_of(f"{document}: line {line}: ends")
+        trial.wants_outcome(f"{document} of {length} bytes", wanted, trial.run(["check", *trial.paths()]))
+    trial.put(document, text)
+
+
+def run_case(trial, case):
+    """All runs of a case of a file."""
+    keys = case.keys
+    if "answer" in keys or "fault" in keys:
+        check(trial, case)
+    if "expansion" in keys or "arrangements" in keys:
+        expand(trial, case)
+    if "words" in keys:
+        order(trial, case)
+    if "solve" in keys:
+        count, every = keys["solve"]["arrangements"], None
+        if keys["solve"].get("plainly"):
+            every = sorted(arrangements_in(searched(trial, Search).list_text().encode("latin-1")))
+            solve_in_one_lemma(trial)
+        solves(trial, count, every)
+    for document in keys.get("cut", ()):
+        cut(trial, case.documents, document)
+
+
+def run_example(trial, case):
+    """An example: its list is complete in every way, and expands and is solved as a plain search finds it."""
+    paths = trial.paths()
+    listed = len(arrangements_in(case.documents["list"]))
+    check(trial, Case(case.name, case.documents, {"answer": f"complete {listed}"}))
+    expanded = arrangements_in(trial.run(["expand", *paths]).stdout)
+    for place, document in enumerate(DOCUMENTS):
+        missing = [trial.path("missing") if it == place else paths[it] for it in range(len(DOCUMENTS))]
+        wanted = outcome_of(f"cannot read {document}")
+        trial.wants_outcome(f"no {document}", wanted, trial.run(["check", *missing]))
+    plain = searched(trial, Search)
+    every = sorted(arrangements_in(plain.list_text().encode("latin-1")))
+    trial.wants("expand", "which", list_text(every), list_text(sorted(expanded)))
+    trial.put("list", plain.list_text().encode("latin-1"))
+    trial.put("certificate", plain.certificate_text().encode("latin-1"))
+    alone = outcome_of(f"complete {len(every)}")
+    trial.wants_outcome("the plain search's check", alone, trial.run(["check", *paths]))
+    solve_in_one_lemma(trial)
+    solves(trial, len(every), every)
+
+
+def run_cut(trial, case):
+    """An example one of whose documents is cut at every byte."""
+    cut(trial, case.documents, case.keys["document"])
+
+
+HOW = {"case": run_case, "example": run_example, "cut": run_cut}
+
+
+def tried(work):
+    """The runs of one case, with how they differ from what is wanted."""
+    program, kind, case = work
+    with tempfile.TemporaryDirectory() as folder:
+        trial = Trial(program, folder, case.documents)
+        try:
+            HOW[kind](trial, case)
+        except subprocess.TimeoutExpired as slow:
+            trial.differences.append(f"{slow}\n")
+        except OSError as error:
+            trial.differences.append(f"it can't be run: {error}\n")
+        return case.name, trial.runs, trial.differences
+
+
+def every_case():
+    """Each kind of work with its case, the dearest first."""
+    for name in sorted(os.listdir(EXAMPLES)):
+        documents = example_documents(name)
+        yield "example", Case(f"examples/{name}", documents)
+        for document in DOCUMENTS:
+            yield "cut", Case(f"examples/{name}/{document}, cut", documents, {"document": document})
+    for name in sorted(os.listdir(CASES)):
+        if name.endswith(".toml"):
+            for case in cases_of(os.path.join(CASES, name)):
+                yield "case", case
+
+
+def is_named(name, wanted):
+    """Whether one of these words names the case, the table that it is a row of, or the file or folder that it is of."""
+    whole = name.split("[")[0].split(",")[0]
+    parts = whole.split("/")
+    return any(it in (name, whole, *parts) for it in wanted)
+
+
+def main(program, *wanted):
+    program, begun = os.path.abspath(program), time.monotonic()
+    try:
+        works = [(program, kind, case) for kind, case in every_case() if not wanted or is_named(case.name, wanted)]
+    except (Unreadable, tomllib.TOMLDecodeError, OSError) as error:
+        print(f"check_cases: {error}", file=sys.stderr)
+        return 2
+    if not works:
+        print(f"check_cases: there is no case {' '.join(wanted)}", file=sys.stderr)
+        return 2
+    runs, failed = 0, 0
+    with multiprocessing.Pool() as pool:
+        for name, count, differences in pool.imap_unordered(tried, works):
+            runs += count
+            if differences:
+                failed += 1
+                print(f"== {name}")
+                print("".join(differences), end="", flush=True)
+    print(f"{len(works)} cases, {runs} runs, {time.monotonic() - begun:.1f} s")
+    print(f"{len(works) - failed} passed, {failed} failed")
+    return 1 if failed else 0
+
+
+if __name__ == "__main__":
+    if len(sys.argv) < 2 or sys.argv[1].startswith("-"):
+        sys.exit(__doc__)
+    sys.exit(main(*sys.argv[1:]))
