@@ -69,10 +69,11 @@ fn squares_by_any_number_of_workers(rt: HostRuntime) -> Result<(), Fail> {
 }
 
 // Where the last number is 1, each of the two waits in a queue of its own. Where it is 2, both wait in one queue, and
-// one of them has to be taken by the other queue's worker.
+// one of them has to be taken by the other queue's worker. Where it is 999, one worker has hundreds of numbers to do
+// before it comes.
 #[test]
 fn two_at_once(rt: HostRuntime) -> Result<(), Fail> {
-    for last in [1, 2] {
+    for last in [1, 2, 999] {
         let meeting = Meeting::new();
         let callers = Callers { meeting, last };
         let crew = run_crew(&rt, rt.alloc(), &callers, last + 1, 2)?;

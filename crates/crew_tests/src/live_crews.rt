@@ -1,10 +1,15 @@
 use crate::meetings::Meeting;
+use match_board::limits::MOST_LEMMAS;
 use std::alloc::AllocError;
 use std::test::Fail;
+use std::thread;
 use steal_crew::{Hand, LiveWork, run_live};
 
-// A job below 3 gives away the next one. Each answers itself.
-struct Countup;
+// A job below the last gives away the next one. Each answers itself.
+#[derive(Drop)]
+struct Countup {
+    last: u32,
+}
 
 impl LiveWork for Countup {
     type Job = u32;
@@ -13,17 +18,18 @@ impl LiveWork for Countup {
 
     ghost use Rattle.std.specs.Prelude.{◌≡◌};
 
-    ghost gives = { λ _ _ job r. r ≡ job };
+    ghost gives = { λ _ _ _ job r. r ≡ job };
 
     fn one(&self, _number: u32, job: u32, hand: &mut Hand<'_, u32>) -> Result<u32, AllocError> {
-        if job < 3 {
+        if job < self.last {
             let _ = hand.give(job + 1);
         }
         Ok(job)
     }
 }
 
-// Job 0 gives away two jobs, which look for each other.
+// Job 0 gives away two jobs, 1 and 2, which look for each other. Job 3 gives away job 4, which gives 1 and 2 away after
+// a while, in which the queue is empty.
 #[derive(Drop)]
 struct Callers {
     meeting: Meeting,
@@ -34,35 +40,50 @@ impl LiveWork for Callers {
 
     type R = bool;
 
-    ghost gives = { λ _ _ _ _. Unit {0} };
+    ghost gives = { λ _ _ _ _ _. Unit {0} };
 
     fn one(&self, _number: u32, job: u8, hand: &mut Hand<'_, u8>) -> Result<bool, AllocError> {
-        if job == 0 {
-            return Ok(hand.give(1).is_ok() && hand.give(2).is_ok());
+        match job {
+            1 | 2 => return Ok(self.meeting.meets(job == 1)),
+            3 => return Ok(hand.give(4).is_ok()),
+            4 => wait_a_while(),
+            _ => {}
         }
-        Ok(self.meeting.meets(job == 1))
+        Ok(hand.give(1).is_ok() && hand.give(2).is_ok())
     }
 }
 
-// Where memory is refused, that is the outcome: no job is lost.
+fn wait_a_while() {
+    for _ in 0..300_000u32 {
+        thread::yield_now();
+    }
+}
+
+// Each row is the last job, the limit and how many jobs are done. Where memory is refused, that is the outcome: no job
+// is lost.
 #[test]
 fn each_given_job_is_done(rt: HostRuntime) -> Result<(), Fail> {
     for workers in [1, 2, 3, 7, 64] {
-        let crew = run_live(&rt, rt.alloc(), &Countup, 0, 9, workers)?;
-        assert!(rt; crew.results() == [0, 1, 2, 3].as_slice(), "by {workers}");
-        let few = run_live(&rt, rt.alloc(), &Countup, 0, 2, workers)?;
-        assert!(rt; few.results() == [0, 1].as_slice(), "by {workers}");
+        for (last, limit, count) in [(3, 9, 4), (3, 2, 2), (150, MOST_LEMMAS, 151)] {
+            let crew = run_live(&rt, rt.alloc(), &Countup { last }, 0, limit, workers)?;
+            assert!(rt; crew.results().len() == count, "by {workers}");
+            for (number, result) in crew.results().iter().enumerate() {
+                assert!(rt; *result as usize == number, "by {workers}");
+            }
+        }
     }
     Ok(())
 }
 
 #[test]
 fn two_given_at_once(rt: HostRuntime) -> Result<(), Fail> {
-    let meeting = Meeting::new();
-    let callers = Callers { meeting };
-    let crew = run_live(&rt, rt.alloc(), &callers, 0, 3, 2)?;
-    if crew.results() != [true, true, true].as_slice() {
-        return Err(Fail::new("no other thread came"));
+    for first in [0, 3] {
+        let meeting = Meeting::new();
+        let callers = Callers { meeting };
+        let crew = run_live(&rt, rt.alloc(), &callers, first, 4, 2)?;
+        if crew.results().contains(&false) {
+            return Err(Fail::new("no other thread came"));
+        }
     }
     Ok(())
 }

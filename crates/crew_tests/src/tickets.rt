@@ -1,7 +1,7 @@
 ghost use Rattle.std.specs.Prelude.{◌≡◌};
 ghost use Rattle.steal_crew.specs.Tickets.{source_of, seat_source};
 
-use match_board::limits::MOST_WORKERS;
+use match_board::limits::{MOST_LEMMAS, MOST_WORKERS};
 use std::test::Fail;
 use std::thread;
 use steal_crew::{TicketSeat, Tickets};
@@ -75,7 +75,7 @@ fn two_threads_draw_each_number(rt: HostRuntime) -> Result<(), Fail> {
 // As many seats as there may be, each of which draws once.
 #[test]
 fn each_of_the_most_seats_draws(rt: HostRuntime) -> Result<(), Fail> {
-    let (tickets, mut seats) = Tickets::new(rt.alloc(), 100, MOST_WORKERS + 1)?;
+    let (tickets, mut seats) = Tickets::new(rt.alloc(), MOST_LEMMAS, MOST_WORKERS + 1)?;
     for at in 0..seats.len() {
         let drawn = tickets.draw(&mut seats[at]);
         assert!(rt; drawn == Some(at as u32), "at {at}");

@@ -7,7 +7,6 @@ ghost use Rattle.xcc_dance.specs.Outcome.{IsCiteWithin};
 use crate::branches::OpenBranch;
 use crate::images::Placed;
 use crate::rules::Rules;
-use match_board::limits::MOST_LEMMAS;
 use match_puzzle::Pair;
 use std::alloc::AllocError;
 use std::sync::atomic::Ordering;
@@ -57,11 +56,11 @@ impl<'a, 'h> Choices<'a, 'h> {
     {
         let pairs = pairs.to_vec(self.rules.alloc)?;
         match self.hand.give(OpenBranch { pairs }) {
-            Ok(number) if number < MOST_LEMMAS => {
+            Ok(number) => {
                 self.rules.waiting.fetch_add(1, Ordering::Relaxed);
                 Ok(Some(Cite::Same(number)))
             }
-            _ => Ok(None),
+            Err(_) => Ok(None),
         }
     }
 

@@ -132,7 +132,7 @@ impl<'a, T: Wait> LiveWork for Searches<'a, T> {
 
     type R = Searched;
 
-    ghost gives = { λ s _ _ r. IsOutcomeOf s.xcc.now.puzzle s.desk.now r };
+    ghost gives = { λ s _ _ _ r. IsOutcomeOf s.xcc.now.puzzle s.desk.now r };
 
     fn one(
         &self,

@@ -1,5 +1,5 @@
 -- What a hand gave is put together.
-use Rattle.std.proofs.Common.{◌≡◌, List, [], ◌++◌, refl, sym, ap, ◌∙◌}
+use Rattle.std.proofs.Common.{[], ◌++◌, refl, sym, ap, ◌∙◌}
 use mathlib.Core.List.{append-nil, append_assoc}
 use Rattle.steal_crew.specs.Tickets.{drawn}
 use Rattle.steal_crew.specs.LiveQueue.{job_numbers}

@@ -1,12 +1,14 @@
 -- The results of a run, which are entered by number and taken out.
 use Rattle.std.proofs.Common.{◌≡◌, ◌≢◌, ℕ, ◌+◌, ◌-◌, ◌<◌, Global, List, [], ◌∷◌, ◌++◌, length, get_or, take, Vec}
-use Rattle.std.proofs.Common.{Option, sym, refl, ap, ◌∙◌, subst, arith}
+use Rattle.std.proofs.Common.{Option, IsSomeAnd, sym, refl, ap, ◌∙◌, subst, arith}
 use Rattle.std.proofs.lemmas.List.{get_or_append_left, get_or-append_right, take_more}
 use Rattle.std.proofs.lemmas.Bool.Decides.{nat_tests}
 use mathlib.Core.Logic.{dite}
 use native.Mathlib.Decide.{ℕ_discrete, dec_lt}
 use Rattle.steal_crew.specs.Counts.{total, times, once_below}
 use Rattle.steal_crew.specs.Results.{done_numbers, filled}
+use Rattle.steal_crew.specs.declared.tickets.seats.AllDrawn.{AllDrawn}
+use Rattle.steal_crew.specs.Tickets.{Source, source_drawn}
 use Rattle.steal_crew.specs.LiveWorkers.{BelongsToSome, BelongFrom}
 use Rattle.steal_crew.proofs.ResultLemmas.{times-append, none_of}
 use Rattle.steal_crew.proofs.CountLemmas.{total-append}
@@ -75,13 +77,17 @@ pub both_entered : (f f' f'' a b : ℕ) → 0 < a + b → (0 < f + a → 0 < f')
 both_entered f f' f'' a b some first second =
     dite (dec_lt 0 a) (λ p. second (let q = first (omega arith) in omega arith)) (λ no. second (omega arith))
 
-pub belong_from : {J X : Type 0} (gives : ℕ → J → X → Type 0) (job : J) (rs : List X) (r : X) (n : ℕ) → length rs ≡ n
-    → 0 < n → gives 0 job r → ((d : X) → get_or rs 0 d ≡ r)
-    → ((k : ℕ) (d : X) → 0 < k → k < n → BelongsToSome gives k (get_or rs k d)) → BelongFrom gives job rs
-belong_from {J} {X} gives job rs r n len some here at_first rest = record {
+pub belong_from : {J X : Type 0} (gives : Source → ℕ → J → X → Type 0) (source : Source) (job : J)
+    (drawn : Option AllDrawn) (rs : List X) (r : X) (n : ℕ) → IsSomeAnd drawn (λ d. source_drawn d ≡ source)
+    → length rs ≡ n → 0 < n → gives source 0 job r → ((d : X) → get_or rs 0 d ≡ r)
+    → ((k : ℕ) (d : X) → 0 < k → k < n → BelongsToSome (gives source) k (get_or rs k d))
+    → BelongFrom gives job drawn rs
+belong_from {J} {X} gives source job drawn rs r n from len some here at_first rest = record {
+  source = source;
+  drawn_from = from;
   some = omega arith;
-  first = λ d. subst (gives 0 job) (sym (at_first d)) here;
+  first = λ d. subst (gives source 0 job) (sym (at_first d)) here;
   each = λ k d low. dite (dec_lt 0 k) (λ p. rest k d p (omega arith))
-      (λ no. let z : k ≡ 0 = omega arith in subst (λ (i : ℕ). BelongsToSome gives i (get_or rs i d)) (sym z)
-      (job, subst (gives 0 job) (sym (at_first d)) here));
+      (λ no. let z : k ≡ 0 = omega arith in subst (λ (i : ℕ). BelongsToSome (gives source) i (get_or rs i d)) (sym z)
+      (job, subst (gives source 0 job) (sym (at_first d)) here));
 }

@@ -5,7 +5,7 @@ use Rattle.std.proofs.lemmas.List.Elements.{All-append, All-cons, All-nil}
 use Rattle.std.specs.declared.alloc.Global.{Global}
 use Rattle.crossbeam_deque.specs.Injected.{InjectorPass, injector_view, IsInjectorPassOf}
 use Rattle.crossbeam_deque.specs.declared.injector.Injector.{Injector}
-use Rattle.steal_crew.specs.Tickets.{source_of, seat_source, drawn}
+use Rattle.steal_crew.specs.Tickets.{Source, source_of, seat_source, drawn}
 use Rattle.steal_crew.specs.declared.live.jobs.JobView.{JobView}
 use Rattle.steal_crew.specs.declared.live.jobs.NumberedJob.{NumberedJob}
 use Rattle.steal_crew.specs.declared.live.jobs.NoneLost.{NoneLost}
@@ -17,7 +17,6 @@ use Rattle.steal_crew.specs.LiveHands.{Gave}
 use Rattle.steal_crew.specs.Results.{done_numbers}
 use Rattle.steal_crew.specs.LiveWorkers.{BelongsToSome, got, put, IsReady, Moved, IsLiveShare, Brings}
 use Rattle.steal_crew.specs.declared.live.hands.LiveShare.{LiveShare}
-use Rattle.atomic_table.specs.Seated.{TableId}
 use Rattle.steal_crew.specs.declared.tickets.seats.TicketSeat.{TicketSeat}
 use Rattle.steal_crew.specs.QueueRule.{part_count}
 use Rattle.steal_crew.proofs.CountLemmas.{total-append, times-snoc}
@@ -25,25 +24,30 @@ use Rattle.steal_crew.proofs.ResultLemmas.{times-append, done_snoc}
 use Rattle.steal_crew.proofs.QueueRuleLemmas.{all_more}
 
 module _ {J X : Type 0} where
-  module _ (queue : Injector (NumberedJob J) Global JobView NoneLost) (gives : ℕ → J → X → Type 0) where
+  module _ (queue : Injector (NumberedJob J) Global JobView NoneLost) (gives : Source → ℕ → J → X → Type 0) where
     pub ready_more : (old : LiveWorker J X) (hand : Hand J) (done : Vec (ℕ × X) Global) (n : ℕ) (job : J) (r : X)
-        → IsReady queue gives old → gives n job r → done.items ≡ old.done.items ++ (n, r) ∷ []
+        → IsReady queue gives old → source_of hand.source.now ≡ source_of old.hand.source.now
+        → gives (source_of old.hand.source.now) n job r → done.items ≡ old.done.items ++ (n, r) ∷ []
         → IsReady queue gives (record { pass = old.pass; hand = hand; done = done })
-    ready_more old hand done n job r ready belongs is = let P : ℕ × X → Type 0 = λ e. BelongsToSome gives e.0 e.1 in
-        record {
+    ready_more old hand done n job r ready same belongs is =
+        let P : ℕ × X → Type 0 = λ e. BelongsToSome (gives (source_of old.hand.source.now)) e.0 e.1 in record {
           pass = ready.pass;
           some_part = ready.some_part;
-          done = subst (All P) (sym is) (All-append P old.done.items ((n, r) ∷ []) ready.done
-              (All-cons P (n, r) [] (job, belongs) (All-nil P)));
+          done = subst (λ (z : Source). All (λ e. BelongsToSome (gives z) e.0 e.1) done.items) (sym same)
+              (subst (All P) (sym is) (All-append P old.done.items ((n, r) ∷ []) ready.done
+              (All-cons P (n, r) [] (job, belongs) (All-nil P))));
         }
 
-    pub ready_at : (old new : LiveWorker J X) → IsReady queue gives old → IsInjectorPassOf queue new.pass
+    pub ready_at : (old new : LiveWorker J X) → IsReady queue gives old
+        → source_of new.hand.source.now ≡ source_of old.hand.source.now → IsInjectorPassOf queue new.pass
         → (injector_view new.pass).parts ≡ (injector_view old.pass).parts → new.done ≡ old.done
         → IsReady queue gives new
-    ready_at old new ready pass parts done = let p = ready.some_part in record {
+    ready_at old new ready same pass parts done = let p = ready.some_part in record {
       pass = pass;
       some_part = omega arith;
-      done = subst (λ (d : Vec (ℕ × X) Global). All (λ e. BelongsToSome gives e.0 e.1) d.items) (sym done) ready.done;
+      done = subst (λ (z : Source). All (λ e. BelongsToSome (gives z) e.0 e.1) new.done.items) (sym same)
+          (subst (λ (d : Vec (ℕ × X) Global). All (λ e. BelongsToSome (gives (source_of old.hand.source.now)) e.0 e.1)
+          d.items) (sym done) ready.done);
     }
 
   pub moved_one : (old : LiveWorker J X) (hand : Hand J) (done : Vec (ℕ × X) Global) (n : ℕ) (r : X)
@@ -138,21 +142,22 @@ forked v w n m is became more = became ∙ ap (λ (u : JobView). job_view_with (
     ∙ ap (λ (k : ℕ). job_view_with k [] []) (let e : (part_count - n) - 1 ≡ part_count - m = omega arith in e)
 
 -- one share more is taken in
-pub brings_more : {J X : Type 0} (queue : Injector (NumberedJob J) Global JobView NoneLost) (source : TableId × ℕ)
-    (gives : ℕ → J → X → Type 0) (old v v' : JobView) (n n' : ℕ) (seats seats' : List TicketSeat)
+pub brings_more : {J X : Type 0} (queue : Injector (NumberedJob J) Global JobView NoneLost) (source : Source)
+    (gives : Source → ℕ → J → X → Type 0) (old v v' : JobView) (n n' : ℕ) (seats seats' : List TicketSeat)
     (others others' : List (Vec (ℕ × X) Global)) (t : LiveShare J X)
-    → Brings source (BelongsToSome gives) old v n seats others → IsLiveShare queue source gives t
+    → Brings source (BelongsToSome (gives source)) old v n seats others → IsLiveShare queue source gives t
     → v' ≡ job_view_with (v.parts + (injector_view t.pass).parts) (v.dealt ++ (injector_view t.pass).dealt)
     (v.taken ++ (injector_view t.pass).taken) → n' ≡ n + 1
     → seats' ≡ seats ++ t.seat ∷ [] → others' ≡ others ++ t.done ∷ []
-    → Brings source (BelongsToSome gives) old v' n' seats' others'
+    → Brings source (BelongsToSome (gives source)) old v' n' seats' others'
 brings_more {J} {X} queue source gives old v v' n n' seats seats' others others' t g share became next more_seats
     more_others = record {
       parts = (let p = ap (λ (u : JobView). u.parts) became in let q = share.parts in let r = g.parts in omega arith);
       ours = all_more (λ (s : TicketSeat). seat_source s ≡ source) seats seats' t.seat g.ours share.seat more_seats;
       seats_len = (let p = ap length more_seats in let q = length-append seats (t.seat ∷ []) in let r = g.seats_len in
           omega arith);
-      done = all_more (λ (s : Vec (ℕ × X) Global). All (λ e. BelongsToSome gives e.0 e.1) s.items) others others' t.done
+      done = all_more (λ (s : Vec (ℕ × X) Global). All (λ e. BelongsToSome (gives source) e.0 e.1) s.items)
+          others others' t.done
           g.done share.done more_others;
       others_len = (let p = ap length more_others in let q = length-append others (t.done ∷ []) in
           let r = g.others_len in
@@ -186,7 +191,7 @@ module _ {J X : Type 0} where
       omega arith
 
   -- what was drawn is 0 and what was done, once the queue was found empty
-  pub ended : (source : TableId × ℕ) (belongs : ℕ → X → Type 0) (l0 l2 l3 l4 : LiveWorker J X) (n : ℕ)
+  pub ended : (source : Source) (belongs : ℕ → X → Type 0) (l0 l2 l3 l4 : LiveWorker J X) (n : ℕ)
       (seats seats' : List TicketSeat) (others : List (Vec (ℕ × X) Global)) (x : ℕ)
       → got x l0 ≡ put x l0 + times x (0 ∷ []) → Moved [] l0 l2
       → Brings source belongs (injector_view l2.pass) (injector_view l3.pass) n seats others → l3.hand ≡ l2.hand

@@ -1,16 +1,16 @@
 -- Each step of a number source keeps its rule.
 use Rattle.std.proofs.Common.{◌≡◌, ◌≢◌, ℕ, ◌+◌, ◌-◌, ◌%◌, ◌^◌, ◌<◌, ◌≤◌, min, Bool, true, false, cond, eqb, List, [], ◌∷◌, ◌++◌, set, All, sym, refl, ap, ◌∙◌, subst, arith, nat_lt, get_or, length-set, get_or-set_same, ⊎_elim}
 use mathlib.Core.Logic.{dite}
-use mathlib.Core.Option.{none, some, some-injective, some-ne-none}
+use mathlib.Core.Option.{none, some}
 use native.Mathlib.Decide.{dec_lt}
 use lib.ListN.{get_elem?}
 use Rattle.std.proofs.lemmas.Bool.Decides.{nat_tests}
 use Rattle.std.specs.Prelude.{MatchBool}
-use Rattle.atomic_table.specs.Table.{State, Me, Step, step, keeps, stepped, Allows, Splits, Joins, Final, Seen}
-use Rattle.atomic_table.proofs.Lists.{at_set, at_snoc}
+use Rattle.atomic_table.specs.Table.{State, Me, Step, step, keeps, stepped, Allows, Splits, Joins, Seen}
+use Rattle.atomic_table.proofs.Lists.{at_set, at_snoc, set_again}
 use Rattle.steal_crew.specs.declared.tickets.rules.SeatView.{SeatView}
 use Rattle.steal_crew.specs.Counts.{total, times, once_below}
-use Rattle.steal_crew.specs.NumberSource.{seat_view_with, IsFair, Drawn, Holds, IsDraw}
+use Rattle.steal_crew.specs.NumberSource.{seat_view_with, IsFair, Drawn, Holds, IsDraw, IsLook}
 use Rattle.steal_crew.proofs.CountLemmas.{total-set, total-append, total-part, total-le, total-alone, times-snoc, once_below-next, once_below-above, all_below}
 
 abbrev parts : SeatView → ℕ
@@ -149,24 +149,32 @@ joins key id v other w some_part same s h at apart at' = let b : SeatView = seat
       };
     }
 
--- what the seat with every part learns when the table is closed
-pub ends : (key : ℕ × ℕ) (id : ℕ) (v : SeatView) (s : SourceState) → Seen (Holds key) id v s → v.parts ≡ key.1
+-- what a seat with every part knows
+ends : (key : ℕ × ℕ) (id : ℕ) (v : SeatView) (s : SourceState) → Seen (Holds key) id v s → v.parts ≡ key.1
     → ((x : ℕ) → times x v.drawn ≡ once_below x (min (get_or s.words 0 0) key.0)) × (0 < v.marks → key.0 ≤ get_or s.words 0 0)
 ends key id v s seen whole = let rule = seen.0.rule in let n : ℕ = get_or s.words 0 0 in (
   (λ x. sym (total-alone (drew x) parts s.views id v seen.1 (λ j u at z. ap (times x) ((rule.fair j u at).spent z)) (rule.parts ∙ sym whole)) ∙ rule.numbers x),
   (rule.fair id v seen.1).out,
 )
 
-word_is : (ws : List ℕ) (n : ℕ) → get_elem? ws 0 ≡ some n → get_or ws 0 0 ≡ n
-word_is [] n e = absurd (some-ne-none n (sym e))
-word_is (x ∷ xs) n e = some-injective x n e
-
-pub finals : (key : ℕ × ℕ) (id : ℕ) (v : SeatView) (ws : List ℕ) (xs : List (Unit {0})) (n : ℕ) → Final (Seen (Holds key) id v) ws xs → get_elem? ws 0 ≡ some n → v.parts ≡ key.1
-    → ((x : ℕ) → times x v.drawn ≡ once_below x (min n key.0)) × (0 < v.marks → key.0 ≤ n)
-finals key id v ws xs n f at whole = let e = ends key id v f.0 f.1 whole in let is : get_or f.0.words 0 0 ≡ n = ap (λ (l : List ℕ). get_or l 0 0) f.2 ∙ word_is ws n at in (
-  (λ x. e.0 x ∙ ap (λ (k : ℕ). once_below x (min k key.0)) is),
-  (λ m. let h = e.1 m in omega arith),
-)
+-- a look keeps the rule, and a seat that has every part learns by it what was drawn
+pub looks : (key : ℕ × ℕ) (slots id : ℕ) (me : Me (Unit {0}) SeatView) → 0 < me.0.parts
+    → Allows (Holds key) slots id me 0 (λ n. n) (IsLook (step slots 0 0 0 none) me)
+looks key slots id me some_part s h _ at _ =
+    let n : ℕ = get_or s.words 0 0 in let v : SeatView = me.0 in
+    let told = (h.rule.fair id v at).told some_part in (
+      v,
+      keeps,
+      tt,
+      placed key s n id me v h (subst (λ (l : List SeatView). Drawn key.0 key.1 n l) (sym (set_again s.views id v at)) h.rule),
+      (
+        refl,
+        λ _ whole. let all = ends key id v s (h, at) (whole ∙ told.1) in (
+          (λ x. all.0 x ∙ ap (λ (k : ℕ). once_below x (min n k)) (sym told.0)),
+          (λ m. let o = all.1 m in let l = told.0 in omega arith),
+        ),
+      ),
+    )
 
 -- the draw of a seat with every part, which is the first
 pub drew_first : (s : Step (Unit {0})) (limit seats found : ℕ) (v w : Me (Unit {0}) SeatView)

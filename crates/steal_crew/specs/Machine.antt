@@ -1,6 +1,6 @@
 -- The crew machine: its states and events, when an event is refused and what else it does, and what holds in every run.
 use Rattle.std.specs.Prelude.{◌≡◌, ℕ, zero, suc, ◌+◌, ◌<◌, ◌≤◌, Bool, true, false, ◌==◌, nat_lt, cond, List, [], ◌∷◌}
-use Rattle.std.specs.Prelude.{◌++◌, length, Option, Some, None, Result, Ok, Err, slice_index_or, slice_set}
+use Rattle.std.specs.Prelude.{◌++◌, length, Option, Some, None, Result, Ok, Err, IsTrue, slice_index_or, slice_set}
 use Rattle.steal_crew.specs.Counts.{total, times, once_below}
 use Rattle.steal_crew.specs.declared.machine.steps.StepFault.{StepFault}
 use Rattle.steal_crew.specs.declared.machine.steps.StepFault.TheVariants as faults
@@ -149,6 +149,15 @@ stepped s (stop w) =
     (if_idle (worker_at s w).busy (Ok (stop_worker s w)) (Err busy_fault)))
     (Err worker_fault)
 
+-- whether the event makes a list longer
+abbrev pub lengthens : Event → Bool
+lengthens (deal q x) = true
+lengthens (take w q) = true
+lengthens (draw w) = true
+lengthens (post w) = true
+lengthens (finish w) = true
+lengthens (stop w) = false
+
 -- ---- runs
 
 -- the state after an event, which changes nothing where it is refused
@@ -194,16 +203,16 @@ event_of (events.Post worker) = post worker
 event_of (events.Finish worker) = finish worker
 event_of (events.Stop worker) = stop worker
 
--- The code answers the machine's fault, or want of memory where the machine steps.
-abbrev pub IsFault : StepFault → Result State Fault → Type 0
-IsFault faults.Worker outcome = outcome ≡ Err worker_fault
-IsFault faults.Queue outcome = outcome ≡ Err queue_fault
-IsFault faults.Stopped outcome = outcome ≡ Err stopped_fault
-IsFault faults.Busy outcome = outcome ≡ Err busy_fault
-IsFault faults.Idle outcome = outcome ≡ Err idle_fault
-IsFault faults.Empty outcome = outcome ≡ Err empty_fault
-IsFault faults.Dealt outcome = outcome ≡ Err dealt_fault
-IsFault faults.Full outcome = outcome ≡ Err full_fault
-IsFault faults.Posted outcome = outcome ≡ Err posted_fault
-IsFault faults.Memory (Ok after) = Unit {0}
-IsFault faults.Memory (Err fault) = ⊥
+-- The code answers the machine's fault, or want of memory where the machine steps and a list is to become longer.
+abbrev pub IsFault : StepFault → Event → Result State Fault → Type 0
+IsFault faults.Worker event outcome = outcome ≡ Err worker_fault
+IsFault faults.Queue event outcome = outcome ≡ Err queue_fault
+IsFault faults.Stopped event outcome = outcome ≡ Err stopped_fault
+IsFault faults.Busy event outcome = outcome ≡ Err busy_fault
+IsFault faults.Idle event outcome = outcome ≡ Err idle_fault
+IsFault faults.Empty event outcome = outcome ≡ Err empty_fault
+IsFault faults.Dealt event outcome = outcome ≡ Err dealt_fault
+IsFault faults.Full event outcome = outcome ≡ Err full_fault
+IsFault faults.Posted event outcome = outcome ≡ Err posted_fault
+IsFault faults.Memory event (Ok after) = IsTrue (lengthens event)
+IsFault faults.Memory event (Err fault) = ⊥

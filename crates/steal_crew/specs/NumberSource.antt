@@ -43,3 +43,9 @@ IsDraw s v found w = (w.1 ≡ v.1) × (v.0.parts ≡ v.0.seats → v.0.drawn ≡
     ((w.0 ≡ seat_view_with v.0.limit v.0.seats v.0.parts v.0.marks (v.0.drawn ++ found ∷ []))
     × All (λ x. x < found) v.0.drawn)
     (w.0 ≡ seat_view_with v.0.limit v.0.seats v.0.parts 1 v.0.drawn)
+
+-- A look changes nothing. A seat that has every part of the source learns by it that what it drew are the numbers below
+-- the one found and below the limit, each once; and where it was marked, that the one found is at least the limit.
+abbrev pub IsLook : Step (Unit {0}) → Me (Unit {0}) SeatView → ℕ → Me (Unit {0}) SeatView → Type 0
+IsLook s v found w = (w ≡ v) × (0 < v.0.parts → v.0.parts ≡ v.0.seats
+    → ((x : ℕ) → times x v.0.drawn ≡ once_below x (min found v.0.limit)) × (0 < v.0.marks → v.0.limit ≤ found))

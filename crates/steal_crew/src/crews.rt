@@ -11,6 +11,7 @@ use crate::gathering::{collect, drain_all, histories};
 use crate::queues::{Handle, View};
 use crate::results::{enter_all, settle_rest};
 use crate::taking::work_at;
+use crate::tickets::AllDrawn;
 use crate::works::{Share, Station, Work};
 use crossbeam_deque::Pass;
 use match_board::limits::{MOST_LEMMAS, MOST_WORKERS};
@@ -25,6 +26,8 @@ pub struct Crew<X: Drop> {
     pub(crate) tallies: Vec<Vec<u32>>,
     // What was dealt to each queue and taken from it. It takes no memory, and is there for contracts alone.
     pub(crate) queues: Vec<Pass<u32, View>>,
+    // What was drawn, where jobs gave others away. It takes no memory either, and is there for contracts alone.
+    pub(crate) drawn: Option<AllDrawn>,
 }
 
 impl<X: Drop> Crew<X> {
@@ -43,6 +46,7 @@ impl<X: Drop> Crew<X> {
             results,
             tallies,
             queues: _,
+            drawn: _,
         } = self;
         (results, tallies)
     }
@@ -162,5 +166,6 @@ pub fn run_crew<W: Work + Sync, R: Threads + Sync>(
         results,
         tallies,
         queues,
+        drawn: None,
     })
 }

@@ -4,4 +4,4 @@ mod draws;
 mod rules;
 mod seats;
 
-pub use seats::{TicketSeat, Tickets};
+pub use seats::{AllDrawn, TicketSeat, Tickets};

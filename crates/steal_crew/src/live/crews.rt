@@ -1,9 +1,9 @@
 //! The workers of one run.
 
-ghost use Rattle.std.specs.Prelude.{◌≡◌, ◌<◌, ◌-◌, [], IfOk, OnOk, All, vec_len};
+ghost use Rattle.std.specs.Prelude.{◌≡◌, ◌≤◌, ◌<◌, ◌-◌, [], IfOk, OnOk, All, vec_len};
 ghost use Rattle.crossbeam_deque.specs.Injected.{injector_view, IsInjectorPassOf};
 ghost use Rattle.steal_crew.specs.QueueRule.{part_count};
-ghost use Rattle.steal_crew.specs.Tickets.{source_of, IsFresh};
+ghost use Rattle.steal_crew.specs.Tickets.{source_of, limit_of, IsFresh};
 ghost use Rattle.steal_crew.specs.LiveQueue.{job_view_with, job_numbers};
 ghost use Rattle.steal_crew.specs.LiveWorkers.{IsReady, Moved, IsLiveStation, IsLiveShare};
 
@@ -14,7 +14,7 @@ use super::working::work_on;
 use super::works::LiveWork;
 use crate::tickets::{TicketSeat, Tickets};
 use crossbeam_deque::InjectorPass;
-use match_board::limits::MOST_WORKERS;
+use match_board::limits::{MOST_LEMMAS, MOST_WORKERS};
 use std::alloc::{AllocError, Global};
 use std::sync::Wait;
 use std::sync::atomic::AtomicU64;
@@ -31,6 +31,7 @@ pub(crate) fn stations<J: Drop>(
 ) -> Result<Vec<LiveStation<J>>, AllocError>
     requires pass { IsInjectorPassOf queue.now pass.old × (injector_view pass.old ≡ job_view_with part_count [] []) }
     requires seats { All (IsFresh (source_of source.now)) seats.items × (vec_len seats < MOST_WORKERS) }
+    requires limit { limit_of source.now ≤ MOST_LEMMAS }
     ensures pass { OnOk result (IsInjectorPassOf queue.now pass.new
         × (injector_view pass.new ≡ job_view_with (part_count - vec_len seats) [] [])) }
     ensures each { IfOk result (λ v. All (IsLiveStation queue.now (source_of source.now)) v.items) }

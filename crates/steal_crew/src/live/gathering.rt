@@ -31,7 +31,8 @@ pub(crate) fn collect<W: LiveWork>(
         (λ t. IfOk t (IsLiveShare queue.now (source_of _source.now) (W.gives _work.now))) shares.items }
     requires pass { IsInjectorPassOf queue.now pass.old × (0 < (injector_view pass.old).parts) }
     ensures pass { OnOk result (IsInjectorPassOf queue.now pass.new) }
-    ensures all { IfOk result (λ b. Brings (source_of _source.now) (BelongsToSome (W.gives _work.now))
+    ensures all { IfOk result (λ b. Brings (source_of _source.now)
+        (BelongsToSome (W.gives _work.now (source_of _source.now)))
         (injector_view pass.old) (injector_view pass.new) (vec_len shares) b.seats.items b.others.items) }
 {
     let mut seats = Vec::new(alloc);

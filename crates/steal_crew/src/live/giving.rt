@@ -1,13 +1,14 @@
 //! A job is given away.
 
-ghost use Rattle.std.specs.Prelude.{◌≡◌, ◌<◌, ◌++◌, ◌∷◌, [], ℕ, IfOk, IfErr, MatchOption};
-ghost use Rattle.steal_crew.specs.Tickets.{drawn, source_of, limit_of};
+ghost use Rattle.std.specs.Prelude.{◌≡◌, ◌≤◌, ◌<◌, ◌⊎◌, true, vec_len, ◌++◌, ◌∷◌, [], ℕ, IfOk, IfErr, MatchOption};
+ghost use Rattle.steal_crew.specs.Tickets.{drawn, source_of, limit_of, is_out};
 ghost use Rattle.steal_crew.specs.LiveQueue.{numbered_job, job_numbers};
 ghost use Rattle.steal_crew.specs.LiveHands.{Gave};
 
 use super::hands::Hand;
 use super::jobs::NumberedJob;
 use super::limits::MOST_GIVEN;
+use match_board::limits::MOST_LEMMAS;
 
 impl<'a, J: Drop> Hand<'a, J> {
     /// Draws the next number for the job, answers it, and puts both at the end of the list. The job comes back, and
@@ -16,9 +17,11 @@ impl<'a, J: Drop> Hand<'a, J> {
     pub fn give(&mut self, job: J) -> Result<u32, J>
         ensures gave { Gave self.old self.new }
         ensures below { IfOk result (λ k. k < limit_of self.old.source.now) }
+        ensures few { IfOk result (λ k. k < MOST_LEMMAS) }
         ensures number { IfOk result (λ k. drawn self.new.seat ≡ drawn self.old.seat ++ k ∷ []) }
         ensures listed { IfOk result (λ k. self.new.jobs.items ≡ self.old.jobs.items ++ numbered_job k job ∷ []) }
         ensures back { IfErr result (λ same. same ≡ job) }
+        ensures full { IfErr result (λ _. (MOST_GIVEN ≤ vec_len self.old.jobs) ⊎ (is_out self.new.seat ≡ true)) }
         ensures undrawn { IfErr result (λ _. drawn self.new.seat ≡ drawn self.old.seat) }
         ensures unlisted { IfErr result (λ _. self.new.jobs.items ≡ self.old.jobs.items) }
     {

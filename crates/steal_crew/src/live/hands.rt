@@ -1,8 +1,9 @@
 //! What a job gives others away by, and what a worker has.
 
 ghost use Rattle.std.specs.Prelude.{◌≡◌, ◌≤◌, vec_capacity};
+ghost use Rattle.match_board.specs.declared.limits.TheConstants.{MOST_LEMMAS};
 ghost use Rattle.steal_crew.specs.declared.live.limits.TheConstants.{MOST_GIVEN};
-ghost use Rattle.steal_crew.specs.Tickets.{source_of, seat_source};
+ghost use Rattle.steal_crew.specs.Tickets.{source_of, limit_of, seat_source};
 
 use super::jobs::{JobView, NumberedJob};
 use crate::tickets::{TicketSeat, Tickets};
@@ -15,6 +16,7 @@ pub struct Hand<'a, J: Drop> {
     pub(crate) seat: TicketSeat,
     pub(crate) jobs: Vec<NumberedJob<J>>,
     ghost ours: { seat_source seat ≡ source_of source.now },
+    ghost few: { limit_of source.now ≤ MOST_LEMMAS },
     ghost room: { MOST_GIVEN ≤ vec_capacity jobs },
 }
 

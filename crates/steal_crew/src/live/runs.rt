@@ -1,10 +1,10 @@
 //! A run from its first job to the results.
 
-ghost use Rattle.std.specs.Prelude.{◌≡◌, ◌≤◌, ◌<◌, ◌+◌, ◌∷◌, [], ℕ, IfOk, All, vec_len};
+ghost use Rattle.std.specs.Prelude.{◌≡◌, ◌≤◌, ◌<◌, ◌+◌, ◌∷◌, [], ℕ, IfOk, All, IsSomeAnd, vec_len};
 ghost use Rattle.steal_crew.specs.Counts.{total, times, once_below};
 ghost use Rattle.steal_crew.specs.Results.{done_numbers};
-ghost use Rattle.steal_crew.specs.Tickets.{source_of, seat_source, drawn, IsFresh};
-ghost use Rattle.steal_crew.specs.LiveWorkers.{BelongsToSome, BelongFrom};
+ghost use Rattle.steal_crew.specs.Tickets.{source_of, limit_of, seat_source, drawn, IsFresh};
+ghost use Rattle.steal_crew.specs.LiveWorkers.{BelongsToSome, AreDoneBy, BelongFrom, AreDrawn};
 
 use super::crews::{stations, work_together};
 use super::gathering::{Brought, collect};
@@ -43,10 +43,11 @@ fn run_from<W: LiveWork + Sync, R: Threads + Wait + Sync>(
 ) -> Result<LiveRun<W::R>, AllocError>
     requires seat { (seat_source seat ≡ source_of source.now) × (drawn seat ≡ 0 ∷ []) }
     requires seats { All (IsFresh (source_of source.now)) seats.items × (vec_len seats < MOST_WORKERS) }
-    ensures first { IfOk result (λ r. W.gives work.now 0 first r.first) }
-    ensures own { IfOk result (λ r. All (λ e. BelongsToSome (W.gives work.now) e.0 e.1) r.own.items) }
+    requires limit { limit_of source.now ≤ MOST_LEMMAS }
+    ensures first { IfOk result (λ r. W.gives work.now (source_of source.now) 0 first r.first) }
+    ensures own { IfOk result (λ r. AreDoneBy (W.gives work.now (source_of source.now)) r.own.items) }
     ensures others { IfOk result (λ r.
-        All (λ d. All (λ e. BelongsToSome (W.gives work.now) e.0 e.1) d.items) r.others.items
+        All (λ d. AreDoneBy (W.gives work.now (source_of source.now)) d.items) r.others.items
         × (vec_len r.others ≡ vec_len seats)) }
     ensures seats { IfOk result (λ r. All (λ s. seat_source s ≡ source_of source.now) r.seats.items
         × (vec_len r.seats ≡ vec_len seats + 1)) }
@@ -114,7 +115,8 @@ pub fn run_live<W: LiveWork + Sync, R: Threads + Wait + Sync>(
     requires workers { (1 ≤ workers) × (workers ≤ MOST_WORKERS) }
     requires limit { (1 ≤ limit) × (limit ≤ MOST_LEMMAS) }
     ensures limit { IfOk result (λ c. vec_len c.results ≤ limit) }
-    ensures results { IfOk result (λ c. BelongFrom (W.gives work.now) first c.results.items) }
+    ensures drawn { IfOk result (λ c. IsSomeAnd c.drawn (AreDrawn limit (vec_len c.results))) }
+    ensures results { IfOk result (λ c. BelongFrom (W.gives work.now) first c.drawn c.results.items) }
     ensures workers { IfOk result (λ c. vec_len c.tallies ≡ workers) }
     ensures once { IfOk result (λ c. (x : ℕ)
         → total (λ t. times x t.items) c.tallies.items ≡ once_below x (vec_len c.results)) }
@@ -126,7 +128,7 @@ pub fn run_live<W: LiveWork + Sync, R: Threads + Wait + Sync>(
         others,
         seats,
     } = run_from(rt, alloc, work, &source, seat, seats, first)?;
-    let drawn = source.finish(seats);
-    let crew = publish(work, alloc, first, own, others, drawn)?;
+    let (count, drawn) = source.join_all(seats);
+    let crew = publish(work, alloc, first, own, others, count, drawn)?;
     Ok(crew)
 }

@@ -1,6 +1,7 @@
 //! Work by job.
 
 ghost use Rattle.std.specs.Prelude.{ℕ, IfOk};
+ghost use Rattle.steal_crew.specs.Tickets.{Source, source_of};
 ghost use Rattle.steal_crew.specs.LiveHands.{Gave};
 
 use super::hands::Hand;
@@ -12,8 +13,8 @@ pub trait LiveWork {
 
     type R: Send + Drop;
 
-    // which results belong to a number and a job
-    ghost gives: { Self → ℕ → Self.Job → Self.R → Type 0 };
+    // which results belong to a number and a job, where numbers are drawn from this source
+    ghost gives: { Self → Source → ℕ → Self.Job → Self.R → Type 0 };
 
     /// The result of a job, which has this number; an `Err` where it wants memory. It may give jobs away by the hand,
     /// which changes in no other way.
@@ -23,6 +24,6 @@ pub trait LiveWork {
         job: Self::Job,
         hand: &mut Hand<'_, Self::Job>,
     ) -> Result<Self::R, AllocError>
-        ensures result { IfOk result (gives self.now number job) }
+        ensures result { IfOk result (gives self.now (source_of hand.old.source.now) number job) }
         ensures hand { Gave hand.old hand.new };
 }

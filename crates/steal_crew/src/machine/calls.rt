@@ -62,11 +62,11 @@ impl State {
     }
 
     /// Does what the event says, or refuses it and changes nothing: the first fault in the order of the formats' table,
-    /// and `Memory` only where there is no other.
+    /// and `Memory` only where there is no other and a list is to become longer, so never for `Stop`.
     pub fn step(&mut self, event: &Event) -> Result<(), StepFault>
         ensures { MatchResult result
             (λ _. stepped self.old (event_of event.now) ≡ Ok self.new)
-            (λ e. (self.new ≡ self.old) × IsFault e (stepped self.old (event_of event.now))) }
+            (λ e. (self.new ≡ self.old) × IsFault e (event_of event.now) (stepped self.old (event_of event.now))) }
     {
         match *event {
             Event::Deal { queue, number } => self.deal(queue, number),

@@ -27,7 +27,7 @@ pub enum StepFault {
     Full,
     /// The number was posted before.
     Posted,
-    /// Memory is refused; then no other fault applies.
+    /// Memory for a longer list is refused; then no other fault applies.
     Memory,
 }
 
@@ -66,7 +66,7 @@ impl State {
     pub(crate) fn deal(&mut self, queue: u8, number: u32) -> Result<(), StepFault>
         ensures { MatchResult result
             (λ _. stepped self.old (deal queue number) ≡ Ok self.new)
-            (λ e. (self.new ≡ self.old) × IsFault e (stepped self.old (deal queue number))) }
+            (λ e. (self.new ≡ self.old) × IsFault e (deal queue number) (stepped self.old (deal queue number))) }
     {
         let at = usize::from(queue);
         if at >= self.queues.len() {
@@ -89,7 +89,7 @@ impl State {
     pub(crate) fn draw(&mut self, worker: u8) -> Result<(), StepFault>
         ensures { MatchResult result
             (λ _. stepped self.old (draw worker) ≡ Ok self.new)
-            (λ e. (self.new ≡ self.old) × IsFault e (stepped self.old (draw worker))) }
+            (λ e. (self.new ≡ self.old) × IsFault e (draw worker) (stepped self.old (draw worker))) }
     {
         let at = usize::from(worker);
         if at >= self.workers.len() {
@@ -112,7 +112,7 @@ impl State {
     pub(crate) fn take(&mut self, worker: u8, queue: u8) -> Result<(), StepFault>
         ensures { MatchResult result
             (λ _. stepped self.old (take worker queue) ≡ Ok self.new)
-            (λ e. (self.new ≡ self.old) × IsFault e (stepped self.old (take worker queue))) }
+            (λ e. (self.new ≡ self.old) × IsFault e (take worker queue) (stepped self.old (take worker queue))) }
     {
         let at = usize::from(worker);
         let from = usize::from(queue);
@@ -147,7 +147,7 @@ impl State {
     pub(crate) fn post(&mut self, worker: u8) -> Result<(), StepFault>
         ensures { MatchResult result
             (λ _. stepped self.old (post worker) ≡ Ok self.new)
-            (λ e. (self.new ≡ self.old) × IsFault e (stepped self.old (post worker))) }
+            (λ e. (self.new ≡ self.old) × IsFault e (post worker) (stepped self.old (post worker))) }
     {
         let at = usize::from(worker);
         if at >= self.workers.len() {
@@ -169,7 +169,7 @@ impl State {
     pub(crate) fn finish(&mut self, worker: u8) -> Result<(), StepFault>
         ensures { MatchResult result
             (λ _. stepped self.old (finish worker) ≡ Ok self.new)
-            (λ e. (self.new ≡ self.old) × IsFault e (stepped self.old (finish worker))) }
+            (λ e. (self.new ≡ self.old) × IsFault e (finish worker) (stepped self.old (finish worker))) }
     {
         let at = usize::from(worker);
         if at >= self.workers.len() {
@@ -189,7 +189,7 @@ impl State {
     pub(crate) fn stop(&mut self, worker: u8) -> Result<(), StepFault>
         ensures { MatchResult result
             (λ _. stepped self.old (stop worker) ≡ Ok self.new)
-            (λ e. (self.new ≡ self.old) × IsFault e (stepped self.old (stop worker))) }
+            (λ e. (self.new ≡ self.old) × IsFault e (stop worker) (stepped self.old (stop worker))) }
     {
         let at = usize::from(worker);
         if at >= self.workers.len() {

@@ -4,9 +4,10 @@ ghost use Rattle.std.specs.Prelude.{◌≡◌, ◌<◌, ◌≤◌, ◌+◌, ◌+
 ghost use Rattle.std.specs.Prelude.{IfSome, IfNone, IfOk, vec_len};
 ghost use Rattle.steal_crew.specs.Counts.{total, times, once_below};
 ghost use Rattle.steal_crew.specs.Tickets.{source_of, limit_of, seats_of, seat_source, drawn, is_out, IsFresh};
+ghost use Rattle.steal_crew.specs.Tickets.{source_drawn, all_drawn};
 
-use super::rules::{Draws, Parts};
-use super::seats::{TicketSeat, Tickets};
+use super::rules::{Draws, Looks, Parts};
+use super::seats::{AllDrawn, TicketSeat, Tickets};
 use atomic_table::Table;
 use match_board::limits::MOST_WORKERS;
 use std::alloc::{AllocError, Global};
@@ -91,14 +92,15 @@ impl Tickets {
         }
     }
 
-    /// How many numbers were drawn, once all seats came back, in any order. The numbers below it are those that were
-    /// drawn, and where a seat is out it is the limit.
-    pub fn finish(self, mut seats: Vec<TicketSeat>) -> u32
+    // All seats in one, once they came back in any order, and how many numbers were drawn.
+    pub(crate) fn join_all(self, mut seats: Vec<TicketSeat>) -> (u32, AllDrawn)
         requires ours { All (λ s. seat_source s ≡ source_of self) seats.items }
         requires all { vec_len seats ≡ seats_of self }
-        ensures limit { result ≤ limit_of self }
-        ensures numbers { (x : ℕ) → total (λ s. times x (drawn s)) seats.items ≡ once_below x result }
-        ensures out { Any (λ s. is_out s ≡ true) seats.items → result ≡ limit_of self }
+        ensures source { source_drawn result.1 ≡ source_of self }
+        ensures limit { result.0 ≤ limit_of self }
+        ensures numbers { (x : ℕ) → total (λ s. times x (drawn s)) seats.items ≡ once_below x result.0 }
+        ensures drawn { (x : ℕ) → times x (all_drawn result.1) ≡ once_below x result.0 }
+        ensures out { Any (λ s. is_out s ≡ true) seats.items → result.0 ≡ limit_of self }
     {
         let Tickets { table, limit } = self;
         let TicketSeat { mut seat, out: _ } = seats.remove(0);
@@ -109,9 +111,21 @@ impl Tickets {
             } = seats.remove(0);
             table.shared.join_seat::<Parts>(&mut seat, other);
         }
-        let closed = table.close_with(seat);
-        let word = closed.word(0);
-        closed.free();
-        word.min(u64::from(limit)) as u32
+        let word = table.shared.load::<Looks>(&mut seat, 0);
+        let count = word.min(u64::from(limit)) as u32;
+        (count, AllDrawn { seat })
+    }
+
+    /// How many numbers were drawn, once all seats came back, in any order. The numbers below it are those that were
+    /// drawn, and where a seat is out it is the limit.
+    pub fn finish(self, seats: Vec<TicketSeat>) -> u32
+        requires ours { All (λ s. seat_source s ≡ source_of self) seats.items }
+        requires all { vec_len seats ≡ seats_of self }
+        ensures limit { result ≤ limit_of self }
+        ensures numbers { (x : ℕ) → total (λ s. times x (drawn s)) seats.items ≡ once_below x result }
+        ensures out { Any (λ s. is_out s ≡ true) seats.items → result ≡ limit_of self }
+    {
+        let (count, _drawn) = self.join_all(seats);
+        count
     }
 }

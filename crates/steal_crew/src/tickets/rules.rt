@@ -33,6 +33,15 @@ impl Play<(), SeatView> for Draws {
     ghost then = { IsDraw };
 }
 
+// The next number is looked at.
+pub struct Looks;
+
+impl Play<(), SeatView> for Looks {
+    ghost use Rattle.steal_crew.specs.NumberSource.{IsLook};
+
+    ghost then = { IsLook };
+}
+
 // One part goes to another seat, or comes back with what was drawn from it.
 pub struct Parts;
 

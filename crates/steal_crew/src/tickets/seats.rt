@@ -27,3 +27,11 @@ pub struct TicketSeat {
     ghost free: { seat.me.1 ≡ [] },
     ghost marked: { seat.me.0.marks ≡ cond out 1 0 },
 }
+
+/// All seats of a number source in one, which knows what was drawn: nobody else has a part of the source, so nobody
+/// else can have drawn. It has no bytes, and is there for contracts alone.
+#[derive(Drop)]
+pub struct AllDrawn {
+    pub(crate) seat: Seat<(), SeatView>,
+    ghost whole: { seat.me.0.parts ≡ seat.me.0.seats },
+}

@@ -31,6 +31,7 @@ loop-seat-preserved g c = let inv = c.loop-seat.invariant in
             pass = c.another-part.ensures.same.2;
             view_is = c.another-part.ensures.rule.1;
             seat = seats.1;
+            few = c.requires.limit;
             empty = c.in_ok-jobs.ensures.items;
             room = c.in_ok-jobs.ensures.capacity;
           } c.push_reserved.ensures.items;

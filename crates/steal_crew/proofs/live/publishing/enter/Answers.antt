@@ -1,5 +1,6 @@
 use Rattle.std.proofs.Common.{◌≡◌, ◌≤◌, ◌<◌, Some, length, vec_len, arith}
 use Rattle.std.proofs.lemmas.Bool.Decides.{nat_tests}
+use Rattle.steal_crew.specs.Tickets.{source_drawn}
 use Rattle.steal_crew.specs.LiveWorkers.{BelongsToSome}
 use Rattle.steal_crew.proofs.QueueRuleLemmas.{all_popped}
 use Rattle.steal_crew.proofs.ResultLemmas.{entered_put, filled_more, filled_past}
@@ -7,7 +8,7 @@ use Rattle.steal_crew.proofs.live.publishing.enter.Goals as goal
 
 pub loop-number-preserved-then-place-len : goal.loop-number-preserved-then-place-len
 loop-number-preserved-then-place-len g c = let inv = c.loop-number.invariant in
-    let gives = g.W.LiveWork.gives c.args._work.now in
+    let gives = g.W.LiveWork.gives c.args._work.now (source_drawn c.args._drawn.now) in
     let rest = all_popped (λ e. BelongsToSome gives e.0 e.1) _ _
     (c.in-Some.number, c.in-Some.result) inv.done c.in-Some.ensures.items in
     let n : vec_len c.loop-number.slots ≡ length c.loop-number.slots.items = c.loop-number.slots.ok.0 in
@@ -22,7 +23,7 @@ loop-number-preserved-then-place-len g c = let inv = c.loop-number.invariant in
 
 pub loop-number-preserved-then-place-len-2 : goal.loop-number-preserved-then-place-len-2
 loop-number-preserved-then-place-len-2 g c = let inv = c.loop-number.invariant in
-    let gives = g.W.LiveWork.gives c.args._work.now in
+    let gives = g.W.LiveWork.gives c.args._work.now (source_drawn c.args._drawn.now) in
     let rest = all_popped (λ e. BelongsToSome gives e.0 e.1) _ _
     (c.in-Some.number, c.in-Some.result) inv.done c.in-Some.ensures.items in
     let n : vec_len c.loop-number.slots ≡ length c.loop-number.slots.items = c.loop-number.slots.ok.0 in
@@ -36,7 +37,7 @@ loop-number-preserved-then-place-len-2 g c = let inv = c.loop-number.invariant i
     }
 
 pub loop-number-preserved : goal.loop-number-preserved
-loop-number-preserved g c = let inv = c.loop-number.invariant in let gives = g.W.LiveWork.gives c.args._work.now in
+loop-number-preserved g c = let inv = c.loop-number.invariant in let gives = g.W.LiveWork.gives c.args._work.now (source_drawn c.args._drawn.now) in
     let rest = all_popped (λ e. BelongsToSome gives e.0 e.1) _ _
     (c.in-Some.number, c.in-Some.result) inv.done c.in-Some.ensures.items in
     let n : vec_len c.loop-number.slots ≡ length c.loop-number.slots.items = c.loop-number.slots.ok.0 in

@@ -1,13 +1,14 @@
 use Rattle.std.proofs.Common.{◌≡◌, ◌+◌, ◌<◌, ℕ, All, vec_len}
 use Rattle.steal_crew.specs.Counts.{times}
 use Rattle.steal_crew.specs.Results.{done_numbers, Entered, filled}
+use Rattle.steal_crew.specs.Tickets.{source_drawn}
 use Rattle.steal_crew.specs.LiveWorkers.{BelongsToSome}
 use Rattle.steal_crew.proofs.live.publishing.enter.Given as goal
 
 abbrev pub invariant-loop-number : goal.invariant-loop-number
 invariant-loop-number g l = record {
-  done : All (λ e. BelongsToSome (g.W.LiveWork.gives l._work) e.0 e.1) l.done.items;
-  slots : Entered (BelongsToSome (g.W.LiveWork.gives l._work)) l.slots.items;
+  done : All (λ e. BelongsToSome (g.W.LiveWork.gives l._work (source_drawn l._drawn)) e.0 e.1) l.done.items;
+  slots : Entered (BelongsToSome (g.W.LiveWork.gives l._work (source_drawn l._drawn))) l.slots.items;
   len : vec_len l.slots ≡ vec_len l.initial.slots;
   filled : (x : ℕ) → x < vec_len l.initial.slots
       → 0 < filled x l.initial.slots.items + times x (done_numbers l.fn.done.items)

@@ -1,4 +1,5 @@
 use Rattle.std.proofs.Common.{◌≡◌, All, vec_len, arith, ◌∙◌}
+use Rattle.steal_crew.specs.Tickets.{source_drawn}
 use Rattle.steal_crew.specs.LiveWorkers.{BelongsToSome}
 use Rattle.steal_crew.proofs.QueueRuleLemmas.{all_popped}
 use Rattle.steal_crew.proofs.LiveResultLemmas.{filled_share}
@@ -6,13 +7,13 @@ use Rattle.steal_crew.proofs.live.publishing.enter_all.Goals as goal
 
 pub enter-requires-clause-done : goal.enter-requires-clause-done
 enter-requires-clause-done g c κs within =
-    (all_popped (λ s. All (λ e. BelongsToSome (g.W.LiveWork.gives c.args.work.now) e.0 e.1) s.items) _ _
+    (all_popped (λ s. All (λ e. BelongsToSome (g.W.LiveWork.gives c.args.work.now (source_drawn c.args.drawn.now)) e.0 e.1) s.items) _ _
     c.in-Some.done c.loop-done.invariant.others c.in-Some.ensures.items).1
 
 pub loop-done-preserved : goal.loop-done-preserved
 loop-done-preserved g c = let inv = c.loop-done.invariant in
     let l : vec_len c.loop-done.slots ≡ vec_len c.args.slots.now = inv.len in record {
-      others = (all_popped (λ s. All (λ e. BelongsToSome (g.W.LiveWork.gives c.args.work.now) e.0 e.1) s.items) _ _
+      others = (all_popped (λ s. All (λ e. BelongsToSome (g.W.LiveWork.gives c.args.work.now (source_drawn c.args.drawn.now)) e.0 e.1) s.items) _ _
           c.in-Some.done inv.others c.in-Some.ensures.items).0;
       slots = c.enter.ensures.slots;
       len = c.enter.ensures.len ∙ inv.len;

@@ -4,20 +4,20 @@ use Rattle.steal_crew.proofs.LiveResultLemmas.{all_filled, some_drawn, both_ente
 use Rattle.steal_crew.proofs.live.publishing.publish.Goals as goal
 
 pub take_results-requires-clause-some : goal.take_results-requires-clause-some
-take_results-requires-clause-some g c κs within = let some : 0 < c.args.drawn =
-    some_drawn c.args.drawn _ _ (c.requires.count 0) in
+take_results-requires-clause-some g c κs within = let some : 0 < c.args.count =
+    some_drawn c.args.count _ _ (c.requires.count 0) in
     let a : vec_len c.enter_all.new.slots ≡ vec_len c.enter.new.slots = c.enter_all.ensures.len in
     let b : vec_len c.enter.new.slots ≡ vec_len c.in_ok-slots.slots = c.enter.ensures.len in
-    let d : vec_len c.in_ok-slots.slots ≡ c.args.drawn = c.in_ok-slots.ensures.0 in omega arith
+    let d : vec_len c.in_ok-slots.slots ≡ c.args.count = c.in_ok-slots.ensures.0 in omega arith
 
 pub take_results-requires-clause-filled : goal.take_results-requires-clause-filled
 take_results-requires-clause-filled g c κs within = λ x some lt.
     let a : vec_len c.enter_all.new.slots ≡ vec_len c.enter.new.slots = c.enter_all.ensures.len in
     let b : vec_len c.enter.new.slots ≡ vec_len c.in_ok-slots.slots = c.enter.ensures.len in
-    let d : vec_len c.in_ok-slots.slots ≡ c.args.drawn = c.in_ok-slots.ensures.0 in
+    let d : vec_len c.in_ok-slots.slots ≡ c.args.count = c.in_ok-slots.ensures.0 in
     both_entered (filled x c.in_ok-slots.slots.items) (filled x c.enter.new.slots.items)
-    (filled x c.enter_all.new.slots.items) _ _ (all_filled x c.args.drawn _ _ (c.requires.count x) some (omega arith))
+    (filled x c.enter_all.new.slots.items) _ _ (all_filled x c.args.count _ _ (c.requires.count x) some (omega arith))
     (c.enter.ensures.filled x (omega arith)) (c.enter_all.ensures.filled x (omega arith))
 
 pub returns-clause-some : goal.returns-clause-some
-returns-clause-some g c = some_drawn c.args.drawn _ _ (c.requires.count 0)
+returns-clause-some g c = some_drawn c.args.count _ _ (c.requires.count 0)

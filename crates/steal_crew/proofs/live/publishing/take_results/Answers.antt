@@ -1,12 +1,13 @@
 use Rattle.std.proofs.Common.{rules, ◌≡◌, ◌<◌, length, vec_len, arith, sym, ◌∙◌, subst}
 use Rattle.std.specs.Option.{IfSome}
+use Rattle.steal_crew.specs.Tickets.{source_drawn}
 use Rattle.steal_crew.specs.LiveWorkers.{BelongsToSome}
 use Rattle.steal_crew.proofs.ResultLemmas.{entered_put, filled_other}
 use Rattle.steal_crew.proofs.LiveResultLemmas.{first_stays, each_more}
 use Rattle.steal_crew.proofs.live.publishing.take_results.Goals as goal
 
 pub loop-place-preserved : goal.loop-place-preserved
-loop-place-preserved g c = let inv = c.loop-place.invariant in let gives = g.W.LiveWork.gives c.args._work.now in
+loop-place-preserved g c = let inv = c.loop-place.invariant in let gives = g.W.LiveWork.gives c.args._work.now (source_drawn c.args._drawn.now) in
     let n : vec_len c.loop-place.slots ≡ length c.loop-place.slots.items = c.loop-place.slots.ok.0 in
     let inside : c.loop-place.place < length c.loop-place.slots.items = search rules in
     let m : vec_len c.loop-place.results ≡ length c.loop-place.results.items = c.loop-place.results.ok.0 in

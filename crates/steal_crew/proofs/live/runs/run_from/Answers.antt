@@ -1,8 +1,8 @@
 use Rattle.steal_crew.specs.QueueRule.{part_count}
 use Rattle.match_board.specs.declared.limits.TheConstants.{MOST_WORKERS}
-use Rattle.std.proofs.Common.{◌≡◌, ◌<◌, ◌+◌, ◌-◌, [], length, vec_len, arith, ap, ◌∙◌, refl}
+use Rattle.std.proofs.Common.{◌≡◌, ◌<◌, ◌+◌, ◌-◌, [], length, vec_len, All, arith, ap, subst, ◌∙◌, refl}
 use Rattle.crossbeam_deque.specs.Injected.{injector_view}
-use Rattle.steal_crew.specs.Tickets.{source_of, seat_source}
+use Rattle.steal_crew.specs.Tickets.{Source, source_of, seat_source}
 use Rattle.steal_crew.specs.declared.live.jobs.JobView.{JobView}
 use Rattle.steal_crew.specs.LiveWorkers.{BelongsToSome}
 use Rattle.steal_crew.specs.LiveQueue.{job_numbers}
@@ -44,8 +44,15 @@ returns-clause-even g c = let all = c.in_ok-seats.ensures.all in let last = c.in
     let p : vec_len c.in_ok-places.places ≡ vec_len c.args.seats = c.in_ok-places.ensures.len in
     let few : vec_len c.args.seats < MOST_WORKERS = c.requires.seats.1 in omega arith) in
     λ x. ended (source_of c.args.source.now)
-    (BelongsToSome (g.W.LiveWork.gives c.args.work.now)) _ c.in_ok-shares.worker _ c.work_on.new.worker _ _ _ _ x
+    (BelongsToSome (g.W.LiveWork.gives c.args.work.now (source_of c.args.source.now))) _ c.in_ok-shares.worker _ c.work_on.new.worker _ _ _ _ x
     (opened _ c.one.new.hand c.stations.new.pass c.new-done.result _ c.in_ok-result.ensures.hand c.requires.seat.1
     (ap job_numbers c.in_ok-jobs.ensures.items) c.in_ok-places.ensures.pass.1 c.new-done.ensures.items x)
     (moved_then [] _ c.put_all.new.worker _ c.in_ok-put_all.ensures.moved c.in_ok-shares.ensures.moved)
     all refl refl last.moved (last.drained whole x) last.empty c.in_ok-push.ensures.items
+
+pub returns-clause-own : goal.returns-clause-own
+returns-clause-own g c = let worker = c.work_on.new.worker in
+    let same : source_of worker.hand.source.now ≡ source_of c.args.source.now = c.in_ok-work_on.ensures.moved.source
+    ∙ (c.in_ok-shares.ensures.moved.source ∙ (c.in_ok-put_all.ensures.moved.source ∙ c.in_ok-result.ensures.hand.same)) in
+    subst (λ (z : Source). All (λ e. BelongsToSome (g.W.LiveWork.gives c.args.work.now z) e.0 e.1) worker.done.items)
+    same c.in_ok-work_on.ensures.ready.done

@@ -4,7 +4,7 @@ use Rattle.steal_crew.proofs.live.working.do_one.Goals as goal
 
 pub returns-clause-ready : goal.returns-clause-ready
 returns-clause-ready g c = ready_more _ _ _ _ _ c.args.numbered.number c.args.numbered.job c.in_ok-result.result
-    c.requires c.in_ok-result.ensures.result
+    c.requires c.in_ok-result.ensures.hand.same c.in_ok-result.ensures.result
     (c.push_reserved.ensures.items ∙ ap (λ z. z ++ (c.args.numbered.number, c.in_ok-result.result) ∷ [])
     c.in_ok-reserve.ensures.items)
 

@@ -5,7 +5,7 @@ use Rattle.steal_crew.proofs.tickets.seats.Tickets.begun.Given as goal
 
 abbrev pub invariant-loop : goal.invariant-loop
 invariant-loop l = record {
-  fresh : All (IsFresh (l.table.shared.table_id, l.limit)) l.list.items;
+  fresh : All (IsFresh (l.table.shared.table_id, l.limit, l.seats)) l.list.items;
   count : vec_len l.list + 1 ≡ l.counter;
   room : vec_capacity l.list ≡ vec_capacity l.initial.list;
   same : l.first.table_id ≡ l.table.shared.table_id;
