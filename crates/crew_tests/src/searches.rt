@@ -110,11 +110,15 @@ impl Cites for Known {
 
     ghost moves = { λ _ _. Unit {0} };
 
+    ghost answers = { λ _ _ _. Unit {0} };
+
     ghost stays = { λ _. tt };
 
     ghost goes_on = { λ _ _ _ _ _. tt };
 
     ghost takes_still = { λ _ _ _ _ _. tt };
+
+    ghost answers_still = { λ _ _ _ _ _ _. tt };
 
     fn cite(&mut self, prefix: &[Pair]) -> Result<Option<Cite>, AllocError> {
         if prefix.len() != 1 {

@@ -105,6 +105,8 @@ impl<'a, 'h> Cites for Choices<'a, 'h> {
 
     ghost takes = { λ _ _. Unit {0} };
 
+    ghost answers = { λ _ _ _. Unit {0} };
+
     ghost moves = { λ c d. (d.hand.ghost_name ≡ c.hand.ghost_name) × Gave c.hand.now d.hand.now };
 
     ghost stays = { λ c. (refl, gave_nothing c.hand.now) };
@@ -112,6 +114,8 @@ impl<'a, 'h> Cites for Choices<'a, 'h> {
     ghost goes_on = { λ c d e one two. (two.0 ∙ one.0, gave_both c.hand.now d.hand.now e.hand.now one.1 two.1) };
 
     ghost takes_still = { λ _ _ _ _ _. tt };
+
+    ghost answers_still = { λ _ _ _ _ _ _. tt };
 
     fn cite(&mut self, prefix: &[Pair]) -> Result<Option<Cite>, AllocError> {
         if self.number == 0 && self.asked == 0 {

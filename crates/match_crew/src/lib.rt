@@ -6,6 +6,8 @@ mod branches;
 mod choices;
 mod faults;
 mod images;
+mod items;
+mod orbits;
 mod plans;
 mod rules;
 mod searches;

@@ -1,5 +1,6 @@
 //! What all jobs go by.
 
+use crate::items::ItemRule;
 use crate::plans::Plan;
 use std::alloc::Global;
 use std::sync::atomic::{AtomicU64, Ordering};
@@ -9,6 +10,7 @@ use std::sync::atomic::{AtomicU64, Ordering};
 pub struct Rules<'a> {
     pub alloc: Global,
     pub plan: &'a Plan,
+    pub item_rule: ItemRule,
     pub fuel: u32,
     pub workers: u8,
     // how many jobs were given away and not begun; nothing rests on it

@@ -66,7 +66,7 @@ impl<'a, T: Wait> Searches<'a, T> {
             return Ok(None);
         }
         let mut search = Search::new(rules.alloc, self.xcc)?;
-        match search.run(pairs, rules.fuel.min(MOST_FUEL), cites) {
+        match search.run_by(pairs, rules.fuel.min(MOST_FUEL), &rules.item_rule, cites) {
             Ok(Outcome::Done { tree, found }) => Ok(Some(Finished { tree, found })),
             Ok(Outcome::GaveUp) => Ok(None),
             // it did not run before

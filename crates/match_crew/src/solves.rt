@@ -13,6 +13,7 @@ ghost use Rattle.match_crew.specs.Solving.{AreArrangementsOf, IsOutcomeOf, IsSea
 
 use crate::branches::OpenBranch;
 use crate::faults::SolveFault;
+use crate::items::ItemRule;
 use crate::plans::Plan;
 use crate::rules::Rules;
 use crate::searches::{Searched, Searches};
@@ -221,11 +222,17 @@ pub fn solve_with<R: Threads + Wait + Sync>(
     let xcc = compile(alloc, puzzle)?;
     let lines = lines_of(alloc, puzzle, depth)?;
     let symmetries = symmetries_of(alloc, puzzle, &lines)?;
-    let plan = Plan::new(alloc, &xcc, &symmetries, depth)?;
+    let item_rule = if depth == 0 && workers == 1 {
+        ItemRule::fewest()
+    } else {
+        ItemRule::least(alloc, &xcc, &symmetries)?
+    };
+    let plan = Plan::new(alloc, &xcc, &symmetries, item_rule, depth)?;
     let desk = Desk::new(alloc)?;
     let rules = Rules {
         alloc,
         plan: &plan,
+        item_rule,
         fuel,
         workers,
         waiting: AtomicU64::new(0),

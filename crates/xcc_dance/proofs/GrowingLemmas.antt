@@ -1,12 +1,14 @@
 -- A tree that grows child by child, and what is found with it.
-use Rattle.std.proofs.Common.{◌≡◌, ◌≤◌, ◌+◌, ◌-◌, ◌++◌, ◌∷◌, [], ℕ, List, Option, None, Some, MatchOption, ap, ◌∙◌, length, length-append, take, arith, subst}
+use Rattle.std.proofs.Common.{◌≡◌, ◌≤◌, ◌+◌, ◌-◌, ◌++◌, ◌∷◌, [], ℕ, zero, suc, List, Option, None, Some, slice_get, MatchOption, refl, ap, ◌∙◌, length, length-append, take, arith, subst}
 use Rattle.std.proofs.lemmas.List.Elements.{Contains-append_left}
+use Rattle.std.proofs.lemmas.Option.{none-some}
 use Rattle.xcc_form.specs.Options.{Compiled, cover_of}
 use Rattle.xcc_dance.specs.Clashes.{IsOpenAt}
 use Rattle.match_puzzle.specs.declared.placements.Placement.{Placement}
 use Rattle.cert_tree.specs.Tree.{Tree, Forest, branch, dead, found, same, image, none, more, tree_of, forest_of}
 use Rattle.cert_tree.specs.declared.nodes.Node.{Node}
 use Rattle.xcc_dance.specs.Chosen.{Selection, with_option, IsNext, IsLast}
+use Rattle.xcc_dance.specs.Progress.{AreKept}
 use Rattle.xcc_dance.specs.Found.{IsFoundFrom, branch_count, branch_total, IsFoundBelow, AreFoundBelow}
 
 -- how far it is from the next option to the last; nothing, where there is none
@@ -42,3 +44,13 @@ found_before s option a f = record { solution = f.solution; is_solution = f.is_s
 pub next_open : (s start : Selection) (item : ℕ) (after next : Option ℕ) → s ≡ start → MatchOption next (IsLast (cover_of s.compiled) s.chosen item after) (IsNext (cover_of s.compiled) s.chosen item after) → MatchOption next (Unit {0}) (IsOpenAt (cover_of start.compiled) start.chosen item)
 next_open s start item after None e h = tt
 next_open s start item after (Some option) e h = subst (λ (v : Selection). IsOpenAt (cover_of v.compiled) v.chosen item option) e h.open_option
+
+-- what stood in a list stands in it with one more
+pub kept_push : (xs : List (List Placement)) (x : List Placement) → AreKept xs (xs ++ x ∷ [])
+kept_push [] x n a at = absurd (none-some a at)
+kept_push (y ∷ xs) x zero a at = at
+kept_push (y ∷ xs) x (suc n) a at = kept_push xs x n a at
+
+pub last_at : (xs : List (List Placement)) (x : List Placement) → slice_get (xs ++ x ∷ []) (length xs) ≡ Some x
+last_at [] x = refl
+last_at (y ∷ xs) x = last_at xs x

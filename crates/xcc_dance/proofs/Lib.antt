@@ -7,6 +7,7 @@ pub mod BackLemmas
 pub mod GrowingLemmas
 pub mod PlacingLemmas
 pub mod WithinLemmas
+pub mod SearchTreeLemmas
 pub mod WalkLemmas
 pub mod UnlinkingLemmas
 pub mod RingLemmas
@@ -25,6 +26,7 @@ pub mod ChoosingLemmas
 pub mod MeaningLemmas
 pub mod LinkLemmas
 pub mod NextLemmas
+pub mod NextItemLemmas
 pub mod FewestLemmas
 pub mod BranchItemLemmas
 pub mod NodeWords

@@ -1,8 +1,10 @@
 -- How what is found grows from node to node.
-use Rattle.std.proofs.Common.{◌≡◌, ◌≢◌, ◌<◌, ◌≤◌, ◌+◌, ◌*◌, ◌++◌, ◌∷◌, [], ℕ, List, Some, length, length-append, arith, refl, ap, sym, ◌∙◌, subst, inr, ⊎_elim}
+use Rattle.std.proofs.Common.{◌≡◌, ◌≢◌, ◌<◌, ◌≤◌, ◌+◌, ◌*◌, ◌++◌, ◌∷◌, [], ℕ, List, Some, length, length-append, Contains, slice_get, arith, refl, ap, sym, ◌∙◌, subst, inl, inr, ⊎_elim}
+use Rattle.std.proofs.lemmas.List.Elements.{Contains-push_cases}
 use Rattle.match_board.specs.declared.limits.TheConstants.{MOST_CELLS, MOST_CHILDREN}
 use Rattle.match_puzzle.specs.declared.placements.Placement.{Placement}
 use Rattle.xcc_form.specs.Options.{cover_of}
+use Rattle.xcc_form.specs.Correspondence.{IsSolutionOf}
 use Rattle.cert_tree.specs.Tree.{Tree, Forest, branch, count, tree_of, forest_of}
 use Rattle.cert_tree.specs.TreeSpelling.{IsTreeWithin}
 use Rattle.cert_tree.specs.declared.nodes.Node.{Node, Found}
@@ -10,12 +12,12 @@ use Rattle.cert_tree.proofs.TreeLemmas.{tree_of-Found, count-forest_of}
 use Rattle.xcc_dance.specs.Clashes.{IsOpen, IsOpenAt}
 use Rattle.xcc_dance.specs.Chosen.{Selection, IsSelection, HasSize, with_option}
 use Rattle.xcc_dance.specs.Found.{IsFoundFrom, IsBranchOn}
-use Rattle.xcc_dance.specs.Progress.{GoesOn, IsTreeOf, AreTreesOf, AreForEach, levels_below}
+use Rattle.xcc_dance.specs.Progress.{GoesOn, IsTreeOf, AreTreesOf, levels_below}
 use Rattle.xcc_dance.specs.declared.progress.Progress.{Progress}
 use Rattle.xcc_dance.proofs.PartialLemmas.{one_more}
 use Rattle.xcc_dance.proofs.RoomLemmas.{few_chosen}
-use Rattle.xcc_dance.proofs.SizeLemmas.{CountedBefore, count_one, size_same, few_counted, few_sized}
-use Rattle.xcc_dance.proofs.GrowingLemmas.{total_more, all_up, all_more, found_before}
+use Rattle.xcc_dance.proofs.SizeLemmas.{AreOpenBefore, below_one, size_same, few_below, few_sized}
+use Rattle.xcc_dance.proofs.GrowingLemmas.{kept_push, total_more, all_up, all_more, found_before}
 use Rattle.xcc_dance.proofs.WithinLemmas.{found_within, branch_within, within_more_trees}
 
 module _ (start : Selection) where
@@ -24,8 +26,22 @@ module _ (start : Selection) where
   goes_further chosen option first before after e old new = record {
     fuel = let a = old.fuel in let b = new.fuel in omega (arith, a, b);
     more = let a = old.more in let b = new.more in omega (arith, a, b);
+    kept = λ n a at. new.kept n a (old.kept n a at);
     found = λ a c. ⊎_elim (λ h. old.found a h) (λ f. inr (found_before start option a (subst (λ s. IsFoundFrom s a) e f))) (new.found a c);
   }
+
+  -- one arrangement more, the one that stands there
+  pub found_further : (before after : Progress) (a : List Placement) → after.found.items ≡ before.found.items ++ a ∷ [] → after.fuel ≡ before.fuel → IsSolutionOf start.compiled a start.chosen → GoesOn start before after
+  found_further before after a found fuel solution =
+      let long = ap length found ∙ length-append before.found.items (a ∷ []) in
+      record {
+        fuel = omega (arith, fuel);
+        more = omega (arith, long);
+        kept = λ n b at. subst (λ xs. slice_get xs n ≡ Some b) (sym found) (kept_push before.found.items a n b at);
+        found = λ b c. ⊎_elim (λ old. inl old)
+            (λ e. inr (subst (IsFoundFrom start) e (record { solution = start.chosen; is_solution = solution; has_chosen = λ o h. h })))
+            (Contains-push_cases before.found.items a b (subst (λ xs. Contains xs b) found c));
+      }
 
   -- the node of a found arrangement
   pub leaf_tree : (before after : Progress) (number : ℕ) (a : List Placement) → number ≡ length before.found.items → after.found.items ≡ before.found.items ++ a ∷ [] → after.fuel ≡ before.fuel → IsTreeOf start before after (tree_of (Found number))
@@ -42,7 +58,7 @@ module _ (start : Selection) where
   -- the node of a branch
   pub branch_tree : (first before after : Progress) (cells item size : ℕ) (children : Forest) (tree : Tree) → IsSelection start.compiled start.chosen
       → before.fuel + 1 ≡ first.fuel → before.found.items ≡ first.found.items → cells ≤ MOST_CELLS → item < 2 * cells → HasSize (cover_of start.compiled) start.chosen item size → size ≢ 0
-      → AreForEach start item children → AreTreesOf start before after children → IsBranchOn cells item children tree → IsTreeOf start first after tree
+      → HasSize (cover_of start.compiled) start.chosen item (count children) → AreTreesOf start before after children → IsBranchOn cells item children tree → IsTreeOf start first after tree
   branch_tree first before after cells item size children tree right fuel found few lt sized some each trees is =
       let same = size_same (cover_of start.compiled) start.chosen item size (count children) sized each in
       let most = few_sized start.compiled right.compiled start.chosen item (count children) each in
@@ -94,5 +110,8 @@ module _ (start : Selection) where
         })
 
     -- with the next one there are no more than a branch may have
-    pub room_for_one : (item size : ℕ) → IsOpenAt (cover_of start.compiled) start.chosen item option → CountedBefore (cover_of start.compiled) start.chosen item (Some option) size → size + 1 ≤ MOST_CHILDREN
-    room_for_one item size is w = few_counted start.compiled right.compiled start.chosen item (option + 1) (size + 1) (count_one (IsOpenAt (cover_of start.compiled) start.chosen item) option size is w)
+    pub room_for_one : (item : ℕ) (options : List ℕ) → IsOpenAt (cover_of start.compiled) start.chosen item option → AreOpenBefore (cover_of start.compiled) start.chosen item (Some option) options → length options + 1 ≤ MOST_CHILDREN
+    room_for_one item options is w =
+        let few = few_below start.compiled right.compiled start.chosen item (option + 1) (options ++ option ∷ []) (below_one (IsOpenAt (cover_of start.compiled) start.chosen item) option options is w) in
+        let long = length-append options (option ∷ []) in
+        omega (arith, few, long)

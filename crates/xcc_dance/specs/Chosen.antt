@@ -46,9 +46,19 @@ pub record IsToBranchOn (x : Cover) (chosen : List ℕ) (item : ℕ) : Type 0 wh
   pub fewest : (other size other_size : ℕ) → IsUncovered x chosen other → HasSize x chosen item size
       → HasSize x chosen other other_size → (size < other_size) ⊎ ((size ≡ other_size) × (item ≤ other))
 
--- The option comes after that one; where none is named, each does.
-abbrev pub ComesAfter : (after : Option ℕ) → (option : ℕ) → Type 0
-ComesAfter after option = IfSome after (λ before. before < option)
+-- The number comes after that one; where none is named, each does.
+abbrev pub ComesAfter : (after : Option ℕ) → (number : ℕ) → Type 0
+ComesAfter after number = IfSome after (λ before. before < number)
+
+-- the first uncovered item after that one
+pub record IsNextItem (x : Cover) (chosen : List ℕ) (after : Option ℕ) (item : ℕ) : Type 0 where
+  pub uncovered : IsUncovered x chosen item
+  pub after_it : ComesAfter after item
+  pub first : (other : ℕ) → IsUncovered x chosen other → ComesAfter after other → item ≤ other
+
+-- No uncovered item comes after that one.
+abbrev pub IsLastItem : Cover → (chosen : List ℕ) → (after : Option ℕ) → Type 0
+IsLastItem x chosen after = (other : ℕ) → IsUncovered x chosen other → ComesAfter after other → ⊥
 
 -- the first open option of the item after that one
 pub record IsNext (x : Cover) (chosen : List ℕ) (item : ℕ) (after : Option ℕ) (option : ℕ) : Type 0 where

@@ -4,6 +4,7 @@ pub mod Placing
 pub mod Found
 pub mod Progress
 pub mod Outcome
+pub mod SearchTree
 pub mod Rings
 pub mod NodeLists
 pub mod NodeTables

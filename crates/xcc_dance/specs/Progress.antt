@@ -1,11 +1,10 @@
 -- How a search goes on from a selection.
-use Rattle.std.specs.Prelude.{◌≡◌, ◌⊎◌, ◌≤◌, ◌+◌, ◌-◌, ◌*◌, ℕ, List, Contains, length}
+use Rattle.std.specs.Prelude.{◌≡◌, ◌⊎◌, ◌≤◌, ◌+◌, ◌-◌, ◌*◌, ℕ, List, Some, Contains, length, slice_get}
 use Rattle.match_board.specs.declared.limits.TheConstants.{MOST_ARRANGEMENTS, MOST_CELLS, MOST_CHILDREN}
 use Rattle.match_puzzle.specs.declared.placements.Placement.{Placement}
 use Rattle.cert_tree.specs.Tree.{Tree, Forest, count}
 use Rattle.cert_tree.specs.TreeSpelling.{IsTreeWithin, AreTreesWithin}
-use Rattle.xcc_form.specs.Options.{cover_of}
-use Rattle.xcc_dance.specs.Chosen.{Selection, HasSize}
+use Rattle.xcc_dance.specs.Chosen.{Selection}
 use Rattle.xcc_dance.specs.Found.{IsFoundFrom, branch_count, branch_total, IsFoundBelow, AreFoundBelow}
 use Rattle.xcc_dance.specs.declared.progress.Progress.{Progress}
 
@@ -13,10 +12,15 @@ use Rattle.xcc_dance.specs.declared.progress.Progress.{Progress}
 abbrev pub levels_below : Selection → ℕ
 levels_below s = MOST_CELLS - length s.chosen
 
+-- Each number names in the one list what it names in the other.
+abbrev pub AreKept : (before after : List (List Placement)) → Type 0
+AreKept before after = (number : ℕ) (a : List Placement) → slice_get before number ≡ Some a → slice_get after number ≡ Some a
+
 -- Fuel may be spent, and arrangements found that have all chosen options.
 pub record GoesOn (s : Selection) (before after : Progress) : Type 0 where
   pub fuel : after.fuel ≤ before.fuel
   pub more : length before.found.items ≤ length after.found.items
+  pub kept : AreKept before.found.items after.found.items
   pub found : (a : List Placement) → Contains after.found.items a → Contains before.found.items a ⊎ IsFoundFrom s a
 
 -- The tree of these choices, with a unit of fuel spent for each branch node. What it found is bounded by that fuel: one
@@ -35,7 +39,3 @@ pub record AreTreesOf (s : Selection) (before after : Progress) (trees : Forest)
   pub within : length after.found.items ≤ MOST_ARRANGEMENTS → AreTreesWithin (levels_below s) trees
   pub few : length after.found.items + MOST_CHILDREN * after.fuel
       ≤ length before.found.items + MOST_CHILDREN * before.fuel + count trees
-
--- There is one for each open option of the item.
-abbrev pub AreForEach : Selection → (item : ℕ) → Forest → Type 0
-AreForEach s item trees = HasSize (cover_of s.compiled) s.chosen item (count trees)

@@ -1,6 +1,7 @@
 //! Chosen options of a compiled puzzle, and the options that still go with them.
 #![tactic(auto)]
 
+mod chooses;
 mod cites;
 mod faults;
 mod laws;
@@ -10,6 +11,7 @@ mod progress;
 mod searches;
 mod searching;
 
+pub use chooses::{Chooses, FewestOptions, LeastLeft};
 pub use cites::{Cite, Cites, NoCites};
 pub use faults::SearchFault;
 pub use laws::whole_selections_are_solutions;

@@ -1,11 +1,12 @@
 //! Chosen options, and link arrays that tell which options still go with them.
 
 ghost use Rattle.std.specs.Prelude.{◌≡◌, ◌<◌, ◌≤◌, ◌*◌, ℕ, [], IfOk, IfSome, OnErr, MatchOption, length};
+ghost use Rattle.match_board.specs.Board.{cell_count};
 ghost use Rattle.xcc_form.specs.Options.{IsCompiled, cover_of};
 ghost use Rattle.xcc_form.specs.Correspondence.{IsPairOf, IsSolutionOf};
 ghost use Rattle.xcc_dance.specs.Clashes.{IsOpen, IsOpenAt};
 ghost use Rattle.xcc_dance.specs.Chosen.{IsSelection, IsUncovered, AreAllCovered, with_option};
-ghost use Rattle.xcc_dance.specs.Chosen.{HasSize, IsToBranchOn, IsNext, IsLast};
+ghost use Rattle.xcc_dance.specs.Chosen.{HasSize, IsToBranchOn, IsNextItem, IsLastItem, IsNext, IsLast};
 ghost use Rattle.xcc_dance.specs.LinkStates.{selection_of, taken_back};
 
 mod arrays;
@@ -104,6 +105,27 @@ impl<'a> Links<'a> {
         best
     }
 
+    /// The uncovered primary item that comes next after this one of them, by number, or the first of them.
+    pub fn next_item(&self, after: Option<u32>) -> Option<u32>
+        requires { IfSome after (IsUncovered (cover_of self.now.compiled) self.now.chosen) }
+        ensures { MatchOption result
+            (IsLastItem (cover_of self.now.compiled) self.now.chosen after)
+            (IsNextItem (cover_of self.now.compiled) self.now.chosen after) }
+    {
+        let root = self.table.items - 1;
+        let first = self.table.starts[self.table.options as usize];
+        let node = match after {
+            None => root,
+            Some(item) => first + item,
+        };
+        let next = self.arrays.links[node as usize].down;
+        if next == root {
+            None
+        } else {
+            Some(next - first)
+        }
+    }
+
     /// How many open options an item has that is primary and uncovered.
     pub fn size(&self, item: u32) -> u32
         requires { IsUncovered (cover_of self.now.compiled) self.now.chosen item }
@@ -169,8 +191,26 @@ impl<'a> Links<'a> {
         }
     }
 
+    /// How much is left by an open option: one, and the fewest open options that an uncovered item has where it is
+    /// chosen too.
+    ///
+    /// An error where memory is refused.
+    pub fn left_by(&mut self, option: u32) -> Result<u32, AllocError>
+        requires { IsOpen (cover_of self.old.compiled) self.old.chosen option }
+        ensures { self.new ≡ self.old }
+    {
+        self.choose(option)?;
+        let fewest = match self.branch_item() {
+            None => 0,
+            Some(item) => self.size(item),
+        };
+        self.undo();
+        Ok(fewest.saturating_add(1))
+    }
+
     // How many cells there are, which are the first items.
     pub(crate) fn cells(&self) -> u16
+        ensures count { result ≡ cell_count self.now.compiled.puzzle.board }
         ensures most { result ≤ MOST_CELLS }
         ensures few { (item : ℕ) → item < (cover_of self.now.compiled).primaries → item < 2 * result }
     {

@@ -1,13 +1,14 @@
 //! The way from the root of a search to a node: the options that are chosen on it, and their pairs.
 
-ghost use Rattle.std.specs.Prelude.{◌≡◌, ◌<◌, [], IfOk, OnErr, length};
+ghost use Rattle.std.specs.Prelude.{◌≡◌, ◌<◌, [], IfOk, IfSome, MatchOption, OnErr, length};
 ghost use Rattle.xcc_form.specs.Options.{IsCompiled, IsOptionPair, cover_of};
 ghost use Rattle.xcc_form.specs.Correspondence.{IsPairOf};
 ghost use Rattle.xcc_dance.specs.Clashes.{IsOpen};
-ghost use Rattle.xcc_dance.specs.Chosen.{IsSelection, with_option};
+ghost use Rattle.xcc_dance.specs.Chosen.{IsSelection, IsUncovered, AreAllCovered, with_option};
 ghost use Rattle.xcc_dance.specs.LinkStates.{selection_of, taken_back, before_any};
 ghost use Rattle.xcc_dance.specs.Placing.{ArePairsOf, FitInTurn};
 
+use crate::chooses::Chooses;
 use crate::links::Links;
 use match_puzzle::Pair;
 use std::alloc::{AllocError, Global};
@@ -58,6 +59,17 @@ impl<'a> Path<'a> {
     {
         let _right = self.links.chosen();
         &self.pairs
+    }
+
+    // The item to branch on, by a rule.
+    pub(crate) fn choose_item<R: Chooses>(&mut self, rule: &R) -> Result<Option<u32>, AllocError>
+        ensures same { self.new ≡ self.old }
+        ensures uncovered { IfOk result (λ o. MatchOption o
+            (AreAllCovered (cover_of self.old.compiled) self.old.chosen)
+            (IsUncovered (cover_of self.old.compiled) self.old.chosen)) }
+        ensures picked { IfOk result (λ o. IfSome o (R.picks rule.now (selection_of self.old))) }
+    {
+        rule.choose_item(&mut self.links)
     }
 
     // Chooses an open option. Where memory is refused, nothing changes.

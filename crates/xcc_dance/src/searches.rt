@@ -5,7 +5,9 @@ ghost use Rattle.match_puzzle.specs.declared.placements.Pair.{Pair as Placed};
 ghost use Rattle.xcc_dance.specs.LinkStates.{selection_of};
 ghost use Rattle.xcc_dance.specs.Placing.{FitInTurn};
 ghost use Rattle.xcc_dance.specs.Outcome.{IsOutcome};
+ghost use Rattle.xcc_dance.specs.SearchTree.{IsSearchOf, picks_fewest};
 
+use crate::chooses::{Chooses, FewestOptions};
 use crate::cites::Cites;
 use crate::faults::SearchFault;
 use crate::paths::Path;
@@ -30,9 +32,8 @@ pub enum Outcome {
 
 /// A search for all arrangements of a compiled puzzle, which it borrows.
 ///
-/// At each node it takes the uncovered item with the fewest open options, the least number at a tie, so that a cell
-/// comes before a tile, and goes through its options by number (Knuth, TAOCP 4B, 7.2.2.1). Where there is none, the
-/// node is a dead end.
+/// At each node it takes an uncovered item by a rule, and goes through its open options by number (Knuth, TAOCP 4B,
+/// 7.2.2.1). Where there is none, the node is a dead end.
 #[derive(Drop)]
 pub struct Search<'a> {
     alloc: Global,
@@ -76,9 +77,10 @@ impl<'a> Search<'a> {
     }
 
     /// Finds the arrangements that extend the prefix, each pair of which fits those before it, with at most `fuel`
-    /// branch nodes, which is at most 1,000,000. Before a child of a branch is searched, `cites` is asked what stands
-    /// for it, with all pairs that are placed there. After `Done` the search is ready for another run: each link and
-    /// each size is what it was.
+    /// branch nodes, which is at most 1,000,000. It branches on the uncovered item with the fewest open options, the
+    /// least number at a tie. Before a child of a branch is searched, `cites` is asked what stands for it, with all
+    /// pairs that are placed there. After `Done` the search is ready for another run: each link and each size is what
+    /// it was.
     ///
     /// `GaveUp` after just `fuel` branch nodes, where another was needed. `Failed` where an earlier run gave up or ran
     /// out of memory; then nothing changes. `Memory` where memory is refused, also to `cites`.
@@ -94,6 +96,32 @@ impl<'a> Search<'a> {
             → C.takes cites.old pairs }
         ensures compiled { self.new.links.compiled ≡ self.old.links.compiled }
         ensures outcome { IfOk result (IsOutcome self.old self.new prefix.now fuel) }
+        ensures tree { IfOk result (IsSearchOf picks_fewest (C.answers cites.new) self.new.links.compiled prefix.now) }
+        ensures most { self.new.branches ≤ fuel ⊎ IsErrOf result SearchFault.Failed }
+        ensures failed { IsErrOf result SearchFault.Failed ↔ (self.old.failed ≡ true) }
+        ensures memory { IsErrOf result SearchFault.Memory → self.new.failed ≡ true }
+        ensures unchanged { IsErrOf result SearchFault.Failed → self.new ≡ self.old }
+        ensures moved { C.moves cites.old cites.new }
+    {
+        self.run_by(prefix, fuel, &FewestOptions, cites)
+    }
+
+    /// The same, with branches on the items that the rule takes. Memory may be refused to the rule too.
+    pub fn run_by<R: Chooses, C: Cites>(
+        &mut self,
+        prefix: &[Pair],
+        fuel: u32,
+        rule: &R,
+        cites: &mut C,
+    ) -> Result<Outcome, SearchFault>
+        requires prefix { FitInTurn self.old.links.compiled.puzzle prefix.now }
+        requires fuel { fuel ≤ MOST_FUEL }
+        requires takes { (pairs : List Placed) → FitInTurn self.old.links.compiled.puzzle pairs
+            → C.takes cites.old pairs }
+        ensures compiled { self.new.links.compiled ≡ self.old.links.compiled }
+        ensures outcome { IfOk result (IsOutcome self.old self.new prefix.now fuel) }
+        ensures tree { IfOk result
+            (IsSearchOf (R.picks rule.now) (C.answers cites.new) self.new.links.compiled prefix.now) }
         ensures most { self.new.branches ≤ fuel ⊎ IsErrOf result SearchFault.Failed }
         ensures failed { IsErrOf result SearchFault.Failed ↔ (self.old.failed ≡ true) }
         ensures memory { IsErrOf result SearchFault.Memory → self.new.failed ≡ true }
@@ -108,7 +136,7 @@ impl<'a> Search<'a> {
         self.path.choose_all(prefix)?;
         let found = Vec::new(self.alloc);
         let mut progress = Progress { fuel, found };
-        let walked = walk(self.alloc, &mut self.path, cites, &mut progress);
+        let walked = walk(self.alloc, &mut self.path, rule, cites, &mut progress);
         self.branches = fuel - progress.fuel;
         let Some(tree) = walked? else {
             return Ok(Outcome::GaveUp);

@@ -1,4 +1,4 @@
-//! The recursion of a search: a branch on the item with the fewest open options, and a child for each of them.
+//! The recursion of a search: a branch on the item that a rule takes, and a child for each of its open options.
 
 ghost use Rattle.std.specs.Prelude.{◌≡◌, ◌<◌, ◌≤◌, ◌+◌, ◌*◌, ◌^◌, List, IfOk, MatchOption, length};
 ghost use Rattle.match_puzzle.specs.declared.placements.Pair.{Pair};
@@ -8,8 +8,10 @@ ghost use Rattle.xcc_dance.specs.Chosen.{IsUncovered};
 ghost use Rattle.xcc_dance.specs.LinkStates.{selection_of};
 ghost use Rattle.xcc_dance.specs.Placing.{FitInTurn};
 ghost use Rattle.xcc_dance.specs.Found.{IsDeadAt, IsBranchOn, IsCitation};
-ghost use Rattle.xcc_dance.specs.Progress.{GoesOn, IsTreeOf, AreTreesOf, AreForEach};
+ghost use Rattle.xcc_dance.specs.Progress.{GoesOn, IsTreeOf, AreTreesOf};
+ghost use Rattle.xcc_dance.specs.SearchTree.{IsSearchTree, IsChild, AreBranchesOf};
 
+use crate::chooses::Chooses;
 use crate::cites::{Cite, Cites};
 use crate::paths::Path;
 use crate::progress::Progress;
@@ -19,9 +21,10 @@ use std::alloc::{AllocError, Global};
 
 // The tree of what is chosen, or none where the fuel does not do. Then the choices are as before.
 #[cycle(walk)]
-pub(crate) fn walk<C: Cites>(
+pub(crate) fn walk<R: Chooses, C: Cites>(
     alloc: Global,
     path: &mut Path<'_>,
+    rule: &R,
     cites: &mut C,
     progress: &mut Progress,
 ) -> Result<Option<Node>, AllocError>
@@ -31,14 +34,15 @@ pub(crate) fn walk<C: Cites>(
     ensures moved { C.moves cites.old cites.new }
     ensures goes_on { GoesOn (selection_of path.old) progress.old progress.new }
     ensures tree { IfOk result (λ o. MatchOption o (progress.new.fuel ≡ 0)
-        (λ t. (path.new ≡ path.old) × IsTreeOf (selection_of path.old) progress.old progress.new (tree_of t))) }
+        (λ t. (path.new ≡ path.old) × IsTreeOf (selection_of path.old) progress.old progress.new (tree_of t)
+        × IsSearchTree (R.picks rule.now) (C.answers cites.new) progress.new.found.items (selection_of path.old) (tree_of t))) }
 {
-    let links = path.links();
-    let Some(item) = links.branch_item() else {
+    let Some(item) = path.choose_item(rule)? else {
         let number = progress.found.len() as u32;
-        progress.found.push(links.arrangement(alloc)?)?;
+        progress.found.push(path.links().arrangement(alloc)?)?;
         return Ok(Some(Node::Found(number)));
     };
+    let links = path.links();
     let cells = links.cells();
     if links.size(item) == 0 {
         return Ok(Some(dead_node(cells, item)));
@@ -47,7 +51,7 @@ pub(crate) fn walk<C: Cites>(
         return Ok(None);
     }
     progress.fuel -= 1;
-    match walk_options(alloc, path, item, cites, progress)? {
+    match walk_options(alloc, path, item, rule, cites, progress)? {
         None => Ok(None),
         Some(children) => Ok(Some(branch_node(cells, item, children))),
     }
@@ -55,10 +59,11 @@ pub(crate) fn walk<C: Cites>(
 
 // The trees of what is chosen with each open option of an item, in their order.
 #[cycle(walk)]
-fn walk_options<C: Cites>(
+fn walk_options<R: Chooses, C: Cites>(
     alloc: Global,
     path: &mut Path<'_>,
     item: u32,
+    rule: &R,
     cites: &mut C,
     progress: &mut Progress,
 ) -> Result<Option<Children>, AllocError>
@@ -69,14 +74,15 @@ fn walk_options<C: Cites>(
     ensures moved { C.moves cites.old cites.new }
     ensures goes_on { GoesOn (selection_of path.old) progress.old progress.new }
     ensures trees { IfOk result (λ o. MatchOption o (progress.new.fuel ≡ 0)
-        (λ c. (path.new ≡ path.old) × AreForEach (selection_of path.old) item (forest_of c.nodes.items)
-        × AreTreesOf (selection_of path.old) progress.old progress.new (forest_of c.nodes.items))) }
+        (λ c. (path.new ≡ path.old)
+        × AreTreesOf (selection_of path.old) progress.old progress.new (forest_of c.nodes.items)
+        × AreBranchesOf (R.picks rule.now) (C.answers cites.new) progress.new.found.items (selection_of path.old) item (forest_of c.nodes.items))) }
 {
     let mut nodes = Vec::new(alloc);
     let mut next = path.links().next_option(item, None);
     while let Some(option) = next {
         path.choose(option)?;
-        match child(alloc, path, cites, progress)? {
+        match child(alloc, path, rule, cites, progress)? {
             None => return Ok(None),
             Some(child) => nodes.push(child)?,
         }
@@ -88,9 +94,10 @@ fn walk_options<C: Cites>(
 
 // What stands for the choices as a child: what is cited, or else their tree.
 #[cycle(walk)]
-fn child<C: Cites>(
+fn child<R: Chooses, C: Cites>(
     alloc: Global,
     path: &mut Path<'_>,
+    rule: &R,
     cites: &mut C,
     progress: &mut Progress,
 ) -> Result<Option<Node>, AllocError>
@@ -100,11 +107,12 @@ fn child<C: Cites>(
     ensures moved { C.moves cites.old cites.new }
     ensures goes_on { GoesOn (selection_of path.old) progress.old progress.new }
     ensures tree { IfOk result (λ o. MatchOption o (progress.new.fuel ≡ 0)
-        (λ t. (path.new ≡ path.old) × IsTreeOf (selection_of path.old) progress.old progress.new (tree_of t))) }
+        (λ t. (path.new ≡ path.old) × IsTreeOf (selection_of path.old) progress.old progress.new (tree_of t)
+        × IsChild (R.picks rule.now) (C.answers cites.new) progress.new.found.items (selection_of path.old) (tree_of t))) }
 {
     match cites.cite(path.pairs())? {
         Some(cite) => Ok(Some(citation(cite))),
-        None => walk(alloc, path, cites, progress),
+        None => walk(alloc, path, rule, cites, progress),
     }
 }
 

@@ -1,33 +1,84 @@
-use Rattle.std.proofs.Common.{◌≡◌, ◌<◌, ◌+◌, ◌-◌, ◌*◌, ◌^◌, ◌∷◌, [], List, Some, None, inl, length, length-append, MatchOption, arith, refl, ap, sym, ◌∙◌, subst}
+use Rattle.std.proofs.Common.{◌≡◌, ◌<◌, ◌+◌, ◌-◌, ◌*◌, ◌^◌, ◌∷◌, ◌++◌, [], ℕ, List, Some, None, IfSome, inl, length, length-append, MatchOption, arith, refl, ap, sym, ◌∙◌, subst}
 use Rattle.match_board.specs.declared.limits.TheConstants.{MOST_CHILDREN}
 use Rattle.match_puzzle.specs.declared.placements.Pair.{Pair}
+use Rattle.match_board.specs.Board.{cell_count}
 use Rattle.xcc_form.specs.Options.{Compiled, cover_of}
+use Rattle.xcc_form.specs.Correspondence.{IsSolutionOf}
 use Rattle.cert_tree.specs.Tree.{tree_of, forest_of}
 use Rattle.cert_tree.specs.declared.nodes.Node.{Node}
 use Rattle.cert_tree.specs.declared.nodes.Children.{Children}
 use Rattle.cert_tree.proofs.TreeLemmas.{count-forest_of}
 use Rattle.xcc_dance.specs.Clashes.{IsOpenAt}
-use Rattle.xcc_dance.specs.Chosen.{Selection, HasSize, IsNext, IsLast, with_option}
+use Rattle.xcc_dance.specs.Chosen.{Selection, IsSelection, IsUncovered, AreAllCovered, HasSize, IsNext, IsLast, with_option}
 use Rattle.xcc_dance.specs.LinkStates.{LinkState, selection_of, taken_back}
 use Rattle.xcc_dance.specs.Placing.{FitInTurn}
-use Rattle.xcc_dance.specs.Progress.{IsTreeOf, AreTreesOf, AreForEach}
+use Rattle.xcc_dance.specs.Progress.{IsTreeOf, AreTreesOf}
+use Rattle.xcc_dance.specs.SearchTree.{IsSearchTree, AreChildren, IsChild, AreBranchesOf}
 use Rattle.xcc_dance.specs.declared.progress.Progress.{Progress}
-use Rattle.xcc_dance.proofs.SizeLemmas.{CountedBefore, counted_first, counted_next, counted_all}
+use Rattle.xcc_dance.proofs.SizeLemmas.{open_first, open_next, open_all}
+use Rattle.xcc_dance.proofs.SearchTreeLemmas.{AreBranchesBefore, children_stay, children_count, child_more, branches_count, found_searched, branch_searched}
 use Rattle.xcc_dance.proofs.GrowingLemmas.{next_open}
-use Rattle.xcc_dance.proofs.WalkLemmas.{goes_further, leaf_tree, branch_tree, no_trees, one_more_tree, room_for_one}
+use Rattle.xcc_dance.proofs.WalkLemmas.{goes_further, found_further, leaf_tree, branch_tree, no_trees, one_more_tree, room_for_one}
 use Rattle.xcc_dance.proofs.searching.+walk.Goals as goal
 
+pub walk-arrangement-requires : goal.walk-arrangement-requires
+walk-arrangement-requires g t c =
+    let s = selection_of c.args.path.now in
+    let here = c.links.ensures.same ∙ c.choose_item.ensures.same in
+    subst (λ (v : LinkState). AreAllCovered (cover_of v.compiled) v.chosen) (sym here)
+    (subst (λ o. MatchOption o (AreAllCovered (cover_of s.compiled) s.chosen) (IsUncovered (cover_of s.compiled) s.chosen)) c.in_default.is c.in_ok-item.ensures.uncovered)
+
+pub walk-walk_options-requires : goal.walk-walk_options-requires
+walk-walk_options-requires g t c =
+    let s = selection_of c.args.path.now in
+    let same = c.choose_item.ensures.same in
+    let room = c.requires.room in
+    let left = ap (λ (v : LinkState). length v.compiled.options - length v.chosen) same in
+    let uncovered = subst (λ o. MatchOption o (AreAllCovered (cover_of s.compiled) s.chosen) (IsUncovered (cover_of s.compiled) s.chosen)) c.in-Some.is c.in_ok-item.ensures.uncovered in
+    let there = subst (λ (v : LinkState). IsUncovered (cover_of v.compiled) v.chosen c.in-Some.item) (sym same) uncovered in
+    let takes : (pairs : List Pair) → FitInTurn c.choose_item.new.self.compiled.puzzle pairs → g.C.Cites.takes c.args.cites.now pairs = λ pairs fit. c.requires.takes pairs (subst (λ (v : LinkState). FitInTurn v.compiled.puzzle pairs) same fit) in
+    λ κs below. (omega (arith, c.decreases, left), (below.0, (below.1, (there, (takes, omega (arith, room, c.if-progress-eq0.false))))))
+
+pub walk-returns-in_default-clause-goes_on : goal.walk-returns-in_default-clause-goes_on
+walk-returns-in_default-clause-goes_on g t c =
+    let here = c.links.ensures.same ∙ c.choose_item.ensures.same in
+    found_further (selection_of c.args.path.now) c.args.progress.now _ c.in_ok-arrangement.field-0 c.in_ok-push.ensures.items refl
+    (subst (λ (v : LinkState). IsSolutionOf v.compiled c.in_ok-arrangement.field-0 v.chosen) here c.in_ok-arrangement.ensures)
+
 pub walk-returns-in_default-clause-tree : goal.walk-returns-in_default-clause-tree
-walk-returns-in_default-clause-tree g t c = (refl, leaf_tree (selection_of c.args.path.now) c.args.progress.now _ c.len-number.result _ (omega (arith, c.len-number.ensures, c.args.progress.now.found.ok.0)) c.in_ok-push.ensures.items refl)
+walk-returns-in_default-clause-tree g t c =
+    let s = selection_of c.args.path.now in
+    let here = c.links.ensures.same ∙ c.choose_item.ensures.same in
+    let number : c.len-number.result ≡ length c.args.progress.now.found.items = omega (arith, c.len-number.ensures, c.args.progress.now.found.ok.0) in
+    let items = c.in_ok-push.ensures.items in
+    let solution = subst (λ (v : LinkState). IsSolutionOf v.compiled c.in_ok-arrangement.field-0 v.chosen) here c.in_ok-arrangement.ensures in (
+      c.choose_item.ensures.same,
+      leaf_tree s c.args.progress.now _ c.len-number.result _ number items refl,
+      found_searched (g.R.Chooses.picks c.args.rule.now) (g.C.Cites.answers c.args.cites.now) c.push.new.self.items s c.args.progress.now.found.items c.len-number.result c.in_ok-arrangement.field-0 number items solution,
+    )
 
 pub walk-returns-in-Some-2-clause-tree : goal.walk-returns-in-Some-2-clause-tree
 walk-returns-in-Some-2-clause-tree g t c =
     let s = selection_of c.args.path.now in
-    let same = c.links-links.ensures.same in
-    let trees = subst (λ o. MatchOption o (c.walk_options.new.progress.fuel ≡ 0) (λ (ch : Children). (c.walk_options.new.path ≡ c.args.path.now) × AreForEach s c.in-Some.item (forest_of ch.nodes.items) × AreTreesOf s (record { fuel = c.args.progress.now.fuel - 1; found = c.args.progress.now.found }) c.walk_options.new.progress (forest_of ch.nodes.items))) c.in-Some-2.is c.in_ok-walk_options.ensures.trees in
+    let same = c.links-links.ensures.same ∙ c.choose_item.ensures.same in
     let before : Progress = record { fuel = c.args.progress.now.fuel - 1; found = c.args.progress.now.found } in
+    let after = c.walk_options.new.progress in
+    let picks = g.R.Chooses.picks c.args.rule.now in
+    let answers = g.C.Cites.answers c.walk_options.new.cites in
+    let of_children : LinkState → Children → Type 0 = λ (v : LinkState) (ch : Children). (c.walk_options.new.path ≡ v) × AreTreesOf (selection_of v) before after (forest_of ch.nodes.items) × AreBranchesOf picks answers after.found.items (selection_of v) c.in-Some.item (forest_of ch.nodes.items) in
+    let there = subst (λ o. MatchOption o (after.fuel ≡ 0) (of_children c.choose_item.new.self)) c.in-Some-2.is c.in_ok-walk_options.ensures.trees in
+    let trees = subst (λ (v : LinkState). of_children v c.in-Some-2.children) c.choose_item.ensures.same there in
     let sized = subst (λ (v : LinkState). HasSize (cover_of v.compiled) v.chosen c.in-Some.item c.size.result) same c.size.ensures in
-    (trees.0, branch_tree s c.args.progress.now before c.walk_options.new.progress c.cells-cells.result c.in-Some.item c.size.result (forest_of c.in-Some-2.children.nodes.items) (tree_of c.branch_node.result) c.links-links.ensures.right (omega (arith, c.if-progress-eq0.false)) refl c.cells-cells.ensures.most (c.cells-cells.ensures.few c.in-Some.item c.in-Some.ensures.uncovered.primary) sized c.if-size-eq0.false trees.1 trees.2 c.branch_node.ensures)
+    let right = subst (λ (v : LinkState). IsSelection v.compiled v.chosen) c.choose_item.ensures.same c.links-links.ensures.right in
+    let cells = c.cells-cells.ensures.count ∙ ap (λ (v : LinkState). cell_count v.compiled.puzzle.board) same in
+    let children = forest_of c.in-Some-2.children.nodes.items in
+    let picked = subst (λ o. IfSome o (picks s)) c.in-Some.is c.in_ok-item.ensures.picked in
+    let uncovered = subst (λ o. MatchOption o (AreAllCovered (cover_of s.compiled) s.chosen) (IsUncovered (cover_of s.compiled) s.chosen)) c.in-Some.is c.in_ok-item.ensures.uncovered in
+    let few = subst (λ (v : LinkState). (item : ℕ) → item < (cover_of v.compiled).primaries → item < 2 * c.cells-cells.result) same c.cells-cells.ensures.few in (
+      trees.0,
+      branch_tree s c.args.progress.now before after c.cells-cells.result c.in-Some.item c.size.result children (tree_of c.branch_node.result) right (omega (arith, c.if-progress-eq0.false)) refl c.cells-cells.ensures.most (few c.in-Some.item uncovered.primary) sized c.if-size-eq0.false (branches_count picks answers after.found.items s c.in-Some.item children trees.2) trees.1 c.branch_node.ensures,
+      branch_searched picks answers after.found.items s c.cells-cells.result c.in-Some.item children (tree_of c.branch_node.result) cells picked trees.2 c.branch_node.ensures,
+    )
 
 pub walk_options-loop-next-init : goal.walk_options-loop-next-init
 walk_options-loop-next-init g t c =
@@ -37,9 +88,9 @@ walk_options-loop-next-init g t c =
     record {
       path = refl;
       next = next_open s s c.args.item None c.next_option-next.result refl next;
-      counted = subst (λ n. CountedBefore (cover_of s.compiled) s.chosen c.args.item c.next_option-next.result n) (ap length (sym c.new-nodes.ensures.items)) (counted_first (cover_of s.compiled) s.chosen c.args.item c.next_option-next.result next);
+      children = ([], open_first (cover_of s.compiled) s.chosen c.args.item c.next_option-next.result next, subst (λ ns. AreChildren (g.R.Chooses.picks c.args.rule.now) (g.C.Cites.answers c.args.cites.now) c.args.progress.now.found.items s [] (forest_of ns)) (sym c.new-nodes.ensures.items) tt);
       moved = g.met.C.Cites.stays c.args.cites.now;
-      goes_on = record { fuel = omega arith; more = omega arith; found = λ a h. inl h };
+      goes_on = record { fuel = omega arith; more = omega arith; kept = λ n a at. at; found = λ a h. inl h };
       trees = no_trees s c.args.progress.now c.new-nodes.result.items c.new-nodes.ensures.items;
     }
 
@@ -49,18 +100,22 @@ walk_options-child-requires g t c =
     let i = c.loop-next.invariant in
     let compiled = ap (λ (v : Selection). v.compiled) (c.in_ok-choose.ensures.chosen) ∙ ap (λ (v : LinkState). v.compiled) i.path in
     let open_option = subst (λ o. MatchOption o (Unit {0}) (IsOpenAt (cover_of s.compiled) s.chosen c.args.item)) c.in-Some.is i.next in
-    let counted = subst (λ o. CountedBefore (cover_of s.compiled) s.chosen c.args.item o (length c.loop-next.nodes.items)) c.in-Some.is i.counted in
-    let most = room_for_one s c.links.ensures.right c.in-Some.option c.args.item (length c.loop-next.nodes.items) open_option counted in
+    let picks = g.R.Chooses.picks c.args.rule.now in
+    let answers = g.C.Cites.answers c.loop-next.cites in
+    let found = c.loop-next.progress.found.items in
+    let old = subst (λ o. AreBranchesBefore picks answers found s c.args.item o (forest_of c.loop-next.nodes.items)) c.in-Some.is i.children in
+    let long = children_count picks answers found s old.0 (forest_of c.loop-next.nodes.items) old.2 in
+    let most = room_for_one s c.links.ensures.right c.in-Some.option c.args.item old.0 open_option old.1 in
     let few = i.trees.few in
     let counts = count-forest_of c.loop-next.nodes.items in
     let room = c.requires.room in
     let takes : (pairs : List Pair) → FitInTurn c.choose.new.self.compiled.puzzle pairs → g.C.Cites.takes c.loop-next.cites pairs = λ pairs fit. g.met.C.Cites.takes_still c.args.cites.now c.loop-next.cites pairs i.moved (c.requires.takes pairs (subst (λ (x : Compiled). FitInTurn x.puzzle pairs) compiled fit)) in
-    let enough : length c.loop-next.progress.found.items + MOST_CHILDREN * c.loop-next.progress.fuel + 1 < 2 ^ 32 = omega (arith, most, few, counts, room) in
+    let enough : length c.loop-next.progress.found.items + MOST_CHILDREN * c.loop-next.progress.fuel + 1 < 2 ^ 32 = omega (arith, most, long, few, counts, room) in
     let with : selection_of c.choose.new.self ≡ with_option s c.in-Some.option = c.in_ok-choose.ensures.chosen ∙ ap (λ v. with_option (selection_of v) c.in-Some.option) i.path in
     let lengths : length c.choose.new.self.chosen ≡ length s.chosen + 1 = ap (λ (v : Selection). length v.chosen) with ∙ length-append s.chosen (c.in-Some.option ∷ []) in
     let fewer = subst (λ (v : LinkState). length v.chosen < length v.compiled.options) i.path c.in_ok-choose.ensures.room in
     let options = ap (λ (x : Compiled). length x.options) compiled in
-    λ κs below. (omega (arith, c.decreases, lengths, fewer, options), (below, (takes, enough)))
+    λ κs below. (omega (arith, c.decreases, lengths, fewer, options), (below.0, (below.1, (takes, enough))))
 
 pub walk_options-loop-next-preserved : goal.walk_options-loop-next-preserved
 walk_options-loop-next-preserved g t c =
@@ -68,10 +123,15 @@ walk_options-loop-next-preserved g t c =
     let i = c.loop-next.invariant in
     let chosen = c.in_ok-choose.ensures.chosen in
     let w = c.in_ok-child.ensures in
-    let tree = subst (λ o. MatchOption o (c.child.new.progress.fuel ≡ 0) (λ (n : Node). (c.child.new.path ≡ c.choose.new.self) × IsTreeOf (selection_of c.choose.new.self) c.loop-next.progress c.child.new.progress (tree_of n))) c.in-Some-2.is w.tree in
+    let picks = g.R.Chooses.picks c.args.rule.now in
+    let answers = g.C.Cites.answers c.loop-next.cites in
+    let answers' = g.C.Cites.answers c.child.new.cites in
+    let found = c.loop-next.progress.found.items in
+    let found' = c.child.new.progress.found.items in
+    let tree = subst (λ o. MatchOption o (c.child.new.progress.fuel ≡ 0) (λ (n : Node). (c.child.new.path ≡ c.choose.new.self) × IsTreeOf (selection_of c.choose.new.self) c.loop-next.progress c.child.new.progress (tree_of n) × IsChild picks answers' found' (selection_of c.choose.new.self) (tree_of n))) c.in-Some-2.is w.tree in
     let back = c.undo.ensures ∙ ap taken_back tree.0 ∙ c.in_ok-choose.ensures.before ∙ i.path in
     let open_option = subst (λ o. MatchOption o (Unit {0}) (IsOpenAt (cover_of s.compiled) s.chosen c.args.item)) c.in-Some.is i.next in
-    let counted = subst (λ o. CountedBefore (cover_of s.compiled) s.chosen c.args.item o (length c.loop-next.nodes.items)) c.in-Some.is i.counted in
+    let old = subst (λ o. AreBranchesBefore picks answers found s c.args.item o (forest_of c.loop-next.nodes.items)) c.in-Some.is i.children in
     let here = c.links-in-Some.ensures.same ∙ back in
     let next = subst (λ (v : LinkState). MatchOption c.next_option-next-in-Some.result (IsLast (cover_of v.compiled) v.chosen c.args.item (Some c.in-Some.option)) (IsNext (cover_of v.compiled) v.chosen c.args.item (Some c.in-Some.option))) here c.next_option-next-in-Some.ensures in
     let items = c.in_ok-push-in-Some-2.ensures.items in
@@ -79,7 +139,14 @@ walk_options-loop-next-preserved g t c =
     record {
       path = back;
       next = next_open s s c.args.item (Some c.in-Some.option) c.next_option-next-in-Some.result refl next;
-      counted = subst (λ n. CountedBefore (cover_of s.compiled) s.chosen c.args.item c.next_option-next-in-Some.result n) (let long = ap length items ∙ length-append c.loop-next.nodes.items (c.in-Some-2.child ∷ []) in omega (arith, long)) (counted_next (cover_of s.compiled) s.chosen c.args.item c.in-Some.option (length c.loop-next.nodes.items) c.next_option-next-in-Some.result open_option next counted);
+      children = (
+        old.0 ++ c.in-Some.option ∷ [],
+        open_next (cover_of s.compiled) s.chosen c.args.item c.in-Some.option old.0 c.next_option-next-in-Some.result open_option next old.1,
+        subst (λ ns. AreChildren picks answers' found' s (old.0 ++ c.in-Some.option ∷ []) (forest_of ns)) (sym items)
+            (child_more picks answers' found' s old.0 c.loop-next.nodes.items c.in-Some.option c.in-Some-2.child
+            (children_stay picks answers answers' found found' (λ pairs o is. g.met.C.Cites.answers_still c.loop-next.cites c.child.new.cites pairs o w.moved is) w.goes_on.kept s old.0 (forest_of c.loop-next.nodes.items) old.2)
+            (subst (λ v. IsChild picks answers' found' v (tree_of c.in-Some-2.child)) with tree.2)),
+      );
       moved = g.met.C.Cites.goes_on c.args.cites.now c.loop-next.cites c.child.new.cites i.moved w.moved;
       goes_on = goes_further s (selection_of c.choose.new.self) c.in-Some.option c.args.progress.now c.loop-next.progress c.child.new.progress with i.goes_on w.goes_on;
       trees = one_more_tree s c.links.ensures.right c.in-Some.option (selection_of c.choose.new.self) c.args.progress.now c.loop-next.progress c.child.new.progress c.loop-next.nodes.items c.push.new.self.items c.in-Some-2.child open_option.open_option with items i.trees w.goes_on tree.1;
@@ -89,12 +156,14 @@ pub walk_options-returns-clause-trees : goal.walk_options-returns-clause-trees
 walk_options-returns-clause-trees g t c =
     let s = selection_of c.args.path.now in
     let i = c.loop-next.invariant in
-    let counted = subst (λ o. CountedBefore (cover_of s.compiled) s.chosen c.args.item o (length c.loop-next.nodes.items)) c.in_default.is i.counted in
-    let counts = count-forest_of c.loop-next.nodes.items in
+    let picks = g.R.Chooses.picks c.args.rule.now in
+    let answers = g.C.Cites.answers c.loop-next.cites in
+    let found = c.loop-next.progress.found.items in
+    let all = subst (λ o. AreBranchesBefore picks answers found s c.args.item o (forest_of c.loop-next.nodes.items)) c.in_default.is i.children in
     let same = c.new.ensures in (
       i.path,
-      subst (λ ns. AreForEach s c.args.item (forest_of ns)) (sym same) (subst (HasSize (cover_of s.compiled) s.chosen c.args.item) (sym counts) (counted_all (cover_of s.compiled) s.chosen c.args.item (length c.loop-next.nodes.items) counted)),
       subst (λ ns. AreTreesOf s c.args.progress.now c.loop-next.progress (forest_of ns)) (sym same) i.trees,
+      subst (λ ns. AreBranchesOf picks answers found s c.args.item (forest_of ns)) (sym same) (all.0, open_all (cover_of s.compiled) s.chosen c.args.item all.0 all.1, all.2),
     )
 
 pub walk_options-returns-in_err-child-clause-goes_on : goal.walk_options-returns-in_err-child-clause-goes_on

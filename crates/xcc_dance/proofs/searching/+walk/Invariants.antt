@@ -4,7 +4,7 @@ use Rattle.cert_tree.specs.Tree.{forest_of}
 use Rattle.xcc_dance.specs.Clashes.{IsOpenAt}
 use Rattle.xcc_dance.specs.LinkStates.{LinkState, selection_of}
 use Rattle.xcc_dance.specs.Progress.{GoesOn, AreTreesOf}
-use Rattle.xcc_dance.proofs.SizeLemmas.{CountedBefore}
+use Rattle.xcc_dance.proofs.SearchTreeLemmas.{AreBranchesBefore}
 use Rattle.xcc_dance.proofs.GrowingLemmas.{left_after}
 use Rattle.xcc_dance.proofs.searching.+walk.Given as goal
 
@@ -25,7 +25,7 @@ abbrev pub invariant-walk_options-loop-next : goal.invariant-walk_options-loop-n
 invariant-walk_options-loop-next g l = record {
   path : l.path ≡ l.initial.path;
   next : MatchOption l.next (Unit {0}) (IsOpenAt (cover_of l.initial.path.compiled) l.initial.path.chosen l.item);
-  counted : CountedBefore (cover_of l.initial.path.compiled) l.initial.path.chosen l.item l.next (length l.nodes.items);
+  children : AreBranchesBefore (g.R.Chooses.picks l.rule) (g.C.Cites.answers l.cites) l.progress.found.items (selection_of l.initial.path) l.item l.next (forest_of l.nodes.items);
   moved : g.C.Cites.moves l.initial.cites l.cites;
   goes_on : GoesOn (selection_of l.initial.path) l.initial.progress l.progress;
   trees : AreTreesOf (selection_of l.initial.path) l.initial.progress l.progress (forest_of l.nodes.items);

@@ -1,0 +1,81 @@
+-- The tree of a search grows node by node.
+use Rattle.std.proofs.Common.{◌≡◌, ◌≢◌, ◌+◌, ◌++◌, ◌∷◌, [], ℕ, List, Option, None, Some, slice_get, length, arith, refl, ap, sym, ◌∙◌, subst, inl, inr, ⊎_elim}
+use Rattle.match_board.specs.Board.{cell_count}
+use Rattle.match_puzzle.specs.declared.placements.Placement.{Placement}
+use Rattle.match_puzzle.specs.declared.placements.Pair.{Pair}
+use Rattle.match_puzzle.specs.declared.items.Item.{Item}
+use Rattle.xcc_form.specs.Options.{cover_of}
+use Rattle.xcc_form.specs.Correspondence.{IsSolutionOf}
+use Rattle.cert_tree.specs.Tree.{Tree, Forest, branch, dead, found, same, image, none, more, count, tree_of, forest_of}
+use Rattle.cert_tree.specs.declared.nodes.Node.{Node, Found}
+use Rattle.cert_tree.proofs.TreeLemmas.{tree_of-Found}
+use Rattle.xcc_dance.specs.Chosen.{Selection, HasSize, with_option}
+use Rattle.xcc_dance.specs.Found.{IsNumberOf, IsBranchOn}
+use Rattle.xcc_dance.specs.Progress.{AreKept}
+use Rattle.xcc_dance.specs.SearchTree.{Picks, Answers, IsAbout, IsAnswered, IsSearchTree, AreChildren, IsChild, AreBranchesOf}
+use Rattle.xcc_dance.specs.declared.cites.Cite.{Cite}
+use Rattle.xcc_dance.proofs.SizeLemmas.{AreOpenBefore}
+use Rattle.xcc_dance.proofs.GrowingLemmas.{last_at}
+
+-- What was answered stays answered.
+abbrev pub StayAnswered : Answers → Answers → Type 0
+StayAnswered answers answers' = (pairs : List Pair) (o : Option Cite) → answers pairs o → answers' pairs o
+
+-- The trees are children for the open options of the item before the next one.
+abbrev pub AreBranchesBefore : Picks → Answers → List (List Placement) → Selection → (item : ℕ) → (next : Option ℕ) → Forest → Type 0
+AreBranchesBefore picks answers all s item next trees = (options : List ℕ)
+    × AreOpenBefore (cover_of s.compiled) s.chosen item next options × AreChildren picks answers all s options trees
+
+module _ (picks : Picks) where
+  -- ---- more is found, and more is answered
+
+  module _ (answers answers' : Answers) (all all' : List (List Placement)) (still : StayAnswered answers answers') (kept : AreKept all all') where
+    mutual
+      pub tree_stays : (s : Selection) (tree : Tree) → IsSearchTree picks answers all s tree → IsSearchTree picks answers' all' s tree
+      tree_stays s (branch item children) w = (w.0, w.1, (w.2.0, w.2.1, children_stay s w.2.0 children w.2.2))
+      tree_stays s (dead item) w = w
+      tree_stays s (found number) w = (w.0, kept number w.0 w.1, w.2)
+      tree_stays s (same lemma) w = w
+      tree_stays s (image lemma symmetry) w = w
+
+      pub children_stay : (s : Selection) (options : List ℕ) (trees : Forest) → AreChildren picks answers all s options trees → AreChildren picks answers' all' s options trees
+      children_stay s [] none w = tt
+      children_stay s [] (more tree trees) w = w
+      children_stay s (option ∷ options) none w = w
+      children_stay s (option ∷ options) (more tree trees) w = (
+        (w.0.0, w.0.1, ⊎_elim (λ c. inl (c.0, still w.0.0 (Some c.0) c.1, c.2)) (λ n. inr (still w.0.0 None n.0, tree_stays (with_option s option) tree n.1)) w.0.2),
+        children_stay s options trees w.1,
+      )
+
+  module _ (answers : Answers) (all : List (List Placement)) (s : Selection) where
+    -- ---- the children of a branch
+
+    -- there are as many children as options
+    pub children_count : (options : List ℕ) (trees : Forest) → AreChildren picks answers all s options trees → length options ≡ count trees
+    children_count [] none w = refl
+    children_count [] (more tree trees) w = absurd w
+    children_count (option ∷ options) none w = absurd w
+    children_count (option ∷ options) (more tree trees) w = let h = children_count options trees w.1 in omega (arith, h)
+
+    -- one child more, the last
+    pub child_more : (options : List ℕ) (nodes : List Node) (option : ℕ) (node : Node) → AreChildren picks answers all s options (forest_of nodes) → IsChild picks answers all (with_option s option) (tree_of node) → AreChildren picks answers all s (options ++ option ∷ []) (forest_of (nodes ++ node ∷ []))
+    child_more [] [] option node w c = (c, tt)
+    child_more [] (x ∷ nodes) option node w c = absurd w
+    child_more (o ∷ options) [] option node w c = absurd w
+    child_more (o ∷ options) (x ∷ nodes) option node w c = (w.0, child_more options nodes option node w.1 c)
+
+    pub branches_count : (item : ℕ) (children : Forest) → AreBranchesOf picks answers all s item children → HasSize (cover_of s.compiled) s.chosen item (count children)
+    branches_count item children w = (w.0, w.1, children_count w.0 children w.2)
+
+    -- ---- the node of these choices
+
+    pub found_searched : (before : List (List Placement)) (number : ℕ) (a : List Placement) → number ≡ length before → all ≡ before ++ a ∷ [] → IsSolutionOf s.compiled a s.chosen → IsSearchTree picks answers all s (tree_of (Found number))
+    found_searched before number a is e solution = subst (IsSearchTree picks answers all s) (sym (tree_of-Found number))
+        (a, subst (λ xs. slice_get xs number ≡ Some a) (sym e) (subst (λ n. slice_get (before ++ a ∷ []) n ≡ Some a) (sym is) (last_at before a)), solution)
+
+    about : (cells number : ℕ) (item : Item) → cells ≡ cell_count s.compiled.puzzle.board → picks s number → IsNumberOf cells number item → IsAbout picks s number item
+    about cells number item e picked is = (subst (λ n. IsNumberOf n number item) e is, picked)
+
+    pub branch_searched : (cells number : ℕ) (children : Forest) (tree : Tree) → cells ≡ cell_count s.compiled.puzzle.board → picks s number → AreBranchesOf picks answers all s number children → IsBranchOn cells number children tree → IsSearchTree picks answers all s tree
+    branch_searched cells number children tree e picked branches is = subst (IsSearchTree picks answers all s) (sym is.2)
+        (number, about cells number is.0 e picked is.1, branches)
