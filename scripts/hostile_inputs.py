@@ -23,9 +23,11 @@ COLOURS = "0123456789abcdefghijklmnopqrstuvwxyz"
 CHECK, EXPAND = ["check"], ["expand"]
 
 
-def puzzle(board, turns, border, tiles):
-    lines = ["match 1", f"board {board}", f"turns {turns}", f"border {border}", f"tiles {len(tiles)}"]
-    return "\n".join(lines + [f"tile {tile}" for tile in tiles] + ["end", ""])
+def puzzle(board, turns, border, tiles, mates=None):
+    """Of version 2 where a list of mates is given."""
+    lines = [f"match {1 if mates is None else 2}", f"board {board}", f"turns {turns}", f"border {border}"]
+    lines += [] if mates is None else [" ".join(["mates", *mates])]
+    return "\n".join(lines + [f"tiles {len(tiles)}"] + [f"tile {tile}" for tile in tiles] + ["end", ""])
 
 
 def listing(rows):
@@ -151,6 +153,18 @@ def symmetries(size):
     return CHECK, puzzle("rect 10 10", "yes", "free", tiles), listing([]), certificate(lines, [([], "d 0")])
 
 
+def mated_symmetries(size):
+    """The same with 36 colours, each of which has another as its mate; the mate of each is compared too."""
+    words, _, listed, text = symmetries(size)
+    lines = text.replace(" colours 0 1 tiles", f" colours {' '.join(COLOURS)} tiles")
+    return words, puzzle("rect 10 10", "yes", "free", ["0001"] * 100, reversed(COLOURS)), listed, lines
+
+
+def long_mates(size):
+    """A line of mates far past the most that there may be."""
+    return CHECK, puzzle("rect 1 1", "no", "free", ["0000"], "0" * (size // 2)), "", ""
+
+
 def short_lemmas(size):
     """Each lemma of 30 bytes is a job, for which a worker takes memory."""
     text = certificate([], repeated(size, ([], "d 99")))
@@ -243,8 +257,9 @@ def expansion(size):
     return orbit(OPTIONS.members, min(1024, size // 640))
 
 
-INPUTS = [plain_tree, dead_tiles, tile_branches, same_citations, image_citations, found, symmetries, short_lemmas,
-          forked, falling_list, long_falling_list, late_fault, long_number, empty_words, expansion]
+INPUTS = [plain_tree, dead_tiles, tile_branches, same_citations, image_citations, found, symmetries, mated_symmetries,
+          short_lemmas, forked, falling_list, long_falling_list, late_fault, long_number, long_mates, empty_words,
+          expansion]
 
 
 def run(program, words, texts):

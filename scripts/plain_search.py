@@ -61,8 +61,16 @@ def board(words):
     return triangles(upper + lower)
 
 
+def read_mates(words):
+    """The mate of each colour, by the list of version 2: one behind the list's end is its own."""
+    mates = list(range(len(DIGITS)))
+    mates[: len(words)] = [DIGITS.index(word) for word in words]
+    return mates
+
+
 def read_puzzle(text):
     lines = [line.split(" ") for line in text.splitlines()]
+    mates = read_mates(lines.pop(4)[1:] if lines[0][1] == "2" else [])
     cells, sides, meets = board(lines[1][1:])
     turns = lines[2][1] == "yes"
     pairs = [(cell, side) for cell in range(cells) for side in range(sides) if (cell, side) not in meets]
@@ -81,12 +89,12 @@ def read_puzzle(text):
                 break
             faces.append(face)
         shown.append(faces)
-    return cells, sides, meets, rules, shown
+    return cells, sides, meets, rules, mates, shown
 
 
 class Search:
     def __init__(self, puzzle, depth, most):
-        self.cells, self.sides, self.meets, self.rules, self.shown = puzzle
+        self.cells, self.sides, self.meets, self.rules, self.mates, self.shown = puzzle
         self.depth, self.most, self.nodes, self.branches = depth, most, 0, 0
         self.at = [None] * self.cells
         self.free = list(range(len(self.shown)))
@@ -101,7 +109,7 @@ class Search:
                 other, other_side = self.meets[cell, side]
                 if self.at[other] is not None:
                     tile, turn = self.at[other]
-                    asked.append((side, self.shown[tile][turn][other_side]))
+                    asked.append((side, self.mates[self.shown[tile][turn][other_side]]))
         return [
             (tile, turn)
             for tile in self.free

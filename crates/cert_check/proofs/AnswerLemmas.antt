@@ -78,6 +78,7 @@ of_symmetry_rank symmetries.Tiles symmetries.Tiles e = refl
 of_symmetry_rank (symmetries.EdgeBroken c k) (symmetries.EdgeBroken d l) e = ap (λ n. symmetries.EdgeBroken n k) e.second ∙ ap (symmetries.EdgeBroken d) e.third
 of_symmetry_rank (symmetries.BorderBroken c k) (symmetries.BorderBroken d l) e = ap (λ n. symmetries.BorderBroken n k) e.second ∙ ap (symmetries.BorderBroken d) e.third
 of_symmetry_rank (symmetries.TileBroken t) (symmetries.TileBroken u) e = ap symmetries.TileBroken e.second
+of_symmetry_rank (symmetries.MatesBroken c) (symmetries.MatesBroken d) e = ap symmetries.MatesBroken e.second
 of_symmetry_rank symmetries.Memory symmetries.Memory e = refl
 of_symmetry_rank _ _ e = absurd (omega (arith, e.first))
 

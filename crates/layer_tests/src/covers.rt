@@ -1,6 +1,6 @@
-//! The turning triangle as an exact cover, worked out by hand, and a puzzle with too many options.
+//! Two puzzles as exact covers, worked out by hand, and a puzzle with too many options.
 
-use crate::fixtures::{pair, tile, turned};
+use crate::fixtures::{MATED_PAIR, pair, puzzle_of, tile, turned};
 use match_board::Board;
 use match_puzzle::{Border, Puzzle};
 use sample_puzzles::turning_triangle;
@@ -42,6 +42,26 @@ fn solutions_of_the_turning_triangle(rt: HostRuntime) -> Result<(), Fail> {
     }
     let mismatched = [turned(1, 2), turned(2, 0), turned(0, 0), turned(3, 1)];
     assert!(rt; xcc.options_of(alloc, &mismatched).err() == refused);
+    Ok(())
+}
+
+// What the second tile shows is the mate of what the first shows, so that both give their edge the same colour.
+#[test]
+fn options_of_the_mated_pair(rt: HostRuntime) -> Result<(), Fail> {
+    let alloc = rt.alloc();
+    let puzzle = puzzle_of(alloc, MATED_PAIR)?;
+    let xcc = compile(alloc, &puzzle)?;
+    assert!(rt; xcc.primaries() == 4);
+    assert!(rt; xcc.secondaries() == 1);
+    assert!(rt; xcc.options() == 4);
+    assert!(rt; xcc.entries() == 12);
+    let shown = [Edge { item: 4, colour: 0 }];
+    assert!(rt; xcc.edges(0) == shown.as_slice());
+    assert!(rt; xcc.edges(3) == shown.as_slice());
+    let listed = [turned(0, 0), turned(1, 0)];
+    assert!(rt; xcc.options_of(alloc, &listed)?.as_slice() == [0, 3].as_slice());
+    let found = xcc.arrangement_of(alloc, &[3, 0])?;
+    assert!(rt; found.placements() == listed.as_slice());
     Ok(())
 }
 

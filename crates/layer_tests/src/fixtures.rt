@@ -16,6 +16,11 @@ pub const STRIPED_TILE: &[u8] =
 pub const SIX_TRIANGLES: &[u8] =
     b"match 1\nboard hexagon 1\nturns yes\nborder one 0\ntiles 6\ntile 012\ntile 023\ntile 034\ntile 045\ntile 056\ntile 061\nend\n";
 
+/// Two squares that are not turned, of which one shows a colour and the other its mate where they meet. They have one
+/// arrangement.
+pub const MATED_PAIR: &[u8] =
+    b"match 2\nboard rect 2 1\nturns no\nborder free\nmates 1 0\ntiles 2\ntile 2022\ntile 2321\nend\n";
+
 pub fn turned(tile: u16, turn: u8) -> Placement
     ensures { result ≡ record { tile = tile; turn = turn } }
 {

@@ -1,6 +1,6 @@
 //! Puzzles, and what they say of their cells and placements.
 
-use crate::fixtures::{STRIPED_TILE, puzzle_of, tile, turned};
+use crate::fixtures::{MATED_PAIR, STRIPED_TILE, puzzle_of, tile, turned};
 use match_board::{Board, Tile};
 use match_puzzle::{Border, BorderRules, Placement, Puzzle, PuzzleFault};
 use sample_puzzles::square_of_four;
@@ -32,6 +32,8 @@ fn what_a_puzzle_says(rt: HostRuntime) -> Result<(), Fail> {
     assert!(rt; matches!(puzzle.border(), Border::One(5)));
     assert!(rt; puzzle.tiles().len() == 4);
     assert!(rt; puzzle.colours() == 6);
+    assert!(rt; puzzle.version() == 1);
+    assert!(rt; puzzle.mate(5) == 5);
     assert!(rt; side_of(&puzzle, 0, 0) == Some((Some(5), None)));
     assert!(rt; side_of(&puzzle, 0, 1) == Some((None, Some((1, 3)))));
     assert!(rt; shown(&puzzle, turned(3, 0), 0) == Some(4));
@@ -115,6 +117,43 @@ fn faults_of_a_puzzle(rt: HostRuntime) -> Result<(), Fail> {
     for (rules, tiles, fault) in ruled {
         let made = with_rules(alloc, rules, tiles)?;
         assert!(rt; made.err() == Some(fault), "{fault}");
+    }
+    Ok(())
+}
+
+// The puzzle of one cell whose colours have these mates, or why there is none.
+fn with_mates(alloc: Global, mates: &[u8]) -> Result<Result<Puzzle, PuzzleFault>, Fail> {
+    if mates.len() > 100 {
+        return Err(Fail::from("too many"));
+    }
+    let tiles = [tile([0, 0, 0, 0], 4)?];
+    let board = Board::rect(1, 1)?;
+    Ok(Puzzle::with_mates(alloc, board, false, &Border::Free, mates, &tiles))
+}
+
+#[test]
+fn mates_of_a_puzzle(rt: HostRuntime) -> Result<(), Fail> {
+    let alloc = rt.alloc();
+    let puzzle = puzzle_of(alloc, MATED_PAIR)?;
+    assert!(rt; puzzle.version() == 2);
+    assert!(rt; puzzle.mates() == [1, 0].as_slice());
+    assert!(rt; puzzle.mate(0) == 1);
+    assert!(rt; puzzle.mate(35) == 35);
+    assert!(rt; with_mates(alloc, &[1, 0, 2, 4, 3])??.colours() == 5);
+    // More mates than there are colours can't be spelled in a puzzle's text.
+    let own = [
+        0, 1, 2, 3, 4, 5, 6, 7, 8, 9, 10, 11, 12, 13, 14, 15, 16, 17, 18, 19, 20, 21, 22, 23, 24,
+        25, 26, 27, 28, 29, 30, 31, 32, 33, 34, 35, 36,
+    ];
+    let lists = [
+        ([1, 1].as_slice(), 0),
+        ([2, 0].as_slice(), 0),
+        ([0; 37].as_slice(), 1),
+        (own.as_slice(), 36),
+    ];
+    for (mates, place) in lists {
+        let made = with_mates(alloc, mates)?;
+        assert!(rt; made.err() == Some(PuzzleFault::Mates(place)), "{place}");
     }
     Ok(())
 }

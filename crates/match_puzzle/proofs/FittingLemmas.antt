@@ -8,7 +8,7 @@ use Rattle.std.proofs.lemmas.Bool.Decides.{eqb_tells}
 use Rattle.std.proofs.lemmas.List.{get_or-map, length-map}
 use Rattle.match_board.specs.Board.{side_count}
 use Rattle.match_board.specs.Listing.{IsListing, ByKey, ComesBefore}
-use Rattle.match_puzzle.specs.Puzzle.{Task, IsPuzzle, IsLegal, colour_of}
+use Rattle.match_puzzle.specs.Puzzle.{Task, IsPuzzle, IsLegal, colour_of, mate_of}
 use Rattle.match_puzzle.specs.Prefix.{Prefix, Has, IsFree, IsUnused}
 use Rattle.match_puzzle.specs.Fitting.{Fits, FitsItem, AreFitting, AreAsAsked, IsAsked, item_key, tile_turn, turned_tile, numbered_pair}
 use Rattle.match_puzzle.specs.PlacementSets.{AreFreeNumbers, AreShowing, numbered}
@@ -61,22 +61,22 @@ module _ (p : Task) (q : Prefix) (cell side : ℕ) where
     λ h. absurd (omega (arith, h.0, h.1, none)),
   )
 
-  -- a side that meets a placement asks what that shows
-  pub neighbour_asks : (c k asked : ℕ) (y : Placement) → IsSide p cell side (Edge c k) → Has q c y → asked ≡ colour_of p y k → asked < MOST_COLOURS → AsksBelow p q cell side asked
+  -- a side that meets a placement asks the mate of what that shows
+  pub neighbour_asks : (c k asked : ℕ) (y : Placement) → IsSide p cell side (Edge c k) → Has q c y → asked ≡ mate_of p (colour_of p y k) → asked < MOST_COLOURS → AsksBelow p q cell side asked
   neighbour_asks c k asked y is has shows few colour = (
     λ other. ⊎_elim
         (λ r. absurd (r.border_pair.meets_nothing c k is.0))
         (λ w.
         let same = is.1 w.0 w.1 w.3 in
         let at : y ≡ w.2 = inside (inside (sym has ∙ subst (λ n. Has q n w.2) same.0 w.4)) in
-        let e : asked ≡ colour = shows ∙ ap (λ z. colour_of p z k) at ∙ ap (λ n. colour_of p w.2 n) (sym same.1) ∙ w.5 in
+        let e : asked ≡ colour = shows ∙ ap (λ z. mate_of p (colour_of p z k)) at ∙ ap (λ n. mate_of p (colour_of p w.2 n)) (sym same.1) ∙ w.5 in
         (e, omega (arith, e, few)))
         other,
     λ h. inr (c, k, y, is.0, has, sym shows ∙ h.0),
   )
 
-  -- a side that meets another asks what stands there shows
-  pub edge_asks : (c k asked : ℕ) → IsSide p cell side (Edge c k) → c < length q → ((y : Placement) → Has q c y → (asked ≡ colour_of p y k) × (asked < MOST_COLOURS)) → (IsFree q c → asked ≡ MOST_COLOURS) → (asked ≤ MOST_COLOURS) × AsksBelow p q cell side asked
+  -- a side that meets another asks the mate of what stands there shows
+  pub edge_asks : (c k asked : ℕ) → IsSide p cell side (Edge c k) → c < length q → ((y : Placement) → Has q c y → (asked ≡ mate_of p (colour_of p y k)) × (asked < MOST_COLOURS)) → (IsFree q c → asked ≡ MOST_COLOURS) → (asked ≤ MOST_COLOURS) × AsksBelow p q cell side asked
   edge_asks c k asked is within shows none =
       ⊎_elim
       (λ free. let e = none free in (omega (arith, e), empty_asks c k asked is free e))
@@ -96,7 +96,7 @@ module _ (p : Task) (q : Prefix) (cell : ℕ) (x : Placement) where
     unused = unused;
     legal = legal;
     border = λ side colour rule. shows side (let lt = rule.border_pair.side_in in omega (arith, lt, few_sides p.board)) colour (inl rule);
-    edges = λ side c k y meets has. shows side (let lt = side_in_range meets in omega (arith, lt, few_sides p.board)) (colour_of p y k) (inr (c, k, y, meets, has, refl));
+    edges = λ side c k y meets has. shows side (let lt = side_in_range meets in omega (arith, lt, few_sides p.board)) (mate_of p (colour_of p y k)) (inr (c, k, y, meets, has, refl));
   }
 
   pub shown_fits : Fits p q cell x → (side : ℕ) → ShowsAsked p q cell x side

@@ -10,7 +10,7 @@ use Rattle.match_puzzle.specs.Puzzle.{Task, IsPuzzle, IsLegal}
 use Rattle.match_puzzle.specs.Prefix.{Prefix, Has, IsFree, IsUsed, IsUnused, with_pair}
 use Rattle.match_puzzle.specs.NumberSets.{IsGroup}
 use Rattle.match_puzzle.specs.PlacementSets.{AreLegalNumbers, AreFreeNumbers, AreUnturnedLegal, numbered}
-use Rattle.match_puzzle.specs.Partials.{IsKept, AreShown}
+use Rattle.match_puzzle.specs.Partials.{IsKept, AreAsking}
 use Rattle.match_puzzle.specs.declared.placements.Placement.{Placement}
 use Rattle.match_puzzle.proofs.FittingLemmas.{numbered_at}
 use Rattle.match_puzzle.proofs.Prefixes.{inside, slice_get-replicate, has_placed, has_new, has_still, has_lifted, has_kept}
@@ -76,8 +76,8 @@ module _ (p : Task) (q : Prefix) (numbers : List ℕ) (tile digits : ℕ) (free 
 
 -- ---- nothing is placed
 
-pub kept_new : (p : Task) (numbers shown : List ℕ) → IsPuzzle p → AreLegalNumbers p numbers → AreUnturnedLegal p → AreShown p (replicate (cell_count p.board) None) shown → IsKept p (replicate (cell_count p.board) None) numbers shown
-kept_new p numbers shown is legal unturned shows = record {
+pub kept_new : (p : Task) (numbers asks : List ℕ) → IsPuzzle p → AreLegalNumbers p numbers → AreUnturnedLegal p → AreAsking p (replicate (cell_count p.board) None) asks → IsKept p (replicate (cell_count p.board) None) numbers asks
+kept_new p numbers asks is legal unturned asking = record {
   puzzle = is;
   prefix = record {
     cells = length-replicate (cell_count p.board) None;
@@ -90,17 +90,17 @@ kept_new p numbers shown is legal unturned shows = record {
     rising = legal.rising;
   };
   unturned = unturned;
-  shows = shows;
+  asking = asking;
 }
 
-module _ (p : Task) (q : Prefix) (numbers shown : List ℕ) (kept : IsKept p q numbers shown) (cell : ℕ) (x : Placement) where
+module _ (p : Task) (q : Prefix) (numbers asks : List ℕ) (kept : IsKept p q numbers asks) (cell : ℕ) (x : Placement) where
   -- ---- one is placed
 
   unused_placed : (free : IsFree q cell) (tile : ℕ) → IsUnused q tile → tile ≢ x.tile → IsUnused (with_pair q cell x) tile
   unused_placed free tile unused ne cell' y has same = ⊎_elim (λ w. ne (sym same ∙ ap (λ (z : Placement). z.tile) w.1)) (λ w. unused cell' y w.1 same) (has_placed q cell x cell' y free has)
 
-  pub kept_placed : (after : List ℕ) → IsListing ◌<◌ (λ n. Contains numbers n × (n / 4 ≢ x.tile)) after → IsLegal p x → IsFree q cell → IsUnused q x.tile → (shown' : List ℕ) → AreShown p (with_pair q cell x) shown' → IsKept p (with_pair q cell x) after shown'
-  kept_placed after others legal free unused shown' shows = record {
+  pub kept_placed : (after : List ℕ) → IsListing ◌<◌ (λ n. Contains numbers n × (n / 4 ≢ x.tile)) after → IsLegal p x → IsFree q cell → IsUnused q x.tile → (asks' : List ℕ) → AreAsking p (with_pair q cell x) asks' → IsKept p (with_pair q cell x) after asks'
+  kept_placed after others legal free unused asks' asking = record {
     puzzle = kept.puzzle;
     prefix = record {
       cells = length-set q cell (Some x) ∙ kept.prefix.cells;
@@ -119,7 +119,7 @@ module _ (p : Task) (q : Prefix) (numbers shown : List ℕ) (kept : IsKept p q n
       rising = others.rising;
     };
     unturned = kept.unturned;
-    shows = shows;
+    asking = asking;
   }
 
   -- ---- one is taken away
@@ -130,8 +130,8 @@ module _ (p : Task) (q : Prefix) (numbers shown : List ℕ) (kept : IsKept p q n
   unused_lifted : Has q cell x → (tile : ℕ) → tile ≡ x.tile → IsUnused (set q cell None) tile
   unused_lifted here tile e cell' y has same = let w = has_lifted q cell cell' x y here has in w.0 (kept.prefix.once cell' cell y x w.1 here (same ∙ e))
 
-  pub kept_lifted : (turns : ℕ) (legal after : List ℕ) → AreLegalNumbers p legal → IsGroup legal x.tile turns → IsListing ◌<◌ (λ n. Contains numbers n ⊎ ((n / 4 ≡ x.tile) × (bit_at turns (n % 4) ≡ 1))) after → Has q cell x → (shown' : List ℕ) → AreShown p (set q cell None) shown' → IsKept p (set q cell None) after shown'
-  kept_lifted turns legal after are_legal group more here shown' shows = record {
+  pub kept_lifted : (turns : ℕ) (legal after : List ℕ) → AreLegalNumbers p legal → IsGroup legal x.tile turns → IsListing ◌<◌ (λ n. Contains numbers n ⊎ ((n / 4 ≡ x.tile) × (bit_at turns (n % 4) ≡ 1))) after → Has q cell x → (asks' : List ℕ) → AreAsking p (set q cell None) asks' → IsKept p (set q cell None) after asks'
+  kept_lifted turns legal after are_legal group more here asks' asking = record {
     puzzle = kept.puzzle;
     prefix = record {
       cells = length-set q cell None ∙ kept.prefix.cells;
@@ -158,7 +158,7 @@ module _ (p : Task) (q : Prefix) (numbers shown : List ℕ) (kept : IsKept p q n
       rising = more.rising;
     };
     unturned = kept.unturned;
-    shows = shows;
+    asking = asking;
   }
     where
       unused_before : (tile : ℕ) → tile ≢ x.tile → IsUnused (set q cell None) tile → IsUnused q tile

@@ -1,9 +1,10 @@
 pub mod Words
+pub mod MateLemmas
 pub mod Prefixes
 pub mod TableLemmas
 pub mod PuzzleFaultLemmas
 pub mod Kept
-pub mod ShownLemmas
+pub mod AskingLemmas
 pub mod Pigeonhole
 pub mod FirstLemmas
 pub mod ArrangementLemmas

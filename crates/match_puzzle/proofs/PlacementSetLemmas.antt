@@ -11,11 +11,12 @@ use borrow.Author.Tests.{ltb-true}
 use Rattle.match_board.specs.Listing.{IsListing}
 use Rattle.match_board.specs.Turns.{IsPeriod}
 use Rattle.match_board.proofs.TurnsLemmas.{whole_turn}
-use Rattle.match_puzzle.specs.Puzzle.{Task, IsPuzzle, IsLegal, colour_of}
+use Rattle.match_puzzle.specs.Puzzle.{Task, IsPuzzle, IsLegal, colour_of, mate_of}
 use Rattle.match_puzzle.specs.Fitting.{turned_tile}
-use Rattle.match_puzzle.specs.PlacementSets.{AreLegalNumbers, AreUnturnedLegal, AreColoursAfter, AreShownColours, ShowsColours}
+use Rattle.match_puzzle.specs.PlacementSets.{AreLegalNumbers, AreUnturnedLegal, AreColoursAfter, AreShownColours, ShowsColours, AreMatesShown, AsksColours}
 use Rattle.match_puzzle.specs.declared.placements.Placement.{Placement}
 use Rattle.match_puzzle.specs.Tables.{IsTurnCount, AreTurnCounts}
+use Rattle.match_puzzle.proofs.MateLemmas.{small_mate}
 use Rattle.match_puzzle.proofs.Words.{legal_by_count, some_sides, few_sides}
 use Rattle.match_board.proofs.Listings.{lt_or_le}
 
@@ -96,6 +97,17 @@ shows_colours p puzzle table is x tile_in turn_in colours at side side_in =
     let of_tile = subst (λ t. AreColoursAfter (get_or p.words t []) (place % 4) (get_or table place [])) tile there in
     let here = subst (λ cs. AreColoursAfter word x.turn cs) (sym at) (subst (λ r. AreColoursAfter word r (get_or table place [])) turn of_tile) in
     here side (let word_sides = puzzle.sides x.tile tile_in in omega (arith, word_sides, side_in))
+
+-- the entry of a placement is what matches what it shows
+pub asks_colours : (p : Task) → IsPuzzle p → (shown asked : List (List ℕ)) → AreShownColours p.words shown → AreMatesShown p.mating.mates shown asked → (x : Placement) → x.tile < length p.words → x.turn < 4 → (colours : List ℕ) → colours ≡ get_or asked (4 * x.tile + x.turn) [] → AsksColours p x colours
+asks_colours p puzzle shown asked is are x tile_in turn_in colours at side side_in =
+    let place = 4 * x.tile + x.turn in
+    let long = is.long in
+    let shows = shows_colours p puzzle shown is x tile_in turn_in (get_or shown place []) refl side side_in in
+    let mate = are.is place side (omega (arith, long, tile_in, turn_in)) (omega (arith, side_in, few_sides p.board)) in
+    let same : get_or colours side 0 ≡ mate_of p (colour_of p x side) = ap (λ cs. get_or cs side 0) at ∙ mate ∙ ap (mate_of p) shows.0 in
+    let few = small_mate p puzzle (colour_of p x side) (omega (arith, sym shows.0, shows.1)) in
+    (same, omega (arith, same, few))
 
 -- ---- legal placements
 

@@ -8,6 +8,7 @@ use Rattle.match_board.specs.declared.tiles.Tile.{Tile}
 use Rattle.match_puzzle.specs.declared.borders.Border.{Border}
 use Rattle.match_board.specs.Tile.{word}
 use Rattle.match_board.specs.Turns.{IsPeriod}
+use Rattle.match_puzzle.specs.Mates.{Mating}
 use Rattle.match_puzzle.specs.Puzzle.{Task, BorderRule, free, one, each, task_of, rule_of, HasRule, Asks, AsksAt, StandsInRule, IsPuzzle, IsAsLongAsBorder}
 use Rattle.match_puzzle.specs.Colours.{HasColour, IsColourCount}
 use Rattle.match_puzzle.specs.Tables.{IsSide, IsAskedAt, AreSides, IsTurnCount, IsNextNumber}
@@ -110,9 +111,9 @@ asks_numbered s (each rules) cell side number colour long pair next =
     )
 
 -- a border pair by its rule
-pub border_side : (board : Figure) (turns : Bool) (border : Border) (tiles : List Tile) (cell side number : ℕ) (rule : Option ℕ) → IsAsLongAsBorder board (rule_of border) → IsBorderPair board cell side → IsNextNumber board (cell, side) number →
-    ((colour : ℕ) → (rule ≡ Some colour) ↔ AsksAt (rule_of border) number colour) → IsSide (task_of board turns border tiles) cell side (TableBorder rule)
-border_side board turns border tiles cell side number rule long pair next is = (
+pub border_side : (board : Figure) (turns : Bool) (border : Border) (mating : Mating) (tiles : List Tile) (cell side number : ℕ) (rule : Option ℕ) → IsAsLongAsBorder board (rule_of border) → IsBorderPair board cell side → IsNextNumber board (cell, side) number →
+    ((colour : ℕ) → (rule ≡ Some colour) ↔ AsksAt (rule_of border) number colour) → IsSide (task_of board turns border mating tiles) cell side (TableBorder rule)
+border_side board turns border mating tiles cell side number rule long pair next is = (
   pair,
   λ colour.
       let asks = asks_numbered board (rule_of border) cell side number colour long pair next in
@@ -165,28 +166,33 @@ word_there : (tiles : List Tile) (k : ℕ) → k < length (map word tiles) → (
 word_there tiles k lt = tile_of_word tiles k (omega (arith, length-map tiles word, lt))
 
 -- the number that is above all colours and the least such
-pub colour_count_is : (board : Figure) (turns : Bool) (border : Border) (tiles : List Tile) (count : ℕ) →
+pub colour_count_is : (board : Figure) (turns : Bool) (border : Border) (mating : Mating) (tiles : List Tile) (count : ℕ) →
     ((place colour : ℕ) → StandsInRule (rule_of border) place colour → colour < count) →
     ((k colour : ℕ) → k < length tiles → Contains (get_or (map word tiles) k []) colour → colour < count) →
-    ((other : ℕ) → ((colour : ℕ) → HasColour (task_of board turns border tiles) colour → colour < other) → count ≤ other) →
-    IsColourCount (task_of board turns border tiles) count
-colour_count_is board turns border tiles count of_border of_tiles least = record {
-  above = λ colour has. ⊎_elim (λ t. of_tiles t.0 colour (omega (arith, t.1, length-map tiles word)) t.2) (λ b. of_border b.0 colour b.1) has;
+    length mating.mates ≤ count →
+    ((other : ℕ) → ((colour : ℕ) → HasColour (task_of board turns border mating tiles) colour → colour < other) → count ≤ other) →
+    IsColourCount (task_of board turns border mating tiles) count
+colour_count_is board turns border mating tiles count of_border of_tiles of_mates least = record {
+  above = λ colour has.
+      ⊎_elim
+      (λ t. of_tiles t.0 colour (omega (arith, t.1, length-map tiles word)) t.2)
+      (λ other. ⊎_elim (λ b. of_border b.0 colour b.1) (λ lt. omega (arith, lt, of_mates)) other)
+      has;
   least = least;
 }
 
 -- What a push adds to the numbers of legal turns.
-pub turn_counts_more : (board : Figure) (turns : Bool) (border : Border) (tiles : List Tile) (table : List ℕ) (n : ℕ) →
-    ((tile count : ℕ) → slice_get table tile ≡ Some count → IsTurnCount (task_of board turns border tiles) tile count) →
-    IsTurnCount (task_of board turns border tiles) (length table) n →
-    (tile count : ℕ) → slice_get (table ++ n ∷ []) tile ≡ Some count → IsTurnCount (task_of board turns border tiles) tile count
-turn_counts_more board turns border tiles table n so_far here tile count get =
-    let Is : ℕ → ℕ → Type 0 = λ t k. IsTurnCount (task_of board turns border tiles) t k in
+pub turn_counts_more : (board : Figure) (turns : Bool) (border : Border) (mating : Mating) (tiles : List Tile) (table : List ℕ) (n : ℕ) →
+    ((tile count : ℕ) → slice_get table tile ≡ Some count → IsTurnCount (task_of board turns border mating tiles) tile count) →
+    IsTurnCount (task_of board turns border mating tiles) (length table) n →
+    (tile count : ℕ) → slice_get (table ++ n ∷ []) tile ≡ Some count → IsTurnCount (task_of board turns border mating tiles) tile count
+turn_counts_more board turns border mating tiles table n so_far here tile count get =
+    let Is : ℕ → ℕ → Type 0 = λ t k. IsTurnCount (task_of board turns border mating tiles) t k in
     ⊎_elim (λ w. so_far tile count w.1) (λ w. subst (λ t. Is t count) (sym w.0) (subst (λ k. Is (length table) k) (sym w.1) here)) (pushed_is table n tile count get)
 
 -- how many turns of a tile that was read are legal
-pub turn_count_is : (board : Figure) (turns : Bool) (border : Border) (tiles : List Tile) (i : ℕ) (t : Tile) (n : ℕ) → i < length tiles → t ≡ get_or tiles i t → MatchBool turns (IsPeriod (word t) n) (n ≡ 1) → IsTurnCount (task_of board turns border tiles) i n
-turn_count_is board turns border tiles i t n lt at is = subst (λ w. MatchBool turns (IsPeriod w n) (n ≡ 1)) (sym (word_at tiles i t lt at)) is
+pub turn_count_is : (board : Figure) (turns : Bool) (border : Border) (mating : Mating) (tiles : List Tile) (i : ℕ) (t : Tile) (n : ℕ) → i < length tiles → t ≡ get_or tiles i t → MatchBool turns (IsPeriod (word t) n) (n ≡ 1) → IsTurnCount (task_of board turns border mating tiles) i n
+turn_count_is board turns border mating tiles i t n lt at is = subst (λ w. MatchBool turns (IsPeriod w n) (n ≡ 1)) (sym (word_at tiles i t lt at)) is
 
 -- The words of tiles have colours below 36.
 pub words_coloured : (tiles : List Tile) (i : ℕ) → i < length (map word tiles) → All (λ colour. colour < MOST_COLOURS) (get_or (map word tiles) i [])

@@ -1,7 +1,7 @@
 -- Arrangements of a puzzle: a placement for each cell.
 use Rattle.std.specs.Prelude.{◌≡◌, ◌<◌, ℕ, List, Some, length, slice_get}
 use Rattle.match_board.specs.Board.{cell_count, Meets}
-use Rattle.match_puzzle.specs.Puzzle.{Task, colour_of, IsLegal, HasRule}
+use Rattle.match_puzzle.specs.Puzzle.{Task, colour_of, GoTogether, IsLegal, HasRule}
 use Rattle.match_puzzle.specs.declared.placements.Placement.{Placement}
 
 -- The placement stands at the cell.
@@ -29,17 +29,17 @@ abbrev pub ObeyBorder : Task → List Placement → Type 0
 ObeyBorder p a =
     (cell side colour : ℕ) (x : Placement) → Stands a cell x → HasRule p cell side colour → colour_of p x side ≡ colour
 
--- The side shows the colour of the side that it meets, if it meets one.
+-- The side matches the side that it meets, if it meets one.
 abbrev pub MatchesEdgeAt : Task → List Placement → (cell side : ℕ) → Type 0
 MatchesEdgeAt p a cell side =
     (cell' side' : ℕ) (x y : Placement) → Meets p.board cell side cell' side' → Stands a cell x → Stands a cell' y
-    → colour_of p x side ≡ colour_of p y side'
+    → GoTogether p (colour_of p x side) (colour_of p y side')
 
--- Sides that meet show the same colour.
+-- Sides that meet match.
 abbrev pub MatchEdges : Task → List Placement → Type 0
 MatchEdges p a = (cell side : ℕ) → MatchesEdgeAt p a cell side
 
--- A legal placement for each cell, each tile at just one cell, the border as asked, and sides that meet alike (MacMahon
+-- A legal placement for each cell, each tile at just one cell, the border as asked, and sides that meet match (MacMahon
 -- 1921).
 pub record IsArrangement (p : Task) (a : List Placement) : Type 0 where
   pub cells : length a ≡ cell_count p.board

@@ -2,7 +2,7 @@
 use Rattle.std.specs.Prelude.{◌≡◌, ◌≢◌, ◌<◌, ◌≤◌, ℕ, List, length}
 use Rattle.match_board.specs.Board.{cell_count, Meets}
 use Rattle.match_board.specs.First.{Rank, IsFirst, rank_by, rank_by_two, rank_by_three}
-use Rattle.match_puzzle.specs.Puzzle.{Task, colour_of, IsLegalTurn, HasRule}
+use Rattle.match_puzzle.specs.Puzzle.{Task, colour_of, GoTogether, IsLegalTurn, HasRule}
 use Rattle.match_puzzle.specs.Arrangement.{Stands}
 use Rattle.match_puzzle.specs.declared.placements.Placement.{Placement}
 use Rattle.match_puzzle.specs.declared.faults.ArrangementFault.{ArrangementFault}
@@ -29,12 +29,12 @@ module _ (p : Task) (a : List Placement) where
   BreaksBorderAt cell side =
       (x : Placement) × (colour : ℕ) × Stands a cell x × HasRule p cell side colour × (colour_of p x side ≢ colour)
 
-  -- The side and the one that it meets show different colours.
+  -- The side does not match the one that it meets.
   abbrev pub BreaksEdgeAt : (cell side : ℕ) → Type 0
   BreaksEdgeAt cell side =
       (x : Placement) × (cell' : ℕ) × (side' : ℕ) × (y : Placement) × Stands a cell x
       × Meets p.board cell side cell' side' × Stands a cell' y
-      × (colour_of p x side ≢ colour_of p y side')
+      × (GoTogether p (colour_of p x side) (colour_of p y side') → ⊥)
 
   -- When a fault occurs.
   abbrev pub ArrangementFails : ArrangementFault → Type 0

@@ -2,11 +2,12 @@
 use Rattle.std.specs.Prelude.{◌<◌, ◌≤◌, ◌⊎◌, ℕ, Contains, length}
 use Rattle.match_puzzle.specs.Puzzle.{Task, word_of, StandsInRule}
 
--- The colour is on a tile or in the border rule.
+-- The colour is on a tile, in the border rule or in the list of mates.
 abbrev pub HasColour : Task → ℕ → Type 0
 HasColour p colour =
     ((tile : ℕ) × (tile < length p.words) × Contains (word_of p tile) colour)
     ⊎ ((place : ℕ) × StandsInRule p.border place colour)
+    ⊎ (colour < length p.mating.mates)
 
 -- one more than the greatest colour
 pub record IsColourCount (p : Task) (count : ℕ) : Type 0 where

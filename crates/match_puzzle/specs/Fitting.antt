@@ -2,22 +2,22 @@
 use Rattle.std.specs.Prelude.{◌≡◌, ◌⊎◌, ◌<◌, ◌/◌, ◌%◌, ℕ, List, length}
 use Rattle.match_board.specs.Board.{cell_count, Meets}
 use Rattle.match_board.specs.Listing.{IsListing, ByKey}
-use Rattle.match_puzzle.specs.Puzzle.{Task, colour_of, IsLegal, HasRule}
+use Rattle.match_puzzle.specs.Puzzle.{Task, colour_of, mate_of, GoTogether, IsLegal, HasRule}
 use Rattle.match_puzzle.specs.Prefix.{Prefix, Has, IsFree, IsUnused}
 use Rattle.match_puzzle.specs.declared.placements.Placement.{Placement}
 use Rattle.match_puzzle.specs.declared.placements.Pair.{Pair}
 use Rattle.match_puzzle.specs.declared.items.Item.{Item}
 use Rattle.match_puzzle.specs.declared.items.Item.TheVariants.{Cell, Tile}
 
--- The placement may be put at the cell: cell and tile are free, it is legal, and it shows what the border asks and what
--- its neighbours show.
+-- The placement may be put at the cell: cell and tile are free, it is legal, shows what the border asks and matches its
+-- neighbours.
 pub record Fits (p : Task) (q : Prefix) (cell : ℕ) (x : Placement) : Type 0 where
   pub free : IsFree q cell
   pub unused : IsUnused q x.tile
   pub legal : IsLegal p x
   pub border : (side colour : ℕ) → HasRule p cell side colour → colour_of p x side ≡ colour
   pub edges : (side cell' side' : ℕ) (y : Placement) → Meets p.board cell side cell' side' → Has q cell' y
-      → colour_of p x side ≡ colour_of p y side'
+      → GoTogether p (colour_of p x side) (colour_of p y side')
 
 -- by tile, then by turn
 abbrev pub tile_turn : Placement → ℕ × ℕ
@@ -50,12 +50,13 @@ abbrev pub IsOpen : Task → Prefix → Item → Type 0
 IsOpen p q (Cell cell) = IsFree q cell
 IsOpen p q (Tile tile) = (tile < length p.words) × IsUnused q tile
 
--- A placement at the cell has to show the colour on the side: the border asks for it, or a neighbour shows it.
+-- A placement at the cell has to show the colour on the side: the border asks for it, or a neighbour shows its
+-- mate.
 abbrev pub IsAsked : Task → Prefix → (cell side colour : ℕ) → Type 0
 IsAsked p q cell side colour =
     HasRule p cell side colour
     ⊎ ((cell' : ℕ) × (side' : ℕ) × (y : Placement) × Meets p.board cell side cell' side' × Has q cell' y
-    × (colour_of p y side' ≡ colour))
+    × (mate_of p (colour_of p y side') ≡ colour))
 
 -- The item is one of the puzzle.
 abbrev pub IsItem : Task → Item → Type 0

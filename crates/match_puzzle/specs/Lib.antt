@@ -1,3 +1,4 @@
+pub mod Mates
 pub mod Puzzle
 pub mod Colours
 pub mod PuzzleFaults

@@ -4,7 +4,8 @@ use Rattle.match_board.specs.declared.limits.TheConstants.{MOST_COLOURS}
 use Rattle.match_board.specs.Listing.{IsListing}
 use Rattle.match_board.specs.Turns.{shown}
 use Rattle.match_board.specs.Board.{side_count}
-use Rattle.match_puzzle.specs.Puzzle.{Task, IsLegal, colour_of}
+use Rattle.match_puzzle.specs.Puzzle.{Task, IsLegal, colour_of, mate_of}
+use Rattle.match_puzzle.specs.Mates.{mate_in}
 use Rattle.match_puzzle.specs.Prefix.{Prefix, IsUnused}
 use Rattle.match_puzzle.specs.declared.placements.Placement.{Placement}
 
@@ -41,11 +42,23 @@ pub record AreShownColours (words : List (List ℕ)) (table : List (List ℕ)) :
   pub is : (place : ℕ) → place < length table
       → AreColoursAfter (slice_index_or words (place / 4) []) (place % 4) (slice_index_or table place [])
 
+-- The one table has the mates of what the other has.
+pub record AreMatesShown (mates : List ℕ) (shown asked : List (List ℕ)) : Type 0 where
+  pub long : length asked ≡ length shown
+  pub is : (place side : ℕ) → place < length shown → side < 4
+      → slice_index (slice_index_or asked place []) side ≡ mate_in mates (slice_index (slice_index_or shown place []) side)
+
 -- The colours are those that the placement shows.
 abbrev pub ShowsColours : Task → Placement → (colours : List ℕ) → Type 0
 ShowsColours p x colours =
     (side : ℕ) → side < side_count p.board
     → (slice_index colours side ≡ colour_of p x side) × (slice_index colours side < MOST_COLOURS)
+
+-- The colours are those that match what the placement shows: the mates of these.
+abbrev pub AsksColours : Task → Placement → (colours : List ℕ) → Type 0
+AsksColours p x colours =
+    (side : ℕ) → side < side_count p.board
+    → (slice_index colours side ≡ mate_of p (colour_of p x side)) × (slice_index colours side < MOST_COLOURS)
 
 -- The numbers are those of the legal placements.
 abbrev pub AreLegalNumbers : Task → List ℕ → Type 0

@@ -7,6 +7,7 @@ use Rattle.match_board.specs.declared.figures.Figure.{Figure}
 use Rattle.match_board.specs.Turns.{shown, IsPeriod}
 use Rattle.match_board.specs.Tile.{word}
 use Rattle.match_board.specs.declared.tiles.Tile.{Tile}
+use Rattle.match_puzzle.specs.Mates.{Mating, IsMating, mate_in}
 use Rattle.match_puzzle.specs.declared.borders.Border.{Border}
 use Rattle.match_puzzle.specs.declared.borders.Border.TheVariants.{Free, One, Each}
 use Rattle.match_puzzle.specs.declared.placements.Placement.{Placement}
@@ -25,11 +26,12 @@ rule_of Free = free
 rule_of (One colour) = one colour
 rule_of (Each rules) = each rules
 
--- a puzzle: its board, whether tiles may be turned, what the border asks, and the tiles' words
+-- a puzzle: its board, whether tiles may be turned, what the border asks, the mates of colours, and the tiles' words
 pub record Task : Type 0 where
   pub board : Figure
   pub turns : Bool
   pub border : BorderRule
+  pub mating : Mating
   pub words : List (List ℕ)
 
 -- the word of a tile
@@ -39,6 +41,14 @@ word_of p tile = slice_index_or p.words tile []
 -- the colour that a placed tile shows on a side
 unfoldable pub colour_of : Task → Placement → ℕ → ℕ
 colour_of p x side = shown (word_of p x.tile) x.turn side
+
+-- the mate of a colour
+abbrev pub mate_of : Task → ℕ → ℕ
+mate_of p colour = mate_in p.mating.mates colour
+
+-- Sides that show these colours match: the one shows the mate of what the other shows.
+abbrev pub GoTogether : Task → (colour other : ℕ) → Type 0
+GoTogether p colour other = colour ≡ mate_of p other
 
 -- The turn is below the word's period.
 unfoldable pub IsBelowPeriod : List ℕ → ℕ → Type 0
@@ -79,7 +89,7 @@ IsAsLongAsBorder s (one c) = Unit {0}
 IsAsLongAsBorder s (each rules) = (pairs : List (ℕ × ℕ)) × IsBorderOrder s pairs × (length rules ≡ length pairs)
 
 -- as many tiles as cells, with as many sides; triangles may be turned; colours that there are; a rule for each border
--- pair
+-- pair; each colour the mate of its mate
 pub record IsPuzzle (p : Task) : Type 0 where
   pub board : IsBoard p.board
   pub triangles : side_count p.board ≡ 3 → p.turns ≡ true
@@ -88,11 +98,12 @@ pub record IsPuzzle (p : Task) : Type 0 where
   pub tile_colours : (tile : ℕ) → tile < length p.words → All (λ colour. colour < MOST_COLOURS) (word_of p tile)
   pub border_colours : (place colour : ℕ) → StandsInRule p.border place colour → colour < MOST_COLOURS
   pub border : IsAsLongAsBorder p.board p.border
+  pub mating : IsMating p.mating
 
 -- the puzzle of a board and tiles
-abbrev pub task_of : Figure → Bool → Border → List Tile → Task
-task_of board turns border tiles =
-    record { board = board; turns = turns; border = rule_of border; words = map word tiles }
+abbrev pub task_of : Figure → Bool → Border → Mating → List Tile → Task
+task_of board turns border mating tiles =
+    record { board = board; turns = turns; border = rule_of border; mating = mating; words = map word tiles }
 
 -- The rule asks for the colour on the border pair with this number, in border order.
 abbrev pub AsksAt : BorderRule → (number colour : ℕ) → Type 0

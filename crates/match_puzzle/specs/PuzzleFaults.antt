@@ -1,12 +1,24 @@
 -- What may be wrong with a puzzle.
-use Rattle.std.specs.Prelude.{◌≡◌, ◌≢◌, ◌<◌, ◌≤◌, ℕ, false, length}
+use Rattle.std.specs.Prelude.{◌≡◌, ◌≢◌, ◌⊎◌, ◌<◌, ◌≤◌, ℕ, false, List, length}
 use Rattle.match_board.specs.declared.limits.TheConstants.{MOST_COLOURS}
 use Rattle.match_board.specs.Board.{cell_count, side_count}
 use Rattle.match_board.specs.First.{Rank, rank_by, rank_by_two}
+use Rattle.match_puzzle.specs.Mates.{mate_in}
 use Rattle.match_puzzle.specs.Puzzle.{Task, word_of, StandsInRule, IsAsLongAsBorder}
 use Rattle.match_puzzle.specs.declared.faults.PuzzleFault.{PuzzleFault}
 use Rattle.match_puzzle.specs.declared.faults.PuzzleFault.TheVariants.{FixedTriangles, TileCount, TileSides, BadColour}
-use Rattle.match_puzzle.specs.declared.faults.PuzzleFault.TheVariants.{BorderLength, Memory}
+use Rattle.match_puzzle.specs.declared.faults.PuzzleFault.TheVariants.{BorderLength, Mates, Memory}
+
+-- The colour of the list has a mate that is not in the list, or has another mate.
+abbrev pub HasNoMateAt : List ℕ → ℕ → Type 0
+HasNoMateAt mates colour =
+    (colour < length mates)
+    × ((length mates ≤ mate_in mates colour) ⊎ (mate_in mates (mate_in mates colour) ≢ colour))
+
+-- It is so of the colour, or this is the place after the last colour, and the list is longer.
+abbrev pub BreaksMatesAt : List ℕ → ℕ → Type 0
+BreaksMatesAt mates place =
+    HasNoMateAt mates place ⊎ ((place ≡ MOST_COLOURS) × (MOST_COLOURS < length mates))
 
 -- When a fault occurs; want of memory is none of the puzzle.
 abbrev pub PuzzleFails : Task → PuzzleFault → Type 0
@@ -15,6 +27,7 @@ PuzzleFails p TileCount = length p.words ≢ cell_count p.board
 PuzzleFails p (TileSides tile) = (tile < length p.words) × (length (word_of p tile) ≢ side_count p.board)
 PuzzleFails p (BadColour place) = (colour : ℕ) × StandsInRule p.border place colour × (MOST_COLOURS ≤ colour)
 PuzzleFails p BorderLength = IsAsLongAsBorder p.board p.border → ⊥
+PuzzleFails p (Mates place) = BreaksMatesAt p.mating.mates place
 PuzzleFails p Memory = ⊥
 
 -- the order of the faults
@@ -24,4 +37,5 @@ puzzle_rank TileCount = rank_by 2
 puzzle_rank (TileSides tile) = rank_by_two 3 tile
 puzzle_rank (BadColour place) = rank_by_two 4 place
 puzzle_rank BorderLength = rank_by 5
-puzzle_rank Memory = rank_by 6
+puzzle_rank (Mates place) = rank_by_two 6 place
+puzzle_rank Memory = rank_by 7

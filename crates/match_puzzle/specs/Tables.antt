@@ -9,6 +9,7 @@ use Rattle.match_board.specs.Turns.{IsPeriod}
 use Rattle.match_puzzle.specs.Puzzle.{Task, IsPuzzle, word_of, HasRule}
 use Rattle.match_puzzle.specs.Colours.{IsColourCount}
 use Rattle.match_puzzle.specs.PlacementSets.{AreLegalNumbers, AreUnturnedLegal, AreShowingSets, AreShownColours}
+use Rattle.match_puzzle.specs.PlacementSets.{AreMatesShown}
 use Rattle.match_puzzle.specs.declared.tables.Side.{Side}
 use Rattle.match_puzzle.specs.declared.tables.Side.TheVariants.{Border, Edge}
 use Rattle.match_puzzle.specs.declared.tables.CellSides.{CellSides}
@@ -21,8 +22,8 @@ IsSide p cell side (Edge cell' side') =
     Meets p.board cell side cell' side' × ((c k : ℕ) → Meets p.board cell side c k → (c ≡ cell') × (k ≡ side'))
 
 -- Where the colour stands that is asked of a side, in a table that begins with each colour at its own place, one more
--- for none, and goes on with four places to a cell: what the border asks at its own place, what a neighbour shows at
--- the neighbour's.
+-- for none, and goes on with four places to a cell: what the border asks at its own place, the mate of what a
+-- neighbour shows at the neighbour's.
 abbrev pub place_asked : Side → ℕ
 place_asked (Border None) = MOST_COLOURS
 place_asked (Border (Some colour)) = colour
@@ -61,7 +62,7 @@ pub record AreTurnCounts (p : Task) (table : List ℕ) : Type 0 where
 
 -- what holds of each puzzle
 pub record IsMade (p : Task) (sides_table : List CellSides) (turns_table : List ℕ) (count : ℕ) (legal_numbers : List ℕ)
-    (showing_sets shown_table : List (List ℕ)) : Type 0 where
+    (showing_sets shown_table asked_table : List (List ℕ)) : Type 0 where
   pub puzzle : IsPuzzle p
   pub sides : AreSides p sides_table
   pub turn_counts : AreTurnCounts p turns_table
@@ -70,6 +71,7 @@ pub record IsMade (p : Task) (sides_table : List CellSides) (turns_table : List 
   pub unturned : AreUnturnedLegal p
   pub showing : AreShowingSets p.words showing_sets
   pub shown : AreShownColours p.words shown_table
+  pub asked : AreMatesShown p.mating.mates shown_table asked_table
 
 -- So many border pairs come before this pair.
 pub record IsNextNumber (s : Figure) (n : ℕ × ℕ) (number : ℕ) : Type 0 where

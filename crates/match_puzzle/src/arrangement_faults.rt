@@ -3,7 +3,7 @@
 ghost use Rattle.std.specs.Prelude.{◌≡◌, ◌≢◌, ◌<◌, ◌≤◌, ℕ, MatchOption, MatchBool, length};
 ghost use Rattle.match_board.specs.Board.{cell_count, side_count};
 ghost use Rattle.match_board.specs.First.{IsLeast, IsLeastPair};
-ghost use Rattle.match_puzzle.specs.Puzzle.{IsLegal, HasRule, colour_of};
+ghost use Rattle.match_puzzle.specs.Puzzle.{IsPuzzle, IsLegal, HasRule, colour_of};
 ghost use Rattle.match_puzzle.specs.Arrangement.{IsArrangement, MatchesEdgeAt, HaveTiles, AreLegal, StandOnce};
 ghost use Rattle.match_puzzle.specs.Arrangement.{ObeyBorder, MatchEdges};
 ghost use Rattle.match_puzzle.specs.ArrangementFaults.{IsArrangementFault, HasNoTileAt, HasNoTurnAt, RepeatsTileAt};
@@ -136,7 +136,7 @@ impl Puzzle {
         }
     }
 
-    // The first side that shows another colour than the one that it meets, with its cell.
+    // The first side that does not match the one that it meets, with its cell.
     fn broken_edge(&self, placements: &[Placement]) -> Option<(u32, u32)>
         requires long { length placements.now ≡ cell_count self.now.board }
         requires legal { AreLegal self.now placements.now }
@@ -151,7 +151,7 @@ impl Puzzle {
         None
     }
 
-    // The first side of the cell that shows another colour than the one that it meets.
+    // The first side of the cell that does not match the one that it meets.
     fn broken_edge_at(&self, cell: u16, placements: &[Placement]) -> Option<u32>
         requires cell { cell < cell_count self.now.board }
         requires long { length placements.now ≡ cell_count self.now.board }
@@ -169,8 +169,9 @@ impl Puzzle {
         None
     }
 
-    // Whether the side of the cell shows the colour of the side that it meets. A cell before it has shown so already.
+    // Whether the side of the cell matches the side that it meets. A cell before it has shown so already.
     fn matches_edge(&self, cell: u16, side: u8, placements: &[Placement]) -> bool
+        requires puzzle { IsPuzzle self.now }
         requires cell { cell < cell_count self.now.board }
         requires side { side < side_count self.now.board }
         requires long { length placements.now ≡ cell_count self.now.board }
@@ -189,7 +190,7 @@ impl Puzzle {
                 let there = placements[usize::from(other)];
                 other < cell
                     || self.shown(here)[usize::from(side)]
-                        == self.shown(there)[usize::from(other_side)]
+                        == self.asked_by(there)[usize::from(other_side)]
             }
         }
     }

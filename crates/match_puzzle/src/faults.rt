@@ -24,6 +24,10 @@ pub enum PuzzleFault {
     /// There are not as many rules in the border's list as border pairs.
     #[error("border-length")]
     BorderLength,
+    /// The colour at this place has no mate in the list, or one with another mate, and is the first such; or the list
+    /// is longer than there are colours, and this is the place after the last.
+    #[error("mates {0}")]
+    Mates(u32),
     #[error("out of memory")]
     Memory,
 }
@@ -54,7 +58,7 @@ pub enum ArrangementFault {
     /// This side of this cell does not show what the border asks.
     #[error("border {0} {1}")]
     BorderBroken(u32, u32),
-    /// This side of this cell and the side that it meets show different colours.
+    /// This side of this cell does not show the mate of what the side that it meets shows.
     #[error("edge {0} {1}")]
     EdgeBroken(u32, u32),
 }

@@ -99,7 +99,7 @@ impl<'a> Partial<'a> {
 
 impl Puzzle {
     /// Whether the placement may be put at the cell: cell and tile are free, the placement is legal, and it shows
-    /// what the border asks and what placed neighbours show.
+    /// what the border asks and what matches its placed neighbours.
     pub fn fits(&self, partial: &Partial<'_>, cell: u16, placement: Placement) -> bool
         requires made { partial.now.puzzle ≡ self.now }
         requires cell { cell < cell_count self.now.board }

@@ -23,9 +23,9 @@ pub struct Partial<'a> {
     placed: Vec<Option<Placement>>,
     // the legal placements of tiles that are not placed
     free: NumberSet,
-    // each colour at its own place, and behind them any; then the colour on each of four sides of each cell, or any where
-    // nothing stands
-    shown: Vec<u8>,
+    // each colour at its own place, and behind them any; then what each cell asks of those that it meets, four sides to
+    // a cell: the mates of what stands there shows, or any where nothing stands
+    asks: Vec<u8>,
 }
 
 impl<'a> Model for Partial<'a> {
@@ -36,7 +36,7 @@ impl<'a> Model for Partial<'a> {
 
     ghost view = { λ q. record { puzzle = q.puzzle.now; placed = q.placed.items } };
 
-    ghost invariant = { λ q. IsKept q.puzzle.now q.placed.items q.free q.shown.items };
+    ghost invariant = { λ q. IsKept q.puzzle.now q.placed.items q.free q.asks.items };
 }
 
 impl<'a> Partial<'a> {
@@ -54,12 +54,12 @@ impl<'a> Partial<'a> {
     {
         let cells = usize::from(puzzle.board().cells());
         let placed = vec![in alloc; None; cells]?;
-        let shown = nothing_shown(alloc, cells)?;
+        let asks = nothing_asked(alloc, cells)?;
         Ok(Partial {
             puzzle,
             placed,
             free: puzzle.legal_numbers().copy(),
-            shown,
+            asks,
         })
     }
 
@@ -80,12 +80,12 @@ impl<'a> Partial<'a> {
         ensures { IfOk result (λ q. q ≡ self.now) }
     {
         let placed = self.placed.to_vec(alloc)?;
-        let shown = self.shown.to_vec(alloc)?;
+        let asks = self.asks.to_vec(alloc)?;
         Ok(Partial {
             puzzle: self.puzzle,
             placed,
             free: self.free.copy(),
-            shown,
+            asks,
         })
     }
 
@@ -114,7 +114,7 @@ impl<'a> Partial<'a> {
             ↔ ((result ≡ colour) × (colour < MOST_COLOURS)) }
         ensures puzzle { IsPuzzle self.now.puzzle }
     {
-        self.shown[self.puzzle.asked_at(cell, side)]
+        self.asks[self.puzzle.asked_at(cell, side)]
     }
 
     /// What stands at the cell.
@@ -167,7 +167,7 @@ impl<'a> Partial<'a> {
     {
         self.placed[usize::from(cell)] = Some(placement);
         self.free.remove_group(placement.tile);
-        put(&mut self.shown, cell, self.puzzle.shown(placement));
+        put(&mut self.asks, cell, self.puzzle.asked_by(placement));
     }
 
     /// Takes the tile at the cell away.
@@ -179,7 +179,7 @@ impl<'a> Partial<'a> {
             self.placed[usize::from(cell)] = None;
             let turns = self.puzzle.legal_numbers().group(placement.tile);
             self.free.put_group(placement.tile, turns);
-            put(&mut self.shown, cell, [ANY_COLOUR; 4]);
+            put(&mut self.asks, cell, [ANY_COLOUR; 4]);
         }
     }
 }
@@ -215,32 +215,32 @@ impl<'a> Partial<'a> {
     }
 }
 
-// What is shown where nothing is placed on so many cells.
-fn nothing_shown(alloc: Global, cells: usize) -> Result<Vec<u8>, AllocError>
+// What is asked where nothing is placed on so many cells.
+fn nothing_asked(alloc: Global, cells: usize) -> Result<Vec<u8>, AllocError>
     requires { cells ≤ MOST_CELLS }
     ensures long { IfOk result (λ v. length v.items ≡ FIRST_PLACE + 4 * cells) }
     ensures colours { IfOk result (λ v. (colour : ℕ) → colour < ANY_COLOUR → slice_index v.items colour ≡ colour) }
     ensures any { IfOk result (λ v. (place : ℕ) → ANY_COLOUR ≤ place → place < FIRST_PLACE + 4 * cells
         → slice_index v.items place ≡ ANY_COLOUR) }
 {
-    let mut shown = vec![in alloc; ANY_COLOUR; FIRST_PLACE + 4 * cells]?;
+    let mut asks = vec![in alloc; ANY_COLOUR; FIRST_PLACE + 4 * cells]?;
     for colour in 0..ANY_COLOUR {
-        shown[usize::from(colour)] = colour;
+        asks[usize::from(colour)] = colour;
     }
-    Ok(shown)
+    Ok(asks)
 }
 
-// Puts down what is seen on the four sides of the cell.
-fn put(shown: &mut Vec<u8>, cell: u16, colours: [u8; 4])
-    requires { FIRST_PLACE + 4 * cell + 4 ≤ length shown.old.items }
-    ensures long { length shown.new.items ≡ length shown.old.items }
+// Puts down what the four sides of the cell ask.
+fn put(asks: &mut Vec<u8>, cell: u16, colours: [u8; 4])
+    requires { FIRST_PLACE + 4 * cell + 4 ≤ length asks.old.items }
+    ensures long { length asks.new.items ≡ length asks.old.items }
     ensures colours { (side : ℕ) → side < 4
-        → slice_index shown.new.items (FIRST_PLACE + 4 * cell + side) ≡ slice_index colours side }
+        → slice_index asks.new.items (FIRST_PLACE + 4 * cell + side) ≡ slice_index colours side }
     ensures others { (place : ℕ) → (place < FIRST_PLACE + 4 * cell) ⊎ (FIRST_PLACE + 4 * cell + 4 ≤ place)
-        → slice_index shown.new.items place ≡ slice_index shown.old.items place }
+        → slice_index asks.new.items place ≡ slice_index asks.old.items place }
 {
     for side in 0..4 {
-        shown[FIRST_PLACE + 4 * usize::from(cell) + side] = colours[side];
+        asks[FIRST_PLACE + 4 * usize::from(cell) + side] = colours[side];
     }
 }
 

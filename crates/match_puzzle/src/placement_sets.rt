@@ -5,8 +5,9 @@ ghost use Rattle.std.specs.Int.{bit_at};
 ghost use Rattle.match_board.specs.Listing.{IsListing};
 ghost use Rattle.match_board.specs.Tile.{word};
 ghost use Rattle.match_puzzle.specs.PlacementSets.{Shows, AreShowing, AreShowingSets};
-ghost use Rattle.match_puzzle.specs.PlacementSets.{AreColoursAfter, AreShownColours};
+ghost use Rattle.match_puzzle.specs.PlacementSets.{AreColoursAfter, AreShownColours, AreMatesShown};
 
+use crate::mates::mates_table;
 use crate::number_sets::NumberSet;
 use match_board::Tile;
 use match_board::limits::{MOST_COLOURS, MOST_TILES};
@@ -22,6 +23,8 @@ pub(crate) struct PlacementSets {
     pub(crate) showing: Vec<NumberSet>,
     /// What each placement shows, by number: the colour on each side, and `ANY_COLOUR` on a fourth that isn't there.
     pub(crate) shown: Vec<[u8; 4]>,
+    /// What each placement asks of those that it meets, by number: the mate of the colour on each side.
+    pub(crate) asked: Vec<[u8; 4]>,
 }
 
 /// What stands for no colour in particular, where a colour is asked.
@@ -120,11 +123,12 @@ fn legal_set(turn_counts: &[u8]) -> NumberSet
 }
 
 impl PlacementSets {
-    /// The sets of these tiles, of each of which so many turns are legal.
+    /// The sets of these tiles, of each of which so many turns are legal, where colours have these mates.
     pub(crate) fn new(
         alloc: Global,
         tiles: &[Tile],
         turn_counts: &[u8],
+        mates: &[u8],
     ) -> Result<PlacementSets, AllocError>
         requires tiles { length tiles.now ≤ MOST_TILES }
         requires as_many { length turn_counts.now ≤ MOST_TILES }
@@ -133,14 +137,17 @@ impl PlacementSets {
             (λ sets. IsListing ◌<◌ (λ n. n % 4 < slice_index turn_counts.now (n / 4)) sets.legal) }
         ensures showing { IfOk result (λ sets. AreShowingSets (map word tiles.now) sets.showing.items) }
         ensures shown { IfOk result (λ sets. AreShownColours (map word tiles.now) sets.shown.items) }
+        ensures asked { IfOk result (λ sets. AreMatesShown mates.now sets.shown.items sets.asked.items) }
     {
         let showing = showing_sets(alloc, tiles)?;
         let shown = shown_table(alloc, tiles)?;
+        let asked = mates_table(alloc, mates, &shown)?;
         let legal = legal_set(turn_counts);
         Ok(PlacementSets {
             legal,
             showing,
             shown,
+            asked,
         })
     }
 }

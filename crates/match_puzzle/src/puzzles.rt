@@ -4,11 +4,13 @@ ghost use Rattle.std.specs.Prelude.{◌≡◌, ◌≢◌, ◌<◌, ◌≤◌, �
 ghost use Rattle.std.specs.Prelude.{Some, length, map, []};
 ghost use Rattle.match_board.specs.Board.{cell_count, side_count, Meets};
 ghost use Rattle.match_board.specs.First.{IsFirst};
+ghost use Rattle.match_puzzle.specs.Mates.{IsOfVersion, mating_of, unmated, mated};
 ghost use Rattle.match_puzzle.specs.Puzzle.{Task, task_of, rule_of, IsPuzzle, IsShortRule};
 ghost use Rattle.match_puzzle.specs.PuzzleFaults.{PuzzleFails, puzzle_rank};
 
 use crate::borders::Border;
 use crate::faults::PuzzleFault;
+use crate::mates::{broken_mate, mate_in};
 use crate::number_sets::NumberSet;
 use crate::placement_sets::{ANY_COLOUR, PlacementSets};
 use crate::placements::Placement;
@@ -18,12 +20,15 @@ use match_board::{Board, Tile};
 use std::alloc::Global;
 use std::marker::Model;
 
-/// A board to be filled with tiles, each once, so that sides that meet show the same colour and the border is as asked.
+/// A board to be filled with tiles, each once, so that of two sides that meet the one shows the mate of what the other
+/// shows, and the border is as asked. In version 1 each colour is its own mate.
 #[derive(Drop)]
 pub struct Puzzle {
     board: Board,
     turns: bool,
     border: Border,
+    version: u8,
+    mates: Vec<u8>,
     tiles: Vec<Tile>,
     sides: Vec<CellSides>,
     turn_counts: Vec<u8>,
@@ -32,23 +37,29 @@ pub struct Puzzle {
 }
 
 impl Model for Puzzle {
+    ghost use Rattle.match_puzzle.specs.Mates.{mating_of};
     ghost use Rattle.match_puzzle.specs.Puzzle.{Task, task_of};
     ghost use Rattle.match_puzzle.specs.Tables.{IsMade};
 
     ghost Value = { Task };
 
-    ghost view = { λ p. task_of p.board p.turns p.border p.tiles.items };
+    ghost view = { λ p. task_of p.board p.turns p.border (mating_of p.version p.mates.items)
+        p.tiles.items };
 
-    ghost invariant = { λ p. IsMade (task_of p.board p.turns p.border p.tiles.items)
-        p.sides.items p.turn_counts.items p.colours p.sets.legal p.sets.showing.items p.sets.shown.items };
+    ghost invariant = { λ p. IsMade
+        (task_of p.board p.turns p.border (mating_of p.version p.mates.items) p.tiles.items)
+        p.sides.items p.turn_counts.items p.colours p.sets.legal p.sets.showing.items p.sets.shown.items
+        p.sets.asked.items };
 }
 
 impl Puzzle {
     ghost use Rattle.match_board.specs.Tile.{word};
-    ghost use Rattle.match_puzzle.specs.Puzzle.{IsLegal, HasRule, colour_of, word_of};
+    ghost use Rattle.match_puzzle.specs.Mates.{AreMates};
+    ghost use Rattle.match_puzzle.specs.Puzzle.{IsLegal, HasRule, colour_of, mate_of, word_of};
     ghost use Rattle.match_puzzle.specs.Colours.{IsColourCount};
     ghost use Rattle.match_puzzle.specs.Tables.{IsSide, IsAskedAt, IsTurnCount};
     ghost use Rattle.match_puzzle.specs.PlacementSets.{AreLegalNumbers, AreUnturnedLegal, AreShowing, ShowsColours};
+    ghost use Rattle.match_puzzle.specs.PlacementSets.{AsksColours};
 
     /// The puzzle of this board and these tiles, where tiles may be turned or not.
     ///
@@ -62,24 +73,77 @@ impl Puzzle {
     ) -> Result<Puzzle, PuzzleFault>
         requires tiles { length tiles.now < 2 ^ 32 }
         requires border { IsShortRule (rule_of border.now) }
-        ensures puzzle { IfOk result (λ p. (p ≡ task_of board turns border.now tiles.now) × IsPuzzle p) }
+        ensures puzzle { IfOk result (λ p. (p ≡ task_of board turns border.now unmated tiles.now) × IsPuzzle p) }
         ensures fault { IfErr result (λ f. f ≢ PuzzleFault.Memory
-            → IsFirst puzzle_rank (PuzzleFails (task_of board turns border.now tiles.now)) f) }
-        ensures memory { IsErrOf result PuzzleFault.Memory → IsPuzzle (task_of board turns border.now tiles.now) }
+            → IsFirst puzzle_rank (PuzzleFails (task_of board turns border.now unmated tiles.now)) f) }
+        ensures memory { IsErrOf result PuzzleFault.Memory
+            → IsPuzzle (task_of board turns border.now unmated tiles.now) }
     {
-        if let Some(fault) = puzzle_fault(board, turns, border, tiles) {
+        Puzzle::make(alloc, board, turns, border, 1, &[], tiles)
+    }
+
+    /// The puzzle of version 2 of this board and these tiles, where colours have the mates of this list.
+    ///
+    /// An `Err` is the first fault in the order of [`PuzzleFault`], with its least tile or place; `Memory` comes last.
+    pub fn with_mates(
+        alloc: Global,
+        board: Board,
+        turns: bool,
+        border: &Border,
+        mates: &[u8],
+        tiles: &[Tile],
+    ) -> Result<Puzzle, PuzzleFault>
+        requires tiles { length tiles.now < 2 ^ 32 }
+        requires border { IsShortRule (rule_of border.now) }
+        requires mates { length mates.now < 2 ^ 32 }
+        ensures puzzle { IfOk result
+            (λ p. (p ≡ task_of board turns border.now (mated mates.now) tiles.now) × IsPuzzle p) }
+        ensures fault { IfErr result (λ f. f ≢ PuzzleFault.Memory
+            → IsFirst puzzle_rank (PuzzleFails (task_of board turns border.now (mated mates.now) tiles.now)) f) }
+        ensures memory { IsErrOf result PuzzleFault.Memory
+            → IsPuzzle (task_of board turns border.now (mated mates.now) tiles.now) }
+    {
+        Puzzle::make(alloc, board, turns, border, 2, mates, tiles)
+    }
+
+    // The puzzle of this version.
+    fn make(
+        alloc: Global,
+        board: Board,
+        turns: bool,
+        border: &Border,
+        version: u8,
+        mates: &[u8],
+        tiles: &[Tile],
+    ) -> Result<Puzzle, PuzzleFault>
+        requires tiles { length tiles.now < 2 ^ 32 }
+        requires border { IsShortRule (rule_of border.now) }
+        requires mates { length mates.now < 2 ^ 32 }
+        requires version { IsOfVersion (mating_of version mates.now) }
+        ensures puzzle { IfOk result (λ p. (p ≡ task_of board turns border.now
+            (mating_of version mates.now) tiles.now) × IsPuzzle p) }
+        ensures fault { IfErr result (λ f. f ≢ PuzzleFault.Memory
+            → IsFirst puzzle_rank (PuzzleFails (task_of board turns border.now
+            (mating_of version mates.now) tiles.now)) f) }
+        ensures memory { IsErrOf result PuzzleFault.Memory
+            → IsPuzzle (task_of board turns border.now (mating_of version mates.now) tiles.now) }
+    {
+        if let Some(fault) = puzzle_fault(board, turns, border, version, mates, tiles) {
             return Err(fault);
         }
         let sides = sides_table(alloc, board, border)?;
         let turn_counts = turn_counts(alloc, turns, tiles)?;
-        let colours = colour_count(border, tiles);
-        let sets = PlacementSets::new(alloc, tiles, &turn_counts)?;
+        let colours = colour_count(border, mates, tiles);
+        let sets = PlacementSets::new(alloc, tiles, &turn_counts, mates)?;
         let border = border.copy(alloc)?;
+        let mates = mates.to_vec(alloc)?;
         let tiles = tiles.to_vec(alloc)?;
         Ok(Puzzle {
             board,
             turns,
             border,
+            version,
+            mates,
             tiles,
             sides,
             turn_counts,
@@ -110,6 +174,32 @@ impl Puzzle {
         &self.border
     }
 
+    /// 1, or 2 where colours have mates by a list.
+    pub fn version(&self) -> u8
+        ensures version { result ≡ self.now.mating.version }
+        ensures two { IsOfVersion self.now.mating }
+    {
+        self.version
+    }
+
+    /// The list of mates: entry i is the mate of colour i, and a colour past the end is its own mate.
+    pub fn mates(&self) -> &[u8]
+        ensures list { result.now ≡ self.now.mating.mates }
+        ensures mates { AreMates result.now }
+    {
+        self.mates.as_slice()
+    }
+
+    /// The mate of a colour.
+    pub fn mate(&self, colour: u8) -> u8
+        requires { colour < MOST_COLOURS }
+        ensures mate { result ≡ mate_of self.now colour }
+        ensures below { result < MOST_COLOURS }
+        ensures puzzle { IsPuzzle self.now }
+    {
+        mate_in(&self.mates, colour)
+    }
+
     /// The tiles, by number.
     pub fn tiles(&self) -> &[Tile]
         ensures { map word result.now ≡ self.now.words }
@@ -117,7 +207,7 @@ impl Puzzle {
         self.tiles.as_slice()
     }
 
-    /// One more than the greatest colour on a tile or in the border's rule.
+    /// One more than the greatest colour on a tile, in the border's rule or in the list of mates.
     pub fn colours(&self) -> u8
         ensures { IsColourCount self.now result }
     {
@@ -168,7 +258,7 @@ impl Puzzle {
         self.sides[usize::from(cell)].sides[usize::from(side)]
     }
 
-    // Where in a table of what is shown the colour stands that is asked of the side; none, where there is no such side.
+    // Where in a table of what cells ask the colour stands that is asked of the side; none, where there is no such side.
     pub(crate) fn asked_at(&self, cell: u16, side: u8) -> usize
         requires cell { cell < cell_count self.now.board }
         requires side { side < 4 }
@@ -210,6 +300,15 @@ impl Puzzle {
         self.sets.shown[4 * usize::from(placement.tile) + usize::from(placement.turn)]
     }
 
+    // What the placement asks of those that it meets: the mate of the colour on each side, and something on a fourth
+    // that isn't there.
+    pub(crate) fn asked_by(&self, placement: Placement) -> [u8; 4]
+        requires { IsLegal self.now placement }
+        ensures { AsksColours self.now placement result }
+    {
+        self.sets.asked[4 * usize::from(placement.tile) + usize::from(placement.turn)]
+    }
+
     /// The colour that a placed tile shows on a side.
     #[tactic(auto, unfolding(crate::specs::Puzzle::colour_of))]
     pub fn colour(&self, placement: Placement, side: u8) -> u8
@@ -231,12 +330,23 @@ impl Puzzle {
     }
 }
 
-// What is wrong with the puzzle of this board and these tiles.
-fn puzzle_fault(board: Board, turns: bool, border: &Border, tiles: &[Tile]) -> Option<PuzzleFault>
+// What is wrong with the puzzle of this board, these mates and these tiles.
+fn puzzle_fault(
+    board: Board,
+    turns: bool,
+    border: &Border,
+    version: u8,
+    mates: &[u8],
+    tiles: &[Tile],
+) -> Option<PuzzleFault>
     requires tiles { length tiles.now < 2 ^ 32 }
     requires border { IsShortRule (rule_of border.now) }
-    ensures { MatchOption result (IsPuzzle (task_of board turns border.now tiles.now))
-        (IsFirst puzzle_rank (PuzzleFails (task_of board turns border.now tiles.now))) }
+    requires mates { length mates.now < 2 ^ 32 }
+    requires version { IsOfVersion (mating_of version mates.now) }
+    ensures { MatchOption result
+        (IsPuzzle (task_of board turns border.now (mating_of version mates.now) tiles.now))
+        (IsFirst puzzle_rank (PuzzleFails
+        (task_of board turns border.now (mating_of version mates.now) tiles.now))) }
 {
     if board.sides() == 3 && !turns {
         return Some(PuzzleFault::FixedTriangles);
@@ -252,6 +362,9 @@ fn puzzle_fault(board: Board, turns: bool, border: &Border, tiles: &[Tile]) -> O
     }
     if !border.is_as_long_as(board) {
         return Some(PuzzleFault::BorderLength);
+    }
+    if let Some(place) = broken_mate(mates) {
+        return Some(PuzzleFault::Mates(place));
     }
     None
 }

@@ -9,6 +9,7 @@ ghost use Rattle.match_board.specs.Tile.{word};
 ghost use Rattle.match_board.specs.Turns.{IsPeriod};
 ghost use Rattle.match_board.specs.declared.tiles.Tile.{Tile as BoardTile};
 ghost use Rattle.match_puzzle.specs.declared.borders.Border.{Border as BorderRules};
+ghost use Rattle.match_puzzle.specs.Mates.{Mating, mating_of};
 ghost use Rattle.match_puzzle.specs.Puzzle.{Task, task_of, rule_of, StandsInRule, IsAsLongAsBorder};
 ghost use Rattle.match_puzzle.specs.Colours.{IsColourCount};
 ghost use Rattle.match_puzzle.specs.Tables.{IsSide, AreSides, AreTurnCounts, IsNextNumber};
@@ -34,11 +35,11 @@ pub(crate) enum Side {
 #[derive(Clone, Copy, PartialEq, Eq, Debug)]
 pub(crate) struct CellSides {
     pub(crate) sides: [Side; 4],
-    /// Where in a table of what is shown the colour stands that is asked of each side.
+    /// Where in a table of what cells ask the colour stands that is asked of each side.
     pub(crate) asked_at: [usize; 4],
 }
 
-/// Where the first cell begins in a table of what is shown, which has four places to a cell. Before it stands each
+/// Where the first cell begins in a table of what cells ask, which has four places to a cell. Before it stands each
 /// colour at its own place, and behind the last one what stands for none.
 pub(crate) const FIRST_PLACE: usize = ANY_COLOUR as usize + 1;
 
@@ -50,7 +51,8 @@ pub(crate) fn sides_table(
 ) -> Result<Vec<CellSides>, AllocError>
     requires { IsAsLongAsBorder board (rule_of border.now) }
     ensures { IfOk result
-        (λ v. (turns : Bool) (tiles : List BoardTile) → AreSides (task_of board turns border.now tiles) v.items) }
+        (λ v. (turns : Bool) (mating : Mating) (tiles : List BoardTile)
+        → AreSides (task_of board turns border.now mating tiles) v.items) }
 {
     let mut table = Vec::with_capacity(alloc, usize::from(board.cells()))?;
     let mut number = 0;
@@ -66,8 +68,9 @@ fn cell_sides(board: Board, border: &Border, cell: u16, number: &mut u16) -> Cel
     requires cell { cell < cell_count board }
     requires border { IsAsLongAsBorder board (rule_of border.now) }
     requires number { IsNextNumber board (cell, 0) number.old }
-    ensures sides { (turns : Bool) (tiles : List BoardTile) (side : ℕ) (x : Side) → side < side_count board
-        → slice_get result.sides side ≡ Some x → IsSide (task_of board turns border.now tiles) cell side x }
+    ensures sides { (turns : Bool) (mating : Mating) (tiles : List BoardTile) (side : ℕ) (x : Side)
+        → side < side_count board → slice_get result.sides side ≡ Some x
+        → IsSide (task_of board turns border.now mating tiles) cell side x }
     ensures outside { (side : ℕ) → side_count board ≤ side → side < 4
         → slice_get result.sides side ≡ Some (sides.Border None) }
     ensures asked { AreAskedAt result.sides result.asked_at }
@@ -112,8 +115,8 @@ fn side_at(board: Board, border: &Border, cell: u16, side: u8, number: &mut u16)
     requires side { side < side_count board }
     requires border { IsAsLongAsBorder board (rule_of border.now) }
     requires number { IsNextNumber board (cell, side) number.old }
-    ensures side { (turns : Bool) (tiles : List BoardTile)
-        → IsSide (task_of board turns border.now tiles) cell side result }
+    ensures side { (turns : Bool) (mating : Mating) (tiles : List BoardTile)
+        → IsSide (task_of board turns border.now mating tiles) cell side result }
     ensures number { IsNextNumber board (cell, side + 1) number.new }
 {
     match board.meets(cell, side) {
@@ -129,7 +132,8 @@ fn side_at(board: Board, border: &Border, cell: u16, side: u8, number: &mut u16)
 /// How many turns of each tile are legal.
 pub(crate) fn turn_counts(alloc: Global, turns: bool, tiles: &[Tile]) -> Result<Vec<u8>, AllocError>
     ensures { IfOk result
-        (λ v. (board : Figure) (border : BorderRules) → AreTurnCounts (task_of board turns border tiles.now) v.items) }
+        (λ v. (board : Figure) (border : BorderRules) (mating : Mating)
+        → AreTurnCounts (task_of board turns border mating tiles.now) v.items) }
 {
     let mut table = Vec::with_capacity(alloc, tiles.len())?;
     for tile in tiles {
@@ -145,12 +149,14 @@ fn turn_count(turns: bool, tile: &Tile) -> u8
     if turns { tile.period() } else { 1 }
 }
 
-/// One more than the greatest colour on a tile or in the border's rule.
-pub(crate) fn colour_count(border: &Border, tiles: &[Tile]) -> u8
-    requires { (place colour : ℕ) → StandsInRule (rule_of border.now) place colour → colour < MOST_COLOURS }
-    ensures { (board : Figure) (turns : Bool) → IsColourCount (task_of board turns border.now tiles.now) result }
+/// One more than the greatest colour on a tile, in the border's rule or in the list of mates.
+pub(crate) fn colour_count(border: &Border, mates: &[u8], tiles: &[Tile]) -> u8
+    requires border { (place colour : ℕ) → StandsInRule (rule_of border.now) place colour → colour < MOST_COLOURS }
+    requires mates { length mates.now ≤ MOST_COLOURS }
+    ensures { (board : Figure) (turns : Bool) (version : ℕ) → IsColourCount
+        (task_of board turns border.now (mating_of version mates.now) tiles.now) result }
 {
-    let mut count = border.colour_count();
+    let mut count = named_colour_count(border, mates);
     for tile in tiles {
         let of_tile = tile_colour_count(tile);
         if of_tile > count {
@@ -158,6 +164,18 @@ pub(crate) fn colour_count(border: &Border, tiles: &[Tile]) -> u8
         }
     }
     count
+}
+
+// One more than the greatest colour in the border's rule or in the list of mates.
+fn named_colour_count(border: &Border, mates: &[u8]) -> u8
+    requires border { (place colour : ℕ) → StandsInRule (rule_of border.now) place colour → colour < MOST_COLOURS }
+    requires mates { length mates.now ≤ MOST_COLOURS }
+    ensures border { (place colour : ℕ) → StandsInRule (rule_of border.now) place colour → colour < result }
+    ensures mates { length mates.now ≤ result }
+    ensures least { (other : ℕ) → ((place colour : ℕ) → StandsInRule (rule_of border.now) place colour → colour < other)
+        → length mates.now ≤ other → result ≤ other }
+{
+    border.colour_count().max(mates.len() as u8)
 }
 
 // One more than the greatest colour on the tile.

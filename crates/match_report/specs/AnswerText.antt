@@ -1,5 +1,6 @@
 -- How an answer is printed.
-use Rattle.std.specs.Prelude.{◌≢◌, ℕ, List, [], ◌∷◌, codes, decimal}
+use Rattle.std.specs.Prelude.{◌<◌, ℕ, List, [], ◌∷◌, codes, decimal}
+use Rattle.match_board.specs.declared.limits.TheConstants.{MOST_COLOURS}
 use Rattle.match_puzzle.specs.declared.faults.ArrangementFault.{ArrangementFault}
 use Rattle.match_puzzle.specs.declared.faults.ArrangementFault.TheVariants as arrangements
 use Rattle.match_puzzle.specs.declared.faults.PrefixFault.{PrefixFault}
@@ -12,7 +13,7 @@ use Rattle.cert_check.specs.declared.faults.Fault.{Fault}
 use Rattle.cert_check.specs.declared.faults.Fault.TheVariants as faults
 use Rattle.cert_check.specs.declared.faults.Answer.{Answer}
 use Rattle.cert_check.specs.declared.faults.Answer.TheVariants.{Complete, Refused}
-use Rattle.match_text.specs.Spelling.{line_text}
+use Rattle.match_text.specs.Spelling.{colour_word, line_text}
 use Rattle.match_report.specs.Line.{path_text}
 
 unfoldable pub arrangement_fault_words : ArrangementFault → List (List ℕ)
@@ -30,6 +31,7 @@ symmetry_fault_words symmetries.Tiles = codes "tiles" ∷ []
 symmetry_fault_words (symmetries.EdgeBroken cell side) = codes "edge" ∷ decimal cell ∷ decimal side ∷ []
 symmetry_fault_words (symmetries.BorderBroken cell side) = codes "border" ∷ decimal cell ∷ decimal side ∷ []
 symmetry_fault_words (symmetries.TileBroken tile) = codes "tile" ∷ decimal tile ∷ []
+symmetry_fault_words (symmetries.MatesBroken colour) = codes "mates" ∷ colour_word colour ∷ []
 symmetry_fault_words symmetries.Memory = []
 
 unfoldable pub prefix_fault_words : PrefixFault → List (List ℕ)
@@ -65,6 +67,13 @@ unfoldable pub answer_line : Answer → ℕ → List ℕ
 answer_line Complete listed = line_text (codes "complete" ∷ decimal listed ∷ [])
 answer_line (Refused fault) listed = line_text (codes "refused" ∷ fault_words fault)
 
--- The answer isn't want of memory for a symmetry.
-abbrev pub HoldsNoMemory : Answer → Type 0
-HoldsNoMemory answer = (number : ℕ) → answer ≢ Refused (faults.Symmetry number symmetries.Memory)
+-- The fault of a symmetry has words: it isn't want of memory, and a colour that it names has a character.
+abbrev pub HasWords : SymmetryFault → Type 0
+HasWords (symmetries.MatesBroken colour) = colour < MOST_COLOURS
+HasWords symmetries.Memory = ⊥
+HasWords fault = Unit {0}
+
+-- The answer has a line: the fault of a symmetry in it has words.
+abbrev pub HasLine : Answer → Type 0
+HasLine (Refused (faults.Symmetry number fault)) = HasWords fault
+HasLine answer = Unit {0}

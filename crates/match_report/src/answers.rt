@@ -1,13 +1,14 @@
 //! How an answer is printed.
 
-ghost use Rattle.std.specs.Prelude.{◌≡◌, ◌≢◌, ◌++◌, [], ◌∷◌, ℕ, decimal, IfOk, OnOk};
+ghost use Rattle.std.specs.Prelude.{◌≡◌, ◌++◌, [], ◌∷◌, decimal, IfOk, OnOk};
 ghost use Rattle.match_text.specs.Spelling.{spaced};
-ghost use Rattle.match_report.specs.AnswerText.{HoldsNoMemory, answer_line, fault_words, node_fault_words};
+ghost use Rattle.match_report.specs.AnswerText.{HasLine, HasWords, answer_line, fault_words, node_fault_words};
 ghost use Rattle.match_report.specs.AnswerText.{arrangement_fault_words, symmetry_fault_words, prefix_fault_words};
 
 use crate::lines::Line;
 use cert_check::{Answer, Fault, NodeFault};
 use match_puzzle::{ArrangementFault, PrefixFault};
+use match_text::character;
 use puzzle_symmetry::SymmetryFault;
 use std::alloc::{AllocError, Global};
 
@@ -41,7 +42,7 @@ fn put_arrangement_fault(line: &mut Line, fault: &ArrangementFault) -> Result<()
 
 #[tactic(auto, using(crate::proofs::LineLemmas::line_laws), unfolding(crate::specs::AnswerText::symmetry_fault_words))]
 fn put_symmetry_fault(line: &mut Line, fault: &SymmetryFault) -> Result<(), AllocError>
-    requires { fault.now ≢ SymmetryFault.Memory }
+    requires { HasWords fault.now }
     ensures { OnOk result (line.new ≡ line.old ++ spaced (symmetry_fault_words fault.now)) }
 {
     match *fault {
@@ -57,6 +58,10 @@ fn put_symmetry_fault(line: &mut Line, fault: &SymmetryFault) -> Result<(), Allo
             line.number(side)
         }
         SymmetryFault::TileBroken(tile) => put_numbered(line, b"tile", tile),
+        SymmetryFault::MatesBroken(colour) => {
+            line.word(b"mates")?;
+            line.word(&[character(colour as u8)])
+        }
         SymmetryFault::Memory => unreachable!(),
     }
 }
@@ -97,7 +102,7 @@ fn put_node_fault(line: &mut Line, fault: &NodeFault) -> Result<(), AllocError>
 
 #[tactic(auto, using(crate::proofs::LineLemmas::line_laws), unfolding(crate::specs::AnswerText::fault_words))]
 fn put_fault(line: &mut Line, fault: &Fault) -> Result<(), AllocError>
-    requires { (number : ℕ) → fault.now ≢ Fault.Symmetry number SymmetryFault.Memory }
+    requires { HasLine (Answer.Refused fault.now) }
     ensures { OnOk result (line.new ≡ line.old ++ spaced (fault_words fault.now)) }
 {
     match fault {
@@ -127,7 +132,7 @@ fn put_fault(line: &mut Line, fault: &Fault) -> Result<(), AllocError>
 /// The line of an answer on a list of so many arrangements.
 #[tactic(auto, using(crate::proofs::LineLemmas::line_laws), unfolding(crate::specs::AnswerText::answer_line))]
 pub fn write_answer(alloc: Global, answer: &Answer, listed: u32) -> Result<Vec<u8>, AllocError>
-    requires { HoldsNoMemory answer.now }
+    requires { HasLine answer.now }
     ensures { IfOk result (λ text. text.items ≡ answer_line answer.now listed) }
 {
     let line = match answer {

@@ -9,6 +9,10 @@ use Rattle.match_puzzle.proofs.FittingLemmas.{small_turn}
 use Rattle.puzzle_symmetry.specs.Motion.{Motion}
 use Rattle.puzzle_symmetry.specs.declared.lines.SymmetryLine.{SymmetryLine}
 use Rattle.puzzle_symmetry.specs.Symmetry.{IsSymmetry}
+use Rattle.puzzle_symmetry.specs.SymmetryFaults.{SymmetryFails}
+use Rattle.puzzle_symmetry.specs.declared.faults.SymmetryFault.{SymmetryFault}
+use Rattle.puzzle_symmetry.specs.declared.faults.SymmetryFault.TheVariants as symmetries
+use Rattle.puzzle_symmetry.proofs.FaultLemmas.{few_colours}
 use Rattle.puzzle_symmetry.proofs.Reaching.{reached_is}
 use Rattle.match_text.specs.ListSpelling.{IsPlacementWithin, IsRowWithin, IsListWithin}
 use Rattle.match_text.specs.declared.faults.TextFault.{TextFault}
@@ -20,11 +24,13 @@ use Rattle.cert_check.specs.Setting.{Question, line_of}
 use Rattle.cert_check.specs.Answer.{AreSymmetries, IsAnswer, IsCompleteList}
 use Rattle.cert_check.proofs.ListLemmas.{contains_at, contains_none, mapped_at, place_of}
 use Rattle.cert_check.specs.declared.faults.Answer.{Answer}
+use Rattle.cert_check.specs.declared.faults.Answer.TheVariants.{Refused}
+use Rattle.cert_check.specs.declared.faults.Fault.TheVariants as checks
 use Rattle.match_report.specs.Closure.{AddsEach}
 use Rattle.match_report.proofs.ClosureLemmas.{each_only}
 use Rattle.match_report.proofs.ExpansionLemmas.{has_what_is_reached}
 use Rattle.match_runs.proofs.RepetitionLemmas.{more_are_reached}
-use Rattle.match_report.specs.AnswerText.{HoldsNoMemory}
+use Rattle.match_report.specs.AnswerText.{HasLine, HasWords}
 use Rattle.match_report.specs.declared.expansions.ExpandFault.{ExpandFault}
 use Rattle.match_report.specs.declared.expansions.ExpandFault.TheVariants as expansions
 use Rattle.match_report.specs.Expansion.{AreMoreReached, AreOf, IsExpansion, HasWhatIsReached}
@@ -49,9 +55,16 @@ pub lemmas_fail : (fault : AssembleFault) (outcome : Result Said TextFault) → 
 lemmas_fail fault (Ok said) makes = (said, refl, makes)
 lemmas_fail fault (Err other) gives = absurd gives
 
--- an answer is no want of memory
-pub no_memory : (question : Question) (answer : Answer) → IsAnswer question answer → HoldsNoMemory answer
-no_memory question answer is number e = let occurs = (subst (IsAnswer question) e is).occurs in absurd (occurs.2.occurs)
+-- a fault that a symmetry's line has, has words
+has_words : (p : Task) (g : SymmetryLine) → IsPuzzle p → (fault : SymmetryFault) → SymmetryFails p g fault → HasWords fault
+has_words p g puzzle (symmetries.MatesBroken colour) fails = let few = few_colours p puzzle fails.1 in omega (arith, few, fails.2)
+has_words p g puzzle symmetries.Memory fails = fails
+has_words p g puzzle _ fails = tt
+
+-- an answer has a line
+pub has_line : (question : Question) (answer : Answer) → IsPuzzle question.puzzle → IsAnswer question answer → HasLine answer
+has_line question (Refused (checks.Symmetry number fault)) puzzle is = has_words question.puzzle is.occurs.0 puzzle fault is.occurs.2.occurs
+has_line question _ puzzle is = tt
 
 -- ---- lists of all arrangements
 

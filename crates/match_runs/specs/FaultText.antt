@@ -95,6 +95,7 @@ puzzle_fault_words puzzles.TileCount = codes "puzzle:" ∷ codes "tile-count" �
 puzzle_fault_words (puzzles.TileSides tile) = codes "puzzle:" ∷ codes "tile-sides" ∷ decimal tile ∷ []
 puzzle_fault_words (puzzles.BadColour place) = codes "puzzle:" ∷ codes "bad-colour" ∷ decimal place ∷ []
 puzzle_fault_words puzzles.BorderLength = codes "puzzle:" ∷ codes "border-length" ∷ []
+puzzle_fault_words (puzzles.Mates place) = codes "puzzle:" ∷ codes "mates" ∷ decimal place ∷ []
 puzzle_fault_words puzzles.Memory = memory_words
 
 unfoldable pub puzzle_text_fault_words : PuzzleTextFault → List (List ℕ)

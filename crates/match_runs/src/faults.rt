@@ -254,6 +254,7 @@ fn puzzle_fault_line(alloc: Global, fault: &PuzzleFault) -> Result<Vec<u8>, Allo
         PuzzleFault::TileSides(tile) => numbered_puzzle_line(alloc, b"tile-sides", tile),
         PuzzleFault::BadColour(place) => numbered_puzzle_line(alloc, b"bad-colour", place),
         PuzzleFault::BorderLength => puzzle_line(alloc, b"border-length"),
+        PuzzleFault::Mates(place) => numbered_puzzle_line(alloc, b"mates", place),
         PuzzleFault::Memory => memory_line(alloc),
     }
 }

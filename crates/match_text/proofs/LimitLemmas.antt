@@ -3,6 +3,7 @@ use Rattle.std.proofs.Common.{◌≡◌, ◌⊎◌, ◌<◌, ◌≤◌, ◌+◌,
 use Rattle.match_board.specs.declared.limits.TheConstants.{MOST_CELLS, MOST_LENGTH, MOST_RULES, MOST_COLOURS}
 use Rattle.std.specs.Prelude.{slice_get, slice_index_or}
 use Rattle.std.specs.List.{AllByRecursion}
+use Rattle.std.proofs.lemmas.List.{get_or_default}
 use Rattle.std.proofs.lemmas.List.Elements.{All-contains_itself}
 use Rattle.match_board.specs.Board.{cell_count, side_count, row_length, IsBoard, IsBorderPair, IsBorderOrder, StandsAt, LiesAgainst}
 use Rattle.match_board.specs.declared.figures.Figure.{Figure}
@@ -120,11 +121,18 @@ words_within sides few (word ∷ words) long colours = (
   words_within sides few words (λ tile lt. long (suc tile) (omega (arith, lt))) (λ tile lt. colours (suc tile) (omega (arith, lt))),
 )
 
+listed_within : (mates : List ℕ) → ((k : ℕ) → k < length mates → slice_index_or mates k k < MOST_COLOURS) → AllByRecursion (λ c. c < MOST_COLOURS) mates
+listed_within mates h = colours_within mates (λ k d lt. subst (λ n. n < MOST_COLOURS) (get_or_default mates k k d lt) (h k lt))
+
+mates_below : (p : Task) → IsPuzzle p → (k : ℕ) → k < length p.mating.mates → slice_index_or p.mating.mates k k < MOST_COLOURS
+mates_below p is k lt = let few = is.mating.mates.few in let mate = (is.mating.mates.each k lt).0 in omega (arith, few, mate)
+
 pub puzzle_within : (p : Task) → IsPuzzle p → IsTaskWithin p
 puzzle_within p is = record {
   board = figure_within p.board is.board;
   border = border_within p.board is.board p.border is.border is.border_colours;
   some_tiles = omega (arith, is.tiles, is.board.0);
   few_tiles = omega (arith, is.tiles, is.board.1);
+  mating = (is.mating.version, is.mating.mates.few, listed_within p.mating.mates (λ k lt. mates_below p is k lt));
   words = words_within (side_count p.board) (three_or_four p.board) p.words is.sides is.tile_colours;
 }

@@ -286,6 +286,22 @@ module _ {X : Type 0} (test : List ℕ → Result X TextKind) (word_of : X → L
     passes = λ xs fits line ahead. rw (some_again xs fits.0 line ahead) (all_entries_again room xs fits line ahead);
   }
 
+-- the rest of a line as entries, up to so many, or none
+module _ {X : Type 0} (test : List ℕ → Result X TextKind) (word_of : X → List ℕ) (Fits : X → Type 0) (spells : Spells test word_of Fits) where
+  any_from_is : (room : ℕ) (p : Place) (outcome : Result (List X) TextKind) → entries_in room test p.words ≡ outcome → (xs : List X) (q : Place) → entries_from p outcome ≡ Ok (xs, q)
+      → (p.words ≡ map word_of xs) × (p.ahead ≡ q.ahead) × (length xs ≤ room) × AllByRecursion Fits xs
+  any_from_is room p (Ok ys) is xs q e =
+      let h = entries_is test word_of Fits spells room p.words ys is in
+      subst (λ (z : List X × Place). (p.words ≡ map word_of z.0) × (p.ahead ≡ z.1.ahead) × (length z.0 ≤ room) × AllByRecursion Fits z.0) (ok_is (ys, place p.line [] p.ahead) (xs, q) e) (h.0, refl, h.1, h.2)
+  any_from_is room p (Err k) is xs q e = absurd cc
+
+  pub takes_any_entries : (room : ℕ) → TakesRest (entries room test) (map word_of) (λ xs. (length xs ≤ room) × AllByRecursion Fits xs)
+  unfolding entries
+  takes_any_entries room = record {
+    is = λ p xs q e none. let h = any_from_is room p (entries_in room test p.words) refl xs q e in (h.0, h.1, (h.2, h.3));
+    passes = λ xs fits line ahead. rw (entries_again test word_of Fits spells room xs fits.0 fits.1) refl;
+  }
+
 -- ---- lines that texts have in common
 
 -- a line of a word and one that spells a value

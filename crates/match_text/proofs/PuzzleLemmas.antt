@@ -5,45 +5,47 @@ use Rattle.std.specs.List.{flat_map, AllByRecursion}
 use Rattle.std.proofs.lemmas.List.{append-nil}
 use Rattle.std.proofs.lemmas.List.Concat.{flat_map_single}
 use Rattle.match_board.specs.declared.figures.Figure.{Figure}
+use Rattle.match_puzzle.specs.Mates.{Mating}
 use Rattle.match_puzzle.specs.Puzzle.{Task, BorderRule}
+use Rattle.match_text.specs.declared.puzzles.PuzzleVersion.{PuzzleVersion}
 use Rattle.match_text.specs.Laws.{ReadsSpellingsAlone, ReadsEachSpelling, EndsWhereCut}
-use Rattle.match_text.specs.Place.{Place, Read, ◌>>=◌, give, times, opening, counted, closing, start}
-use Rattle.match_text.specs.Puzzles.{board_line, turns_line, border_line, tile_line, puzzle_text, puzzle_of}
-use Rattle.match_text.specs.Spelling.{text_of, first_words, count_words, end_lines}
-use Rattle.match_text.specs.PuzzleSpelling.{board_words, turns_words, border_words, tile_words, puzzle_lines, puzzle_spelling, IsWordWithin, IsTaskWithin}
-use Rattle.match_text.proofs.CutLemmas.{CutsShort, LeavesNothing, place, bind_ok, ok_is, cuts_bind, cuts_give, cuts_times, cuts_opening, cuts_counted, cuts_closing, leaves_closing, leaves_after}
-use Rattle.match_text.proofs.LineLemmas.{takes_opening, takes_counted, closing_is, closing_again, times_is, times_again, lines_then}
-use Rattle.match_text.proofs.PuzzleLineLemmas.{takes_board, takes_turns, takes_border, takes_tile, cuts_board, cuts_turns, cuts_border, cuts_tile}
+use Rattle.match_text.specs.Place.{Place, Read, ◌>>=◌, give, times, counted, closing, start}
+use Rattle.match_text.specs.Puzzles.{match_line, mating_part, board_line, turns_line, border_line, tile_line, puzzle_text, puzzle_of}
+use Rattle.match_text.specs.Spelling.{text_of, count_words, end_lines}
+use Rattle.match_text.specs.PuzzleSpelling.{board_words, turns_words, border_words, tile_words, puzzle_lines, puzzle_spelling, IsWordWithin, IsTaskWithin, match_words, mates_lines, version_of}
+use Rattle.match_text.proofs.CutLemmas.{CutsShort, LeavesNothing, place, bind_ok, ok_is, cuts_bind, cuts_give, cuts_times, cuts_counted, cuts_closing, leaves_closing, leaves_after}
+use Rattle.match_text.proofs.LineLemmas.{takes_counted, closing_is, closing_again, times_is, times_again, lines_then}
+use Rattle.match_text.proofs.PuzzleLineLemmas.{takes_match, mating_is, mating_again, cuts_match, cuts_mating, takes_board, takes_turns, takes_border, takes_tile, cuts_board, cuts_turns, cuts_border, cuts_tile}
 use Rattle.match_text.proofs.TextLaws.{reads_alone, reads_each, ends_where_cut}
-use Rattle.match_text.proofs.WritingLemmas.{text_of-append, seven_parts}
+use Rattle.match_text.proofs.WritingLemmas.{text_of-append, eight_parts}
 
-abbrev task : Figure → Bool → BorderRule → List (List ℕ) → Task
-task board turns border words = record { board = board; turns = turns; border = border; words = words }
+abbrev task : Figure → Bool → BorderRule → Mating → List (List ℕ) → Task
+task board turns border mating words = record { board = board; turns = turns; border = border; mating = mating; words = words }
 
 -- ---- what is still read behind each line
 
-abbrev after_tiles : Figure → Bool → BorderRule → List (List ℕ) → Read Task
-after_tiles board turns border words = closing >>= λ _. give (task board turns border words)
+abbrev after_tiles : Figure → Bool → BorderRule → Mating → List (List ℕ) → Read Task
+after_tiles board turns border mating words = closing >>= λ _. give (task board turns border mating words)
 
-abbrev after_count : Figure → Bool → BorderRule → ℕ → Read Task
-after_count board turns border count = times count tile_line >>= λ words. after_tiles board turns border words
+abbrev after_count : Figure → Bool → BorderRule → Mating → ℕ → Read Task
+after_count board turns border mating count = times count tile_line >>= λ words. after_tiles board turns border mating words
 
-abbrev after_border : Figure → Bool → BorderRule → Read Task
-after_border board turns border = counted (codes "tiles") 1 MOST_TILES >>= λ count. after_count board turns border count
+abbrev after_mating : Figure → Bool → BorderRule → Mating → Read Task
+after_mating board turns border mating = counted (codes "tiles") 1 MOST_TILES >>= λ count. after_count board turns border mating count
 
-abbrev after_turns : Figure → Bool → Read Task
-after_turns board turns = border_line >>= λ border. after_border board turns border
+abbrev after_border : PuzzleVersion → Figure → Bool → BorderRule → Read Task
+after_border version board turns border = mating_part version >>= λ mating. after_mating board turns border mating
 
-abbrev after_board : Figure → Read Task
-after_board board = turns_line >>= λ turns. after_turns board turns
+abbrev after_turns : PuzzleVersion → Figure → Bool → Read Task
+after_turns version board turns = border_line >>= λ border. after_border version board turns border
 
-abbrev after_opening : Read Task
-after_opening = board_line >>= λ board. after_board board
+abbrev after_board : PuzzleVersion → Figure → Read Task
+after_board version board = turns_line >>= λ turns. after_turns version board turns
+
+abbrev after_match : PuzzleVersion → Read Task
+after_match version = board_line >>= λ board. after_board version board
 
 -- ---- the lines from each line on
-
-abbrev first_line : List (List (List ℕ))
-first_line = first_words (codes "match") ∷ []
 
 abbrev lines_of_tiles : List (List ℕ) → List (List (List ℕ))
 lines_of_tiles words = flat_map (λ word. tile_words word ∷ []) words
@@ -51,26 +53,32 @@ lines_of_tiles words = flat_map (λ word. tile_words word ∷ []) words
 abbrev from_count : List (List ℕ) → List (List (List ℕ))
 from_count words = (count_words (codes "tiles") (length words) ∷ []) ++ (lines_of_tiles words ++ end_lines)
 
-abbrev from_border : BorderRule → List (List ℕ) → List (List (List ℕ))
-from_border border words = (border_words border ∷ []) ++ from_count words
+abbrev from_mating : Mating → List (List ℕ) → List (List (List ℕ))
+from_mating mating words = mates_lines (version_of mating) mating.mates ++ from_count words
 
-abbrev from_turns : Bool → BorderRule → List (List ℕ) → List (List (List ℕ))
-from_turns turns border words = (turns_words turns ∷ []) ++ from_border border words
+abbrev from_border : BorderRule → Mating → List (List ℕ) → List (List (List ℕ))
+from_border border mating words = (border_words border ∷ []) ++ from_mating mating words
 
-abbrev from_board : Figure → Bool → BorderRule → List (List ℕ) → List (List (List ℕ))
-from_board board turns border words = (board_words board ∷ []) ++ from_turns turns border words
+abbrev from_turns : Bool → BorderRule → Mating → List (List ℕ) → List (List (List ℕ))
+from_turns turns border mating words = (turns_words turns ∷ []) ++ from_border border mating words
 
-lines_are : (p : Task) → first_line ++ from_board p.board p.turns p.border p.words ≡ puzzle_lines p
-lines_are p = ap (λ ls. first_line ++ ((board_words p.board ∷ []) ++ ((turns_words p.turns ∷ []) ++ ((border_words p.border ∷ []) ++ ((count_words (codes "tiles") (length p.words) ∷ []) ++ (ls ++ end_lines)))))) (flat_map_single tile_words p.words)
+abbrev from_board : Figure → Bool → BorderRule → Mating → List (List ℕ) → List (List (List ℕ))
+from_board board turns border mating words = (board_words board ∷ []) ++ from_turns turns border mating words
+
+abbrev first_line : Mating → List (List (List ℕ))
+first_line mating = match_words (version_of mating) ∷ []
+
+lines_are : (p : Task) → first_line p.mating ++ from_board p.board p.turns p.border p.mating p.words ≡ puzzle_lines p
+lines_are p = ap (λ ls. first_line p.mating ++ ((board_words p.board ∷ []) ++ ((turns_words p.turns ∷ []) ++ ((border_words p.border ∷ []) ++ (mates_lines (version_of p.mating) p.mating.mates ++ ((count_words (codes "tiles") (length p.words) ∷ []) ++ (ls ++ end_lines))))))) (flat_map_single tile_words p.words)
 
 -- ---- reading
 
-tiles_is : (board : Figure) (turns : Bool) (border : BorderRule) (p : Place) (x : Task × Place) → after_border board turns border p ≡ Ok x
-    → (words : List (List ℕ)) × (x.0 ≡ task board turns border words) × (p.ahead ≡ text_of (from_count words) ++ []) × (1 ≤ length words) × (length words ≤ MOST_TILES) × AllByRecursion IsWordWithin words
-tiles_is board turns border p x e =
-    let n = bind_ok (counted (codes "tiles") 1 MOST_TILES p) (after_count board turns border) x e in
-    let w = bind_ok (times n.0.0 tile_line n.0.1) (after_tiles board turns border) x n.2 in
-    let d = bind_ok (closing w.0.1) (λ _. give (task board turns border w.0.0)) x w.2 in
+tiles_is : (board : Figure) (turns : Bool) (border : BorderRule) (mating : Mating) (p : Place) (x : Task × Place) → after_mating board turns border mating p ≡ Ok x
+    → (words : List (List ℕ)) × (x.0 ≡ task board turns border mating words) × (p.ahead ≡ text_of (from_count words) ++ []) × (1 ≤ length words) × (length words ≤ MOST_TILES) × AllByRecursion IsWordWithin words
+tiles_is board turns border mating p x e =
+    let n = bind_ok (counted (codes "tiles") 1 MOST_TILES p) (after_count board turns border mating) x e in
+    let w = bind_ok (times n.0.0 tile_line n.0.1) (after_tiles board turns border mating) x n.2 in
+    let d = bind_ok (closing w.0.1) (λ _. give (task board turns border mating w.0.0)) x w.2 in
     let words = w.0.0 in
     let one = (takes_counted (codes "tiles") 1 MOST_TILES refl (omega arith)).is p n.0.0 n.0.1 n.1 in
     let two = times_is tile_line (λ word. tile_words word ∷ []) IsWordWithin takes_tile n.0.0 n.0.1 words w.0.1 w.1 in
@@ -78,7 +86,7 @@ tiles_is board turns border p x e =
     let later = lines_then n.0.1.ahead (lines_of_tiles words) end_lines w.0.1.ahead [] two.0 three in
     let head : p.ahead ≡ text_of (count_words (codes "tiles") (length words) ∷ []) ++ n.0.1.ahead = subst (λ m. p.ahead ≡ text_of (count_words (codes "tiles") m ∷ []) ++ n.0.1.ahead) (sym two.1) one.0 in (
       words,
-      sym (ap (λ (z : Task × Place). z.0) (ok_is (task board turns border words, d.0.1) x d.2)),
+      sym (ap (λ (z : Task × Place). z.0) (ok_is (task board turns border mating words, d.0.1) x d.2)),
       lines_then p.ahead (count_words (codes "tiles") (length words) ∷ []) (lines_of_tiles words ++ end_lines) n.0.1.ahead [] head later,
       omega (arith, one.1.0, two.1),
       omega (arith, one.1.1, two.1),
@@ -88,39 +96,48 @@ tiles_is board turns border p x e =
 puzzle_is : (p : Place) (x : Task × Place) → puzzle_text p ≡ Ok x → (p.ahead ≡ text_of (puzzle_lines x.0)) × IsTaskWithin x.0
 unfolding puzzle_text
 puzzle_is p x e =
-    let o = bind_ok (opening (codes "match") p) (λ _. after_opening) x e in
-    let a = bind_ok (board_line o.0.1) after_board x o.2 in
-    let t = bind_ok (turns_line a.0.1) (after_turns a.0.0) x a.2 in
-    let b = bind_ok (border_line t.0.1) (after_border a.0.0 t.0.0) x t.2 in
-    let tiles = tiles_is a.0.0 t.0.0 b.0.0 b.0.1 x b.2 in
+    let o = bind_ok (match_line p) after_match x e in
+    let a = bind_ok (board_line o.0.1) (after_board o.0.0) x o.2 in
+    let t = bind_ok (turns_line a.0.1) (after_turns o.0.0 a.0.0) x a.2 in
+    let b = bind_ok (border_line t.0.1) (after_border o.0.0 a.0.0 t.0.0) x t.2 in
+    let g = bind_ok (mating_part o.0.0 b.0.1) (after_mating a.0.0 t.0.0 b.0.0) x b.2 in
+    let tiles = tiles_is a.0.0 t.0.0 b.0.0 g.0.0 g.0.1 x g.2 in
     let words = tiles.0 in
-    let first = (takes_opening (codes "match") refl).is p o.0.0 o.0.1 o.1 in
+    let first = takes_match.is p o.0.0 o.0.1 o.1 in
     let board = takes_board.is o.0.1 a.0.0 a.0.1 a.1 in
     let turns = takes_turns.is a.0.1 t.0.0 t.0.1 t.1 in
     let border = takes_border.is t.0.1 b.0.0 b.0.1 b.1 in
-    let at_border = lines_then t.0.1.ahead (border_words b.0.0 ∷ []) (from_count words) b.0.1.ahead [] border.0 tiles.2 in
-    let at_turns = lines_then a.0.1.ahead (turns_words t.0.0 ∷ []) (from_border b.0.0 words) t.0.1.ahead [] turns.0 at_border in
-    let at_board = lines_then o.0.1.ahead (board_words a.0.0 ∷ []) (from_turns t.0.0 b.0.0 words) a.0.1.ahead [] board.0 at_turns in
-    let whole = lines_then p.ahead first_line (from_board a.0.0 t.0.0 b.0.0 words) o.0.1.ahead [] first.0 at_board in
-    let spelled : p.ahead ≡ text_of (puzzle_lines (task a.0.0 t.0.0 b.0.0 words)) = whole ∙ append-nil (text_of (first_line ++ from_board a.0.0 t.0.0 b.0.0 words)) ∙ ap text_of (lines_are (task a.0.0 t.0.0 b.0.0 words)) in
-    let within : IsTaskWithin (task a.0.0 t.0.0 b.0.0 words) = record { board = board.1; border = border.1; some_tiles = tiles.3; few_tiles = tiles.4; words = tiles.5 } in
+    let mating = mating_is o.0.0 b.0.1 g.0.0 g.0.1 g.1 in
+    let mates : b.0.1.ahead ≡ text_of (mates_lines (version_of g.0.0) g.0.0.mates) ++ g.0.1.ahead = subst (λ v. b.0.1.ahead ≡ text_of (mates_lines v g.0.0.mates) ++ g.0.1.ahead) (sym mating.0) mating.1 in
+    let version : p.ahead ≡ text_of (first_line g.0.0) ++ o.0.1.ahead = subst (λ v. p.ahead ≡ text_of (match_words v ∷ []) ++ o.0.1.ahead) (sym mating.0) first.0 in
+    let at_mating = lines_then b.0.1.ahead (mates_lines (version_of g.0.0) g.0.0.mates) (from_count words) g.0.1.ahead [] mates tiles.2 in
+    let at_border = lines_then t.0.1.ahead (border_words b.0.0 ∷ []) (from_mating g.0.0 words) b.0.1.ahead [] border.0 at_mating in
+    let at_turns = lines_then a.0.1.ahead (turns_words t.0.0 ∷ []) (from_border b.0.0 g.0.0 words) t.0.1.ahead [] turns.0 at_border in
+    let at_board = lines_then o.0.1.ahead (board_words a.0.0 ∷ []) (from_turns t.0.0 b.0.0 g.0.0 words) a.0.1.ahead [] board.0 at_turns in
+    let whole = lines_then p.ahead (first_line g.0.0) (from_board a.0.0 t.0.0 b.0.0 g.0.0 words) o.0.1.ahead [] version at_board in
+    let said = task a.0.0 t.0.0 b.0.0 g.0.0 words in
+    let spelled : p.ahead ≡ text_of (puzzle_lines said) = whole ∙ append-nil (text_of (first_line g.0.0 ++ from_board a.0.0 t.0.0 b.0.0 g.0.0 words)) ∙ ap text_of (lines_are said) in
+    let within : IsTaskWithin said = record { board = board.1; border = border.1; mating = mating.2; some_tiles = tiles.3; few_tiles = tiles.4; words = tiles.5 } in
     subst (λ (z : Task). (p.ahead ≡ text_of (puzzle_lines z)) × IsTaskWithin z) (sym tiles.1) (spelled, within)
 
 -- the parts of a spelling, one behind the other
 pub puzzle_parts : (p : Task) → text_of (puzzle_lines p)
-    ≡ text_of first_line ++ (text_of (board_words p.board ∷ []) ++ (text_of (turns_words p.turns ∷ []) ++ (text_of (border_words p.border ∷ []) ++ (text_of (count_words (codes "tiles") (length p.words) ∷ []) ++ (text_of (map tile_words p.words) ++ text_of end_lines)))))
+    ≡ text_of (first_line p.mating) ++ (text_of (board_words p.board ∷ []) ++ (text_of (turns_words p.turns ∷ []) ++ (text_of (border_words p.border ∷ []) ++ (text_of (mates_lines (version_of p.mating) p.mating.mates) ++ (text_of (count_words (codes "tiles") (length p.words) ∷ []) ++ (text_of (map tile_words p.words) ++ text_of end_lines))))))
 puzzle_parts p =
+    let first = first_line p.mating in
     let board = board_words p.board ∷ [] in
     let turns = turns_words p.turns ∷ [] in
     let border = border_words p.border ∷ [] in
+    let mates = mates_lines (version_of p.mating) p.mating.mates in
     let count = count_words (codes "tiles") (length p.words) ∷ [] in
     let tiles = map tile_words p.words in
-    text_of-append first_line (board ++ (turns ++ (border ++ (count ++ (tiles ++ end_lines)))))
-    ∙ ap (λ s. text_of first_line ++ s) (text_of-append board (turns ++ (border ++ (count ++ (tiles ++ end_lines))))
-    ∙ ap (λ s. text_of board ++ s) (text_of-append turns (border ++ (count ++ (tiles ++ end_lines)))
-    ∙ ap (λ s. text_of turns ++ s) (text_of-append border (count ++ (tiles ++ end_lines))
-    ∙ ap (λ s. text_of border ++ s) (text_of-append count (tiles ++ end_lines)
-    ∙ ap (λ s. text_of count ++ s) (text_of-append tiles end_lines)))))
+    text_of-append first (board ++ (turns ++ (border ++ (mates ++ (count ++ (tiles ++ end_lines))))))
+    ∙ ap (λ s. text_of first ++ s) (text_of-append board (turns ++ (border ++ (mates ++ (count ++ (tiles ++ end_lines)))))
+    ∙ ap (λ s. text_of board ++ s) (text_of-append turns (border ++ (mates ++ (count ++ (tiles ++ end_lines))))
+    ∙ ap (λ s. text_of turns ++ s) (text_of-append border (mates ++ (count ++ (tiles ++ end_lines)))
+    ∙ ap (λ s. text_of border ++ s) (text_of-append mates (count ++ (tiles ++ end_lines))
+    ∙ ap (λ s. text_of mates ++ s) (text_of-append count (tiles ++ end_lines)
+    ∙ ap (λ s. text_of count ++ s) (text_of-append tiles end_lines))))))
 
 puzzle_again : (p : Task) → IsTaskWithin p → (end : ℕ) × (puzzle_text (start (text_of (puzzle_lines p))) ≡ Ok (p, place end [] []))
 unfolding puzzle_text
@@ -128,38 +145,42 @@ puzzle_again p fits =
     let last = text_of end_lines in
     let tiles = text_of (lines_of_tiles p.words) ++ last in
     let count = text_of (count_words (codes "tiles") (length p.words) ∷ []) ++ tiles in
-    let border = text_of (border_words p.border ∷ []) ++ count in
+    let mates = text_of (mates_lines (version_of p.mating) p.mating.mates) ++ count in
+    let border = text_of (border_words p.border ∷ []) ++ mates in
     let turns = text_of (turns_words p.turns ∷ []) ++ border in
-    let one = (takes_opening (codes "match") refl).passes tt tt 0 [] (text_of (board_words p.board ∷ []) ++ turns) in
+    let one = takes_match.passes (version_of p.mating) tt 0 [] (text_of (board_words p.board ∷ []) ++ turns) in
     let two = takes_board.passes p.board fits.board one.0 [] turns in
     let three = takes_turns.passes p.turns tt two.0 [] border in
-    let four = takes_border.passes p.border fits.border three.0 [] count in
-    let five = (takes_counted (codes "tiles") 1 MOST_TILES refl (omega arith)).passes (length p.words) (fits.some_tiles, fits.few_tiles) four.0 [] tiles in
-    let six = times_again tile_line (λ word. tile_words word ∷ []) IsWordWithin takes_tile p.words fits.words five.0 last in
-    let seven = closing_again six.0 [] in
-    (seven.0, rw (puzzle_parts p, sym (flat_map_single tile_words p.words), one.1, two.1, three.1, four.1, five.1, six.1, seven.1) refl)
+    let four = takes_border.passes p.border fits.border three.0 [] mates in
+    let five = mating_again p.mating fits.mating four.0 count in
+    let six = (takes_counted (codes "tiles") 1 MOST_TILES refl (omega arith)).passes (length p.words) (fits.some_tiles, fits.few_tiles) five.0 [] tiles in
+    let seven = times_again tile_line (λ word. tile_words word ∷ []) IsWordWithin takes_tile p.words fits.words six.0 last in
+    let eight = closing_again seven.0 [] in
+    (eight.0, rw (puzzle_parts p, sym (flat_map_single tile_words p.words), one.1, two.1, three.1, four.1, five.1, six.1, seven.1, eight.1) refl)
 
 -- ---- texts that are cut short
 
 cuts_puzzle : CutsShort puzzle_text
 unfolding puzzle_text
-cuts_puzzle = cuts_bind (opening (codes "match")) (λ _. after_opening) (cuts_opening (codes "match"))
-    (λ _. cuts_bind board_line after_board cuts_board
-    (λ board. cuts_bind turns_line (after_turns board) cuts_turns
-    (λ turns. cuts_bind border_line (after_border board turns) cuts_border
-    (λ border. cuts_bind (counted (codes "tiles") 1 MOST_TILES) (after_count board turns border) (cuts_counted (codes "tiles") 1 MOST_TILES)
-    (λ count. cuts_bind (times count tile_line) (after_tiles board turns border) (cuts_times count tile_line cuts_tile)
-    (λ words. cuts_bind closing (λ _. give (task board turns border words)) cuts_closing (λ _. cuts_give (task board turns border words))))))))
+cuts_puzzle = cuts_bind match_line after_match cuts_match
+    (λ version. cuts_bind board_line (after_board version) cuts_board
+    (λ board. cuts_bind turns_line (after_turns version board) cuts_turns
+    (λ turns. cuts_bind border_line (after_border version board turns) cuts_border
+    (λ border. cuts_bind (mating_part version) (after_mating board turns border) (cuts_mating version)
+    (λ mating. cuts_bind (counted (codes "tiles") 1 MOST_TILES) (after_count board turns border mating) (cuts_counted (codes "tiles") 1 MOST_TILES)
+    (λ count. cuts_bind (times count tile_line) (after_tiles board turns border mating) (cuts_times count tile_line cuts_tile)
+    (λ words. cuts_bind closing (λ _. give (task board turns border mating words)) cuts_closing (λ _. cuts_give (task board turns border mating words)))))))))
 
 puzzle_leaves : LeavesNothing puzzle_text
 unfolding puzzle_text
-puzzle_leaves = leaves_after (opening (codes "match")) (λ _. after_opening)
-    (λ _. leaves_after board_line after_board
-    (λ board. leaves_after turns_line (after_turns board)
-    (λ turns. leaves_after border_line (after_border board turns)
-    (λ border. leaves_after (counted (codes "tiles") 1 MOST_TILES) (after_count board turns border)
-    (λ count. leaves_after (times count tile_line) (after_tiles board turns border)
-    (λ words. leaves_closing (task board turns border words)))))))
+puzzle_leaves = leaves_after match_line after_match
+    (λ version. leaves_after board_line (after_board version)
+    (λ board. leaves_after turns_line (after_turns version board)
+    (λ turns. leaves_after border_line (after_border version board turns)
+    (λ border. leaves_after (mating_part version) (after_mating board turns border)
+    (λ mating. leaves_after (counted (codes "tiles") 1 MOST_TILES) (after_count board turns border mating)
+    (λ count. leaves_after (times count tile_line) (after_tiles board turns border mating)
+    (λ words. leaves_closing (task board turns border mating words))))))))
 
 -- ---- the laws of `puzzle_of`
 
@@ -182,7 +203,7 @@ puzzle_short = ends_where_cut puzzle_text IsTaskWithin puzzle_spelling cuts_puzz
 
 -- a spelling, as its lines are written
 pub puzzle_written : (p : Task) → puzzle_spelling p
-    ≡ (((((text_of first_line ++ text_of (board_words p.board ∷ [])) ++ text_of (turns_words p.turns ∷ [])) ++ text_of (border_words p.border ∷ [])) ++ text_of (count_words (codes "tiles") (length p.words) ∷ [])) ++ text_of (map tile_words p.words)) ++ text_of end_lines
+    ≡ ((((((text_of (first_line p.mating) ++ text_of (board_words p.board ∷ [])) ++ text_of (turns_words p.turns ∷ [])) ++ text_of (border_words p.border ∷ [])) ++ text_of (mates_lines (version_of p.mating) p.mating.mates)) ++ text_of (count_words (codes "tiles") (length p.words) ∷ [])) ++ text_of (map tile_words p.words)) ++ text_of end_lines
 unfolding puzzle_spelling
 puzzle_written p = puzzle_parts p
-    ∙ seven_parts (text_of first_line) (text_of (board_words p.board ∷ [])) (text_of (turns_words p.turns ∷ [])) (text_of (border_words p.border ∷ [])) (text_of (count_words (codes "tiles") (length p.words) ∷ [])) (text_of (map tile_words p.words)) (text_of end_lines)
+    ∙ eight_parts (text_of (first_line p.mating)) (text_of (board_words p.board ∷ [])) (text_of (turns_words p.turns ∷ [])) (text_of (border_words p.border ∷ [])) (text_of (mates_lines (version_of p.mating) p.mating.mates)) (text_of (count_words (codes "tiles") (length p.words) ∷ [])) (text_of (map tile_words p.words)) (text_of end_lines)

@@ -1,5 +1,5 @@
 -- The lines of a puzzle: what is read is what was written, and what was written is read again.
-use Rattle.std.proofs.Common.{◌≡◌, ℕ, ◌<◌, ◌≤◌, Bool, true, false, cond, List, [], ◌∷◌, ◌++◌, length, map, Ok, Err, refl, ap, subst, ◌∙◌, arith, codes}
+use Rattle.std.proofs.Common.{inl, inr, sym, ⊎_elim, ◌≡◌, ℕ, ◌<◌, ◌≤◌, Bool, true, false, cond, List, [], ◌∷◌, ◌++◌, length, map, Ok, Err, refl, ap, subst, ◌∙◌, arith, codes}
 use Rattle.match_board.specs.declared.limits.TheConstants.{MOST_LENGTH, MOST_RULES, MOST_COLOURS}
 use Rattle.std.specs.Fmt.{decimal}
 use Rattle.std.specs.List.{AllByRecursion}
@@ -8,20 +8,23 @@ use Rattle.std.proofs.lemmas.Slice.Eq.{bytes_eq-Decides}
 use Rattle.match_board.specs.declared.figures.Figure.{Figure}
 use Rattle.match_board.specs.declared.figures.Figure.TheVariants as figures
 use Rattle.match_puzzle.specs.Puzzle.{BorderRule, free, one, each}
-use Rattle.match_text.specs.declared.faults.TextKind.TheVariants.{Word}
+use Rattle.match_text.specs.declared.faults.TextKind.TheVariants.{Word, Version}
+use Rattle.match_puzzle.specs.Mates.{Mating, unmated, mated, mating_of}
+use Rattle.match_text.specs.declared.puzzles.PuzzleVersion.{PuzzleVersion}
+use Rattle.match_text.specs.declared.puzzles.PuzzleVersion.TheVariants.{First, Second}
 use Rattle.match_text.specs.declared.puzzles.BoardKind.{BoardKind}
 use Rattle.match_text.specs.declared.puzzles.BoardKind.TheVariants.{Rectangle, Triangle, Hexagon}
 use Rattle.match_text.specs.declared.puzzles.BorderKind.{BorderKind}
 use Rattle.match_text.specs.declared.puzzles.BorderKind.TheVariants as kinds
 use Rattle.match_text.specs.Words.{fixed_in, number_in, colour_in, rule_in, tile_in}
-use Rattle.match_text.specs.Place.{Place, Read, ◌>>=◌, give, word_by, some_entries}
-use Rattle.match_text.specs.Puzzles.{board_kind_in, board_size, board_line, turns_in, turns_line, border_kind_in, border_rule, border_line, tile_line}
-use Rattle.match_text.specs.Spelling.{colour_word, rule_word, tile_word}
-use Rattle.match_text.specs.PuzzleSpelling.{size_words, board_words, turns_word, turns_words, border_words, tile_words, IsFigureWithin, IsRuleWithin, IsBorderWithin, IsWordWithin}
-use Rattle.match_text.proofs.CutLemmas.{CutsShort, place, bind_ok, ok_is, cuts_bind, cuts_give, cuts_word, cuts_some_entries, cuts_word_line}
+use Rattle.match_text.specs.Place.{Place, Read, ◌>>=◌, give, word_by, entries, some_entries}
+use Rattle.match_text.specs.Puzzles.{board_kind_in, board_size, board_line, turns_in, turns_line, border_kind_in, border_rule, border_line, tile_line, puzzle_version_in, match_line, mates_line, mating_part}
+use Rattle.match_text.specs.Spelling.{text_of, colour_word, rule_word, tile_word}
+use Rattle.match_text.specs.PuzzleSpelling.{size_words, board_words, turns_word, turns_words, border_words, tile_words, IsFigureWithin, IsRuleWithin, IsBorderWithin, IsMatingWithin, IsWordWithin, version_of, version_word, match_words, mates_words, mates_lines}
+use Rattle.match_text.proofs.CutLemmas.{CutsShort, place, bind_ok, ok_is, cuts_bind, cuts_give, cuts_word, cuts_entries, cuts_some_entries, cuts_word_line}
 use Rattle.match_text.proofs.WordLemmas.{Spells, judged_ok, judged_ok_is, spells_fixed, spells_number, clean-decimal, clean-words, is_clean, are_clean}
 use Rattle.match_text.proofs.ColourLemmas.{spells_colour, spells_rule, spells_tile, clean-colour, clean-rule, clean-tile}
-use Rattle.match_text.proofs.LineLemmas.{TakesWords, TakesRest, TakesLines, takes_word, takes_then_rest, takes_choice, takes_all, takes_line, takes_entries, takes_two_words}
+use Rattle.match_text.proofs.LineLemmas.{TakesWords, TakesRest, TakesLines, takes_word, takes_then_rest, takes_choice, takes_all, takes_line, takes_entries, takes_any_entries, takes_two_words}
 
 -- ---- the board
 
@@ -146,6 +149,35 @@ cuts_size Hexagon = cuts_bind (word_by (number_in 0 MOST_LENGTH)) (λ size. give
 pub cuts_board : CutsShort board_line
 unfolding board_line
 cuts_board = cuts_word_line (codes "board") board_rest (cuts_bind (word_by board_kind_in) board_size (cuts_word board_kind_in) cuts_size)
+
+-- ---- the version
+
+version_first : (word : List ℕ) (version : PuzzleVersion) (t u : Bool) → bytes_eq word (codes "1") ≡ t → bytes_eq word (codes "2") ≡ u → cond t (judged_ok First) (cond u (judged_ok Second) (Err Version)) ≡ judged_ok version → word ≡ version_word version
+version_first word version true u is is' e = (bytes_eq-Decides word (codes "1")).0 is ∙ ap version_word (judged_ok_is First version e)
+version_first word version false true is is' e = (bytes_eq-Decides word (codes "2")).0 is' ∙ ap version_word (judged_ok_is Second version e)
+version_first word version false false is is' e = absurd cc
+
+version_again : (version : PuzzleVersion) → puzzle_version_in (version_word version) ≡ Ok version
+version_again First = refl
+version_again Second = refl
+
+clean-version : (version : PuzzleVersion) → is_clean (version_word version) ≡ true
+clean-version First = refl
+clean-version Second = refl
+
+spells_puzzle_version : Spells puzzle_version_in version_word (λ _. Unit {0})
+spells_puzzle_version = record {
+  is = λ word version e. (version_first word version (bytes_eq word (codes "1")) (bytes_eq word (codes "2")) refl refl e, tt);
+  passes = λ version fits. version_again version;
+}
+
+pub takes_match : TakesLines match_line (λ version. match_words version ∷ []) (λ _. Unit {0})
+unfolding match_line
+takes_match = takes_two_words (codes "match") puzzle_version_in version_word (λ _. Unit {0}) refl spells_puzzle_version (λ version fits. clean-version version)
+
+pub cuts_match : CutsShort match_line
+unfolding match_line
+cuts_match = cuts_word_line (codes "match") (word_by puzzle_version_in) (cuts_word puzzle_version_in)
 
 -- ---- turns
 
@@ -290,6 +322,62 @@ cuts_rule kinds.Each = cuts_bind (some_entries MOST_RULES rule_in) (λ rules. gi
 pub cuts_border : CutsShort border_line
 unfolding border_line
 cuts_border = cuts_word_line (codes "border") border_rest (cuts_bind (word_by border_kind_in) border_rule (cuts_word border_kind_in) cuts_rule)
+
+-- ---- mates
+
+abbrev AreColoursWithin : List ℕ → Type 0
+AreColoursWithin mates = (length mates ≤ MOST_COLOURS) × AllByRecursion (λ colour. colour < MOST_COLOURS) mates
+
+clean-mates : (mates : List ℕ) → AreColoursWithin mates → are_clean (mates_words mates) ≡ true
+clean-mates [] fits = refl
+clean-mates (mate ∷ mates) fits = rw (clean-words colour_word (λ colour. colour < MOST_COLOURS) (λ colour few. clean-colour colour) (mate ∷ mates) (omega arith) fits.1) refl
+
+takes_mates : TakesLines mates_line (λ mates. mates_words mates ∷ []) AreColoursWithin
+unfolding mates_line
+takes_mates =
+    takes_line (word_by (fixed_in (codes "mates")) >>= λ _. entries MOST_COLOURS colour_in) mates_words AreColoursWithin
+    (takes_then_rest (word_by (fixed_in (codes "mates"))) (codes "mates" ∷ []) (entries MOST_COLOURS colour_in) (map colour_word) AreColoursWithin
+    (takes_word (fixed_in (codes "mates")) (λ _. codes "mates") (λ _. Unit {0}) (spells_fixed (codes "mates"))) (takes_any_entries colour_in colour_word (λ colour. colour < MOST_COLOURS) spells_colour MOST_COLOURS)) clean-mates
+
+cuts_mates : CutsShort mates_line
+unfolding mates_line
+cuts_mates = cuts_word_line (codes "mates") (entries MOST_COLOURS colour_in) (cuts_entries MOST_COLOURS colour_in)
+
+-- what the part of a version was read from
+abbrev pub IsMatingRead : PuzzleVersion → Place → Mating × Place → Type 0
+IsMatingRead version p z = (version_of z.0 ≡ version) × (p.ahead ≡ text_of (mates_lines version z.0.mates) ++ z.1.ahead) × IsMatingWithin z.0
+
+pub mating_is : (version : PuzzleVersion) (p : Place) (m : Mating) (q : Place) → mating_part version p ≡ Ok (m, q) → IsMatingRead version p (m, q)
+unfolding mating_part text_of
+mating_is First p m q e = subst (IsMatingRead First p) (ok_is (unmated, p) (m, q) e) (refl, refl, (inl (refl, refl), omega arith, tt))
+mating_is Second p m q e =
+    let a = bind_ok (mates_line p) (λ mates. give (mated mates)) (m, q) e in
+    let h = takes_mates.is p a.0.0 a.0.1 a.1 in
+    subst (IsMatingRead Second p) (ok_is (mated a.0.0, a.0.1) (m, q) a.2) (refl, h.0, (inr refl, h.1.0, h.1.1))
+
+-- a mating by its version and mates
+same_mating : (m n : Mating) → m.version ≡ n.version → m.mates ≡ n.mates → m ≡ n
+same_mating m n e f = ap (λ k. mating_of k m.mates) e ∙ ap (λ ms. mating_of n.version ms) f
+
+-- what is to be read of a version's part
+abbrev pub IsReadAgain : Mating → ℕ → List ℕ → Type 0
+IsReadAgain m line rest =
+    (end : ℕ) × (mating_part (version_of m) (place line [] (text_of (mates_lines (version_of m) m.mates) ++ rest)) ≡ Ok (m, place end [] rest))
+
+pub mating_again : (m : Mating) → IsMatingWithin m → (line : ℕ) (rest : List ℕ) → IsReadAgain m line rest
+unfolding mating_part text_of
+mating_again m fits line rest =
+    ⊎_elim
+    (λ w. subst (λ n. IsReadAgain n line rest) (sym (same_mating m unmated w.0 w.1)) (line, refl))
+    (λ two.
+    let again = takes_mates.passes m.mates (fits.1, fits.2) line [] rest in
+    subst (λ n. IsReadAgain n line rest) (sym (same_mating m (mated m.mates) two refl)) (again.0, rw again.1 refl))
+    fits.0
+
+pub cuts_mating : (version : PuzzleVersion) → CutsShort (mating_part version)
+unfolding mating_part
+cuts_mating First = cuts_give unmated
+cuts_mating Second = cuts_bind mates_line (λ mates. give (mated mates)) cuts_mates (λ mates. cuts_give (mated mates))
 
 -- ---- the tiles
 

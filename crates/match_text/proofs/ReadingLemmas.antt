@@ -1,6 +1,6 @@
 -- What reading a puzzle comes to.
-use Rattle.std.proofs.Common.{◌≡◌, ◌<◌, ◌≤◌, ◌+◌, ℕ, List, length, take, Result, Ok, Err, sym, ap, subst, ◌∙◌, arith}
-use Rattle.match_board.specs.declared.limits.TheConstants.{MOST_TILES}
+use Rattle.std.proofs.Common.{◌≡◌, ◌<◌, ◌≤◌, ◌+◌, ℕ, List, length, take, Result, Ok, Err, sym, ap, subst, ◌∙◌, arith, ⊎_elim}
+use Rattle.match_board.specs.declared.limits.TheConstants.{MOST_TILES, MOST_COLOURS}
 use Rattle.std.specs.Prelude.{IfOk}
 use Rattle.match_board.specs.declared.boards.BoardFault.{BoardFault}
 use Rattle.match_board.specs.declared.boards.BoardFault.TheVariants.{Empty, TooLarge}
@@ -19,6 +19,7 @@ use Rattle.match_text.specs.PuzzleSpelling.{puzzle_spelling, IsBorderWithin, IsT
 use Rattle.match_text.proofs.CutLemmas.{ok_is}
 use Rattle.match_text.proofs.PuzzleLemmas.{puzzle_found, puzzle_only, puzzle_short}
 use Rattle.match_text.proofs.LimitLemmas.{puzzle_within}
+use Rattle.match_puzzle.proofs.MateLemmas.{not_without}
 
 -- ---- how much was read
 
@@ -32,6 +33,9 @@ said_border text said e = short_rule said.border (puzzle_found text said e).0.bo
 
 pub said_tiles : (text : List ℕ) (said : Task) → puzzle_of text ≡ Ok said → length said.words ≤ MOST_TILES
 said_tiles text said e = (puzzle_found text said e).0.few_tiles
+
+pub said_mates : (text : List ℕ) (said : Task) → puzzle_of text ≡ Ok said → length said.mating.mates ≤ MOST_COLOURS
+said_mates text said e = (puzzle_found text said e).0.mating.1
 
 -- ---- the laws of what a call returned
 
@@ -56,6 +60,8 @@ no_puzzle_fault p puzzle.TileCount is fails = fails is.tiles
 no_puzzle_fault p (puzzle.TileSides tile) is fails = fails.1 (is.sides tile fails.0)
 no_puzzle_fault p (puzzle.BadColour place) is fails = omega (arith, is.border_colours place fails.0 fails.1, fails.2)
 no_puzzle_fault p puzzle.BorderLength is fails = fails is.border
+no_puzzle_fault p (puzzle.Mates place) is fails =
+    ⊎_elim (λ none. not_without p.mating.mates place (is.mating.mates.each place none.0) none) (λ long. let few = is.mating.mates.few in omega (arith, few, long.1)) fails
 no_puzzle_fault p puzzle.Memory is fails = fails
 
 only_one : (text : List ℕ) (p : Task) → puzzle_of text ≡ Ok p → IsPuzzle p → (result : Result Task PuzzleTextFault) → PuzzleReads text result → PuzzleGives result (Ok p)

@@ -3,7 +3,7 @@ use Rattle.std.proofs.Common.{◌≡◌, ℕ, ◌+◌, ◌<◌, ◌≤◌, List,
 use Rattle.std.specs.List.{flat_map, join_with_byte}
 use Rattle.std.proofs.lemmas.List.{append-nil, take_all, take_more, map-append, length-map, length-take}
 use Rattle.std.proofs.lemmas.List.Concat.{flat_map-append}
-use Rattle.match_text.specs.Spelling.{line_text, text_of, spaced, space_before, rule_word, tile_word, colour_character}
+use Rattle.match_text.specs.Spelling.{colour_word, line_text, text_of, spaced, space_before, rule_word, tile_word, colour_character}
 
 -- one word more
 join-push : (words : List (List ℕ)) (word : List ℕ) → join_with_byte 32 (words ++ word ∷ []) ≡ join_with_byte 32 words ++ (space_before (length words) ++ word)
@@ -91,10 +91,17 @@ rules_more rules i d lt =
     ap (map rule_word) (take_more rules i d lt) ∙ map-append rule_word (take i rules) (get_or rules i d ∷ []) in
     ap (λ ws. join_with_byte 32 (codes "border" ∷ codes "each" ∷ ws)) words ∙ join-push (codes "border" ∷ codes "each" ∷ map rule_word (take i rules)) (rule_word (get_or rules i d))
 
+-- one mate more
+pub mates_more : (mates : List ℕ) (i d : ℕ) → i < length mates → join_with_byte 32 (codes "mates" ∷ map colour_word (take (i + 1) mates)) ≡ join_with_byte 32 (codes "mates" ∷ map colour_word (take i mates)) ++ (32 ∷ colour_word (get_or mates i d))
+mates_more mates i d lt =
+    let words : map colour_word (take (i + 1) mates) ≡ map colour_word (take i mates) ++ colour_word (get_or mates i d) ∷ [] =
+    ap (map colour_word) (take_more mates i d lt) ∙ map-append colour_word (take i mates) (get_or mates i d ∷ []) in
+    ap (λ ws. join_with_byte 32 (codes "mates" ∷ ws)) words ∙ join-push (codes "mates" ∷ map colour_word (take i mates)) (colour_word (get_or mates i d))
+
 -- one colour more
 pub colours_more : (word : List ℕ) (side : ℕ) → side < length word → tile_word (take (side + 1) word) ≡ tile_word (take side word) ++ colour_character (slice_index word side) ∷ []
 colours_more word side lt = ap tile_word (take_more word side 0 lt) ∙ map-append colour_character (take side word) (get_or word side 0 ∷ [])
 
 -- the parts of a text, as they are written
-pub seven_parts : (a b c d e f g : List ℕ) → a ++ (b ++ (c ++ (d ++ (e ++ (f ++ g))))) ≡ (((((a ++ b) ++ c) ++ d) ++ e) ++ f) ++ g
-seven_parts a b c d e f g = simp append_assoc refl
+pub eight_parts : (a b c d e f g h : List ℕ) → a ++ (b ++ (c ++ (d ++ (e ++ (f ++ (g ++ h)))))) ≡ ((((((a ++ b) ++ c) ++ d) ++ e) ++ f) ++ g) ++ h
+eight_parts a b c d e f g h = simp append_assoc refl

@@ -1,6 +1,6 @@
 -- The text of a puzzle.
 use Rattle.std.specs.Prelude.{◌≡◌, ◌<◌, ℕ, Bool, true, false, List, Result, Ok, Err, codes, map, if◌then◌else◌}
-use Rattle.match_board.specs.declared.limits.TheConstants.{MOST_CELLS, MOST_TILES, MOST_LENGTH, MOST_RULES}
+use Rattle.match_board.specs.declared.limits.TheConstants.{MOST_CELLS, MOST_TILES, MOST_LENGTH, MOST_RULES, MOST_COLOURS}
 use Rattle.std.specs.Str.{bytes_eq}
 use Rattle.match_board.specs.Board.{cell_count, IsBoard}
 use Rattle.match_board.specs.declared.figures.Figure.{Figure}
@@ -9,21 +9,36 @@ use Rattle.match_board.specs.First.{IsFirst}
 use Rattle.match_board.specs.Tile.{word}
 use Rattle.match_board.specs.declared.boards.BoardFault.{BoardFault}
 use Rattle.match_board.specs.declared.boards.BoardFault.TheVariants.{Empty, TooLarge}
+use Rattle.match_puzzle.specs.Mates.{Mating, unmated, mated}
 use Rattle.match_puzzle.specs.Puzzle.{Task, BorderRule, free, one, each, rule_of, IsPuzzle}
 use Rattle.match_puzzle.specs.PuzzleFaults.{PuzzleFails, puzzle_rank}
 use Rattle.match_text.specs.declared.faults.TextFault.{TextFault}
 use Rattle.match_text.specs.declared.faults.TextKind.{TextKind}
-use Rattle.match_text.specs.declared.faults.TextKind.TheVariants.{Word}
+use Rattle.match_text.specs.declared.faults.TextKind.TheVariants.{Word, Version}
 use Rattle.match_text.specs.declared.faults.PuzzleTextFault.{PuzzleTextFault}
 use Rattle.match_text.specs.declared.faults.PuzzleTextFault.TheVariants as faults
 use Rattle.match_text.specs.declared.puzzles.BoardKind.{BoardKind}
 use Rattle.match_text.specs.declared.puzzles.BoardKind.TheVariants.{Rectangle, Triangle, Hexagon}
 use Rattle.match_text.specs.declared.puzzles.BorderKind.{BorderKind}
 use Rattle.match_text.specs.declared.puzzles.BorderKind.TheVariants as kinds
+use Rattle.match_text.specs.declared.puzzles.PuzzleVersion.{PuzzleVersion}
+use Rattle.match_text.specs.declared.puzzles.PuzzleVersion.TheVariants.{First, Second}
 use Rattle.match_text.specs.declared.puzzles.PuzzleText as code
 use Rattle.match_text.specs.Words.{fixed_in, number_in, colour_in, rule_in, tile_in}
-use Rattle.match_text.specs.Place.{Read, ◌>>=◌, give, line_of, word_by, some_entries, opening, counted, closing, times}
+use Rattle.match_text.specs.Place.{Read, ◌>>=◌, give, line_of, word_by, entries, some_entries, counted, closing, times}
 use Rattle.match_text.specs.Place.{start, value_of}
+
+-- ---- the version
+
+-- the versions by their words
+abbrev pub puzzle_version_in : List ℕ → Result PuzzleVersion TextKind
+puzzle_version_in word =
+    if bytes_eq word (codes "1") then Ok First else (if bytes_eq word (codes "2") then Ok Second else Err Version)
+
+unfoldable pub match_line : Read PuzzleVersion
+match_line = line_of (do
+  _ ← word_by (fixed_in (codes "match"))
+  word_by puzzle_version_in)
 
 -- ---- the board
 
@@ -90,6 +105,20 @@ border_line = line_of (do
   kind ← word_by border_kind_in
   border_rule kind)
 
+-- ---- mates
+
+unfoldable pub mates_line : Read (List ℕ)
+mates_line = line_of (do
+  _ ← word_by (fixed_in (codes "mates"))
+  entries MOST_COLOURS colour_in)
+
+-- the mates that a version has a line for
+unfoldable pub mating_part : PuzzleVersion → Read Mating
+mating_part First = give unmated
+mating_part Second = do
+  mates ← mates_line
+  give (mated mates)
+
 -- ---- the tiles, and the whole
 
 unfoldable pub tile_line : Read (List ℕ)
@@ -99,22 +128,35 @@ tile_line = line_of (do
 
 unfoldable pub puzzle_text : Read Task
 puzzle_text = do
-  _ ← opening (codes "match")
+  version ← match_line
   board ← board_line
   turns ← turns_line
   border ← border_line
+  mating ← mating_part version
   count ← counted (codes "tiles") 1 MOST_TILES
   words ← times count tile_line
   _ ← closing
-  give (record { board = board; turns = turns; border = border; words = words })
+  give (record { board = board; turns = turns; border = border; mating = mating; words = words })
 
 -- The puzzle that a text asks for, or the text's first fault. There may be no such puzzle.
 unfoldable pub puzzle_of : List ℕ → Result Task TextFault
 puzzle_of text = value_of (puzzle_text (start text))
 
+-- the mates of a version, where these were read
+abbrev pub mating_by : PuzzleVersion → List ℕ → Mating
+mating_by First mates = unmated
+mating_by Second mates = mated mates
+
 -- what was read, without where it lies in memory
 abbrev pub view_of : code.PuzzleText → Task
-view_of t = record { board = t.figure; turns = t.turns; border = rule_of t.border; words = map word t.tiles.items }
+view_of t =
+    record {
+      board = t.figure;
+      turns = t.turns;
+      border = rule_of t.border;
+      mating = mating_by t.version t.mates.items;
+      words = map word t.tiles.items;
+    }
 
 -- ---- boards and puzzles that there are
 

@@ -24,7 +24,7 @@ or_word None = Err Word
 abbrev pub fixed_in : List ℕ → List ℕ → Result (Unit {0}) TextKind
 fixed_in wanted word = if bytes_eq word wanted then Ok tt else Err Word
 
--- the version of a text
+-- the version of a list and of a certificate
 abbrev pub version_in : List ℕ → Result (Unit {0}) TextKind
 version_in word = if bytes_eq word (codes "1") then Ok tt else Err Version
 

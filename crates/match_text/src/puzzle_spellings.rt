@@ -7,10 +7,11 @@ ghost use Rattle.match_board.specs.declared.figures.Figure.TheVariants.{Rectangl
 ghost use Rattle.match_board.specs.Tile.{word as colours_of};
 ghost use Rattle.match_puzzle.specs.Puzzle.{rule_of, each, one, free};
 ghost use Rattle.match_text.specs.Puzzles.{PuzzleReads};
-ghost use Rattle.match_text.specs.Spelling.{line_text, text_of, first_words, colour_character, colour_word, rule_word};
+ghost use Rattle.match_text.specs.Spelling.{line_text, text_of, colour_character, colour_word, rule_word};
 ghost use Rattle.match_text.specs.Spelling.{tile_word};
 ghost use Rattle.match_text.specs.PuzzleSpelling.{board_words, turns_words, border_words, tile_words, puzzle_spelling};
 ghost use Rattle.match_text.specs.PuzzleSpelling.{IsRuleWithin, IsBorderWithin};
+ghost use Rattle.match_text.specs.PuzzleSpelling.{match_words, mates_words, mates_lines, version_by};
 
 use crate::spellings::{character, put_end, put_number, put_number_line};
 use match_board::limits::MOST_COLOURS;
@@ -19,10 +20,14 @@ use match_puzzle::{Border, Puzzle};
 use std::alloc::{AllocError, Global};
 
 #[tactic(auto, unfolding(crate::specs::Spelling::text_of, crate::specs::Spelling::line_text))]
-fn put_first(text: &mut Vec<u8>) -> Result<(), AllocError>
-    ensures { OnOk result (text.new.items ≡ text.old.items ++ text_of (first_words (codes "match") ∷ [])) }
+fn put_first(text: &mut Vec<u8>, version: u8) -> Result<(), AllocError>
+    ensures { OnOk result (text.new.items ≡ text.old.items ++ text_of (match_words (version_by version) ∷ [])) }
 {
-    text.extend_from_slice(b"match 1\n")?;
+    if version == 1 {
+        text.extend_from_slice(b"match 1\n")?;
+    } else {
+        text.extend_from_slice(b"match 2\n")?;
+    }
     Ok(())
 }
 
@@ -128,6 +133,39 @@ fn put_border(text: &mut Vec<u8>, border: &Border) -> Result<(), AllocError>
     }
 }
 
+fn put_colour(text: &mut Vec<u8>, colour: u8) -> Result<(), AllocError>
+    requires { colour < MOST_COLOURS }
+    ensures { OnOk result (text.new.items ≡ text.old.items ++ 32 ∷ colour_word colour) }
+{
+    text.push(b' ')?;
+    text.push(character(colour))?;
+    Ok(())
+}
+
+fn put_mates(text: &mut Vec<u8>, mates: &[u8]) -> Result<(), AllocError>
+    requires { AllByRecursion (λ colour. colour < MOST_COLOURS) mates.now }
+    ensures { OnOk result (text.new.items ≡ text.old.items ++ text_of (mates_words mates.now ∷ [])) }
+{
+    text.extend_from_slice(b"mates")?;
+    for mate in mates {
+        put_colour(text, *mate)?;
+    }
+    text.push(b'\n')?;
+    Ok(())
+}
+
+// The line of the mates, if the version has one.
+#[tactic(auto, unfolding(crate::specs::Spelling::text_of))]
+fn put_mating(text: &mut Vec<u8>, version: u8, mates: &[u8]) -> Result<(), AllocError>
+    requires { AllByRecursion (λ colour. colour < MOST_COLOURS) mates.now }
+    ensures { OnOk result (text.new.items ≡ text.old.items ++ text_of (mates_lines (version_by version) mates.now)) }
+{
+    if version == 1 {
+        return Ok(());
+    }
+    put_mates(text, mates)
+}
+
 /// Writes a tile's word.
 pub fn put_colours(text: &mut Vec<u8>, tile: &Tile) -> Result<(), AllocError>
     ensures { OnOk result (text.new.items ≡ text.old.items ++ tile_word (colours_of tile.now)) }
@@ -165,10 +203,11 @@ pub fn write_puzzle(alloc: Global, puzzle: &Puzzle) -> Result<Vec<u8>, AllocErro
     let mut text = Vec::new(alloc);
     let board = puzzle.board();
     let tiles = puzzle.tiles();
-    put_first(&mut text)?;
+    put_first(&mut text, puzzle.version())?;
     put_board(&mut text, board)?;
     put_turns(&mut text, puzzle.turns())?;
     put_border(&mut text, puzzle.border())?;
+    put_mating(&mut text, puzzle.version(), puzzle.mates())?;
     put_number_line(&mut text, b"tiles", tiles.len() as u32)?;
     put_tiles(&mut text, tiles)?;
     put_end(&mut text)?;

@@ -1,34 +1,47 @@
 //! Puzzles are read.
 
-ghost use Rattle.std.specs.Prelude.{◌≡◌, ◌+◌, ◌<◌, ◌≤◌, ◌^◌, ℕ, Ok, IfOk, length, map, take};
+ghost use Rattle.std.specs.Prelude.{◌≡◌, ◌≢◌, ◌+◌, ◌<◌, ◌≤◌, ◌^◌, ℕ, Ok, IfOk, IfErr, length, map, take};
 ghost use Rattle.match_board.specs.Tile.{word as tile_colours};
-ghost use Rattle.match_puzzle.specs.Puzzle.{Task, IsPuzzle, rule_of};
+ghost use Rattle.match_board.specs.First.{IsFirst};
+ghost use Rattle.match_puzzle.specs.Puzzle.{Task, IsPuzzle, IsShortRule, rule_of};
+ghost use Rattle.match_puzzle.specs.PuzzleFaults.{PuzzleFails, puzzle_rank};
 ghost use Rattle.match_text.specs.declared.faults.TextKind.TheVariants as kinds;
 ghost use Rattle.match_text.specs.Bytes.{line_ends};
 ghost use Rattle.match_text.specs.PuzzleSpelling.{puzzle_spelling, IsTaskWithin};
-ghost use Rattle.match_text.specs.Words.{Judges, number_in, rule_in};
+ghost use Rattle.match_text.specs.Words.{Judges, number_in, colour_in, rule_in};
 ghost use Rattle.match_text.specs.Place.{Gives, Reads, Says, times, entries, some_entries, word_by, fail};
 ghost use Rattle.match_text.specs.Puzzles.{board_kind_in, board_size, board_line, turns_in, turns_line, border_kind_in};
 ghost use Rattle.match_text.specs.Puzzles.{border_rule, border_line, tile_line, puzzle_text, puzzle_of, view_of};
+ghost use Rattle.match_text.specs.Puzzles.{puzzle_version_in, match_line, mates_line, mating_part, mating_by};
 ghost use Rattle.match_text.specs.Puzzles.{PuzzleReads, PuzzleGives};
 
 use crate::faults::{PuzzleTextFault, ReadFault, TextFault, TextKind};
 use crate::scans::Scan;
-use match_board::limits::{MOST_LENGTH, MOST_RULES, MOST_TILES};
+use match_board::limits::{MOST_COLOURS, MOST_LENGTH, MOST_RULES, MOST_TILES};
 use match_board::{Board, Figure, Tile};
-use match_puzzle::{Border, BorderRules, Puzzle};
+use match_puzzle::{Border, BorderRules, Puzzle, PuzzleFault};
 use std::alloc::Global;
 
 // What a text says of a puzzle. There may be no such puzzle.
 #[derive(Drop)]
 struct PuzzleText {
+    version: PuzzleVersion,
     // with numbers that a text may give
     figure: Figure,
     turns: bool,
     // with as many rules as a text may give
     border: Border,
+    // as many as a text may give
+    mates: Vec<u8>,
     // at least one, and as many as a text may give
     tiles: Vec<Tile>,
+}
+
+// The versions that have a word.
+#[derive(Clone, Copy)]
+enum PuzzleVersion {
+    First,
+    Second,
 }
 
 // The kinds of board that have a word.
@@ -45,6 +58,37 @@ enum BorderKind {
     Free,
     One,
     Each,
+}
+
+fn puzzle_version_word(word: &[u8]) -> Result<PuzzleVersion, TextKind>
+    ensures { Judges (λ version. version) result (puzzle_version_in word.now) }
+{
+    if word == b"1".as_slice() {
+        return Ok(PuzzleVersion::First);
+    }
+    if word == b"2".as_slice() {
+        return Ok(PuzzleVersion::Second);
+    }
+    Err(TextKind::Version)
+}
+
+#[tactic(auto, unfolding(crate::specs::Place::word_by))]
+fn puzzle_version(scan: &mut Scan) -> Result<PuzzleVersion, TextFault>
+    ensures { Gives (λ version. version) result scan.new (word_by puzzle_version_in scan.old) }
+{
+    let word = scan.next_word()?;
+    scan.accept(puzzle_version_word(word))
+}
+
+#[tactic(auto, unfolding(crate::specs::Puzzles::match_line))]
+fn match_line(scan: &mut Scan) -> Result<PuzzleVersion, TextFault>
+    ensures { Gives (λ version. version) result scan.new (match_line scan.old) }
+{
+    scan.next_line()?;
+    scan.word(b"match")?;
+    let version = puzzle_version(scan)?;
+    scan.end_of_line()?;
+    Ok(version)
 }
 
 fn board_kind_word(word: &[u8]) -> Result<BoardKind, TextKind>
@@ -212,6 +256,40 @@ fn border_line(alloc: Global, scan: &mut Scan) -> Result<Border, ReadFault>
     Ok(border)
 }
 
+// The rest of the line.
+fn colours(alloc: Global, scan: &mut Scan) -> Result<Vec<u8>, ReadFault>
+    ensures { Reads (λ colours. colours.items) result scan.new (entries MOST_COLOURS colour_in scan.old) }
+{
+    let mut colours = Vec::new(alloc);
+    while scan.has_word() {
+        scan.further_entry(colours.len(), u16::from(MOST_COLOURS))?;
+        let colour = scan.colour()?;
+        colours.push(colour)?;
+    }
+    Ok(colours)
+}
+
+#[tactic(auto, unfolding(crate::specs::Puzzles::mates_line))]
+fn mates_line(alloc: Global, scan: &mut Scan) -> Result<Vec<u8>, ReadFault>
+    ensures { Reads (λ mates. mates.items) result scan.new (mates_line scan.old) }
+{
+    scan.next_line()?;
+    scan.word(b"mates")?;
+    let mates = colours(alloc, scan)?;
+    scan.end_of_line()?;
+    Ok(mates)
+}
+
+#[tactic(auto, unfolding(crate::specs::Puzzles::mating_part))]
+fn mating_part(alloc: Global, scan: &mut Scan, version: PuzzleVersion) -> Result<Vec<u8>, ReadFault>
+    ensures { Reads (λ mates. mating_by version mates.items) result scan.new (mating_part version scan.old) }
+{
+    match version {
+        PuzzleVersion::First => Ok(Vec::new(alloc)),
+        PuzzleVersion::Second => mates_line(alloc, scan),
+    }
+}
+
 #[tactic(auto, unfolding(crate::specs::Puzzles::tile_line))]
 fn tile_line(scan: &mut Scan) -> Result<Tile, TextFault>
     ensures { Gives tile_colours result scan.new (tile_line scan.old) }
@@ -238,17 +316,20 @@ fn tile_lines(alloc: Global, scan: &mut Scan, count: u32) -> Result<Vec<Tile>, R
 fn whole(alloc: Global, scan: &mut Scan) -> Result<PuzzleText, ReadFault>
     ensures { Reads view_of result scan.new (puzzle_text scan.old) }
 {
-    scan.opening(b"match")?;
+    let version = match_line(scan)?;
     let figure = board_line(scan)?;
     let turns = turns_line(scan)?;
     let border = border_line(alloc, scan)?;
+    let mates = mating_part(alloc, scan, version)?;
     let count = scan.counted(b"tiles", 1, u32::from(MOST_TILES))?;
     let tiles = tile_lines(alloc, scan, count)?;
     scan.closing()?;
     Ok(PuzzleText {
+        version,
         figure,
         turns,
         border,
+        mates,
         tiles,
     })
 }
@@ -262,6 +343,31 @@ fn read_text(alloc: Global, text: &[u8]) -> Result<PuzzleText, ReadFault>
     whole(alloc, &mut scan)
 }
 
+// The puzzle that was said, on its board.
+fn make_said(alloc: Global, board: Board, said: &PuzzleText) -> Result<Puzzle, PuzzleFault>
+    requires board { board ≡ said.now.figure }
+    requires border { IsShortRule (rule_of said.now.border) }
+    requires mates { length (view_of said.now).mating.mates < 2 ^ 32 }
+    requires tiles { length said.now.tiles.items < 2 ^ 32 }
+    ensures puzzle { IfOk result (λ p. (p ≡ view_of said.now) × IsPuzzle p) }
+    ensures fault { IfErr result (λ f. f ≢ PuzzleFault.Memory
+        → IsFirst puzzle_rank (PuzzleFails (view_of said.now)) f) }
+{
+    match said.version {
+        PuzzleVersion::First => Puzzle::new(alloc, board, said.turns, &said.border, &said.tiles),
+        PuzzleVersion::Second => {
+            Puzzle::with_mates(
+                alloc,
+                board,
+                said.turns,
+                &said.border,
+                &said.mates,
+                &said.tiles,
+            )
+        }
+    }
+}
+
 // The board and the puzzle are made after the whole text was read.
 fn read_and_make(alloc: Global, text: &[u8]) -> Result<Puzzle, PuzzleTextFault>
     requires { length text.now + 1 < 2 ^ 32 }
@@ -269,7 +375,7 @@ fn read_and_make(alloc: Global, text: &[u8]) -> Result<Puzzle, PuzzleTextFault>
 {
     let said = read_text(alloc, text)?;
     let board = Board::of(said.figure)?;
-    let puzzle = Puzzle::new(alloc, board, said.turns, &said.border, &said.tiles)?;
+    let puzzle = make_said(alloc, board, &said)?;
     Ok(puzzle)
 }
 

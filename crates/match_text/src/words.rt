@@ -83,7 +83,7 @@ pub fn fixed_word(word: &[u8], wanted: &[u8]) -> Result<(), TextKind>
     }
 }
 
-/// The version of the texts that are read here.
+/// The version of a list and of a certificate.
 pub fn version_word(word: &[u8]) -> Result<(), TextKind>
     ensures { Judges (λ _. tt) result (version_in word.now) }
 {

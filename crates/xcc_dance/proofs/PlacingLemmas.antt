@@ -6,7 +6,8 @@ use Rattle.std.proofs.lemmas.List.{length-replicate}
 use Rattle.std.proofs.lemmas.Bool.{false≢true, eq-eqb}
 use Rattle.match_board.specs.Board.{Meets}
 use Rattle.match_board.proofs.Places.{Meets-turned}
-use Rattle.match_puzzle.specs.Puzzle.{Task, colour_of}
+use Rattle.match_puzzle.specs.Puzzle.{Task, colour_of, GoTogether}
+use Rattle.match_puzzle.proofs.MateLemmas.{together_turned}
 use Rattle.match_puzzle.specs.Prefix.{Prefix, Has, IsFree, empty_prefix, with_pair}
 use Rattle.match_puzzle.specs.Equality.{is_same}
 use Rattle.match_puzzle.specs.declared.placements.Placement.{Placement}
@@ -15,11 +16,13 @@ use Rattle.match_puzzle.proofs.Prefixes.{inside, has_new, has_still}
 use Rattle.match_puzzle.proofs.PairLemmas.{has_of_pairs, free_of_pairs, free_in_empty, length-with_pairs, taken_at, next_pair}
 use Rattle.match_puzzle.proofs.Kept.{has_none}
 use Rattle.match_board.specs.Board.{cell_count}
-use Rattle.xcc_form.specs.Options.{Compiled, IsCompiled, IsOptionPair, IsSideOf, IsShownEdge, cover_of, primary_count}
+use Rattle.xcc_form.specs.Options.{Compiled, IsCompiled, IsOptionPair, IsSideOf, IsShownEdge, colour_given, cover_of, primary_count}
 use Rattle.xcc_form.specs.Correspondence.{IsPairOf}
 use Rattle.xcc_form.specs.declared.edges.Edge.{Edge}
 use Rattle.xcc_form.specs.declared.edges.SharedEdge.{SharedEdge}
 use Rattle.xcc_form.proofs.OptionLemmas.{contains_at, place_of, read_in, option_pair, one_pair, real_option, many_options, has_colour, colour_at, shared_by}
+use Rattle.xcc_form.proofs.EdgeLemmas.{other_cell}
+use Rattle.xcc_form.proofs.GivenLemmas.{given_alike, met}
 use Rattle.xcc_form.proofs.ShownLemmas.{shared_at}
 use Rattle.xcc_dance.specs.Clashes.{Clash, IsPartialSolution, IsOpen}
 use Rattle.xcc_dance.specs.Chosen.{Selection}
@@ -29,12 +32,12 @@ use Rattle.xcc_dance.proofs.PartialLemmas.{pushed_at}
 use Rattle.xcc_dance.proofs.ItemLemmas.{share_cell, share_tile, shares}
 
 module _ (x : Compiled) (is : IsCompiled x) where
-  -- Sides of the two pairs that meet show one colour.
+  -- Sides of the two pairs that meet match.
   abbrev pub Match : (y z : Pair) → Type 0
-  Match y z = (side side' : ℕ) → Meets x.puzzle.board y.cell side z.cell side' → colour_of x.puzzle y.placement side ≡ colour_of x.puzzle z.placement side'
+  Match y z = (side side' : ℕ) → Meets x.puzzle.board y.cell side z.cell side' → GoTogether x.puzzle (colour_of x.puzzle y.placement side) (colour_of x.puzzle z.placement side')
 
   match_turned : (y z : Pair) → Match y z → Match z y
-  match_turned y z h side side' meets = sym (h side' side (Meets-turned meets))
+  match_turned y z h side side' meets = together_turned x.puzzle is.puzzle (colour_of x.puzzle y.placement side') (colour_of x.puzzle z.placement side) (h side' side (Meets-turned meets))
 
   module _ (o p : ℕ) (y z : Pair) (w : IsPairOf x o y) (v : IsPairOf x p z) where
     -- options that don't clash match
@@ -42,10 +45,13 @@ module _ (x : Compiled) (is : IsCompiled x) where
     match apart side side' meets =
         let e = shared_by x is y.cell side z.cell side' meets in
         let item = primary_count x.puzzle + e.0 in
-        let colour = colour_of x.puzzle y.placement side in
-        let other = colour_of x.puzzle z.placement side' in
+        let shared = shared_at x.puzzle.board x.shared e.0 e.1 is.shared e.2 in
+        let shown = colour_of x.puzzle y.placement side in
+        let shown' = colour_of x.puzzle z.placement side' in
+        let colour = colour_given x.puzzle e.1 y.cell shown in
+        let other = colour_given x.puzzle e.1 z.cell shown' in
         ⊎_elim
-        (λ same. same.1)
+        (λ same. (given_alike x.puzzle e.1 is.puzzle shared.0 y.cell side z.cell side' shown shown' (other_cell meets) e.3 e.4).0 same.1)
         (λ ne.
         absurd (apart (inr (record {
           item = item;
@@ -57,18 +63,12 @@ module _ (x : Compiled) (is : IsCompiled x) where
         }))))
         (eqb_tells colour other)
 
-    -- two sides of a shared edge, of pairs at two cells, meet
-    one_colour : (e : SharedEdge) (side side' : ℕ) → Meets x.puzzle.board e.cell e.side e.other_cell e.other_side → y.cell ≢ z.cell → Match y z → IsSideOf e y.cell side → IsSideOf e z.cell side' → colour_of x.puzzle y.placement side ≡ colour_of x.puzzle z.placement side'
-    one_colour e side side' meets cells match (inl a) (inl b) = absurd (cells (sym a.0 ∙ b.0))
-    one_colour e side side' meets cells match (inr a) (inr b) = absurd (cells (sym a.0 ∙ b.0))
-    one_colour e side side' meets cells match (inl a) (inr b) = match side side' (there a.0 a.1 b.0 b.1)
-      where
-        there : e.cell ≡ y.cell → e.side ≡ side → e.other_cell ≡ z.cell → e.other_side ≡ side' → Meets x.puzzle.board y.cell side z.cell side'
-        there c s c' s' = subst (λ k. Meets x.puzzle.board k side z.cell side') c (subst (λ k. Meets x.puzzle.board e.cell k z.cell side') s (subst (λ k. Meets x.puzzle.board e.cell e.side k side') c' (subst (λ k. Meets x.puzzle.board e.cell e.side e.other_cell k) s' meets)))
-    one_colour e side side' meets cells match (inr a) (inl b) = match side side' (Meets-turned (there b.0 b.1 a.0 a.1))
-      where
-        there : e.cell ≡ z.cell → e.side ≡ side' → e.other_cell ≡ y.cell → e.other_side ≡ side → Meets x.puzzle.board z.cell side' y.cell side
-        there c s c' s' = subst (λ k. Meets x.puzzle.board k side' y.cell side) c (subst (λ k. Meets x.puzzle.board e.cell k y.cell side) s (subst (λ k. Meets x.puzzle.board e.cell e.side k side) c' (subst (λ k. Meets x.puzzle.board e.cell e.side e.other_cell k) s' meets)))
+    -- pairs at two cells that match give one colour to the edge between them
+    one_colour : (e : SharedEdge) (side side' : ℕ) → Meets x.puzzle.board e.cell e.side e.other_cell e.other_side → y.cell ≢ z.cell → Match y z → IsSideOf e y.cell side → IsSideOf e z.cell side' →
+        colour_given x.puzzle e y.cell (colour_of x.puzzle y.placement side) ≡ colour_given x.puzzle e z.cell (colour_of x.puzzle z.placement side')
+    one_colour e side side' meets cells match a b =
+        (given_alike x.puzzle e is.puzzle meets y.cell side z.cell side' (colour_of x.puzzle y.placement side) (colour_of x.puzzle z.placement side') cells a b).1
+        (match side side' (met x.puzzle.board e y.cell side z.cell side' meets cells a b))
 
     -- options of two cells and two tiles that match don't clash
     pub no_clash : y.cell ≢ z.cell → y.placement.tile ≢ z.placement.tile → Match y z → Clash (cover_of x) o p → ⊥
@@ -86,7 +86,7 @@ module _ (x : Compiled) (is : IsCompiled x) where
         let edges : shown'.edge ≡ shown.edge = inside (sym shown'.numbered ∙ ap (slice_get x.shared) number ∙ shown.numbered) in
         let shared = shared_at x.puzzle.board x.shared shown.number shown.edge is.shared shown.numbered in
         let same = one_colour shown.edge shown.side shown'.side shared.0 cells match shown.side_of (subst (λ e. IsSideOf e z.cell shown'.side) edges shown'.side_of) in
-        t.differ (shown.colour ∙ same ∙ sym shown'.colour)
+        t.differ (shown.colour ∙ same ∙ sym (shown'.colour ∙ ap (λ h. colour_given x.puzzle h z.cell (colour_of x.puzzle z.placement shown'.side)) edges))
 
   -- ---- pairs of chosen options
 
@@ -117,7 +117,8 @@ module _ (x : Compiled) (is : IsCompiled x) where
           let w = taken_at pairs place u.place u.pair u.there in
           let v = option_of u.place u.pair w.1 in
           let there = subst (λ c. Meets x.puzzle.board y.cell side c side') (sym u.cell) meets in
-          sym (match v.0 o.0 u.pair y v.2 o.2 (partial.apart u.place place v.0 o.0 w.0 v.1 o.1) side' side (Meets-turned there)) ∙ ap (λ q. colour_of x.puzzle q side') u.placement)
+          together_turned x.puzzle is.puzzle (colour_of x.puzzle z side') (colour_of x.puzzle y.placement side)
+          (sym (ap (λ q. colour_of x.puzzle q side') u.placement) ∙ match v.0 o.0 u.pair y v.2 o.2 (partial.apart u.place place v.0 o.0 w.0 v.1 o.1) side' side (Meets-turned there)))
           (λ none. absurd (has_none (cell_count x.puzzle.board) cell' z none))
           (has_of_pairs (take place pairs) (empty_prefix x.puzzle) cell' z has);
     }

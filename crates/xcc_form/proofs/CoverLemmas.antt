@@ -18,6 +18,7 @@ use Rattle.xcc_form.specs.Options.{Choice, Compiled, IsCompiled, AreShownEdges, 
 use Rattle.xcc_form.specs.Laws.{IsColouredCover, IsOnlyOne}
 use Rattle.xcc_form.specs.declared.edges.Edge.{Edge}
 use Rattle.xcc_form.specs.declared.edges.SharedEdge.{SharedEdge}
+use Rattle.xcc_form.proofs.GivenLemmas.{given_below}
 use Rattle.xcc_form.proofs.ShownLemmas.{ItemComesBefore}
 use Rattle.xcc_form.proofs.OptionLemmas.{option_pair, pair_at, many_options, primary_of, has_cell, colour_at, of_map}
 
@@ -98,7 +99,8 @@ module _ (x : Compiled) (is : IsCompiled x) where
         let shown = (is.edges option c at).only e here in
         let colour = shown.colour in
         let below = colour_below x.puzzle c.pair.placement shown.side is.puzzle (option_pair x is option c.pair (c, at, refl)).legal in
-        omega (arith, colour, below);
+        let given = given_below x.puzzle shown.edge is.puzzle c.pair.cell (colour_of x.puzzle c.pair.placement shown.side) below in
+        omega (arith, colour, given);
   }
 
 -- ---- only one

@@ -1,5 +1,6 @@
 pub mod ListingMore
 pub mod EdgeLemmas
+pub mod GivenLemmas
 pub mod ShownLemmas
 pub mod LayoutLemmas
 pub mod PairsLemmas

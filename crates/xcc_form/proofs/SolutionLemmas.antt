@@ -1,16 +1,20 @@
 -- Solutions and the arrangements that stand with them.
 use Rattle.std.proofs.Common.{◌≡◌, ◌<◌, ◌+◌, ◌-◌, ℕ, List, Some, Contains, length, slice_get, arith, refl, ap, sym, ◌∙◌, subst, inl, inr, ⊎_elim}
 use Rattle.match_board.specs.Board.{cell_count, Meets}
+use Rattle.std.proofs.lemmas.Bool.Decides.{eqb_tells}
 use Rattle.match_board.proofs.Listings.{lt_or_le}
-use Rattle.match_puzzle.specs.Puzzle.{colour_of}
+use Rattle.match_puzzle.specs.Puzzle.{colour_of, GoTogether}
 use Rattle.match_puzzle.specs.Arrangement.{IsArrangement, Stands}
 use Rattle.match_puzzle.specs.declared.placements.Placement.{Placement}
 use Rattle.match_puzzle.specs.declared.placements.Pair.{Pair}
 use Rattle.match_puzzle.proofs.Prefixes.{inside}
 use Rattle.xcc_form.specs.ExactCover.{IsSolution, IsInExactlyOne, HasPrimary, HasColour}
-use Rattle.xcc_form.specs.Options.{Compiled, IsCompiled, IsSideOf, cover_of, primary_count}
+use Rattle.xcc_form.specs.Options.{Compiled, IsCompiled, IsSharedEdge, IsSideOf, colour_given, cover_of, primary_count}
 use Rattle.xcc_form.specs.Correspondence.{IsPairOf, IsFilledBy}
 use Rattle.xcc_form.specs.declared.edges.SharedEdge.{SharedEdge}
+use Rattle.xcc_form.proofs.EdgeLemmas.{other_cell}
+use Rattle.xcc_form.proofs.GivenLemmas.{given_alike, met}
+use Rattle.xcc_form.proofs.ShownLemmas.{one_side}
 use Rattle.xcc_form.proofs.OptionLemmas.{option_pair, one_option, one_pair, many_options, IsItemOf, primary_of, has_cell, has_tile, colour_at, has_colour, shared_by, contains_at, read_in}
 
 -- the pair of a cell and a placement
@@ -75,15 +79,21 @@ module _ (x : Compiled) (is : IsCompiled x) where
           let of = primary_of x is one.0 (cells + tile) one.2 in
           (of.0.cell, of.0.placement, same.stands one.0 of.0 one.1 of.1, tile_of one.0 of.0 tile of.1 of.2)
 
-      match_at : (cell side cell' side' : ℕ) (y z : Placement) → Meets x.puzzle.board cell side cell' side' → Stands a cell y → Stands a cell' z → colour_of x.puzzle y side ≡ colour_of x.puzzle z side'
+      match_at : (cell side cell' side' : ℕ) (y z : Placement) → Meets x.puzzle.board cell side cell' side' → Stands a cell y → Stands a cell' z → GoTogether x.puzzle (colour_of x.puzzle y side) (colour_of x.puzzle z side')
       match_at cell side cell' side' y z meets s t =
           let o = same.put cell y s in
           let o' = same.put cell' z t in
           let e = shared_by x is cell side cell' side' meets in
           let item = primary_count x.puzzle + e.0 in
-          solution.coloured item o.0 o'.0 (colour_of x.puzzle y side) (colour_of x.puzzle z side') o.1 o'.1
-          (has_colour x is o.0 item (colour_of x.puzzle y side) (pair cell y) o.2 (record { number = e.0; edge = e.1; side = side; numbered = e.2; side_of = e.3; item = refl; colour = refl }))
-          (has_colour x is o'.0 item (colour_of x.puzzle z side') (pair cell' z) o'.2 (record { number = e.0; edge = e.1; side = side'; numbered = e.2; side_of = e.4; item = refl; colour = refl }))
+          let shared = is.shared.only e.1 (contains_at x.shared e.0 e.1 e.2) in
+          let shown = colour_of x.puzzle y side in
+          let shown' = colour_of x.puzzle z side' in
+          let given = colour_given x.puzzle e.1 cell shown in
+          let given' = colour_given x.puzzle e.1 cell' shown' in
+          (given_alike x.puzzle e.1 is.puzzle shared.0 cell side cell' side' shown shown' (other_cell meets) e.3 e.4).0
+          (solution.coloured item o.0 o'.0 given given' o.1 o'.1
+          (has_colour x is o.0 item given (pair cell y) o.2 (record { number = e.0; edge = e.1; side = side; numbered = e.2; side_of = e.3; item = refl; colour = refl }))
+          (has_colour x is o'.0 item given' (pair cell' z) o'.2 (record { number = e.0; edge = e.1; side = side'; numbered = e.2; side_of = e.4; item = refl; colour = refl })))
 
       -- what stands with a solution is an arrangement
       pub solution_stands : IsArrangement x.puzzle a
@@ -147,24 +157,22 @@ module _ (x : Compiled) (is : IsCompiled x) where
         subst (IsInExactlyOne (cover_of x) chosen) at (tile_in_one tile (omega (arith, le, lt))))
         (lt_or_le item cells)
 
-    -- the colours that two placements show on one edge
-    same_shown : (e : SharedEdge) (y z : Pair) (side side' : ℕ) → Meets x.puzzle.board e.cell e.side e.other_cell e.other_side → IsSideOf e y.cell side → IsSideOf e z.cell side' → Stands a y.cell y.placement → Stands a z.cell z.placement → colour_of x.puzzle y.placement side ≡ colour_of x.puzzle z.placement side'
-    same_shown e y z side side' meets (inl u) (inl v) s t =
-        let placement = stands_one a y.cell y.placement z.placement s (subst (λ cell. Stands a cell z.placement) (sym v.0 ∙ u.0) t) in
-        ap (λ k. colour_of x.puzzle y.placement k) (sym u.1 ∙ v.1) ∙ ap (λ q. colour_of x.puzzle q side') placement
-    same_shown e y z side side' meets (inl u) (inr v) s t =
-        whole.edges y.cell side z.cell side' y.placement z.placement (moved u.0 u.1 v.0 v.1) s t
-      where
-        moved : e.cell ≡ y.cell → e.side ≡ side → e.other_cell ≡ z.cell → e.other_side ≡ side' → Meets x.puzzle.board y.cell side z.cell side'
-        moved a b c d = subst (λ k. Meets x.puzzle.board k side z.cell side') a (subst (λ k. Meets x.puzzle.board e.cell k z.cell side') b (subst (λ k. Meets x.puzzle.board e.cell e.side k side') c (subst (λ k. Meets x.puzzle.board e.cell e.side e.other_cell k) d meets)))
-    same_shown e y z side side' meets (inr u) (inl v) s t =
-        sym (whole.edges z.cell side' y.cell side z.placement y.placement (moved v.0 v.1 u.0 u.1) t s)
-      where
-        moved : e.cell ≡ z.cell → e.side ≡ side' → e.other_cell ≡ y.cell → e.other_side ≡ side → Meets x.puzzle.board z.cell side' y.cell side
-        moved a b c d = subst (λ k. Meets x.puzzle.board k side' y.cell side) a (subst (λ k. Meets x.puzzle.board e.cell k y.cell side) b (subst (λ k. Meets x.puzzle.board e.cell e.side k side) c (subst (λ k. Meets x.puzzle.board e.cell e.side e.other_cell k) d meets)))
-    same_shown e y z side side' meets (inr u) (inr v) s t =
-        let placement = stands_one a y.cell y.placement z.placement s (subst (λ cell. Stands a cell z.placement) (sym v.0 ∙ u.0) t) in
-        ap (λ k. colour_of x.puzzle y.placement k) (sym u.1 ∙ v.1) ∙ ap (λ q. colour_of x.puzzle q side') placement
+    -- two placements give one colour to one edge
+    same_given : (e : SharedEdge) (y z : Pair) (side side' : ℕ) → IsSharedEdge x.puzzle.board e → IsSideOf e y.cell side → IsSideOf e z.cell side' → Stands a y.cell y.placement → Stands a z.cell z.placement →
+        colour_given x.puzzle e y.cell (colour_of x.puzzle y.placement side) ≡ colour_given x.puzzle e z.cell (colour_of x.puzzle z.placement side')
+    same_given e y z side side' shared u v s t =
+        let meets = shared.0 in
+        ⊎_elim
+        (λ here.
+        let placement = stands_one a y.cell y.placement z.placement s (subst (λ cell. Stands a cell z.placement) (sym here.1) t) in
+        let sides = one_side x.puzzle.board e y.cell side side' shared u (subst (λ cell. IsSideOf e cell side') (sym here.1) v) in
+        ap (λ k. colour_given x.puzzle e y.cell (colour_of x.puzzle y.placement k)) sides
+        ∙ ap (λ q. colour_given x.puzzle e y.cell (colour_of x.puzzle q side')) placement
+        ∙ ap (λ c. colour_given x.puzzle e c (colour_of x.puzzle z.placement side')) here.1)
+        (λ apart.
+        (given_alike x.puzzle e is.puzzle meets y.cell side z.cell side' (colour_of x.puzzle y.placement side) (colour_of x.puzzle z.placement side') apart.1 u v).1
+        (whole.edges y.cell side z.cell side' y.placement z.placement (met x.puzzle.board e y.cell side z.cell side' meets apart.1 u v) s t))
+        (eqb_tells y.cell z.cell)
 
     one_colour : (item option option' colour colour' : ℕ) → Contains chosen option → Contains chosen option' → HasColour (cover_of x) option item colour → HasColour (cover_of x) option' item colour' → colour ≡ colour'
     one_colour item option option' colour colour' c d has has' =
@@ -178,8 +186,8 @@ module _ (x : Compiled) (is : IsCompiled x) where
         let edges : shown'.edge ≡ shown.edge = inside (sym shown'.numbered ∙ ap (slice_get x.shared) numbers ∙ shown.numbered) in
         let shared = is.shared.only shown.edge (contains_at x.shared shown.number shown.edge shown.numbered) in
         shown.colour
-        ∙ same_shown shown.edge y z shown.side shown'.side shared.0 shown.side_of (subst (λ e. IsSideOf e z.cell shown'.side) edges shown'.side_of) (same.stands option y c u.1) (same.stands option' z d v.1)
-        ∙ sym shown'.colour
+        ∙ same_given shown.edge y z shown.side shown'.side shared shown.side_of (subst (λ e. IsSideOf e z.cell shown'.side) edges shown'.side_of) (same.stands option y c u.1) (same.stands option' z d v.1)
+        ∙ sym (shown'.colour ∙ ap (λ h. colour_given x.puzzle h z.cell (colour_of x.puzzle z.placement shown'.side)) edges)
 
     -- what stands as an arrangement is a solution, where no option is repeated
     pub whole_solves : ((option : ℕ) → Contains chosen option → option < length x.options) → ((place place' option : ℕ) → slice_get chosen place ≡ Some option → slice_get chosen place' ≡ Some option → place ≡ place') → IsSolution (cover_of x) chosen

@@ -1,10 +1,10 @@
 -- The exact cover of a puzzle: its primary items are the cells, then the tiles, its secondary items the shared edges.
-use Rattle.std.specs.Prelude.{◌≡◌, ◌⊎◌, ◌<◌, ◌+◌, ℕ, List, [], ◌∷◌, Some, length, map, slice_get}
+use Rattle.std.specs.Prelude.{◌≡◌, ◌⊎◌, ◌<◌, ◌+◌, ◌==◌, if◌then◌else◌, ℕ, List, [], ◌∷◌, Some, length, map, slice_get}
 use Rattle.match_board.specs.declared.limits.TheConstants.{MOST_ENTRIES}
 use Rattle.match_board.specs.Board.{cell_count, Meets}
 use Rattle.match_board.specs.declared.figures.Figure.{Figure}
 use Rattle.match_board.specs.Listing.{IsListing, ComesBefore, ByKey}
-use Rattle.match_puzzle.specs.Puzzle.{Task, IsPuzzle, IsLegal, HasRule, colour_of}
+use Rattle.match_puzzle.specs.Puzzle.{Task, IsPuzzle, IsLegal, HasRule, colour_of, mate_of}
 use Rattle.match_puzzle.specs.Fitting.{tile_turn}
 use Rattle.match_puzzle.specs.declared.placements.Pair.{Pair}
 use Rattle.xcc_form.specs.ExactCover.{ItemSet, Cover, entry_count}
@@ -42,7 +42,12 @@ PairComesBefore x y = (x.cell < y.cell) ⊎ ((x.cell ≡ y.cell) × ByKey tile_t
 abbrev pub primary_count : Task → ℕ
 primary_count p = cell_count p.board + length p.words
 
--- The item is that of a shared edge of the pair's cell, with the colour that the placement shows there.
+-- the colour that a cell gives to a shared edge: what is shown at the lesser (cell, side), or the mate of what is shown
+-- at the other
+abbrev pub colour_given : Task → SharedEdge → (cell shown : ℕ) → ℕ
+colour_given p e cell shown = if e.cell == cell then shown else mate_of p shown
+
+-- The item is that of a shared edge of the pair's cell, with the colour that the placement gives to it.
 pub record IsShownEdge (p : Task) (shared : List SharedEdge) (x : Pair) (e : Edge) : Type 0 where
   pub number : ℕ
   pub edge : SharedEdge
@@ -50,9 +55,9 @@ pub record IsShownEdge (p : Task) (shared : List SharedEdge) (x : Pair) (e : Edg
   pub numbered : slice_get shared number ≡ Some edge
   pub side_of : IsSideOf edge x.cell side
   pub item : e.item ≡ primary_count p + number
-  pub colour : e.colour ≡ colour_of p x.placement side
+  pub colour : e.colour ≡ colour_given p edge x.cell (colour_of p x.placement side)
 
--- all shared edges of the pair's cell with the colours shown, by item
+-- all shared edges of the pair's cell with the colours given, by item
 abbrev pub AreShownEdges : Task → List SharedEdge → Pair → List Edge → Type 0
 AreShownEdges p shared x edges = IsListing (λ e f. e.item < f.item) (IsShownEdge p shared x) edges
 

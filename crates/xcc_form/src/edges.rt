@@ -4,9 +4,9 @@ ghost use Rattle.std.specs.Prelude.{◌≡◌, ◌<◌, ◌≤◌, ◌+◌, ◌*
 ghost use Rattle.match_board.specs.Board.{cell_count, side_count};
 ghost use Rattle.match_board.specs.Listing.{IsListing, ByKey, HoldsBefore};
 ghost use Rattle.match_puzzle.specs.Puzzle.{IsPuzzle};
-ghost use Rattle.xcc_form.specs.Options.{IsSharedEdge, AreSharedEdges, IsSideOf, least_place};
+ghost use Rattle.xcc_form.specs.Options.{IsSharedEdge, AreSharedEdges, IsSideOf, colour_given, least_place};
 
-use match_board::limits::MOST_CELLS;
+use match_board::limits::{MOST_CELLS, MOST_COLOURS};
 use match_puzzle::Puzzle;
 use std::alloc::{AllocError, Global};
 
@@ -15,7 +15,8 @@ use std::alloc::{AllocError, Global};
 pub struct Edge {
     /// The number of the item: secondary items follow the primary ones.
     pub item: u32,
-    /// The colour, from 0 to 35.
+    /// The colour, from 0 to 35: what is shown at the edge's lesser (cell, side), or the mate of what is shown at the
+    /// other.
     pub colour: u8,
 }
 
@@ -41,6 +42,19 @@ impl SharedEdge {
             Some(self.other_side)
         } else {
             None
+        }
+    }
+
+    /// The colour that the cell gives to this edge, where it shows this colour on it.
+    pub(crate) fn given(self, puzzle: &Puzzle, cell: u16, shown: u8) -> u8
+        requires { shown < MOST_COLOURS }
+        ensures given { result ≡ colour_given puzzle.now self cell shown }
+        ensures below { result < MOST_COLOURS }
+    {
+        if self.cell == cell {
+            shown
+        } else {
+            puzzle.mate(shown)
         }
     }
 }

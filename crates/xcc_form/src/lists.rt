@@ -92,7 +92,7 @@ impl OptionLists {
     }
 }
 
-// Adds the shared edges of the pair's cell with the colours that its placement shows.
+// Adds the shared edges of the pair's cell with the colours that its placement gives to them.
 fn add_edges(
     edges: &mut Vec<Edge>,
     puzzle: &Puzzle,
@@ -107,7 +107,8 @@ fn add_edges(
     let mut item = 2 * u32::from(puzzle.board().cells());
     for edge in shared {
         if let Some(side) = edge.side_at(pair.cell) {
-            let colour = puzzle.colour(pair.placement, side);
+            let shown = puzzle.colour(pair.placement, side);
+            let colour = edge.given(puzzle, pair.cell, shown);
             edges.push(Edge { item, colour })?;
         }
         item += 1;

@@ -19,7 +19,8 @@ use std::marker::Model;
 /// Items are numbered from 0. The primary ones are the cells, then the tiles; the secondary ones, after them, are the
 /// shared edges, by their lesser (cell, side). There is one option for each cell and legal placement that shows there
 /// what the border asks; they are numbered from 0 by cell, then by tile, then by turn. An option has its cell, its
-/// tile, and each shared edge of the cell with the colour that the placement shows on that side.
+/// tile, and each shared edge of the cell with a colour: what the placement shows at the edge's lesser (cell, side), or
+/// the mate of what it shows at the other.
 #[derive(Drop)]
 pub struct Xcc<'a> {
     puzzle: &'a Puzzle,

@@ -4,7 +4,7 @@ use Rattle.match_puzzle.proofs.partials.put.Given as goal
 
 abbrev pub invariant-loop-side : goal.invariant-loop-side
 invariant-loop-side l = record {
-  long : length l.shown.items ≡ length l.initial.shown.items;
-  done : (k : ℕ) → k < l.side → slice_index l.shown.items (FIRST_PLACE + 4 * l.cell + k) ≡ slice_index l.colours k;
-  others : (place : ℕ) → (place < FIRST_PLACE + 4 * l.cell) ⊎ (FIRST_PLACE + 4 * l.cell + 4 ≤ place) → slice_index l.shown.items place ≡ slice_index l.initial.shown.items place;
+  long : length l.asks.items ≡ length l.initial.asks.items;
+  done : (k : ℕ) → k < l.side → slice_index l.asks.items (FIRST_PLACE + 4 * l.cell + k) ≡ slice_index l.colours k;
+  others : (place : ℕ) → (place < FIRST_PLACE + 4 * l.cell) ⊎ (FIRST_PLACE + 4 * l.cell + 4 ≤ place) → slice_index l.asks.items place ≡ slice_index l.initial.asks.items place;
 }

@@ -8,11 +8,11 @@ use Rattle.match_puzzle.proofs.tables.cell_sides.Goals as goal
 
 pub loop-side-preserved : goal.loop-side-preserved
 loop-side-preserved c = record {
-  sides = λ side x lt get turns tiles.
-      let p = task_of c.args.board turns c.args.border.now tiles in
+  sides = λ side x lt get turns mating tiles.
+      let p = task_of c.args.board turns c.args.border.now mating tiles in
       ⊎_elim
-      (λ w. subst (λ k. IsSide p c.args.cell k x) (sym w.0) (subst (λ y. IsSide p c.args.cell c.loop-side.side y) (sym w.1) (c.side_at.ensures.side turns tiles)))
-      (λ w. c.loop-side.invariant.sides side x (omega (arith, w.0)) w.1 turns tiles)
+      (λ w. subst (λ k. IsSide p c.args.cell k x) (sym w.0) (subst (λ y. IsSide p c.args.cell c.loop-side.side y) (sym w.1) (c.side_at.ensures.side turns mating tiles)))
+      (λ w. c.loop-side.invariant.sides side x (omega (arith, w.0)) w.1 turns mating tiles)
       (written_is c.loop-side.sides c.loop-side.side side c.side_at.result x (rw c.from.ensures at get));
   outside = λ side le lt. let after = c.loop-side.invariant.outside side (omega (arith, le)) lt in
       rw c.from.ensures (slice_get-set_other c.loop-side.sides c.loop-side.side side c.side_at.result (λ e. omega (arith, e, le)) ∙ after);

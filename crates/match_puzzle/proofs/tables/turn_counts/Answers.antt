@@ -13,15 +13,15 @@ loop-tile-preserved c =
     let grown : c.push.new.self.items ≡ table ++ c.turn_count.result ∷ [] = c.in_ok-push.ensures.items in
     record {
       long = ap length grown ∙ omega (arith, length-append table (c.turn_count.result ∷ []), c.loop-tile.invariant.long);
-      is = λ tile count get board border.
-          turn_counts_more board c.args.turns border c.args.tiles.now table c.turn_count.result (λ t k g. c.loop-tile.invariant.is t k g board border)
-          (subst (λ n. IsTurnCount (task_of board c.args.turns border c.args.tiles.now) n c.turn_count.result) (sym c.loop-tile.invariant.long)
-          (turn_count_is board c.args.turns border c.args.tiles.now i c.tile-item.result c.turn_count.result c.loop-tile-test.true c.tile-item.is c.turn_count.ensures))
+      is = λ tile count get board border mating.
+          turn_counts_more board c.args.turns border mating c.args.tiles.now table c.turn_count.result (λ t k g. c.loop-tile.invariant.is t k g board border mating)
+          (subst (λ n. IsTurnCount (task_of board c.args.turns border mating c.args.tiles.now) n c.turn_count.result) (sym c.loop-tile.invariant.long)
+          (turn_count_is board c.args.turns border mating c.args.tiles.now i c.tile-item.result c.turn_count.result c.loop-tile-test.true c.tile-item.is c.turn_count.ensures))
           tile count (subst (λ (xs : List ℕ). slice_get xs tile ≡ Some count) grown get);
     }
 
 pub returns : goal.returns
-returns c = λ board border. record {
+returns c = λ board border mating. record {
   long = omega (arith, c.loop-tile.invariant.long, c.loop-tile-test.false, c.loop-tile.auto.tile-index-end, length-map c.args.tiles.now word);
-  is = λ tile count get. c.loop-tile.invariant.is tile count get board border;
+  is = λ tile count get. c.loop-tile.invariant.is tile count get board border mating;
 }

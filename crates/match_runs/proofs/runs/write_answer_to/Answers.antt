@@ -5,13 +5,13 @@ use Rattle.cert_check.specs.Answer.{IsAnswer}
 use Rattle.cert_check.specs.Setting.{question_of}
 use Rattle.match_runs.specs.Moves.{FrontOf, writing_of}
 use Rattle.match_runs.specs.Runs.{outcome_of, status_of}
-use Rattle.match_runs.proofs.RunLemmas.{no_memory}
+use Rattle.match_runs.proofs.RunLemmas.{has_line}
 use Rattle.match_runs.proofs.runs.write_answer_to.Goals as goal
 
 pub write_answer-requires : goal.write_answer-requires
 write_answer-requires g c =
     let q = c.in_ok-question.question in
-    no_memory (question_of q.puzzle c.deref.result.now q.certificate) c.in_ok-answer.answer c.in_ok-answer.ensures.answer
+    has_line (question_of q.puzzle c.deref.result.now q.certificate) c.in_ok-answer.answer c.in_ok-question.ensures.puzzle c.in_ok-answer.ensures.answer
 
 pub returns-clause-ok : goal.returns-clause-ok
 returns-clause-ok g c =

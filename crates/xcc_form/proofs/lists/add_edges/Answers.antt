@@ -1,13 +1,14 @@
 use Rattle.std.proofs.Common.{◌≡◌, ◌+◌, ◌++◌, ◌∷◌, [], ◌∙◌, sym, Some, Vec, Global, slice_get, ap, arith, get_or, subst}
 use Rattle.std.proofs.lemmas.Option.{slice_get-get_or}
+use Rattle.xcc_form.specs.Options.{colour_given}
 use Rattle.xcc_form.specs.declared.edges.Edge.{Edge}
 use Rattle.xcc_form.specs.declared.edges.SharedEdge.{SharedEdge}
 use Rattle.xcc_form.proofs.ShownLemmas.{AreAdded, shared_at, side_of_in_range, none_more, one_more, all_added}
 use Rattle.xcc_form.proofs.lists.add_edges.Goals as goal
 use Rattle.xcc_form.proofs.lists.add_edges.Goals.{in-Some+in_ok-push, in_default}
 
-pub colour-colour-requires-clause-side : goal.colour-colour-requires-clause-side
-colour-colour-requires-clause-side c =
+pub colour-shown-requires-clause-side : goal.colour-shown-requires-clause-side
+colour-shown-requires-clause-side c =
     let s = c.args.puzzle.now.board in
     let here = slice_get-get_or c.args.shared.now c.loop-edge.edge-index _ c.loop-edge-test.true in
     side_of_in_range s _ c.args.pair.cell c.in-Some.side (shared_at s c.args.shared.now c.loop-edge.edge-index _ c.requires.shared here) c.in-Some.ensures
@@ -28,9 +29,9 @@ loop-edge-preserved c =
       added =
           elim c.match-side_at.branch [
             | in-Some+in_ok-push w ↦
-                let y : Edge = record { item = c.loop-edge.item; colour = w.colour-colour.result } in
+                let y : Edge = record { item = c.loop-edge.item; colour = w.given-colour.result } in
                 let pushed : after ≡ new ++ y ∷ [] = ap (λ (v : Vec Edge Global). v.items) w.edges-is ∙ w.in_ok-push.ensures.items in
-                one_more p shared c.args.pair k e here old new after w.in-Some.side y is_edge w.in-Some.ensures c.loop-edge.invariant.item w.colour-colour.ensures.colour pushed c.loop-edge.invariant.added
+                one_more p shared c.args.pair k e here old new after w.in-Some.side y is_edge w.in-Some.ensures c.loop-edge.invariant.item (w.given-colour.ensures.given ∙ ap (colour_given p e c.args.pair.cell) w.colour-shown.ensures.colour) pushed c.loop-edge.invariant.added
             | in_default w ↦
                 let same : after ≡ new = ap (λ (v : Vec Edge Global). v.items) w.edges-is in
                 subst (λ es. AreAdded p shared c.args.pair (k + 1) old es) (sym same) (none_more p shared c.args.pair k e here old new w.in_default.ensures c.loop-edge.invariant.added)

@@ -6,7 +6,7 @@ use Rattle.match_puzzle.specs.declared.number_sets.TheConstants.{GROUPS}
 use Rattle.match_puzzle.specs.Prefix.{Layout, Has}
 use Rattle.match_puzzle.proofs.Prefixes.{read_has}
 use Rattle.match_puzzle.proofs.Kept.{kept_lifted}
-use Rattle.match_puzzle.proofs.ShownLemmas.{shown_lifted}
+use Rattle.match_puzzle.proofs.AskingLemmas.{asking_lifted}
 use Rattle.match_puzzle.proofs.partials.Partial.lift.Goals as goal
 use Rattle.match_puzzle.proofs.partials.Partial.lift.Goals.{In-Some}
 
@@ -33,7 +33,7 @@ put-requires c =
     let kept = c.self.invariant in
     let within = slice_get_within c.self.inside.placed.items c.args.cell (Some c.in-Some.placement) (stands (goal.at.put-requires c).In-Some) in
     let cells = kept.prefix.cells in
-    let long = kept.shows.long in
+    let long = kept.asking.long in
     omega (arith, within, cells, long)
 
 pub invariant_of-self : goal.invariant_of-self
@@ -41,6 +41,6 @@ invariant_of-self c =
     let i = c.self.inside in
     let p = i.puzzle.now in
     let here = stands (goal.at.invariant_of-self c).In-Some in
-    rw c.from-in-Some.ensures (kept_lifted p i.placed.items i.free i.shown.items c.self.invariant c.args.cell c.in-Some.placement c.group-turns.result c.legal_numbers.result.now _ c.legal_numbers.ensures.legal c.group-turns.ensures.group c.put_group.ensures here
-    c.put.new.shown.items
-    (shown_lifted p i.placed.items c.args.cell c.in-Some.placement i.shown.items c.put.new.shown.items c.self.invariant.shows c.put.ensures.long c.put.ensures.others here (λ side lt. c.put.ensures.colours side lt ∙ get_or-replicate 4 side MOST_COLOURS 0 lt)))
+    rw c.from-in-Some.ensures (kept_lifted p i.placed.items i.free i.asks.items c.self.invariant c.args.cell c.in-Some.placement c.group-turns.result c.legal_numbers.result.now _ c.legal_numbers.ensures.legal c.group-turns.ensures.group c.put_group.ensures here
+    c.put.new.asks.items
+    (asking_lifted p i.placed.items c.args.cell c.in-Some.placement i.asks.items c.put.new.asks.items c.self.invariant.asking c.put.ensures.long c.put.ensures.others here (λ side lt. c.put.ensures.colours side lt ∙ get_or-replicate 4 side MOST_COLOURS 0 lt)))

@@ -1,11 +1,11 @@
 use Rattle.std.proofs.Common.{◌≡◌, ◌<◌, ◌≤◌, ◌+◌, ◌*◌, ℕ, length, slice_index}
 use Rattle.match_board.specs.declared.limits.TheConstants.{MOST_COLOURS}
 use Rattle.match_puzzle.specs.declared.tables.TheConstants.{FIRST_PLACE}
-use Rattle.match_puzzle.proofs.partials.nothing_shown.Given as goal
+use Rattle.match_puzzle.proofs.partials.nothing_asked.Given as goal
 
 abbrev pub invariant-loop-colour : goal.invariant-loop-colour
 invariant-loop-colour l = record {
-  long : length l.shown.items ≡ FIRST_PLACE + 4 * l.cells;
-  colours : (k : ℕ) → k < l.colour → slice_index l.shown.items k ≡ k;
-  any : (place : ℕ) → MOST_COLOURS ≤ place → place < FIRST_PLACE + 4 * l.cells → slice_index l.shown.items place ≡ MOST_COLOURS;
+  long : length l.asks.items ≡ FIRST_PLACE + 4 * l.cells;
+  colours : (k : ℕ) → k < l.colour → slice_index l.asks.items k ≡ k;
+  any : (place : ℕ) → MOST_COLOURS ≤ place → place < FIRST_PLACE + 4 * l.cells → slice_index l.asks.items place ≡ MOST_COLOURS;
 }

@@ -1,4 +1,4 @@
--- What each cell shows, four places to a cell.
+-- What each cell asks of those that it meets, four places to a cell.
 use Rattle.std.proofs.Common.{◌≡◌, ◌≢◌, ◌⊎◌, ◌<◌, ◌≤◌, ◌+◌, ◌*◌, ℕ, List, Some, None, length, set, get_or, replicate, arith, sym, ◌∙◌, subst, inl, inr, ⊎_elim}
 use Rattle.match_board.specs.declared.limits.TheConstants.{MOST_COLOURS}
 use Rattle.std.proofs.lemmas.Option.{slice_get_within}
@@ -6,10 +6,10 @@ use Rattle.std.proofs.lemmas.List.{length-replicate}
 use Rattle.std.proofs.lemmas.Bool.Decides.{eqb_tells}
 use Rattle.match_board.specs.Board.{cell_count, side_count}
 use Rattle.match_board.proofs.Listings.{lt_or_le}
-use Rattle.match_puzzle.specs.Puzzle.{Task, IsPuzzle, colour_of}
+use Rattle.match_puzzle.specs.Puzzle.{Task, IsPuzzle, colour_of, mate_of}
 use Rattle.match_puzzle.specs.Prefix.{Prefix, Has, IsFree, with_pair}
-use Rattle.match_puzzle.specs.PlacementSets.{ShowsColours}
-use Rattle.match_puzzle.specs.Partials.{AreShown}
+use Rattle.match_puzzle.specs.PlacementSets.{AsksColours}
+use Rattle.match_puzzle.specs.Partials.{AreAsking}
 use Rattle.match_puzzle.specs.declared.placements.Placement.{Placement}
 use Rattle.match_puzzle.proofs.Words.{few_sides}
 use Rattle.match_puzzle.proofs.Prefixes.{slice_get-set_other, has_placed, has_new, has_lifted}
@@ -36,14 +36,14 @@ other_cell cell old new kept cell' side ne lt =
 nothing_some : {X : Type 0} {x : X} → Some (Some x) ≡ Some None → ⊥
 nothing_some e = cc
 
-module _ (p : Task) (q : Prefix) (cell : ℕ) (x : Placement) (old new : List ℕ) (is : AreShown p q old) (long : length new ≡ length old) (kept : AreOthersKept cell old new) where
-  pub shown_placed : ((side : ℕ) → side < side_count p.board → (get_or new (FIRST_PLACE + 4 * cell + side) 0 ≡ colour_of p x side) × (get_or new (FIRST_PLACE + 4 * cell + side) 0 < MOST_COLOURS)) → IsFree q cell → AreShown p (with_pair q cell x) new
-  shown_placed shows free = record {
+module _ (p : Task) (q : Prefix) (cell : ℕ) (x : Placement) (old new : List ℕ) (is : AreAsking p q old) (long : length new ≡ length old) (kept : AreOthersKept cell old new) where
+  pub asking_placed : ((side : ℕ) → side < side_count p.board → (get_or new (FIRST_PLACE + 4 * cell + side) 0 ≡ mate_of p (colour_of p x side)) × (get_or new (FIRST_PLACE + 4 * cell + side) 0 < MOST_COLOURS)) → IsFree q cell → AreAsking p (with_pair q cell x) new
+  asking_placed shows free = record {
     long = long ∙ is.long;
     colours = λ colour le. kept colour (inl (omega (arith, le))) ∙ is.colours colour le;
     placed = λ cell' side y has side_in.
         ⊎_elim
-        (λ w. subst (λ z. (get_or new (FIRST_PLACE + 4 * cell' + side) 0 ≡ colour_of p z side) × (get_or new (FIRST_PLACE + 4 * cell' + side) 0 < MOST_COLOURS)) (sym w.1) (subst (λ k. (get_or new (FIRST_PLACE + 4 * k + side) 0 ≡ colour_of p x side) × (get_or new (FIRST_PLACE + 4 * k + side) 0 < MOST_COLOURS)) (sym w.0) (shows side side_in)))
+        (λ w. subst (λ z. (get_or new (FIRST_PLACE + 4 * cell' + side) 0 ≡ mate_of p (colour_of p z side)) × (get_or new (FIRST_PLACE + 4 * cell' + side) 0 < MOST_COLOURS)) (sym w.1) (subst (λ k. (get_or new (FIRST_PLACE + 4 * k + side) 0 ≡ mate_of p (colour_of p x side)) × (get_or new (FIRST_PLACE + 4 * k + side) 0 < MOST_COLOURS)) (sym w.0) (shows side side_in)))
         (λ w.
         let same = other_cell cell old new kept cell' side w.0 (omega (arith, side_in, few_sides p.board)) in
         let before = is.placed cell' side y w.1 side_in in
@@ -56,8 +56,8 @@ module _ (p : Task) (q : Prefix) (cell : ℕ) (x : Placement) (old new : List �
         (eqb_tells cell' cell);
   }
 
-  pub shown_lifted : Has q cell x → ((side : ℕ) → side < 4 → get_or new (FIRST_PLACE + 4 * cell + side) 0 ≡ MOST_COLOURS) → AreShown p (set q cell None) new
-  shown_lifted here any = record {
+  pub asking_lifted : Has q cell x → ((side : ℕ) → side < 4 → get_or new (FIRST_PLACE + 4 * cell + side) 0 ≡ MOST_COLOURS) → AreAsking p (set q cell None) new
+  asking_lifted here any = record {
     long = long ∙ is.long;
     colours = λ colour le. kept colour (inl (omega (arith, le))) ∙ is.colours colour le;
     placed = λ cell' side y has side_in.
@@ -72,19 +72,19 @@ module _ (p : Task) (q : Prefix) (cell : ℕ) (x : Placement) (old new : List �
         (eqb_tells cell' cell);
   }
 
--- what was put down at the cell is what the placement shows
-pub put_shows : (p : Task) (cell : ℕ) (x : Placement) (colours new : List ℕ) → ShowsColours p x colours → ((side : ℕ) → side < 4 → get_or new (FIRST_PLACE + 4 * cell + side) 0 ≡ get_or colours side 0) →
-    (side : ℕ) → side < side_count p.board → (get_or new (FIRST_PLACE + 4 * cell + side) 0 ≡ colour_of p x side) × (get_or new (FIRST_PLACE + 4 * cell + side) 0 < MOST_COLOURS)
-put_shows p cell x colours new shows put side lt =
+-- what was put down at the cell is what the placement asks
+pub put_asks : (p : Task) (cell : ℕ) (x : Placement) (colours new : List ℕ) → AsksColours p x colours → ((side : ℕ) → side < 4 → get_or new (FIRST_PLACE + 4 * cell + side) 0 ≡ get_or colours side 0) →
+    (side : ℕ) → side < side_count p.board → (get_or new (FIRST_PLACE + 4 * cell + side) 0 ≡ mate_of p (colour_of p x side)) × (get_or new (FIRST_PLACE + 4 * cell + side) 0 < MOST_COLOURS)
+put_asks p cell x colours new shows put side lt =
     let same = put side (omega (arith, lt, few_sides p.board)) in
     let here = shows side lt in
     (same ∙ here.0, let few = here.1 in omega (arith, same, few))
 
 -- ---- nothing stands
 
-pub shown_none : (p : Task) (shown : List ℕ) → length shown ≡ FIRST_PLACE + 4 * cell_count p.board → ((colour : ℕ) → colour < MOST_COLOURS → get_or shown colour 0 ≡ colour) →
-    ((place : ℕ) → MOST_COLOURS ≤ place → place < FIRST_PLACE + 4 * cell_count p.board → get_or shown place 0 ≡ MOST_COLOURS) → AreShown p (replicate (cell_count p.board) None) shown
-shown_none p shown long colours any = record {
+pub asking_none : (p : Task) (table : List ℕ) → length table ≡ FIRST_PLACE + 4 * cell_count p.board → ((colour : ℕ) → colour < MOST_COLOURS → get_or table colour 0 ≡ colour) →
+    ((place : ℕ) → MOST_COLOURS ≤ place → place < FIRST_PLACE + 4 * cell_count p.board → get_or table place 0 ≡ MOST_COLOURS) → AreAsking p (replicate (cell_count p.board) None) table
+asking_none p table long colours any = record {
   long = long;
   colours = λ colour le.
       ⊎_elim
@@ -108,12 +108,12 @@ no_edge : {c k : ℕ} → Edge c k ≡ Border None → ⊥
 no_edge e = cc
 
 -- what stands at the place of a side is what is asked of it
-pub asked_there : (p : Task) (q : Prefix) (shown : List ℕ) → IsPuzzle p → length q ≡ cell_count p.board → AreShown p q shown → (cell side place : ℕ) → IsAskedAt p cell side place →
-    (place < length shown) × (get_or shown place 0 ≤ MOST_COLOURS) × AsksBelow p q cell side (get_or shown place 0)
-asked_there p q shown puzzle cells is cell side place there = by_side there.0 there.1 there.2
+pub asked_there : (p : Task) (q : Prefix) (table : List ℕ) → IsPuzzle p → length q ≡ cell_count p.board → AreAsking p q table → (cell side place : ℕ) → IsAskedAt p cell side place →
+    (place < length table) × (get_or table place 0 ≤ MOST_COLOURS) × AsksBelow p q cell side (get_or table place 0)
+asked_there p q table puzzle cells is cell side place there = by_side there.0 there.1 there.2
   where
     Told : ℕ → Type 0
-    Told n = (n < length shown) × (get_or shown n 0 ≤ MOST_COLOURS) × AsksBelow p q cell side (get_or shown n 0)
+    Told n = (n < length table) × (get_or table n 0 ≤ MOST_COLOURS) × AsksBelow p q cell side (get_or table n 0)
 
     by_side : (x : Side) → place ≡ place_asked x → ((side_count p.board ≤ side) × (x ≡ Border None)) ⊎ ((side < side_count p.board) × IsSide p cell side x) → Told place
     by_side (Border None) at of =
@@ -122,7 +122,7 @@ asked_there p q shown puzzle cells is cell side place there = by_side there.0 th
         subst Told (sym at) (
           omega (arith, long),
           omega (arith, here),
-          ⊎_elim (λ o. rw here (outside_asks p q cell side o.0)) (λ o. border_asks p q cell side None (get_or shown MOST_COLOURS 0) o.1 tt here) of,
+          ⊎_elim (λ o. rw here (outside_asks p q cell side o.0)) (λ o. border_asks p q cell side None (get_or table MOST_COLOURS 0) o.1 tt here) of,
         )
     by_side (Border (Some colour)) at of =
         ⊎_elim
@@ -132,7 +132,7 @@ asked_there p q shown puzzle cells is cell side place there = by_side there.0 th
         let here = is.colours colour (omega (arith, few)) in
         let long = is.long in
         subst Told (sym at)
-        (omega (arith, long, few), omega (arith, here, few), border_asks p q cell side (Some colour) (get_or shown colour 0) o.1 few here))
+        (omega (arith, long, few), omega (arith, here, few), border_asks p q cell side (Some colour) (get_or table colour 0) o.1 few here))
         of
     by_side (Edge c k) at of =
         ⊎_elim
@@ -141,6 +141,6 @@ asked_there p q shown puzzle cells is cell side place there = by_side there.0 th
         let c_in = StandsAt-in_range o.1.0.there in
         let k_in = side_in_range (Meets-turned o.1.0) in
         let long = is.long in
-        let asks = edge_asks p q cell side c k (get_or shown (FIRST_PLACE + 4 * c + k) 0) o.1 (omega (arith, c_in, cells)) (λ y has. is.placed c k y has k_in) (λ free. is.empty c k free (omega (arith, k_in, few_sides p.board))) in
+        let asks = edge_asks p q cell side c k (get_or table (FIRST_PLACE + 4 * c + k) 0) o.1 (omega (arith, c_in, cells)) (λ y has. is.placed c k y has k_in) (λ free. is.empty c k free (omega (arith, k_in, few_sides p.board))) in
         subst Told (sym at) (omega (arith, c_in, k_in, long, few_sides p.board), asks.0, asks.1))
         of
