@@ -17,6 +17,7 @@ import time
 import tomllib
 from dataclasses import dataclass, field
 
+import plain_search
 from plain_search import ItemSearch, Search, read_puzzle
 
 TOP = os.path.join(os.path.dirname(os.path.abspath(__file__)), "..")
@@ -228,8 +229,7 @@ def check(trial, case):
 
 def list_text(arrangements):
     """The text of a list of these arrangements."""
-    lines = "".join(f"{it}\n" for it in arrangements)
-    return f"list 1\narrangements {len(arrangements)}\n{lines}end\n".encode("latin-1")
+    return plain_search.list_text(arrangements).encode("latin-1")
 
 
 def arrangements_in(text):

@@ -3,14 +3,14 @@
 
 usage: limit_each_run.py [--memory KB] [--stack KB] [--looks] [--jobs N] PROGRAM [PUZZLE ..]
 
-Each puzzle is solved first; besides those that are given, a row of 100 cells, whose tree has 101 levels. Then a check,
-an expansion and a solve of each, with one worker and with several, are run with a limit on memory (addresses) that
-grows in steps of so many KB (1,024, unless given), and with one on the stack (4). A run has to give what it gives
-without a limit, or nothing but `out of memory` on standard error, with status 2, and a solve leaves both files empty
-then. Of several workers a solve may list in another order, so of those what is asked is that the list has as many.
-Limits under which `true` or the program can't be loaded aren't tried, nor stacks of less than 16 KB, under which the
-system ends `true` by a signal too. With --looks no puzzle is solved under a limit. The script ends with 0 where all is
-so of each run, and names those of which it isn't. It needs Linux.
+Each puzzle is solved first; besides those that are given, rows of 100 and of 256 cells, whose trees have 101 and 257
+levels. Then a check, an expansion and a solve of each, with one worker and with several, are run with a limit on memory
+(addresses) that grows in steps of so many KB (1,024, unless given), and with one on the stack (4). A run has to give
+what it gives without a limit, or nothing but `out of memory` on standard error, with status 2, and a solve leaves both
+files empty then. Of several workers a solve may list in another order, so of those what is asked is that the list has
+as many. Limits under which `true` or the program can't be loaded aren't tried, nor stacks of less than 16 KB, under
+which the system ends `true` by a signal too. With --looks no puzzle is solved under a limit. The script ends with 0
+where all is so of each run, and names those of which it isn't. It needs Linux.
 """
 import argparse
 import concurrent.futures
@@ -33,15 +33,16 @@ AMPLE = 1 << 26
 ENOUGH = 8
 
 
-def row_of_cells():
-    """A row of 100 cells, each of which asks for one tile alone."""
-    sides = [(COLOURS[cell // 10], COLOURS[cell % 10]) for cell in range(100)]
+def row_of_cells(count):
+    """A row of so many cells, each of which asks for one tile alone."""
+    sides = [(COLOURS[cell // 36], COLOURS[cell % 36]) for cell in range(count)]
     rules = [list(both) for both in sides]
     rules[0].append("-")
     rules[-1].insert(1, "-")
     border = "border each " + " ".join(rule for cell in rules for rule in cell)
     tiles = [f"tile {north}0{south}0" for north, south in sides]
-    return "\n".join(["match 1", "board rect 100 1", "turns no", border, "tiles 100", *tiles, "end", ""])
+    board = ["match 2", f"board shape {count} 1", f"row {'#' * count}", "turns no", border, "mates"]
+    return "\n".join([*board, f"tiles {count}", *tiles, "end", ""])
 
 
 def limited(words, kind, kilobytes):
@@ -129,7 +130,7 @@ def main():
     program, steps = os.path.abspath(given.program), {"memory": given.memory, "stack": given.stack}
     wrong = []
     with tempfile.TemporaryDirectory() as folder, concurrent.futures.ThreadPoolExecutor(given.jobs) as pool:
-        texts = {"row of 100 cells": row_of_cells()}
+        texts = {f"row of {count} cells": row_of_cells(count) for count in (100, 256)}
         for path in given.puzzles:
             with open(path, encoding="ascii") as file:
                 texts[os.path.basename(path)] = file.read()

@@ -49,8 +49,21 @@ def triangles(rows):
     return cell, 3, meets
 
 
-def board(words):
+def shape(rows):
+    """The same of the squares that are marked `#` in these rows."""
+    marked = [(row, column) for row, marks in enumerate(rows) for column, mark in enumerate(marks) if mark == "#"]
+    numbers, meets = {place: cell for cell, place in enumerate(marked)}, {}
+    for (row, column), cell in numbers.items():
+        for side, back, there in ((1, 3, (row, column + 1)), (2, 0, (row + 1, column))):
+            if there in numbers:
+                meets[cell, side], meets[numbers[there], back] = (numbers[there], back), (cell, side)
+    return len(marked), 4, meets
+
+
+def board(words, rows):
     kind, numbers = words[0], [int(word) for word in words[1:]]
+    if kind == "shape":
+        return shape(rows)
     if kind == "rect":
         return rectangle(*numbers)
     size = numbers[0]
@@ -70,8 +83,9 @@ def read_mates(words):
 
 def read_puzzle(text):
     lines = [line.split(" ") for line in text.splitlines()]
+    rows = [lines.pop(2)[1] for _ in range(int(lines[1][3]) if lines[1][1] == "shape" else 0)]
     mates = read_mates(lines.pop(4)[1:] if lines[0][1] == "2" else [])
-    cells, sides, meets = board(lines[1][1:])
+    cells, sides, meets = board(lines[1][1:], rows)
     turns = lines[2][1] == "yes"
     pairs = [(cell, side) for cell in range(cells) for side in range(sides) if (cell, side) not in meets]
     rules, border = {}, lines[3]
@@ -92,10 +106,19 @@ def read_puzzle(text):
     return cells, sides, meets, rules, mates, shown
 
 
+def list_text(arrangements):
+    """The text of a list of these arrangements, in version 1 where that has the numbers for it."""
+    rows = [[int(placement.split(".")[0]) for placement in row.split(" ")] for row in arrangements]
+    version = 2 if any(len(row) > 100 or max(row) > 99 for row in rows) else 1
+    lines = "".join(f"{row}\n" for row in arrangements)
+    return f"list {version}\narrangements {len(arrangements)}\n{lines}end\n"
+
+
 class Search:
     def __init__(self, puzzle, depth, most):
         self.cells, self.sides, self.meets, self.rules, self.mates, self.shown = puzzle
         self.depth, self.most, self.nodes, self.branches = depth, most, 0, 0
+        self.version = 1  # of the certificate: 2 where a number or a level passes the ranges of version 1
         self.at = [None] * self.cells
         self.free = list(range(len(self.shown)))
         self.listed, self.lemmas = [], []
@@ -139,6 +162,9 @@ class Search:
             out.append(f"f {len(self.listed) - 1}")
             return
         branch, dead, fits = best
+        level = placed - self.depth + 1 if 0 < self.depth <= placed else placed + 1
+        if int(branch.split(" ")[1]) > 99 or len(fits) > 400 or level + bool(fits) > 101:
+            self.version = 2
         if not fits:
             out.append(dead)
             return
@@ -157,11 +183,12 @@ class Search:
             self.node(out, placed)
             return
         prefix = " ".join(f"{cell}:{at[0]}.{at[1]}" for cell, at in enumerate(self.at) if at)
+        if any(at and max(cell, at[0]) > 99 for cell, at in enumerate(self.at)):
+            self.version = 2
         tree = []
         self.node(tree, placed)
         out.append(f"s {len(self.lemmas)}")
         self.lemmas.append(f"{prefix} tree {' '.join(tree)}")
-
 
     def run(self):
         root = []
@@ -169,12 +196,11 @@ class Search:
         self.lemmas.append(f"tree {' '.join(root)}")
 
     def list_text(self):
-        rows = (" ".join(f"{tile}.{turn}" for tile, turn in row) for row in self.listed)
-        return f"list 1\narrangements {len(self.listed)}\n" + "".join(row + "\n" for row in rows) + "end\n"
+        return list_text([" ".join(f"{tile}.{turn}" for tile, turn in row) for row in self.listed])
 
     def certificate_text(self):
         lemmas = (f"lemma {number} prefix {lemma}\n" for number, lemma in enumerate(self.lemmas))
-        return f"certificate 1\nsymmetries 0\nlemmas {len(self.lemmas)}\n" + "".join(lemmas) + "end\n"
+        return f"certificate {self.version}\nsymmetries 0\nlemmas {len(self.lemmas)}\n" + "".join(lemmas) + "end\n"
 
 
 class ItemSearch(Search):

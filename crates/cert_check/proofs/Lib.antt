@@ -7,3 +7,4 @@ pub mod CheckLemmas
 pub mod WalkLemmas
 pub mod RepeatLemmas
 pub mod ForkLemmas
+pub mod AnswerAlike

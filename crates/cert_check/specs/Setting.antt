@@ -1,6 +1,6 @@
 -- What a tree speaks of.
 use Rattle.std.specs.Prelude.{◌≡◌, ℕ, List, Some, map, take, slice_get}
-use Rattle.match_puzzle.specs.Puzzle.{Task}
+use Rattle.match_puzzle.specs.Puzzle.{Task, second_form_of}
 use Rattle.match_puzzle.specs.PrefixFaults.{IsPairList}
 use Rattle.match_puzzle.specs.declared.placements.Placement.{Placement}
 use Rattle.match_puzzle.specs.declared.placements.Pair.{Pair}
@@ -14,6 +14,15 @@ pub record Question : Type 0 where
   pub listed : List (List Placement)
   pub symmetries : List SymmetryLine
   pub lemmas : List Piece
+
+-- the same question of the puzzle's second form
+abbrev pub in_second_form : Question → Question
+in_second_form question = record {
+  puzzle = second_form_of question.puzzle;
+  listed = question.listed;
+  symmetries = question.symmetries;
+  lemmas = question.lemmas;
+}
 
 -- what the tree of a lemma may name: the listed arrangements, the symmetries, and the prefixes of the lemmas before it,
 -- each by number

@@ -1,10 +1,10 @@
 //! The check of a certificate.
 
-ghost use Rattle.std.specs.Prelude.{◌≡◌, ◌<◌, ◌^◌, ℕ, IfOk, OnErr, MatchOption, None, Some, length, map, slice_get};
+ghost use Rattle.std.specs.Prelude.{◌≡◌, ◌<◌, ◌^◌, ◌↔◌, ℕ, IfOk, OnErr, MatchOption, None, Some, length, map, slice_get};
 ghost use Rattle.match_board.specs.First.{IsFirst};
 ghost use Rattle.match_puzzle.specs.Puzzle.{IsPuzzle};
 ghost use Rattle.match_puzzle.specs.Prefix.{empty_prefix};
-ghost use Rattle.cert_check.specs.Setting.{question_of, line_of, AreOfPuzzle, BeginWithPrefixes};
+ghost use Rattle.cert_check.specs.Setting.{Question, question_of, line_of, AreOfPuzzle, BeginWithPrefixes, in_second_form};
 ghost use Rattle.cert_check.specs.Walk.{TellsOfLemma, TellsOfTrees, TellsOfListing};
 ghost use Rattle.cert_check.specs.Answer.{AreArrangements, IsAnswer, IsCompleteList, AreCovered, OneAnswer};
 
@@ -162,4 +162,11 @@ pub fn tree_fault(
 /// Does nothing. Its promise is a law: a puzzle, a list and a certificate have no more than one answer.
 pub fn one_answer()
     ensures { OneAnswer }
+{}
+
+/// Does nothing. Its promise is a law: a puzzle's second form, of version 2 with a shape in place of a rectangle, has the
+/// same answer as the puzzle, to each list and certificate.
+pub fn second_form_has_the_same_answers()
+    ensures { (question : Question) (answer : Answer)
+        → IsAnswer question answer ↔ IsAnswer (in_second_form question) answer }
 {}

@@ -14,7 +14,7 @@ mod stages;
 mod symmetries;
 mod walks;
 
-pub use checks::{check, one_answer, tree_fault, trees_fault};
+pub use checks::{check, one_answer, second_form_has_the_same_answers, tree_fault, trees_fault};
 pub use faults::{Answer, Fault, NodeFault, Path, TreeFault};
 pub use forks::forked_tree_fault;
 pub use gates::{Gate, Open};

@@ -5,6 +5,7 @@ use Rattle.std.specs.List.Sorted.{IsPermutation}
 use Rattle.std.proofs.lemmas.List.Sorted.{length_permutation}
 use Rattle.match_text.specs.declared.faults.TextFault.{TextFault}
 use Rattle.match_text.specs.Laws.{ReadsSpellingsAlone, ReadsEachSpelling}
+use Rattle.puzzle_symmetry.specs.declared.lines.SymmetryLine.{SymmetryLine}
 use Rattle.cert_tree.specs.declared.faults.AssembleFault.{AssembleFault}
 use Rattle.cert_tree.specs.declared.faults.AssembleFault.TheVariants as assemble
 use Rattle.cert_tree.specs.declared.faults.CertTextFault.{CertTextFault}
@@ -12,7 +13,7 @@ use Rattle.cert_tree.specs.declared.faults.CertTextFault.TheVariants.{Text, Asse
 use Rattle.cert_tree.specs.Certificate.{Contents, Piece, piece_number}
 use Rattle.cert_tree.specs.Assembly.{Assembles, IsSettled}
 use Rattle.cert_tree.specs.CertificateText.{Said, Makes}
-use Rattle.cert_tree.specs.Laws.{IsSame, MakesOneInAnyOrder}
+use Rattle.cert_tree.specs.Laws.{MakesOneInAnyOrder}
 use Rattle.cert_tree.proofs.OrderLemmas.{one_in_any_order}
 
 -- what is within the limits has a text, and nothing else
@@ -48,6 +49,12 @@ apart xs f e = absurd cc
 apart_back : (xs : List Piece) (f : AssembleFault) → refused f ≡ assembled xs → ⊥
 apart_back xs f e = absurd cc
 
+abbrev made : List SymmetryLine → List Piece → Result Contents CertTextFault
+made symmetries lemmas = Ok (record { symmetries = symmetries; lemmas = lemmas })
+
+abbrev failed : AssembleFault → Result Contents CertTextFault
+failed fault = Err (Assemble fault)
+
 settled_ok : (xs : List Piece) → IsSettled (assembled xs)
 settled_ok xs e = absurd cc
 
@@ -61,13 +68,13 @@ module _ (said other : Said) (symmetries : said.symmetries ≡ other.symmetries)
   same_outcome : (a b : Result (List Piece) AssembleFault) → IsSettled a → IsSettled b → Assembles piece_number (length said.pieces) said.pieces a → Assembles piece_number (length other.pieces) other.pieces b → a ≡ b
   same_outcome a b s t x y = one_in_any_order piece_number (length said.pieces) said.pieces other.pieces a b moved s t x (subst (λ n. Assembles piece_number n other.pieces b) same_count y)
 
-  pub same_made : (a b : Result Contents CertTextFault) → a ≢ Err Memory → b ≢ Err Memory → Makes said a → Makes other b → IsSame a b
+  pub same_made : (a b : Result Contents CertTextFault) → a ≢ Err Memory → b ≢ Err Memory → Makes said a → Makes other b → a ≡ b
   same_made (Ok c) (Ok d) s t x y =
       let lemmas = ok_is c.lemmas d.lemmas (same_outcome (Ok c.lemmas) (Ok d.lemmas) (settled_ok c.lemmas) (settled_ok d.lemmas) x.1 y.1) in
-      ap (λ gs. record { symmetries = gs; pieces = c.lemmas }) (x.0 ∙ symmetries ∙ sym y.0) ∙ ap (λ ps. record { symmetries = d.symmetries; pieces = ps }) lemmas
-  same_made (Ok c) (Err (Assemble g)) s t x y = apart c.lemmas g (same_outcome (Ok c.lemmas) (Err g) (settled_ok c.lemmas) (settled_fault g y.0) x.1 y.1)
-  same_made (Err (Assemble f)) (Ok d) s t x y = apart_back d.lemmas f (same_outcome (Err f) (Ok d.lemmas) (settled_fault f x.0) (settled_ok d.lemmas) x.1 y.1)
-  same_made (Err (Assemble f)) (Err (Assemble g)) s t x y = ap (λ h. Assemble h) (err_is f g (same_outcome (Err f) (Err g) (settled_fault f x.0) (settled_fault g y.0) x.1 y.1))
+      ap (λ gs. made gs c.lemmas) (x.0 ∙ symmetries ∙ sym y.0) ∙ ap (λ ps. made d.symmetries ps) lemmas
+  same_made (Ok c) (Err (Assemble g)) s t x y = absurd (apart c.lemmas g (same_outcome (Ok c.lemmas) (Err g) (settled_ok c.lemmas) (settled_fault g y.0) x.1 y.1))
+  same_made (Err (Assemble f)) (Ok d) s t x y = absurd (apart_back d.lemmas f (same_outcome (Err f) (Ok d.lemmas) (settled_fault f x.0) (settled_ok d.lemmas) x.1 y.1))
+  same_made (Err (Assemble f)) (Err (Assemble g)) s t x y = ap (λ h. failed h) (err_is f g (same_outcome (Err f) (Err g) (settled_fault f x.0) (settled_fault g y.0) x.1 y.1))
   same_made (Err (Text f)) b s t x y = absurd x
   same_made a (Err (Text g)) s t x y = absurd y
   same_made (Err Memory) b s t x y = absurd (s refl)

@@ -11,6 +11,7 @@ pub mod FieldLemmas
 pub mod TreeTextLemmas
 pub mod LemmaTextLemmas
 pub mod CertificateTextLemmas
+pub mod WiderLemmas
 pub mod ReadingLemmas
 pub mod ConversionLemmas
 pub mod TreeLimitLemmas

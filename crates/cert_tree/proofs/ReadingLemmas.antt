@@ -8,6 +8,9 @@ use Rattle.match_board.specs.First.{IsFirst}
 use Rattle.match_puzzle.proofs.Prefixes.{inside}
 use Rattle.match_text.specs.declared.faults.TextFault.{TextFault}
 use Rattle.match_text.specs.declared.faults.TextKind.TheVariants.{Ends}
+use Rattle.match_text.specs.declared.ranges.Ranges.{Ranges}
+use Rattle.match_text.specs.declared.ranges.TheConstants.{SECOND}
+use Rattle.match_text.specs.Ranges.{AreRanges, ranges_of}
 use Rattle.match_text.specs.Bytes.{line_ends}
 use Rattle.match_text.specs.Place.{fail}
 use Rattle.cert_tree.specs.declared.certificates.Lemma.{Lemma}
@@ -26,18 +29,19 @@ use Rattle.cert_tree.specs.CertificateText.{Said, lemma_of, LemmaGives, certific
 use Rattle.cert_tree.specs.CertificateSpelling.{lemma_spelling, certificate_spelling, IsSymmetryWithin, IsLemmaWithin, IsCertificateWithin}
 use Rattle.cert_tree.specs.Writing.{said_by}
 use Rattle.cert_tree.proofs.AssemblyLemmas.{often-map, later_contained, tells_same}
+use Rattle.cert_tree.proofs.WiderLemmas.{within_second}
 use Rattle.cert_tree.proofs.CertificateTextLemmas.{lemma_found, lemma_only, lemma_short, certificate_found, certificate_only, certificate_short}
 
 -- ---- a lemma
 
-pub found_of : (text : List ℕ) (result : Result Lemma LemmaTextFault) → LemmaGives result (lemma_of text) → IfOk result (λ lemma. IsLemmaWithin (piece_of lemma) × (text ≡ lemma_spelling (piece_of lemma)))
+pub found_of : (text : List ℕ) (result : Result Lemma LemmaTextFault) → LemmaGives result (lemma_of text) → IfOk result (λ lemma. IsLemmaWithin SECOND (piece_of lemma) × (text ≡ lemma_spelling (piece_of lemma)))
 found_of text (Ok lemma) e = lemma_found text (piece_of lemma) e
 found_of text (Err f) e = tt
 
-pub only_of : (text : List ℕ) (result : Result Lemma LemmaTextFault) → LemmaGives result (lemma_of text) → (piece : Piece) → IsLemmaWithin piece → text ≡ lemma_spelling piece → LemmaGives result (Ok piece)
+pub only_of : (text : List ℕ) (result : Result Lemma LemmaTextFault) → LemmaGives result (lemma_of text) → (piece : Piece) → IsLemmaWithin SECOND piece → text ≡ lemma_spelling piece → LemmaGives result (Ok piece)
 only_of text result gives piece fits e = subst (λ outcome. LemmaGives result outcome) (ap lemma_of e ∙ lemma_only piece fits) gives
 
-pub cut_of : (text : List ℕ) (result : Result Lemma LemmaTextFault) → LemmaGives result (lemma_of text) → (piece : Piece) (k : ℕ) → IsLemmaWithin piece → k < length (lemma_spelling piece) → text ≡ take k (lemma_spelling piece)
+pub cut_of : (text : List ℕ) (result : Result Lemma LemmaTextFault) → LemmaGives result (lemma_of text) → (piece : Piece) (k : ℕ) → IsLemmaWithin SECOND piece → k < length (lemma_spelling piece) → text ≡ take k (lemma_spelling piece)
     → LemmaGives result (fail (line_ends text + 1) Ends)
 cut_of text result gives piece k fits lt e =
     subst (λ outcome. LemmaGives result outcome) (ap lemma_of e ∙ lemma_short (lemma_spelling piece) piece k (lemma_only piece fits) lt ∙ ap (λ t. fail (line_ends t + 1) Ends) (sym e)) gives
@@ -47,10 +51,10 @@ contained_at [] x at = absurd (omega (arith, at.1))
 contained_at (y ∷ xs) x (zero, lt, is) = ap Some is
 contained_at (y ∷ xs) x (suc k, lt, is) = contained_at xs x (k, omega (arith, lt), is)
 
-pub short_within : (pieces : List Piece) → AllByRecursion IsLemmaWithin pieces → All (λ piece. length piece.prefix < 2 ^ 32) pieces
-short_within [] fits k d lt = absurd (omega (arith, lt))
-short_within (piece ∷ pieces) fits zero d lt = omega (arith, fits.0.few_pairs)
-short_within (piece ∷ pieces) fits (suc k) d lt = short_within pieces fits.1 k d (omega (arith, lt))
+pub short_within : (ranges : Ranges) → AreRanges ranges → (pieces : List Piece) → AllByRecursion (IsLemmaWithin ranges) pieces → All (λ piece. length piece.prefix < 2 ^ 32) pieces
+short_within ranges are [] fits k d lt = absurd (omega (arith, lt))
+short_within ranges are (piece ∷ pieces) fits zero d lt = omega (arith, fits.0.few_pairs, are.few)
+short_within ranges are (piece ∷ pieces) fits (suc k) d lt = short_within ranges are pieces fits.1 k d (omega (arith, lt))
 
 -- ---- lemmas are assembled as their pieces are
 
@@ -153,23 +157,28 @@ made_fault said Memory is = tt
 
 -- ---- what was assembled of what a text says can be written
 
-all_within : (pieces : List Piece) → ((n : ℕ) (piece : Piece) → slice_get pieces n ≡ Some piece → IsLemmaWithin piece) → AllByRecursion IsLemmaWithin pieces
-all_within [] each = tt
-all_within (piece ∷ pieces) each = (each 0 piece refl, all_within pieces (λ n other at. each (suc n) other at))
+all_within : (Fits : Piece → Type 0) (pieces : List Piece) → ((n : ℕ) (piece : Piece) → slice_get pieces n ≡ Some piece → Fits piece) → AllByRecursion Fits pieces
+all_within Fits [] each = tt
+all_within Fits (piece ∷ pieces) each = (each 0 piece refl, all_within Fits pieces (λ n other at. each (suc n) other at))
 
-contained_within : (pieces : List Piece) → AllByRecursion IsLemmaWithin pieces → (piece : Piece) → Contains pieces piece → IsLemmaWithin piece
-contained_within [] all piece at = absurd (omega (arith, at.1))
-contained_within (x ∷ pieces) all piece (zero, at, is) = subst IsLemmaWithin is all.0
-contained_within (x ∷ pieces) all piece (suc k, at, is) = contained_within pieces all.1 piece (k, omega (arith, at), is)
+contained_within : (Fits : Piece → Type 0) (pieces : List Piece) → AllByRecursion Fits pieces → (piece : Piece) → Contains pieces piece → Fits piece
+contained_within Fits [] all piece at = absurd (omega (arith, at.1))
+contained_within Fits (x ∷ pieces) all piece (zero, at, is) = subst Fits is all.0
+contained_within Fits (x ∷ pieces) all piece (suc k, at, is) = contained_within Fits pieces all.1 piece (k, omega (arith, at), is)
 
-made_within : (said : Said) (c : Contents) → IsCertificateWithin said → Makes said (Ok c) → IsCertificateWithin (said_by c)
-made_within said c fits made = record {
-  few_symmetries = subst (λ gs. length gs ≤ MOST_SYMMETRIES) (sym made.0) fits.few_symmetries;
-  symmetries = subst (AllByRecursion IsSymmetryWithin) (sym made.0) fits.symmetries;
-  few_pieces = omega (arith, made.1.many, fits.few_pieces);
-  pieces = all_within (c.lemmas) (λ n piece at. contained_within said.pieces fits.pieces piece (made.1.only n piece at).among);
-}
+-- in the version of the text
+made_within : (said : Said) (c : Contents) → IsCertificateWithin said → Makes said (Ok c) → IsCertificateWithin (said_by said.version c)
+made_within said c fits made =
+    let ranges = ranges_of said.version in
+    record {
+      version = fits.version;
+      few_symmetries = subst (λ gs. length gs ≤ MOST_SYMMETRIES) (sym made.0) fits.few_symmetries;
+      symmetries = subst (AllByRecursion (IsSymmetryWithin ranges)) (sym made.0) fits.symmetries;
+      few_pieces = omega (arith, made.1.many, fits.few_pieces);
+      pieces = all_within (IsLemmaWithin ranges) c.lemmas (λ n piece at. contained_within (IsLemmaWithin ranges) said.pieces fits.pieces piece (made.1.only n piece at).among);
+    }
 
-pub certificate_within_of : (text : List ℕ) (result : Result Contents CertTextFault) → CertificateGives result (certificate_of text) → IfOk result (λ c. IsCertificateWithin (said_by c))
+-- and so in version 2
+pub certificate_within_of : (text : List ℕ) (result : Result Contents CertTextFault) → CertificateGives result (certificate_of text) → IfOk result (λ c. IsCertificateWithin (said_by 2 c))
 certificate_within_of text (Err f) gives = tt
-certificate_within_of text (Ok c) gives = let found = certificate_found_of text (Ok c) gives in made_within found.0 c found.1 found.3
+certificate_within_of text (Ok c) gives = let found = certificate_found_of text (Ok c) gives in within_second (said_by found.0.version c) (made_within found.0 c found.1 found.3)

@@ -1,10 +1,11 @@
 -- Trees that are read head by head.
 use Rattle.std.proofs.Common.{◌≡◌, ◌≢◌, ℕ, zero, suc, ◌-◌, List, [], ◌∷◌, ◌++◌, length, drop, Result, Ok, Err, refl, ap, sym, ◌∙◌, arith, append_assoc}
-use Rattle.match_board.specs.declared.limits.TheConstants.{LAST_CELL, LAST_TILE, LAST_ARRANGEMENT, LAST_SYMMETRY, LAST_LEMMA, MOST_CHILDREN}
+use Rattle.match_board.specs.declared.limits.TheConstants.{LAST_ARRANGEMENT, LAST_SYMMETRY, LAST_LEMMA}
 use Rattle.std.specs.Prelude.{OnOk}
 use Rattle.std.proofs.lemmas.List.{append-nil}
 use Rattle.match_puzzle.specs.declared.items.Item.{Item}
 use Rattle.match_puzzle.specs.declared.items.Item.TheVariants as items
+use Rattle.match_text.specs.declared.ranges.Ranges.{Ranges}
 use Rattle.match_text.specs.declared.faults.TextFault.{TextFault}
 use Rattle.match_text.specs.declared.faults.ReadFault.{ReadFault}
 use Rattle.match_text.specs.declared.faults.ReadFault.TheVariants as faults
@@ -56,44 +57,46 @@ module _ (child : Read Tree) where
   image_apart lemma (Ok x) = refl
   image_apart lemma (Err e) = refl
 
+-- the same in these ranges
+module _ (ranges : Ranges) (child : Read Tree) where
   abbrev IsApart : NodeKind → Place → Type 0
-  IsApart kind p = node_by child kind p ≡ go_on (go_on (word_by (number_in 0 (most_of kind)) p) (rest_by kind)) (below child)
+  IsApart kind p = node_by ranges child kind p ≡ go_on (go_on (word_by (number_in 0 (most_of ranges kind)) p) (rest_by ranges kind)) (below child)
 
   -- the same, from what its first number is
   node_apart : (kind : NodeKind) (p : Place) → IsApart kind p
   unfolding node_by children_by rest_by times
-  node_apart Cell p = elim (word_by (number_in 0 LAST_CELL) p) as (λ r. go_on r (λ cell. children_by child >>= λ children. give (branch (items.Cell cell) children)) ≡ go_on (go_on r (rest_by Cell)) (below child)) [
-    | Ok x ↦ cell_apart x.0 (word_by (number_in 1 MOST_CHILDREN) x.1)
+  node_apart Cell p = elim (word_by (number_in 0 ranges.last_cell) p) as (λ r. go_on r (λ cell. children_by ranges child >>= λ children. give (branch (items.Cell cell) children)) ≡ go_on (go_on r (rest_by ranges Cell)) (below child)) [
+    | Ok x ↦ cell_apart child x.0 (word_by (number_in 1 ranges.most_children) x.1)
     | Err e ↦ refl
   ]
-  node_apart Tile p = elim (word_by (number_in 0 LAST_TILE) p) as (λ r. go_on r (λ tile. children_by child >>= λ children. give (branch (items.Tile tile) children)) ≡ go_on (go_on r (rest_by Tile)) (below child)) [
-    | Ok x ↦ tile_apart x.0 (word_by (number_in 1 MOST_CHILDREN) x.1)
+  node_apart Tile p = elim (word_by (number_in 0 ranges.last_cell) p) as (λ r. go_on r (λ tile. children_by ranges child >>= λ children. give (branch (items.Tile tile) children)) ≡ go_on (go_on r (rest_by ranges Tile)) (below child)) [
+    | Ok x ↦ tile_apart child x.0 (word_by (number_in 1 ranges.most_children) x.1)
     | Err e ↦ refl
   ]
-  node_apart DeadCell p = elim (word_by (number_in 0 LAST_CELL) p) as (λ r. go_on r (λ cell. give (dead (items.Cell cell))) ≡ go_on (go_on r (rest_by DeadCell)) (below child)) [ Ok x ↦ refl | Err e ↦ refl ]
-  node_apart DeadTile p = elim (word_by (number_in 0 LAST_TILE) p) as (λ r. go_on r (λ tile. give (dead (items.Tile tile))) ≡ go_on (go_on r (rest_by DeadTile)) (below child)) [ Ok x ↦ refl | Err e ↦ refl ]
-  node_apart Found p = elim (word_by (number_in 0 LAST_ARRANGEMENT) p) as (λ r. go_on r (λ number. give (found number)) ≡ go_on (go_on r (rest_by Found)) (below child)) [ Ok x ↦ refl | Err e ↦ refl ]
-  node_apart Same p = elim (word_by (number_in 0 LAST_LEMMA) p) as (λ r. go_on r (λ lemma. give (same lemma)) ≡ go_on (go_on r (rest_by Same)) (below child)) [ Ok x ↦ refl | Err e ↦ refl ]
-  node_apart Image p = elim (word_by (number_in 0 LAST_LEMMA) p) as (λ r. go_on r (λ lemma. word_by (number_in 0 LAST_SYMMETRY) >>= λ symmetry. give (image lemma symmetry)) ≡ go_on (go_on r (rest_by Image)) (below child)) [
-    | Ok x ↦ image_apart x.0 (word_by (number_in 0 LAST_SYMMETRY) x.1)
+  node_apart DeadCell p = elim (word_by (number_in 0 ranges.last_cell) p) as (λ r. go_on r (λ cell. give (dead (items.Cell cell))) ≡ go_on (go_on r (rest_by ranges DeadCell)) (below child)) [ Ok x ↦ refl | Err e ↦ refl ]
+  node_apart DeadTile p = elim (word_by (number_in 0 ranges.last_cell) p) as (λ r. go_on r (λ tile. give (dead (items.Tile tile))) ≡ go_on (go_on r (rest_by ranges DeadTile)) (below child)) [ Ok x ↦ refl | Err e ↦ refl ]
+  node_apart Found p = elim (word_by (number_in 0 LAST_ARRANGEMENT) p) as (λ r. go_on r (λ number. give (found number)) ≡ go_on (go_on r (rest_by ranges Found)) (below child)) [ Ok x ↦ refl | Err e ↦ refl ]
+  node_apart Same p = elim (word_by (number_in 0 LAST_LEMMA) p) as (λ r. go_on r (λ lemma. give (same lemma)) ≡ go_on (go_on r (rest_by ranges Same)) (below child)) [ Ok x ↦ refl | Err e ↦ refl ]
+  node_apart Image p = elim (word_by (number_in 0 LAST_LEMMA) p) as (λ r. go_on r (λ lemma. word_by (number_in 0 LAST_SYMMETRY) >>= λ symmetry. give (image lemma symmetry)) ≡ go_on (go_on r (rest_by ranges Image)) (below child)) [
+    | Ok x ↦ image_apart child x.0 (word_by (number_in 0 LAST_SYMMETRY) x.1)
     | Err e ↦ refl
   ]
 
-  kind_apart : (r : Result (NodeKind × Place) TextFault) → go_on r (node_by child) ≡ go_on (go_on r (λ kind. word_by (number_in 0 (most_of kind)) >>= λ number. rest_by kind number)) (below child)
+  kind_apart : (r : Result (NodeKind × Place) TextFault) → go_on r (node_by ranges child) ≡ go_on (go_on r (λ kind. word_by (number_in 0 (most_of ranges kind)) >>= λ number. rest_by ranges kind number)) (below child)
   kind_apart (Ok x) = node_apart x.0 x.1
   kind_apart (Err e) = refl
 
 -- a tree is a head, and then as many trees as it says
-level : (room : ℕ) (p : Place) → room ≢ 0 → tree_by room p ≡ go_on (head_by p) (below (tree_by (room - 1)))
+level : (ranges : Ranges) (room : ℕ) (p : Place) → room ≢ 0 → tree_by ranges room p ≡ go_on (head_by ranges p) (below (tree_by ranges (room - 1)))
 unfolding tree_by head_by
-level zero p some = absurd (some refl)
-level (suc room) p some = let less : suc room - 1 ≡ room = omega arith in kind_apart (tree_by room) (word_by node_kind_in p) ∙ ap (λ k. go_on (head_by p) (below (tree_by k))) (sym less)
+level ranges zero p some = absurd (some refl)
+level ranges (suc room) p some = let less : suc room - 1 ≡ room = omega arith in kind_apart ranges (tree_by ranges room) (word_by node_kind_in p) ∙ ap (λ k. go_on (head_by ranges p) (below (tree_by ranges k))) (sym less)
 
-pub tree_by-head : (room : ℕ) (p a : Place) (head : Head) → room ≢ 0 → head_by p ≡ Ok (head, a) → tree_by room p ≡ below (tree_by (room - 1)) head a
-tree_by-head room p a head some e = level room p some ∙ ap (λ read. go_on read (below (tree_by (room - 1)))) e
+pub tree_by-head : (ranges : Ranges) (room : ℕ) (p a : Place) (head : Head) → room ≢ 0 → head_by ranges p ≡ Ok (head, a) → tree_by ranges room p ≡ below (tree_by ranges (room - 1)) head a
+tree_by-head ranges room p a head some e = level ranges room p some ∙ ap (λ read. go_on read (below (tree_by ranges (room - 1)))) e
 
-pub tree_by-fault : (room : ℕ) (p : Place) (fault : TextFault) → room ≢ 0 → head_by p ≡ Err fault → tree_by room p ≡ Err fault
-tree_by-fault room p fault some e = level room p some ∙ ap (λ read. go_on read (below (tree_by (room - 1)))) e
+pub tree_by-fault : (ranges : Ranges) (room : ℕ) (p : Place) (fault : TextFault) → room ≢ 0 → head_by ranges p ≡ Err fault → tree_by ranges room p ≡ Err fault
+tree_by-fault ranges room p fault some e = level ranges room p some ∙ ap (λ read. go_on read (below (tree_by ranges (room - 1)))) e
 
 -- ---- several trees
 

@@ -1,16 +1,18 @@
 -- The tree that is read is the one that was written, and what was written is read again.
 use Rattle.std.proofs.Common.{◌≡◌, ℕ, zero, suc, ◌<◌, ◌≤◌, ◌^◌, Bool, true, false, cond, List, [], ◌∷◌, ◌++◌, length, Ok, Err, refl, sym, ap, subst, ◌∙◌, append_assoc, arith, codes}
-use Rattle.match_board.specs.declared.limits.TheConstants.{LAST_CELL, LAST_TILE, LAST_ARRANGEMENT, LAST_SYMMETRY, LAST_LEMMA, MOST_CHILDREN}
+use Rattle.match_board.specs.declared.limits.TheConstants.{LAST_ARRANGEMENT, LAST_SYMMETRY, LAST_LEMMA}
 use Rattle.std.specs.Fmt.{decimal}
 use Rattle.std.specs.List.{AllByRecursion, flat_map}
 use Rattle.std.specs.Str.{bytes_eq}
 use Rattle.std.proofs.lemmas.Slice.Eq.{bytes_eq-Decides}
 use Rattle.match_puzzle.specs.declared.items.Item.TheVariants as items
+use Rattle.match_text.specs.declared.ranges.Ranges.{Ranges}
+use Rattle.match_text.specs.Ranges.{AreRanges}
 use Rattle.match_text.specs.declared.faults.TextKind.TheVariants.{Word, TooDeep}
 use Rattle.match_text.specs.Words.{number_in}
 use Rattle.match_text.specs.Place.{Place, Read, ◌>>=◌, give, fail, word_by, times}
 use Rattle.match_text.proofs.CutLemmas.{CutsShort, LineOnly, place, bind_ok, ok_is, cuts_bind, cuts_give, cuts_word, cuts_times, cuts_line_only}
-use Rattle.match_text.proofs.WordLemmas.{Spells, judged_ok, judged_ok_is, spells_number}
+use Rattle.match_text.proofs.WordLemmas.{Spells, judged_ok, judged_ok_is, spells_number, last_fits}
 use Rattle.match_text.proofs.LineLemmas.{TakesWords, takes_word}
 use Rattle.cert_tree.specs.declared.tree_readers.NodeKind.{NodeKind}
 use Rattle.cert_tree.specs.declared.tree_readers.NodeKind.TheVariants.{Cell, Tile, DeadCell, DeadTile, Found, Same, Image}
@@ -92,9 +94,6 @@ words_are (image lemma symmetry) = refl
 takes_number : (most : ℕ) → most < 2 ^ 64 → TakesWords (word_by (number_in 0 most)) (λ n. decimal n ∷ []) (λ n. (0 ≤ n) × (n ≤ most))
 takes_number most small = takes_word (number_in 0 most) decimal (λ n. (0 ≤ n) × (n ≤ most)) (spells_number 0 most small)
 
-takes_count : TakesWords (word_by (number_in 1 MOST_CHILDREN)) (λ n. decimal n ∷ []) (λ n. (1 ≤ n) × (n ≤ MOST_CHILDREN))
-takes_count = takes_word (number_in 1 MOST_CHILDREN) decimal (λ n. (1 ≤ n) × (n ≤ MOST_CHILDREN)) (spells_number 1 MOST_CHILDREN (omega arith))
-
 -- ---- the children
 
 count-forest : (trees : List Tree) → count (forest trees) ≡ length trees
@@ -105,10 +104,6 @@ words-forest : (trees : List Tree) → forest_words (forest trees) ≡ flat_map 
 words-forest [] = refl
 words-forest (tree ∷ trees) = ap (λ ws. tree_words tree ++ ws) (words-forest trees)
 
-within-forest : (room : ℕ) (trees : List Tree) → AllByRecursion (IsTreeWithin room) trees → AreTreesWithin room (forest trees)
-within-forest room [] all = tt
-within-forest room (tree ∷ trees) all = (all.0, within-forest room trees all.1)
-
 abbrev trees_in : Forest → List Tree
 trees_in none = []
 trees_in (more tree trees) = tree ∷ trees_in trees
@@ -117,151 +112,164 @@ forest-trees_in : (trees : Forest) → forest (trees_in trees) ≡ trees
 forest-trees_in none = refl
 forest-trees_in (more tree trees) = ap (more tree) (forest-trees_in trees)
 
--- ---- a node, by what its children are read by
+-- ---- what is read in these ranges
 
-abbrev AreChildren : ℕ → Forest → Type 0
-AreChildren room children = (1 ≤ count children) × (count children ≤ MOST_CHILDREN) × AreTreesWithin room children
+module _ (ranges : Ranges) (are : AreRanges ranges) where
+  children_fit : ranges.most_children < 2 ^ 64
+  children_fit = omega (arith, are.few, are.children)
 
-module _ (room : ℕ) (child : Read Tree) (takes_child : TakesWords child tree_words (IsTreeWithin room)) where
-  trees_again : (trees : Forest) (n : ℕ) → count trees ≡ n → AreTreesWithin room trees → (line : ℕ) (others : List (List ℕ)) (ahead : List ℕ)
-      → times n child (place line (forest_words trees ++ others) ahead) ≡ Ok (trees_in trees, place line others ahead)
-  unfolding times
-  trees_again none zero e fits line others ahead = refl
-  trees_again none (suc n) e fits line others ahead = absurd (omega (arith, e))
-  trees_again (more tree trees) zero e fits line others ahead = absurd (omega (arith, e))
-  trees_again (more tree trees) (suc n) e fits line others ahead =
-      let same_count : count trees ≡ n = omega (arith, e) in
-      rw (append_assoc (tree_words tree) (forest_words trees) others, takes_child.passes tree fits.0 line (forest_words trees ++ others) ahead, trees_again trees n same_count fits.1 line others ahead) refl
+  takes_count : TakesWords (word_by (number_in 1 ranges.most_children)) (λ n. decimal n ∷ []) (λ n. (1 ≤ n) × (n ≤ ranges.most_children))
+  takes_count = takes_word (number_in 1 ranges.most_children) decimal (λ n. (1 ≤ n) × (n ≤ ranges.most_children)) (spells_number 1 ranges.most_children children_fit)
 
-  children_is : (p : Place) (children : Forest) (q : Place) → children_by child p ≡ Ok (children, q) → (p.words ≡ decimal (count children) ∷ (forest_words children ++ q.words)) × (p.ahead ≡ q.ahead) × AreChildren room children
-  unfolding children_by
-  children_is p children q e =
-      let a = bind_ok (word_by (number_in 1 MOST_CHILDREN) p) (λ n. times n child >>= λ trees. give (forest trees)) (children, q) e in
-      let b = bind_ok (times a.0.0 child a.0.1) (λ trees. give (forest trees)) (children, q) a.2 in
-      let trees = b.0.0 in
-      let n = takes_count.is p a.0.0 a.0.1 a.1 in
-      let all = times_words_is child tree_words (IsTreeWithin room) takes_child a.0.0 a.0.1 trees b.0.1 b.1 in
-      let many : a.0.0 ≡ count (forest trees) = sym all.2 ∙ sym (count-forest trees) in
-      let words : p.words ≡ decimal (count (forest trees)) ∷ (forest_words (forest trees) ++ b.0.1.words) =
-      n.0 ∙ ap (λ ws. decimal a.0.0 ∷ ws) (all.0 ∙ ap (λ ws. ws ++ b.0.1.words) (sym (words-forest trees))) ∙ ap (λ m. decimal m ∷ (forest_words (forest trees) ++ b.0.1.words)) many in
-      subst (λ (z : Forest × Place). (p.words ≡ decimal (count z.0) ∷ (forest_words z.0 ++ z.1.words)) × (p.ahead ≡ z.1.ahead) × AreChildren room z.0) (ok_is (forest trees, b.0.1) (children, q) b.2)
-      (words, n.1 ∙ all.1, (omega (arith, n.2.0, many), omega (arith, n.2.1, many), within-forest room trees all.3))
+  within-forest : (room : ℕ) (trees : List Tree) → AllByRecursion (IsTreeWithin ranges room) trees → AreTreesWithin ranges room (forest trees)
+  within-forest room [] all = tt
+  within-forest room (tree ∷ trees) all = (all.0, within-forest room trees all.1)
 
-  children_again : (children : Forest) → AreChildren room children → (line : ℕ) (others : List (List ℕ)) (ahead : List ℕ)
-      → children_by child (place line (decimal (count children) ∷ (forest_words children ++ others)) ahead) ≡ Ok (children, place line others ahead)
-  unfolding children_by
-  children_again children fits line others ahead =
-      rw (takes_count.passes (count children) (fits.0, fits.1) line (forest_words children ++ others) ahead, trees_again children (count children) refl fits.2 line others ahead) (ap (λ trees. Ok (trees, place line others ahead)) (forest-trees_in children))
+  -- ---- a node, by what its children are read by
 
-  -- what a node of a kind was read from
-  abbrev IsOfKind : NodeKind → Tree → Type 0
-  IsOfKind kind tree = (kind_of tree ≡ kind) × IsTreeWithin (suc room) tree
+  abbrev AreChildren : ℕ → Forest → Type 0
+  AreChildren room children = (1 ≤ count children) × (count children ≤ ranges.most_children) × AreTreesWithin ranges room children
 
-  abbrev IsNodeRead : NodeKind → Place → Tree × Place → Type 0
-  IsNodeRead kind p z = (p.words ≡ rest_words z.0 ++ z.1.words) × (p.ahead ≡ z.1.ahead) × IsOfKind kind z.0
+  module _ (room : ℕ) (child : Read Tree) (takes_child : TakesWords child tree_words (IsTreeWithin ranges room)) where
+    trees_again : (trees : Forest) (n : ℕ) → count trees ≡ n → AreTreesWithin ranges room trees → (line : ℕ) (others : List (List ℕ)) (ahead : List ℕ)
+        → times n child (place line (forest_words trees ++ others) ahead) ≡ Ok (trees_in trees, place line others ahead)
+    unfolding times
+    trees_again none zero e fits line others ahead = refl
+    trees_again none (suc n) e fits line others ahead = absurd (omega (arith, e))
+    trees_again (more tree trees) zero e fits line others ahead = absurd (omega (arith, e))
+    trees_again (more tree trees) (suc n) e fits line others ahead =
+        let same_count : count trees ≡ n = omega (arith, e) in
+        rw (append_assoc (tree_words tree) (forest_words trees) others, takes_child.passes tree fits.0 line (forest_words trees ++ others) ahead, trees_again trees n same_count fits.1 line others ahead) refl
 
-  node_is : (kind : NodeKind) (p : Place) (tree : Tree) (q : Place) → node_by child kind p ≡ Ok (tree, q) → IsNodeRead kind p (tree, q)
-  unfolding node_by kind_of
-  node_is Cell p tree q e =
-      let a = bind_ok (word_by (number_in 0 LAST_CELL) p) (λ cell. children_by child >>= λ children. give (branch (items.Cell cell) children)) (tree, q) e in
-      let b = bind_ok (children_by child a.0.1) (λ children. give (branch (items.Cell a.0.0) children)) (tree, q) a.2 in
-      let n = (takes_number LAST_CELL (omega arith)).is p a.0.0 a.0.1 a.1 in
-      let all = children_is a.0.1 b.0.0 b.0.1 b.1 in
-      subst (IsNodeRead Cell p) (ok_is (branch (items.Cell a.0.0) b.0.0, b.0.1) (tree, q) b.2) (n.0 ∙ ap (λ ws. decimal a.0.0 ∷ ws) all.0, n.1 ∙ all.1, (refl, (n.2.1, all.2.0, all.2.1, all.2.2)))
-  node_is Tile p tree q e =
-      let a = bind_ok (word_by (number_in 0 LAST_TILE) p) (λ tile. children_by child >>= λ children. give (branch (items.Tile tile) children)) (tree, q) e in
-      let b = bind_ok (children_by child a.0.1) (λ children. give (branch (items.Tile a.0.0) children)) (tree, q) a.2 in
-      let n = (takes_number LAST_CELL (omega arith)).is p a.0.0 a.0.1 a.1 in
-      let all = children_is a.0.1 b.0.0 b.0.1 b.1 in
-      subst (IsNodeRead Tile p) (ok_is (branch (items.Tile a.0.0) b.0.0, b.0.1) (tree, q) b.2) (n.0 ∙ ap (λ ws. decimal a.0.0 ∷ ws) all.0, n.1 ∙ all.1, (refl, (n.2.1, all.2.0, all.2.1, all.2.2)))
-  node_is DeadCell p tree q e =
-      let a = bind_ok (word_by (number_in 0 LAST_CELL) p) (λ cell. give (dead (items.Cell cell))) (tree, q) e in
-      let n = (takes_number LAST_CELL (omega arith)).is p a.0.0 a.0.1 a.1 in
-      subst (IsNodeRead DeadCell p) (ok_is (dead (items.Cell a.0.0), a.0.1) (tree, q) a.2) (n.0, n.1, (refl, n.2.1))
-  node_is DeadTile p tree q e =
-      let a = bind_ok (word_by (number_in 0 LAST_TILE) p) (λ tile. give (dead (items.Tile tile))) (tree, q) e in
-      let n = (takes_number LAST_CELL (omega arith)).is p a.0.0 a.0.1 a.1 in
-      subst (IsNodeRead DeadTile p) (ok_is (dead (items.Tile a.0.0), a.0.1) (tree, q) a.2) (n.0, n.1, (refl, n.2.1))
-  node_is Found p tree q e =
-      let a = bind_ok (word_by (number_in 0 LAST_ARRANGEMENT) p) (λ number. give (found number)) (tree, q) e in
-      let n = (takes_number LAST_LEMMA (omega arith)).is p a.0.0 a.0.1 a.1 in
-      subst (IsNodeRead Found p) (ok_is (found a.0.0, a.0.1) (tree, q) a.2) (n.0, n.1, (refl, n.2.1))
-  node_is Same p tree q e =
-      let a = bind_ok (word_by (number_in 0 LAST_LEMMA) p) (λ lemma. give (same lemma)) (tree, q) e in
-      let n = (takes_number LAST_LEMMA (omega arith)).is p a.0.0 a.0.1 a.1 in
-      subst (IsNodeRead Same p) (ok_is (same a.0.0, a.0.1) (tree, q) a.2) (n.0, n.1, (refl, n.2.1))
-  node_is Image p tree q e =
-      let a = bind_ok (word_by (number_in 0 LAST_LEMMA) p) (λ lemma. word_by (number_in 0 LAST_SYMMETRY) >>= λ symmetry. give (image lemma symmetry)) (tree, q) e in
-      let b = bind_ok (word_by (number_in 0 LAST_SYMMETRY) a.0.1) (λ symmetry. give (image a.0.0 symmetry)) (tree, q) a.2 in
-      let n = (takes_number LAST_LEMMA (omega arith)).is p a.0.0 a.0.1 a.1 in
-      let m = (takes_number LAST_SYMMETRY (omega arith)).is a.0.1 b.0.0 b.0.1 b.1 in
-      subst (IsNodeRead Image p) (ok_is (image a.0.0 b.0.0, b.0.1) (tree, q) b.2) (n.0 ∙ ap (λ ws. decimal a.0.0 ∷ ws) m.0, n.1 ∙ m.1, (refl, (n.2.1, m.2.1)))
+    children_is : (p : Place) (children : Forest) (q : Place) → children_by ranges child p ≡ Ok (children, q) → (p.words ≡ decimal (count children) ∷ (forest_words children ++ q.words)) × (p.ahead ≡ q.ahead) × AreChildren room children
+    unfolding children_by
+    children_is p children q e =
+        let a = bind_ok (word_by (number_in 1 ranges.most_children) p) (λ n. times n child >>= λ trees. give (forest trees)) (children, q) e in
+        let b = bind_ok (times a.0.0 child a.0.1) (λ trees. give (forest trees)) (children, q) a.2 in
+        let trees = b.0.0 in
+        let n = takes_count.is p a.0.0 a.0.1 a.1 in
+        let all = times_words_is child tree_words (IsTreeWithin ranges room) takes_child a.0.0 a.0.1 trees b.0.1 b.1 in
+        let many : a.0.0 ≡ count (forest trees) = sym all.2 ∙ sym (count-forest trees) in
+        let words : p.words ≡ decimal (count (forest trees)) ∷ (forest_words (forest trees) ++ b.0.1.words) =
+        n.0 ∙ ap (λ ws. decimal a.0.0 ∷ ws) (all.0 ∙ ap (λ ws. ws ++ b.0.1.words) (sym (words-forest trees))) ∙ ap (λ m. decimal m ∷ (forest_words (forest trees) ++ b.0.1.words)) many in
+        subst (λ (z : Forest × Place). (p.words ≡ decimal (count z.0) ∷ (forest_words z.0 ++ z.1.words)) × (p.ahead ≡ z.1.ahead) × AreChildren room z.0) (ok_is (forest trees, b.0.1) (children, q) b.2)
+        (words, n.1 ∙ all.1, (omega (arith, n.2.0, many), omega (arith, n.2.1, many), within-forest room trees all.3))
 
-  node_again : (tree : Tree) → IsTreeWithin (suc room) tree → (line : ℕ) (others : List (List ℕ)) (ahead : List ℕ) → node_by child (kind_of tree) (place line (rest_words tree ++ others) ahead) ≡ Ok (tree, place line others ahead)
-  unfolding node_by kind_of
-  node_again (branch (items.Cell cell) children) fits line others ahead =
-      rw ((takes_number LAST_CELL (omega arith)).passes cell (omega arith, fits.0) line (decimal (count children) ∷ (forest_words children ++ others)) ahead, children_again children (fits.1, fits.2, fits.3) line others ahead) refl
-  node_again (branch (items.Tile tile) children) fits line others ahead =
-      rw ((takes_number LAST_TILE (omega arith)).passes tile (omega arith, fits.0) line (decimal (count children) ∷ (forest_words children ++ others)) ahead, children_again children (fits.1, fits.2, fits.3) line others ahead) refl
-  node_again (dead (items.Cell cell)) fits line others ahead = rw ((takes_number LAST_CELL (omega arith)).passes cell (omega arith, fits) line others ahead) refl
-  node_again (dead (items.Tile tile)) fits line others ahead = rw ((takes_number LAST_TILE (omega arith)).passes tile (omega arith, fits) line others ahead) refl
-  node_again (found number) fits line others ahead = rw ((takes_number LAST_ARRANGEMENT (omega arith)).passes number (omega arith, fits) line others ahead) refl
-  node_again (same lemma) fits line others ahead = rw ((takes_number LAST_LEMMA (omega arith)).passes lemma (omega arith, fits) line others ahead) refl
-  node_again (image lemma symmetry) fits line others ahead =
-      rw ((takes_number LAST_LEMMA (omega arith)).passes lemma (omega arith, fits.0) line (decimal symmetry ∷ others) ahead, (takes_number LAST_SYMMETRY (omega arith)).passes symmetry (omega arith, fits.1) line others ahead) refl
+    children_again : (children : Forest) → AreChildren room children → (line : ℕ) (others : List (List ℕ)) (ahead : List ℕ)
+        → children_by ranges child (place line (decimal (count children) ∷ (forest_words children ++ others)) ahead) ≡ Ok (children, place line others ahead)
+    unfolding children_by
+    children_again children fits line others ahead =
+        rw (takes_count.passes (count children) (fits.0, fits.1) line (forest_words children ++ others) ahead, trees_again children (count children) refl fits.2 line others ahead) (ap (λ trees. Ok (trees, place line others ahead)) (forest-trees_in children))
 
-  takes_node : (kind : NodeKind) → TakesWords (node_by child kind) rest_words (IsOfKind kind)
-  takes_node kind = record {
-    is = node_is kind;
-    passes = λ tree fits line others ahead. subst (λ k. node_by child k (place line (rest_words tree ++ others) ahead) ≡ Ok (tree, place line others ahead)) fits.0 (node_again tree fits.1 line others ahead);
+    -- what a node of a kind was read from
+    abbrev IsOfKind : NodeKind → Tree → Type 0
+    IsOfKind kind tree = (kind_of tree ≡ kind) × IsTreeWithin ranges (suc room) tree
+
+    abbrev IsNodeRead : NodeKind → Place → Tree × Place → Type 0
+    IsNodeRead kind p z = (p.words ≡ rest_words z.0 ++ z.1.words) × (p.ahead ≡ z.1.ahead) × IsOfKind kind z.0
+
+    node_is : (kind : NodeKind) (p : Place) (tree : Tree) (q : Place) → node_by ranges child kind p ≡ Ok (tree, q) → IsNodeRead kind p (tree, q)
+    unfolding node_by kind_of
+    node_is Cell p tree q e =
+        let a = bind_ok (word_by (number_in 0 ranges.last_cell) p) (λ cell. children_by ranges child >>= λ children. give (branch (items.Cell cell) children)) (tree, q) e in
+        let b = bind_ok (children_by ranges child a.0.1) (λ children. give (branch (items.Cell a.0.0) children)) (tree, q) a.2 in
+        let n = (takes_number ranges.last_cell (last_fits ranges are)).is p a.0.0 a.0.1 a.1 in
+        let all = children_is a.0.1 b.0.0 b.0.1 b.1 in
+        subst (IsNodeRead Cell p) (ok_is (branch (items.Cell a.0.0) b.0.0, b.0.1) (tree, q) b.2) (n.0 ∙ ap (λ ws. decimal a.0.0 ∷ ws) all.0, n.1 ∙ all.1, (refl, (n.2.1, all.2.0, all.2.1, all.2.2)))
+    node_is Tile p tree q e =
+        let a = bind_ok (word_by (number_in 0 ranges.last_cell) p) (λ tile. children_by ranges child >>= λ children. give (branch (items.Tile tile) children)) (tree, q) e in
+        let b = bind_ok (children_by ranges child a.0.1) (λ children. give (branch (items.Tile a.0.0) children)) (tree, q) a.2 in
+        let n = (takes_number ranges.last_cell (last_fits ranges are)).is p a.0.0 a.0.1 a.1 in
+        let all = children_is a.0.1 b.0.0 b.0.1 b.1 in
+        subst (IsNodeRead Tile p) (ok_is (branch (items.Tile a.0.0) b.0.0, b.0.1) (tree, q) b.2) (n.0 ∙ ap (λ ws. decimal a.0.0 ∷ ws) all.0, n.1 ∙ all.1, (refl, (n.2.1, all.2.0, all.2.1, all.2.2)))
+    node_is DeadCell p tree q e =
+        let a = bind_ok (word_by (number_in 0 ranges.last_cell) p) (λ cell. give (dead (items.Cell cell))) (tree, q) e in
+        let n = (takes_number ranges.last_cell (last_fits ranges are)).is p a.0.0 a.0.1 a.1 in
+        subst (IsNodeRead DeadCell p) (ok_is (dead (items.Cell a.0.0), a.0.1) (tree, q) a.2) (n.0, n.1, (refl, n.2.1))
+    node_is DeadTile p tree q e =
+        let a = bind_ok (word_by (number_in 0 ranges.last_cell) p) (λ tile. give (dead (items.Tile tile))) (tree, q) e in
+        let n = (takes_number ranges.last_cell (last_fits ranges are)).is p a.0.0 a.0.1 a.1 in
+        subst (IsNodeRead DeadTile p) (ok_is (dead (items.Tile a.0.0), a.0.1) (tree, q) a.2) (n.0, n.1, (refl, n.2.1))
+    node_is Found p tree q e =
+        let a = bind_ok (word_by (number_in 0 LAST_ARRANGEMENT) p) (λ number. give (found number)) (tree, q) e in
+        let n = (takes_number LAST_LEMMA (omega arith)).is p a.0.0 a.0.1 a.1 in
+        subst (IsNodeRead Found p) (ok_is (found a.0.0, a.0.1) (tree, q) a.2) (n.0, n.1, (refl, n.2.1))
+    node_is Same p tree q e =
+        let a = bind_ok (word_by (number_in 0 LAST_LEMMA) p) (λ lemma. give (same lemma)) (tree, q) e in
+        let n = (takes_number LAST_LEMMA (omega arith)).is p a.0.0 a.0.1 a.1 in
+        subst (IsNodeRead Same p) (ok_is (same a.0.0, a.0.1) (tree, q) a.2) (n.0, n.1, (refl, n.2.1))
+    node_is Image p tree q e =
+        let a = bind_ok (word_by (number_in 0 LAST_LEMMA) p) (λ lemma. word_by (number_in 0 LAST_SYMMETRY) >>= λ symmetry. give (image lemma symmetry)) (tree, q) e in
+        let b = bind_ok (word_by (number_in 0 LAST_SYMMETRY) a.0.1) (λ symmetry. give (image a.0.0 symmetry)) (tree, q) a.2 in
+        let n = (takes_number LAST_LEMMA (omega arith)).is p a.0.0 a.0.1 a.1 in
+        let m = (takes_number LAST_SYMMETRY (omega arith)).is a.0.1 b.0.0 b.0.1 b.1 in
+        subst (IsNodeRead Image p) (ok_is (image a.0.0 b.0.0, b.0.1) (tree, q) b.2) (n.0 ∙ ap (λ ws. decimal a.0.0 ∷ ws) m.0, n.1 ∙ m.1, (refl, (n.2.1, m.2.1)))
+
+    node_again : (tree : Tree) → IsTreeWithin ranges (suc room) tree → (line : ℕ) (others : List (List ℕ)) (ahead : List ℕ) → node_by ranges child (kind_of tree) (place line (rest_words tree ++ others) ahead) ≡ Ok (tree, place line others ahead)
+    unfolding node_by kind_of
+    node_again (branch (items.Cell cell) children) fits line others ahead =
+        rw ((takes_number ranges.last_cell (last_fits ranges are)).passes cell (omega arith, fits.0) line (decimal (count children) ∷ (forest_words children ++ others)) ahead, children_again children (fits.1, fits.2, fits.3) line others ahead) refl
+    node_again (branch (items.Tile tile) children) fits line others ahead =
+        rw ((takes_number ranges.last_cell (last_fits ranges are)).passes tile (omega arith, fits.0) line (decimal (count children) ∷ (forest_words children ++ others)) ahead, children_again children (fits.1, fits.2, fits.3) line others ahead) refl
+    node_again (dead (items.Cell cell)) fits line others ahead = rw ((takes_number ranges.last_cell (last_fits ranges are)).passes cell (omega arith, fits) line others ahead) refl
+    node_again (dead (items.Tile tile)) fits line others ahead = rw ((takes_number ranges.last_cell (last_fits ranges are)).passes tile (omega arith, fits) line others ahead) refl
+    node_again (found number) fits line others ahead = rw ((takes_number LAST_ARRANGEMENT (omega arith)).passes number (omega arith, fits) line others ahead) refl
+    node_again (same lemma) fits line others ahead = rw ((takes_number LAST_LEMMA (omega arith)).passes lemma (omega arith, fits) line others ahead) refl
+    node_again (image lemma symmetry) fits line others ahead =
+        rw ((takes_number LAST_LEMMA (omega arith)).passes lemma (omega arith, fits.0) line (decimal symmetry ∷ others) ahead, (takes_number LAST_SYMMETRY (omega arith)).passes symmetry (omega arith, fits.1) line others ahead) refl
+
+    takes_node : (kind : NodeKind) → TakesWords (node_by ranges child kind) rest_words (IsOfKind kind)
+    takes_node kind = record {
+      is = node_is kind;
+      passes = λ tree fits line others ahead. subst (λ k. node_by ranges child k (place line (rest_words tree ++ others) ahead) ≡ Ok (tree, place line others ahead)) fits.0 (node_again tree fits.1 line others ahead);
+    }
+
+    takes_level : TakesWords (word_by node_kind_in >>= node_by ranges child) tree_words (IsTreeWithin ranges (suc room))
+    takes_level =
+        takes_as (word_by node_kind_in >>= node_by ranges child) (λ tree. (kind_word (kind_of tree) ∷ []) ++ rest_words tree) tree_words (λ tree. Unit {0} × IsOfKind (kind_of tree) tree) (IsTreeWithin ranges (suc room)) words_are (λ tree fits. fits.1.1) (λ tree fits. (tt, (refl, fits)))
+        (takes_field (word_by node_kind_in) (λ kind. kind_word kind ∷ []) (λ _. Unit {0}) (node_by ranges child) kind_of rest_words IsOfKind
+        (takes_word node_kind_in kind_word (λ _. Unit {0}) spells_kind) takes_node (λ kind tree fits. fits.0))
+
+  -- ---- a tree
+
+  pub takes_tree : (room : ℕ) → TakesWords (tree_by ranges room) tree_words (IsTreeWithin ranges room)
+  unfolding tree_by
+  takes_tree zero = record {
+    is = λ p tree q e. absurd (nothing p.line p.words tree q e);
+    passes = λ tree fits line others ahead. absurd fits;
   }
+    where
+      nothing : (line : ℕ) (words : List (List ℕ)) (tree : Tree) (q : Place) → too_deep_from line words ≡ Ok (tree, q) → ⊥
+      nothing line [] tree q e = absurd cc
+      nothing line (word ∷ words) tree q e = absurd cc
+  takes_tree (suc room) = takes_level room (tree_by ranges room) (takes_tree room)
 
-  takes_level : TakesWords (word_by node_kind_in >>= node_by child) tree_words (IsTreeWithin (suc room))
-  takes_level =
-      takes_as (word_by node_kind_in >>= node_by child) (λ tree. (kind_word (kind_of tree) ∷ []) ++ rest_words tree) tree_words (λ tree. Unit {0} × IsOfKind (kind_of tree) tree) (IsTreeWithin (suc room)) words_are (λ tree fits. fits.1.1) (λ tree fits. (tt, (refl, fits)))
-      (takes_field (word_by node_kind_in) (λ kind. kind_word kind ∷ []) (λ _. Unit {0}) (node_by child) kind_of rest_words IsOfKind
-      (takes_word node_kind_in kind_word (λ _. Unit {0}) spells_kind) takes_node (λ kind tree fits. fits.0))
+  -- ---- texts that are cut short
 
--- ---- a tree
+  cuts_children : (child : Read Tree) → CutsShort child → CutsShort (children_by ranges child)
+  unfolding children_by
+  cuts_children child cuts = cuts_bind (word_by (number_in 1 ranges.most_children)) (λ n. times n child >>= λ trees. give (forest trees)) (cuts_word (number_in 1 ranges.most_children))
+      (λ n. cuts_bind (times n child) (λ trees. give (forest trees)) (cuts_times n child cuts) (λ trees. cuts_give (forest trees)))
 
-pub takes_tree : (room : ℕ) → TakesWords (tree_by room) tree_words (IsTreeWithin room)
-unfolding tree_by
-takes_tree zero = record {
-  is = λ p tree q e. absurd (nothing p.line p.words tree q e);
-  passes = λ tree fits line others ahead. absurd fits;
-}
-  where
-    nothing : (line : ℕ) (words : List (List ℕ)) (tree : Tree) (q : Place) → too_deep_from line words ≡ Ok (tree, q) → ⊥
-    nothing line [] tree q e = absurd cc
-    nothing line (word ∷ words) tree q e = absurd cc
-takes_tree (suc room) = takes_level room (tree_by room) (takes_tree room)
+  cuts_node : (child : Read Tree) → CutsShort child → (kind : NodeKind) → CutsShort (node_by ranges child kind)
+  unfolding node_by
+  cuts_node child cuts Cell = cuts_bind (word_by (number_in 0 ranges.last_cell)) (λ cell. children_by ranges child >>= λ children. give (branch (items.Cell cell) children)) (cuts_word (number_in 0 ranges.last_cell))
+      (λ cell. cuts_bind (children_by ranges child) (λ children. give (branch (items.Cell cell) children)) (cuts_children child cuts) (λ children. cuts_give (branch (items.Cell cell) children)))
+  cuts_node child cuts Tile = cuts_bind (word_by (number_in 0 ranges.last_cell)) (λ tile. children_by ranges child >>= λ children. give (branch (items.Tile tile) children)) (cuts_word (number_in 0 ranges.last_cell))
+      (λ tile. cuts_bind (children_by ranges child) (λ children. give (branch (items.Tile tile) children)) (cuts_children child cuts) (λ children. cuts_give (branch (items.Tile tile) children)))
+  cuts_node child cuts DeadCell = cuts_bind (word_by (number_in 0 ranges.last_cell)) (λ cell. give (dead (items.Cell cell))) (cuts_word (number_in 0 ranges.last_cell)) (λ cell. cuts_give (dead (items.Cell cell)))
+  cuts_node child cuts DeadTile = cuts_bind (word_by (number_in 0 ranges.last_cell)) (λ tile. give (dead (items.Tile tile))) (cuts_word (number_in 0 ranges.last_cell)) (λ tile. cuts_give (dead (items.Tile tile)))
+  cuts_node child cuts Found = cuts_bind (word_by (number_in 0 LAST_ARRANGEMENT)) (λ number. give (found number)) (cuts_word (number_in 0 LAST_ARRANGEMENT)) (λ number. cuts_give (found number))
+  cuts_node child cuts Same = cuts_bind (word_by (number_in 0 LAST_LEMMA)) (λ lemma. give (same lemma)) (cuts_word (number_in 0 LAST_LEMMA)) (λ lemma. cuts_give (same lemma))
+  cuts_node child cuts Image = cuts_bind (word_by (number_in 0 LAST_LEMMA)) (λ lemma. word_by (number_in 0 LAST_SYMMETRY) >>= λ symmetry. give (image lemma symmetry)) (cuts_word (number_in 0 LAST_LEMMA))
+      (λ lemma. cuts_bind (word_by (number_in 0 LAST_SYMMETRY)) (λ symmetry. give (image lemma symmetry)) (cuts_word (number_in 0 LAST_SYMMETRY)) (λ symmetry. cuts_give (image lemma symmetry)))
 
--- ---- texts that are cut short
+  too_deep_only : LineOnly (tree_by ranges 0)
+  unfolding tree_by
+  too_deep_only line [] = (fail line Word, λ ahead. refl)
+  too_deep_only line (word ∷ words) = (fail line TooDeep, λ ahead. refl)
 
-cuts_children : (child : Read Tree) → CutsShort child → CutsShort (children_by child)
-unfolding children_by
-cuts_children child cuts = cuts_bind (word_by (number_in 1 MOST_CHILDREN)) (λ n. times n child >>= λ trees. give (forest trees)) (cuts_word (number_in 1 MOST_CHILDREN))
-    (λ n. cuts_bind (times n child) (λ trees. give (forest trees)) (cuts_times n child cuts) (λ trees. cuts_give (forest trees)))
-
-cuts_node : (child : Read Tree) → CutsShort child → (kind : NodeKind) → CutsShort (node_by child kind)
-unfolding node_by
-cuts_node child cuts Cell = cuts_bind (word_by (number_in 0 LAST_CELL)) (λ cell. children_by child >>= λ children. give (branch (items.Cell cell) children)) (cuts_word (number_in 0 LAST_CELL))
-    (λ cell. cuts_bind (children_by child) (λ children. give (branch (items.Cell cell) children)) (cuts_children child cuts) (λ children. cuts_give (branch (items.Cell cell) children)))
-cuts_node child cuts Tile = cuts_bind (word_by (number_in 0 LAST_TILE)) (λ tile. children_by child >>= λ children. give (branch (items.Tile tile) children)) (cuts_word (number_in 0 LAST_TILE))
-    (λ tile. cuts_bind (children_by child) (λ children. give (branch (items.Tile tile) children)) (cuts_children child cuts) (λ children. cuts_give (branch (items.Tile tile) children)))
-cuts_node child cuts DeadCell = cuts_bind (word_by (number_in 0 LAST_CELL)) (λ cell. give (dead (items.Cell cell))) (cuts_word (number_in 0 LAST_CELL)) (λ cell. cuts_give (dead (items.Cell cell)))
-cuts_node child cuts DeadTile = cuts_bind (word_by (number_in 0 LAST_TILE)) (λ tile. give (dead (items.Tile tile))) (cuts_word (number_in 0 LAST_TILE)) (λ tile. cuts_give (dead (items.Tile tile)))
-cuts_node child cuts Found = cuts_bind (word_by (number_in 0 LAST_ARRANGEMENT)) (λ number. give (found number)) (cuts_word (number_in 0 LAST_ARRANGEMENT)) (λ number. cuts_give (found number))
-cuts_node child cuts Same = cuts_bind (word_by (number_in 0 LAST_LEMMA)) (λ lemma. give (same lemma)) (cuts_word (number_in 0 LAST_LEMMA)) (λ lemma. cuts_give (same lemma))
-cuts_node child cuts Image = cuts_bind (word_by (number_in 0 LAST_LEMMA)) (λ lemma. word_by (number_in 0 LAST_SYMMETRY) >>= λ symmetry. give (image lemma symmetry)) (cuts_word (number_in 0 LAST_LEMMA))
-    (λ lemma. cuts_bind (word_by (number_in 0 LAST_SYMMETRY)) (λ symmetry. give (image lemma symmetry)) (cuts_word (number_in 0 LAST_SYMMETRY)) (λ symmetry. cuts_give (image lemma symmetry)))
-
-too_deep_only : LineOnly (tree_by 0)
-unfolding tree_by
-too_deep_only line [] = (fail line Word, λ ahead. refl)
-too_deep_only line (word ∷ words) = (fail line TooDeep, λ ahead. refl)
-
-pub cuts_tree : (room : ℕ) → CutsShort (tree_by room)
-unfolding tree_by
-cuts_tree zero = cuts_line_only (tree_by 0) too_deep_only
-cuts_tree (suc room) = cuts_bind (word_by node_kind_in) (node_by (tree_by room)) (cuts_word node_kind_in) (λ kind. cuts_node (tree_by room) (cuts_tree room) kind)
+  pub cuts_tree : (room : ℕ) → CutsShort (tree_by ranges room)
+  unfolding tree_by
+  cuts_tree zero = cuts_line_only (tree_by ranges 0) too_deep_only
+  cuts_tree (suc room) = cuts_bind (word_by node_kind_in) (node_by ranges (tree_by ranges room)) (cuts_word node_kind_in) (λ kind. cuts_node (tree_by ranges room) (cuts_tree room) kind)

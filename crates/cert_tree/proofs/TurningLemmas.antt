@@ -7,6 +7,8 @@ use Rattle.std.proofs.lemmas.List.Elements.{All-nil, All-cons, All-append}
 use Rattle.std.proofs.lemmas.Option.{slice_get_within, slice_get-get_or, get_or_from_slice_get}
 use Rattle.std.proofs.Math.Seq.{take-length, drop-length, take-append_seam, drop-append_seam}
 use Rattle.match_board.specs.declared.limits.TheConstants.{MOST_ARRANGEMENTS, MOST_LEMMAS}
+use Rattle.match_text.specs.declared.ranges.Ranges.{Ranges}
+use Rattle.match_text.specs.declared.ranges.TheConstants.{SECOND}
 use Rattle.match_puzzle.specs.declared.items.Item.{Item}
 use Rattle.match_puzzle.specs.declared.items.Item.TheVariants as items
 use Rattle.puzzle_symmetry.specs.declared.lines.SymmetryLine.{SymmetryLine}
@@ -72,18 +74,18 @@ alone : (head : Head) → Below head → All Below (head ∷ [])
 alone head is = All-cons Below head [] is (All-nil Below)
 
 mutual
-  pub found_below : (room : ℕ) (tree : Tree) → IsTreeWithin room tree → All Below (heads_of tree)
-  found_below zero tree fits = absurd fits
-  found_below (suc room) (branch item children) fits =
-      All-cons Below (branch_head item (count children)) (heads_in children) (branch_below MOST_ARRANGEMENTS item (count children)) (found_below_in room children fits.3)
-  found_below (suc room) (dead item) fits = alone (dead_head item) (dead_below MOST_ARRANGEMENTS item)
-  found_below (suc room) (found number) fits = alone _ (omega (arith, fits))
-  found_below (suc room) (same lemma) fits = alone _ tt
-  found_below (suc room) (image lemma symmetry) fits = alone _ tt
+  pub found_below : (ranges : Ranges) (room : ℕ) (tree : Tree) → IsTreeWithin ranges room tree → All Below (heads_of tree)
+  found_below ranges zero tree fits = absurd fits
+  found_below ranges (suc room) (branch item children) fits =
+      All-cons Below (branch_head item (count children)) (heads_in children) (branch_below MOST_ARRANGEMENTS item (count children)) (found_below_in ranges room children fits.3)
+  found_below ranges (suc room) (dead item) fits = alone (dead_head item) (dead_below MOST_ARRANGEMENTS item)
+  found_below ranges (suc room) (found number) fits = alone _ (omega (arith, fits))
+  found_below ranges (suc room) (same lemma) fits = alone _ tt
+  found_below ranges (suc room) (image lemma symmetry) fits = alone _ tt
 
-  found_below_in : (room : ℕ) (trees : Forest) → AreTreesWithin room trees → All Below (heads_in trees)
-  found_below_in room none fits = All-nil Below
-  found_below_in room (more tree trees) fits = All-append Below (heads_of tree) (heads_in trees) (found_below room tree fits.0) (found_below_in room trees fits.1)
+  found_below_in : (ranges : Ranges) (room : ℕ) (trees : Forest) → AreTreesWithin ranges room trees → All Below (heads_in trees)
+  found_below_in ranges room none fits = All-nil Below
+  found_below_in ranges room (more tree trees) fits = All-append Below (heads_of tree) (heads_in trees) (found_below ranges room tree fits.0) (found_below_in ranges room trees fits.1)
 
 -- ---- the elements from a place on, one after the other
 
@@ -151,7 +153,7 @@ turned_at count first ys n x at =
     (y.0, y.1, y.2, lt)
 
 -- A certificate may be made of them.
-pub turned_numbered : (count : ℕ) (first : List ℕ) (symmetries : List SymmetryLine) (pieces ys : List Piece) → count ≤ MOST_LEMMAS → length symmetries < 2 ^ 32 → All IsLemmaWithin pieces → IsAssembly piece_number count pieces ys
+pub turned_numbered : (count : ℕ) (first : List ℕ) (symmetries : List SymmetryLine) (pieces ys : List Piece) → count ≤ MOST_LEMMAS → length symmetries < 2 ^ 32 → All (IsLemmaWithin SECOND) pieces → IsAssembly piece_number count pieces ys
     → IsNumbered (record { symmetries = symmetries; lemmas = reverse (map (turned_piece count first) ys) })
 turned_numbered count first symmetries pieces ys few few_symmetries within is = record {
   numbered = λ n x at.
@@ -164,7 +166,7 @@ turned_numbered count first symmetries pieces ys few few_symmetries within is = 
   few_symmetries = few_symmetries;
   prefixes = λ n x at.
       let y = turned_at count first ys n x at in
-      let fits = assembled_all piece_number IsLemmaWithin count pieces ys within is (length ys - 1 - n) y.0 y.1 in
+      let fits = assembled_all piece_number (IsLemmaWithin SECOND) count pieces ys within is (length ys - 1 - n) y.0 y.1 in
       let same = ap (λ (p : Piece). length p.prefix) y.2 in
       omega (arith, same, fits.few_pairs);
 }

@@ -1,32 +1,25 @@
 -- A certificate as the lemmas of its own text.
-use Rattle.std.proofs.Common.{◌≡◌, ℕ, zero, suc, List, [], ◌∷◌, ◌++◌, length, slice_get, map, Some, subst, Ok, refl, ap, ◌∙◌, append_assoc, codes}
-use Rattle.std.specs.List.{AllByRecursion}
-use Rattle.match_puzzle.proofs.Prefixes.{inside}
+use Rattle.std.proofs.Common.{◌≡◌, ℕ, List, [], ◌∷◌, ◌++◌, length, map, Ok, refl, ap, ◌∙◌, append_assoc, codes}
 use Rattle.match_text.specs.Spelling.{text_of, first_words, count_words, end_lines}
 use Rattle.match_text.proofs.WritingLemmas.{text_of-append}
-use Rattle.cert_tree.specs.Certificate.{Contents, Piece, piece_number, IsNumbered}
+use Rattle.cert_tree.specs.Certificate.{Contents, piece_number, IsNumbered}
 use Rattle.cert_tree.specs.CertificateText.{Makes}
-use Rattle.cert_tree.specs.CertificateSpelling.{symmetry_words, lemma_words, certificate_spelling, IsLemmaWithin}
+use Rattle.cert_tree.specs.CertificateSpelling.{symmetry_words, lemma_words, certificate_spelling}
 use Rattle.cert_tree.specs.Writing.{said_by}
 use Rattle.cert_tree.proofs.NumberedLemmas.{numbered_assembly}
 
 -- a certificate is made of its own lemmas
-pub made_of_itself : (c : Contents) → IsNumbered c → Makes (said_by c) (Ok c)
-made_of_itself c is = (refl, numbered_assembly piece_number c.lemmas is.numbered)
+pub made_of_itself : (version : ℕ) (c : Contents) → IsNumbered c → Makes (said_by version c) (Ok c)
+made_of_itself version c is = (refl, numbered_assembly piece_number c.lemmas is.numbered)
 
 -- ---- writing
 
-pub piece_within : (pieces : List Piece) → AllByRecursion IsLemmaWithin pieces → (i : ℕ) (piece : Piece) → slice_get pieces i ≡ Some piece → IsLemmaWithin piece
-piece_within [] all i piece at = absurd cc
-piece_within (x ∷ pieces) all zero piece at = subst IsLemmaWithin (inside at) all.0
-piece_within (x ∷ pieces) all (suc i) piece at = piece_within pieces all.1 i piece at
-
 -- the parts of a certificate's text, one behind the other
-pub certificate_parts : (c : Contents)
-    → certificate_spelling (said_by c) ≡ ((((text_of (first_words (codes "certificate") ∷ []) ++ text_of (count_words (codes "symmetries") (length c.symmetries) ∷ [])) ++ text_of (map symmetry_words c.symmetries)) ++ text_of (count_words (codes "lemmas") (length c.lemmas) ∷ [])) ++ text_of (map lemma_words c.lemmas)) ++ text_of end_lines
+pub certificate_parts : (version : ℕ) (c : Contents)
+    → certificate_spelling (said_by version c) ≡ ((((text_of (first_words (codes "certificate") version ∷ []) ++ text_of (count_words (codes "symmetries") (length c.symmetries) ∷ [])) ++ text_of (map symmetry_words c.symmetries)) ++ text_of (count_words (codes "lemmas") (length c.lemmas) ∷ [])) ++ text_of (map lemma_words c.lemmas)) ++ text_of end_lines
 unfolding certificate_spelling
-certificate_parts c =
-    let first = first_words (codes "certificate") ∷ [] in
+certificate_parts version c =
+    let first = first_words (codes "certificate") version ∷ [] in
     let many = count_words (codes "symmetries") (length c.symmetries) ∷ [] in
     let symmetries = map symmetry_words c.symmetries in
     let count = count_words (codes "lemmas") (length c.lemmas) ∷ [] in

@@ -1,10 +1,12 @@
 -- The one spelling of a lemma, and of a certificate's symmetries and lemmas in their order.
 use Rattle.std.specs.Prelude.{◌≤◌, ◌<◌, ℕ, Bool, true, false, List, [], ◌∷◌, ◌++◌, length, map, codes, decimal}
-use Rattle.match_board.specs.declared.limits.TheConstants.{MOST_CELLS, LAST_CELL, LAST_SIDE, MOST_COLOURS}
-use Rattle.match_board.specs.declared.limits.TheConstants.{MOST_SYMMETRIES, MOST_LEMMAS, LAST_LEMMA, MOST_LEVELS}
+use Rattle.match_board.specs.declared.limits.TheConstants.{LAST_SIDE, MOST_COLOURS, MOST_SYMMETRIES, MOST_LEMMAS}
+use Rattle.match_board.specs.declared.limits.TheConstants.{LAST_LEMMA}
 use Rattle.std.specs.List.{AllByRecursion}
 use Rattle.match_puzzle.specs.declared.placements.Pair.{Pair}
 use Rattle.puzzle_symmetry.specs.declared.lines.SymmetryLine.{SymmetryLine}
+use Rattle.match_text.specs.declared.ranges.Ranges.{Ranges}
+use Rattle.match_text.specs.Ranges.{IsVersion, ranges_of}
 use Rattle.match_text.specs.Spelling.{text_of, colour_word, placement_word, first_words, count_words, end_lines}
 use Rattle.match_text.specs.ListSpelling.{IsPlacementWithin}
 use Rattle.cert_tree.specs.Certificate.{Piece}
@@ -41,7 +43,7 @@ lemma_spelling piece = text_of (lemma_words piece ∷ [])
 
 abbrev pub certificate_lines : Said → List (List (List ℕ))
 certificate_lines said =
-    (first_words (codes "certificate") ∷ [])
+    (first_words (codes "certificate") said.version ∷ [])
     ++ ((count_words (codes "symmetries") (length said.symmetries) ∷ []) ++ (map symmetry_words said.symmetries
     ++ ((count_words (codes "lemmas") (length said.pieces) ∷ []) ++ (map lemma_words said.pieces ++ end_lines))))
 
@@ -51,33 +53,35 @@ certificate_spelling said = text_of (certificate_lines said)
 -- ---- what has a spelling
 
 -- images of cells, or of tiles, of which there are as many
-abbrev pub AreImagesWithin : List ℕ → Type 0
-AreImagesWithin images = (length images ≤ MOST_CELLS) × AllByRecursion (λ n. n ≤ LAST_CELL) images
+abbrev pub AreImagesWithin : Ranges → List ℕ → Type 0
+AreImagesWithin ranges images =
+    (length images ≤ ranges.most_cells) × AllByRecursion (λ n. n ≤ ranges.last_cell) images
 
 -- images of colours
 abbrev pub AreColourImagesWithin : List ℕ → Type 0
 AreColourImagesWithin images = (length images ≤ MOST_COLOURS) × AllByRecursion (λ n. n < MOST_COLOURS) images
 
--- The symmetry's line is within the limits of its text.
-pub record IsSymmetryWithin (g : SymmetryLine) : Type 0 where
+-- The symmetry's line is in these ranges.
+pub record IsSymmetryWithin (ranges : Ranges) (g : SymmetryLine) : Type 0 where
   pub shift : g.shift ≤ LAST_SIDE
-  pub cells : AreImagesWithin g.cells
+  pub cells : AreImagesWithin ranges g.cells
   pub colours : AreColourImagesWithin g.colours
-  pub tiles : AreImagesWithin g.tiles
+  pub tiles : AreImagesWithin ranges g.tiles
 
-abbrev pub IsPairWithin : Pair → Type 0
-IsPairWithin x = (x.cell ≤ LAST_CELL) × IsPlacementWithin x.placement
+abbrev pub IsPairWithin : Ranges → Pair → Type 0
+IsPairWithin ranges x = (x.cell ≤ ranges.last_cell) × IsPlacementWithin ranges x.placement
 
--- The lemma is within the limits of its text.
-pub record IsLemmaWithin (piece : Piece) : Type 0 where
+-- The lemma is in these ranges.
+pub record IsLemmaWithin (ranges : Ranges) (piece : Piece) : Type 0 where
   pub number : piece.number ≤ LAST_LEMMA
-  pub few_pairs : length piece.prefix ≤ MOST_CELLS
-  pub pairs : AllByRecursion IsPairWithin piece.prefix
-  pub tree : IsTreeWithin MOST_LEVELS piece.tree
+  pub few_pairs : length piece.prefix ≤ ranges.most_cells
+  pub pairs : AllByRecursion (IsPairWithin ranges) piece.prefix
+  pub tree : IsTreeWithin ranges ranges.most_levels piece.tree
 
--- The symmetries and lemmas are within the limits of their text.
+-- The symmetries and lemmas are in the ranges of the version.
 pub record IsCertificateWithin (said : Said) : Type 0 where
+  pub version : IsVersion said.version
   pub few_symmetries : length said.symmetries ≤ MOST_SYMMETRIES
-  pub symmetries : AllByRecursion IsSymmetryWithin said.symmetries
+  pub symmetries : AllByRecursion (IsSymmetryWithin (ranges_of said.version)) said.symmetries
   pub few_pieces : length said.pieces ≤ MOST_LEMMAS
-  pub pieces : AllByRecursion IsLemmaWithin said.pieces
+  pub pieces : AllByRecursion (IsLemmaWithin (ranges_of said.version)) said.pieces

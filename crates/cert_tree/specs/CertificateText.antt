@@ -1,13 +1,15 @@
 -- The texts of lemmas and of certificates.
 use Rattle.std.specs.Prelude.{◌≡◌, ◌≢◌, ℕ, List, Bool, true, false, Result, Ok, Err, codes, length, if◌then◌else◌}
-use Rattle.match_board.specs.declared.limits.TheConstants.{MOST_CELLS, LAST_CELL, MOST_TILES, LAST_TILE, LAST_SIDE}
-use Rattle.match_board.specs.declared.limits.TheConstants.{MOST_COLOURS, MOST_SYMMETRIES, MOST_LEMMAS, LAST_LEMMA}
-use Rattle.match_board.specs.declared.limits.TheConstants.{MOST_LEVELS}
+use Rattle.match_board.specs.declared.limits.TheConstants.{LAST_SIDE, MOST_COLOURS, MOST_SYMMETRIES, MOST_LEMMAS}
+use Rattle.match_board.specs.declared.limits.TheConstants.{LAST_LEMMA}
 use Rattle.std.specs.Str.{bytes_eq}
 use Rattle.puzzle_symmetry.specs.declared.lines.SymmetryLine.{SymmetryLine}
 use Rattle.match_text.specs.declared.faults.TextFault.{TextFault}
 use Rattle.match_text.specs.declared.faults.TextKind.{TextKind}
 use Rattle.match_text.specs.declared.faults.TextKind.TheVariants.{Word}
+use Rattle.match_text.specs.declared.ranges.Ranges.{Ranges}
+use Rattle.match_text.specs.declared.ranges.TheConstants.{SECOND}
+use Rattle.match_text.specs.Ranges.{ranges_of}
 use Rattle.match_text.specs.Words.{fixed_in, number_in, colour_in, pair_in}
 use Rattle.match_text.specs.Place.{Read, ◌>>=◌, give, line_of, word_by, entries, opening, counted, closing, end_of_text}
 use Rattle.match_text.specs.Place.{times, start, value_of}
@@ -29,35 +31,35 @@ abbrev pub mirrored_in : List ℕ → Result Bool TextKind
 mirrored_in word =
     if bytes_eq word (codes "+") then Ok false else (if bytes_eq word (codes "-") then Ok true else Err Word)
 
-unfoldable pub symmetry_line : Read SymmetryLine
-symmetry_line = line_of (do
+unfoldable pub symmetry_line : Ranges → Read SymmetryLine
+symmetry_line ranges = line_of (do
   _ ← word_by (fixed_in (codes "symmetry"))
   shift ← word_by (number_in 0 LAST_SIDE)
   mirrored ← word_by mirrored_in
   _ ← word_by (fixed_in (codes "cells"))
-  cells ← entries_before (codes "colours") MOST_CELLS (number_in 0 LAST_CELL)
+  cells ← entries_before (codes "colours") ranges.most_cells (number_in 0 ranges.last_cell)
   _ ← word_by (fixed_in (codes "colours"))
   colours ← entries_before (codes "tiles") MOST_COLOURS colour_in
   _ ← word_by (fixed_in (codes "tiles"))
-  tiles ← entries MOST_TILES (number_in 0 LAST_TILE)
+  tiles ← entries ranges.most_cells (number_in 0 ranges.last_cell)
   give (record { shift = shift; mirrored = mirrored; cells = cells; colours = colours; tiles = tiles }))
 
 -- ---- lemmas
 
-unfoldable pub lemma_line : Read Piece
-lemma_line = line_of (do
+unfoldable pub lemma_line : Ranges → Read Piece
+lemma_line ranges = line_of (do
   _ ← word_by (fixed_in (codes "lemma"))
   number ← word_by (number_in 0 LAST_LEMMA)
   _ ← word_by (fixed_in (codes "prefix"))
-  prefix ← entries_before (codes "tree") MOST_CELLS pair_in
+  prefix ← entries_before (codes "tree") ranges.most_cells (pair_in ranges)
   _ ← word_by (fixed_in (codes "tree"))
-  tree ← tree_by MOST_LEVELS
+  tree ← tree_by ranges ranges.most_levels
   give (record { number = number; prefix = prefix; tree = tree }))
 
--- one such line and nothing after it
+-- one such line, in the ranges of version 2, and nothing after it
 unfoldable pub lemma_text : Read Piece
 lemma_text = do
-  piece ← lemma_line
+  piece ← lemma_line SECOND
   _ ← end_of_text
   give piece
 
@@ -67,20 +69,21 @@ lemma_of text = value_of (lemma_text (start text))
 
 -- ---- certificates
 
--- what a certificate's text says: its symmetries, and its lemmas in the order of their lines
+-- what a certificate's text says: its version, its symmetries, and its lemmas in the order of their lines
 pub record Said : Type 0 where
+  pub version : ℕ
   pub symmetries : List SymmetryLine
   pub pieces : List Piece
 
 unfoldable pub certificate_text : Read Said
 certificate_text = do
-  _ ← opening (codes "certificate")
+  version ← opening (codes "certificate")
   many ← counted (codes "symmetries") 0 MOST_SYMMETRIES
-  symmetries ← times many symmetry_line
+  symmetries ← times many (symmetry_line (ranges_of version))
   count ← counted (codes "lemmas") 0 MOST_LEMMAS
-  pieces ← times count lemma_line
+  pieces ← times count (lemma_line (ranges_of version))
   _ ← closing
-  give (record { symmetries = symmetries; pieces = pieces })
+  give (record { version = version; symmetries = symmetries; pieces = pieces })
 
 -- What a text says, or its first fault. The lemmas may make no certificate.
 unfoldable pub certificate_of : List ℕ → Result Said TextFault

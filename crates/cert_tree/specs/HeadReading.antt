@@ -1,9 +1,9 @@
 -- Trees that are read head by head.
 use Rattle.std.specs.Prelude.{◌≡◌, ℕ, List, ◌++◌, Result, Ok, Err}
-use Rattle.match_board.specs.declared.limits.TheConstants.{LAST_CELL, LAST_TILE, LAST_ARRANGEMENT, LAST_SYMMETRY}
-use Rattle.match_board.specs.declared.limits.TheConstants.{LAST_LEMMA, MOST_CHILDREN}
+use Rattle.match_board.specs.declared.limits.TheConstants.{LAST_ARRANGEMENT, LAST_SYMMETRY, LAST_LEMMA}
 use Rattle.match_text.specs.declared.faults.TextFault.{TextFault}
 use Rattle.match_text.specs.declared.faults.ReadFault.{ReadFault}
+use Rattle.match_text.specs.declared.ranges.Ranges.{Ranges}
 use Rattle.match_text.specs.Words.{number_in}
 use Rattle.match_text.specs.Place.{Place, Read, ◌>>=◌, give, word_by, Fails}
 use Rattle.cert_tree.specs.declared.heads.Head.{Head}
@@ -18,37 +18,37 @@ use Rattle.cert_tree.specs.TreeText.{node_kind_in, forest}
 -- ---- a head
 
 -- the greatest number that may follow the letter
-abbrev pub most_of : NodeKind → ℕ
-most_of Cell = LAST_CELL
-most_of Tile = LAST_TILE
-most_of DeadCell = LAST_CELL
-most_of DeadTile = LAST_TILE
-most_of Found = LAST_ARRANGEMENT
-most_of Same = LAST_LEMMA
-most_of Image = LAST_LEMMA
+abbrev pub most_of : Ranges → NodeKind → ℕ
+most_of ranges Cell = ranges.last_cell
+most_of ranges Tile = ranges.last_cell
+most_of ranges DeadCell = ranges.last_cell
+most_of ranges DeadTile = ranges.last_cell
+most_of ranges Found = LAST_ARRANGEMENT
+most_of ranges Same = LAST_LEMMA
+most_of ranges Image = LAST_LEMMA
 
 -- the rest of a head behind that number
-unfoldable pub rest_by : NodeKind → ℕ → Read Head
-rest_by Cell cell = do
-  children ← word_by (number_in 1 MOST_CHILDREN)
+unfoldable pub rest_by : Ranges → NodeKind → ℕ → Read Head
+rest_by ranges Cell cell = do
+  children ← word_by (number_in 1 ranges.most_children)
   give (heads.Cell cell children)
-rest_by Tile tile = do
-  children ← word_by (number_in 1 MOST_CHILDREN)
+rest_by ranges Tile tile = do
+  children ← word_by (number_in 1 ranges.most_children)
   give (heads.Tile tile children)
-rest_by DeadCell cell = give (heads.DeadCell cell)
-rest_by DeadTile tile = give (heads.DeadTile tile)
-rest_by Found number = give (heads.Found number)
-rest_by Same lemma = give (heads.Same lemma)
-rest_by Image lemma = do
+rest_by ranges DeadCell cell = give (heads.DeadCell cell)
+rest_by ranges DeadTile tile = give (heads.DeadTile tile)
+rest_by ranges Found number = give (heads.Found number)
+rest_by ranges Same lemma = give (heads.Same lemma)
+rest_by ranges Image lemma = do
   symmetry ← word_by (number_in 0 LAST_SYMMETRY)
   give (heads.Image symmetry lemma)
 
 -- a node without its children
-unfoldable pub head_by : Read Head
-head_by = do
+unfoldable pub head_by : Ranges → Read Head
+head_by ranges = do
   kind ← word_by node_kind_in
-  number ← word_by (number_in 0 (most_of kind))
-  rest_by kind number
+  number ← word_by (number_in 0 (most_of ranges kind))
+  rest_by ranges kind number
 
 -- ---- a tree
 

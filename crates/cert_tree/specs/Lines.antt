@@ -3,4 +3,4 @@ use Rattle.cert_tree.specs.declared.readers.CertificateLines.{CertificateLines}
 use Rattle.cert_tree.specs.CertificateText.{Said}
 
 abbrev pub said_of : CertificateLines → Said
-said_of lines = record { symmetries = lines.symmetries.items; pieces = lines.lemmas }
+said_of lines = record { version = lines.version; symmetries = lines.symmetries.items; pieces = lines.lemmas }

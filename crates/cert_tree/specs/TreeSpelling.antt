@@ -1,9 +1,9 @@
 -- The one spelling of a tree.
 use Rattle.std.specs.Prelude.{◌≤◌, ℕ, zero, suc, List, [], ◌∷◌, ◌++◌, codes, decimal}
-use Rattle.match_board.specs.declared.limits.TheConstants.{LAST_CELL, LAST_TILE, LAST_ARRANGEMENT, LAST_SYMMETRY}
-use Rattle.match_board.specs.declared.limits.TheConstants.{LAST_LEMMA, MOST_CHILDREN}
+use Rattle.match_board.specs.declared.limits.TheConstants.{LAST_ARRANGEMENT, LAST_SYMMETRY, LAST_LEMMA}
 use Rattle.match_puzzle.specs.declared.items.Item.{Item}
 use Rattle.match_puzzle.specs.declared.items.Item.TheVariants as items
+use Rattle.match_text.specs.declared.ranges.Ranges.{Ranges}
 use Rattle.cert_tree.specs.Tree.{Tree, Forest, branch, dead, found, same, image, none, more, count}
 
 -- a branch's letter and item
@@ -31,25 +31,27 @@ abbrev mutual
 
 -- ---- what has a spelling
 
-abbrev pub IsItemWithin : Item → Type 0
-IsItemWithin (items.Cell cell) = cell ≤ LAST_CELL
-IsItemWithin (items.Tile tile) = tile ≤ LAST_TILE
+abbrev pub IsItemWithin : Ranges → Item → Type 0
+IsItemWithin ranges (items.Cell cell) = cell ≤ ranges.last_cell
+IsItemWithin ranges (items.Tile tile) = tile ≤ ranges.last_cell
 
 abbrev mutual
-  -- The tree has at most so many levels, and its numbers are within the limits of its text.
-  pub IsTreeWithin : ℕ → Tree → Type 0
-  IsTreeWithin zero tree = ⊥
-  IsTreeWithin (suc room) (branch item children) =
-      IsItemWithin item × (1 ≤ count children) × (count children ≤ MOST_CHILDREN) × AreTreesWithin room children
-  IsTreeWithin (suc room) (dead item) = IsItemWithin item
-  IsTreeWithin (suc room) (found number) = number ≤ LAST_ARRANGEMENT
-  IsTreeWithin (suc room) (same lemma) = lemma ≤ LAST_LEMMA
-  IsTreeWithin (suc room) (image lemma symmetry) = (lemma ≤ LAST_LEMMA) × (symmetry ≤ LAST_SYMMETRY)
+  -- The tree has at most so many levels, and its numbers are in these ranges.
+  pub IsTreeWithin : Ranges → (room : ℕ) → Tree → Type 0
+  IsTreeWithin ranges zero tree = ⊥
+  IsTreeWithin ranges (suc room) (branch item children) =
+      IsItemWithin ranges item × (1 ≤ count children) × (count children ≤ ranges.most_children)
+      × AreTreesWithin ranges room children
+  IsTreeWithin ranges (suc room) (dead item) = IsItemWithin ranges item
+  IsTreeWithin ranges (suc room) (found number) = number ≤ LAST_ARRANGEMENT
+  IsTreeWithin ranges (suc room) (same lemma) = lemma ≤ LAST_LEMMA
+  IsTreeWithin ranges (suc room) (image lemma symmetry) = (lemma ≤ LAST_LEMMA) × (symmetry ≤ LAST_SYMMETRY)
 
-  pub AreTreesWithin : ℕ → Forest → Type 0
-  AreTreesWithin room none = Unit {0}
-  AreTreesWithin room (more tree trees) = IsTreeWithin room tree × AreTreesWithin room trees
+  pub AreTreesWithin : Ranges → (room : ℕ) → Forest → Type 0
+  AreTreesWithin ranges room none = Unit {0}
+  AreTreesWithin ranges room (more tree trees) = IsTreeWithin ranges room tree × AreTreesWithin ranges room trees
 
--- The same of the children of a branch, of which there are 1 to 400.
-abbrev pub AreChildrenWithin : ℕ → Forest → Type 0
-AreChildrenWithin room children = (1 ≤ count children) × (count children ≤ MOST_CHILDREN) × AreTreesWithin room children
+-- The same of the children of a branch, of which there is at least one.
+abbrev pub AreChildrenWithin : Ranges → (room : ℕ) → Forest → Type 0
+AreChildrenWithin ranges room children =
+    (1 ≤ count children) × (count children ≤ ranges.most_children) × AreTreesWithin ranges room children

@@ -1,12 +1,12 @@
 -- How a tree is read.
 use Rattle.std.specs.Prelude.{ℕ, zero, suc, List, [], ◌∷◌, Result, Ok, Err, codes, if◌then◌else◌}
-use Rattle.match_board.specs.declared.limits.TheConstants.{LAST_CELL, LAST_TILE, LAST_ARRANGEMENT, LAST_SYMMETRY}
-use Rattle.match_board.specs.declared.limits.TheConstants.{LAST_LEMMA, MOST_CHILDREN}
+use Rattle.match_board.specs.declared.limits.TheConstants.{LAST_ARRANGEMENT, LAST_SYMMETRY, LAST_LEMMA}
 use Rattle.std.specs.Str.{bytes_eq}
 use Rattle.match_puzzle.specs.declared.items.Item.TheVariants as items
 use Rattle.match_text.specs.declared.faults.TextFault.{TextFault}
 use Rattle.match_text.specs.declared.faults.TextKind.{TextKind}
 use Rattle.match_text.specs.declared.faults.TextKind.TheVariants.{Word, TooDeep}
+use Rattle.match_text.specs.declared.ranges.Ranges.{Ranges}
 use Rattle.match_text.specs.Words.{number_in}
 use Rattle.match_text.specs.Place.{Place, Read, ◌>>=◌, give, fail, word_by, times}
 use Rattle.cert_tree.specs.declared.tree_readers.NodeKind.{NodeKind}
@@ -31,35 +31,35 @@ forest [] = none
 forest (tree ∷ trees) = more tree (forest trees)
 
 -- how many children there are, and the children
-unfoldable pub children_by : Read Tree → Read Forest
-children_by child = do
-  count ← word_by (number_in 1 MOST_CHILDREN)
+unfoldable pub children_by : Ranges → Read Tree → Read Forest
+children_by ranges child = do
+  count ← word_by (number_in 1 ranges.most_children)
   trees ← times count child
   give (forest trees)
 
 -- the rest of a node of this kind
-unfoldable pub node_by : Read Tree → NodeKind → Read Tree
-node_by child Cell = do
-  cell ← word_by (number_in 0 LAST_CELL)
-  children ← children_by child
+unfoldable pub node_by : Ranges → Read Tree → NodeKind → Read Tree
+node_by ranges child Cell = do
+  cell ← word_by (number_in 0 ranges.last_cell)
+  children ← children_by ranges child
   give (branch (items.Cell cell) children)
-node_by child Tile = do
-  tile ← word_by (number_in 0 LAST_TILE)
-  children ← children_by child
+node_by ranges child Tile = do
+  tile ← word_by (number_in 0 ranges.last_cell)
+  children ← children_by ranges child
   give (branch (items.Tile tile) children)
-node_by child DeadCell = do
-  cell ← word_by (number_in 0 LAST_CELL)
+node_by ranges child DeadCell = do
+  cell ← word_by (number_in 0 ranges.last_cell)
   give (dead (items.Cell cell))
-node_by child DeadTile = do
-  tile ← word_by (number_in 0 LAST_TILE)
+node_by ranges child DeadTile = do
+  tile ← word_by (number_in 0 ranges.last_cell)
   give (dead (items.Tile tile))
-node_by child Found = do
+node_by ranges child Found = do
   number ← word_by (number_in 0 LAST_ARRANGEMENT)
   give (found number)
-node_by child Same = do
+node_by ranges child Same = do
   lemma ← word_by (number_in 0 LAST_LEMMA)
   give (same lemma)
-node_by child Image = do
+node_by ranges child Image = do
   lemma ← word_by (number_in 0 LAST_LEMMA)
   symmetry ← word_by (number_in 0 LAST_SYMMETRY)
   give (image lemma symmetry)
@@ -70,6 +70,6 @@ too_deep_from line [] = fail line Word
 too_deep_from line (word ∷ words) = fail line TooDeep
 
 -- a tree of up to so many levels, each node before its children
-unfoldable pub tree_by : ℕ → Read Tree
-tree_by zero p = too_deep_from p.line p.words
-tree_by (suc room) p = (word_by node_kind_in >>= node_by (tree_by room)) p
+unfoldable pub tree_by : Ranges → ℕ → Read Tree
+tree_by ranges zero p = too_deep_from p.line p.words
+tree_by ranges (suc room) p = (word_by node_kind_in >>= node_by ranges (tree_by ranges room)) p

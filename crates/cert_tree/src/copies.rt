@@ -6,13 +6,14 @@ ghost use Rattle.cert_tree.specs.CertificateSpelling.{IsLemmaWithin};
 
 use crate::certificates::Lemma;
 use crate::conversions::{flat_lemmas, owned_lemma};
+use match_text::SECOND;
 use std::alloc::{AllocError, Global};
 use std::slice::from_ref;
 
 impl Lemma {
     /// An equal lemma, by a recursion that is as deep as the tree.
     pub fn copy(&self, alloc: Global) -> Result<Lemma, AllocError>
-        requires { IsLemmaWithin (piece_of self.now) }
+        requires { IsLemmaWithin SECOND (piece_of self.now) }
         ensures { IfOk result (λ copy. piece_of copy ≡ piece_of self.now) }
     {
         let flat = flat_lemmas(alloc, from_ref(self))?;

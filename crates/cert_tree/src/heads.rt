@@ -6,8 +6,8 @@ use match_puzzle::Item;
 ///
 /// In preorder the children of a node follow it, one after the other, each with all that is below it; so heads alone,
 /// in this order, say which trees they are of. Nothing is promised of the numbers; those that were read from a text are
-/// below 100 for cells and tiles, below 1,000,000 for arrangements and lemmas, and below 1,024 for symmetries, and a
-/// branch has 1 to 400 children. A head takes 8 bytes.
+/// within the ranges of its version for cells, tiles and children, of which a branch has at least one, below 1,000,000
+/// for arrangements and lemmas, and below 1,024 for symmetries. A head takes 8 bytes.
 #[derive(Clone, Copy, Debug, PartialEq, Eq)]
 pub enum Head {
     /// A branch on the cell, with so many children.

@@ -7,15 +7,18 @@ ghost use Rattle.cert_tree.specs.CertificateSpelling.{IsCertificateWithin};
 ghost use Rattle.cert_tree.specs.Laws.{MakesOneInAnyOrder};
 ghost use Rattle.cert_tree.specs.HeadLaws.{HaveOneReading, AreReadBack, AreOfTheirTrees};
 
+use match_text::SECOND;
+
 /// The laws of lemmas and their texts; it does nothing.
 pub fn lemma_laws()
-    ensures { ReadsWhatIsSpelled lemma_of IsLemmaWithin lemma_spelling }
+    ensures { ReadsWhatIsSpelled lemma_of (IsLemmaWithin SECOND) lemma_spelling }
 {}
 
 /// The laws of certificates and their texts; it does nothing.
 ///
-/// A text may have lemmas that make no certificate: all but the last law hold of it too. The last one says that the
-/// order of the lemma lines makes no difference.
+/// A text may have lemmas that make no certificate: all but the last law hold of it too. A certificate has one spelling
+/// in each version that spells it. The last law says that neither the version nor the order of the lemma lines makes a
+/// difference.
 pub fn certificate_laws()
     ensures spelled { ReadsWhatIsSpelled certificate_of IsCertificateWithin certificate_spelling }
     ensures any_order { MakesOneInAnyOrder }

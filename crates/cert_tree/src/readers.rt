@@ -2,6 +2,7 @@
 
 ghost use Rattle.std.specs.Prelude.{◌≡◌, ◌+◌, ◌<◌, ◌≤◌, ◌^◌, ℕ, List, Contains, Ok, Err, IfOk, IfErr, OnOk, ◌++◌};
 ghost use Rattle.std.specs.Prelude.{length, take, drop};
+ghost use Rattle.match_text.specs.Ranges.{IsVersion, AreRanges};
 ghost use Rattle.match_text.specs.Words.{Judges};
 ghost use Rattle.match_text.specs.Place.{Gives, Reads, Says, fail, times, word_by};
 ghost use Rattle.cert_tree.specs.Certificate.{Piece, piece_of};
@@ -24,9 +25,9 @@ use crate::faults::{CertTextFault, LemmaTextFault};
 use crate::flat_lemmas::{FlatLemma, LemmaSpan, Lemmas};
 use crate::heads::Head;
 use crate::tree_readers::tree;
-use match_board::limits::{LAST_LEMMA, LAST_SIDE, MOST_LEMMAS, MOST_LEVELS, MOST_SYMMETRIES};
+use match_board::limits::{LAST_LEMMA, LAST_SIDE, MOST_LEMMAS, MOST_SYMMETRIES};
 use match_puzzle::Pair;
-use match_text::{ReadFault, Scan, TextFault, TextKind};
+use match_text::{Ranges, ReadFault, SECOND, Scan, TextFault, TextKind, ranges_of};
 use puzzle_symmetry::{ColourImages, Images, SymmetryLine};
 use std::alloc::Global;
 
@@ -51,19 +52,19 @@ fn mirrored(scan: &mut Scan) -> Result<bool, TextFault>
 }
 
 #[tactic(auto, unfolding(crate::specs::CertificateText::symmetry_line))]
-fn symmetry(alloc: Global, scan: &mut Scan) -> Result<SymmetryLine, ReadFault>
-    ensures { Reads (λ line. line) result scan.new (symmetry_line scan.old) }
+fn symmetry(alloc: Global, scan: &mut Scan, ranges: &Ranges) -> Result<SymmetryLine, ReadFault>
+    ensures { Reads (λ line. line) result scan.new (symmetry_line ranges.now scan.old) }
 {
     scan.next_line()?;
     scan.word(b"symmetry")?;
     let shift = scan.number(0, u32::from(LAST_SIDE))? as u8;
     let mirrored = mirrored(scan)?;
     scan.word(b"cells")?;
-    let cells = Images::new(cell_images(alloc, scan)?);
+    let cells = Images::new(cell_images(alloc, scan, ranges)?);
     scan.word(b"colours")?;
     let colours = ColourImages::new(colour_images(alloc, scan)?);
     scan.word(b"tiles")?;
-    let tiles = Images::new(tile_images(alloc, scan)?);
+    let tiles = Images::new(tile_images(alloc, scan, ranges)?);
     scan.end_of_line()?;
     Ok(SymmetryLine {
         shift,
@@ -74,12 +75,17 @@ fn symmetry(alloc: Global, scan: &mut Scan) -> Result<SymmetryLine, ReadFault>
     })
 }
 
-fn symmetries(alloc: Global, scan: &mut Scan, count: u32) -> Result<Vec<SymmetryLine>, ReadFault>
-    ensures { Reads (λ lines. lines.items) result scan.new (times count symmetry_line scan.old) }
+fn symmetries(
+    alloc: Global,
+    scan: &mut Scan,
+    ranges: &Ranges,
+    count: u32,
+) -> Result<Vec<SymmetryLine>, ReadFault>
+    ensures { Reads (λ lines. lines.items) result scan.new (times count (symmetry_line ranges.now) scan.old) }
 {
     let mut lines = Vec::new(alloc);
     for _ in 0..count {
-        let line = symmetry(alloc, scan)?;
+        let line = symmetry(alloc, scan, ranges)?;
         lines.push(line)?;
     }
     Ok(lines)
@@ -89,11 +95,13 @@ fn symmetries(alloc: Global, scan: &mut Scan, count: u32) -> Result<Vec<Symmetry
 #[tactic(auto, unfolding(crate::specs::CertificateText::lemma_line))]
 fn lemma(
     scan: &mut Scan,
+    ranges: &Ranges,
     pairs: &mut Vec<Pair>,
     heads: &mut Vec<Head>,
 ) -> Result<LemmaSpan, ReadFault>
+    requires { AreRanges ranges.now }
     ensures reads { Reads
-        (λ span. piece_in pairs.new.items heads.new.items span) result scan.new (lemma_line scan.old) }
+        (λ span. piece_in pairs.new.items heads.new.items span) result scan.new (lemma_line ranges.now scan.old) }
     ensures span { IfOk result (IsSpan pairs.new.items heads.new.items) }
     ensures pairs { OnOk result (pairs.new.items ≡ pairs.old.items ++ drop (length pairs.old.items) pairs.new.items) }
     ensures heads { OnOk result (heads.new.items ≡ heads.old.items ++ drop (length heads.old.items) heads.new.items) }
@@ -103,35 +111,36 @@ fn lemma(
     let number = scan.number(0, LAST_LEMMA)?;
     scan.word(b"prefix")?;
     let pairs_start = pairs.len();
-    prefix(scan, pairs)?;
+    prefix(scan, ranges, pairs)?;
     scan.word(b"tree")?;
     let heads_start = heads.len();
-    tree(scan, heads, MOST_LEVELS)?;
+    tree(scan, ranges, heads)?;
     scan.end_of_line()?;
     Ok(LemmaSpan::of_last(number, pairs, pairs_start, heads, heads_start))
 }
 
-fn lemmas(alloc: Global, scan: &mut Scan, count: u32) -> Result<Lemmas, ReadFault>
-    ensures { Reads (λ lemmas. lemmas) result scan.new (times count lemma_line scan.old) }
+fn lemmas(alloc: Global, scan: &mut Scan, ranges: &Ranges, count: u32) -> Result<Lemmas, ReadFault>
+    requires { AreRanges ranges.now }
+    ensures { Reads (λ lemmas. lemmas) result scan.new (times count (lemma_line ranges.now) scan.old) }
 {
     let mut pairs = Vec::new(alloc);
     let mut heads = Vec::new(alloc);
     let mut spans = Vec::new(alloc);
     for _ in 0..count {
-        let span = lemma(scan, &mut pairs, &mut heads)?;
+        let span = lemma(scan, ranges, &mut pairs, &mut heads)?;
         spans.push(span)?;
     }
     Ok(Lemmas::of(pairs, heads, spans))
 }
 
-// One lemma, and nothing after it.
+// One lemma, in the ranges of version 2, and nothing after it.
 #[tactic(auto, unfolding(crate::specs::CertificateText::lemma_text))]
 fn whole_lemma(alloc: Global, scan: &mut Scan) -> Result<Lemma, ReadFault>
     ensures { Reads piece_of result scan.new (lemma_text scan.old) }
 {
     let mut pairs = Vec::new(alloc);
     let mut heads = Vec::new(alloc);
-    let span = lemma(scan, &mut pairs, &mut heads)?;
+    let span = lemma(scan, &SECOND, &mut pairs, &mut heads)?;
     scan.end_of_text()?;
     let lemma = owned_lemma(alloc, &FlatLemma::of(&pairs, &heads, span))?;
     Ok(lemma)
@@ -147,29 +156,30 @@ fn read_lemma_text(alloc: Global, text: &[u8]) -> Result<Lemma, LemmaTextFault>
     Ok(lemma)
 }
 
-/// The lemma that a text has, one lemma line and nothing after it, or the text's first fault; `Memory` only where that
-/// is refused.
+/// The lemma that a text has, one lemma line in the ranges of version 2 and nothing after it, or the text's first
+/// fault; `Memory` only where that is refused.
 pub fn read_lemma(alloc: Global, text: &[u8]) -> Result<Lemma, LemmaTextFault>
     requires { length text.now + 1 < 2 ^ 32 }
     // Which lemma, and which fault.
     ensures exact { LemmaGives result (lemma_of text.now) }
     // What is read is spelled so.
     ensures found { IfOk result
-        (λ lemma. IsLemmaWithin (piece_of lemma) × (text.now ≡ lemma_spelling (piece_of lemma))) }
+        (λ lemma. IsLemmaWithin SECOND (piece_of lemma) × (text.now ≡ lemma_spelling (piece_of lemma))) }
     // What is spelled so is read.
-    ensures only { (piece : Piece) → IsLemmaWithin piece → text.now ≡ lemma_spelling piece
+    ensures only { (piece : Piece) → IsLemmaWithin SECOND piece → text.now ≡ lemma_spelling piece
         → LemmaGives result (Ok piece) }
     // A spelling that is cut short ends at its last line.
-    ensures cut { (piece : Piece) (k : ℕ) → IsLemmaWithin piece → k < length (lemma_spelling piece)
+    ensures cut { (piece : Piece) (k : ℕ) → IsLemmaWithin SECOND piece → k < length (lemma_spelling piece)
         → text.now ≡ take k (lemma_spelling piece)
         → LemmaGives result (fail (line_ends text.now + 1) kinds.Ends) }
 {
     read_lemma_text(alloc, text)
 }
 
-// What a certificate's text says: its symmetries, and its lemmas in the order of their lines.
+// What a certificate's text says: its version, its symmetries, and its lemmas in the order of their lines.
 #[derive(Drop)]
 struct CertificateLines {
+    version: u8,
     symmetries: Vec<SymmetryLine>,
     lemmas: Lemmas,
 }
@@ -178,13 +188,18 @@ struct CertificateLines {
 fn whole(alloc: Global, scan: &mut Scan) -> Result<CertificateLines, ReadFault>
     ensures { Reads said_of result scan.new (certificate_text scan.old) }
 {
-    scan.opening(b"certificate")?;
+    let version = scan.opening(b"certificate")?;
+    let ranges = ranges_of(version);
     let many = scan.counted(b"symmetries", 0, u32::from(MOST_SYMMETRIES))?;
-    let symmetries = symmetries(alloc, scan, many)?;
+    let symmetries = symmetries(alloc, scan, &ranges, many)?;
     let count = scan.counted(b"lemmas", 0, MOST_LEMMAS)?;
-    let lemmas = lemmas(alloc, scan, count)?;
+    let lemmas = lemmas(alloc, scan, &ranges, count)?;
     scan.closing()?;
-    Ok(CertificateLines { symmetries, lemmas })
+    Ok(CertificateLines {
+        version,
+        symmetries,
+        lemmas,
+    })
 }
 
 #[tactic(auto, unfolding(crate::specs::CertificateText::certificate_of))]
@@ -214,8 +229,8 @@ fn read_and_make(alloc: Global, text: &[u8]) -> Result<Certificate, CertTextFaul
     made(alloc, lines)
 }
 
-/// The certificate that a text has, its lemma lines in any order, or the text's first fault, or else that of its
-/// lemmas, which are assembled with the count that the text gives; `Memory` only where that is refused.
+/// The certificate that a text of either version has, its lemma lines in any order, or the text's first fault, or else
+/// that of its lemmas, which are assembled with the count that the text gives; `Memory` only where that is refused.
 pub fn read_certificate(alloc: Global, text: &[u8]) -> Result<Certificate, CertTextFault>
     requires { length text.now + 1 < 2 ^ 32 }
     // Which certificate, and which fault.
@@ -224,7 +239,7 @@ pub fn read_certificate(alloc: Global, text: &[u8]) -> Result<Certificate, CertT
     ensures found { IfOk result (λ certificate. (said : Said) × IsCertificateWithin said
         × (text.now ≡ certificate_spelling said) × Makes said (Ok certificate)) }
     // What is read can be written.
-    ensures within { IfOk result (λ certificate. IsCertificateWithin (said_by certificate)) }
+    ensures within { IfOk result (λ certificate. IsCertificateWithin (said_by 2 certificate)) }
     // What is spelled so is read and assembled.
     ensures only { (said : Said) → IsCertificateWithin said → text.now ≡ certificate_spelling said
         → CertificateGives result (Ok said) }

@@ -1,24 +1,25 @@
 //! Lemmas and certificates are written.
 
-ghost use Rattle.std.specs.Prelude.{◌≡◌, ◌<◌, ◌≤◌, ◌++◌, ◌∷◌, [], Ok, length, map, codes, decimal, IfOk, OnOk};
+ghost use Rattle.std.specs.Prelude.{◌≡◌, ◌<◌, ◌≤◌, ◌++◌, ◌∷◌, [], ℕ, Ok, length, map, decimal, IfOk, OnOk};
 ghost use Rattle.std.specs.List.{AllByRecursion};
-ghost use Rattle.match_text.specs.Spelling.{line_text, text_of, spaced, first_words, colour_word};
+ghost use Rattle.match_text.specs.Spelling.{line_text, text_of, spaced, colour_word};
 ghost use Rattle.cert_tree.specs.Certificate.{piece_of, flat_piece};
 ghost use Rattle.cert_tree.specs.HeadSpelling.{head_words};
 ghost use Rattle.std.specs.List.{flat_map};
 ghost use Rattle.cert_tree.specs.CertificateText.{lemma_of, certificate_of, Makes};
 ghost use Rattle.cert_tree.specs.CertificateSpelling.{mirrored_word, symmetry_words, pair_word, lemma_words};
-ghost use Rattle.cert_tree.specs.CertificateSpelling.{lemma_spelling, certificate_spelling, IsSymmetryWithin};
-ghost use Rattle.cert_tree.specs.CertificateSpelling.{IsLemmaWithin, IsCertificateWithin};
+ghost use Rattle.cert_tree.specs.CertificateSpelling.{lemma_spelling, certificate_spelling};
+ghost use Rattle.cert_tree.specs.CertificateSpelling.{AreColourImagesWithin, IsLemmaWithin, IsCertificateWithin};
 ghost use Rattle.cert_tree.specs.Writing.{said_by};
 
 use crate::certificates::{Certificate, Lemma};
 use crate::conversions::flat_lemmas;
 use crate::flat_lemmas::{FlatLemma, Lemmas};
 use crate::heads::Head;
+use crate::within_limits::first_version;
 use match_board::limits::MOST_COLOURS;
 use match_puzzle::Pair;
-use match_text::{character, put_end, put_number, put_number_line, put_placement};
+use match_text::{SECOND, character, put_end, put_number, put_number_line, put_placement};
 use puzzle_symmetry::SymmetryLine;
 use std::alloc::{AllocError, Global};
 use std::slice::from_ref;
@@ -135,7 +136,7 @@ fn sign(mirrored: bool) -> u8
 }
 
 fn put_symmetry(text: &mut Vec<u8>, line: &SymmetryLine) -> Result<(), AllocError>
-    requires { IsSymmetryWithin line.now }
+    requires { AreColourImagesWithin line.now.colours }
     ensures { OnOk result (text.new.items ≡ text.old.items ++ line_text (symmetry_words line.now)) }
 {
     put_behind(text, b"symmetry ", u32::from(line.shift))?;
@@ -152,7 +153,7 @@ fn put_symmetry(text: &mut Vec<u8>, line: &SymmetryLine) -> Result<(), AllocErro
 }
 
 fn put_symmetries(text: &mut Vec<u8>, lines: &[SymmetryLine]) -> Result<(), AllocError>
-    requires { AllByRecursion IsSymmetryWithin lines.now }
+    requires { AllByRecursion (λ line. AreColourImagesWithin line.colours) lines.now }
     ensures { OnOk result (text.new.items ≡ text.old.items ++ text_of (map symmetry_words lines.now)) }
 {
     for line in lines {
@@ -163,7 +164,7 @@ fn put_symmetries(text: &mut Vec<u8>, lines: &[SymmetryLine]) -> Result<(), Allo
 
 /// The text of the lemma, one line, which reads back as an equal lemma.
 pub fn write_lemma(alloc: Global, lemma: &Lemma) -> Result<Vec<u8>, AllocError>
-    requires { IsLemmaWithin (piece_of lemma.now) }
+    requires { IsLemmaWithin SECOND (piece_of lemma.now) }
     ensures spelling { IfOk result (λ text. text.items ≡ lemma_spelling (piece_of lemma.now)) }
     ensures reads { IfOk result (λ text. lemma_of text.items ≡ Ok (piece_of lemma.now)) }
 {
@@ -173,29 +174,40 @@ pub fn write_lemma(alloc: Global, lemma: &Lemma) -> Result<Vec<u8>, AllocError>
     Ok(text)
 }
 
-#[tactic(auto, unfolding(match_text::specs::Spelling::text_of, match_text::specs::Spelling::line_text))]
-fn put_first(text: &mut Vec<u8>) -> Result<(), AllocError>
-    ensures { OnOk result (text.new.items ≡ text.old.items ++ text_of (first_words (codes "certificate") ∷ [])) }
-{
-    text.extend_from_slice(b"certificate 1\n")?;
-    Ok(())
-}
-
-/// The text of the certificate, its lemmas by number, which reads back as an equal certificate.
-pub fn write_certificate(alloc: Global, certificate: &Certificate) -> Result<Vec<u8>, AllocError>
-    requires { IsCertificateWithin (said_by certificate.now) }
-    ensures spelling { IfOk result (λ text. text.items ≡ certificate_spelling (said_by certificate.now)) }
-    ensures reads { IfOk result (λ text. (certificate_of text.items ≡ Ok (said_by certificate.now))
-        × Makes (said_by certificate.now) (Ok certificate.now)) }
+// The text of the certificate in this version.
+fn certificate_text(
+    alloc: Global,
+    version: u8,
+    certificate: &Certificate,
+) -> Result<Vec<u8>, AllocError>
+    requires { IsCertificateWithin (said_by version certificate.now) }
+    ensures spelling { IfOk result (λ text. text.items ≡ certificate_spelling (said_by version certificate.now)) }
+    ensures reads { IfOk result (λ text. (certificate_of text.items ≡ Ok (said_by version certificate.now))
+        × Makes (said_by version certificate.now) (Ok certificate.now)) }
 {
     let symmetries = certificate.symmetries();
     let lemmas = certificate.lemmas();
     let mut text = Vec::new(alloc);
-    put_first(&mut text)?;
+    put_number_line(&mut text, b"certificate", u32::from(version))?;
     put_number_line(&mut text, b"symmetries", symmetries.len() as u32)?;
     put_symmetries(&mut text, symmetries)?;
     put_number_line(&mut text, b"lemmas", lemmas.len() as u32)?;
     put_lemmas(&mut text, lemmas)?;
     put_end(&mut text)?;
     Ok(text)
+}
+
+/// The text of the certificate, its lemmas by number: in version 1 where that spells it, and else in version 2.
+pub fn write_certificate(alloc: Global, certificate: &Certificate) -> Result<Vec<u8>, AllocError>
+    requires { IsCertificateWithin (said_by 2 certificate.now) }
+    ensures first { IsCertificateWithin (said_by 1 certificate.now)
+        → IfOk result (λ text. text.items ≡ certificate_spelling (said_by 1 certificate.now)) }
+    ensures second { (IsCertificateWithin (said_by 1 certificate.now) → ⊥)
+        → IfOk result (λ text. text.items ≡ certificate_spelling (said_by 2 certificate.now)) }
+    // It reads back as an equal certificate.
+    ensures reads { IfOk result (λ text. (version : ℕ)
+        × (certificate_of text.items ≡ Ok (said_by version certificate.now))
+        × Makes (said_by version certificate.now) (Ok certificate.now)) }
+{
+    certificate_text(alloc, first_version(certificate), certificate)
 }

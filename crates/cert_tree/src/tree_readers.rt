@@ -1,6 +1,8 @@
 //! Trees are read, node by node in preorder.
 
 ghost use Rattle.std.specs.Prelude.{◌≡◌, ◌+◌, ◌<◌, ◌≤◌, ◌^◌, ◌++◌, Err, OnOk, length, drop};
+ghost use Rattle.match_text.specs.declared.ranges.Ranges.{Ranges as RangesOf};
+ghost use Rattle.match_text.specs.Ranges.{AreRanges};
 ghost use Rattle.match_text.specs.Words.{Judges};
 ghost use Rattle.match_text.specs.Place.{Gives, Reads, times, word_by};
 ghost use Rattle.cert_tree.specs.Heads.{trees_in, first, AreOfTree};
@@ -8,10 +10,8 @@ ghost use Rattle.cert_tree.specs.TreeText.{node_kind_in, tree_by};
 ghost use Rattle.cert_tree.specs.HeadReading.{most_of, rest_by, head_by, ReadsOnto, ReadAllOnto};
 
 use crate::heads::Head;
-use match_board::limits::{
-    LAST_ARRANGEMENT, LAST_CELL, LAST_LEMMA, LAST_SYMMETRY, LAST_TILE, MOST_CHILDREN,
-};
-use match_text::{ReadFault, Scan, TextFault, TextKind};
+use match_board::limits::{LAST_ARRANGEMENT, LAST_LEMMA, LAST_SYMMETRY};
+use match_text::{Ranges, ReadFault, Scan, TextFault, TextKind};
 
 // The kinds of node that have a letter.
 #[derive(Clone, Copy)]
@@ -54,7 +54,7 @@ fn node_kind(scan: &mut Scan) -> Result<NodeKind, TextFault>
 // What is wrong where a node would begin below the last level.
 #[tactic(auto, unfolding(crate::specs::TreeText::tree_by))]
 fn below_last(scan: &Scan) -> TextFault
-    ensures { tree_by 0 scan.now ≡ Err result }
+    ensures { (ranges : RangesOf) → tree_by ranges 0 scan.now ≡ Err result }
 {
     if scan.has_word() {
         scan.fault(TextKind::TooDeep)
@@ -64,12 +64,14 @@ fn below_last(scan: &Scan) -> TextFault
 }
 
 // The greatest number that may follow the letter.
-fn most_number(kind: NodeKind) -> u32
-    ensures { result ≡ most_of kind }
+fn most_number(ranges: &Ranges, kind: NodeKind) -> u32
+    ensures most { result ≡ most_of ranges.now kind }
+    ensures small { result < 2 ^ 31 }
 {
     match kind {
-        NodeKind::Cell | NodeKind::DeadCell => u32::from(LAST_CELL),
-        NodeKind::Tile | NodeKind::DeadTile => u32::from(LAST_TILE),
+        NodeKind::Cell | NodeKind::Tile | NodeKind::DeadCell | NodeKind::DeadTile => {
+            u32::from(ranges.last_cell)
+        }
         NodeKind::Found => LAST_ARRANGEMENT,
         NodeKind::Same | NodeKind::Image => LAST_LEMMA,
     }
@@ -77,18 +79,19 @@ fn most_number(kind: NodeKind) -> u32
 
 // The rest of a head of this kind behind its first number.
 #[tactic(auto, unfolding(crate::specs::HeadReading::rest_by))]
-fn rest(scan: &mut Scan, kind: NodeKind, number: u32) -> Result<Head, TextFault>
-    requires { number ≤ most_of kind }
-    ensures { Gives (λ head. head) result scan.new (rest_by kind number scan.old) }
+fn rest(scan: &mut Scan, ranges: &Ranges, kind: NodeKind, number: u32) -> Result<Head, TextFault>
+    requires ranges { AreRanges ranges.now }
+    requires number { number ≤ most_of ranges.now kind }
+    ensures { Gives (λ head. head) result scan.new (rest_by ranges.now kind number scan.old) }
 {
     match kind {
         NodeKind::Cell => {
-            let children = scan.number(1, MOST_CHILDREN)?;
+            let children = scan.number(1, ranges.most_children)?;
             let cell = number as u16;
             Ok(Head::Cell { cell, children })
         }
         NodeKind::Tile => {
-            let children = scan.number(1, MOST_CHILDREN)?;
+            let children = scan.number(1, ranges.most_children)?;
             let tile = number as u16;
             Ok(Head::Tile { tile, children })
         }
@@ -106,44 +109,56 @@ fn rest(scan: &mut Scan, kind: NodeKind, number: u32) -> Result<Head, TextFault>
 
 // The words of a node without its children.
 #[tactic(auto, unfolding(crate::specs::HeadReading::head_by))]
-fn head(scan: &mut Scan) -> Result<Head, TextFault>
-    ensures { Gives (λ head. head) result scan.new (head_by scan.old) }
+fn head(scan: &mut Scan, ranges: &Ranges) -> Result<Head, TextFault>
+    requires { AreRanges ranges.now }
+    ensures { Gives (λ head. head) result scan.new (head_by ranges.now scan.old) }
 {
     let kind = node_kind(scan)?;
-    let number = scan.number(0, most_number(kind))?;
-    rest(scan, kind, number)
+    let number = scan.number(0, most_number(ranges, kind))?;
+    rest(scan, ranges, kind, number)
 }
 
 // The heads of a tree of up to so many levels go behind these.
 #[cycle(trees)]
-fn node(scan: &mut Scan, heads: &mut Vec<Head>, room: u16) -> Result<(), ReadFault>
-    ensures { ReadsOnto result scan.new heads.old.items heads.new.items (tree_by room scan.old) }
+fn node(scan: &mut Scan, ranges: &Ranges, heads: &mut Vec<Head>, room: u16) -> Result<(), ReadFault>
+    requires { AreRanges ranges.now }
+    ensures { ReadsOnto result scan.new heads.old.items heads.new.items (tree_by ranges.now room scan.old) }
 {
     if room == 0 {
         return Err(ReadFault::Text(below_last(scan)));
     }
-    let head = head(scan)?;
+    let head = head(scan, ranges)?;
     heads.push(head)?;
-    nodes(scan, heads, room - 1, head.children())
+    nodes(scan, ranges, heads, room - 1, head.children())
 }
 
 // The same of so many trees, the children of a node.
 #[cycle(trees)]
-fn nodes(scan: &mut Scan, heads: &mut Vec<Head>, room: u16, count: u32) -> Result<(), ReadFault>
-    ensures { ReadAllOnto result scan.new heads.old.items heads.new.items (times count (tree_by room) scan.old) }
+fn nodes(
+    scan: &mut Scan,
+    ranges: &Ranges,
+    heads: &mut Vec<Head>,
+    room: u16,
+    count: u32,
+) -> Result<(), ReadFault>
+    requires { AreRanges ranges.now }
+    ensures { ReadAllOnto result scan.new heads.old.items heads.new.items
+        (times count (tree_by ranges.now room) scan.old) }
 {
     for _ in 0..count {
-        node(scan, heads, room)?;
+        node(scan, ranges, heads, room)?;
     }
     Ok(())
 }
 
-/// A tree of up to so many levels, by a recursion that is no deeper than that. Its heads go behind these.
-pub fn tree(scan: &mut Scan, heads: &mut Vec<Head>, room: u16) -> Result<(), ReadFault>
+/// A tree of up to as many levels as these ranges have, by a recursion that is no deeper than that. Its heads go behind
+/// these.
+pub fn tree(scan: &mut Scan, ranges: &Ranges, heads: &mut Vec<Head>) -> Result<(), ReadFault>
+    requires { AreRanges ranges.now }
     ensures reads { Reads (λ _. first (trees_in (drop (length heads.old.items) heads.new.items))) result scan.new
-        (tree_by room scan.old) }
+        (tree_by ranges.now ranges.now.most_levels scan.old) }
     ensures tree { OnOk result (AreOfTree (drop (length heads.old.items) heads.new.items)) }
     ensures behind { OnOk result (heads.new.items ≡ heads.old.items ++ drop (length heads.old.items) heads.new.items) }
 {
-    node(scan, heads, room)
+    node(scan, ranges, heads, ranges.most_levels)
 }

@@ -19,6 +19,7 @@ use crate::flat_lemmas::{LemmaSpan, Lemmas};
 use crate::heads::Head;
 use match_board::limits::{MOST_ARRANGEMENTS, MOST_LEMMAS};
 use match_puzzle::Pair;
+use match_text::SECOND;
 use puzzle_symmetry::SymmetryLine;
 use std::alloc::{AllocError, Global};
 
@@ -74,7 +75,7 @@ fn put_turned(
 ) -> Result<LemmaSpan, AllocError>
     requires number { lemma.now.number < length first.now }
     requires first { All (λ n. n ≤ MOST_ARRANGEMENTS) first.now }
-    requires within { IsLemmaWithin (piece_of lemma.now) }
+    requires within { IsLemmaWithin SECOND (piece_of lemma.now) }
     ensures span { IfOk result (IsSpan pairs.new.items heads.new.items) }
     ensures lemma { IfOk result
         (λ span. piece_in pairs.new.items heads.new.items span ≡ turned_piece count first.now (piece_of lemma.now)) }
@@ -99,7 +100,7 @@ fn turned_lemmas(
 ) -> Result<Lemmas, AllocError>
     requires numbers { All (λ lemma. lemma.now.number < length first.now) lemmas.now }
     requires first { All (λ n. n ≤ MOST_ARRANGEMENTS) first.now }
-    requires within { All (λ lemma. IsLemmaWithin (lent_piece lemma)) lemmas.now }
+    requires within { All (λ lemma. IsLemmaWithin SECOND (lent_piece lemma)) lemmas.now }
     ensures { IfOk result
         (λ turned. turned ≡ reverse (map (turned_piece count first.now) (map lent_piece lemmas.now))) }
 {
@@ -134,7 +135,7 @@ pub fn assemble_turned(
     requires many { length first.now ≡ count }
     requires first { All (λ n. n ≤ MOST_ARRANGEMENTS) first.now }
     requires symmetries { length symmetries.items < 2 ^ 32 }
-    requires within { All (λ piece. IsLemmaWithin (lent_piece piece)) pieces.items }
+    requires within { All (λ piece. IsLemmaWithin SECOND (lent_piece piece)) pieces.items }
     ensures symmetries { IfOk result (λ certificate. certificate.symmetries ≡ symmetries.items) }
     ensures lemmas { IfOk result (λ certificate. AssemblesTurned count first.now
         (map lent_piece pieces.entry.items) (Ok certificate.lemmas)) }

@@ -1,7 +1,8 @@
-//! Which lemmas and certificates are within the limits of their texts.
+//! Which lemmas and certificates are within the limits of a version of their texts.
 
 ghost use Rattle.std.specs.Prelude.{◌≡◌, ◌≢◌, ◌<◌, ◌≤◌, ℕ, List, Ok, IsTrue, MatchBool, map};
 ghost use Rattle.std.specs.List.{AllByRecursion};
+ghost use Rattle.match_text.specs.Ranges.{IsVersion};
 ghost use Rattle.cert_tree.specs.Tree.{tree_of, forest_of, count, none};
 ghost use Rattle.cert_tree.specs.Certificate.{piece_of, flat_piece};
 ghost use Rattle.cert_tree.specs.Heads.{first, front, past};
@@ -17,30 +18,32 @@ use crate::flat_trees::Trees;
 use crate::heads::Head;
 use crate::nodes::Node;
 use match_board::limits::{
-    LAST_ARRANGEMENT, LAST_CELL, LAST_LEMMA, LAST_SIDE, LAST_SYMMETRY, LAST_TILE, LAST_TURN,
-    MOST_CELLS, MOST_CHILDREN, MOST_COLOURS, MOST_LEMMAS, MOST_LEVELS, MOST_SYMMETRIES,
+    LAST_ARRANGEMENT, LAST_LEMMA, LAST_SIDE, LAST_SYMMETRY, LAST_TURN, MOST_COLOURS, MOST_LEMMAS,
+    MOST_SYMMETRIES,
 };
 use match_puzzle::Pair;
+use match_text::{Ranges, SECOND, ranges_of};
 use puzzle_symmetry::SymmetryLine;
 
 // Stops below the last level.
 #[cycle(limits)]
 #[tactic(auto, using(crate::proofs::TreeLemmas::tree_laws))]
-fn is_node_within(node: &Node, room: u16) -> bool
-    ensures { MatchBool result (IsTreeWithin room (tree_of node.now)) (IsTreeWithin room (tree_of node.now) → ⊥) }
+fn is_node_within(ranges: &Ranges, node: &Node, room: u16) -> bool
+    ensures { MatchBool result (IsTreeWithin ranges.now room (tree_of node.now))
+        (IsTreeWithin ranges.now room (tree_of node.now) → ⊥) }
 {
     if room == 0 {
         return false;
     }
     match node {
         Node::Cell { cell, children } => {
-            *cell <= LAST_CELL && are_children_within(children.as_slice(), room - 1)
+            *cell <= ranges.last_cell && are_children_within(ranges, children.as_slice(), room - 1)
         }
         Node::Tile { tile, children } => {
-            *tile <= LAST_TILE && are_children_within(children.as_slice(), room - 1)
+            *tile <= ranges.last_cell && are_children_within(ranges, children.as_slice(), room - 1)
         }
-        Node::DeadCell(cell) => *cell <= LAST_CELL,
-        Node::DeadTile(tile) => *tile <= LAST_TILE,
+        Node::DeadCell(cell) => *cell <= ranges.last_cell,
+        Node::DeadTile(tile) => *tile <= ranges.last_cell,
         Node::Found(number) => *number <= LAST_ARRANGEMENT,
         Node::Same(lemma) => *lemma <= LAST_LEMMA,
         Node::Image { lemma, symmetry } => *lemma <= LAST_LEMMA && *symmetry <= LAST_SYMMETRY,
@@ -48,53 +51,59 @@ fn is_node_within(node: &Node, room: u16) -> bool
 }
 
 #[cycle(limits)]
-fn are_children_within(nodes: &[Node], room: u16) -> bool
-    ensures { MatchBool result (AreChildrenWithin room (forest_of nodes.now))
-        (AreChildrenWithin room (forest_of nodes.now) → ⊥) }
+fn are_children_within(ranges: &Ranges, nodes: &[Node], room: u16) -> bool
+    ensures { MatchBool result (AreChildrenWithin ranges.now room (forest_of nodes.now))
+        (AreChildrenWithin ranges.now room (forest_of nodes.now) → ⊥) }
 {
     let count = nodes.len();
-    count > 0 && (count <= MOST_CHILDREN as usize && are_nodes_within(nodes, room))
+    let most = ranges.most_children as usize;
+    count > 0 && (count <= most && are_nodes_within(ranges, nodes, room))
 }
 
 #[cycle(limits)]
-fn are_nodes_within(nodes: &[Node], room: u16) -> bool
-    ensures { MatchBool result (AreTreesWithin room (forest_of nodes.now))
-        (AreTreesWithin room (forest_of nodes.now) → ⊥) }
+fn are_nodes_within(ranges: &Ranges, nodes: &[Node], room: u16) -> bool
+    ensures { MatchBool result (AreTreesWithin ranges.now room (forest_of nodes.now))
+        (AreTreesWithin ranges.now room (forest_of nodes.now) → ⊥) }
 {
     for node in nodes {
-        if !is_node_within(node, room) {
+        if !is_node_within(ranges, node, room) {
             return false;
         }
     }
     true
 }
 
-fn is_pair_within(pair: &Pair) -> bool
-    ensures { MatchBool result (IsPairWithin pair.now) (IsPairWithin pair.now → ⊥) }
+fn is_pair_within(ranges: &Ranges, pair: &Pair) -> bool
+    ensures { MatchBool result (IsPairWithin ranges.now pair.now) (IsPairWithin ranges.now pair.now → ⊥) }
 {
-    pair.cell <= LAST_CELL && (pair.placement.tile <= LAST_TILE && pair.placement.turn <= LAST_TURN)
+    let last = ranges.last_cell;
+    pair.cell <= last && (pair.placement.tile <= last && pair.placement.turn <= LAST_TURN)
 }
 
-fn are_pairs_within(pairs: &[Pair]) -> bool
-    ensures { MatchBool result (AllByRecursion IsPairWithin pairs.now) (AllByRecursion IsPairWithin pairs.now → ⊥) }
+fn are_pairs_within(ranges: &Ranges, pairs: &[Pair]) -> bool
+    ensures { MatchBool result (AllByRecursion (IsPairWithin ranges.now) pairs.now)
+        (AllByRecursion (IsPairWithin ranges.now) pairs.now → ⊥) }
 {
-    pairs.iter().all(is_pair_within)
+    pairs.iter().all(|pair| is_pair_within(ranges, pair))
 }
 
-fn is_lemma_within(lemma: &Lemma) -> bool
-    ensures { MatchBool result (IsLemmaWithin (piece_of lemma.now)) (IsLemmaWithin (piece_of lemma.now) → ⊥) }
+fn is_lemma_within(ranges: &Ranges, lemma: &Lemma) -> bool
+    ensures { MatchBool result (IsLemmaWithin ranges.now (piece_of lemma.now))
+        (IsLemmaWithin ranges.now (piece_of lemma.now) → ⊥) }
 {
     let pairs = lemma.prefix.as_slice();
     lemma.number <= LAST_LEMMA
-        && (pairs.len() <= usize::from(MOST_CELLS)
-            && (are_pairs_within(pairs) && is_node_within(&lemma.tree, MOST_LEVELS)))
+        && (pairs.len() <= usize::from(ranges.most_cells)
+            && (are_pairs_within(ranges, pairs)
+                && is_node_within(ranges, &lemma.tree, ranges.most_levels)))
 }
 
 // The same of the first tree, which is then gone past.
 #[cycle(flat_limits)]
-fn is_first_within(trees: &mut Trees<'_>, room: u16) -> bool
+fn is_first_within(ranges: &Ranges, trees: &mut Trees<'_>, room: u16) -> bool
     requires { trees.old ≢ none }
-    ensures within { MatchBool result (IsTreeWithin room (first trees.old)) (IsTreeWithin room (first trees.old) → ⊥) }
+    ensures within { MatchBool result (IsTreeWithin ranges.now room (first trees.old))
+        (IsTreeWithin ranges.now room (first trees.old) → ⊥) }
     ensures past { IsTrue result → trees.new ≡ past 1 trees.old }
 {
     if room == 0 {
@@ -102,13 +111,13 @@ fn is_first_within(trees: &mut Trees<'_>, room: u16) -> bool
     }
     match trees.next() {
         Head::Cell { cell, children } => {
-            cell <= LAST_CELL && are_first_within(trees, room - 1, children)
+            cell <= ranges.last_cell && are_first_within(ranges, trees, room - 1, children)
         }
         Head::Tile { tile, children } => {
-            tile <= LAST_TILE && are_first_within(trees, room - 1, children)
+            tile <= ranges.last_cell && are_first_within(ranges, trees, room - 1, children)
         }
-        Head::DeadCell(cell) => cell <= LAST_CELL,
-        Head::DeadTile(tile) => tile <= LAST_TILE,
+        Head::DeadCell(cell) => cell <= ranges.last_cell,
+        Head::DeadTile(tile) => tile <= ranges.last_cell,
         Head::Found(number) => number <= LAST_ARRANGEMENT,
         Head::Same(lemma) => lemma <= LAST_LEMMA,
         Head::Image { symmetry, lemma } => lemma <= LAST_LEMMA && symmetry <= LAST_SYMMETRY,
@@ -117,51 +126,53 @@ fn is_first_within(trees: &mut Trees<'_>, room: u16) -> bool
 
 // The same of the first so many trees, as the children of a branch.
 #[cycle(flat_limits)]
-fn are_first_within(trees: &mut Trees<'_>, room: u16, children: u32) -> bool
+fn are_first_within(ranges: &Ranges, trees: &mut Trees<'_>, room: u16, children: u32) -> bool
     requires { children ≤ count trees.old }
-    ensures within { MatchBool result (AreChildrenWithin room (front children trees.old))
-        (AreChildrenWithin room (front children trees.old) → ⊥) }
+    ensures within { MatchBool result (AreChildrenWithin ranges.now room (front children trees.old))
+        (AreChildrenWithin ranges.now room (front children trees.old) → ⊥) }
     ensures past { IsTrue result → trees.new ≡ past children trees.old }
 {
     if children == 0 {
         return false;
     }
-    if children > MOST_CHILDREN {
+    if children > ranges.most_children {
         return false;
     }
     for _ in 0..children {
-        if !is_first_within(trees, room) {
+        if !is_first_within(ranges, trees, room) {
             return false;
         }
     }
     true
 }
 
-fn is_flat_lemma_within(lemma: &FlatLemma<'_>) -> bool
-    ensures { MatchBool result (IsLemmaWithin (flat_piece lemma.now)) (IsLemmaWithin (flat_piece lemma.now) → ⊥) }
+fn is_flat_lemma_within(ranges: &Ranges, lemma: &FlatLemma<'_>) -> bool
+    ensures { MatchBool result (IsLemmaWithin ranges.now (flat_piece lemma.now))
+        (IsLemmaWithin ranges.now (flat_piece lemma.now) → ⊥) }
 {
     lemma.number <= LAST_LEMMA
-        && (lemma.prefix.len() <= usize::from(MOST_CELLS)
-            && (are_pairs_within(lemma.prefix)
-                && is_first_within(&mut lemma.tree.trees(), MOST_LEVELS)))
+        && (lemma.prefix.len() <= usize::from(ranges.most_cells)
+            && (are_pairs_within(ranges, lemma.prefix)
+                && is_first_within(ranges, &mut lemma.tree.trees(), ranges.most_levels)))
 }
 
-fn are_lemmas_within(lemmas: &Lemmas) -> bool
-    ensures { MatchBool result (AllByRecursion IsLemmaWithin lemmas.now) (AllByRecursion IsLemmaWithin lemmas.now → ⊥) }
+fn are_lemmas_within(ranges: &Ranges, lemmas: &Lemmas) -> bool
+    ensures { MatchBool result (AllByRecursion (IsLemmaWithin ranges.now) lemmas.now)
+        (AllByRecursion (IsLemmaWithin ranges.now) lemmas.now → ⊥) }
 {
     for number in 0..lemmas.len() {
-        if !is_flat_lemma_within(&lemmas.at(number)) {
+        if !is_flat_lemma_within(ranges, &lemmas.at(number)) {
             return false;
         }
     }
     true
 }
 
-fn are_numbers_within(numbers: &[u16]) -> bool
-    ensures { MatchBool result (AllByRecursion (λ n. n ≤ LAST_CELL) numbers.now)
-        (AllByRecursion (λ n. n ≤ LAST_CELL) numbers.now → ⊥) }
+fn are_numbers_within(last: u16, numbers: &[u16]) -> bool
+    ensures { MatchBool result (AllByRecursion (λ n. n ≤ last) numbers.now)
+        (AllByRecursion (λ n. n ≤ last) numbers.now → ⊥) }
 {
-    numbers.iter().all(|number| *number <= LAST_CELL)
+    numbers.iter().all(|number| *number <= last)
 }
 
 fn are_colours_within(colours: &[u8]) -> bool
@@ -171,10 +182,11 @@ fn are_colours_within(colours: &[u8]) -> bool
     colours.iter().all(|colour| *colour < MOST_COLOURS)
 }
 
-fn are_images_within(images: &[u16]) -> bool
-    ensures { MatchBool result (AreImagesWithin images.now) (AreImagesWithin images.now → ⊥) }
+fn are_images_within(ranges: &Ranges, images: &[u16]) -> bool
+    ensures { MatchBool result (AreImagesWithin ranges.now images.now)
+        (AreImagesWithin ranges.now images.now → ⊥) }
 {
-    images.len() <= usize::from(MOST_CELLS) && are_numbers_within(images)
+    images.len() <= usize::from(ranges.most_cells) && are_numbers_within(ranges.last_cell, images)
 }
 
 fn are_colour_images_within(images: &[u8]) -> bool
@@ -183,36 +195,53 @@ fn are_colour_images_within(images: &[u8]) -> bool
     images.len() <= usize::from(MOST_COLOURS) && are_colours_within(images)
 }
 
-fn is_symmetry_within(line: &SymmetryLine) -> bool
-    ensures { MatchBool result (IsSymmetryWithin line.now) (IsSymmetryWithin line.now → ⊥) }
+fn is_symmetry_within(ranges: &Ranges, line: &SymmetryLine) -> bool
+    ensures { MatchBool result (IsSymmetryWithin ranges.now line.now) (IsSymmetryWithin ranges.now line.now → ⊥) }
 {
     line.shift <= LAST_SIDE
-        && (are_images_within(line.cells.as_slice())
+        && (are_images_within(ranges, line.cells.as_slice())
             && (are_colour_images_within(line.colours.as_slice())
-                && are_images_within(line.tiles.as_slice())))
+                && are_images_within(ranges, line.tiles.as_slice())))
 }
 
-fn are_symmetries_within(lines: &[SymmetryLine]) -> bool
-    ensures { MatchBool result (AllByRecursion IsSymmetryWithin lines.now)
-        (AllByRecursion IsSymmetryWithin lines.now → ⊥) }
+fn are_symmetries_within(ranges: &Ranges, lines: &[SymmetryLine]) -> bool
+    ensures { MatchBool result (AllByRecursion (IsSymmetryWithin ranges.now) lines.now)
+        (AllByRecursion (IsSymmetryWithin ranges.now) lines.now → ⊥) }
 {
     for line in lines {
-        if !is_symmetry_within(line) {
+        if !is_symmetry_within(ranges, line) {
             return false;
         }
     }
     true
 }
 
-fn is_certificate_within(certificate: &Certificate) -> bool
-    ensures { MatchBool result (IsCertificateWithin (said_by certificate.now))
-        (IsCertificateWithin (said_by certificate.now) → ⊥) }
+// What is short is looked at first: the symmetries, and of each lemma its prefix.
+fn is_certificate_within(version: u8, certificate: &Certificate) -> bool
+    requires { IsVersion version }
+    ensures { MatchBool result (IsCertificateWithin (said_by version certificate.now))
+        (IsCertificateWithin (said_by version certificate.now) → ⊥) }
 {
+    let ranges = ranges_of(version);
     let symmetries = certificate.symmetries();
     let lemmas = certificate.lemmas();
     symmetries.len() <= usize::from(MOST_SYMMETRIES)
-        && (are_symmetries_within(symmetries)
-            && (lemmas.len() <= MOST_LEMMAS as usize && are_lemmas_within(lemmas)))
+        && (are_symmetries_within(&ranges, symmetries)
+            && (lemmas.len() <= MOST_LEMMAS as usize && are_lemmas_within(&ranges, lemmas)))
+}
+
+/// The first version in which the certificate has a spelling, told by one walk over it.
+pub fn first_version(certificate: &Certificate) -> u8
+    requires { IsCertificateWithin (said_by 2 certificate.now) }
+    ensures within { IsCertificateWithin (said_by result certificate.now) }
+    ensures first { IsCertificateWithin (said_by 1 certificate.now) → result ≡ 1 }
+    ensures second { (IsCertificateWithin (said_by 1 certificate.now) → ⊥) → result ≡ 2 }
+{
+    if is_certificate_within(1, certificate) {
+        1
+    } else {
+        2
+    }
 }
 
 impl Lemma {
@@ -221,16 +250,16 @@ impl Lemma {
     ghost use Rattle.cert_tree.specs.CertificateText.{lemma_of};
     ghost use Rattle.cert_tree.specs.CertificateSpelling.{IsLemmaWithin};
 
-    /// Whether the lemma has a spelling: a number below 1,000,000; up to 100 pairs, of cells and tiles below 100 and
-    /// turns below 4; a tree of up to 101 levels, with 1 to 400 children a branch, cells and tiles below 100, numbers
-    /// of lemmas and of listed arrangements below 1,000,000, and of symmetries below 1,024. It looks no deeper into the
-    /// tree than that, and takes no memory.
+    /// Whether the lemma has a spelling: a number, and numbers of lemmas and of listed arrangements, below 1,000,000;
+    /// numbers of symmetries below 1,024, and turns below 4; and cells, tiles, pairs, children and levels within the
+    /// ranges of version 2. It looks no deeper into the tree than that, and takes no memory.
     pub fn within_limits(&self) -> bool
-        ensures within { MatchBool result (IsLemmaWithin (piece_of self.now)) (IsLemmaWithin (piece_of self.now) → ⊥) }
+        ensures within { MatchBool result (IsLemmaWithin SECOND (piece_of self.now))
+            (IsLemmaWithin SECOND (piece_of self.now) → ⊥) }
         ensures spelled { MatchBool result ((text : List ℕ) × (lemma_of text ≡ Ok (piece_of self.now)))
             ((text : List ℕ) → lemma_of text ≢ Ok (piece_of self.now)) }
     {
-        is_lemma_within(self)
+        is_lemma_within(&SECOND, self)
     }
 }
 
@@ -240,14 +269,15 @@ impl Certificate {
     ghost use Rattle.cert_tree.specs.CertificateSpelling.{IsCertificateWithin};
     ghost use Rattle.cert_tree.specs.Writing.{said_by};
 
-    /// Whether the certificate has a spelling: up to 1,024 symmetries, with shifts below 4, up to 100 cells and tiles
-    /// below 100, and up to 36 colours below 36; and lemmas that each have one. It takes no memory.
+    /// Whether the certificate has a spelling: up to 1,024 symmetries, with shifts below 4, up to 36 colours below 36,
+    /// and cells and tiles within the ranges of version 2; and lemmas that each have one. It takes no memory.
     pub fn within_limits(&self) -> bool
-        ensures within { MatchBool result (IsCertificateWithin (said_by self.now))
-            (IsCertificateWithin (said_by self.now) → ⊥) }
-        ensures spelled { MatchBool result ((text : List ℕ) × (certificate_of text ≡ Ok (said_by self.now)))
-            ((text : List ℕ) → certificate_of text ≢ Ok (said_by self.now)) }
+        ensures within { MatchBool result (IsCertificateWithin (said_by 2 self.now))
+            (IsCertificateWithin (said_by 2 self.now) → ⊥) }
+        ensures spelled { MatchBool result
+            ((version : ℕ) × (text : List ℕ) × (certificate_of text ≡ Ok (said_by version self.now)))
+            ((version : ℕ) (text : List ℕ) → certificate_of text ≢ Ok (said_by version self.now)) }
     {
-        is_certificate_within(self)
+        is_certificate_within(2, self)
     }
 }

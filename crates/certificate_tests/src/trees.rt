@@ -20,6 +20,20 @@ const EACH_NODE: &[u8] =
 const ONE_CELL: &[u8] =
     b"certificate 1\nsymmetries 0\nlemmas 1\nlemma 0 prefix tree c 0 1 f 0\nend\n";
 
+const ONE_CELL_IN_VERSION_2: &[u8] =
+    b"certificate 2\nsymmetries 0\nlemmas 1\nlemma 0 prefix tree c 0 1 f 0\nend\n";
+
+const VERSION_1: &[u8] = b"certificate 1\n";
+
+const VERSION_2: &[u8] = b"certificate 2\n";
+
+// Numbers that version 2 alone has.
+const PAST_VERSION_1: [&[u8]; 3] = [
+    b"certificate 2\nsymmetries 0\nlemmas 1\nlemma 0 prefix tree d 100\nend\n",
+    b"certificate 2\nsymmetries 1\nsymmetry 0 + cells 255 colours tiles 255\nlemmas 0\nend\n",
+    b"certificate 2\nsymmetries 0\nlemmas 1\nlemma 0 prefix 255:255.3 tree t 255 1 e 255\nend\n",
+];
+
 const TURNING_HEAD: &[u8] =
     b"certificate 1\nsymmetries 1\nsymmetry 1 + cells 3 0 2 1 colours 0 1 2 3 tiles 0 1 2 3\nlemmas 3\n";
 
@@ -65,16 +79,14 @@ fn large(alloc: Global) -> Result<Vec<u8>, AllocError> {
     )
 }
 
-// A certificate of a tree of 101 levels, the most there may be.
-fn deep(alloc: Global) -> Result<Vec<u8>, AllocError> {
+// A certificate with this first line, of a tree of so many branches below one another and a leaf.
+fn deep(alloc: Global, first_line: &[u8], branches: u32) -> Result<Vec<u8>, AllocError> {
     joined(
         alloc,
         &[
-            (
-                b"certificate 1\nsymmetries 0\nlemmas 1\nlemma 0 prefix tree",
-                1,
-            ),
-            (b" c 0 1", 100),
+            (first_line, 1),
+            (b"symmetries 0\nlemmas 1\nlemma 0 prefix tree", 1),
+            (b" c 0 1", branches),
             (b" f 0\nend\n", 1),
         ],
     )
@@ -93,7 +105,7 @@ fn written(alloc: Global, text: &[u8]) -> Result<Vec<u8>, Fail> {
 fn writes_certificates_that_were_read(rt: HostRuntime) -> Result<(), Fail> {
     let alloc = rt.alloc();
     let large = large(alloc)?;
-    let deep = deep(alloc)?;
+    let deep = deep(alloc, VERSION_1, 100)?;
     for text in [
         ONE_CELL,
         SQUARE_OF_FOUR_CERTIFICATE,
@@ -117,6 +129,23 @@ fn writes_certificates_that_were_read(rt: HostRuntime) -> Result<(), Fail> {
         assert!(rt; written(alloc, &text)?.as_slice() == TURNING_TRIANGLE_CERTIFICATE);
     }
     certificate_laws();
+    Ok(())
+}
+
+#[test]
+fn writes_version_1_where_it_spells_the_certificate(rt: HostRuntime) -> Result<(), Fail> {
+    let alloc = rt.alloc();
+    assert!(rt; written(alloc, ONE_CELL_IN_VERSION_2)?.as_slice() == ONE_CELL);
+    let shallow = deep(alloc, VERSION_1, 100)?;
+    let text = deep(alloc, VERSION_2, 100)?;
+    assert!(rt; written(alloc, &text)?.as_slice() == shallow.as_slice());
+    for branches in [101, 256] {
+        let text = deep(alloc, VERSION_2, branches)?;
+        assert!(rt; written(alloc, &text)?.as_slice() == text.as_slice());
+    }
+    for text in PAST_VERSION_1 {
+        assert!(rt; written(alloc, text)?.as_slice() == text);
+    }
     Ok(())
 }
 
@@ -189,9 +218,9 @@ fn tall(alloc: Global, branches: u32, leaf: Node) -> Result<Node, AllocError> {
 }
 
 fn is_within(alloc: Global, number: u32, pairs: usize, tree: Node) -> Result<bool, AllocError> {
-    let placement = Placement { tile: 99, turn: 3 };
+    let placement = Placement { tile: 255, turn: 3 };
     let pair = Pair {
-        cell: 99,
+        cell: 255,
         placement,
     };
     let prefix = Pairs::new(vec![in alloc; pair; pairs]?);
@@ -214,11 +243,11 @@ fn tells_which_lemmas_have_a_spelling(rt: HostRuntime) -> Result<(), Fail> {
         cell: 0,
         children: Children::new(Vec::new(alloc)),
     };
-    assert!(rt; is_within(alloc, 999_999, 100, tall(alloc, 100, Node::DeadCell(99))?)?);
+    assert!(rt; is_within(alloc, 999_999, 256, tall(alloc, 256, Node::DeadCell(255))?)?);
     assert!(rt; !is_within(alloc, 1_000_000, 0, Node::DeadCell(0))?);
-    assert!(rt; !is_within(alloc, 0, 101, Node::DeadCell(0))?);
-    assert!(rt; !is_within(alloc, 0, 0, tall(alloc, 101, Node::DeadCell(0))?)?);
-    assert!(rt; !is_within(alloc, 0, 0, tall(alloc, 3, Node::DeadTile(100))?)?);
+    assert!(rt; !is_within(alloc, 0, 257, Node::DeadCell(0))?);
+    assert!(rt; !is_within(alloc, 0, 0, tall(alloc, 257, Node::DeadCell(0))?)?);
+    assert!(rt; !is_within(alloc, 0, 0, tall(alloc, 3, Node::DeadTile(256))?)?);
     assert!(rt; !is_within(alloc, 0, 0, Node::Found(1_000_000))?);
     assert!(rt; !is_within(alloc, 0, 0, Node::Same(1_000_000))?);
     assert!(rt; !is_within(alloc, 0, 0, image)?);

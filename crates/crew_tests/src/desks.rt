@@ -1,4 +1,5 @@
 ghost use Rattle.std.specs.Prelude.{◌≡◌, ◌<◌, ◌≤◌, ◌+◌, All, IfOk, length, vec_len};
+ghost use Rattle.match_text.specs.declared.ranges.TheConstants.{SECOND};
 ghost use Rattle.cert_tree.specs.Certificate.{piece_of};
 ghost use Rattle.cert_tree.specs.CertificateSpelling.{IsLemmaWithin};
 ghost use Rattle.piece_desk.specs.Desks.{IsOf};
@@ -56,7 +57,7 @@ fn post_at_last<R: Wait>(
     lemma: Lemma,
     text: &[u8],
 ) -> Result<Receipt, Fail>
-    requires { IsLemmaWithin (piece_of lemma) }
+    requires { IsLemmaWithin SECOND (piece_of lemma) }
     ensures { IfOk result (IsOf desk.now) }
 {
     let same = match desk.post(rt, lemma) {

@@ -33,9 +33,9 @@ fn solve_and_check<R: Threads + Wait + Sync>(
 {
     let solved = solve_with(rt, alloc, puzzle, depth, fuel, workers)?;
     let certificate = &solved.certificate;
-    let answer = check_with(rt, alloc, puzzle, &solved.listed, certificate, 1, 0, &Open)?;
+    let answer = check_with(rt, alloc, puzzle, &solved.list, certificate, 1, 0, &Open)?;
     Ok(Outcome {
-        listed: solved.listed.len(),
+        listed: solved.list.len(),
         lemmas: certificate.lemmas().len(),
         has_symmetries: !certificate.symmetries().is_empty(),
         is_complete: matches!(answer, Answer::Complete),

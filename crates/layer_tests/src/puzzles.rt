@@ -1,6 +1,6 @@
 //! Puzzles, and what they say of their cells and placements.
 
-use crate::fixtures::{MATED_PAIR, STRIPED_TILE, puzzle_of, tile, turned};
+use crate::fixtures::{MATED_PAIR, SIX_TRIANGLES, STRIPED_TILE, puzzle_of, tile, turned};
 use match_board::{Board, Tile};
 use match_puzzle::{Border, BorderRules, Placement, Puzzle, PuzzleFault};
 use sample_puzzles::square_of_four;
@@ -27,7 +27,7 @@ fn shown(puzzle: &Puzzle, placement: Placement, side: u8) -> Option<u8> {
 #[test]
 fn what_a_puzzle_says(rt: HostRuntime) -> Result<(), Fail> {
     let puzzle = square_of_four(rt.alloc())?;
-    assert!(rt; puzzle.board() == Board::rect(2, 2)?);
+    assert!(rt; *puzzle.board() == Board::rect(2, 2)?);
     assert!(rt; !puzzle.turns());
     assert!(rt; matches!(puzzle.border(), Border::One(5)));
     assert!(rt; puzzle.tiles().len() == 4);
@@ -155,5 +155,56 @@ fn mates_of_a_puzzle(rt: HostRuntime) -> Result<(), Fail> {
         let made = with_mates(alloc, mates)?;
         assert!(rt; made.err() == Some(PuzzleFault::Mates(place)), "{place}");
     }
+    Ok(())
+}
+
+// Three cells round a corner, with 0 all round.
+#[test]
+fn puzzle_on_a_shape(rt: HostRuntime) -> Result<(), Fail> {
+    let board = Board::shape(2, 2, &[true, true, true, false])?;
+    let tiles = [
+        tile([0, 1, 2, 0], 4)?,
+        tile([0, 0, 0, 1], 4)?,
+        tile([2, 0, 0, 0], 4)?,
+    ];
+    let puzzle = Puzzle::new(rt.alloc(), board, false, &Border::One(0), &tiles)?;
+    assert!(rt; puzzle.version() == 2);
+    assert!(rt; puzzle.mates().is_empty());
+    let sides = [
+        (0, 1, (None, Some((1, 3)))),
+        (0, 2, (None, Some((2, 0)))),
+        (1, 2, (Some(0), None)),
+        (2, 1, (Some(0), None)),
+    ];
+    for (cell, side, found) in sides {
+        assert!(rt;
+            side_of(&puzzle, cell, side) == Some(found),
+            "{cell} {side}"
+        );
+    }
+    Ok(())
+}
+
+#[test]
+fn second_forms_of_puzzles(rt: HostRuntime) -> Result<(), Fail> {
+    let alloc = rt.alloc();
+    let square = square_of_four(alloc)?;
+    let hexagon = puzzle_of(alloc, SIX_TRIANGLES)?;
+    let mated = puzzle_of(alloc, MATED_PAIR)?;
+    let forms = [
+        (&square, Board::shape(2, 2, &[true; 4])?),
+        (&hexagon, Board::hexagon(1)?),
+        (&mated, Board::shape(2, 1, &[true; 2])?),
+    ];
+    for (puzzle, board) in forms {
+        let second = puzzle.second_form(alloc)?;
+        assert!(rt; *second.board() == board, "{board:?}");
+        assert!(rt; second.version() == 2);
+        assert!(rt; second.mates() == puzzle.mates());
+        assert!(rt; second.turns() == puzzle.turns());
+        assert!(rt; second.tiles() == puzzle.tiles());
+        assert!(rt; second.colours() == puzzle.colours());
+    }
+    assert!(rt; matches!(square.second_form(alloc)?.border(), Border::One(5)));
     Ok(())
 }

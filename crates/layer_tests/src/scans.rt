@@ -1,7 +1,7 @@
 //! Words of a line, one after the other.
 
 use crate::fixtures::{pair, turned};
-use match_text::{Scan, TextFault, TextKind};
+use match_text::{FIRST, Scan, TextFault, TextKind};
 use std::test::Fail;
 
 // A scan of one line, at its first word.
@@ -20,13 +20,13 @@ fn goes_from_word_to_word(rt: HostRuntime) -> Result<(), Fail> {
     for number in [1, 9, 10, 42, 100] {
         assert!(rt; scan.number(1, 100)? == number);
     }
-    assert!(rt; scan.placement()? == turned(9, 3));
-    assert!(rt; scan.placement()? == turned(99, 0));
+    assert!(rt; scan.placement(&FIRST)? == turned(9, 3));
+    assert!(rt; scan.placement(&FIRST)? == turned(99, 0));
     assert!(rt; scan.number(100, 100)? == 100);
     assert!(rt; scan.peek() == Some(b"c".as_slice()));
     scan.word(b"c")?;
     assert!(rt; scan.number(7, 7)? == 7);
-    assert!(rt; scan.pair()? == pair(42, 7, 2));
+    assert!(rt; scan.pair(&FIRST)? == pair(42, 7, 2));
     // A space at the end of a line stands before an empty word.
     assert!(rt; scan.peek() == Some(b"".as_slice()));
     scan.word(b"")?;
@@ -48,8 +48,8 @@ fn fault_of(asked: Asked, line: &[u8]) -> Result<Option<TextFault>, Fail> {
     let mut scan = scan_of(line)?;
     Ok(match asked {
         Asked::Number => scan.number(1, 42).err(),
-        Asked::Placement => scan.placement().err(),
-        Asked::Pair => scan.pair().err(),
+        Asked::Placement => scan.placement(&FIRST).err(),
+        Asked::Pair => scan.pair(&FIRST).err(),
     })
 }
 

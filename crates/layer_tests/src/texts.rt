@@ -18,6 +18,10 @@ const ONE_CELL: &[u8] =
 const EVERY_COLOUR_MATED: &[u8] =
     b"match 2\nboard rect 1 1\nturns yes\nborder one z\nmates z y x w v u t s r q p o n m l k j i h g f e d c b a 9 8 7 6 5 4 3 2 1 0\ntiles 1\ntile zzzz\nend\n";
 
+// A puzzle on three squares of four, the corner at the top and at the left with its two neighbours.
+const CORNER_SHAPE: &[u8] =
+    b"match 2\nboard shape 2 2\nrow ##\nrow #.\nturns no\nborder one 0\nmates\ntiles 3\ntile 0120\ntile 0001\ntile 2000\nend\n";
+
 // Rows of one to three placements.
 const UNEVEN_LIST: &[u8] = b"list 1\narrangements 3\n10.1 2.0\n3.3 4.2 50.0\n6.1\nend\n";
 
@@ -37,6 +41,9 @@ fn list_again(alloc: Global, text: &[u8]) -> Result<Vec<u8>, Fail> {
         return Err(Fail::from("too long"));
     }
     let list = read_list(alloc, text)?;
+    if !list_within_limits(&list) {
+        return Err(Fail::from("no spelling"));
+    }
     Ok(write_list(alloc, &list)?)
 }
 
@@ -51,6 +58,7 @@ fn writes_what_was_read(rt: HostRuntime) -> Result<(), Fail> {
         SIX_TRIANGLES,
         MATED_PAIR,
         EVERY_COLOUR_MATED,
+        CORNER_SHAPE,
     ] {
         let puzzle = puzzle_of(alloc, text)?;
         assert!(rt; write_puzzle(alloc, &puzzle)?.as_slice() == text);
@@ -82,6 +90,34 @@ fn keeps_each_row_by_itself(rt: HostRuntime) -> Result<(), Fail> {
     Ok(())
 }
 
+// Lists, and what is written of them: version 1 where that spells the list.
+const WRITTEN: [(&[u8], &[u8]); 4] = [
+    (
+        b"list 2\narrangements 1\n99.3\nend\n",
+        b"list 1\narrangements 1\n99.3\nend\n",
+    ),
+    (
+        b"list 2\narrangements 0\nend\n",
+        b"list 1\narrangements 0\nend\n",
+    ),
+    (
+        b"list 2\narrangements 1\n100.0\nend\n",
+        b"list 2\narrangements 1\n100.0\nend\n",
+    ),
+    (
+        b"list 2\narrangements 2\n0.0\n9.1 255.3\nend\n",
+        b"list 2\narrangements 2\n0.0\n9.1 255.3\nend\n",
+    ),
+];
+
+#[test]
+fn writes_lists_in_the_first_version_that_spells_them(rt: HostRuntime) -> Result<(), Fail> {
+    for (text, written) in WRITTEN {
+        assert!(rt; list_again(rt.alloc(), text)?.as_slice() == written);
+    }
+    Ok(())
+}
+
 // A list of one row of so many equal placements.
 fn list_with(
     alloc: Global,
@@ -98,11 +134,11 @@ fn list_with(
 #[test]
 fn tells_which_lists_have_a_spelling(rt: HostRuntime) -> Result<(), Fail> {
     let rows = [
-        (1, 99, 3, true),
-        (100, 0, 0, true),
+        (1, 255, 3, true),
+        (256, 0, 0, true),
         (0, 0, 0, false),
-        (101, 0, 0, false),
-        (1, 100, 0, false),
+        (257, 0, 0, false),
+        (1, 256, 0, false),
         (1, 0, 4, false),
     ];
     for (count, tile, turn, within) in rows {

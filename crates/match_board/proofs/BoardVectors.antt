@@ -28,8 +28,8 @@ hexagon_2_met_0_1 = record {
   place = 0;
   row' = 1;
   place' = 1;
-  here = record { row_in = omega arith; place_in = omega arith; number = refl };
-  there = record { row_in = omega arith; place_in = omega arith; number = refl };
+  here = record { row_in = omega arith; place_in = omega arith; filled = tt; number = refl };
+  there = record { row_in = omega arith; place_in = omega arith; filled = tt; number = refl };
   against = inl (inr (inr (inl (omega arith, refl), refl, refl, refl, inl (omega arith, refl))));
 }
 
@@ -39,8 +39,8 @@ hexagon_2_met_5_1 = record {
   place = 0;
   row' = 2;
   place' = 0;
-  here = record { row_in = omega arith; place_in = omega arith; number = refl };
-  there = record { row_in = omega arith; place_in = omega arith; number = refl };
+  here = record { row_in = omega arith; place_in = omega arith; filled = tt; number = refl };
+  there = record { row_in = omega arith; place_in = omega arith; filled = tt; number = refl };
   against = inl (inr (inr (inl (omega arith, refl), refl, refl, refl, inr (inl (refl, refl)))));
 }
 
@@ -50,8 +50,8 @@ hexagon_2_met_13_1 = record {
   place = 1;
   row' = 3;
   place' = 0;
-  here = record { row_in = omega arith; place_in = omega arith; number = refl };
-  there = record { row_in = omega arith; place_in = omega arith; number = refl };
+  here = record { row_in = omega arith; place_in = omega arith; filled = tt; number = refl };
+  there = record { row_in = omega arith; place_in = omega arith; filled = tt; number = refl };
   against = inl (inr (inr (inr (omega arith, refl), refl, refl, refl, inr (inr (omega arith, refl)))));
 }
 
@@ -60,7 +60,7 @@ hexagon_2_border_0_2 = record {
   cell_in = omega arith;
   side_in = omega arith;
   meets_nothing = λ cell' side' meets.
-      let at : StandsAt (Hexagon 2) 0 0 0 = record { row_in = omega arith; place_in = omega arith; number = refl } in
+      let at : StandsAt (Hexagon 2) 0 0 0 = record { row_in = omega arith; place_in = omega arith; filled = tt; number = refl } in
       let to = met_place meets at in
       grind (arith, to.3);
 }
@@ -70,7 +70,7 @@ hexagon_2_border_1_1 = record {
   cell_in = omega arith;
   side_in = omega arith;
   meets_nothing = λ cell' side' meets.
-      let at : StandsAt (Hexagon 2) 1 0 1 = record { row_in = omega arith; place_in = omega arith; number = refl } in
+      let at : StandsAt (Hexagon 2) 1 0 1 = record { row_in = omega arith; place_in = omega arith; filled = tt; number = refl } in
       let to = met_place meets at in
       grind (arith, to.3);
 }
@@ -82,8 +82,8 @@ hexagon_1_met_0_0 = record {
   place = 0;
   row' = 0;
   place' = 1;
-  here = record { row_in = omega arith; place_in = omega arith; number = refl };
-  there = record { row_in = omega arith; place_in = omega arith; number = refl };
+  here = record { row_in = omega arith; place_in = omega arith; filled = tt; number = refl };
+  there = record { row_in = omega arith; place_in = omega arith; filled = tt; number = refl };
   against = inl (inl (inl (omega arith, refl), refl, refl, refl, refl));
 }
 
@@ -93,8 +93,8 @@ hexagon_1_met_1_2 = record {
   place = 1;
   row' = 0;
   place' = 2;
-  here = record { row_in = omega arith; place_in = omega arith; number = refl };
-  there = record { row_in = omega arith; place_in = omega arith; number = refl };
+  here = record { row_in = omega arith; place_in = omega arith; filled = tt; number = refl };
+  there = record { row_in = omega arith; place_in = omega arith; filled = tt; number = refl };
   against = inl (inr (inl (inl (omega arith, refl), refl, refl, refl, refl)));
 }
 
@@ -104,8 +104,8 @@ hexagon_1_met_0_1 = record {
   place = 0;
   row' = 1;
   place' = 0;
-  here = record { row_in = omega arith; place_in = omega arith; number = refl };
-  there = record { row_in = omega arith; place_in = omega arith; number = refl };
+  here = record { row_in = omega arith; place_in = omega arith; filled = tt; number = refl };
+  there = record { row_in = omega arith; place_in = omega arith; filled = tt; number = refl };
   against = inl (inr (inr (inl (omega arith, refl), refl, refl, refl, inr (inl (refl, refl)))));
 }
 
@@ -115,8 +115,8 @@ hexagon_1_met_2_1 = record {
   place = 2;
   row' = 1;
   place' = 2;
-  here = record { row_in = omega arith; place_in = omega arith; number = refl };
-  there = record { row_in = omega arith; place_in = omega arith; number = refl };
+  here = record { row_in = omega arith; place_in = omega arith; filled = tt; number = refl };
+  there = record { row_in = omega arith; place_in = omega arith; filled = tt; number = refl };
   against = inl (inr (inr (inl (omega arith, refl), refl, refl, refl, inr (inl (refl, refl)))));
 }
 
@@ -126,8 +126,8 @@ hexagon_1_met_3_2 = record {
   place = 0;
   row' = 1;
   place' = 1;
-  here = record { row_in = omega arith; place_in = omega arith; number = refl };
-  there = record { row_in = omega arith; place_in = omega arith; number = refl };
+  here = record { row_in = omega arith; place_in = omega arith; filled = tt; number = refl };
+  there = record { row_in = omega arith; place_in = omega arith; filled = tt; number = refl };
   against = inl (inr (inl (inr (omega arith, refl), refl, refl, refl, refl)));
 }
 
@@ -137,8 +137,8 @@ hexagon_1_met_4_0 = record {
   place = 1;
   row' = 1;
   place' = 2;
-  here = record { row_in = omega arith; place_in = omega arith; number = refl };
-  there = record { row_in = omega arith; place_in = omega arith; number = refl };
+  here = record { row_in = omega arith; place_in = omega arith; filled = tt; number = refl };
+  there = record { row_in = omega arith; place_in = omega arith; filled = tt; number = refl };
   against = inl (inl (inr (omega arith, refl), refl, refl, refl, refl));
 }
 
@@ -147,7 +147,7 @@ hexagon_1_border_0_2 = record {
   cell_in = omega arith;
   side_in = omega arith;
   meets_nothing = λ cell' side' meets.
-      let at : StandsAt (Hexagon 1) 0 0 0 = record { row_in = omega arith; place_in = omega arith; number = refl } in
+      let at : StandsAt (Hexagon 1) 0 0 0 = record { row_in = omega arith; place_in = omega arith; filled = tt; number = refl } in
       let to = met_place meets at in
       grind (arith, to.3);
 }
@@ -157,7 +157,7 @@ hexagon_1_border_1_1 = record {
   cell_in = omega arith;
   side_in = omega arith;
   meets_nothing = λ cell' side' meets.
-      let at : StandsAt (Hexagon 1) 1 0 1 = record { row_in = omega arith; place_in = omega arith; number = refl } in
+      let at : StandsAt (Hexagon 1) 1 0 1 = record { row_in = omega arith; place_in = omega arith; filled = tt; number = refl } in
       let to = met_place meets at in
       grind (arith, to.3);
 }
@@ -167,7 +167,7 @@ hexagon_1_border_2_0 = record {
   cell_in = omega arith;
   side_in = omega arith;
   meets_nothing = λ cell' side' meets.
-      let at : StandsAt (Hexagon 1) 2 0 2 = record { row_in = omega arith; place_in = omega arith; number = refl } in
+      let at : StandsAt (Hexagon 1) 2 0 2 = record { row_in = omega arith; place_in = omega arith; filled = tt; number = refl } in
       let to = met_place meets at in
       grind (arith, to.3);
 }
@@ -177,7 +177,7 @@ hexagon_1_border_3_0 = record {
   cell_in = omega arith;
   side_in = omega arith;
   meets_nothing = λ cell' side' meets.
-      let at : StandsAt (Hexagon 1) 3 1 0 = record { row_in = omega arith; place_in = omega arith; number = refl } in
+      let at : StandsAt (Hexagon 1) 3 1 0 = record { row_in = omega arith; place_in = omega arith; filled = tt; number = refl } in
       let to = met_place meets at in
       grind (arith, to.3);
 }
@@ -187,7 +187,7 @@ hexagon_1_border_4_1 = record {
   cell_in = omega arith;
   side_in = omega arith;
   meets_nothing = λ cell' side' meets.
-      let at : StandsAt (Hexagon 1) 4 1 1 = record { row_in = omega arith; place_in = omega arith; number = refl } in
+      let at : StandsAt (Hexagon 1) 4 1 1 = record { row_in = omega arith; place_in = omega arith; filled = tt; number = refl } in
       let to = met_place meets at in
       grind (arith, to.3);
 }
@@ -197,7 +197,7 @@ hexagon_1_border_5_2 = record {
   cell_in = omega arith;
   side_in = omega arith;
   meets_nothing = λ cell' side' meets.
-      let at : StandsAt (Hexagon 1) 5 1 2 = record { row_in = omega arith; place_in = omega arith; number = refl } in
+      let at : StandsAt (Hexagon 1) 5 1 2 = record { row_in = omega arith; place_in = omega arith; filled = tt; number = refl } in
       let to = met_place meets at in
       grind (arith, to.3);
 }
@@ -209,8 +209,8 @@ triangle_2_met_2_0 = record {
   place = 1;
   row' = 1;
   place' = 0;
-  here = record { row_in = omega arith; place_in = omega arith; number = refl };
-  there = record { row_in = omega arith; place_in = omega arith; number = refl };
+  here = record { row_in = omega arith; place_in = omega arith; filled = tt; number = refl };
+  there = record { row_in = omega arith; place_in = omega arith; filled = tt; number = refl };
   against = inr (inl (refl, refl, refl, refl, refl));
 }
 
@@ -220,8 +220,8 @@ triangle_2_met_2_1 = record {
   place = 1;
   row' = 0;
   place' = 0;
-  here = record { row_in = omega arith; place_in = omega arith; number = refl };
-  there = record { row_in = omega arith; place_in = omega arith; number = refl };
+  here = record { row_in = omega arith; place_in = omega arith; filled = tt; number = refl };
+  there = record { row_in = omega arith; place_in = omega arith; filled = tt; number = refl };
   against = inr (inr (inr (refl, refl, refl, refl, refl)));
 }
 
@@ -231,8 +231,8 @@ triangle_2_met_2_2 = record {
   place = 1;
   row' = 1;
   place' = 2;
-  here = record { row_in = omega arith; place_in = omega arith; number = refl };
-  there = record { row_in = omega arith; place_in = omega arith; number = refl };
+  here = record { row_in = omega arith; place_in = omega arith; filled = tt; number = refl };
+  there = record { row_in = omega arith; place_in = omega arith; filled = tt; number = refl };
   against = inl (inr (inl (refl, refl, refl, refl, refl)));
 }
 
@@ -243,8 +243,8 @@ rectangle_2_2_met_0_1 = record {
   place = 0;
   row' = 0;
   place' = 1;
-  here = record { row_in = omega arith; place_in = omega arith; number = refl };
-  there = record { row_in = omega arith; place_in = omega arith; number = refl };
+  here = record { row_in = omega arith; place_in = omega arith; filled = tt; number = refl };
+  there = record { row_in = omega arith; place_in = omega arith; filled = tt; number = refl };
   against = inl (inl (refl, refl, refl, refl));
 }
 
@@ -254,8 +254,8 @@ rectangle_2_2_met_0_2 = record {
   place = 0;
   row' = 1;
   place' = 0;
-  here = record { row_in = omega arith; place_in = omega arith; number = refl };
-  there = record { row_in = omega arith; place_in = omega arith; number = refl };
+  here = record { row_in = omega arith; place_in = omega arith; filled = tt; number = refl };
+  there = record { row_in = omega arith; place_in = omega arith; filled = tt; number = refl };
   against = inl (inr (refl, refl, refl, refl));
 }
 

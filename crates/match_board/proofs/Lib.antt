@@ -1,6 +1,8 @@
 pub mod Listings
+pub mod MaskLemmas
 pub mod Places
 pub mod BorderLemmas
+pub mod AlikeLemmas
 pub mod TurnsLemmas
 pub mod BoardVectors
 pub mod HexagonLemmas

@@ -2,15 +2,16 @@
 
 ghost use Rattle.std.specs.Prelude.{◌≡◌, ◌↔◌, ◌<◌, ◌≤◌, ◌*◌, ℕ, ◌+◌, List, length, IfOk, IfSome, MatchBool};
 ghost use Rattle.match_board.specs.Board.{cell_count, side_count, Meets, IsBoard, IsBorderOrder, IsBorderPair};
-ghost use Rattle.match_board.specs.Board.{IsBorderBefore};
+ghost use Rattle.match_board.specs.Board.{IsBorderBefore, HasRoom, IsPlain, shape_of, second_figure};
 ghost use Rattle.match_board.specs.declared.figures.Figure.TheVariants.{Rectangle, Triangle, Hexagon};
 
 use crate::figures::Figure;
-use crate::limits::MOST_CELLS;
+use crate::limits::{MOST_CELLS, MOST_PLACES, MOST_PLAIN_CELLS};
+use crate::shapes;
 use std::marker::Model;
 use thiserror::Error;
 
-/// Why there is no such board: it has no cells, or over 100.
+/// Why there is no such board: it has no cells, or too many.
 #[derive(Clone, Copy, PartialEq, Eq, Debug, Error)]
 pub enum BoardFault {
     #[error("board empty")]
@@ -19,28 +20,32 @@ pub enum BoardFault {
     TooLarge,
 }
 
-/// A board of 1 to 100 cells: squares in a rectangle, or triangles in a triangle or a hexagon.
+/// A board: a rectangle of squares, or a triangle or a hexagon of triangles, with 1 to 100 cells; or a shape, which has
+/// 1 to 256 of the squares of a rectangle.
 ///
 /// Cells are numbered from 0, row by row, from the top and from the left. The sides of a square are
 /// 0 north, 1 east, 2 south and 3 west. Those of a triangle that points up are 0 north-east, 1 south
 /// and 2 north-west, and of one that points down 0 south-west, 1 north and 2 south-east: sides of
-/// triangles that meet have the same number.
+/// triangles that meet have the same number. A side towards a missing cell of a shape meets nothing.
 #[derive(Clone, Copy, PartialEq, Eq, Debug)]
 pub struct Board {
     figure: Figure,
+    // how many cells there are
+    count: u16,
 }
 
 impl Model for Board {
-    ghost use Rattle.match_board.specs.Board.{IsBoard};
+    ghost use Rattle.std.specs.Prelude.{◌≡◌};
+    ghost use Rattle.match_board.specs.Board.{IsBoard, cell_count};
     ghost use Rattle.match_board.specs.declared.figures.Figure.{Figure};
 
     ghost Value = { Figure };
 
     ghost view = { λ b. b.figure };
 
-    ghost invariant = { λ b. IsBoard b.figure };
+    ghost invariant = { λ b. IsBoard b.figure × (b.count ≡ cell_count b.figure) };
 
-    ghost inverse = { λ s. record { figure = s } };
+    ghost inverse = { λ s. record { figure = s; count = cell_count s } };
 }
 
 impl Board {
@@ -52,7 +57,7 @@ impl Board {
         ensures board { IfOk result (λ b. b ≡ Rectangle width height) }
         ensures fits { IfOk result IsBoard }
         ensures empty { (result ≡ Err BoardFault.Empty) ↔ (width * height ≡ 0) }
-        ensures too_large { (result ≡ Err BoardFault.TooLarge) ↔ (MOST_CELLS < width * height) }
+        ensures too_large { (result ≡ Err BoardFault.TooLarge) ↔ (MOST_PLAIN_CELLS < width * height) }
     {
         Board::of(Figure::Rectangle { width, height })
     }
@@ -65,7 +70,7 @@ impl Board {
         ensures board { IfOk result (λ b. b ≡ Triangle size) }
         ensures fits { IfOk result IsBoard }
         ensures empty { (result ≡ Err BoardFault.Empty) ↔ (size ≡ 0) }
-        ensures too_large { (result ≡ Err BoardFault.TooLarge) ↔ (MOST_CELLS < cell_count (Triangle size)) }
+        ensures too_large { (result ≡ Err BoardFault.TooLarge) ↔ (MOST_PLAIN_CELLS < cell_count (Triangle size)) }
     {
         Board::of(Figure::Triangle { size })
     }
@@ -79,47 +84,99 @@ impl Board {
         ensures board { IfOk result (λ b. b ≡ Hexagon size) }
         ensures fits { IfOk result IsBoard }
         ensures empty { (result ≡ Err BoardFault.Empty) ↔ (size ≡ 0) }
-        ensures too_large { (result ≡ Err BoardFault.TooLarge) ↔ (MOST_CELLS < cell_count (Hexagon size)) }
+        ensures too_large { (result ≡ Err BoardFault.TooLarge) ↔ (MOST_PLAIN_CELLS < cell_count (Hexagon size)) }
     {
         Board::of(Figure::Hexagon { size })
     }
 
-    /// The board that covers the figure.
+    /// The shape that has a cell at each place of a rectangle of this width and height at which the mask is true. The
+    /// mask has the rectangle's places, row by row.
+    ///
+    /// `Empty` where there is no cell, and `TooLarge` where there are over 1,024 places or over 256 cells.
+    pub fn shape(width: u16, height: u16, mask: &[bool]) -> Result<Board, BoardFault>
+        requires { length mask.now ≡ height * width }
+        ensures board { IfOk result (λ b. b ≡ shape_of width height mask.now) }
+        ensures fits { IfOk result IsBoard }
+        ensures empty { (result ≡ Err BoardFault.Empty) ↔ (cell_count (shape_of width height mask.now) ≡ 0) }
+        ensures too_large { (result ≡ Err BoardFault.TooLarge)
+            ↔ (1 ≤ cell_count (shape_of width height mask.now)) × (HasRoom (shape_of width height mask.now) → ⊥) }
+    {
+        let cells = shapes::marks(mask, 0, mask.len());
+        if cells == 0 {
+            return Err(BoardFault::Empty);
+        }
+        if mask.len() > MOST_PLACES || cells > usize::from(MOST_CELLS) {
+            return Err(BoardFault::TooLarge);
+        }
+        let mask = shapes::kept(mask);
+        Ok(Board {
+            figure: Figure::Shape {
+                width,
+                height,
+                mask,
+            },
+            count: cells as u16,
+        })
+    }
+
+    /// The board that covers a rectangle, a triangle or a hexagon.
     ///
     /// `Empty` where it has no cells, and `TooLarge` where it has over 100.
     pub fn of(figure: Figure) -> Result<Board, BoardFault>
+        requires { IsPlain figure }
         ensures board { IfOk result (λ b. b ≡ figure) }
         ensures fits { IfOk result IsBoard }
         ensures empty { (result ≡ Err BoardFault.Empty) ↔ (cell_count figure ≡ 0) }
-        ensures too_large { (result ≡ Err BoardFault.TooLarge) ↔ (MOST_CELLS < cell_count figure) }
+        ensures too_large { (result ≡ Err BoardFault.TooLarge) ↔ (1 ≤ cell_count figure) × (HasRoom figure → ⊥) }
     {
         let cells = figure.cells();
         if cells == 0 {
             return Err(BoardFault::Empty);
         }
-        if cells > u64::from(MOST_CELLS) {
+        if cells > u64::from(MOST_PLAIN_CELLS) {
             return Err(BoardFault::TooLarge);
         }
-        Ok(Board { figure })
+        Ok(Board {
+            figure,
+            count: cells as u16,
+        })
+    }
+
+    /// A rectangle as the shape with every cell of it, and the other boards as they are.
+    pub fn second_form(&self) -> Board
+        ensures { result ≡ second_figure self.now }
+    {
+        match self.figure {
+            Figure::Rectangle { width, height } => Board {
+                figure: Figure::Shape {
+                    width,
+                    height,
+                    mask: shapes::full(self.count),
+                },
+                count: self.count,
+            },
+            _ => *self,
+        }
     }
 
     /// The figure that the board covers.
-    pub fn figure(&self) -> Figure
-        ensures { result ≡ self.now }
+    pub fn figure(&self) -> &Figure
+        ensures { result.now ≡ self.now }
     {
-        self.figure
+        &self.figure
     }
 
-    /// How many cells there are, from 1 to 100.
+    /// How many cells there are, from 1 to 256.
     pub fn cells(&self) -> u16
         ensures count { result ≡ cell_count self.now }
+        ensures board { IsBoard self.now }
         ensures some { 1 ≤ result }
         ensures most { result ≤ MOST_CELLS }
     {
-        self.figure.cells() as u16
+        self.count
     }
 
-    /// How many sides a cell has: 4 in a rectangle, 3 in a triangle or a hexagon.
+    /// How many sides a cell has: 4 in a rectangle or a shape, 3 in a triangle or a hexagon.
     pub fn sides(&self) -> u8
         ensures count { result ≡ side_count self.now }
         ensures few { result ≤ 4 }

@@ -2,7 +2,13 @@
 //! specifications name them. Numbers begin at 0, so that of `MOST_CELLS` cells the greatest number is `LAST_CELL`.
 
 /// The most cells of a board, and so the most placements of an arrangement, pairs of a prefix and images of cells.
-pub const MOST_CELLS: u16 = 100;
+pub const MOST_CELLS: u16 = 256;
+
+/// The most cells of a rectangle, a triangle or a hexagon; only a shape may have more.
+pub const MOST_PLAIN_CELLS: u16 = 100;
+
+/// The most places of a shape, with a cell or without one: as many as a board keeps of its mask.
+pub const MOST_PLACES: usize = 1_024;
 
 /// The greatest number of a cell.
 pub const LAST_CELL: u16 = MOST_CELLS - 1;
@@ -13,8 +19,8 @@ pub const MOST_TILES: u16 = MOST_CELLS;
 /// The greatest number of a tile.
 pub const LAST_TILE: u16 = MOST_TILES - 1;
 
-/// The greatest width, height and size of a board: a row may have all of its cells.
-pub const MOST_LENGTH: u16 = MOST_CELLS;
+/// The greatest width, height and size of a rectangle, a triangle or a hexagon: a row may have all of its cells.
+pub const MOST_LENGTH: u16 = MOST_PLAIN_CELLS;
 
 /// The greatest number of a side, and so the greatest shift of a symmetry: a square has four sides.
 pub const LAST_SIDE: u8 = 3;

@@ -6,6 +6,7 @@ use Rattle.match_puzzle.specs.Puzzle.{Task}
 use Rattle.match_puzzle.specs.Arrangement.{IsArrangement}
 use Rattle.match_puzzle.specs.declared.placements.Placement.{Placement}
 use Rattle.match_text.specs.ListSpelling.{IsListWithin}
+use Rattle.match_text.specs.declared.ranges.TheConstants.{SECOND}
 use Rattle.cert_tree.specs.Certificate.{Contents}
 use Rattle.cert_tree.specs.CertificateSpelling.{IsCertificateWithin}
 use Rattle.cert_tree.specs.Writing.{said_by}
@@ -51,7 +52,7 @@ pub record IsSearchedBy (p : Task) (desk : Desk) (count : ℕ) (results : List S
 pub record IsSolvedBy (p : Task) (count : ℕ) (listed : List (List Placement)) (tally : List (Vec ℕ Global))
     (c : Contents) : Type 0 where
   pub arrangements : AreArrangementsOf p listed
-  pub list : IsListWithin listed
-  pub certificate : IsCertificateWithin (said_by c)
+  pub list : IsListWithin SECOND listed
+  pub certificate : IsCertificateWithin (said_by 2 c)
   pub workers : length tally ≡ count
   pub taken : IsTally (length c.lemmas) tally

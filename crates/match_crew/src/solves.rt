@@ -35,7 +35,7 @@ use xcc_form::{Xcc, compile};
 /// searched, as they were on the desk, where the root is 0.
 #[derive(Drop)]
 pub struct Solved {
-    pub listed: Vec<Arrangement>,
+    pub list: Vec<Arrangement>,
     pub certificate: Certificate,
     pub tally: Vec<Vec<u32>>,
 }
@@ -183,7 +183,7 @@ fn certificate_of(
     requires many { length first.now ≡ count }
     requires first { All (λ n. n ≤ MOST_ARRANGEMENTS) first.now }
     requires lines { length lines.items < 2 ^ 32 }
-    ensures within { IfOk result (λ c. IsCertificateWithin (said_by c)) }
+    ensures within { IfOk result (λ c. IsCertificateWithin (said_by 2 c)) }
     ensures many { IfOk result (λ c. length c.lemmas ≡ count) }
     ensures fault { IfErr result (λ f. f ≢ SolveFault.TooMany) }
 {
@@ -216,7 +216,7 @@ pub fn solve_with<R: Threads + Wait + Sync>(
     requires depth { depth ≤ MOST_DEPTH }
     requires fuel { (1 ≤ fuel) × (fuel ≤ MOST_FUEL) }
     requires workers { (1 ≤ workers) × (workers ≤ MOST_WORKERS) }
-    ensures solved { IfOk result (λ s. IsSolvedBy puzzle.now workers s.listed.items s.tally.items s.certificate) }
+    ensures solved { IfOk result (λ s. IsSolvedBy puzzle.now workers s.list.items s.tally.items s.certificate) }
     ensures too_many { IsErrOf result SolveFault.TooMany → HasTooManyEntries puzzle.now }
 {
     let xcc = compile(alloc, puzzle)?;
@@ -249,7 +249,7 @@ pub fn solve_with<R: Threads + Wait + Sync>(
     }
     let certificate = certificate_of(alloc, &desk, &receipts, lines, count, &first)?;
     Ok(Solved {
-        listed,
+        list: listed,
         certificate,
         tally,
     })

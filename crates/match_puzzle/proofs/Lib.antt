@@ -13,3 +13,4 @@ pub mod PlacementSetLemmas
 pub mod FittingLemmas
 pub mod PairLemmas
 pub mod PrefixFaultLemmas
+pub mod PuzzleAlike

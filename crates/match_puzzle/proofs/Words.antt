@@ -7,7 +7,7 @@ use Rattle.std.proofs.lemmas.List.{get_or-map, length-map}
 use Rattle.match_board.proofs.TurnsLemmas.{whole_turn}
 use Rattle.match_board.specs.Board.{side_count}
 use Rattle.match_board.specs.declared.figures.Figure.{Figure}
-use Rattle.match_board.specs.declared.figures.Figure.TheVariants.{Rectangle, Triangle, Hexagon}
+use Rattle.match_board.specs.declared.figures.Figure.TheVariants.{Rectangle, Triangle, Hexagon, Shape}
 use Rattle.match_board.specs.Tile.{word}
 use Rattle.match_board.specs.Turns.{IsPeriod}
 use Rattle.match_board.specs.declared.tiles.Tile.{Tile}
@@ -24,12 +24,14 @@ pub some_sides : (s : Figure) → 1 ≤ side_count s
 some_sides (Rectangle width height) = omega arith
 some_sides (Triangle size) = omega arith
 some_sides (Hexagon size) = omega arith
+some_sides (Shape width height mask) = omega arith
 
 -- a cell has at most four sides
 pub few_sides : (s : Figure) → side_count s ≤ 4
 few_sides (Rectangle width height) = omega arith
 few_sides (Triangle size) = omega arith
 few_sides (Hexagon size) = omega arith
+few_sides (Shape width height mask) = omega arith
 
 -- a word has one period
 pub one_period : {word : List ℕ} {m n : ℕ} → IsPeriod word m → IsPeriod word n → m ≡ n

@@ -2,12 +2,14 @@
 use Rattle.std.specs.Prelude.{◌≡◌, ◌<◌, ◌^◌, ℕ, Bool, true, List, [], Option, Some, MatchBool, All, map, length}
 use Rattle.std.specs.Prelude.{slice_get, slice_index_or}
 use Rattle.match_board.specs.declared.limits.TheConstants.{MOST_COLOURS}
-use Rattle.match_board.specs.Board.{cell_count, side_count, IsBoard, IsBorderPair, IsBorderOrder}
+use Rattle.match_board.specs.Board.{cell_count, side_count, IsBoard, IsShape, IsBorderPair, IsBorderOrder}
+use Rattle.match_board.specs.Board.{second_figure}
 use Rattle.match_board.specs.declared.figures.Figure.{Figure}
+use Rattle.match_board.specs.declared.figures.Figure.TheVariants.{Rectangle, Triangle, Hexagon, Shape}
 use Rattle.match_board.specs.Turns.{shown, IsPeriod}
 use Rattle.match_board.specs.Tile.{word}
 use Rattle.match_board.specs.declared.tiles.Tile.{Tile}
-use Rattle.match_puzzle.specs.Mates.{Mating, IsMating, mate_in}
+use Rattle.match_puzzle.specs.Mates.{Mating, IsMating, mate_in, unmated, mated}
 use Rattle.match_puzzle.specs.declared.borders.Border.{Border}
 use Rattle.match_puzzle.specs.declared.borders.Border.TheVariants.{Free, One, Each}
 use Rattle.match_puzzle.specs.declared.placements.Placement.{Placement}
@@ -89,7 +91,7 @@ IsAsLongAsBorder s (one c) = Unit {0}
 IsAsLongAsBorder s (each rules) = (pairs : List (ℕ × ℕ)) × IsBorderOrder s pairs × (length rules ≡ length pairs)
 
 -- as many tiles as cells, with as many sides; triangles may be turned; colours that there are; a rule for each border
--- pair; each colour the mate of its mate
+-- pair; each colour the mate of its mate; version 2 where the board is a shape
 pub record IsPuzzle (p : Task) : Type 0 where
   pub board : IsBoard p.board
   pub triangles : side_count p.board ≡ 3 → p.turns ≡ true
@@ -99,11 +101,29 @@ pub record IsPuzzle (p : Task) : Type 0 where
   pub border_colours : (place colour : ℕ) → StandsInRule p.border place colour → colour < MOST_COLOURS
   pub border : IsAsLongAsBorder p.board p.border
   pub mating : IsMating p.mating
+  pub shapes : IsShape p.board → p.mating.version ≡ 2
 
 -- the puzzle of a board and tiles
 abbrev pub task_of : Figure → Bool → Border → Mating → List Tile → Task
 task_of board turns border mating tiles =
     record { board = board; turns = turns; border = rule_of border; mating = mating; words = map word tiles }
+
+-- the mates of a puzzle that is made without a list of them: a shape wants version 2
+abbrev pub mating_for : Figure → Mating
+mating_for (Rectangle width height) = unmated
+mating_for (Triangle size) = unmated
+mating_for (Hexagon size) = unmated
+mating_for (Shape width height mask) = mated []
+
+-- the puzzle of version 2 with the same mates, a shape in place of a rectangle, and otherwise the same
+abbrev pub second_form_of : Task → Task
+second_form_of p = record {
+  board = second_figure p.board;
+  turns = p.turns;
+  border = p.border;
+  mating = mated p.mating.mates;
+  words = p.words;
+}
 
 -- The rule asks for the colour on the border pair with this number, in border order.
 abbrev pub AsksAt : BorderRule → (number colour : ℕ) → Type 0

@@ -191,9 +191,9 @@ impl Border {
     }
 
     // Whether a list of rules has one for each border pair.
-    pub(crate) fn is_as_long_as(&self, board: Board) -> bool
-        ensures { MatchBool result (IsAsLongAsBorder board (rule_of self.now))
-            (IsAsLongAsBorder board (rule_of self.now) → ⊥) }
+    pub(crate) fn is_as_long_as(&self, board: &Board) -> bool
+        ensures { MatchBool result (IsAsLongAsBorder board.now (rule_of self.now))
+            (IsAsLongAsBorder board.now (rule_of self.now) → ⊥) }
     {
         match self {
             Border::Free | Border::One(_) => true,

@@ -12,7 +12,7 @@ ghost use Rattle.match_puzzle.specs.Fitting.{Fits, AreFitting, AreAsAsked, IsIte
 
 use crate::fitting_pairs::FittingPairs;
 use crate::items::Item;
-use crate::number_sets::NumberSet;
+use crate::number_sets::{FixedSet, NumberSet};
 use crate::partials::Partial;
 use crate::placements::{Pair, Placement};
 use crate::puzzles::Puzzle;
@@ -88,7 +88,7 @@ impl<'a> Partial<'a> {
     }
 
     // The placements that show what is asked on the side of the cell, by number; all where there is no such side.
-    fn as_asked(&self, cell: u16, side: u8) -> &NumberSet
+    fn as_asked(&self, cell: u16, side: u8) -> &FixedSet
         requires cell { cell < cell_count self.now.puzzle.board }
         requires side { side < 4 }
         ensures { AreAsAsked self.now.puzzle self.now.placed cell side result.now }

@@ -3,6 +3,7 @@
 use crate::items::Item;
 use crate::number_sets::NumberSet;
 use crate::placements::{Pair, Placement};
+use match_board::limits::MOST_CHILDREN;
 use std::marker::Model;
 
 /// Pairs that settle one item, each of which can be placed: those that were not yet taken, in the item's order, at a
@@ -25,7 +26,7 @@ impl Model for FittingPairs {
 }
 
 impl FittingPairs {
-    ghost use Rattle.std.specs.Prelude.{◌≡◌, ◌∷◌, [], MatchOption, length, map};
+    ghost use Rattle.std.specs.Prelude.{◌≡◌, ◌≤◌, ◌∷◌, [], MatchOption, length, map};
     ghost use Rattle.match_puzzle.specs.Fitting.{numbered_pair};
 
     // The pairs with these numbers.
@@ -35,9 +36,10 @@ impl FittingPairs {
         FittingPairs { item, numbers }
     }
 
-    /// How many pairs are left.
+    /// How many pairs are left, at most 1,024: four turns for each of 256 tiles or cells.
     pub fn len(&self) -> u16
-        ensures { result ≡ length self.now }
+        ensures count { result ≡ length self.now }
+        ensures few { result ≤ MOST_CHILDREN }
     {
         self.numbers.len()
     }

@@ -23,7 +23,7 @@ pub use borders::{Border, BorderRules};
 pub use faults::{ArrangementFault, PrefixFault, PuzzleFault};
 pub use fitting_pairs::FittingPairs;
 pub use items::Item;
-pub use laws::colours_go_together;
+pub use laws::{colours_go_together, second_form_is_alike};
 pub use partials::Partial;
 pub use placements::{Pair, Placement};
 pub use puzzles::Puzzle;

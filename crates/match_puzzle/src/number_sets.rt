@@ -10,7 +10,7 @@ use match_board::limits::MOST_TILES;
 use std::marker::Model;
 
 /// How many words a set has.
-const WORDS: usize = 7;
+const WORDS: usize = 16;
 
 /// How many bits a word has.
 const WORD_BITS: u16 = 64;
@@ -47,6 +47,25 @@ impl Model for NumberSet {
     ghost invariant = { λ s. AreWordsOfSet s.words s.end };
 }
 
+/// A set that is kept as it is. It goes without its end: sets of 128 bytes are found in a table by a shift.
+#[derive(Drop)]
+pub(crate) struct FixedSet {
+    words: [u64; WORDS],
+}
+
+impl Model for FixedSet {
+    ghost use Rattle.std.specs.Prelude.{ℕ, List};
+    ghost use Rattle.match_puzzle.specs.declared.number_sets.TheConstants.{WORDS};
+
+    ghost Value = { List ℕ };
+
+    ghost use Rattle.match_puzzle.specs.NumberSets.{members, AreWordsOfSet};
+
+    ghost view = { λ s. members s.words };
+
+    ghost invariant = { λ s. AreWordsOfSet s.words WORDS };
+}
+
 impl NumberSet {
     /// No number.
     pub(crate) fn new() -> NumberSet
@@ -68,9 +87,17 @@ impl NumberSet {
         }
     }
 
+    /// The same numbers, to be kept as they are.
+    pub(crate) fn fixed(&self) -> FixedSet
+        ensures { result ≡ self.now }
+    {
+        FixedSet { words: self.words }
+    }
+
     /// How many numbers there are.
     pub(crate) fn len(&self) -> u16
-        ensures { result ≡ length self.now }
+        ensures count { result ≡ length self.now }
+        ensures few { result ≤ NUMBERS }
     {
         let mut count = 0;
         for word in &self.words[..self.end] {
@@ -96,25 +123,27 @@ impl NumberSet {
 
     /// The numbers that are in this set and in each of four others.
     ///
-    /// Each word is made at once, so that a set is written and not read again on the way; all of them are, since a loop
-    /// that goes to an end known beforehand is faster.
+    /// Each word is made at once, so that a set is written and not read again on the way; four go together, up to the
+    /// last one that is looked at, since loops that go to an end known beforehand are faster.
     pub(crate) fn common(
         &self,
-        first: &NumberSet,
-        second: &NumberSet,
-        third: &NumberSet,
-        fourth: &NumberSet,
+        first: &FixedSet,
+        second: &FixedSet,
+        third: &FixedSet,
+        fourth: &FixedSet,
     ) -> NumberSet
         ensures { IsListing ◌<◌ (λ n. Contains self.now n × Contains first.now n × Contains second.now n
             × Contains third.now n × Contains fourth.now n) result }
     {
         let mut words = [0; WORDS];
-        for i in 0..WORDS {
-            words[i] = self.words[i]
-                & first.words[i]
-                & second.words[i]
-                & third.words[i]
-                & fourth.words[i];
+        for block in 0..(self.end + 3) / 4 {
+            for i in 4 * block..4 * block + 4 {
+                words[i] = self.words[i]
+                    & first.words[i]
+                    & second.words[i]
+                    & third.words[i]
+                    & fourth.words[i];
+            }
         }
         NumberSet {
             words,
@@ -125,10 +154,10 @@ impl NumberSet {
     /// Which numbers of the group are in this set and in each of four others: the first by the lowest bit.
     pub(crate) fn common_group(
         &self,
-        first: &NumberSet,
-        second: &NumberSet,
-        third: &NumberSet,
-        fourth: &NumberSet,
+        first: &FixedSet,
+        second: &FixedSet,
+        third: &FixedSet,
+        fourth: &FixedSet,
         group: u16,
     ) -> u8
         requires { group < GROUPS }

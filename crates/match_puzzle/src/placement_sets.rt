@@ -8,7 +8,7 @@ ghost use Rattle.match_puzzle.specs.PlacementSets.{Shows, AreShowing, AreShowing
 ghost use Rattle.match_puzzle.specs.PlacementSets.{AreColoursAfter, AreShownColours, AreMatesShown};
 
 use crate::mates::mates_table;
-use crate::number_sets::NumberSet;
+use crate::number_sets::{FixedSet, NumberSet};
 use match_board::Tile;
 use match_board::limits::{MOST_COLOURS, MOST_TILES};
 use std::alloc::{AllocError, Global};
@@ -20,7 +20,7 @@ pub(crate) struct PlacementSets {
     pub(crate) legal: NumberSet,
     /// For each colour, and for `ANY_COLOUR`, and each of four sides, those that show it there: of colour c on side k
     /// at 4 c + k.
-    pub(crate) showing: Vec<NumberSet>,
+    pub(crate) showing: Vec<FixedSet>,
     /// What each placement shows, by number: the colour on each side, and `ANY_COLOUR` on a fourth that isn't there.
     pub(crate) shown: Vec<[u8; 4]>,
     /// What each placement asks of those that it meets, by number: the mate of the colour on each side.
@@ -54,14 +54,14 @@ fn colours_after(tile: &Tile, turn: u8) -> [u8; 4]
 }
 
 // For each colour, and for any, and each of four sides the placements that show it there.
-fn showing_sets(alloc: Global, tiles: &[Tile]) -> Result<Vec<NumberSet>, AllocError>
+fn showing_sets(alloc: Global, tiles: &[Tile]) -> Result<Vec<FixedSet>, AllocError>
     requires { length tiles.now ≤ MOST_TILES }
     ensures { IfOk result (λ v. AreShowingSets (map word tiles.now) v.items) }
 {
     let places = 4 * (ANY_COLOUR + 1);
     let mut sets = Vec::with_capacity(alloc, usize::from(places))?;
     for place in 0..places {
-        sets.push(showing_set(tiles, place / 4, place % 4))?;
+        sets.push(showing_set(tiles, place / 4, place % 4).fixed())?;
     }
     Ok(sets)
 }

@@ -2,22 +2,22 @@
 
 ghost use Rattle.std.specs.Prelude.{◌≡◌, ◌≢◌, ◌<◌, ◌≤◌, ◌↔◌, ◌^◌, ℕ, IfOk, IfErr, IsErrOf, IfSome, IsTrue, MatchOption};
 ghost use Rattle.std.specs.Prelude.{Some, length, map, []};
-ghost use Rattle.match_board.specs.Board.{cell_count, side_count, Meets};
+ghost use Rattle.match_board.specs.Board.{cell_count, side_count, IsShape, Meets};
 ghost use Rattle.match_board.specs.First.{IsFirst};
-ghost use Rattle.match_puzzle.specs.Mates.{IsOfVersion, mating_of, unmated, mated};
-ghost use Rattle.match_puzzle.specs.Puzzle.{Task, task_of, rule_of, IsPuzzle, IsShortRule};
+ghost use Rattle.match_puzzle.specs.Mates.{IsOfVersion, mating_of, mated};
+ghost use Rattle.match_puzzle.specs.Puzzle.{Task, task_of, rule_of, mating_for, second_form_of, IsPuzzle, IsShortRule};
 ghost use Rattle.match_puzzle.specs.PuzzleFaults.{PuzzleFails, puzzle_rank};
 
 use crate::borders::Border;
 use crate::faults::PuzzleFault;
 use crate::mates::{broken_mate, mate_in};
-use crate::number_sets::NumberSet;
+use crate::number_sets::{FixedSet, NumberSet};
 use crate::placement_sets::{ANY_COLOUR, PlacementSets};
 use crate::placements::Placement;
 use crate::tables::{CellSides, Side, colour_count, odd_tile, sides_table, turn_counts};
 use match_board::limits::MOST_COLOURS;
-use match_board::{Board, Tile};
-use std::alloc::Global;
+use match_board::{Board, Figure, Tile};
+use std::alloc::{AllocError, Global};
 use std::marker::Model;
 
 /// A board to be filled with tiles, each once, so that of two sides that meet the one shows the mate of what the other
@@ -61,7 +61,8 @@ impl Puzzle {
     ghost use Rattle.match_puzzle.specs.PlacementSets.{AreLegalNumbers, AreUnturnedLegal, AreShowing, ShowsColours};
     ghost use Rattle.match_puzzle.specs.PlacementSets.{AsksColours};
 
-    /// The puzzle of this board and these tiles, where tiles may be turned or not.
+    /// The puzzle of this board and these tiles, where tiles may be turned or not: of version 1, or of version 2 with
+    /// no mates where the board is a shape.
     ///
     /// An `Err` is the first fault in the order of [`PuzzleFault`], with its least tile or place; `Memory` comes last.
     pub fn new(
@@ -73,13 +74,15 @@ impl Puzzle {
     ) -> Result<Puzzle, PuzzleFault>
         requires tiles { length tiles.now < 2 ^ 32 }
         requires border { IsShortRule (rule_of border.now) }
-        ensures puzzle { IfOk result (λ p. (p ≡ task_of board turns border.now unmated tiles.now) × IsPuzzle p) }
+        ensures puzzle { IfOk result
+            (λ p. (p ≡ task_of board turns border.now (mating_for board) tiles.now) × IsPuzzle p) }
         ensures fault { IfErr result (λ f. f ≢ PuzzleFault.Memory
-            → IsFirst puzzle_rank (PuzzleFails (task_of board turns border.now unmated tiles.now)) f) }
+            → IsFirst puzzle_rank (PuzzleFails (task_of board turns border.now (mating_for board) tiles.now)) f) }
         ensures memory { IsErrOf result PuzzleFault.Memory
-            → IsPuzzle (task_of board turns border.now unmated tiles.now) }
+            → IsPuzzle (task_of board turns border.now (mating_for board) tiles.now) }
     {
-        Puzzle::make(alloc, board, turns, border, 1, &[], tiles)
+        let version = version_for(&board);
+        Puzzle::make(alloc, board, turns, border, version, &[], tiles)
     }
 
     /// The puzzle of version 2 of this board and these tiles, where colours have the mates of this list.
@@ -106,6 +109,25 @@ impl Puzzle {
         Puzzle::make(alloc, board, turns, border, 2, mates, tiles)
     }
 
+    /// The puzzle of version 2 with the same turns, border, mates and tiles, and a rectangle as the shape with all of
+    /// its cells. It has the same arrangements. An `Err` comes where memory runs out.
+    pub fn second_form(&self, alloc: Global) -> Result<Puzzle, AllocError>
+        ensures form { IfOk result (λ p. (p ≡ second_form_of self.now) × IsPuzzle p) }
+        ensures puzzle { IsPuzzle self.now }
+    {
+        let board = self.board.second_form();
+        let turns = self.turns;
+        Puzzle::from_parts(
+            alloc,
+            board,
+            turns,
+            &self.border,
+            2,
+            &self.mates,
+            &self.tiles,
+        )
+    }
+
     // The puzzle of this version.
     fn make(
         alloc: Global,
@@ -120,6 +142,7 @@ impl Puzzle {
         requires border { IsShortRule (rule_of border.now) }
         requires mates { length mates.now < 2 ^ 32 }
         requires version { IsOfVersion (mating_of version mates.now) }
+        requires shapes { IsShape board → version ≡ 2 }
         ensures puzzle { IfOk result (λ p. (p ≡ task_of board turns border.now
             (mating_of version mates.now) tiles.now) × IsPuzzle p) }
         ensures fault { IfErr result (λ f. f ≢ PuzzleFault.Memory
@@ -128,10 +151,28 @@ impl Puzzle {
         ensures memory { IsErrOf result PuzzleFault.Memory
             → IsPuzzle (task_of board turns border.now (mating_of version mates.now) tiles.now) }
     {
-        if let Some(fault) = puzzle_fault(board, turns, border, version, mates, tiles) {
+        if let Some(fault) = puzzle_fault(&board, turns, border, version, mates, tiles) {
             return Err(fault);
         }
-        let sides = sides_table(alloc, board, border)?;
+        let puzzle = Puzzle::from_parts(alloc, board, turns, border, version, mates, tiles)?;
+        Ok(puzzle)
+    }
+
+    // The puzzle of these parts, of which nothing is wrong.
+    fn from_parts(
+        alloc: Global,
+        board: Board,
+        turns: bool,
+        border: &Border,
+        version: u8,
+        mates: &[u8],
+        tiles: &[Tile],
+    ) -> Result<Puzzle, AllocError>
+        requires { IsPuzzle (task_of board turns border.now (mating_of version mates.now) tiles.now) }
+        ensures { IfOk result (λ p. (p ≡ task_of board turns border.now
+            (mating_of version mates.now) tiles.now) × IsPuzzle p) }
+    {
+        let sides = sides_table(alloc, &board, border)?;
         let turn_counts = turn_counts(alloc, turns, tiles)?;
         let colours = colour_count(border, mates, tiles);
         let sets = PlacementSets::new(alloc, tiles, &turn_counts, mates)?;
@@ -153,11 +194,11 @@ impl Puzzle {
     }
 
     /// The board.
-    pub fn board(&self) -> Board
-        ensures value { result ≡ self.now.board }
+    pub fn board(&self) -> &Board
+        ensures value { result.now ≡ self.now.board }
         ensures puzzle { IsPuzzle self.now }
     {
-        self.board
+        &self.board
     }
 
     /// Whether tiles may be turned.
@@ -174,7 +215,7 @@ impl Puzzle {
         &self.border
     }
 
-    /// 1, or 2 where colours have mates by a list.
+    /// 1, or 2 where colours have mates by a list or the board is a shape.
     pub fn version(&self) -> u8
         ensures version { result ≡ self.now.mating.version }
         ensures two { IsOfVersion self.now.mating }
@@ -284,7 +325,7 @@ impl Puzzle {
     }
 
     // The placements that show on the side what is asked, by number.
-    pub(crate) fn showing(&self, asked: u8, side: u8) -> &NumberSet
+    pub(crate) fn showing(&self, asked: u8, side: u8) -> &FixedSet
         requires asked { asked ≤ ANY_COLOUR }
         requires side { side < 4 }
         ensures { AreShowing self.now.words asked side result.now }
@@ -330,9 +371,19 @@ impl Puzzle {
     }
 }
 
+// The version of a puzzle that is made without a list of mates.
+fn version_for(board: &Board) -> u8
+    ensures { result ≡ (mating_for board.now).version }
+{
+    match board.figure() {
+        Figure::Rectangle { .. } | Figure::Triangle { .. } | Figure::Hexagon { .. } => 1,
+        Figure::Shape { .. } => 2,
+    }
+}
+
 // What is wrong with the puzzle of this board, these mates and these tiles.
 fn puzzle_fault(
-    board: Board,
+    board: &Board,
     turns: bool,
     border: &Border,
     version: u8,
@@ -343,10 +394,11 @@ fn puzzle_fault(
     requires border { IsShortRule (rule_of border.now) }
     requires mates { length mates.now < 2 ^ 32 }
     requires version { IsOfVersion (mating_of version mates.now) }
+    requires shapes { IsShape board.now → version ≡ 2 }
     ensures { MatchOption result
-        (IsPuzzle (task_of board turns border.now (mating_of version mates.now) tiles.now))
+        (IsPuzzle (task_of board.now turns border.now (mating_of version mates.now) tiles.now))
         (IsFirst puzzle_rank (PuzzleFails
-        (task_of board turns border.now (mating_of version mates.now) tiles.now))) }
+        (task_of board.now turns border.now (mating_of version mates.now) tiles.now))) }
 {
     if board.sides() == 3 && !turns {
         return Some(PuzzleFault::FixedTriangles);

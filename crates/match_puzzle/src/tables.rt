@@ -2,7 +2,7 @@
 
 ghost use Rattle.std.specs.Prelude.{◌≡◌, ◌≢◌, ◌<◌, ◌≤◌, ◌+◌, ◌^◌, ℕ, Bool, List, IfOk, MatchOption, MatchBool};
 ghost use Rattle.std.specs.Prelude.{Contains, None, Some, [], length, map, slice_get, slice_index_or};
-ghost use Rattle.match_board.specs.Board.{cell_count, side_count};
+ghost use Rattle.match_board.specs.Board.{cell_count, side_count, IsBoard};
 ghost use Rattle.match_board.specs.declared.figures.Figure.{Figure};
 ghost use Rattle.match_board.specs.First.{IsLeast};
 ghost use Rattle.match_board.specs.Tile.{word};
@@ -46,13 +46,13 @@ pub(crate) const FIRST_PLACE: usize = ANY_COLOUR as usize + 1;
 /// The sides of each cell.
 pub(crate) fn sides_table(
     alloc: Global,
-    board: Board,
+    board: &Board,
     border: &Border,
 ) -> Result<Vec<CellSides>, AllocError>
-    requires { IsAsLongAsBorder board (rule_of border.now) }
+    requires { IsAsLongAsBorder board.now (rule_of border.now) }
     ensures { IfOk result
         (λ v. (turns : Bool) (mating : Mating) (tiles : List BoardTile)
-        → AreSides (task_of board turns border.now mating tiles) v.items) }
+        → AreSides (task_of board.now turns border.now mating tiles) v.items) }
 {
     let mut table = Vec::with_capacity(alloc, usize::from(board.cells()))?;
     let mut number = 0;
@@ -64,17 +64,18 @@ pub(crate) fn sides_table(
 }
 
 // The sides of a cell; the number is that of the next border pair.
-fn cell_sides(board: Board, border: &Border, cell: u16, number: &mut u16) -> CellSides
-    requires cell { cell < cell_count board }
-    requires border { IsAsLongAsBorder board (rule_of border.now) }
-    requires number { IsNextNumber board (cell, 0) number.old }
+fn cell_sides(board: &Board, border: &Border, cell: u16, number: &mut u16) -> CellSides
+    requires board { IsBoard board.now }
+    requires cell { cell < cell_count board.now }
+    requires border { IsAsLongAsBorder board.now (rule_of border.now) }
+    requires number { IsNextNumber board.now (cell, 0) number.old }
     ensures sides { (turns : Bool) (mating : Mating) (tiles : List BoardTile) (side : ℕ) (x : Side)
-        → side < side_count board → slice_get result.sides side ≡ Some x
-        → IsSide (task_of board turns border.now mating tiles) cell side x }
-    ensures outside { (side : ℕ) → side_count board ≤ side → side < 4
+        → side < side_count board.now → slice_get result.sides side ≡ Some x
+        → IsSide (task_of board.now turns border.now mating tiles) cell side x }
+    ensures outside { (side : ℕ) → side_count board.now ≤ side → side < 4
         → slice_get result.sides side ≡ Some (sides.Border None) }
     ensures asked { AreAskedAt result.sides result.asked_at }
-    ensures number { IsNextNumber board (cell + 1, 0) number.new }
+    ensures number { IsNextNumber board.now (cell + 1, 0) number.new }
 {
     let mut sides = [Side::Border(None); 4];
     for side in 0..board.sides() {
@@ -110,14 +111,15 @@ fn asked_place(side: Side) -> usize
 }
 
 // What a side of a cell is; the number is that of the next border pair.
-fn side_at(board: Board, border: &Border, cell: u16, side: u8, number: &mut u16) -> Side
-    requires cell { cell < cell_count board }
-    requires side { side < side_count board }
-    requires border { IsAsLongAsBorder board (rule_of border.now) }
-    requires number { IsNextNumber board (cell, side) number.old }
+fn side_at(board: &Board, border: &Border, cell: u16, side: u8, number: &mut u16) -> Side
+    requires board { IsBoard board.now }
+    requires cell { cell < cell_count board.now }
+    requires side { side < side_count board.now }
+    requires border { IsAsLongAsBorder board.now (rule_of border.now) }
+    requires number { IsNextNumber board.now (cell, side) number.old }
     ensures side { (turns : Bool) (mating : Mating) (tiles : List BoardTile)
-        → IsSide (task_of board turns border.now mating tiles) cell side result }
-    ensures number { IsNextNumber board (cell, side + 1) number.new }
+        → IsSide (task_of board.now turns border.now mating tiles) cell side result }
+    ensures number { IsNextNumber board.now (cell, side + 1) number.new }
 {
     match board.meets(cell, side) {
         Some((cell, side)) => Side::Edge { cell, side },
@@ -194,13 +196,13 @@ fn tile_colour_count(tile: &Tile) -> u8
 }
 
 /// The first tile that does not have as many sides as a cell.
-pub(crate) fn odd_tile(board: Board, tiles: &[Tile]) -> Option<u32>
+pub(crate) fn odd_tile(board: &Board, tiles: &[Tile]) -> Option<u32>
     requires { length tiles.now < 2 ^ 32 }
     ensures { MatchOption result
         ((tile : ℕ) → tile < length (map word tiles.now)
-        → length (slice_index_or (map word tiles.now) tile []) ≡ side_count board)
+        → length (slice_index_or (map word tiles.now) tile []) ≡ side_count board.now)
         (IsLeast (λ tile. (tile < length (map word tiles.now))
-        × (length (slice_index_or (map word tiles.now) tile []) ≢ side_count board))) }
+        × (length (slice_index_or (map word tiles.now) tile []) ≢ side_count board.now))) }
 {
     for (number, tile) in tiles.iter().enumerate() {
         if tile.sides() != board.sides() {

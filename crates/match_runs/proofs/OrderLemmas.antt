@@ -1,10 +1,15 @@
 -- What files held, by what came of them.
-use Rattle.std.proofs.Common.{◌≡◌, ◌∙◌, ◌++◌, ℕ, Bool, List, Option, Some, None, refl, ap, subst}
+use Rattle.std.proofs.Common.{◌≡◌, ◌∙◌, ◌++◌, ℕ, Bool, List, Option, Some, None, Err, refl, ap, subst}
 use Rattle.std.proofs.lemmas.List.{append-nil}
 use Rattle.std.specs.Io.KnownBytes.{Consumes, IsAtEnd}
 use Rattle.match_runs.specs.Files.{HoldsText, LeavesAll}
-use Rattle.match_runs.specs.OrderRuns.{code_of}
+use Rattle.match_runs.specs.Documents.{Texts}
+use Rattle.match_runs.specs.Moves.{WritesFront, Writing}
+use Rattle.match_runs.specs.OrderRuns.{code_of, ComesOfTexts, StopsChecking, StopsExpanding}
+use Rattle.match_runs.specs.Runs.{CheckGives, ExpansionGives, IsOfChecking, IsOfDocuments, IsOfExpanding, RunGives, SpellTooMany}
 use Rattle.match_runs.specs.Streams.{GivesWhole}
+use Rattle.match_runs.specs.declared.faults.RunFault.{RunFault}
+use Rattle.match_runs.specs.declared.faults.RunFault.TheVariants as runs
 use Rattle.match_runs.specs.declared.runs.Status.{Status}
 use Rattle.match_runs.specs.declared.runs.Status.TheVariants as status
 
@@ -23,3 +28,28 @@ holds_text (Some bytes) left after ended text leaves whole =
 pub code_complete : (s : Status) → code_of s ≡ 0 → s ≡ status.Complete
 code_complete status.Complete e = refl
 code_complete status.Refused e = absurd cc
+
+-- What a fault of a check says of the texts, by what its run says of each kind of fault.
+pub stops_checking : (output : Writing) (Hold : (Texts → Type 0) → Type 0) (fault : RunFault) → IsOfChecking fault
+    → (IsOfDocuments fault → Hold (λ texts. RunGives texts (Err fault)))
+    → (fault ≡ runs.Write → Hold (λ texts. WritesFront output (λ text. (ends : Status) × CheckGives texts text ends)))
+    → ComesOfTexts fault → Hold (StopsChecking output fault)
+stops_checking output Hold (runs.Puzzle fault) kind document write comes = document tt
+stops_checking output Hold (runs.List fault) kind document write comes = document tt
+stops_checking output Hold (runs.Certificate fault) kind document write comes = document tt
+stops_checking output Hold runs.Write kind document write comes = write refl
+stops_checking output Hold runs.Expand kind document write comes = absurd kind
+stops_checking output Hold _ kind document write comes = absurd comes
+
+-- The same of an expansion.
+pub stops_expanding : (output : Writing) (Hold : (Texts → Type 0) → Type 0) (fault : RunFault) → IsOfExpanding fault
+    → (IsOfDocuments fault → Hold (λ texts. RunGives texts (Err fault)))
+    → (fault ≡ runs.Expand → Hold SpellTooMany)
+    → (fault ≡ runs.Write → Hold (λ texts. WritesFront output (λ text. (ends : Status) × ExpansionGives texts text ends)))
+    → ComesOfTexts fault → Hold (StopsExpanding output fault)
+stops_expanding output Hold (runs.Puzzle fault) kind document expand write comes = document tt
+stops_expanding output Hold (runs.List fault) kind document expand write comes = document tt
+stops_expanding output Hold (runs.Certificate fault) kind document expand write comes = document tt
+stops_expanding output Hold runs.Write kind document expand write comes = write refl
+stops_expanding output Hold runs.Expand kind document expand write comes = expand refl
+stops_expanding output Hold _ kind document expand write comes = absurd comes

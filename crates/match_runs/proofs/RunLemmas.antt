@@ -15,6 +15,7 @@ use Rattle.puzzle_symmetry.specs.declared.faults.SymmetryFault.TheVariants as sy
 use Rattle.puzzle_symmetry.proofs.FaultLemmas.{few_colours}
 use Rattle.puzzle_symmetry.proofs.Reaching.{reached_is}
 use Rattle.match_text.specs.ListSpelling.{IsPlacementWithin, IsRowWithin, IsListWithin}
+use Rattle.match_text.specs.declared.ranges.TheConstants.{SECOND}
 use Rattle.match_text.specs.declared.faults.TextFault.{TextFault}
 use Rattle.cert_tree.specs.Certificate.{Contents, Piece}
 use Rattle.cert_tree.specs.CertificateText.{Said, Makes, CertificateGives}
@@ -73,18 +74,18 @@ all_by_place P [] each = tt
 all_by_place P (x ∷ xs) each = (each 0 x refl, all_by_place P xs (λ i y at. each (suc i) y at))
 
 -- an arrangement has a spelling
-row_within : (p : Task) (a : List Placement) → IsPuzzle p → IsArrangement p a → IsRowWithin a
+row_within : (p : Task) (a : List Placement) → IsPuzzle p → IsArrangement p a → IsRowWithin SECOND a
 row_within p a puzzle is = (
-  omega (arith, is.cells, puzzle.board.0),
-  omega (arith, is.cells, puzzle.board.1),
-  all_by_place IsPlacementWithin a (λ cell x at.
+  omega (arith, is.cells, puzzle.board.some),
+  omega (arith, is.cells, puzzle.board.most),
+  all_by_place (IsPlacementWithin SECOND) a (λ cell x at.
       let legal = is.legal cell x at in
-      (omega (arith, legal.tile, puzzle.tiles, puzzle.board.1), omega (arith, small_turn p x puzzle legal))),
+      (omega (arith, legal.tile, puzzle.tiles, puzzle.board.most), omega (arith, small_turn p x puzzle legal))),
 )
 
 -- arrangements that are few enough have a spelling
-pub arrangements_within : (p : Task) (listed : List (List Placement)) → IsPuzzle p → ((a : List Placement) → Contains listed a → IsArrangement p a) → length listed ≤ MOST_ARRANGEMENTS → IsListWithin listed
-arrangements_within p listed puzzle are few = (few, all_by_place IsRowWithin listed (λ i a at. row_within p a puzzle (are a (contains_at listed i a at))))
+pub arrangements_within : (p : Task) (listed : List (List Placement)) → IsPuzzle p → ((a : List Placement) → Contains listed a → IsArrangement p a) → length listed ≤ MOST_ARRANGEMENTS → IsListWithin SECOND listed
+arrangements_within p listed puzzle are few = (few, all_by_place (IsRowWithin SECOND) listed (λ i a at. row_within p a puzzle (are a (contains_at listed i a at))))
 
 -- the lines of the symmetries with these lines
 lines_of : (p : Task) (lines : List SymmetryLine) → map line_of (map (motion_of p) lines) ≡ lines
@@ -137,7 +138,7 @@ module _ (p : Task) (listed : List (List Placement)) (lines : List SymmetryLine)
     are_arrangements : (a : List Placement) → Contains all a → IsArrangement p a
     are_arrangements a among = reached_is p lines listed puzzle complete.symmetries listed_are a ((all_reached.just a).0 among)
 
-    pub all_within : length all ≤ MOST_ARRANGEMENTS → IsListWithin all
+    pub all_within : length all ≤ MOST_ARRANGEMENTS → IsListWithin SECOND all
     all_within few = arrangements_within p all puzzle are_arrangements few
 
     pub all_in_order : length all ≤ MOST_ARRANGEMENTS → (lemmas : List Piece) → AreAllInOrder (record { puzzle = p; listed = listed; symmetries = lines; lemmas = lemmas }) all

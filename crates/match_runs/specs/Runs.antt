@@ -9,7 +9,8 @@ use Rattle.puzzle_symmetry.specs.Motion.{Motion}
 use Rattle.puzzle_symmetry.specs.declared.lines.SymmetryLine.{SymmetryLine}
 use Rattle.match_text.specs.Puzzles.{PuzzleReads}
 use Rattle.match_text.specs.Lists.{list_of}
-use Rattle.match_text.specs.ListSpelling.{list_spelling}
+use Rattle.match_text.specs.ListSpelling.{IsListWithin, list_spelling}
+use Rattle.match_text.specs.declared.ranges.TheConstants.{FIRST}
 use Rattle.match_text.specs.PuzzleSpelling.{tiles_spelling}
 use Rattle.match_text.specs.declared.faults.PuzzleTextFault.TheVariants as puzzles
 use Rattle.match_text.specs.declared.faults.ListTextFault.TheVariants as lists
@@ -102,6 +103,11 @@ CheckGives texts text ends =
 abbrev pub motion_of : Task → SymmetryLine → Motion
 motion_of p g = record { puzzle = p; line = g }
 
+-- The text is the list's: of version 1 where that has the numbers for it, else of version 2.
+pub record IsListText (rows : List (List Placement)) (text : List ℕ) : Type 0 where
+  pub first : IsListWithin FIRST rows → text ≡ list_spelling 1 rows
+  pub second : (IsListWithin FIRST rows → ⊥) → text ≡ list_spelling 2 rows
+
 -- These are all arrangements of the puzzle, each once, in the order of the closure of the list, and they can be listed.
 pub record AreAllInOrder (question : Question) (all : List (List Placement)) : Type 0 where
   pub expansion : IsExpansion (map (motion_of question.puzzle) question.symmetries) question.listed all
@@ -112,7 +118,7 @@ pub record AreAllInOrder (question : Question) (all : List (List Placement)) : T
 -- What is printed of what was asked: the answer where it is refused, and else the list of all arrangements.
 abbrev pub ExpansionPrints : Question → Answer → List ℕ → Type 0
 ExpansionPrints question Complete text =
-    (all : List (List Placement)) × AreAllInOrder question all × (text ≡ list_spelling all)
+    (all : List (List Placement)) × AreAllInOrder question all × IsListText all text
 ExpansionPrints question (Refused fault) text = text ≡ answer_line (Refused fault) (length question.listed)
 
 -- What an expansion on three documents prints, and the status that it ends with.

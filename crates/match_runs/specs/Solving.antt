@@ -5,10 +5,9 @@ use Rattle.std.specs.Io.KnownBytes.{Appends}
 use Rattle.match_puzzle.specs.Puzzle.{Task}
 use Rattle.match_puzzle.specs.declared.placements.Placement.{Placement}
 use Rattle.match_text.specs.Puzzles.{PuzzleReads}
-use Rattle.match_text.specs.ListSpelling.{list_spelling}
 use Rattle.match_text.specs.Spelling.{count_words, text_of}
 use Rattle.cert_tree.specs.Certificate.{Contents}
-use Rattle.cert_tree.specs.CertificateSpelling.{certificate_spelling}
+use Rattle.cert_tree.specs.CertificateSpelling.{IsCertificateWithin, certificate_spelling}
 use Rattle.cert_tree.specs.Writing.{said_by}
 use Rattle.match_report.specs.BoardText.{board_text}
 use Rattle.match_report.specs.TallyText.{tally_text}
@@ -16,6 +15,7 @@ use Rattle.match_text.specs.declared.faults.PuzzleTextFault.TheVariants as puzzl
 use Rattle.xcc_form.specs.Options.{HasTooManyEntries}
 use Rattle.match_crew.specs.Solving.{IsSolvedBy}
 use Rattle.match_crew.specs.declared.faults.SolveFault.TheVariants as solves
+use Rattle.match_runs.specs.Runs.{IsListText}
 use Rattle.match_runs.specs.Moves.{FailsToRead, FrontOf, Reading, ReadsAtMost, ReadsPast, ReadsWhole, Writing}
 use Rattle.match_runs.specs.declared.faults.Document.TheVariants as documents
 use Rattle.match_runs.specs.declared.faults.RunFault.{RunFault}
@@ -48,6 +48,11 @@ pub record Products : Type 0 where
   pub certificate : List ℕ
   pub report : List ℕ
 
+-- The text is the certificate's: of version 1 where that has the numbers for it, else of version 2.
+pub record IsCertificateText (c : Contents) (text : List ℕ) : Type 0 where
+  pub first : IsCertificateWithin (said_by 1 c) → text ≡ certificate_spelling (said_by 1 c)
+  pub second : (IsCertificateWithin (said_by 1 c) → ⊥) → text ≡ certificate_spelling (said_by 2 c)
+
 -- The text spells a puzzle, and this is made of it by so many workers: the spellings of arrangements of it and of a
 -- certificate, and the report on them.
 pub record SolveGives (workers : ℕ) (text : List ℕ) (made : Products) : Type 0 where
@@ -57,8 +62,8 @@ pub record SolveGives (workers : ℕ) (text : List ℕ) (made : Products) : Type
   pub tally : List (Vec ℕ Global)
   pub contents : Contents
   pub solved : IsSolvedBy puzzle workers listed tally contents
-  pub list_text : made.list ≡ list_spelling listed
-  pub certificate_text : made.certificate ≡ certificate_spelling (said_by contents)
+  pub list_text : IsListText listed made.list
+  pub certificate_text : IsCertificateText contents made.certificate
   pub report : made.report ≡ report_text puzzle listed (length contents.lemmas) (shares_of tally)
 
 -- ---- writing

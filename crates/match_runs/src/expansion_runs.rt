@@ -3,14 +3,13 @@
 ghost use Rattle.std.specs.Prelude.{◌≡◌, ◌≢◌, ◌⊎◌, List, Err, IfOk, IfErr, IsErrOf};
 ghost use Rattle.match_puzzle.specs.Puzzle.{IsPuzzle};
 ghost use Rattle.match_puzzle.specs.declared.placements.Placement.{Placement};
-ghost use Rattle.match_text.specs.ListSpelling.{list_spelling};
 ghost use Rattle.cert_check.specs.Setting.{question_of};
 ghost use Rattle.cert_check.specs.Answer.{IsCompleteList};
 ghost use Rattle.match_report.specs.Expansion.{AreMoreReached};
 ghost use Rattle.match_runs.specs.Moves.{WritesFront, WritesWhole, reading_of, writing_of};
 ghost use Rattle.match_runs.specs.Runs.{IsOfDocuments, IsOfExpanding, IsOfPrinting};
 ghost use Rattle.match_runs.specs.Runs.{AreShort, ReadToEnds, StopsReading, texts_of};
-ghost use Rattle.match_runs.specs.Runs.{AreAllInOrder, ExpansionGives, RunGives, SpellTooMany};
+ghost use Rattle.match_runs.specs.Runs.{AreAllInOrder, IsListText, ExpansionGives, RunGives, SpellTooMany};
 
 use crate::faults::{Document, RunFault};
 use crate::questions::{Question, read_question};
@@ -153,7 +152,7 @@ fn all_text<R: RandomSource>(
         question.now.listed.items }
     ensures all { IfOk result (λ text. (all : List (List Placement))
         × AreAllInOrder (question_of question.now.puzzle question.now.listed.items question.now.certificate) all
-        × (text.items ≡ list_spelling all)) }
+        × IsListText all text.items) }
     ensures expand { IsErrOf result RunFault.Expand
         → AreMoreReached MOST_ARRANGEMENTS question.now.puzzle question.now.certificate.symmetries
         question.now.listed.items }

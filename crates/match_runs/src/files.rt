@@ -18,6 +18,8 @@ pub trait FileSystem {
 
     // what the file of a name holds, where that is known
     ghost holds: { Self → List ℕ → Option (List ℕ) };
+    // which writers are as the file of a name is just made
+    ghost makes: { Self → List ℕ → Self.Writer → Type 0 };
 
     /// The file of this name, opened, with nothing read of it.
     fn open(&self, name: &str) -> Result<Self::Reader, Failed>
@@ -27,6 +29,7 @@ pub trait FileSystem {
 
     /// A file of this name made anew, empty, whatever stood under it.
     fn make(&self, name: &str) -> Result<Self::Writer, Failed>
+        ensures made { IfOk result (makes self.now name.now) }
         ensures unwritten { IfOk result
             (λ writer. (Self.Writer.idle writer ≡ false) × (Self.Writer.errors writer ≡ 0)) };
 }
@@ -50,6 +53,8 @@ impl<R: Files> FileSystem for System<'_, R> {
     type Writer = Output<R::File>;
 
     ghost holds = { λ _ _. None };
+
+    ghost makes = { λ _ _ _. Unit {0} };
 
     fn open(&self, name: &str) -> Result<Input<R::File>, Failed> {
         match fs::open(self.runtime, name) {
@@ -85,6 +90,7 @@ pub fn open<S: FileSystem>(
 
 /// A file made anew, empty, whatever stood under its name. `Write` where it can't be made.
 pub fn make<S: FileSystem>(system: &S, name: &str) -> Result<S::Writer, RunFault>
+    ensures made { IfOk result (S.makes system.now name.now) }
     ensures unwritten { IfOk result (λ writer. (S.Writer.idle writer ≡ false) × (S.Writer.errors writer ≡ 0)) }
     ensures fault { IfErr result (λ fault. fault ≡ RunFault.Write) }
 {

@@ -1,11 +1,12 @@
 //! Runs of orders: over which files each runs, and the exit status.
 
 ghost use Rattle.std.specs.Prelude.{◌≡◌, ◌≢◌, ◌≤◌, ℕ, List, IfOk, IfErr, OnOk};
-ghost use Rattle.match_runs.specs.Files.{FilesHold, HoldsText, LeavesAll};
-ghost use Rattle.match_runs.specs.Moves.{WritesWhole, reading_of, writing_of};
+ghost use Rattle.match_runs.specs.Files.{FilesHold, HoldsText, LeavesAll, TakesWhole};
+ghost use Rattle.match_runs.specs.Moves.{reading_of, writing_of};
 ghost use Rattle.match_runs.specs.OrderRuns.{Checks, Expands, IsOfOrder, OrderGives, OrderShows, code_of, fault_code};
+ghost use Rattle.match_runs.specs.OrderRuns.{ComesOfTexts, OrderStops, Solves, StopsChecking, StopsExpanding};
 ghost use Rattle.match_runs.specs.Runs.{IsOfChecking, IsOfExpanding, SpellCompleteList};
-ghost use Rattle.match_runs.specs.Solving.{IsOfSolving, Products, SolveGives};
+ghost use Rattle.match_runs.specs.Solving.{IsOfPuzzle, IsOfSolving, SolveFails};
 ghost use Rattle.std.specs.String.{string_bytes};
 ghost use Rattle.command_words.specs.Orders.{IsInRange};
 
@@ -51,9 +52,13 @@ pub fn run_order<S: FileSystem, I: Source, W: Sink, R: Threads + Wait + Sync + R
     output: &mut W,
 ) -> Result<u8, RunFault>
     requires { IsInRange order.now }
-    ensures given { IfOk result (OrderGives (S.holds system.now) (reading_of I.Source input.old input.new)
-        (writing_of W.Sink output.old output.new) order.now) }
+    ensures given { IfOk result (OrderGives (S.holds system.now)
+        (λ name. TakesWhole S.Writer.Sink (S.makes system.now name))
+        (reading_of I.Source input.old input.new) (writing_of W.Sink output.old output.new) order.now) }
     ensures fault { IfErr result (IsOfOrder order.now) }
+    // A fault of what was read is what that comes to, and where writing failed, a front of the answer went out.
+    ensures stops { IfErr result (OrderStops (S.holds system.now) (reading_of I.Source input.old input.new)
+        (writing_of W.Sink output.old output.new) order.now) }
     ensures untouched { IfErr result (λ fault. fault ≢ RunFault.Write → output.new ≡ output.old) }
     // Status 0 of a check says that the list is complete.
     ensures shown { IfOk result (λ code. code ≡ 0
@@ -126,6 +131,8 @@ fn check<S: FileSystem, W: Sink, R: Threads + Sync>(
         FilesHold (S.holds system.now) files.now (Checks (writing_of W.Sink output.old output.new) code)) }
     ensures shown { IfOk result (λ code. code ≡ 0 → FilesHold (S.holds system.now) files.now SpellCompleteList) }
     ensures fault { IfErr result IsOfChecking }
+    ensures stops { IfErr result (λ fault. ComesOfTexts fault → FilesHold (S.holds system.now) files.now
+        (StopsChecking (writing_of W.Sink output.old output.new) fault)) }
     ensures untouched { IfErr result (λ fault. fault ≢ RunFault.Write → output.new ≡ output.old) }
 {
     let mut opened = open_all(system, files)?;
@@ -158,9 +165,11 @@ fn solve<S: FileSystem, W: Sink, R: Threads + Wait + Sync>(
     requires fuel { (1 ≤ fuel) × (fuel ≤ MOST_FUEL) }
     requires workers { (1 ≤ workers) × (workers ≤ MOST_WORKERS) }
     ensures given { OnOk result ((text : List ℕ) × HoldsText (S.holds system.now (string_bytes files.now.puzzle)) text
-        × WritesWhole (writing_of W.Sink output.old output.new)
-        (λ report. (made : Products) × SolveGives workers text made × (report ≡ made.report))) }
+        × Solves (λ name. TakesWhole S.Writer.Sink (S.makes system.now name))
+        (writing_of W.Sink output.old output.new) files.now workers text) }
     ensures fault { IfErr result IsOfSolving }
+    ensures stops { IfErr result (λ fault. IsOfPuzzle fault → (text : List ℕ)
+        × HoldsText (S.holds system.now (string_bytes files.now.puzzle)) text × SolveFails text fault) }
     ensures untouched { IfErr result (λ fault. fault ≢ RunFault.Write → output.new ≡ output.old) }
 {
     let mut puzzle = open(system, &files.puzzle, Document::Puzzle)?;
@@ -193,6 +202,8 @@ fn expand<S: FileSystem, W: Sink, R: RandomSource>(
     ensures given { IfOk result (λ code.
         FilesHold (S.holds system.now) files.now (Expands (writing_of W.Sink output.old output.new) code)) }
     ensures fault { IfErr result IsOfExpanding }
+    ensures stops { IfErr result (λ fault. ComesOfTexts fault → FilesHold (S.holds system.now) files.now
+        (StopsExpanding (writing_of W.Sink output.old output.new) fault)) }
     ensures untouched { IfErr result (λ fault. fault ≢ RunFault.Write → output.new ≡ output.old) }
 {
     let mut opened = open_all(system, files)?;

@@ -2,6 +2,7 @@
 
 ghost use Rattle.std.specs.Prelude.{◌≡◌, ◌≢◌, ◌≤◌, IfOk, OnOk, OnErr, IfErr, IsErrOf, length};
 ghost use Rattle.match_text.specs.ListSpelling.{IsListWithin};
+ghost use Rattle.match_text.specs.declared.ranges.TheConstants.{SECOND};
 ghost use Rattle.match_crew.specs.Solving.{AreArrangementsOf};
 ghost use Rattle.match_runs.specs.Moves.{reading_of, writing_of};
 ghost use Rattle.match_runs.specs.Solving.{Products, SolveGives, StopsWriting, WritesAll};
@@ -98,7 +99,7 @@ fn make_texts<R: Threads + Wait + Sync>(
 {
     let puzzle = read_puzzle(alloc, text)?;
     let Solved {
-        listed,
+        list: listed,
         certificate,
         tally,
     } = solve_with(rt, alloc, &puzzle, depth, fuel, workers)?;
@@ -126,7 +127,7 @@ fn report_on(
     shares: &[Taken],
 ) -> Result<Vec<u8>, AllocError>
     requires arrangements { AreArrangementsOf puzzle.now listed.now }
-    requires list { IsListWithin listed.now }
+    requires list { IsListWithin SECOND listed.now }
     requires workers { length shares.now ≤ MOST_WORKERS }
     ensures { IfOk result (λ text. text.items
         ≡ report_text puzzle.now listed.now (length certificate.now.lemmas) shares.now) }

@@ -5,8 +5,9 @@ ghost use Rattle.std.specs.String.{string_bytes};
 ghost use Rattle.clap.specs.Words.{kind_of};
 ghost use Rattle.clap.specs.declared.error.Error.{Error};
 ghost use Rattle.command_words.specs.Orders.{IsInRange};
+ghost use Rattle.match_runs.specs.Files.{TakesWhole};
 ghost use Rattle.match_runs.specs.Moves.{reading_of, writing_of};
-ghost use Rattle.match_runs.specs.OrderRuns.{IsOfOrder, OrderGives, fault_code};
+ghost use Rattle.match_runs.specs.OrderRuns.{IsOfOrder, OrderGives, OrderStops, fault_code};
 ghost use Rattle.match_runs.specs.WordRuns.{AsksForText, Tells, TellsFault, TellsOfText, WordsGive};
 
 use crate::faults::{RunFault, fault_text};
@@ -46,9 +47,13 @@ pub fn run_words<
     errors: &mut E,
 ) -> u8
     ensures { WordsGive (map string_bytes words.now)
-        (λ order. (OrderGives (S.holds system.now) (reading_of I.Source input.old input.new)
-        (writing_of W.Sink output.old output.new) order result × (errors.new ≡ errors.old))
-        ⊎ ((fault : RunFault) × IsOfOrder order fault × (result ≡ fault_code fault)
+        (λ order. (OrderGives (S.holds system.now) (λ name. TakesWhole S.Writer.Sink (S.makes system.now name))
+        (reading_of I.Source input.old input.new) (writing_of W.Sink output.old output.new) order result
+        × (errors.new ≡ errors.old))
+        ⊎ ((fault : RunFault) × IsOfOrder order fault
+        × OrderStops (S.holds system.now) (reading_of I.Source input.old input.new)
+        (writing_of W.Sink output.old output.new) order fault
+        × (result ≡ fault_code fault)
         × TellsFault (writing_of E.Sink errors.old errors.new) fault
         × (fault ≢ RunFault.Write → output.new ≡ output.old)))
         ((result ≡ fault_code RunFault.Memory) × TellsFault (writing_of E.Sink errors.old errors.new) RunFault.Memory
@@ -74,9 +79,13 @@ fn carry_out<S: FileSystem, I: Source, W: Sink, E: Sink, R: Threads + Wait + Syn
     errors: &mut E,
 ) -> u8
     requires { IsInRange order.now }
-    ensures { (OrderGives (S.holds system.now) (reading_of I.Source input.old input.new)
-        (writing_of W.Sink output.old output.new) order.now result × (errors.new ≡ errors.old))
-        ⊎ ((fault : RunFault) × IsOfOrder order.now fault × (result ≡ fault_code fault)
+    ensures { (OrderGives (S.holds system.now) (λ name. TakesWhole S.Writer.Sink (S.makes system.now name))
+        (reading_of I.Source input.old input.new) (writing_of W.Sink output.old output.new) order.now result
+        × (errors.new ≡ errors.old))
+        ⊎ ((fault : RunFault) × IsOfOrder order.now fault
+        × OrderStops (S.holds system.now) (reading_of I.Source input.old input.new)
+        (writing_of W.Sink output.old output.new) order.now fault
+        × (result ≡ fault_code fault)
         × TellsFault (writing_of E.Sink errors.old errors.new) fault
         × (fault ≢ RunFault.Write → output.new ≡ output.old)) }
 {

@@ -1,6 +1,8 @@
 -- What a line begins with: a word, or a number of one digit or two and a space.
 use Rattle.std.proofs.Common.{◌≡◌, ◌≢◌, ℕ, suc, ◌+◌, ◌-◌, ◌*◌, ◌<◌, ◌≤◌, ◌||◌, Bool, true, false, not, eqb, ltb, List, [], ◌∷◌, ◌++◌, length, get_or, position, take, drop, Option, Some, None, Ok, refl, sym, ◌∙◌, append_assoc, arith}
-use Rattle.match_board.specs.declared.limits.TheConstants.{LAST_TILE, LAST_TURN}
+use Rattle.match_board.specs.declared.limits.TheConstants.{LAST_TURN}
+use Rattle.match_text.specs.declared.ranges.Ranges.{Ranges}
+use Rattle.match_text.specs.Ranges.{AreRanges}
 use Rattle.std.specs.List.{onto_first}
 use Rattle.std.specs.Str.{bytes_eq}
 use Rattle.std.specs.Option.{is_some}
@@ -155,15 +157,16 @@ at_short_number least most n p line others front at low high = rw (at, front.1, 
 
 -- ---- a short placement
 
--- a placement, and the words after it
+-- a placement in any ranges, and the words after it
 abbrev pub IsPlacementFront : List ℕ → List ℕ → Placement → Type 0
-IsPlacementFront line others p = (word : List ℕ) × (words_of line ≡ word ∷ words_of others) × (placement_in word ≡ Ok p)
+IsPlacementFront line others p =
+    (word : List ℕ) × (words_of line ≡ word ∷ words_of others) × ((ranges : Ranges) → AreRanges ranges → placement_in ranges word ≡ Ok p)
 
-placement_is : (word tile_word turn_word : List ℕ) (tile turn : ℕ) → cut_at 46 word ≡ Some (tile_word, turn_word) → (is_number tile_word ≡ true) × (digits_value 10 tile_word ≡ tile) → (is_number turn_word ≡ true) × (digits_value 10 turn_word ≡ turn)
-    → tile ≤ LAST_TILE → turn ≤ LAST_TURN → placement_in word ≡ Ok (record { tile = tile; turn = turn })
+placement_is : (ranges : Ranges) (word tile_word turn_word : List ℕ) (tile turn : ℕ) → cut_at 46 word ≡ Some (tile_word, turn_word) → (is_number tile_word ≡ true) × (digits_value 10 tile_word ≡ tile) → (is_number turn_word ≡ true) × (digits_value 10 turn_word ≡ turn)
+    → tile ≤ ranges.last_cell → turn ≤ LAST_TURN → placement_in ranges word ≡ Ok (record { tile = tile; turn = turn })
 unfolding placement_in
-placement_is word tile_word turn_word tile turn cut first second low high =
-    rw (cut, number_in_range 0 LAST_TILE tile tile_word first.0 first.1 (omega arith) low, number_in_range 0 LAST_TURN turn turn_word second.0 second.1 (omega arith) high) refl
+placement_is ranges word tile_word turn_word tile turn cut first second low high =
+    rw (cut, number_in_range 0 ranges.last_cell tile tile_word first.0 first.1 (omega arith) low, number_in_range 0 LAST_TURN turn turn_word second.0 second.1 (omega arith) high) refl
 
 pub placement_front : (line after : List ℕ) (tile turn : ℕ) → IsDigitsFront line after tile → tile < 100 → 3 ≤ length after → get_or after 0 0 ≡ 46 → 48 ≤ get_or after 1 0 → get_or after 1 0 ≤ 51 → get_or after 2 0 ≡ 32 → turn + 48 ≡ get_or after 1 0
     → IsPlacementFront line (take (length after - 3) (drop 3 after)) (record { tile = tile; turn = turn })
@@ -177,11 +180,11 @@ placement_front line (p ∷ r ∷ b ∷ others) tile turn digits few long dot lo
     let whole : line ≡ word ++ 32 ∷ others = rw (digits.1, dot, space) (sym (append_assoc digits.0 (46 ∷ r ∷ []) (32 ∷ others))) in (
       word,
       rw (left, whole) (words_after word others clean),
-      placement_is word digits.0 (r ∷ []) tile turn (cut_dot 46 digits.0 (r ∷ []) (number_lacks 46 (omega arith) digits.0 digits.2)) (digits.2, digits.3) (one_is r turn low (omega arith) is) (omega arith) (omega arith),
+      λ ranges are. placement_is ranges word digits.0 (r ∷ []) tile turn (cut_dot 46 digits.0 (r ∷ []) (number_lacks 46 (omega arith) digits.0 digits.2)) (digits.2, digits.3) (one_is r turn low (omega arith) is) (omega (arith, few, are.plain, are.last)) (omega arith),
     )
 
 -- where reading goes on after a short placement
-pub at_short_placement : (placement : Placement) (p : Place) (line others : List ℕ) → IsPlacementFront line others placement → p.words ≡ words_of line
-    → word_by placement_in p ≡ Ok (placement, record { line = p.line; words = words_of others; ahead = p.ahead })
+pub at_short_placement : (ranges : Ranges) → AreRanges ranges → (placement : Placement) (p : Place) (line others : List ℕ) → IsPlacementFront line others placement → p.words ≡ words_of line
+    → word_by (placement_in ranges) p ≡ Ok (placement, record { line = p.line; words = words_of others; ahead = p.ahead })
 unfolding word_by
-at_short_placement placement p line others front at = rw (at, front.1, front.2) refl
+at_short_placement ranges are placement p line others front at = rw (at, front.1, front.2 ranges are) refl

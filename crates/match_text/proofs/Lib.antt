@@ -1,3 +1,4 @@
+pub mod RangesLemmas
 pub mod BytesLemmas
 pub mod FrontLemmas
 pub mod LoopLemmas
@@ -8,6 +9,8 @@ pub mod ListLemmas
 pub mod TextLaws
 pub mod WritingLemmas
 pub mod ColourLemmas
+pub mod ShapeLemmas
+pub mod BoardLineLemmas
 pub mod PuzzleLineLemmas
 pub mod PuzzleLemmas
 pub mod LimitLemmas

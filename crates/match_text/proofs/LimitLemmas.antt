@@ -1,40 +1,58 @@
 -- Each puzzle is within the limits of its text.
-use Rattle.std.proofs.Common.{◌≡◌, ◌⊎◌, ◌<◌, ◌≤◌, ◌+◌, ◌*◌, ℕ, zero, suc, List, [], ◌∷◌, All, length, get_or, Option, Some, None, arith, refl, sym, subst, inl, inr, ⊎_elim}
-use Rattle.match_board.specs.declared.limits.TheConstants.{MOST_CELLS, MOST_LENGTH, MOST_RULES, MOST_COLOURS}
+use Rattle.std.proofs.Common.{Bool, ◌≡◌, ◌⊎◌, ◌<◌, ◌≤◌, ◌+◌, ◌*◌, ℕ, zero, suc, List, [], ◌∷◌, All, length, get_or, Option, Some, None, arith, refl, sym, subst, inl, inr, ⊎_elim}
+use Rattle.match_board.specs.declared.limits.TheConstants.{MOST_PLAIN_CELLS, MOST_PLACES, MOST_LENGTH, MOST_COLOURS}
+use Rattle.match_text.specs.declared.ranges.Ranges.{Ranges}
+use Rattle.match_text.specs.Ranges.{IsVersion, ranges_of, AreRanges}
+use Rattle.match_text.proofs.RangesLemmas.{are_ranges, second_is}
 use Rattle.std.specs.Prelude.{slice_get, slice_index_or}
 use Rattle.std.specs.List.{AllByRecursion}
 use Rattle.std.proofs.lemmas.List.{get_or_default}
 use Rattle.std.proofs.lemmas.List.Elements.{All-contains_itself}
-use Rattle.match_board.specs.Board.{cell_count, side_count, row_length, IsBoard, IsBorderPair, IsBorderOrder, StandsAt, LiesAgainst}
+use Rattle.match_board.specs.Board.{cell_count, side_count, row_length, HasRoom, IsPlain, IsShape, IsBoard, IsBorderPair, IsBorderOrder, StandsAt, Meets, SquaresLieBefore, LiesAgainst}
+use Rattle.match_board.proofs.MaskLemmas.{above_in_shape, marks_few}
 use Rattle.match_board.specs.declared.figures.Figure.{Figure}
-use Rattle.match_board.specs.declared.figures.Figure.TheVariants.{Rectangle, Triangle, Hexagon}
-use Rattle.match_board.proofs.Places.{above_in_rectangle, above_in_triangle, cells_in_hexagon, met_place}
+use Rattle.match_board.specs.declared.figures.Figure.TheVariants.{Rectangle, Triangle, Hexagon, Shape}
+use Rattle.match_board.proofs.Places.{above_in_rectangle, above_in_triangle, cells_in_hexagon, whole_row, left_of_later, met_place}
 use Rattle.match_puzzle.specs.Puzzle.{Task, BorderRule, free, one, each, IsPuzzle, IsAsLongAsBorder, StandsInRule}
-use Rattle.match_text.specs.PuzzleSpelling.{IsFigureWithin, IsRuleWithin, IsBorderWithin, IsWordWithin, IsTaskWithin}
+use Rattle.match_text.specs.PuzzleSpelling.{IsFigureWithin, IsRuleWithin, IsBorderWithin, IsWordWithin, AreRulesWithin, IsTaskWithin}
 
 -- ---- boards
 
-factors_within : (a b : ℕ) → 1 ≤ a * b → a * b ≤ MOST_CELLS → (a ≤ MOST_LENGTH) × (b ≤ MOST_LENGTH)
+factors_within : (a b : ℕ) → 1 ≤ a * b → a * b ≤ MOST_PLAIN_CELLS → (a ≤ MOST_LENGTH) × (b ≤ MOST_LENGTH)
 factors_within zero b low high = absurd (omega (arith, low))
 factors_within (suc a) zero low high = absurd (omega (arith, low))
 factors_within (suc a) (suc b) low high = (omega (arith, high), omega (arith, high))
 
-figure_within : (s : Figure) → IsBoard s → IsFigureWithin s
-figure_within (Rectangle width height) is =
+-- a shape has a row and a column at least
+some_places : (height width : ℕ) (mask : List Bool) → 1 ≤ cell_count (Shape width height mask) → 1 ≤ height * width
+some_places height width mask some = omega (arith, some, above_in_shape width height mask height, marks_few mask 0 (height * width))
+
+-- each is at most as many as the places
+sides_within : (height width most : ℕ) → 1 ≤ height * width → height * width ≤ most → ((1 ≤ width) × (width ≤ most)) × ((1 ≤ height) × (height ≤ most))
+sides_within zero width most low high = absurd (omega (arith, low))
+sides_within (suc height) zero most low high = absurd (omega (arith, low))
+sides_within (suc height) (suc width) most low high = ((omega arith, omega (arith, high)), (omega arith, omega (arith, high)))
+
+figure_within : (version : ℕ) (s : Figure) → IsBoard s → (IsShape s → version ≡ 2) → IsFigureWithin version s
+figure_within version (Rectangle width height) is shapes =
     let cells = above_in_rectangle width height height in
-    let both = factors_within height width (omega (arith, cells, is.0)) (omega (arith, cells, is.1)) in
+    let both = factors_within height width (omega (arith, cells, is.some)) (omega (arith, cells, is.room)) in
     (both.1, both.0)
-figure_within (Triangle size) is =
+figure_within version (Triangle size) is shapes =
     let cells = above_in_triangle size size in
-    (factors_within size size (omega (arith, cells, is.0)) (omega (arith, cells, is.1))).0
-figure_within (Hexagon size) is =
+    (factors_within size size (omega (arith, cells, is.some)) (omega (arith, cells, is.room))).0
+figure_within version (Hexagon size) is shapes =
     let cells = cells_in_hexagon size in
-    (factors_within (6 * size) size (omega (arith, cells, is.0)) (omega (arith, cells, is.1))).1
+    (factors_within (6 * size) size (omega (arith, cells, is.some)) (omega (arith, cells, is.room))).1
+figure_within version (Shape width height mask) is shapes =
+    let both = sides_within height width MOST_PLACES (some_places height width mask is.some) is.room.0 in
+    (shapes (λ plain. plain), both.0, both.1, is.marks)
 
 three_or_four : (s : Figure) → (side_count s ≡ 3) ⊎ (side_count s ≡ 4)
 three_or_four (Rectangle width height) = inr refl
 three_or_four (Triangle size) = inl refl
 three_or_four (Hexagon size) = inl refl
+three_or_four (Shape width height mask) = inr refl
 
 -- ---- the first cell is at the border
 
@@ -43,33 +61,58 @@ abbrev outer_side : Figure → ℕ
 outer_side (Rectangle width height) = 0
 outer_side (Triangle size) = 0
 outer_side (Hexagon size) = 2
+outer_side (Shape width height mask) = 0
 
 outer_in : (s : Figure) → outer_side s < side_count s
 outer_in (Rectangle width height) = omega arith
 outer_in (Triangle size) = omega arith
 outer_in (Hexagon size) = omega arith
+outer_in (Shape width height mask) = omega arith
 
-first_place : (s : Figure) → 1 ≤ cell_count s → StandsAt s 0 0 0
-first_place (Rectangle width zero) some = absurd (omega (arith, some))
-first_place (Rectangle zero (suc height)) some = absurd (omega (arith, above_in_rectangle 0 (suc height) (suc height), some))
-first_place (Rectangle (suc width) (suc height)) some = record { row_in = omega arith; place_in = omega arith; number = refl }
-first_place (Triangle zero) some = absurd (omega (arith, some))
-first_place (Triangle (suc size)) some = record { row_in = omega arith; place_in = omega arith; number = refl }
-first_place (Hexagon zero) some = absurd (omega (arith, some))
-first_place (Hexagon (suc size)) some = record { row_in = omega arith; place_in = omega arith; number = refl }
+first_place : (s : Figure) → IsPlain s → 1 ≤ cell_count s → StandsAt s 0 0 0
+first_place (Rectangle width zero) plain some = absurd (omega (arith, some))
+first_place (Rectangle zero (suc height)) plain some = absurd (omega (arith, above_in_rectangle 0 (suc height) (suc height), some))
+first_place (Rectangle (suc width) (suc height)) plain some = record { row_in = omega arith; place_in = omega arith; filled = tt; number = refl }
+first_place (Triangle zero) plain some = absurd (omega (arith, some))
+first_place (Triangle (suc size)) plain some = record { row_in = omega arith; place_in = omega arith; filled = tt; number = refl }
+first_place (Hexagon zero) plain some = absurd (omega (arith, some))
+first_place (Hexagon (suc size)) plain some = record { row_in = omega arith; place_in = omega arith; filled = tt; number = refl }
+first_place (Shape width height mask) plain some = absurd plain
 
-outer_against : (s : Figure) (row' place' side' : ℕ) → 1 ≤ cell_count s → place' < row_length s row' → LiesAgainst s 0 0 (outer_side s) row' place' side' → ⊥
-outer_against (Rectangle width height) row' place' side' some lt h = grind arith
-outer_against (Triangle size) row' place' side' some lt h = grind arith
-outer_against (Hexagon zero) row' place' side' some lt h = omega (arith, some)
-outer_against (Hexagon (suc size)) row' place' side' some lt h = grind arith
+outer_against : (s : Figure) → IsPlain s → (row' place' side' : ℕ) → 1 ≤ cell_count s → place' < row_length s row' → LiesAgainst s 0 0 (outer_side s) row' place' side' → ⊥
+outer_against (Rectangle width height) plain row' place' side' some lt h = grind arith
+outer_against (Triangle size) plain row' place' side' some lt h = grind arith
+outer_against (Hexagon zero) plain row' place' side' some lt h = omega (arith, some)
+outer_against (Hexagon (suc size)) plain row' place' side' some lt h = grind arith
+outer_against (Shape width height mask) plain row' place' side' some lt h = absurd plain
+
+abbrev MeetsNothing : Figure → Type 0
+MeetsNothing s = (c k : ℕ) → Meets s 0 (outer_side s) c k → ⊥
+
+plain_outer : (s : Figure) → IsPlain s → 1 ≤ cell_count s → MeetsNothing s
+plain_outer s plain some c k m = let other = met_place m (first_place s plain some) in outer_against s plain other.0 other.1 k some other.2.place_in other.3
+
+-- what lies against the north side of a square stands in the row above
+north_against : (row place row' place' side' : ℕ) → SquaresLieBefore row place 0 row' place' side' ⊎ SquaresLieBefore row' place' side' row place 0 → row' < row
+north_against row place row' place' side' h = grind arith
+
+-- no cell has a lesser number than the first
+none_above : (s : Figure) (cell row place row' place' : ℕ) → StandsAt s 0 row place → StandsAt s cell row' place' → row' < row → ⊥
+none_above s cell row place row' place' here there lt =
+    omega (arith, whole_row s row' row lt, left_of_later s row' place' (row_length s row') there.filled there.place_in, here.number)
+
+shape_outer : (width height : ℕ) (mask : List Bool) → MeetsNothing (Shape width height mask)
+shape_outer width height mask c k m =
+    none_above (Shape width height mask) c m.row m.place m.row' m.place' m.here m.there (north_against m.row m.place m.row' m.place' k m.against)
+
+outer_meets : (s : Figure) → 1 ≤ cell_count s → MeetsNothing s
+outer_meets (Rectangle width height) some c k m = plain_outer (Rectangle width height) tt some c k m
+outer_meets (Triangle size) some c k m = plain_outer (Triangle size) tt some c k m
+outer_meets (Hexagon size) some c k m = plain_outer (Hexagon size) tt some c k m
+outer_meets (Shape width height mask) some c k m = shape_outer width height mask c k m
 
 outer_pair : (s : Figure) → 1 ≤ cell_count s → IsBorderPair s 0 (outer_side s)
-outer_pair s some = record {
-  cell_in = omega (arith, some);
-  side_in = outer_in s;
-  meets_nothing = λ c k m. let other = met_place m (first_place s some) in outer_against s other.0 other.1 k some other.2.place_in other.3;
-}
+outer_pair s some = record { cell_in = omega (arith, some); side_in = outer_in s; meets_nothing = outer_meets s some }
 
 -- ---- as many border pairs as a line has rules
 
@@ -82,9 +125,9 @@ rises s pairs order (suc i) lt =
     let few : side_count s ≤ 4 = ⊎_elim (λ e. omega (arith, e)) (λ e. omega (arith, e)) (three_or_four s) in
     ⊎_elim (λ less. omega (arith, so_far, pair.side_in, few, less)) (λ same. omega (arith, so_far, same.0, same.1)) (order.rising i (suc i) (0, 0) (omega arith) lt)
 
-few_pairs : (s : Figure) → cell_count s ≤ MOST_CELLS → (pairs : List (ℕ × ℕ)) → IsBorderOrder s pairs → (n : ℕ) → length pairs ≡ n → n ≤ MOST_RULES
-few_pairs s most pairs order zero e = omega arith
-few_pairs s most pairs order (suc n) e =
+few_pairs : (s : Figure) (cells : ℕ) → cell_count s ≤ cells → (pairs : List (ℕ × ℕ)) → IsBorderOrder s pairs → (n : ℕ) → length pairs ≡ n → n ≤ 4 * cells
+few_pairs s cells most pairs order zero e = omega arith
+few_pairs s cells most pairs order (suc n) e =
     let last : n < length pairs = omega (arith, e) in
     let so_far = rises s pairs order n last in
     let pair = order.only (get_or pairs n (0, 0)) (All-contains_itself pairs n (0, 0) last) in
@@ -96,18 +139,24 @@ some_pair s some pairs order = let at = order.all (0, outer_side s) (outer_pair 
 
 -- ---- rules and words
 
+pub rules_of_border : (ranges : Ranges) (border : BorderRule) → IsBorderWithin ranges border → AreRulesWithin border
+rules_of_border ranges free within = tt
+rules_of_border ranges (one c) within = within
+rules_of_border ranges (each rules) within = within.2
+
 rules_within : (rules : List (Option ℕ)) → ((place colour : ℕ) → slice_get rules place ≡ Some (Some colour) → colour < MOST_COLOURS) → AllByRecursion IsRuleWithin rules
 rules_within [] h = tt
 rules_within (None ∷ rules) h = (tt, rules_within rules (λ place colour e. h (suc place) colour e))
 rules_within (Some c ∷ rules) h = (h 0 c refl, rules_within rules (λ place colour e. h (suc place) colour e))
 
-border_within : (s : Figure) → IsBoard s → (border : BorderRule) → IsAsLongAsBorder s border → ((place colour : ℕ) → StandsInRule border place colour → colour < MOST_COLOURS) → IsBorderWithin border
-border_within s is free long colours = tt
-border_within s is (one c) long colours = colours 0 c (refl, refl)
-border_within s is (each rules) long colours =
-    let some = some_pair s is.0 long.0 long.1 in
-    let few = few_pairs s is.1 long.0 long.1 (length long.0) refl in
-    (omega (arith, some, long.2), omega (arith, few, long.2), rules_within rules colours)
+border_within : (ranges : Ranges) → AreRanges ranges → (s : Figure) → 1 ≤ cell_count s → cell_count s ≤ ranges.most_cells → (border : BorderRule) → IsAsLongAsBorder s border → ((place colour : ℕ) → StandsInRule border place colour → colour < MOST_COLOURS)
+    → IsBorderWithin ranges border
+border_within ranges are s some most free long colours = tt
+border_within ranges are s some most (one c) long colours = colours 0 c (refl, refl)
+border_within ranges are s some most (each rules) long colours =
+    let some_rules = some_pair s some long.0 long.1 in
+    let few = few_pairs s ranges.most_cells most long.0 long.1 (length long.0) refl in
+    (omega (arith, some_rules, long.2), omega (arith, few, long.2, are.rules), rules_within rules colours)
 
 colours_within : (word : List ℕ) → All (λ c. c < MOST_COLOURS) word → AllByRecursion (λ c. c < MOST_COLOURS) word
 colours_within [] h = tt
@@ -127,12 +176,40 @@ listed_within mates h = colours_within mates (λ k d lt. subst (λ n. n < MOST_C
 mates_below : (p : Task) → IsPuzzle p → (k : ℕ) → k < length p.mating.mates → slice_index_or p.mating.mates k k < MOST_COLOURS
 mates_below p is k lt = let few = is.mating.mates.few in let mate = (is.mating.mates.each k lt).0 in omega (arith, few, mate)
 
+-- a board has as many cells as a text of its puzzle's version may name
+-- ---- cells
+
+plain_room : (s : Figure) → IsPlain s → HasRoom s → cell_count s ≤ MOST_PLAIN_CELLS
+plain_room (Rectangle width height) plain room = room
+plain_room (Triangle size) plain room = room
+plain_room (Hexagon size) plain room = room
+plain_room (Shape width height mask) plain room = absurd plain
+
+-- a board of version 1 is plain
+first_plain : (s : Figure) → (IsShape s → ⊥) → IsPlain s
+first_plain (Rectangle width height) not = tt
+first_plain (Triangle size) not = tt
+first_plain (Hexagon size) not = tt
+first_plain (Shape width height mask) not = not (λ plain. plain)
+
+cells_in_version : (s : Figure) (version : ℕ) → IsBoard s → (IsShape s → version ≡ 2) → IsVersion version → cell_count s ≤ (ranges_of version).most_cells
+cells_in_version s version is shapes versions =
+    ⊎_elim
+    (λ one.
+    let are = are_ranges version in
+    omega (arith, are.plain, plain_room s (first_plain s (λ shape. omega (arith, one, shapes shape))) is.room))
+    (λ two. subst (λ v. cell_count s ≤ (ranges_of v).most_cells) (sym two) (subst (λ (r : Ranges). cell_count s ≤ r.most_cells) (sym second_is) is.most))
+    versions
+
+cells_within : (p : Task) → IsPuzzle p → cell_count p.board ≤ (ranges_of p.mating.version).most_cells
+cells_within p is = cells_in_version p.board p.mating.version is.board is.shapes (⊎_elim (λ w. inl w.0) (λ two. inr two) is.mating.version)
+
 pub puzzle_within : (p : Task) → IsPuzzle p → IsTaskWithin p
 puzzle_within p is = record {
-  board = figure_within p.board is.board;
-  border = border_within p.board is.board p.border is.border is.border_colours;
-  some_tiles = omega (arith, is.tiles, is.board.0);
-  few_tiles = omega (arith, is.tiles, is.board.1);
+  board = figure_within p.mating.version p.board is.board is.shapes;
+  border = border_within (ranges_of p.mating.version) (are_ranges p.mating.version) p.board is.board.some (cells_within p is) p.border is.border is.border_colours;
+  some_tiles = omega (arith, is.tiles, is.board.some);
+  few_tiles = omega (arith, is.tiles, cells_within p is);
   mating = (is.mating.version, is.mating.mates.few, listed_within p.mating.mates (λ k lt. mates_below p is k lt));
   words = words_within (side_count p.board) (three_or_four p.board) p.words is.sides is.tile_colours;
 }

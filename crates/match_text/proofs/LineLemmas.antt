@@ -8,7 +8,8 @@ use Rattle.match_text.specs.declared.faults.TextFault.{TextFault}
 use Rattle.match_text.specs.declared.faults.TextKind.{TextKind}
 use Rattle.match_text.specs.Bytes.{cut_at, words_of}
 use Rattle.match_text.specs.Words.{entries_in, fixed_in, version_in, number_in}
-use Rattle.match_text.proofs.WordLemmas.{is_clean, are_clean, clean-decimal, Spells, spells_fixed, spells_version, spells_number, after_word, both, not_so, judged_ok_is, judged_bind, cut_parts}
+use Rattle.match_text.specs.Ranges.{IsVersion}
+use Rattle.match_text.proofs.WordLemmas.{is_clean, are_clean, clean-decimal, clean-version, Spells, spells_fixed, spells_version, spells_number, after_word, both, not_so, judged_ok_is, judged_bind, cut_parts}
 use Rattle.match_text.specs.Place.{Place, Read, ◌>>=◌, give, line_from, next_line, judged, word_from, word_by, end_from, end_of_line, line_of, some_word_from, some_word, entries_from, entries, some_entries, times, opening, counted, closing, end_of_text, value_of}
 use Rattle.match_text.specs.Spelling.{line_text, text_of, first_words, count_words, end_lines}
 use Rattle.match_text.proofs.CutLemmas.{place, bind_ok, ok_is, end_is_reached}
@@ -113,15 +114,22 @@ takes_then_rest r front f words_of Fits first others = record {
 }
 
 -- a value that is told by words, and the rest of the line that it decides on
-pub takes_choice : {A X : Type 0} (r : Read A) (word_of : A → List (List ℕ)) (f : A → Read X) (of : X → A) (words_of : X → List (List ℕ)) (Fits : X → Type 0)
-    → TakesWords r word_of (λ _. Unit {0}) → ((a : A) → TakesRest (f a) words_of (λ x. (of x ≡ a) × Fits x)) → TakesRest (r >>= f) (λ x. word_of (of x) ++ words_of x) Fits
-takes_choice r word_of f of words_of Fits first others = record {
+pub takes_choice : {A X : Type 0} (r : Read A) (word_of : A → List (List ℕ)) (Known : A → Type 0) (f : A → Read X) (of : X → A) (words_of : X → List (List ℕ)) (Fits : X → Type 0)
+    → TakesWords r word_of Known → ((x : X) → Fits x → Known (of x)) → ((a : A) → Known a → TakesRest (f a) words_of (λ x. (of x ≡ a) × Fits x)) → TakesRest (r >>= f) (λ x. word_of (of x) ++ words_of x) Fits
+takes_choice r word_of Known f of words_of Fits first known others = record {
   is = λ p x q e none.
       let b = bind_ok (r p) f (x, q) e in
       let one = first.is p b.0.0 b.0.1 b.1 in
-      let two = (others b.0.0).is b.0.1 x q b.2 none in
+      let two = (others b.0.0 one.2).is b.0.1 x q b.2 none in
       (one.0 ∙ ap (λ ws. word_of b.0.0 ++ ws) two.0 ∙ ap (λ a. word_of a ++ words_of x) (sym two.2.0), one.1 ∙ two.1, two.2.1);
-  passes = λ x fits line ahead. rw (first.passes (of x) tt line (words_of x) ahead) ((others (of x)).passes x (refl, fits) line ahead);
+  passes = λ x fits line ahead. rw (first.passes (of x) (known x fits) line (words_of x) ahead) ((others (of x) (known x fits)).passes x (refl, fits) line ahead);
+}
+
+-- the same words by another name
+pub takes_same : {X : Type 0} (r : Read X) (words_of others_of : X → List (List ℕ)) (Fits : X → Type 0) → ((x : X) → words_of x ≡ others_of x) → TakesRest r words_of Fits → TakesRest r others_of Fits
+takes_same r words_of others_of Fits same takes = record {
+  is = λ p x q e none. let h = takes.is p x q e none in (h.0 ∙ same x, h.1, h.2);
+  passes = λ x fits line ahead. subst (λ (ws : List (List ℕ)). r (place line ws ahead) ≡ Ok (x, place line [] ahead)) (same x) (takes.passes x fits line ahead);
 }
 
 pub takes_all : {X : Type 0} (r : Read X) (words_of : X → List (List ℕ)) (Fits : X → Type 0) → TakesWords r words_of Fits → TakesRest r words_of Fits
@@ -314,9 +322,9 @@ takes_two_words name test word_of Fits clean spells cleans =
     (takes_word (fixed_in name) (λ _. name) (λ _. Unit {0}) (spells_fixed name)) (takes_word test word_of Fits spells)))
     (λ x fits. rw (clean, cleans x fits) refl)
 
-pub takes_opening : (name : List ℕ) → is_clean name ≡ true → TakesLines (opening name) (λ _. first_words name ∷ []) (λ _. Unit {0})
+pub takes_opening : (name : List ℕ) → is_clean name ≡ true → TakesLines (opening name) (λ version. first_words name version ∷ []) IsVersion
 unfolding opening
-takes_opening name clean = takes_two_words name version_in (λ _. codes "1") (λ _. Unit {0}) clean spells_version (λ x fits. refl)
+takes_opening name clean = takes_two_words name version_in decimal IsVersion clean spells_version clean-version
 
 pub takes_counted : (name : List ℕ) (least most : ℕ) → is_clean name ≡ true → most < 2 ^ 64 → TakesLines (counted name least most) (λ n. count_words name n ∷ []) (λ n. (least ≤ n) × (n ≤ most))
 unfolding counted

@@ -1,21 +1,22 @@
 -- The puzzle that is read is the one that was written, and what was written is read again.
-use Rattle.std.proofs.Common.{◌≡◌, ℕ, ◌≤◌, Bool, List, [], ◌∷◌, ◌++◌, length, map, Ok, refl, sym, ap, subst, ◌∙◌, arith, codes}
-use Rattle.match_board.specs.declared.limits.TheConstants.{MOST_TILES}
+use Rattle.std.proofs.Common.{◌≡◌, ℕ, ◌≤◌, Bool, List, [], ◌∷◌, ◌++◌, length, map, Ok, refl, sym, ap, subst, ◌∙◌, arith, codes, ◌<◌, ◌^◌, inl, inr, ⊎_elim}
+use Rattle.match_text.specs.Ranges.{IsVersion, ranges_of}
 use Rattle.std.specs.List.{flat_map, AllByRecursion}
 use Rattle.std.proofs.lemmas.List.{append-nil}
 use Rattle.std.proofs.lemmas.List.Concat.{flat_map_single}
 use Rattle.match_board.specs.declared.figures.Figure.{Figure}
 use Rattle.match_puzzle.specs.Mates.{Mating}
 use Rattle.match_puzzle.specs.Puzzle.{Task, BorderRule}
-use Rattle.match_text.specs.declared.puzzles.PuzzleVersion.{PuzzleVersion}
 use Rattle.match_text.specs.Laws.{ReadsSpellingsAlone, ReadsEachSpelling, EndsWhereCut}
-use Rattle.match_text.specs.Place.{Place, Read, ◌>>=◌, give, times, counted, closing, start}
-use Rattle.match_text.specs.Puzzles.{match_line, mating_part, board_line, turns_line, border_line, tile_line, puzzle_text, puzzle_of}
-use Rattle.match_text.specs.Spelling.{text_of, count_words, end_lines}
-use Rattle.match_text.specs.PuzzleSpelling.{board_words, turns_words, border_words, tile_words, puzzle_lines, puzzle_spelling, IsWordWithin, IsTaskWithin, match_words, mates_lines, version_of}
-use Rattle.match_text.proofs.CutLemmas.{CutsShort, LeavesNothing, place, bind_ok, ok_is, cuts_bind, cuts_give, cuts_times, cuts_counted, cuts_closing, leaves_closing, leaves_after}
-use Rattle.match_text.proofs.LineLemmas.{takes_counted, closing_is, closing_again, times_is, times_again, lines_then}
-use Rattle.match_text.proofs.PuzzleLineLemmas.{takes_match, mating_is, mating_again, cuts_match, cuts_mating, takes_board, takes_turns, takes_border, takes_tile, cuts_board, cuts_turns, cuts_border, cuts_tile}
+use Rattle.match_text.specs.Place.{Place, Read, ◌>>=◌, give, times, opening, counted, closing, start}
+use Rattle.match_text.specs.Puzzles.{mating_part, board_part, turns_line, border_line, tile_line, puzzle_text, puzzle_of}
+use Rattle.match_text.specs.Spelling.{text_of, first_words, count_words, end_lines}
+use Rattle.match_text.specs.PuzzleSpelling.{board_lines, IsFigureWithin, turns_words, border_words, tile_words, puzzle_lines, puzzle_spelling, IsBorderWithin, IsMatingWithin, IsWordWithin, IsTaskWithin, mates_lines}
+use Rattle.match_text.proofs.CutLemmas.{CutsShort, LeavesNothing, place, bind_ok, ok_is, cuts_bind, cuts_give, cuts_times, cuts_opening, cuts_counted, cuts_closing, leaves_closing, leaves_after}
+use Rattle.match_text.proofs.LineLemmas.{takes_opening, takes_counted, closing_is, closing_again, times_is, times_again, lines_then}
+use Rattle.match_text.proofs.BoardLineLemmas.{takes_board, cuts_board}
+use Rattle.match_text.proofs.PuzzleLineLemmas.{mating_is, mating_again, cuts_mating, takes_turns, takes_border, takes_tile, cuts_turns, cuts_border, cuts_tile}
+use Rattle.match_text.proofs.RangesLemmas.{are_ranges}
 use Rattle.match_text.proofs.TextLaws.{reads_alone, reads_each, ends_where_cut}
 use Rattle.match_text.proofs.WritingLemmas.{text_of-append, eight_parts}
 
@@ -30,20 +31,29 @@ after_tiles board turns border mating words = closing >>= λ _. give (task board
 abbrev after_count : Figure → Bool → BorderRule → Mating → ℕ → Read Task
 after_count board turns border mating count = times count tile_line >>= λ words. after_tiles board turns border mating words
 
-abbrev after_mating : Figure → Bool → BorderRule → Mating → Read Task
-after_mating board turns border mating = counted (codes "tiles") 1 MOST_TILES >>= λ count. after_count board turns border mating count
+abbrev tile_count : ℕ → Read ℕ
+tile_count most = counted (codes "tiles") 1 most
 
-abbrev after_border : PuzzleVersion → Figure → Bool → BorderRule → Read Task
-after_border version board turns border = mating_part version >>= λ mating. after_mating board turns border mating
+abbrev after_mating : ℕ → Figure → Bool → BorderRule → Mating → Read Task
+after_mating most board turns border mating = tile_count most >>= λ count. after_count board turns border mating count
 
-abbrev after_turns : PuzzleVersion → Figure → Bool → Read Task
-after_turns version board turns = border_line >>= λ border. after_border version board turns border
+abbrev most_of : ℕ → ℕ
+most_of version = (ranges_of version).most_cells
 
-abbrev after_board : PuzzleVersion → Figure → Read Task
+abbrev after_border : ℕ → Figure → Bool → BorderRule → Read Task
+after_border version board turns border = mating_part version >>= λ mating. after_mating (most_of version) board turns border mating
+
+abbrev after_turns : ℕ → Figure → Bool → Read Task
+after_turns version board turns = border_line (ranges_of version) >>= λ border. after_border version board turns border
+
+abbrev after_board : ℕ → Figure → Read Task
 after_board version board = turns_line >>= λ turns. after_turns version board turns
 
-abbrev after_match : PuzzleVersion → Read Task
-after_match version = board_line >>= λ board. after_board version board
+abbrev after_opening : ℕ → Read Task
+after_opening version = board_part version >>= λ board. after_board version board
+
+abbrev match_opening : Read ℕ
+match_opening = opening (codes "match")
 
 -- ---- the lines from each line on
 
@@ -54,7 +64,7 @@ abbrev from_count : List (List ℕ) → List (List (List ℕ))
 from_count words = (count_words (codes "tiles") (length words) ∷ []) ++ (lines_of_tiles words ++ end_lines)
 
 abbrev from_mating : Mating → List (List ℕ) → List (List (List ℕ))
-from_mating mating words = mates_lines (version_of mating) mating.mates ++ from_count words
+from_mating mating words = mates_lines mating ++ from_count words
 
 abbrev from_border : BorderRule → Mating → List (List ℕ) → List (List (List ℕ))
 from_border border mating words = (border_words border ∷ []) ++ from_mating mating words
@@ -63,24 +73,30 @@ abbrev from_turns : Bool → BorderRule → Mating → List (List ℕ) → List 
 from_turns turns border mating words = (turns_words turns ∷ []) ++ from_border border mating words
 
 abbrev from_board : Figure → Bool → BorderRule → Mating → List (List ℕ) → List (List (List ℕ))
-from_board board turns border mating words = (board_words board ∷ []) ++ from_turns turns border mating words
+from_board board turns border mating words = board_lines board ++ from_turns turns border mating words
 
 abbrev first_line : Mating → List (List (List ℕ))
-first_line mating = match_words (version_of mating) ∷ []
+first_line mating = first_words (codes "match") mating.version ∷ []
 
 lines_are : (p : Task) → first_line p.mating ++ from_board p.board p.turns p.border p.mating p.words ≡ puzzle_lines p
-lines_are p = ap (λ ls. first_line p.mating ++ ((board_words p.board ∷ []) ++ ((turns_words p.turns ∷ []) ++ ((border_words p.border ∷ []) ++ (mates_lines (version_of p.mating) p.mating.mates ++ ((count_words (codes "tiles") (length p.words) ∷ []) ++ (ls ++ end_lines))))))) (flat_map_single tile_words p.words)
+lines_are p = ap (λ ls. first_line p.mating ++ (board_lines p.board ++ ((turns_words p.turns ∷ []) ++ ((border_words p.border ∷ []) ++ (mates_lines p.mating ++ ((count_words (codes "tiles") (length p.words) ∷ []) ++ (ls ++ end_lines))))))) (flat_map_single tile_words p.words)
 
 -- ---- reading
 
-tiles_is : (board : Figure) (turns : Bool) (border : BorderRule) (mating : Mating) (p : Place) (x : Task × Place) → after_mating board turns border mating p ≡ Ok x
-    → (words : List (List ℕ)) × (x.0 ≡ task board turns border mating words) × (p.ahead ≡ text_of (from_count words) ++ []) × (1 ≤ length words) × (length words ≤ MOST_TILES) × AllByRecursion IsWordWithin words
-tiles_is board turns border mating p x e =
-    let n = bind_ok (counted (codes "tiles") 1 MOST_TILES p) (after_count board turns border mating) x e in
+most_fits : (version : ℕ) → most_of version < 2 ^ 64
+most_fits version = let are = are_ranges version in omega (arith, are.few)
+
+mating_version : (m : Mating) → IsMatingWithin m → IsVersion m.version
+mating_version m fits = ⊎_elim (λ w. inl w.0) (λ two. inr two) fits.0
+
+tiles_is : (most : ℕ) → most < 2 ^ 64 → (board : Figure) (turns : Bool) (border : BorderRule) (mating : Mating) (p : Place) (x : Task × Place) → after_mating most board turns border mating p ≡ Ok x
+    → (words : List (List ℕ)) × (x.0 ≡ task board turns border mating words) × (p.ahead ≡ text_of (from_count words) ++ []) × (1 ≤ length words) × (length words ≤ most) × AllByRecursion IsWordWithin words
+tiles_is most small board turns border mating p x e =
+    let n = bind_ok (tile_count most p) (after_count board turns border mating) x e in
     let w = bind_ok (times n.0.0 tile_line n.0.1) (after_tiles board turns border mating) x n.2 in
     let d = bind_ok (closing w.0.1) (λ _. give (task board turns border mating w.0.0)) x w.2 in
     let words = w.0.0 in
-    let one = (takes_counted (codes "tiles") 1 MOST_TILES refl (omega arith)).is p n.0.0 n.0.1 n.1 in
+    let one = (takes_counted (codes "tiles") 1 most refl small).is p n.0.0 n.0.1 n.1 in
     let two = times_is tile_line (λ word. tile_words word ∷ []) IsWordWithin takes_tile n.0.0 n.0.1 words w.0.1 w.1 in
     let three : w.0.1.ahead ≡ text_of end_lines ++ [] = closing_is w.0.1 d.0 d.1 ∙ sym (append-nil (text_of end_lines)) in
     let later = lines_then n.0.1.ahead (lines_of_tiles words) end_lines w.0.1.ahead [] two.0 three in
@@ -96,39 +112,42 @@ tiles_is board turns border mating p x e =
 puzzle_is : (p : Place) (x : Task × Place) → puzzle_text p ≡ Ok x → (p.ahead ≡ text_of (puzzle_lines x.0)) × IsTaskWithin x.0
 unfolding puzzle_text
 puzzle_is p x e =
-    let o = bind_ok (match_line p) after_match x e in
-    let a = bind_ok (board_line o.0.1) (after_board o.0.0) x o.2 in
+    let o = bind_ok (match_opening p) after_opening x e in
+    let ranges = ranges_of o.0.0 in
+    let a = bind_ok (board_part o.0.0 o.0.1) (after_board o.0.0) x o.2 in
     let t = bind_ok (turns_line a.0.1) (after_turns o.0.0 a.0.0) x a.2 in
-    let b = bind_ok (border_line t.0.1) (after_border o.0.0 a.0.0 t.0.0) x t.2 in
-    let g = bind_ok (mating_part o.0.0 b.0.1) (after_mating a.0.0 t.0.0 b.0.0) x b.2 in
-    let tiles = tiles_is a.0.0 t.0.0 b.0.0 g.0.0 g.0.1 x g.2 in
+    let b = bind_ok (border_line ranges t.0.1) (after_border o.0.0 a.0.0 t.0.0) x t.2 in
+    let g = bind_ok (mating_part o.0.0 b.0.1) (after_mating (most_of o.0.0) a.0.0 t.0.0 b.0.0) x b.2 in
+    let tiles = tiles_is (most_of o.0.0) (most_fits o.0.0) a.0.0 t.0.0 b.0.0 g.0.0 g.0.1 x g.2 in
     let words = tiles.0 in
-    let first = takes_match.is p o.0.0 o.0.1 o.1 in
-    let board = takes_board.is o.0.1 a.0.0 a.0.1 a.1 in
+    let first = (takes_opening (codes "match") refl).is p o.0.0 o.0.1 o.1 in
+    let board = (takes_board o.0.0).is o.0.1 a.0.0 a.0.1 a.1 in
     let turns = takes_turns.is a.0.1 t.0.0 t.0.1 t.1 in
-    let border = takes_border.is t.0.1 b.0.0 b.0.1 b.1 in
-    let mating = mating_is o.0.0 b.0.1 g.0.0 g.0.1 g.1 in
-    let mates : b.0.1.ahead ≡ text_of (mates_lines (version_of g.0.0) g.0.0.mates) ++ g.0.1.ahead = subst (λ v. b.0.1.ahead ≡ text_of (mates_lines v g.0.0.mates) ++ g.0.1.ahead) (sym mating.0) mating.1 in
-    let version : p.ahead ≡ text_of (first_line g.0.0) ++ o.0.1.ahead = subst (λ v. p.ahead ≡ text_of (match_words v ∷ []) ++ o.0.1.ahead) (sym mating.0) first.0 in
-    let at_mating = lines_then b.0.1.ahead (mates_lines (version_of g.0.0) g.0.0.mates) (from_count words) g.0.1.ahead [] mates tiles.2 in
+    let border = (takes_border ranges).is t.0.1 b.0.0 b.0.1 b.1 in
+    let mating = mating_is o.0.0 first.1 b.0.1 g.0.0 g.0.1 g.1 in
+    let version : p.ahead ≡ text_of (first_line g.0.0) ++ o.0.1.ahead = subst (λ v. p.ahead ≡ text_of (first_words (codes "match") v ∷ []) ++ o.0.1.ahead) (sym mating.0) first.0 in
+    let at_mating = lines_then b.0.1.ahead (mates_lines g.0.0) (from_count words) g.0.1.ahead [] mating.1 tiles.2 in
     let at_border = lines_then t.0.1.ahead (border_words b.0.0 ∷ []) (from_mating g.0.0 words) b.0.1.ahead [] border.0 at_mating in
     let at_turns = lines_then a.0.1.ahead (turns_words t.0.0 ∷ []) (from_border b.0.0 g.0.0 words) t.0.1.ahead [] turns.0 at_border in
-    let at_board = lines_then o.0.1.ahead (board_words a.0.0 ∷ []) (from_turns t.0.0 b.0.0 g.0.0 words) a.0.1.ahead [] board.0 at_turns in
+    let at_board = lines_then o.0.1.ahead (board_lines a.0.0) (from_turns t.0.0 b.0.0 g.0.0 words) a.0.1.ahead [] board.0 at_turns in
     let whole = lines_then p.ahead (first_line g.0.0) (from_board a.0.0 t.0.0 b.0.0 g.0.0 words) o.0.1.ahead [] version at_board in
     let said = task a.0.0 t.0.0 b.0.0 g.0.0 words in
     let spelled : p.ahead ≡ text_of (puzzle_lines said) = whole ∙ append-nil (text_of (first_line g.0.0 ++ from_board a.0.0 t.0.0 b.0.0 g.0.0 words)) ∙ ap text_of (lines_are said) in
-    let within : IsTaskWithin said = record { board = board.1; border = border.1; mating = mating.2; some_tiles = tiles.3; few_tiles = tiles.4; words = tiles.5 } in
+    let rules : IsBorderWithin (ranges_of g.0.0.version) b.0.0 = subst (λ v. IsBorderWithin (ranges_of v) b.0.0) (sym mating.0) border.1 in
+    let few : length words ≤ most_of g.0.0.version = subst (λ v. length words ≤ most_of v) (sym mating.0) tiles.4 in
+    let figure : IsFigureWithin g.0.0.version a.0.0 = subst (λ v. IsFigureWithin v a.0.0) (sym mating.0) board.1 in
+    let within : IsTaskWithin said = record { board = figure; border = rules; mating = mating.2; some_tiles = tiles.3; few_tiles = few; words = tiles.5 } in
     subst (λ (z : Task). (p.ahead ≡ text_of (puzzle_lines z)) × IsTaskWithin z) (sym tiles.1) (spelled, within)
 
 -- the parts of a spelling, one behind the other
 pub puzzle_parts : (p : Task) → text_of (puzzle_lines p)
-    ≡ text_of (first_line p.mating) ++ (text_of (board_words p.board ∷ []) ++ (text_of (turns_words p.turns ∷ []) ++ (text_of (border_words p.border ∷ []) ++ (text_of (mates_lines (version_of p.mating) p.mating.mates) ++ (text_of (count_words (codes "tiles") (length p.words) ∷ []) ++ (text_of (map tile_words p.words) ++ text_of end_lines))))))
+    ≡ text_of (first_line p.mating) ++ (text_of (board_lines p.board) ++ (text_of (turns_words p.turns ∷ []) ++ (text_of (border_words p.border ∷ []) ++ (text_of (mates_lines p.mating) ++ (text_of (count_words (codes "tiles") (length p.words) ∷ []) ++ (text_of (map tile_words p.words) ++ text_of end_lines))))))
 puzzle_parts p =
     let first = first_line p.mating in
-    let board = board_words p.board ∷ [] in
+    let board = board_lines p.board in
     let turns = turns_words p.turns ∷ [] in
     let border = border_words p.border ∷ [] in
-    let mates = mates_lines (version_of p.mating) p.mating.mates in
+    let mates = mates_lines p.mating in
     let count = count_words (codes "tiles") (length p.words) ∷ [] in
     let tiles = map tile_words p.words in
     text_of-append first (board ++ (turns ++ (border ++ (mates ++ (count ++ (tiles ++ end_lines))))))
@@ -145,15 +164,16 @@ puzzle_again p fits =
     let last = text_of end_lines in
     let tiles = text_of (lines_of_tiles p.words) ++ last in
     let count = text_of (count_words (codes "tiles") (length p.words) ∷ []) ++ tiles in
-    let mates = text_of (mates_lines (version_of p.mating) p.mating.mates) ++ count in
+    let mates = text_of (mates_lines p.mating) ++ count in
     let border = text_of (border_words p.border ∷ []) ++ mates in
     let turns = text_of (turns_words p.turns ∷ []) ++ border in
-    let one = takes_match.passes (version_of p.mating) tt 0 [] (text_of (board_words p.board ∷ []) ++ turns) in
-    let two = takes_board.passes p.board fits.board one.0 [] turns in
+    let ranges = ranges_of p.mating.version in
+    let one = (takes_opening (codes "match") refl).passes p.mating.version (mating_version p.mating fits.mating) 0 [] (text_of (board_lines p.board) ++ turns) in
+    let two = (takes_board p.mating.version).passes p.board fits.board one.0 [] turns in
     let three = takes_turns.passes p.turns tt two.0 [] border in
-    let four = takes_border.passes p.border fits.border three.0 [] mates in
+    let four = (takes_border ranges).passes p.border fits.border three.0 [] mates in
     let five = mating_again p.mating fits.mating four.0 count in
-    let six = (takes_counted (codes "tiles") 1 MOST_TILES refl (omega arith)).passes (length p.words) (fits.some_tiles, fits.few_tiles) five.0 [] tiles in
+    let six = (takes_counted (codes "tiles") 1 (most_of p.mating.version) refl (most_fits p.mating.version)).passes (length p.words) (fits.some_tiles, fits.few_tiles) five.0 [] tiles in
     let seven = times_again tile_line (λ word. tile_words word ∷ []) IsWordWithin takes_tile p.words fits.words six.0 last in
     let eight = closing_again seven.0 [] in
     (eight.0, rw (puzzle_parts p, sym (flat_map_single tile_words p.words), one.1, two.1, three.1, four.1, five.1, six.1, seven.1, eight.1) refl)
@@ -162,23 +182,23 @@ puzzle_again p fits =
 
 cuts_puzzle : CutsShort puzzle_text
 unfolding puzzle_text
-cuts_puzzle = cuts_bind match_line after_match cuts_match
-    (λ version. cuts_bind board_line (after_board version) cuts_board
+cuts_puzzle = cuts_bind match_opening after_opening (cuts_opening (codes "match"))
+    (λ version. cuts_bind (board_part version) (after_board version) (cuts_board version)
     (λ board. cuts_bind turns_line (after_turns version board) cuts_turns
-    (λ turns. cuts_bind border_line (after_border version board turns) cuts_border
-    (λ border. cuts_bind (mating_part version) (after_mating board turns border) (cuts_mating version)
-    (λ mating. cuts_bind (counted (codes "tiles") 1 MOST_TILES) (after_count board turns border mating) (cuts_counted (codes "tiles") 1 MOST_TILES)
+    (λ turns. cuts_bind (border_line (ranges_of version)) (after_border version board turns) (cuts_border (ranges_of version))
+    (λ border. cuts_bind (mating_part version) (after_mating (most_of version) board turns border) (cuts_mating version)
+    (λ mating. cuts_bind (tile_count (most_of version)) (after_count board turns border mating) (cuts_counted (codes "tiles") 1 (most_of version))
     (λ count. cuts_bind (times count tile_line) (after_tiles board turns border mating) (cuts_times count tile_line cuts_tile)
     (λ words. cuts_bind closing (λ _. give (task board turns border mating words)) cuts_closing (λ _. cuts_give (task board turns border mating words)))))))))
 
 puzzle_leaves : LeavesNothing puzzle_text
 unfolding puzzle_text
-puzzle_leaves = leaves_after match_line after_match
-    (λ version. leaves_after board_line (after_board version)
+puzzle_leaves = leaves_after match_opening after_opening
+    (λ version. leaves_after (board_part version) (after_board version)
     (λ board. leaves_after turns_line (after_turns version board)
-    (λ turns. leaves_after border_line (after_border version board turns)
-    (λ border. leaves_after (mating_part version) (after_mating board turns border)
-    (λ mating. leaves_after (counted (codes "tiles") 1 MOST_TILES) (after_count board turns border mating)
+    (λ turns. leaves_after (border_line (ranges_of version)) (after_border version board turns)
+    (λ border. leaves_after (mating_part version) (after_mating (most_of version) board turns border)
+    (λ mating. leaves_after (tile_count (most_of version)) (after_count board turns border mating)
     (λ count. leaves_after (times count tile_line) (after_tiles board turns border mating)
     (λ words. leaves_closing (task board turns border mating words))))))))
 
@@ -203,7 +223,7 @@ puzzle_short = ends_where_cut puzzle_text IsTaskWithin puzzle_spelling cuts_puzz
 
 -- a spelling, as its lines are written
 pub puzzle_written : (p : Task) → puzzle_spelling p
-    ≡ ((((((text_of (first_line p.mating) ++ text_of (board_words p.board ∷ [])) ++ text_of (turns_words p.turns ∷ [])) ++ text_of (border_words p.border ∷ [])) ++ text_of (mates_lines (version_of p.mating) p.mating.mates)) ++ text_of (count_words (codes "tiles") (length p.words) ∷ [])) ++ text_of (map tile_words p.words)) ++ text_of end_lines
+    ≡ ((((((text_of (first_line p.mating) ++ text_of (board_lines p.board)) ++ text_of (turns_words p.turns ∷ [])) ++ text_of (border_words p.border ∷ [])) ++ text_of (mates_lines p.mating)) ++ text_of (count_words (codes "tiles") (length p.words) ∷ [])) ++ text_of (map tile_words p.words)) ++ text_of end_lines
 unfolding puzzle_spelling
 puzzle_written p = puzzle_parts p
-    ∙ eight_parts (text_of (first_line p.mating)) (text_of (board_words p.board ∷ [])) (text_of (turns_words p.turns ∷ [])) (text_of (border_words p.border ∷ [])) (text_of (mates_lines (version_of p.mating) p.mating.mates)) (text_of (count_words (codes "tiles") (length p.words) ∷ [])) (text_of (map tile_words p.words)) (text_of end_lines)
+    ∙ eight_parts (text_of (first_line p.mating)) (text_of (board_lines p.board)) (text_of (turns_words p.turns ∷ [])) (text_of (border_words p.border ∷ [])) (text_of (mates_lines p.mating)) (text_of (count_words (codes "tiles") (length p.words) ∷ [])) (text_of (map tile_words p.words)) (text_of end_lines)

@@ -1,6 +1,10 @@
 -- What reading a puzzle comes to.
-use Rattle.std.proofs.Common.{◌≡◌, ◌<◌, ◌≤◌, ◌+◌, ℕ, List, length, take, Result, Ok, Err, sym, ap, subst, ◌∙◌, arith, ⊎_elim}
-use Rattle.match_board.specs.declared.limits.TheConstants.{MOST_TILES, MOST_COLOURS}
+use Rattle.std.proofs.Common.{◌≡◌, ◌<◌, ◌≤◌, ◌+◌, ◌^◌, ℕ, List, length, take, Result, Ok, Err, sym, ap, subst, ◌∙◌, arith, ⊎_elim}
+use Rattle.match_board.specs.declared.limits.TheConstants.{MOST_COLOURS}
+use Rattle.match_text.specs.declared.ranges.Ranges.{Ranges}
+use Rattle.match_text.specs.Ranges.{ranges_of, AreRanges}
+use Rattle.match_puzzle.specs.Mates.{IsOfVersion}
+use Rattle.match_text.proofs.RangesLemmas.{are_ranges}
 use Rattle.std.specs.Prelude.{IfOk}
 use Rattle.match_board.specs.declared.boards.BoardFault.{BoardFault}
 use Rattle.match_board.specs.declared.boards.BoardFault.TheVariants.{Empty, TooLarge}
@@ -15,7 +19,10 @@ use Rattle.match_text.specs.declared.faults.PuzzleTextFault.TheVariants as fault
 use Rattle.match_text.specs.Bytes.{line_ends}
 use Rattle.match_text.specs.Place.{fail}
 use Rattle.match_text.specs.Puzzles.{puzzle_of, BoardFails, PuzzleReads, PuzzleGives}
-use Rattle.match_text.specs.PuzzleSpelling.{puzzle_spelling, IsBorderWithin, IsTaskWithin}
+use Rattle.match_text.specs.PuzzleSpelling.{puzzle_spelling, IsFigureWithin, IsBorderWithin, IsTaskWithin}
+use Rattle.match_board.specs.Board.{IsPlain}
+use Rattle.match_board.specs.declared.figures.Figure.{Figure}
+use Rattle.match_board.specs.declared.figures.Figure.TheVariants.{Rectangle, Triangle, Hexagon, Shape}
 use Rattle.match_text.proofs.CutLemmas.{ok_is}
 use Rattle.match_text.proofs.PuzzleLemmas.{puzzle_found, puzzle_only, puzzle_short}
 use Rattle.match_text.proofs.LimitLemmas.{puzzle_within}
@@ -23,19 +30,32 @@ use Rattle.match_puzzle.proofs.MateLemmas.{not_without}
 
 -- ---- how much was read
 
-short_rule : (border : BorderRule) → IsBorderWithin border → IsShortRule border
-short_rule free within = tt
-short_rule (one c) within = tt
-short_rule (each rules) within = omega (arith, within.1)
+short_rule : (ranges : Ranges) → AreRanges ranges → (border : BorderRule) → IsBorderWithin ranges border → IsShortRule border
+short_rule ranges are free within = tt
+short_rule ranges are (one c) within = tt
+short_rule ranges are (each rules) within = omega (arith, within.1, are.rules, are.few)
 
 pub said_border : (text : List ℕ) (said : Task) → puzzle_of text ≡ Ok said → IsShortRule said.border
-said_border text said e = short_rule said.border (puzzle_found text said e).0.border
+said_border text said e = short_rule (ranges_of said.mating.version) (are_ranges said.mating.version) said.border (puzzle_found text said e).0.border
 
-pub said_tiles : (text : List ℕ) (said : Task) → puzzle_of text ≡ Ok said → length said.words ≤ MOST_TILES
-said_tiles text said e = (puzzle_found text said e).0.few_tiles
+pub said_tiles : (text : List ℕ) (said : Task) → puzzle_of text ≡ Ok said → length said.words < 2 ^ 32
+said_tiles text said e = let are = are_ranges said.mating.version in omega (arith, (puzzle_found text said e).0.few_tiles, are.few)
 
 pub said_mates : (text : List ℕ) (said : Task) → puzzle_of text ≡ Ok said → length said.mating.mates ≤ MOST_COLOURS
 said_mates text said e = (puzzle_found text said e).0.mating.1
+
+pub said_version : (text : List ℕ) (said : Task) → puzzle_of text ≡ Ok said → IsOfVersion said.mating
+said_version text said e = (puzzle_found text said e).0.mating.0
+
+figure_plain : (s : Figure) (version : ℕ) → IsFigureWithin version s → version ≡ 1 → IsPlain s
+figure_plain (Rectangle width height) version within first = tt
+figure_plain (Triangle size) version within first = tt
+figure_plain (Hexagon size) version within first = tt
+figure_plain (Shape width height mask) version within first = absurd (omega (arith, first, within.0))
+
+-- the board of version 1 is no shape
+pub said_plain : (text : List ℕ) (said : Task) → puzzle_of text ≡ Ok said → said.mating.version ≡ 1 → IsPlain said.board
+said_plain text said e first = figure_plain said.board said.mating.version (puzzle_found text said e).0.board first
 
 -- ---- the laws of what a call returned
 
@@ -51,8 +71,8 @@ same_fault f g e = cc
 
 -- a puzzle has no fault
 no_board_fault : (p : Task) (fault : BoardFault) → IsPuzzle p → BoardFails p.board fault → ⊥
-no_board_fault p Empty is fails = omega (arith, is.board.0, fails)
-no_board_fault p TooLarge is fails = omega (arith, is.board.1, fails)
+no_board_fault p Empty is fails = omega (arith, is.board.some, fails)
+no_board_fault p TooLarge is fails = fails.1 is.board.room
 
 no_puzzle_fault : (p : Task) (fault : PuzzleFault) → IsPuzzle p → PuzzleFails p fault → ⊥
 no_puzzle_fault p puzzle.FixedTriangles is fails = let yes' = is.triangles fails.0 in absurd cc

@@ -1,6 +1,8 @@
 -- Words that spell a value.
-use Rattle.std.proofs.Common.{◌≡◌, ℕ, ◌^◌, ◌<◌, ◌≤◌, Bool, true, false, cond, eqb, not, ltb, leb, ◌&&◌, ◌||◌, List, [], ◌∷◌, ◌++◌, length, get_or, map, Option, Some, None, Result, Ok, Err, refl, sym, ap, subst, ◌∙◌, arith, codes, inl, inr}
-use Rattle.match_board.specs.declared.limits.TheConstants.{LAST_TILE, LAST_TURN}
+use Rattle.std.proofs.Common.{◌≡◌, ℕ, ◌^◌, ◌<◌, ◌≤◌, Bool, true, false, cond, eqb, not, ltb, leb, ◌&&◌, ◌||◌, List, [], ◌∷◌, ◌++◌, length, get_or, map, Option, Some, None, Result, Ok, Err, refl, sym, ap, subst, ◌∙◌, arith, codes, inl, inr, ⊎_elim}
+use Rattle.match_board.specs.declared.limits.TheConstants.{LAST_TURN}
+use Rattle.match_text.specs.declared.ranges.Ranges.{Ranges}
+use Rattle.match_text.specs.Ranges.{IsVersion, AreRanges}
 use Rattle.match_text.specs.declared.faults.TextKind.{TextKind}
 use Rattle.std.specs.List.{AllByRecursion}
 use Rattle.std.specs.Fmt.{decimal}
@@ -118,10 +120,32 @@ spells_fixed wanted = record {
   passes = λ x fits. rw ((bytes_eq-Decides wanted wanted).1 refl) refl;
 }
 
-pub spells_version : Spells version_in (λ _. codes "1") (λ _. Unit {0})
+-- ---- versions
+
+one_word : decimal 1 ≡ codes "1"
+one_word = decimal_digit 1 (omega arith)
+
+two_word : decimal 2 ≡ codes "2"
+two_word = decimal_digit 2 (omega arith)
+
+abbrev IsVersionWord : List ℕ → ℕ → Type 0
+IsVersionWord word version = (word ≡ decimal version) × IsVersion version
+
+version_first : (word : List ℕ) (version : ℕ) (t u : Bool) → bytes_eq word (codes "1") ≡ t → bytes_eq word (codes "2") ≡ u → cond t (judged_ok 1) (cond u (judged_ok 2) (Err Version)) ≡ judged_ok version → IsVersionWord word version
+version_first word version true u is is' e = subst (IsVersionWord word) (judged_ok_is 1 version e) ((bytes_eq-Decides word (codes "1")).0 is ∙ sym one_word, inl refl)
+version_first word version false true is is' e = subst (IsVersionWord word) (judged_ok_is 2 version e) ((bytes_eq-Decides word (codes "2")).0 is' ∙ sym two_word, inr refl)
+version_first word version false false is is' e = absurd cc
+
+abbrev IsReadAsVersion : ℕ → Type 0
+IsReadAsVersion version = version_in (decimal version) ≡ judged_ok version
+
+version_again : (version : ℕ) → IsVersion version → IsReadAsVersion version
+version_again version is = ⊎_elim (λ one. subst IsReadAsVersion (sym one) (rw one_word refl)) (λ two. subst IsReadAsVersion (sym two) (rw two_word refl)) is
+
+pub spells_version : Spells version_in decimal IsVersion
 spells_version = record {
-  is = λ word x e. ((bytes_eq-Decides word (codes "1")).0 (if_ok (bytes_eq word (codes "1")) (Ok tt) Version x e).0, tt);
-  passes = λ x fits. refl;
+  is = λ word version e. version_first word version (bytes_eq word (codes "1")) (bytes_eq word (codes "2")) refl refl e;
+  passes = version_again;
 }
 
 -- ---- placements
@@ -156,19 +180,23 @@ cut_dot c (b ∷ word) rest e =
     let other : eqb b c ≡ false = not_so (eqb b c) h.0 in
     rw (other, cut_dot c word rest h.1) refl
 
-pub spells_placement : Spells placement_in placement_word IsPlacementWithin
+-- a range of cells is one of numbers
+pub last_fits : (ranges : Ranges) → AreRanges ranges → ranges.last_cell < 2 ^ 64
+last_fits ranges are = omega (arith, are.few, are.last)
+
+pub spells_placement : (ranges : Ranges) → AreRanges ranges → Spells (placement_in ranges) placement_word (IsPlacementWithin ranges)
 unfolding placement_in
-spells_placement = record {
+spells_placement ranges are = record {
   is = λ word x e.
-      let a = judged_bind (or_word (cut_at 46 word)) (λ parts. number_in 0 LAST_TILE parts.0 >>= λ tile. number_in 0 LAST_TURN parts.1 >>= λ turn. Ok (placed tile turn)) x e in
-      let b = judged_bind (number_in 0 LAST_TILE a.0.0) (λ tile. number_in 0 LAST_TURN a.0.1 >>= λ turn. Ok (placed tile turn)) x a.2 in
+      let a = judged_bind (or_word (cut_at 46 word)) (λ parts. number_in 0 ranges.last_cell parts.0 >>= λ tile. number_in 0 LAST_TURN parts.1 >>= λ turn. Ok (placed tile turn)) x e in
+      let b = judged_bind (number_in 0 ranges.last_cell a.0.0) (λ tile. number_in 0 LAST_TURN a.0.1 >>= λ turn. Ok (placed tile turn)) x a.2 in
       let d = judged_bind (number_in 0 LAST_TURN a.0.1) (λ turn. Ok (placed b.0 turn)) x b.2 in
-      let tile = (spells_number 0 LAST_TILE (omega arith)).is a.0.0 b.0 b.1 in
+      let tile = (spells_number 0 ranges.last_cell (last_fits ranges are)).is a.0.0 b.0 b.1 in
       let turn = (spells_number 0 LAST_TURN (omega arith)).is a.0.1 d.0 d.1 in
       let whole : word ≡ decimal b.0 ++ 46 ∷ decimal d.0 = cut_parts 46 word a.0 (or_word_is (cut_at 46 word) a.0 a.1) ∙ ap (λ w. w ++ 46 ∷ a.0.1) tile.0 ∙ ap (λ w. decimal b.0 ++ 46 ∷ w) turn.0 in
-      subst (λ (z : Placement). (word ≡ placement_word z) × IsPlacementWithin z) (judged_ok_is (placed b.0 d.0) x d.2) (whole, (tile.1.1, turn.1.1));
+      subst (λ (z : Placement). (word ≡ placement_word z) × IsPlacementWithin ranges z) (judged_ok_is (placed b.0 d.0) x d.2) (whole, (tile.1.1, turn.1.1));
   passes = λ x fits.
-      rw (cut_dot 46 (decimal x.tile) (decimal x.turn) (decimal_lacks 46 x.tile (omega arith) (omega (arith, fits.0))), (spells_number 0 LAST_TILE (omega arith)).passes x.tile (omega arith, fits.0), (spells_number 0 LAST_TURN (omega arith)).passes x.turn (omega arith, fits.1)) refl;
+      rw (cut_dot 46 (decimal x.tile) (decimal x.turn) (decimal_lacks 46 x.tile (omega arith) (omega (arith, fits.0, last_fits ranges are))), (spells_number 0 ranges.last_cell (last_fits ranges are)).passes x.tile (omega arith, fits.0), (spells_number 0 LAST_TURN (omega arith)).passes x.turn (omega arith, fits.1)) refl;
 }
 
 -- ---- clean words
@@ -199,8 +227,11 @@ clean-append (x ∷ a) b e h =
 pub clean-decimal : (n : ℕ) → n < 2 ^ 64 → is_clean (decimal n) ≡ true
 clean-decimal n lt = clean_from (decimal n) (decimal_lacks 32 n (omega arith) lt) (decimal_lacks 10 n (omega arith) lt)
 
-pub clean-placement : (p : Placement) → IsPlacementWithin p → is_clean (placement_word p) ≡ true
-clean-placement p fits = clean-append (decimal p.tile) (46 ∷ decimal p.turn) (clean-decimal p.tile (omega (arith, fits.0))) (rw (clean-decimal p.turn (omega (arith, fits.1))) refl)
+pub clean-version : (version : ℕ) → IsVersion version → is_clean (decimal version) ≡ true
+clean-version version is = clean-decimal version (⊎_elim (λ one. omega (arith, one)) (λ two. omega (arith, two)) is)
+
+pub clean-placement : (ranges : Ranges) → AreRanges ranges → (p : Placement) → IsPlacementWithin ranges p → is_clean (placement_word p) ≡ true
+clean-placement ranges are p fits = clean-append (decimal p.tile) (46 ∷ decimal p.turn) (clean-decimal p.tile (omega (arith, fits.0, last_fits ranges are))) (rw (clean-decimal p.turn (omega (arith, fits.1))) refl)
 
 -- words of values that are clean
 pub clean-words : {X : Type 0} (word_of : X → List ℕ) (Fits : X → Type 0) → ((x : X) → Fits x → is_clean (word_of x) ≡ true) → (xs : List X) → 0 < length xs → AllByRecursion Fits xs → are_clean (map word_of xs) ≡ true
@@ -208,5 +239,5 @@ clean-words word_of Fits clean [] lt fits = absurd (omega (arith, lt))
 clean-words word_of Fits clean (x ∷ []) lt fits = clean x fits.0
 clean-words word_of Fits clean (x ∷ y ∷ xs) lt fits = rw (clean x fits.0, clean-words word_of Fits clean (y ∷ xs) (omega arith) fits.1) refl
 
-pub clean-row : (row : List Placement) → 0 < length row → AllByRecursion IsPlacementWithin row → are_clean (map placement_word row) ≡ true
-clean-row row lt fits = clean-words placement_word IsPlacementWithin clean-placement row lt fits
+pub clean-row : (ranges : Ranges) → AreRanges ranges → (row : List Placement) → 0 < length row → AllByRecursion (IsPlacementWithin ranges) row → are_clean (map placement_word row) ≡ true
+clean-row ranges are row lt fits = clean-words placement_word (IsPlacementWithin ranges) (clean-placement ranges are) row lt fits

@@ -1,4 +1,5 @@
 pub mod Bytes
+pub mod Ranges
 pub mod Words
 pub mod Place
 pub mod Lists

@@ -1,31 +1,47 @@
--- The one spelling of a list of arrangements.
+-- The spelling of a list of arrangements in each version.
 use Rattle.std.specs.Prelude.{ℕ, ◌<◌, ◌≤◌, List, [], ◌∷◌, ◌++◌, length, map, codes}
-use Rattle.match_board.specs.declared.limits.TheConstants.{MOST_CELLS, LAST_TILE, LAST_TURN, MOST_ARRANGEMENTS}
+use Rattle.match_board.specs.declared.limits.TheConstants.{LAST_TURN, MOST_ARRANGEMENTS}
 use Rattle.std.specs.List.{AllByRecursion}
 use Rattle.match_puzzle.specs.declared.placements.Placement.{Placement}
+use Rattle.match_text.specs.declared.ranges.Ranges.{Ranges}
+use Rattle.match_text.specs.Ranges.{IsVersion, ranges_of}
+use Rattle.match_text.specs.Lists.{ListSaid}
 use Rattle.match_text.specs.Spelling.{text_of, placement_word, first_words, count_words, end_lines}
 
 abbrev pub arrangement_words : List Placement → List (List ℕ)
 arrangement_words row = map placement_word row
 
-abbrev pub list_head : ℕ → List (List (List ℕ))
-list_head count = first_words (codes "list") ∷ count_words (codes "arrangements") count ∷ []
+abbrev pub list_head : (version count : ℕ) → List (List (List ℕ))
+list_head version count = first_words (codes "list") version ∷ count_words (codes "arrangements") count ∷ []
 
-abbrev pub list_lines : List (List Placement) → List (List (List ℕ))
-list_lines rows = list_head (length rows) ++ (map arrangement_words rows ++ end_lines)
+abbrev pub list_lines : ℕ → List (List Placement) → List (List (List ℕ))
+list_lines version rows = list_head version (length rows) ++ (map arrangement_words rows ++ end_lines)
 
-unfoldable pub list_spelling : List (List Placement) → List ℕ
-list_spelling rows = text_of (list_lines rows)
+unfoldable pub list_spelling : ℕ → List (List Placement) → List ℕ
+list_spelling version rows = text_of (list_lines version rows)
+
+-- the one text that says so
+abbrev pub said_spelling : ListSaid → List ℕ
+said_spelling said = list_spelling said.version said.rows
 
 -- ---- what has a spelling
 
-abbrev pub IsPlacementWithin : Placement → Type 0
-IsPlacementWithin p = (p.tile ≤ LAST_TILE) × (p.turn ≤ LAST_TURN)
+abbrev pub IsPlacementWithin : Ranges → Placement → Type 0
+IsPlacementWithin ranges p = (p.tile ≤ ranges.last_cell) × (p.turn ≤ LAST_TURN)
 
--- 1 to 100 placements
-abbrev pub IsRowWithin : List Placement → Type 0
-IsRowWithin row = (0 < length row) × (length row ≤ MOST_CELLS) × AllByRecursion IsPlacementWithin row
+-- at least one placement
+abbrev pub IsRowWithin : Ranges → List Placement → Type 0
+IsRowWithin ranges row =
+    (0 < length row) × (length row ≤ ranges.most_cells) × AllByRecursion (IsPlacementWithin ranges) row
 
--- The list is within the limits of its text.
-abbrev pub IsListWithin : List (List Placement) → Type 0
-IsListWithin rows = (length rows ≤ MOST_ARRANGEMENTS) × AllByRecursion IsRowWithin rows
+-- The list is within the limits of a text with these ranges.
+abbrev pub IsListWithin : Ranges → List (List Placement) → Type 0
+IsListWithin ranges rows = (length rows ≤ MOST_ARRANGEMENTS) × AllByRecursion (IsRowWithin ranges) rows
+
+-- The list has a spelling in this version.
+abbrev pub IsSpelledIn : ℕ → List (List Placement) → Type 0
+IsSpelledIn version rows = IsVersion version × IsListWithin (ranges_of version) rows
+
+-- There is a text that says so.
+abbrev pub IsSaidWithin : ListSaid → Type 0
+IsSaidWithin said = IsSpelledIn said.version said.rows

@@ -1,30 +1,51 @@
 -- The text of a list of arrangements.
 use Rattle.std.specs.Prelude.{◌≡◌, ℕ, List, Result, Ok, Err, codes}
-use Rattle.match_board.specs.declared.limits.TheConstants.{MOST_CELLS, MOST_ARRANGEMENTS}
+use Rattle.match_board.specs.declared.limits.TheConstants.{MOST_ARRANGEMENTS}
 use Rattle.std.specs.Global.{Vec}
 use Rattle.match_puzzle.specs.declared.placements.Placement.{Placement}
 use Rattle.match_text.specs.declared.faults.TextFault.{TextFault}
 use Rattle.match_text.specs.declared.faults.ListTextFault.{ListTextFault}
 use Rattle.match_text.specs.declared.faults.ListTextFault.TheVariants as faults
+use Rattle.match_text.specs.declared.lists.ListText as code
+use Rattle.match_text.specs.declared.ranges.Ranges.{Ranges}
+use Rattle.match_text.specs.Ranges.{ranges_of}
 use Rattle.match_text.specs.Words.{placement_in}
 use Rattle.match_text.specs.Place.{Read, ◌>>=◌, give, line_of, some_entries, opening, counted, closing, times, start}
 use Rattle.match_text.specs.Place.{value_of}
 
--- a placement for each cell, 1 to 100
-unfoldable pub arrangement_line : Read (List Placement)
-arrangement_line = line_of (some_entries MOST_CELLS placement_in)
+-- what a text says: its version, and the arrangements that it lists
+pub record ListSaid : Type 0 where
+  pub version : ℕ
+  pub rows : List (List Placement)
 
-unfoldable pub list_text : Read (List (List Placement))
+-- a placement for each cell
+unfoldable pub arrangement_line : Ranges → Read (List Placement)
+arrangement_line ranges = line_of (some_entries ranges.most_cells (placement_in ranges))
+
+unfoldable pub list_text : Read ListSaid
 list_text = do
-  _ ← opening (codes "list")
+  version ← opening (codes "list")
   count ← counted (codes "arrangements") 0 MOST_ARRANGEMENTS
-  arrangements ← times count arrangement_line
+  rows ← times count (arrangement_line (ranges_of version))
   _ ← closing
-  give arrangements
+  give (record { version = version; rows = rows })
+
+-- what a text says, or its first fault
+unfoldable pub list_said : List ℕ → Result ListSaid TextFault
+list_said text = value_of (list_text (start text))
+
+-- the arrangements alone
+abbrev pub rows_of : Result ListSaid TextFault → Result (List (List Placement)) TextFault
+rows_of (Ok said) = Ok said.rows
+rows_of (Err fault) = Err fault
 
 -- the arrangements of a text, or its first fault
 unfoldable pub list_of : List ℕ → Result (List (List Placement)) TextFault
-list_of text = value_of (list_text (start text))
+list_of text = rows_of (list_said text)
+
+-- what was read, without where it lies in memory
+abbrev pub said_of : code.ListText → ListSaid
+said_of t = record { version = t.version; rows = t.rows.items }
 
 -- What a call returned is this outcome. Of want of memory nothing is said.
 abbrev pub ListGives : Result (Vec (List Placement)) ListTextFault → Result (List (List Placement)) TextFault → Type 0

@@ -125,7 +125,7 @@ some_entries room test = do
 -- ---- lines that texts have in common
 
 -- the first line, a word and the version
-unfoldable pub opening : List ℕ → Read (Unit {0})
+unfoldable pub opening : List ℕ → Read ℕ
 opening name = line_of (do
   _ ← word_by (fixed_in name)
   word_by version_in)

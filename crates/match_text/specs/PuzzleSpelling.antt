@@ -1,51 +1,60 @@
 -- The one spelling of a puzzle.
-use Rattle.std.specs.Prelude.{◌≡◌, ◌⊎◌, ◌<◌, ◌≤◌, ◌==◌, if◌then◌else◌, ℕ, Bool, true, false, List, [], ◌∷◌, ◌++◌, Option, Some, None, length}
-use Rattle.std.specs.Prelude.{map, codes, decimal}
-use Rattle.match_board.specs.declared.limits.TheConstants.{MOST_TILES, MOST_LENGTH, MOST_RULES, MOST_COLOURS}
+use Rattle.std.specs.Prelude.{◌≡◌, ◌⊎◌, ◌<◌, ◌≤◌, ◌==◌, if◌then◌else◌, ℕ, zero, suc, Bool, true, false, List, [], ◌∷◌}
+use Rattle.std.specs.Prelude.{◌++◌, Option, Some, None, length, map, take, drop, codes, decimal}
+use Rattle.match_board.specs.declared.limits.TheConstants.{MOST_LENGTH, MOST_PLACES, MOST_COLOURS}
 use Rattle.std.specs.List.{AllByRecursion}
 use Rattle.match_board.specs.declared.figures.Figure.{Figure}
-use Rattle.match_board.specs.declared.figures.Figure.TheVariants.{Rectangle, Triangle, Hexagon}
+use Rattle.match_board.specs.declared.figures.Figure.TheVariants.{Rectangle, Triangle, Hexagon, Shape}
+use Rattle.match_board.specs.Board.{MarksItsPlaces}
 use Rattle.match_puzzle.specs.Mates.{Mating, IsOfVersion}
 use Rattle.match_puzzle.specs.Puzzle.{Task, BorderRule, free, one, each}
-use Rattle.match_text.specs.declared.puzzles.PuzzleVersion.{PuzzleVersion}
-use Rattle.match_text.specs.declared.puzzles.PuzzleVersion.TheVariants.{First, Second}
-use Rattle.match_text.specs.Spelling.{text_of, colour_word, rule_word, tile_word, count_words, end_lines}
-
--- the version with this number
-abbrev pub version_by : ℕ → PuzzleVersion
-version_by number = if number == 1 then First else Second
-
--- the version that a puzzle is written in
-abbrev pub version_of : Mating → PuzzleVersion
-version_of m = version_by m.version
-
-abbrev pub version_word : PuzzleVersion → List ℕ
-version_word First = codes "1"
-version_word Second = codes "2"
-
-abbrev pub match_words : PuzzleVersion → List (List ℕ)
-match_words version = codes "match" ∷ version_word version ∷ []
+use Rattle.match_text.specs.declared.ranges.Ranges.{Ranges}
+use Rattle.match_text.specs.Ranges.{ranges_of}
+use Rattle.match_text.specs.Spelling.{text_of, colour_word, rule_word, tile_word, first_words, count_words, end_lines}
 
 abbrev pub mates_words : List ℕ → List (List ℕ)
 mates_words mates = codes "mates" ∷ map colour_word mates
 
 -- version 2 has a line for the mates
-abbrev pub mates_lines : PuzzleVersion → List ℕ → List (List (List ℕ))
-mates_lines First mates = []
-mates_lines Second mates = mates_words mates ∷ []
+abbrev pub mates_lines : Mating → List (List (List ℕ))
+mates_lines m = if m.version == 1 then [] else mates_words m.mates ∷ []
 
 abbrev pub size_words : Figure → List (List ℕ)
 size_words (Rectangle width height) = decimal width ∷ decimal height ∷ []
 size_words (Triangle size) = decimal size ∷ []
 size_words (Hexagon size) = decimal size ∷ []
+size_words (Shape width height mask) = decimal width ∷ decimal height ∷ []
 
 abbrev pub figure_word : Figure → List ℕ
 figure_word (Rectangle width height) = codes "rect"
 figure_word (Triangle size) = codes "triangle"
 figure_word (Hexagon size) = codes "hexagon"
+figure_word (Shape width height mask) = codes "shape"
 
 abbrev pub board_words : Figure → List (List ℕ)
 board_words board = codes "board" ∷ figure_word board ∷ size_words board
+
+-- a cell, or a place without one
+abbrev pub mark_character : Bool → ℕ
+mark_character mark = if mark then 35 else 46
+
+abbrev pub row_words : List Bool → List (List ℕ)
+row_words row = codes "row" ∷ map mark_character row ∷ []
+
+-- so many rows from the front of a mask
+abbrev pub row_lines : (width rows : ℕ) → List Bool → List (List (List ℕ))
+row_lines width zero mask = []
+row_lines width (suc rows) mask = row_words (take width mask) ∷ row_lines width rows (drop width mask)
+
+-- a shape has a line for each of its rows
+abbrev pub mask_lines : Figure → List (List (List ℕ))
+mask_lines (Rectangle width height) = []
+mask_lines (Triangle size) = []
+mask_lines (Hexagon size) = []
+mask_lines (Shape width height mask) = row_lines width height mask
+
+abbrev pub board_lines : Figure → List (List (List ℕ))
+board_lines board = board_words board ∷ mask_lines board
 
 abbrev pub turns_word : Bool → List ℕ
 turns_word true = codes "yes"
@@ -64,9 +73,9 @@ tile_words word = codes "tile" ∷ tile_word word ∷ []
 
 abbrev pub puzzle_lines : Task → List (List (List ℕ))
 puzzle_lines p =
-    (match_words (version_of p.mating) ∷ [])
-    ++ ((board_words p.board ∷ []) ++ ((turns_words p.turns ∷ []) ++ ((border_words p.border ∷ [])
-    ++ (mates_lines (version_of p.mating) p.mating.mates
+    (first_words (codes "match") p.mating.version ∷ [])
+    ++ (board_lines p.board ++ ((turns_words p.turns ∷ []) ++ ((border_words p.border ∷ [])
+    ++ (mates_lines p.mating
     ++ ((count_words (codes "tiles") (length p.words) ∷ []) ++ (map tile_words p.words ++ end_lines))))))
 
 -- a tile by itself
@@ -82,19 +91,32 @@ puzzle_spelling p = text_of (puzzle_lines p)
 
 -- ---- what has a spelling
 
-abbrev pub IsFigureWithin : Figure → Type 0
-IsFigureWithin (Rectangle width height) = (width ≤ MOST_LENGTH) × (height ≤ MOST_LENGTH)
-IsFigureWithin (Triangle size) = size ≤ MOST_LENGTH
-IsFigureWithin (Hexagon size) = size ≤ MOST_LENGTH
+-- from 1 to as many as there may be places
+abbrev pub IsShapeLength : ℕ → Type 0
+IsShapeLength n = (1 ≤ n) × (n ≤ MOST_PLACES)
+
+abbrev pub IsFigureWithin : ℕ → Figure → Type 0
+IsFigureWithin version (Rectangle width height) = (width ≤ MOST_LENGTH) × (height ≤ MOST_LENGTH)
+IsFigureWithin version (Triangle size) = size ≤ MOST_LENGTH
+IsFigureWithin version (Hexagon size) = size ≤ MOST_LENGTH
+IsFigureWithin version (Shape width height mask) =
+    (version ≡ 2) × IsShapeLength width × IsShapeLength height × MarksItsPlaces (Shape width height mask)
 
 abbrev pub IsRuleWithin : Option ℕ → Type 0
 IsRuleWithin None = Unit {0}
 IsRuleWithin (Some colour) = colour < MOST_COLOURS
 
-abbrev pub IsBorderWithin : BorderRule → Type 0
-IsBorderWithin free = Unit {0}
-IsBorderWithin (one colour) = colour < MOST_COLOURS
-IsBorderWithin (each rules) = (0 < length rules) × (length rules ≤ MOST_RULES) × AllByRecursion IsRuleWithin rules
+-- There is each colour that the border asks for.
+abbrev pub AreRulesWithin : BorderRule → Type 0
+AreRulesWithin free = Unit {0}
+AreRulesWithin (one colour) = colour < MOST_COLOURS
+AreRulesWithin (each rules) = AllByRecursion IsRuleWithin rules
+
+abbrev pub IsBorderWithin : Ranges → BorderRule → Type 0
+IsBorderWithin ranges free = Unit {0}
+IsBorderWithin ranges (one colour) = colour < MOST_COLOURS
+IsBorderWithin ranges (each rules) =
+    (0 < length rules) × (length rules ≤ ranges.most_rules) × AllByRecursion IsRuleWithin rules
 
 -- a version, and colours as mates
 abbrev pub IsMatingWithin : Mating → Type 0
@@ -107,9 +129,9 @@ IsWordWithin word = ((length word ≡ 3) ⊎ (length word ≡ 4)) × AllByRecurs
 
 -- The puzzle is within the limits of its text; there may be no such puzzle.
 pub record IsTaskWithin (p : Task) : Type 0 where
-  pub board : IsFigureWithin p.board
-  pub border : IsBorderWithin p.border
+  pub board : IsFigureWithin p.mating.version p.board
+  pub border : IsBorderWithin (ranges_of p.mating.version) p.border
   pub mating : IsMatingWithin p.mating
   pub some_tiles : 1 ≤ length p.words
-  pub few_tiles : length p.words ≤ MOST_TILES
+  pub few_tiles : length p.words ≤ (ranges_of p.mating.version).most_cells
   pub words : AllByRecursion IsWordWithin p.words

@@ -1,72 +1,97 @@
 -- The text of a puzzle.
-use Rattle.std.specs.Prelude.{◌≡◌, ◌<◌, ℕ, Bool, true, false, List, Result, Ok, Err, codes, map, if◌then◌else◌}
-use Rattle.match_board.specs.declared.limits.TheConstants.{MOST_CELLS, MOST_TILES, MOST_LENGTH, MOST_RULES, MOST_COLOURS}
+use Rattle.std.specs.Prelude.{◌≡◌, ◌≤◌, ◌*◌, ◌==◌, ◌&&◌, ℕ, Bool, true, false, List, Result, Ok, Err, codes, map}
+use Rattle.std.specs.Prelude.{◌++◌, length, if◌then◌else◌}
+use Rattle.std.specs.List.{flat_map}
+use Rattle.match_board.specs.declared.limits.TheConstants.{MOST_LENGTH, MOST_PLACES, MOST_COLOURS}
 use Rattle.std.specs.Str.{bytes_eq}
-use Rattle.match_board.specs.Board.{cell_count, IsBoard}
+use Rattle.match_board.specs.Board.{cell_count, HasRoom, IsBoard, shape_of}
 use Rattle.match_board.specs.declared.figures.Figure.{Figure}
 use Rattle.match_board.specs.declared.figures.Figure.TheVariants as figures
 use Rattle.match_board.specs.First.{IsFirst}
 use Rattle.match_board.specs.Tile.{word}
 use Rattle.match_board.specs.declared.boards.BoardFault.{BoardFault}
 use Rattle.match_board.specs.declared.boards.BoardFault.TheVariants.{Empty, TooLarge}
-use Rattle.match_puzzle.specs.Mates.{Mating, unmated, mated}
+use Rattle.match_puzzle.specs.Mates.{Mating, unmated, mated, mating_of}
 use Rattle.match_puzzle.specs.Puzzle.{Task, BorderRule, free, one, each, rule_of, IsPuzzle}
 use Rattle.match_puzzle.specs.PuzzleFaults.{PuzzleFails, puzzle_rank}
 use Rattle.match_text.specs.declared.faults.TextFault.{TextFault}
 use Rattle.match_text.specs.declared.faults.TextKind.{TextKind}
-use Rattle.match_text.specs.declared.faults.TextKind.TheVariants.{Word, Version}
+use Rattle.match_text.specs.declared.faults.TextKind.TheVariants.{Word}
+use Rattle.match_text.specs.declared.faults.ReadFault.{ReadFault}
 use Rattle.match_text.specs.declared.faults.PuzzleTextFault.{PuzzleTextFault}
 use Rattle.match_text.specs.declared.faults.PuzzleTextFault.TheVariants as faults
 use Rattle.match_text.specs.declared.puzzles.BoardKind.{BoardKind}
-use Rattle.match_text.specs.declared.puzzles.BoardKind.TheVariants.{Rectangle, Triangle, Hexagon}
+use Rattle.match_text.specs.declared.puzzles.BoardKind.TheVariants.{Rectangle, Triangle, Hexagon, Shape}
+use Rattle.match_text.specs.declared.puzzles.BoardLine.{BoardLine}
+use Rattle.match_text.specs.declared.puzzles.BoardLine.TheVariants as lines
 use Rattle.match_text.specs.declared.puzzles.BorderKind.{BorderKind}
 use Rattle.match_text.specs.declared.puzzles.BorderKind.TheVariants as kinds
-use Rattle.match_text.specs.declared.puzzles.PuzzleVersion.{PuzzleVersion}
-use Rattle.match_text.specs.declared.puzzles.PuzzleVersion.TheVariants.{First, Second}
 use Rattle.match_text.specs.declared.puzzles.PuzzleText as code
-use Rattle.match_text.specs.Words.{fixed_in, number_in, colour_in, rule_in, tile_in}
-use Rattle.match_text.specs.Place.{Read, ◌>>=◌, give, line_of, word_by, entries, some_entries, counted, closing, times}
-use Rattle.match_text.specs.Place.{start, value_of}
-
--- ---- the version
-
--- the versions by their words
-abbrev pub puzzle_version_in : List ℕ → Result PuzzleVersion TextKind
-puzzle_version_in word =
-    if bytes_eq word (codes "1") then Ok First else (if bytes_eq word (codes "2") then Ok Second else Err Version)
-
-unfoldable pub match_line : Read PuzzleVersion
-match_line = line_of (do
-  _ ← word_by (fixed_in (codes "match"))
-  word_by puzzle_version_in)
+use Rattle.match_text.specs.declared.ranges.Ranges.{Ranges}
+use Rattle.match_text.specs.Ranges.{ranges_of}
+use Rattle.match_text.specs.Words.{fixed_in, number_in, marks_in, colour_in, rule_in, tile_in}
+use Rattle.match_text.specs.Place.{Place, Read, ◌>>=◌, give, line_of, word_by, entries, some_entries, opening, counted}
+use Rattle.match_text.specs.Place.{closing, times, start, value_of, Fails}
 
 -- ---- the board
 
--- the kinds of board by their words
-abbrev pub board_kind_in : List ℕ → Result BoardKind TextKind
-board_kind_in word =
+-- the kinds of board by their words; version 2 has shapes
+abbrev pub board_kind_in : ℕ → List ℕ → Result BoardKind TextKind
+board_kind_in version word =
     if bytes_eq word (codes "rect") then Ok Rectangle
     else (if bytes_eq word (codes "triangle") then Ok Triangle
-    else (if bytes_eq word (codes "hexagon") then Ok Hexagon else Err Word))
+    else (if bytes_eq word (codes "hexagon") then Ok Hexagon
+    else (if version == 2 && bytes_eq word (codes "shape") then Ok Shape else Err Word)))
 
 -- how large a board of this kind is
-unfoldable pub board_size : BoardKind → Read Figure
+unfoldable pub board_size : BoardKind → Read BoardLine
 board_size Rectangle = do
   width ← word_by (number_in 0 MOST_LENGTH)
   height ← word_by (number_in 0 MOST_LENGTH)
-  give (figures.Rectangle width height)
+  give (lines.Rectangle width height)
 board_size Triangle = do
   size ← word_by (number_in 0 MOST_LENGTH)
-  give (figures.Triangle size)
+  give (lines.Triangle size)
 board_size Hexagon = do
   size ← word_by (number_in 0 MOST_LENGTH)
-  give (figures.Hexagon size)
+  give (lines.Hexagon size)
+board_size Shape = do
+  width ← word_by (number_in 1 MOST_PLACES)
+  height ← word_by (number_in 1 MOST_PLACES)
+  give (lines.Shape width height)
 
-unfoldable pub board_line : Read Figure
-board_line = line_of (do
+unfoldable pub board_line : ℕ → Read BoardLine
+board_line version = line_of (do
   _ ← word_by (fixed_in (codes "board"))
-  kind ← word_by board_kind_in
+  kind ← word_by (board_kind_in version)
   board_size kind)
+
+-- a row of a shape
+unfoldable pub row_line : ℕ → Read (List Bool)
+row_line width = line_of (do
+  _ ← word_by (fixed_in (codes "row"))
+  word_by (marks_in width))
+
+-- the shape of which these rows have the marks
+abbrev pub shape_by : (width height : ℕ) → List (List Bool) → Figure
+shape_by width height rows = shape_of width height (flat_map (λ row. row) rows)
+
+unfoldable pub shape_rows : (width height : ℕ) → Read Figure
+shape_rows width height = do
+  rows ← times height (row_line width)
+  give (shape_by width height rows)
+
+-- the rows of a shape, and of another board no further line
+unfoldable pub board_rows : BoardLine → Read Figure
+board_rows (lines.Rectangle width height) = give (figures.Rectangle width height)
+board_rows (lines.Triangle size) = give (figures.Triangle size)
+board_rows (lines.Hexagon size) = give (figures.Hexagon size)
+board_rows (lines.Shape width height) = shape_rows width height
+
+unfoldable pub board_part : ℕ → Read Figure
+board_part version = do
+  line ← board_line version
+  board_rows line
 
 -- ---- turns
 
@@ -90,20 +115,20 @@ border_kind_in word =
     else (if bytes_eq word (codes "each") then Ok kinds.Each else Err Word))
 
 -- what a border of this kind asks for
-unfoldable pub border_rule : BorderKind → Read BorderRule
-border_rule kinds.Free = give free
-border_rule kinds.One = do
+unfoldable pub border_rule : Ranges → BorderKind → Read BorderRule
+border_rule ranges kinds.Free = give free
+border_rule ranges kinds.One = do
   colour ← word_by colour_in
   give (one colour)
-border_rule kinds.Each = do
-  rules ← some_entries MOST_RULES rule_in
+border_rule ranges kinds.Each = do
+  rules ← some_entries ranges.most_rules rule_in
   give (each rules)
 
-unfoldable pub border_line : Read BorderRule
-border_line = line_of (do
+unfoldable pub border_line : Ranges → Read BorderRule
+border_line ranges = line_of (do
   _ ← word_by (fixed_in (codes "border"))
   kind ← word_by border_kind_in
-  border_rule kind)
+  border_rule ranges kind)
 
 -- ---- mates
 
@@ -112,12 +137,14 @@ mates_line = line_of (do
   _ ← word_by (fixed_in (codes "mates"))
   entries MOST_COLOURS colour_in)
 
--- the mates that a version has a line for
-unfoldable pub mating_part : PuzzleVersion → Read Mating
-mating_part First = give unmated
-mating_part Second = do
+abbrev pub mated_part : Read Mating
+mated_part = do
   mates ← mates_line
   give (mated mates)
+
+-- the mates, for which version 2 has a line
+unfoldable pub mating_part : ℕ → Read Mating
+mating_part version = if version == 1 then give unmated else mated_part
 
 -- ---- the tiles, and the whole
 
@@ -128,12 +155,12 @@ tile_line = line_of (do
 
 unfoldable pub puzzle_text : Read Task
 puzzle_text = do
-  version ← match_line
-  board ← board_line
+  version ← opening (codes "match")
+  board ← board_part version
   turns ← turns_line
-  border ← border_line
+  border ← border_line (ranges_of version)
   mating ← mating_part version
-  count ← counted (codes "tiles") 1 MOST_TILES
+  count ← counted (codes "tiles") 1 (ranges_of version).most_cells
   words ← times count tile_line
   _ ← closing
   give (record { board = board; turns = turns; border = border; mating = mating; words = words })
@@ -142,19 +169,35 @@ puzzle_text = do
 unfoldable pub puzzle_of : List ℕ → Result Task TextFault
 puzzle_of text = value_of (puzzle_text (start text))
 
--- the mates of a version, where these were read
-abbrev pub mating_by : PuzzleVersion → List ℕ → Mating
-mating_by First mates = unmated
-mating_by Second mates = mated mates
+-- the board of a line and of the marks that follow it
+abbrev pub figure_of : BoardLine → List Bool → Figure
+figure_of (lines.Rectangle width height) marks = figures.Rectangle width height
+figure_of (lines.Triangle size) marks = figures.Triangle size
+figure_of (lines.Hexagon size) marks = figures.Hexagon size
+figure_of (lines.Shape width height) marks = shape_of width height marks
+
+-- A shape has a mark for each place.
+abbrev pub HasItsMarks : BoardLine → List Bool → Type 0
+HasItsMarks (lines.Rectangle width height) marks = Unit {0}
+HasItsMarks (lines.Triangle size) marks = Unit {0}
+HasItsMarks (lines.Hexagon size) marks = Unit {0}
+HasItsMarks (lines.Shape width height) marks = length marks ≡ height * width
+
+-- The marks of the row that was read came behind those that there were.
+abbrev pub AddsRow : Result (Unit {0}) ReadFault → (before after : List Bool) → Place
+    → Result (List Bool × Place) TextFault → Type 0
+AddsRow (Ok x) before after place read =
+    (row : List Bool) × (after ≡ before ++ row) × (read ≡ Ok (row, place))
+AddsRow (Err fault) before after place read = Fails fault read
 
 -- what was read, without where it lies in memory
 abbrev pub view_of : code.PuzzleText → Task
 view_of t =
     record {
-      board = t.figure;
+      board = figure_of t.board t.marks.items;
       turns = t.turns;
       border = rule_of t.border;
-      mating = mating_by t.version t.mates.items;
+      mating = mating_of t.version t.mates.items;
       words = map word t.tiles.items;
     }
 
@@ -163,7 +206,7 @@ view_of t =
 -- There is no such board.
 abbrev pub BoardFails : Figure → BoardFault → Type 0
 BoardFails s Empty = cell_count s ≡ 0
-BoardFails s TooLarge = MOST_CELLS < cell_count s
+BoardFails s TooLarge = (1 ≤ cell_count s) × (HasRoom s → ⊥)
 
 -- What reading a puzzle comes to: the puzzle, or the first fault of the text, else of the board, else of the puzzle.
 -- Of want of memory nothing is said.

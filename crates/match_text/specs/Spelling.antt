@@ -45,9 +45,9 @@ placement_word p = decimal p.tile ++ 46 ∷ decimal p.turn
 
 -- ---- lines that texts have in common
 
--- the first line
-abbrev pub first_words : List ℕ → List (List ℕ)
-first_words name = name ∷ codes "1" ∷ []
+-- the first line, a name and the version
+abbrev pub first_words : List ℕ → ℕ → List (List ℕ)
+first_words name version = name ∷ decimal version ∷ []
 
 -- how many there are
 abbrev pub count_words : List ℕ → ℕ → List (List ℕ)

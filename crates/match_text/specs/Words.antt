@@ -1,13 +1,15 @@
 -- What a word has to be, and what is wrong with one that isn't.
 use Rattle.std.specs.Prelude.{◌≡◌, ℕ, zero, suc, codes, ◌-◌, List, [], ◌∷◌, length, Option, Some, None, Result, Ok, Err}
-use Rattle.std.specs.Prelude.{Bool, ◌&&◌, ◌||◌, nat_lt, nat_le, ◌==◌, if◌then◌else◌, slice_index}
-use Rattle.match_board.specs.declared.limits.TheConstants.{LAST_CELL, LAST_TILE, LAST_TURN}
+use Rattle.std.specs.Prelude.{map, Bool, ◌&&◌, ◌||◌, nat_lt, nat_le, ◌==◌, if◌then◌else◌, slice_index}
+use Rattle.match_board.specs.declared.limits.TheConstants.{LAST_TURN}
+use Rattle.std.specs.List.{list_all}
 use Rattle.std.specs.Str.{all_ascii_digits, bytes_eq}
 use Rattle.std.specs.Str.Parse.{digits_value}
 use Rattle.match_puzzle.specs.declared.placements.Pair.{Pair}
 use Rattle.match_puzzle.specs.declared.placements.Placement.{Placement}
 use Rattle.match_text.specs.declared.faults.TextKind.{TextKind}
 use Rattle.match_text.specs.declared.faults.TextKind.TheVariants.{Word, Number, Limit, Version}
+use Rattle.match_text.specs.declared.ranges.Ranges.{Ranges}
 use Rattle.match_text.specs.Bytes.{cut_at}
 
 infixl 10 ◌>>=◌
@@ -24,9 +26,10 @@ or_word None = Err Word
 abbrev pub fixed_in : List ℕ → List ℕ → Result (Unit {0}) TextKind
 fixed_in wanted word = if bytes_eq word wanted then Ok tt else Err Word
 
--- the version of a list and of a certificate
-abbrev pub version_in : List ℕ → Result (Unit {0}) TextKind
-version_in word = if bytes_eq word (codes "1") then Ok tt else Err Version
+-- the version of a text
+abbrev pub version_in : List ℕ → Result ℕ TextKind
+version_in word =
+    if bytes_eq word (codes "1") then Ok 1 else (if bytes_eq word (codes "2") then Ok 2 else Err Version)
 
 -- one or more decimal digits, with no zero before another digit
 abbrev pub is_number : List ℕ → Bool
@@ -64,6 +67,17 @@ colours_in (c ∷ word) = do
 unfoldable pub tile_in : List ℕ → Result (List ℕ) TextKind
 tile_in word = if length word == 3 || length word == 4 then colours_in word else Err Word
 
+-- a character of a row: `#` for a cell, or `.` for a place without one
+abbrev pub is_cell : ℕ → Bool
+is_cell c = c == 35
+
+abbrev pub is_mark : ℕ → Bool
+is_mark c = is_cell c || c == 46
+
+-- a row of so many places: which of them have a cell
+unfoldable pub marks_in : ℕ → List ℕ → Result (List Bool) TextKind
+marks_in width word = if length word == width && list_all is_mark word then Ok (map is_cell word) else Err Word
+
 -- what is asked of a border pair: a colour, or nothing, which is a dash
 unfoldable pub rule_in : List ℕ → Result (Option ℕ) TextKind
 rule_in word = if bytes_eq word (codes "-") then Ok None else (do
@@ -71,20 +85,20 @@ rule_in word = if bytes_eq word (codes "-") then Ok None else (do
   Ok (Some colour))
 
 -- a tile and how often it is turned, with a dot between
-unfoldable pub placement_in : List ℕ → Result Placement TextKind
-placement_in word = do
+unfoldable pub placement_in : Ranges → List ℕ → Result Placement TextKind
+placement_in ranges word = do
   parts ← or_word (cut_at 46 word)
-  tile ← number_in 0 LAST_TILE parts.0
+  tile ← number_in 0 ranges.last_cell parts.0
   turn ← number_in 0 LAST_TURN parts.1
   Ok (record { tile = tile; turn = turn })
 
 -- a cell, with a colon before the tile and its turn
-unfoldable pub pair_in : List ℕ → Result Pair TextKind
-pair_in word = do
+unfoldable pub pair_in : Ranges → List ℕ → Result Pair TextKind
+pair_in ranges word = do
   parts ← or_word (cut_at 58 word)
   placed ← or_word (cut_at 46 parts.1)
-  cell ← number_in 0 LAST_CELL parts.0
-  tile ← number_in 0 LAST_TILE placed.0
+  cell ← number_in 0 ranges.last_cell parts.0
+  tile ← number_in 0 ranges.last_cell placed.0
   turn ← number_in 0 LAST_TURN placed.1
   Ok (record { cell = cell; placement = record { tile = tile; turn = turn } })
 

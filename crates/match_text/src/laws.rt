@@ -1,14 +1,16 @@
 //! Laws of texts: nothing is done here, and the contracts say what holds.
 
 ghost use Rattle.match_text.specs.Laws.{ReadsWhatIsSpelled};
-ghost use Rattle.match_text.specs.Lists.{list_of};
-ghost use Rattle.match_text.specs.ListSpelling.{list_spelling, IsListWithin};
+ghost use Rattle.match_text.specs.Lists.{list_said};
+ghost use Rattle.match_text.specs.ListSpelling.{said_spelling, IsSaidWithin};
 ghost use Rattle.match_text.specs.Puzzles.{puzzle_of};
 ghost use Rattle.match_text.specs.PuzzleSpelling.{puzzle_spelling, IsTaskWithin};
 
 /// The laws of lists and their texts; it does nothing.
+///
+/// What a text says has its version in it: so a list has one spelling in each version that spells it.
 pub fn list_laws()
-    ensures { ReadsWhatIsSpelled list_of IsListWithin list_spelling }
+    ensures { ReadsWhatIsSpelled list_said IsSaidWithin said_spelling }
 {}
 
 /// The laws of puzzles and their texts; it does nothing.

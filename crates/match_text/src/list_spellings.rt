@@ -4,56 +4,61 @@ ghost use Rattle.std.specs.Prelude.{◌≡◌, ◌≢◌, ◌<◌, ◌≤◌, �
 ghost use Rattle.std.specs.Prelude.{IfOk, OnOk, MatchBool};
 ghost use Rattle.std.specs.List.{list_all, AllByRecursion};
 ghost use Rattle.match_text.specs.Lists.{list_of};
-ghost use Rattle.match_text.specs.Spelling.{line_text, text_of, first_words, space_before, placement_word};
+ghost use Rattle.match_text.specs.Spelling.{line_text, text_of, space_before, placement_word};
 ghost use Rattle.match_text.specs.ListSpelling.{arrangement_words, list_head, list_spelling, IsPlacementWithin};
 ghost use Rattle.match_text.specs.ListSpelling.{IsRowWithin, IsListWithin};
 
+use crate::ranges::{FIRST, Ranges, SECOND};
 use crate::spellings::{put_end, put_number, put_number_line};
-use match_board::limits::{LAST_TILE, LAST_TURN, MOST_ARRANGEMENTS, MOST_CELLS};
+use match_board::limits::{LAST_TURN, MOST_ARRANGEMENTS};
 use match_puzzle::{Arrangement, Placement};
 use std::alloc::{AllocError, Global};
 
-fn is_placement_within(placement: &Placement) -> bool
-    ensures { MatchBool result (IsPlacementWithin placement.now) (IsPlacementWithin placement.now → ⊥) }
+fn is_placement_within(ranges: &Ranges, placement: &Placement) -> bool
+    ensures { MatchBool result (IsPlacementWithin ranges.now placement.now)
+        (IsPlacementWithin ranges.now placement.now → ⊥) }
 {
-    placement.tile <= LAST_TILE && placement.turn <= LAST_TURN
+    placement.tile <= ranges.last_cell && placement.turn <= LAST_TURN
 }
 
-fn are_placements_within(row: &[Placement]) -> bool
-    ensures { MatchBool result (AllByRecursion IsPlacementWithin row.now)
-        (AllByRecursion IsPlacementWithin row.now → ⊥) }
+fn are_placements_within(ranges: &Ranges, row: &[Placement]) -> bool
+    ensures { MatchBool result (AllByRecursion (IsPlacementWithin ranges.now) row.now)
+        (AllByRecursion (IsPlacementWithin ranges.now) row.now → ⊥) }
 {
-    row.iter().all(is_placement_within)
+    row.iter()
+        .all(|placement| is_placement_within(ranges, placement))
 }
 
-fn is_row_within(row: &Arrangement) -> bool
-    ensures { MatchBool result (IsRowWithin row.now) (IsRowWithin row.now → ⊥) }
+fn is_row_within(ranges: &Ranges, row: &Arrangement) -> bool
+    ensures { MatchBool result (IsRowWithin ranges.now row.now) (IsRowWithin ranges.now row.now → ⊥) }
 {
     let placements = row.placements();
     let count = placements.len();
-    count > 0 && (count <= usize::from(MOST_CELLS) && are_placements_within(placements))
+    count > 0
+        && (count <= usize::from(ranges.most_cells) && are_placements_within(ranges, placements))
 }
 
-fn are_rows_within(rows: &[Arrangement]) -> bool
-    ensures { MatchBool result (AllByRecursion IsRowWithin rows.now) (AllByRecursion IsRowWithin rows.now → ⊥) }
+fn are_rows_within(ranges: &Ranges, rows: &[Arrangement]) -> bool
+    ensures { MatchBool result (AllByRecursion (IsRowWithin ranges.now) rows.now)
+        (AllByRecursion (IsRowWithin ranges.now) rows.now → ⊥) }
 {
-    rows.iter().all(is_row_within)
+    rows.iter().all(|row| is_row_within(ranges, row))
 }
 
-fn is_list_within(rows: &[Arrangement]) -> bool
-    ensures { MatchBool result (IsListWithin rows.now) (IsListWithin rows.now → ⊥) }
+fn is_list_within(ranges: &Ranges, rows: &[Arrangement]) -> bool
+    ensures { MatchBool result (IsListWithin ranges.now rows.now) (IsListWithin ranges.now rows.now → ⊥) }
 {
-    rows.len() <= MOST_ARRANGEMENTS as usize && are_rows_within(rows)
+    rows.len() <= MOST_ARRANGEMENTS as usize && are_rows_within(ranges, rows)
 }
 
-/// Whether the list has a spelling: up to 1,000,000 arrangements of 1 to 100 placements, of tiles
-/// below 100 and turns below 4.
+/// Whether the list has a spelling: up to 1,000,000 arrangements, each of a placement or more, within
+/// the ranges of version 2.
 pub fn list_within_limits(list: &[Arrangement]) -> bool
-    ensures within { MatchBool result (IsListWithin list.now) (IsListWithin list.now → ⊥) }
+    ensures within { MatchBool result (IsListWithin SECOND list.now) (IsListWithin SECOND list.now → ⊥) }
     ensures spelled { MatchBool result ((text : List ℕ) × (list_of text ≡ Ok list.now))
         ((text : List ℕ) → list_of text ≢ Ok list.now) }
 {
-    is_list_within(list)
+    is_list_within(&SECOND, list)
 }
 
 /// Writes a placement.
@@ -97,24 +102,30 @@ fn put_rows(text: &mut Vec<u8>, rows: &[Arrangement]) -> Result<(), AllocError>
     Ok(())
 }
 
-#[tactic(auto, unfolding(crate::specs::Spelling::text_of, crate::specs::Spelling::line_text))]
-fn put_first(text: &mut Vec<u8>) -> Result<(), AllocError>
-    ensures { OnOk result (text.new.items ≡ text.old.items ++ text_of (first_words (codes "list") ∷ [])) }
-{
-    text.extend_from_slice(b"list 1\n")?;
-    Ok(())
-}
-
-/// The text of the list, which reads back as the list.
-pub fn write_list(alloc: Global, list: &[Arrangement]) -> Result<Vec<u8>, AllocError>
-    requires { IsListWithin list.now }
-    ensures spelling { IfOk result (λ text. text.items ≡ list_spelling list.now) }
-    ensures reads { IfOk result (λ text. list_of text.items ≡ Ok list.now) }
+// The text of the list in this version.
+fn list_text(alloc: Global, version: u8, list: &[Arrangement]) -> Result<Vec<u8>, AllocError>
+    requires { length list.now ≤ MOST_ARRANGEMENTS }
+    ensures { IfOk result (λ text. text.items ≡ list_spelling version list.now) }
 {
     let mut text = Vec::new(alloc);
-    put_first(&mut text)?;
+    put_number_line(&mut text, b"list", u32::from(version))?;
     put_number_line(&mut text, b"arrangements", list.len() as u32)?;
     put_rows(&mut text, list)?;
     put_end(&mut text)?;
     Ok(text)
+}
+
+/// The text of the list, which reads back as the list: in version 1 where it is within the ranges of
+/// that, else in version 2.
+pub fn write_list(alloc: Global, list: &[Arrangement]) -> Result<Vec<u8>, AllocError>
+    requires { IsListWithin SECOND list.now }
+    ensures first { IsListWithin FIRST list.now → IfOk result (λ text. text.items ≡ list_spelling 1 list.now) }
+    ensures second { (IsListWithin FIRST list.now → ⊥)
+        → IfOk result (λ text. text.items ≡ list_spelling 2 list.now) }
+    ensures reads { IfOk result (λ text. list_of text.items ≡ Ok list.now) }
+{
+    if is_list_within(&FIRST, list) {
+        return list_text(alloc, 1, list);
+    }
+    list_text(alloc, 2, list)
 }

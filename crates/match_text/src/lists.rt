@@ -1,42 +1,59 @@
 //! Lists of arrangements are read.
 
-ghost use Rattle.std.specs.Prelude.{◌≡◌, ◌+◌, ◌<◌, ◌≤◌, ◌^◌, ℕ, List, Ok, IfOk, length, take};
+ghost use Rattle.std.specs.Prelude.{◌≡◌, ◌+◌, ◌<◌, ◌^◌, ℕ, List, Ok, IfOk, length, take};
+ghost use Rattle.match_text.specs.Ranges.{AreRanges};
 ghost use Rattle.match_text.specs.Words.{placement_in};
 ghost use Rattle.match_text.specs.Place.{Reads, entries, some_entries, times, fail};
 ghost use Rattle.match_puzzle.specs.declared.placements.Placement.{Placement as PlacementOf};
 ghost use Rattle.match_text.specs.Bytes.{line_ends};
 ghost use Rattle.match_text.specs.declared.faults.TextKind.TheVariants as kinds;
-ghost use Rattle.match_text.specs.ListSpelling.{list_spelling, IsListWithin};
-ghost use Rattle.match_text.specs.Lists.{arrangement_line, list_text, list_of, ListGives};
+ghost use Rattle.match_text.specs.ListSpelling.{list_spelling, IsSpelledIn};
+ghost use Rattle.match_text.specs.Lists.{arrangement_line, list_text, list_of, list_said, said_of, ListGives};
 
 use crate::faults::{ListTextFault, ReadFault};
+use crate::ranges::{Ranges, ranges_of};
 use crate::scans::Scan;
-use match_board::limits::{MOST_ARRANGEMENTS, MOST_CELLS};
+use match_board::limits::MOST_ARRANGEMENTS;
 use match_puzzle::{Arrangement, Placement};
 use std::alloc::Global;
 
 // The bytes of a line of two placements.
 const SHORT_LINE: usize = 8;
 
+// What a text says of a list.
+#[derive(Drop)]
+struct ListText {
+    version: u8,
+    rows: Vec<Arrangement>,
+}
+
 // The rest of the line, in place of what the row had.
-fn placements(scan: &mut Scan, row: &mut Vec<Placement>) -> Result<(), ReadFault>
-    ensures { Reads (λ _. row.new.items) result scan.new (entries MOST_CELLS placement_in scan.old) }
+fn placements(scan: &mut Scan, ranges: &Ranges, row: &mut Vec<Placement>) -> Result<(), ReadFault>
+    requires { AreRanges ranges.now }
+    ensures { Reads (λ _. row.new.items) result scan.new
+        (entries ranges.now.most_cells (placement_in ranges.now) scan.old) }
 {
     row.clear();
     while scan.has_word() {
-        scan.further_entry(row.len(), MOST_CELLS)?;
-        let placement = scan.placement()?;
+        scan.further_entry(row.len(), ranges.most_cells)?;
+        let placement = scan.placement(ranges)?;
         row.push(placement)?;
     }
     Ok(())
 }
 
 #[tactic(auto, unfolding(crate::specs::Place::some_entries))]
-fn some_placements(scan: &mut Scan, row: &mut Vec<Placement>) -> Result<(), ReadFault>
-    ensures { Reads (λ _. row.new.items) result scan.new (some_entries MOST_CELLS placement_in scan.old) }
+fn some_placements(
+    scan: &mut Scan,
+    ranges: &Ranges,
+    row: &mut Vec<Placement>,
+) -> Result<(), ReadFault>
+    requires { AreRanges ranges.now }
+    ensures { Reads (λ _. row.new.items) result scan.new
+        (some_entries ranges.now.most_cells (placement_in ranges.now) scan.old) }
 {
     scan.some_word()?;
-    placements(scan, row)
+    placements(scan, ranges, row)
 }
 
 // The row is read first, since an arrangement is kept with no spare room.
@@ -44,50 +61,58 @@ fn some_placements(scan: &mut Scan, row: &mut Vec<Placement>) -> Result<(), Read
 fn arrangement(
     alloc: Global,
     scan: &mut Scan,
+    ranges: &Ranges,
     row: &mut Vec<Placement>,
 ) -> Result<Arrangement, ReadFault>
-    ensures { Reads (λ arrangement. arrangement) result scan.new (arrangement_line scan.old) }
+    requires { AreRanges ranges.now }
+    ensures { Reads (λ arrangement. arrangement) result scan.new (arrangement_line ranges.now scan.old) }
 {
     scan.next_line()?;
-    some_placements(scan, row)?;
+    some_placements(scan, ranges, row)?;
     scan.end_of_line()?;
     let placements = Vec::from_slice(alloc, row)?;
     Ok(Arrangement::new(placements))
 }
 
 // Room is taken for as many arrangements as the text ahead has short lines, whatever the count says.
-fn arrangements(alloc: Global, scan: &mut Scan, count: u32) -> Result<Vec<Arrangement>, ReadFault>
-    ensures { Reads (λ rows. rows.items) result scan.new (times count arrangement_line scan.old) }
+fn arrangements(
+    alloc: Global,
+    scan: &mut Scan,
+    ranges: &Ranges,
+    count: u32,
+) -> Result<Vec<Arrangement>, ReadFault>
+    requires { AreRanges ranges.now }
+    ensures { Reads (λ rows. rows.items) result scan.new (times count (arrangement_line ranges.now) scan.old) }
 {
     let room = (scan.bytes_ahead() / SHORT_LINE).min(count as usize);
     let mut rows = Vec::with_capacity(alloc, room)?;
     let mut row = Vec::new(alloc);
     for _ in 0..count {
-        let arrangement = arrangement(alloc, scan, &mut row)?;
+        let arrangement = arrangement(alloc, scan, ranges, &mut row)?;
         rows.push(arrangement)?;
     }
     Ok(rows)
 }
 
 #[tactic(auto, unfolding(crate::specs::Lists::list_text))]
-fn whole(alloc: Global, scan: &mut Scan) -> Result<Vec<Arrangement>, ReadFault>
-    ensures { Reads (λ rows. rows.items) result scan.new (list_text scan.old) }
+fn whole(alloc: Global, scan: &mut Scan) -> Result<ListText, ReadFault>
+    ensures { Reads said_of result scan.new (list_text scan.old) }
 {
-    scan.opening(b"list")?;
+    let version = scan.opening(b"list")?;
     let count = scan.counted(b"arrangements", 0, MOST_ARRANGEMENTS)?;
-    let rows = arrangements(alloc, scan, count)?;
+    let rows = arrangements(alloc, scan, &ranges_of(version), count)?;
     scan.closing()?;
-    Ok(rows)
+    Ok(ListText { version, rows })
 }
 
-#[tactic(auto, unfolding(crate::specs::Lists::list_of))]
+#[tactic(auto, unfolding(crate::specs::Lists::list_of, crate::specs::Lists::list_said))]
 fn read_text(alloc: Global, text: &[u8]) -> Result<Vec<Arrangement>, ListTextFault>
     requires { length text.now + 1 < 2 ^ 32 }
     ensures { ListGives result (list_of text.now) }
 {
     let mut scan = Scan::new(text);
-    let rows = whole(alloc, &mut scan)?;
-    Ok(rows)
+    let said = whole(alloc, &mut scan)?;
+    Ok(said.rows)
 }
 
 /// The arrangements that a text lists, or its first fault; `Memory` only where that is refused.
@@ -96,13 +121,14 @@ pub fn read_list(alloc: Global, text: &[u8]) -> Result<Vec<Arrangement>, ListTex
     // Which list, and which fault.
     ensures exact { ListGives result (list_of text.now) }
     // What is read is spelled so.
-    ensures found { IfOk result (λ rows. IsListWithin rows.items × (text.now ≡ list_spelling rows.items)) }
+    ensures found { IfOk result (λ rows. (version : ℕ) × IsSpelledIn version rows.items
+        × (text.now ≡ list_spelling version rows.items)) }
     // What is spelled so is read.
-    ensures only { (rows : List (List PlacementOf)) → IsListWithin rows → text.now ≡ list_spelling rows
-        → ListGives result (Ok rows) }
+    ensures only { (version : ℕ) (rows : List (List PlacementOf)) → IsSpelledIn version rows
+        → text.now ≡ list_spelling version rows → ListGives result (Ok rows) }
     // A spelling that is cut short ends at its last line.
-    ensures cut { (rows : List (List PlacementOf)) (k : ℕ) → IsListWithin rows → k < length (list_spelling rows)
-        → text.now ≡ take k (list_spelling rows)
+    ensures cut { (version : ℕ) (rows : List (List PlacementOf)) (k : ℕ) → IsSpelledIn version rows
+        → k < length (list_spelling version rows) → text.now ≡ take k (list_spelling version rows)
         → ListGives result (fail (line_ends text.now + 1) kinds.Ends) }
 {
     read_text(alloc, text)

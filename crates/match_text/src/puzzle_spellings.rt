@@ -1,35 +1,25 @@
 //! Puzzles are written.
 
-ghost use Rattle.std.specs.Prelude.{◌≡◌, ◌<◌, ◌≤◌, ◌++◌, ◌∷◌, [], Ok, length, map, codes, IfOk, OnOk};
+ghost use Rattle.std.specs.Prelude.{◌≡◌, ◌<◌, ◌≤◌, ◌*◌, ◌++◌, ◌∷◌, [], Ok, length, map, codes, IfOk, OnOk};
 ghost use Rattle.std.specs.List.{AllByRecursion};
 ghost use Rattle.match_board.specs.declared.figures.Figure.{Figure};
-ghost use Rattle.match_board.specs.declared.figures.Figure.TheVariants.{Rectangle, Triangle, Hexagon};
+ghost use Rattle.match_board.specs.declared.figures.Figure.TheVariants.{Rectangle, Triangle, Hexagon, Shape};
+ghost use Rattle.match_board.specs.Board.{IsBoard};
 ghost use Rattle.match_board.specs.Tile.{word as colours_of};
+ghost use Rattle.match_puzzle.specs.Mates.{mating_of};
 ghost use Rattle.match_puzzle.specs.Puzzle.{rule_of, each, one, free};
 ghost use Rattle.match_text.specs.Puzzles.{PuzzleReads};
 ghost use Rattle.match_text.specs.Spelling.{line_text, text_of, colour_character, colour_word, rule_word};
 ghost use Rattle.match_text.specs.Spelling.{tile_word};
+ghost use Rattle.match_text.specs.PuzzleSpelling.{mark_character, row_words, row_lines, board_lines};
 ghost use Rattle.match_text.specs.PuzzleSpelling.{board_words, turns_words, border_words, tile_words, puzzle_spelling};
-ghost use Rattle.match_text.specs.PuzzleSpelling.{IsRuleWithin, IsBorderWithin};
-ghost use Rattle.match_text.specs.PuzzleSpelling.{match_words, mates_words, mates_lines, version_by};
+ghost use Rattle.match_text.specs.PuzzleSpelling.{IsRuleWithin, AreRulesWithin, mates_words, mates_lines};
 
 use crate::spellings::{character, put_end, put_number, put_number_line};
 use match_board::limits::MOST_COLOURS;
 use match_board::{Board, Figure, Tile};
 use match_puzzle::{Border, Puzzle};
 use std::alloc::{AllocError, Global};
-
-#[tactic(auto, unfolding(crate::specs::Spelling::text_of, crate::specs::Spelling::line_text))]
-fn put_first(text: &mut Vec<u8>, version: u8) -> Result<(), AllocError>
-    ensures { OnOk result (text.new.items ≡ text.old.items ++ text_of (match_words (version_by version) ∷ [])) }
-{
-    if version == 1 {
-        text.extend_from_slice(b"match 1\n")?;
-    } else {
-        text.extend_from_slice(b"match 2\n")?;
-    }
-    Ok(())
-}
 
 #[tactic(auto, unfolding(crate::specs::Spelling::text_of, crate::specs::Spelling::line_text))]
 fn put_rectangle(text: &mut Vec<u8>, width: u16, height: u16) -> Result<(), AllocError>
@@ -57,13 +47,67 @@ fn put_hexagon(text: &mut Vec<u8>, size: u16) -> Result<(), AllocError>
     put_number_line(text, b"board hexagon", u32::from(size))
 }
 
-fn put_board(text: &mut Vec<u8>, board: Board) -> Result<(), AllocError>
-    ensures { OnOk result (text.new.items ≡ text.old.items ++ text_of (board_words board ∷ [])) }
+#[tactic(auto, unfolding(crate::specs::Spelling::text_of, crate::specs::Spelling::line_text))]
+fn put_shape(text: &mut Vec<u8>, width: u16, height: u16) -> Result<(), AllocError>
+    ensures { OnOk result (text.new.items ≡ text.old.items ++ text_of (board_words (Shape width height []) ∷ [])) }
 {
-    match board.figure() {
+    text.extend_from_slice(b"board shape ")?;
+    put_number(text, u32::from(width))?;
+    text.push(b' ')?;
+    put_number(text, u32::from(height))?;
+    text.push(b'\n')?;
+    Ok(())
+}
+
+fn put_marks(text: &mut Vec<u8>, row: &[bool]) -> Result<(), AllocError>
+    ensures { OnOk result (text.new.items ≡ text.old.items ++ map mark_character row.now) }
+{
+    for mark in row {
+        text.push(if *mark { b'#' } else { b'.' })?;
+    }
+    Ok(())
+}
+
+#[tactic(auto, unfolding(crate::specs::Spelling::line_text))]
+fn put_row(text: &mut Vec<u8>, row: &[bool]) -> Result<(), AllocError>
+    ensures { OnOk result (text.new.items ≡ text.old.items ++ line_text (row_words row.now)) }
+{
+    text.extend_from_slice(b"row ")?;
+    put_marks(text, row)?;
+    text.push(b'\n')?;
+    Ok(())
+}
+
+fn put_mask(text: &mut Vec<u8>, width: u16, height: u16, mask: &[bool]) -> Result<(), AllocError>
+    requires { height * width ≤ length mask.now }
+    ensures { OnOk result (text.new.items ≡ text.old.items ++ text_of (row_lines width height mask.now)) }
+{
+    let width = usize::from(width);
+    let mut rest = mask;
+    for _ in 0..height {
+        put_row(text, &rest[..width])?;
+        rest = &rest[width..];
+    }
+    Ok(())
+}
+
+fn put_board(text: &mut Vec<u8>, board: &Board) -> Result<(), AllocError>
+    requires { IsBoard board.now }
+    ensures { OnOk result (text.new.items ≡ text.old.items ++ text_of (board_lines board.now)) }
+{
+    match *board.figure() {
         Figure::Rectangle { width, height } => put_rectangle(text, width, height),
         Figure::Triangle { size } => put_triangle(text, size),
         Figure::Hexagon { size } => put_hexagon(text, size),
+        Figure::Shape {
+            width,
+            height,
+            ref mask,
+        } => {
+            put_shape(text, width, height)?;
+            put_mask(text, width, height, mask)?;
+            Ok(())
+        }
     }
 }
 
@@ -123,7 +167,7 @@ fn put_rules(text: &mut Vec<u8>, rules: &[Option<u8>]) -> Result<(), AllocError>
 }
 
 fn put_border(text: &mut Vec<u8>, border: &Border) -> Result<(), AllocError>
-    requires { IsBorderWithin (rule_of border.now) }
+    requires { AreRulesWithin (rule_of border.now) }
     ensures { OnOk result (text.new.items ≡ text.old.items ++ text_of (border_words (rule_of border.now) ∷ [])) }
 {
     match border {
@@ -158,7 +202,7 @@ fn put_mates(text: &mut Vec<u8>, mates: &[u8]) -> Result<(), AllocError>
 #[tactic(auto, unfolding(crate::specs::Spelling::text_of))]
 fn put_mating(text: &mut Vec<u8>, version: u8, mates: &[u8]) -> Result<(), AllocError>
     requires { AllByRecursion (λ colour. colour < MOST_COLOURS) mates.now }
-    ensures { OnOk result (text.new.items ≡ text.old.items ++ text_of (mates_lines (version_by version) mates.now)) }
+    ensures { OnOk result (text.new.items ≡ text.old.items ++ text_of (mates_lines (mating_of version mates.now))) }
 {
     if version == 1 {
         return Ok(());
@@ -203,7 +247,7 @@ pub fn write_puzzle(alloc: Global, puzzle: &Puzzle) -> Result<Vec<u8>, AllocErro
     let mut text = Vec::new(alloc);
     let board = puzzle.board();
     let tiles = puzzle.tiles();
-    put_first(&mut text, puzzle.version())?;
+    put_number_line(&mut text, b"match", u32::from(puzzle.version()))?;
     put_board(&mut text, board)?;
     put_turns(&mut text, puzzle.turns())?;
     put_border(&mut text, puzzle.border())?;

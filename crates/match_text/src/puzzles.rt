@@ -1,47 +1,48 @@
 //! Puzzles are read.
 
-ghost use Rattle.std.specs.Prelude.{◌≡◌, ◌≢◌, ◌+◌, ◌<◌, ◌≤◌, ◌^◌, ℕ, Ok, IfOk, IfErr, length, map, take};
+ghost use Rattle.std.specs.Prelude.{◌≡◌, ◌≢◌, ◌+◌, ◌*◌, ◌<◌, ◌^◌, ◌++◌, ℕ, Ok, IfOk, IfErr, OnOk, length, map, take};
+ghost use Rattle.match_board.specs.Board.{IsBoard, IsPlain, shape_of};
 ghost use Rattle.match_board.specs.Tile.{word as tile_colours};
 ghost use Rattle.match_board.specs.First.{IsFirst};
+ghost use Rattle.match_puzzle.specs.Mates.{mating_of, IsOfVersion};
 ghost use Rattle.match_puzzle.specs.Puzzle.{Task, IsPuzzle, IsShortRule, rule_of};
 ghost use Rattle.match_puzzle.specs.PuzzleFaults.{PuzzleFails, puzzle_rank};
 ghost use Rattle.match_text.specs.declared.faults.TextKind.TheVariants as kinds;
 ghost use Rattle.match_text.specs.Bytes.{line_ends};
+ghost use Rattle.match_text.specs.Ranges.{IsVersion};
 ghost use Rattle.match_text.specs.PuzzleSpelling.{puzzle_spelling, IsTaskWithin};
-ghost use Rattle.match_text.specs.Words.{Judges, number_in, colour_in, rule_in};
+ghost use Rattle.match_text.specs.Words.{Judges, number_in, marks_in, is_cell, colour_in, rule_in};
 ghost use Rattle.match_text.specs.Place.{Gives, Reads, Says, times, entries, some_entries, word_by, fail};
 ghost use Rattle.match_text.specs.Puzzles.{board_kind_in, board_size, board_line, turns_in, turns_line, border_kind_in};
 ghost use Rattle.match_text.specs.Puzzles.{border_rule, border_line, tile_line, puzzle_text, puzzle_of, view_of};
-ghost use Rattle.match_text.specs.Puzzles.{puzzle_version_in, match_line, mates_line, mating_part, mating_by};
+ghost use Rattle.match_text.specs.Puzzles.{row_line, shape_rows, board_rows, figure_of, HasItsMarks, AddsRow};
+ghost use Rattle.match_text.specs.Puzzles.{BoardFails, mates_line, mating_part};
 ghost use Rattle.match_text.specs.Puzzles.{PuzzleReads, PuzzleGives};
 
 use crate::faults::{PuzzleTextFault, ReadFault, TextFault, TextKind};
+use crate::ranges::{Ranges, ranges_of};
 use crate::scans::Scan;
-use match_board::limits::{MOST_COLOURS, MOST_LENGTH, MOST_RULES, MOST_TILES};
-use match_board::{Board, Figure, Tile};
+use crate::words::row_word;
+use match_board::limits::{MOST_COLOURS, MOST_LENGTH, MOST_PLACES};
+use match_board::{Board, BoardFault, Figure, Tile};
 use match_puzzle::{Border, BorderRules, Puzzle, PuzzleFault};
-use std::alloc::Global;
+use std::alloc::{AllocError, Global};
 
 // What a text says of a puzzle. There may be no such puzzle.
 #[derive(Drop)]
 struct PuzzleText {
-    version: PuzzleVersion,
-    // with numbers that a text may give
-    figure: Figure,
+    // 1 or 2
+    version: u8,
+    board: BoardLine,
+    // one for each place of a shape, else none
+    marks: Vec<bool>,
     turns: bool,
     // with as many rules as a text may give
     border: Border,
-    // as many as a text may give
+    // as many as a text may give, none in version 1
     mates: Vec<u8>,
     // at least one, and as many as a text may give
     tiles: Vec<Tile>,
-}
-
-// The versions that have a word.
-#[derive(Clone, Copy)]
-enum PuzzleVersion {
-    First,
-    Second,
 }
 
 // The kinds of board that have a word.
@@ -50,6 +51,17 @@ enum BoardKind {
     Rectangle,
     Triangle,
     Hexagon,
+    Shape,
+}
+
+// What the line of a board says, with numbers that a text may give.
+#[derive(Clone, Copy)]
+enum BoardLine {
+    Rectangle { width: u16, height: u16 },
+    Triangle { size: u16 },
+    Hexagon { size: u16 },
+    // so many places in each row, and so many rows, which follow
+    Shape { width: u16, height: u16 },
 }
 
 // The kinds of border that have a word.
@@ -60,39 +72,8 @@ enum BorderKind {
     Each,
 }
 
-fn puzzle_version_word(word: &[u8]) -> Result<PuzzleVersion, TextKind>
-    ensures { Judges (λ version. version) result (puzzle_version_in word.now) }
-{
-    if word == b"1".as_slice() {
-        return Ok(PuzzleVersion::First);
-    }
-    if word == b"2".as_slice() {
-        return Ok(PuzzleVersion::Second);
-    }
-    Err(TextKind::Version)
-}
-
-#[tactic(auto, unfolding(crate::specs::Place::word_by))]
-fn puzzle_version(scan: &mut Scan) -> Result<PuzzleVersion, TextFault>
-    ensures { Gives (λ version. version) result scan.new (word_by puzzle_version_in scan.old) }
-{
-    let word = scan.next_word()?;
-    scan.accept(puzzle_version_word(word))
-}
-
-#[tactic(auto, unfolding(crate::specs::Puzzles::match_line))]
-fn match_line(scan: &mut Scan) -> Result<PuzzleVersion, TextFault>
-    ensures { Gives (λ version. version) result scan.new (match_line scan.old) }
-{
-    scan.next_line()?;
-    scan.word(b"match")?;
-    let version = puzzle_version(scan)?;
-    scan.end_of_line()?;
-    Ok(version)
-}
-
-fn board_kind_word(word: &[u8]) -> Result<BoardKind, TextKind>
-    ensures { Judges (λ kind. kind) result (board_kind_in word.now) }
+fn board_kind_word(word: &[u8], version: u8) -> Result<BoardKind, TextKind>
+    ensures { Judges (λ kind. kind) result (board_kind_in version word.now) }
 {
     if word == b"rect".as_slice() {
         return Ok(BoardKind::Rectangle);
@@ -103,18 +84,21 @@ fn board_kind_word(word: &[u8]) -> Result<BoardKind, TextKind>
     if word == b"hexagon".as_slice() {
         return Ok(BoardKind::Hexagon);
     }
+    if version == 2 && word == b"shape".as_slice() {
+        return Ok(BoardKind::Shape);
+    }
     Err(TextKind::Word)
 }
 
 #[tactic(auto, unfolding(crate::specs::Place::word_by))]
-fn board_kind(scan: &mut Scan) -> Result<BoardKind, TextFault>
-    ensures { Gives (λ kind. kind) result scan.new (word_by board_kind_in scan.old) }
+fn board_kind(scan: &mut Scan, version: u8) -> Result<BoardKind, TextFault>
+    ensures { Gives (λ kind. kind) result scan.new (word_by (board_kind_in version) scan.old) }
 {
     let word = scan.next_word()?;
-    scan.accept(board_kind_word(word))
+    scan.accept(board_kind_word(word, version))
 }
 
-// A width, a height or a size.
+// A width, a height or a size of a board that is no shape.
 fn side_length(scan: &mut Scan) -> Result<u16, TextFault>
     ensures { Gives (λ n. n) result scan.new (word_by (number_in 0 MOST_LENGTH) scan.old) }
 {
@@ -122,37 +106,110 @@ fn side_length(scan: &mut Scan) -> Result<u16, TextFault>
     Ok(length as u16)
 }
 
+// A width or a height of a shape.
+fn shape_length(scan: &mut Scan) -> Result<u16, TextFault>
+    ensures { Gives (λ n. n) result scan.new (word_by (number_in 1 MOST_PLACES) scan.old) }
+{
+    let length = scan.number(1, MOST_PLACES as u32)?;
+    Ok(length as u16)
+}
+
 #[tactic(auto, unfolding(crate::specs::Puzzles::board_size))]
-fn board_size(scan: &mut Scan, kind: BoardKind) -> Result<Figure, TextFault>
-    ensures { Gives (λ figure. figure) result scan.new (board_size kind scan.old) }
+fn board_size(scan: &mut Scan, kind: BoardKind) -> Result<BoardLine, TextFault>
+    ensures { Gives (λ line. line) result scan.new (board_size kind scan.old) }
 {
     match kind {
         BoardKind::Rectangle => {
             let width = side_length(scan)?;
             let height = side_length(scan)?;
-            Ok(Figure::Rectangle { width, height })
+            Ok(BoardLine::Rectangle { width, height })
         }
         BoardKind::Triangle => {
             let size = side_length(scan)?;
-            Ok(Figure::Triangle { size })
+            Ok(BoardLine::Triangle { size })
         }
         BoardKind::Hexagon => {
             let size = side_length(scan)?;
-            Ok(Figure::Hexagon { size })
+            Ok(BoardLine::Hexagon { size })
+        }
+        BoardKind::Shape => {
+            let width = shape_length(scan)?;
+            let height = shape_length(scan)?;
+            Ok(BoardLine::Shape { width, height })
         }
     }
 }
 
 #[tactic(auto, unfolding(crate::specs::Puzzles::board_line))]
-fn board_line(scan: &mut Scan) -> Result<Figure, TextFault>
-    ensures { Gives (λ figure. figure) result scan.new (board_line scan.old) }
+fn board_line(scan: &mut Scan, version: u8) -> Result<BoardLine, TextFault>
+    ensures { Gives (λ line. line) result scan.new (board_line version scan.old) }
 {
     scan.next_line()?;
     scan.word(b"board")?;
-    let kind = board_kind(scan)?;
-    let figure = board_size(scan, kind)?;
+    let kind = board_kind(scan, version)?;
+    let line = board_size(scan, kind)?;
     scan.end_of_line()?;
-    Ok(figure)
+    Ok(line)
+}
+
+// The marks of a row that was judged good.
+fn put_marks(marks: &mut Vec<bool>, row: &[u8]) -> Result<(), AllocError>
+    ensures { OnOk result (marks.new.items ≡ marks.old.items ++ map is_cell row.now) }
+{
+    for character in row {
+        marks.push(*character == b'#')?;
+    }
+    Ok(())
+}
+
+// The next word, as a row.
+fn row_marks(scan: &mut Scan, width: u16, marks: &mut Vec<bool>) -> Result<(), ReadFault>
+    ensures { AddsRow result marks.old.items marks.new.items scan.new (word_by (marks_in width) scan.old) }
+{
+    let word = scan.next_word()?;
+    scan.accept(row_word(word, width))?;
+    put_marks(marks, word)?;
+    Ok(())
+}
+
+fn row_line(scan: &mut Scan, width: u16, marks: &mut Vec<bool>) -> Result<(), ReadFault>
+    ensures { AddsRow result marks.old.items marks.new.items scan.new (row_line width scan.old) }
+{
+    scan.next_line()?;
+    scan.word(b"row")?;
+    row_marks(scan, width, marks)?;
+    scan.end_of_line()?;
+    Ok(())
+}
+
+fn shape_rows(
+    alloc: Global,
+    scan: &mut Scan,
+    width: u16,
+    height: u16,
+) -> Result<Vec<bool>, ReadFault>
+    ensures reads { Reads (λ marks. shape_of width height marks.items) result scan.new
+        (shape_rows width height scan.old) }
+    ensures marks { IfOk result (λ marks. length marks.items ≡ height * width) }
+{
+    let mut marks = Vec::new(alloc);
+    for _ in 0..height {
+        row_line(scan, width, &mut marks)?;
+    }
+    Ok(marks)
+}
+
+#[tactic(auto, unfolding(crate::specs::Puzzles::board_rows))]
+fn board_rows(alloc: Global, scan: &mut Scan, line: BoardLine) -> Result<Vec<bool>, ReadFault>
+    ensures reads { Reads (λ marks. figure_of line marks.items) result scan.new (board_rows line scan.old) }
+    ensures marks { IfOk result (λ marks. HasItsMarks line marks.items) }
+{
+    match line {
+        BoardLine::Rectangle { .. } | BoardLine::Triangle { .. } | BoardLine::Hexagon { .. } => {
+            Ok(Vec::new(alloc))
+        }
+        BoardLine::Shape { width, height } => shape_rows(alloc, scan, width, height),
+    }
 }
 
 fn turns_word(word: &[u8]) -> Result<bool, TextKind>
@@ -210,12 +267,12 @@ fn border_kind(scan: &mut Scan) -> Result<BorderKind, TextFault>
 }
 
 // The rest of the line.
-fn rules(alloc: Global, scan: &mut Scan) -> Result<Vec<Option<u8>>, ReadFault>
-    ensures { Reads (λ rules. rules.items) result scan.new (entries MOST_RULES rule_in scan.old) }
+fn rules(alloc: Global, scan: &mut Scan, ranges: &Ranges) -> Result<Vec<Option<u8>>, ReadFault>
+    ensures { Reads (λ rules. rules.items) result scan.new (entries ranges.now.most_rules rule_in scan.old) }
 {
     let mut rules = Vec::new(alloc);
     while scan.has_word() {
-        scan.further_entry(rules.len(), MOST_RULES)?;
+        scan.further_entry(rules.len(), ranges.most_rules)?;
         let rule = scan.rule()?;
         rules.push(rule)?;
     }
@@ -223,35 +280,40 @@ fn rules(alloc: Global, scan: &mut Scan) -> Result<Vec<Option<u8>>, ReadFault>
 }
 
 #[tactic(auto, unfolding(crate::specs::Place::some_entries))]
-fn some_rules(alloc: Global, scan: &mut Scan) -> Result<Vec<Option<u8>>, ReadFault>
-    ensures { Reads (λ rules. rules.items) result scan.new (some_entries MOST_RULES rule_in scan.old) }
+fn some_rules(alloc: Global, scan: &mut Scan, ranges: &Ranges) -> Result<Vec<Option<u8>>, ReadFault>
+    ensures { Reads (λ rules. rules.items) result scan.new (some_entries ranges.now.most_rules rule_in scan.old) }
 {
     scan.some_word()?;
-    rules(alloc, scan)
+    rules(alloc, scan, ranges)
 }
 
 #[tactic(auto, unfolding(crate::specs::Puzzles::border_rule))]
-fn border_rule(alloc: Global, scan: &mut Scan, kind: BorderKind) -> Result<Border, ReadFault>
-    ensures { Reads rule_of result scan.new (border_rule kind scan.old) }
+fn border_rule(
+    alloc: Global,
+    scan: &mut Scan,
+    ranges: &Ranges,
+    kind: BorderKind,
+) -> Result<Border, ReadFault>
+    ensures { Reads rule_of result scan.new (border_rule ranges.now kind scan.old) }
 {
     match kind {
         BorderKind::Free => Ok(Border::Free),
         BorderKind::One => Ok(Border::One(scan.colour()?)),
         BorderKind::Each => {
-            let rules = some_rules(alloc, scan)?;
+            let rules = some_rules(alloc, scan, ranges)?;
             Ok(Border::Each(BorderRules::new(rules)))
         }
     }
 }
 
 #[tactic(auto, unfolding(crate::specs::Puzzles::border_line))]
-fn border_line(alloc: Global, scan: &mut Scan) -> Result<Border, ReadFault>
-    ensures { Reads rule_of result scan.new (border_line scan.old) }
+fn border_line(alloc: Global, scan: &mut Scan, ranges: &Ranges) -> Result<Border, ReadFault>
+    ensures { Reads rule_of result scan.new (border_line ranges.now scan.old) }
 {
     scan.next_line()?;
     scan.word(b"border")?;
     let kind = border_kind(scan)?;
-    let border = border_rule(alloc, scan, kind)?;
+    let border = border_rule(alloc, scan, ranges, kind)?;
     scan.end_of_line()?;
     Ok(border)
 }
@@ -281,13 +343,14 @@ fn mates_line(alloc: Global, scan: &mut Scan) -> Result<Vec<u8>, ReadFault>
 }
 
 #[tactic(auto, unfolding(crate::specs::Puzzles::mating_part))]
-fn mating_part(alloc: Global, scan: &mut Scan, version: PuzzleVersion) -> Result<Vec<u8>, ReadFault>
-    ensures { Reads (λ mates. mating_by version mates.items) result scan.new (mating_part version scan.old) }
+fn mating_part(alloc: Global, scan: &mut Scan, version: u8) -> Result<Vec<u8>, ReadFault>
+    requires { IsVersion version }
+    ensures { Reads (λ mates. mating_of version mates.items) result scan.new (mating_part version scan.old) }
 {
-    match version {
-        PuzzleVersion::First => Ok(Vec::new(alloc)),
-        PuzzleVersion::Second => mates_line(alloc, scan),
+    if version == 1 {
+        return Ok(Vec::new(alloc));
     }
+    mates_line(alloc, scan)
 }
 
 #[tactic(auto, unfolding(crate::specs::Puzzles::tile_line))]
@@ -312,21 +375,25 @@ fn tile_lines(alloc: Global, scan: &mut Scan, count: u32) -> Result<Vec<Tile>, R
     Ok(tiles)
 }
 
-#[tactic(auto, unfolding(crate::specs::Puzzles::puzzle_text))]
+#[tactic(auto, unfolding(crate::specs::Puzzles::puzzle_text, crate::specs::Puzzles::board_part))]
 fn whole(alloc: Global, scan: &mut Scan) -> Result<PuzzleText, ReadFault>
-    ensures { Reads view_of result scan.new (puzzle_text scan.old) }
+    ensures reads { Reads view_of result scan.new (puzzle_text scan.old) }
+    ensures marks { IfOk result (λ t. HasItsMarks t.board t.marks.items) }
 {
-    let version = match_line(scan)?;
-    let figure = board_line(scan)?;
+    let version = scan.opening(b"match")?;
+    let ranges = ranges_of(version);
+    let board = board_line(scan, version)?;
+    let marks = board_rows(alloc, scan, board)?;
     let turns = turns_line(scan)?;
-    let border = border_line(alloc, scan)?;
+    let border = border_line(alloc, scan, &ranges)?;
     let mates = mating_part(alloc, scan, version)?;
-    let count = scan.counted(b"tiles", 1, u32::from(MOST_TILES))?;
+    let count = scan.counted(b"tiles", 1, u32::from(ranges.most_cells))?;
     let tiles = tile_lines(alloc, scan, count)?;
     scan.closing()?;
     Ok(PuzzleText {
         version,
-        figure,
+        board,
+        marks,
         turns,
         border,
         mates,
@@ -337,35 +404,50 @@ fn whole(alloc: Global, scan: &mut Scan) -> Result<PuzzleText, ReadFault>
 #[tactic(auto, unfolding(crate::specs::Puzzles::puzzle_of))]
 fn read_text(alloc: Global, text: &[u8]) -> Result<PuzzleText, ReadFault>
     requires { length text.now + 1 < 2 ^ 32 }
-    ensures { Says view_of result (puzzle_of text.now) }
+    ensures says { Says view_of result (puzzle_of text.now) }
+    ensures marks { IfOk result (λ t. HasItsMarks t.board t.marks.items) }
 {
     let mut scan = Scan::new(text);
     whole(alloc, &mut scan)
 }
 
+// The board that was said.
+fn make_board(line: BoardLine, marks: &[bool]) -> Result<Board, BoardFault>
+    requires { HasItsMarks line marks.now }
+    ensures board { IfOk result (λ b. (b ≡ figure_of line marks.now) × IsBoard b) }
+    ensures fault { IfErr result (BoardFails (figure_of line marks.now)) }
+{
+    match line {
+        BoardLine::Rectangle { width, height } => Board::of(Figure::Rectangle { width, height }),
+        BoardLine::Triangle { size } => Board::of(Figure::Triangle { size }),
+        BoardLine::Hexagon { size } => Board::of(Figure::Hexagon { size }),
+        BoardLine::Shape { width, height } => Board::shape(width, height, marks),
+    }
+}
+
 // The puzzle that was said, on its board.
 fn make_said(alloc: Global, board: Board, said: &PuzzleText) -> Result<Puzzle, PuzzleFault>
-    requires board { board ≡ said.now.figure }
+    requires board { board ≡ (view_of said.now).board }
+    requires plain { said.now.version ≡ 1 → IsPlain board }
     requires border { IsShortRule (rule_of said.now.border) }
-    requires mates { length (view_of said.now).mating.mates < 2 ^ 32 }
+    requires version { IsOfVersion (view_of said.now).mating }
+    requires mates { length said.now.mates.items < 2 ^ 32 }
     requires tiles { length said.now.tiles.items < 2 ^ 32 }
     ensures puzzle { IfOk result (λ p. (p ≡ view_of said.now) × IsPuzzle p) }
     ensures fault { IfErr result (λ f. f ≢ PuzzleFault.Memory
         → IsFirst puzzle_rank (PuzzleFails (view_of said.now)) f) }
 {
-    match said.version {
-        PuzzleVersion::First => Puzzle::new(alloc, board, said.turns, &said.border, &said.tiles),
-        PuzzleVersion::Second => {
-            Puzzle::with_mates(
-                alloc,
-                board,
-                said.turns,
-                &said.border,
-                &said.mates,
-                &said.tiles,
-            )
-        }
+    if said.version == 1 {
+        return Puzzle::new(alloc, board, said.turns, &said.border, &said.tiles);
     }
+    Puzzle::with_mates(
+        alloc,
+        board,
+        said.turns,
+        &said.border,
+        &said.mates,
+        &said.tiles,
+    )
 }
 
 // The board and the puzzle are made after the whole text was read.
@@ -374,7 +456,7 @@ fn read_and_make(alloc: Global, text: &[u8]) -> Result<Puzzle, PuzzleTextFault>
     ensures { PuzzleReads text.now result }
 {
     let said = read_text(alloc, text)?;
-    let board = Board::of(said.figure)?;
+    let board = make_board(said.board, &said.marks)?;
     let puzzle = make_said(alloc, board, &said)?;
     Ok(puzzle)
 }

@@ -5,12 +5,14 @@ ghost use Rattle.std.specs.Prelude.{IfOk};
 ghost use Rattle.std.specs.Option.{option_copied};
 ghost use Rattle.match_board.specs.Tile.{word as tile_colours};
 ghost use Rattle.match_text.specs.Bytes.{words_left};
+ghost use Rattle.match_text.specs.Ranges.{IsVersion, AreRanges};
 ghost use Rattle.match_text.specs.Words.{fixed_in, version_in, number_in, colour_in, rule_in, tile_in, placement_in};
 ghost use Rattle.match_text.specs.Words.{pair_in};
 ghost use Rattle.match_text.specs.Place.{Place, start, first_word, other_words, without_word, judged, Gives, next_line};
 ghost use Rattle.match_text.specs.Place.{end_of_line, end_of_text, some_word, word_by, opening, counted, closing};
 
 use crate::faults::{TextFault, TextKind};
+use crate::ranges::Ranges;
 use crate::words::{
     after_word, colour_word, cut_line, fixed_word, front, number_word, pair_word, placement_word,
     rule_word, short_number, short_placement, tile_word, version_word,
@@ -227,10 +229,11 @@ impl<'a> Scan<'a> {
         self.any_word(wanted)
     }
 
-    /// The version.
+    /// The version, 1 or 2.
     #[tactic(auto, unfolding(crate::specs::Place::word_by))]
-    pub fn version(&mut self) -> Result<(), TextFault>
-        ensures gives { Gives (λ _. tt) result self.new (word_by version_in self.old) }
+    pub fn version(&mut self) -> Result<u8, TextFault>
+        ensures gives { Gives (λ version. version) result self.new (word_by version_in self.old) }
+        ensures version { IfOk result IsVersion }
         ensures err { OnErr result (self.new ≡ self.old) }
     {
         let word = self.next_word()?;
@@ -305,19 +308,20 @@ impl<'a> Scan<'a> {
     // A placement, whatever stands after it.
     #[inline(never)]
     #[tactic(auto, unfolding(crate::specs::Place::word_by))]
-    fn any_placement(&mut self) -> Result<Placement, TextFault>
-        ensures gives { Gives (λ p. p) result self.new (word_by placement_in self.old) }
+    fn any_placement(&mut self, ranges: &Ranges) -> Result<Placement, TextFault>
+        ensures gives { Gives (λ p. p) result self.new (word_by (placement_in ranges.now) self.old) }
         ensures err { OnErr result (self.new ≡ self.old) }
     {
         let word = self.next_word()?;
-        self.accept(placement_word(word))
+        self.accept(placement_word(word, ranges))
     }
 
-    /// A placement: a tile below 100, and a turn below 4.
+    /// A placement: a tile in its range, and a turn below 4.
     #[inline]
     #[tactic(auto, unfolding(crate::specs::Place::word_by))]
-    pub fn placement(&mut self) -> Result<Placement, TextFault>
-        ensures gives { Gives (λ p. p) result self.new (word_by placement_in self.old) }
+    pub fn placement(&mut self, ranges: &Ranges) -> Result<Placement, TextFault>
+        requires { AreRanges ranges.now }
+        ensures gives { Gives (λ p. p) result self.new (word_by (placement_in ranges.now) self.old) }
         ensures err { OnErr result (self.new ≡ self.old) }
     {
         // Nearly every placement has a further one after it.
@@ -327,28 +331,30 @@ impl<'a> Scan<'a> {
             self.rest = Some(others);
             return Ok(placement);
         }
-        self.any_placement()
+        self.any_placement(ranges)
     }
 
-    /// A pair: a cell below 100, and a placement.
+    /// A pair: a cell in its range, and a placement.
     #[tactic(auto, unfolding(crate::specs::Place::word_by))]
-    pub fn pair(&mut self) -> Result<Pair, TextFault>
-        ensures gives { Gives (λ p. p) result self.new (word_by pair_in self.old) }
+    pub fn pair(&mut self, ranges: &Ranges) -> Result<Pair, TextFault>
+        ensures gives { Gives (λ p. p) result self.new (word_by (pair_in ranges.now) self.old) }
         ensures err { OnErr result (self.new ≡ self.old) }
     {
         let word = self.next_word()?;
-        self.accept(pair_word(word))
+        self.accept(pair_word(word, ranges))
     }
 
-    /// The first line of a text: its name and the version.
+    /// The first line of a text: its name and the version, 1 or 2.
     #[tactic(auto, unfolding(crate::specs::Place::opening))]
-    pub fn opening(&mut self, name: &[u8]) -> Result<(), TextFault>
-        ensures { Gives (λ _. tt) result self.new (opening name.now self.old) }
+    pub fn opening(&mut self, name: &[u8]) -> Result<u8, TextFault>
+        ensures gives { Gives (λ version. version) result self.new (opening name.now self.old) }
+        ensures version { IfOk result IsVersion }
     {
         self.next_line()?;
         self.word(name)?;
-        self.version()?;
-        self.end_of_line()
+        let version = self.version()?;
+        self.end_of_line()?;
+        Ok(version)
     }
 
     /// A line of a name and a number from `least` to `most`.

@@ -1,18 +1,22 @@
 //! Words by themselves: what one has to be, or what is wrong with it.
 
 ghost use Rattle.std.specs.Prelude.{ℕ, List, ◌≡◌, ◌==◌, ◌+◌, ◌<◌, ◌≤◌, ◌^◌, ◌∷◌, ◌++◌, ◌⊎◌, length, take, min, true};
-ghost use Rattle.std.specs.Prelude.{false, All, IfSome, IfOk, IfErr, OnOk};
+ghost use Rattle.std.specs.Prelude.{false, map, All, IfSome, IfOk, IfErr, OnOk};
 ghost use Rattle.std.specs.Option.{option_map, option_copied};
-ghost use Rattle.std.specs.List.{position};
+ghost use Rattle.std.specs.List.{list_all, position};
 ghost use Rattle.std.specs.Str.Parse.{digits_value};
 ghost use Rattle.match_board.specs.Tile.{word as tile_colours};
 ghost use Rattle.match_text.specs.Bytes.{cut_at, words_of, words_left};
+ghost use Rattle.match_text.specs.declared.ranges.Ranges.{Ranges as RangesOf};
+ghost use Rattle.match_text.specs.Ranges.{IsVersion, AreRanges};
 ghost use Rattle.match_text.specs.Words.{Judges, fixed_in, version_in, is_number, number_in, or_word, colour_of};
-ghost use Rattle.match_text.specs.Words.{colour_in, rule_in, colours_in, tile_in, placement_in, pair_in};
+ghost use Rattle.match_text.specs.Words.{colour_in, rule_in, colours_in, tile_in, placement_in, pair_in, marks_in};
+ghost use Rattle.match_text.specs.Words.{is_cell, is_mark};
 
 use crate::faults::TextKind;
+use crate::ranges::Ranges;
 use match_board::Tile;
-use match_board::limits::{LAST_CELL, LAST_TILE, LAST_TURN, MOST_COLOURS};
+use match_board::limits::{LAST_TURN, MOST_COLOURS};
 use match_puzzle::{Pair, Placement};
 use memchr::memchr;
 
@@ -83,15 +87,18 @@ pub fn fixed_word(word: &[u8], wanted: &[u8]) -> Result<(), TextKind>
     }
 }
 
-/// The version of a list and of a certificate.
-pub fn version_word(word: &[u8]) -> Result<(), TextKind>
-    ensures { Judges (λ _. tt) result (version_in word.now) }
+/// The version of a text.
+pub fn version_word(word: &[u8]) -> Result<u8, TextKind>
+    ensures judges { Judges (λ version. version) result (version_in word.now) }
+    ensures version { IfOk result IsVersion }
 {
     if word == b"1".as_slice() {
-        Ok(())
-    } else {
-        Err(TextKind::Version)
+        return Ok(1);
     }
+    if word == b"2".as_slice() {
+        return Ok(2);
+    }
+    Err(TextKind::Version)
 }
 
 // What a number says, or `ceiling` where that is more. Number, where the word is none.
@@ -181,6 +188,26 @@ pub fn colour_word(word: &[u8]) -> Result<u8, TextKind>
     }
 }
 
+fn are_marks(word: &[u8]) -> bool
+    ensures { result ≡ list_all is_mark word.now }
+{
+    word.iter().all(|byte| *byte == b'#' || *byte == b'.')
+}
+
+/// A row of a shape: so many characters, each `#` for a cell or `.` for a place without one.
+#[tactic(auto, unfolding(crate::specs::Words::marks_in))]
+pub fn row_word(word: &[u8], width: u16) -> Result<(), TextKind>
+    ensures { Judges (λ _. map is_cell word.now) result (marks_in width word.now) }
+{
+    if word.len() != usize::from(width) {
+        return Err(TextKind::Word);
+    }
+    if !are_marks(word) {
+        return Err(TextKind::Word);
+    }
+    Ok(())
+}
+
 /// What is asked of a border pair: a colour, or nothing.
 #[tactic(auto, unfolding(crate::specs::Words::rule_in))]
 pub fn rule_word(word: &[u8]) -> Result<Option<u8>, TextKind>
@@ -240,23 +267,24 @@ pub fn tile_word(word: &[u8]) -> Result<Tile, TextKind>
 
 /// A tile and its turn, with a dot between.
 #[tactic(auto, unfolding(crate::specs::Words::placement_in))]
-pub fn placement_word(word: &[u8]) -> Result<Placement, TextKind>
-    ensures { Judges (λ p. p) result (placement_in word.now) }
+pub fn placement_word(word: &[u8], ranges: &Ranges) -> Result<Placement, TextKind>
+    ensures { Judges (λ p. p) result (placement_in ranges.now word.now) }
 {
     let Some((tile, turn)) = cut(word, b'.') else {
         return Err(TextKind::Word);
     };
-    let tile = number_word(tile, 0, u32::from(LAST_TILE))? as u16;
+    let tile = number_word(tile, 0, u32::from(ranges.last_cell))? as u16;
     let turn = number_word(turn, 0, u32::from(LAST_TURN))? as u8;
     Ok(Placement { tile, turn })
 }
 
-/// The placement that a line begins with, and what stands after the space that ends it; none, where
-/// the line begins with something else, or the placement ends it.
+/// The placement, of a tile below 100, that a line begins with, and what stands after the space that
+/// ends it; none, where the line begins with something else, or the placement ends it. Such a tile is
+/// in every range.
 #[inline]
 pub fn short_placement(line: &[u8]) -> Option<(Placement, &[u8])>
     ensures { IfSome result (λ x. (word : List ℕ) × (words_of line.now ≡ word ∷ words_of x.1.now)
-        × (placement_in word ≡ Ok x.0)) }
+        × ((ranges : RangesOf) → AreRanges ranges → placement_in ranges word ≡ Ok x.0)) }
 {
     let (tile, after) = short_digits(line)?;
     let [b'.', turn @ b'0'..=b'3', b' ', others @ ..] = after else {
@@ -271,8 +299,8 @@ pub fn short_placement(line: &[u8]) -> Option<(Placement, &[u8])>
 
 /// A cell, and a placement there, with a colon between.
 #[tactic(auto, unfolding(crate::specs::Words::pair_in))]
-pub fn pair_word(word: &[u8]) -> Result<Pair, TextKind>
-    ensures { Judges (λ p. p) result (pair_in word.now) }
+pub fn pair_word(word: &[u8], ranges: &Ranges) -> Result<Pair, TextKind>
+    ensures { Judges (λ p. p) result (pair_in ranges.now word.now) }
 {
     let Some((cell, placed)) = cut(word, b':') else {
         return Err(TextKind::Word);
@@ -280,8 +308,9 @@ pub fn pair_word(word: &[u8]) -> Result<Pair, TextKind>
     let Some((tile, turn)) = cut(placed, b'.') else {
         return Err(TextKind::Word);
     };
-    let cell = number_word(cell, 0, u32::from(LAST_CELL))? as u16;
-    let tile = number_word(tile, 0, u32::from(LAST_TILE))? as u16;
+    let last = u32::from(ranges.last_cell);
+    let cell = number_word(cell, 0, last)? as u16;
+    let tile = number_word(tile, 0, last)? as u16;
     let turn = number_word(turn, 0, u32::from(LAST_TURN))? as u8;
     Ok(Pair {
         cell,

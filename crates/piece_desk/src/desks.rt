@@ -11,6 +11,7 @@ use boxcar::tag::Tag;
 use boxcar::{Iter, Keeps, Pushed, Vec as Places};
 use cert_tree::{AssembleFault, Certificate, Lemma, assemble_turned};
 use match_board::limits::{MOST_ARRANGEMENTS, MOST_LEMMAS};
+use match_text::SECOND;
 use puzzle_symmetry::SymmetryLine;
 use std::alloc::{AllocError, Global};
 use std::marker::Model;
@@ -21,9 +22,10 @@ struct Within;
 
 impl Keeps<Lemma> for Within {
     ghost use Rattle.cert_tree.specs.Certificate.{piece_of};
+    ghost use Rattle.match_text.specs.declared.ranges.TheConstants.{SECOND};
     ghost use Rattle.cert_tree.specs.CertificateSpelling.{IsLemmaWithin};
 
-    ghost holds = { λ _ _ lemma. IsLemmaWithin (piece_of lemma) };
+    ghost holds = { λ _ _ lemma. IsLemmaWithin SECOND (piece_of lemma) };
 }
 
 /// Lemmas that threads put there for each other. None is ever taken away or changed.
@@ -50,9 +52,10 @@ impl Model for Receipt {
     ghost view = { λ receipt. receipt.token };
 
     ghost use Rattle.cert_tree.specs.Certificate.{piece_of};
+    ghost use Rattle.match_text.specs.declared.ranges.TheConstants.{SECOND};
     ghost use Rattle.cert_tree.specs.CertificateSpelling.{IsLemmaWithin};
 
-    ghost invariant = { λ receipt. IsLemmaWithin (piece_of receipt.token.value) };
+    ghost invariant = { λ receipt. IsLemmaWithin SECOND (piece_of receipt.token.value) };
 }
 
 /// A walk over lemmas that were posted.
@@ -72,7 +75,7 @@ impl Desk {
     ///
     /// A post takes no lock, but while another thread makes room for further lemmas it waits until there is room.
     pub fn post<R: Wait>(&self, rt: &R, lemma: Lemma) -> Result<Receipt, Lemma>
-        requires { IsLemmaWithin (piece_of lemma) }
+        requires { IsLemmaWithin SECOND (piece_of lemma) }
         ensures posted { IfOk result (λ receipt. IsOf self.now receipt × (lemma_of receipt ≡ lemma)) }
         ensures back { IfErr result (λ same. same ≡ lemma) }
     {
@@ -84,7 +87,7 @@ impl Desk {
     pub fn read<'a>(&'a self, receipt: &Receipt) -> &'a Lemma
         requires { IsOf self.now receipt.now }
         ensures lemma { result.now ≡ lemma_of receipt.now }
-        ensures within { IsLemmaWithin (piece_of result.now) }
+        ensures within { IsLemmaWithin SECOND (piece_of result.now) }
     {
         self.posted.value(&receipt.token)
     }
@@ -101,7 +104,7 @@ impl Desk {
     fn lent<'a>(&'a self, alloc: Global, receipts: &[Receipt]) -> Result<Vec<&'a Lemma>, AllocError>
         requires { All (λ receipt. IsOf self.now receipt) receipts.now }
         ensures pieces { IfOk result (λ lemmas. map lent_piece lemmas.items ≡ map posted_piece receipts.now) }
-        ensures within { IfOk result (λ lemmas. All (λ lemma. IsLemmaWithin (lent_piece lemma)) lemmas.items) }
+        ensures within { IfOk result (λ lemmas. All (λ lemma. IsLemmaWithin SECOND (lent_piece lemma)) lemmas.items) }
     {
         let mut lemmas = Vec::with_capacity(alloc, receipts.len())?;
         for receipt in receipts {
@@ -147,7 +150,9 @@ impl Desk {
 impl<'a> Iterator for Shown<'a> {
     type Item = &'a Lemma;
 
-    ghost next_gives = { λ old item new. IfSome item (λ lemma. IsLemmaWithin (lent_piece lemma))
+    ghost use Rattle.match_text.specs.declared.ranges.TheConstants.{SECOND};
+
+    ghost next_gives = { λ old item new. IfSome item (λ lemma. IsLemmaWithin SECOND (lent_piece lemma))
         × (places_left new ≤ places_left old)
         × IfSome item (λ _. places_left new < places_left old) };
 

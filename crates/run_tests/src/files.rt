@@ -36,6 +36,8 @@ impl<'a> FileSystem for HeldFiles<'a> {
 
     ghost holds = { λ f name. Some (held_by f.puzzle.now f.list.now f.certificate.now name) };
 
+    ghost makes = { λ _ _ _. Unit {0} };
+
     fn open(&self, name: &str) -> Result<Fake<'a>, Failed> {
         Ok(Fake::new(self.alloc, self.held(name), 7, usize::MAX))
     }

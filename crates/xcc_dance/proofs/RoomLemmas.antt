@@ -78,7 +78,7 @@ module _ (x : Compiled) (is : IsCompiled x) where
   cells = cell_count x.puzzle.board
 
   few_cells : cells ≤ MOST_CELLS
-  few_cells = is.puzzle.board.1
+  few_cells = is.puzzle.board.most
 
   -- the number of a pair at one cell, by its tile and turn, and of one with one tile, by its cell and turn
   record HasNumber (part : Pair → ℕ) (option number : ℕ) : Type 0 where

@@ -9,8 +9,8 @@ use Rattle.xcc_form.specs.Correspondence.{IsSolutionOf}
 use Rattle.cert_tree.specs.Tree.{Tree, Forest, branch, dead, found, same, image, none, more, count, tree_of, forest_of}
 use Rattle.cert_tree.specs.declared.nodes.Node.{Node, Found}
 use Rattle.cert_tree.proofs.TreeLemmas.{tree_of-Found}
-use Rattle.xcc_dance.specs.Chosen.{Selection, HasSize, with_option}
-use Rattle.xcc_dance.specs.Found.{IsNumberOf, IsBranchOn}
+use Rattle.xcc_dance.specs.Chosen.{Selection, AreOpenAt, HasSize, with_option}
+use Rattle.xcc_dance.specs.Found.{IsNumberOf, IsDeadAt, IsBranchOn}
 use Rattle.xcc_dance.specs.Progress.{AreKept}
 use Rattle.xcc_dance.specs.SearchTree.{Picks, Answers, IsAbout, IsAnswered, IsSearchTree, AreChildren, IsChild, AreBranchesOf}
 use Rattle.xcc_dance.specs.declared.cites.Cite.{Cite}
@@ -75,6 +75,14 @@ module _ (picks : Picks) where
 
     about : (cells number : ℕ) (item : Item) → cells ≡ cell_count s.compiled.puzzle.board → picks s number → IsNumberOf cells number item → IsAbout picks s number item
     about cells number item e picked is = (subst (λ n. IsNumberOf n number item) e is, picked)
+
+    none_open : (number : ℕ) (options : List ℕ) → AreOpenAt (cover_of s.compiled) s.chosen number options → length options ≡ 0 → AreOpenAt (cover_of s.compiled) s.chosen number []
+    none_open number [] open_at e = open_at
+    none_open number (option ∷ options) open_at e = absurd (omega (arith, e))
+
+    pub dead_searched : (cells number : ℕ) (tree : Tree) → cells ≡ cell_count s.compiled.puzzle.board → picks s number → HasSize (cover_of s.compiled) s.chosen number 0 → IsDeadAt cells number tree → IsSearchTree picks answers all s tree
+    dead_searched cells number tree e picked none_left is = subst (IsSearchTree picks answers all s) (sym is.2)
+        (number, about cells number is.0 e picked is.1, none_open number none_left.0 none_left.1 none_left.2)
 
     pub branch_searched : (cells number : ℕ) (children : Forest) (tree : Tree) → cells ≡ cell_count s.compiled.puzzle.board → picks s number → AreBranchesOf picks answers all s number children → IsBranchOn cells number children tree → IsSearchTree picks answers all s tree
     branch_searched cells number children tree e picked branches is = subst (IsSearchTree picks answers all s) (sym is.2)

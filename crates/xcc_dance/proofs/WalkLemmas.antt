@@ -5,20 +5,21 @@ use Rattle.match_board.specs.declared.limits.TheConstants.{MOST_CELLS, MOST_CHIL
 use Rattle.match_puzzle.specs.declared.placements.Placement.{Placement}
 use Rattle.xcc_form.specs.Options.{cover_of}
 use Rattle.xcc_form.specs.Correspondence.{IsSolutionOf}
+use Rattle.match_text.specs.declared.ranges.TheConstants.{SECOND}
 use Rattle.cert_tree.specs.Tree.{Tree, Forest, branch, count, tree_of, forest_of}
 use Rattle.cert_tree.specs.TreeSpelling.{IsTreeWithin}
 use Rattle.cert_tree.specs.declared.nodes.Node.{Node, Found}
 use Rattle.cert_tree.proofs.TreeLemmas.{tree_of-Found, count-forest_of}
 use Rattle.xcc_dance.specs.Clashes.{IsOpen, IsOpenAt}
 use Rattle.xcc_dance.specs.Chosen.{Selection, IsSelection, HasSize, with_option}
-use Rattle.xcc_dance.specs.Found.{IsFoundFrom, IsBranchOn}
+use Rattle.xcc_dance.specs.Found.{IsFoundFrom, IsDeadAt, IsBranchOn}
 use Rattle.xcc_dance.specs.Progress.{GoesOn, IsTreeOf, AreTreesOf, levels_below}
 use Rattle.xcc_dance.specs.declared.progress.Progress.{Progress}
 use Rattle.xcc_dance.proofs.PartialLemmas.{one_more}
 use Rattle.xcc_dance.proofs.RoomLemmas.{few_chosen}
 use Rattle.xcc_dance.proofs.SizeLemmas.{AreOpenBefore, below_one, size_same, few_below, few_sized}
 use Rattle.xcc_dance.proofs.GrowingLemmas.{kept_push, total_more, all_up, all_more, found_before}
-use Rattle.xcc_dance.proofs.WithinLemmas.{found_within, branch_within, within_more_trees}
+use Rattle.xcc_dance.proofs.WithinLemmas.{found_within, dead_within, branch_within, within_more_trees}
 
 module _ (start : Selection) where
   -- what goes on with one more option goes on without it
@@ -55,6 +56,11 @@ module _ (start : Selection) where
         few = omega (arith, long, fuel);
       })
 
+  -- the node of a dead end
+  pub dead_tree : (progress : Progress) (cells item : ℕ) (tree : Tree) → cells ≤ MOST_CELLS → item < 2 * cells → IsDeadAt cells item tree → IsTreeOf start progress progress tree
+  dead_tree progress cells item tree few lt is =
+      subst (IsTreeOf start progress progress) (sym is.2) (record { spent = omega arith; numbers = tt; within = λ few'. dead_within (levels_below start) cells item is.0 few lt is.1; few = omega arith })
+
   -- the node of a branch
   pub branch_tree : (first before after : Progress) (cells item size : ℕ) (children : Forest) (tree : Tree) → IsSelection start.compiled start.chosen
       → before.fuel + 1 ≡ first.fuel → before.found.items ≡ first.found.items → cells ≤ MOST_CELLS → item < 2 * cells → HasSize (cover_of start.compiled) start.chosen item size → size ≢ 0
@@ -84,7 +90,7 @@ module _ (start : Selection) where
     child_levels is_open =
         let more = start.chosen ++ option ∷ [] in
         let few = few_chosen start.compiled more (record { compiled = right.compiled; partial = one_more (cover_of start.compiled) start.chosen right.partial option is_open }) in
-        let cells = right.compiled.puzzle.board.1 in
+        let cells = right.compiled.puzzle.board.most in
         let long = length-append start.chosen (option ∷ []) in
         omega (arith, few, cells, long)
 
@@ -105,7 +111,7 @@ module _ (start : Selection) where
         subst (λ ns. AreTreesOf start first after (forest_of ns)) (sym items) (record {
           spent = omega (arith, total, spent, spent');
           numbers = all_more (length after.found.items) nodes node (all_up (length before.found.items) (length after.found.items) more (forest_of nodes) old.numbers) new.numbers;
-          within = λ few. within_more_trees (levels_below start) nodes node (old.within (omega (arith, few, more))) (subst (λ n. IsTreeWithin n (tree_of node)) levels (new.within few));
+          within = λ few. within_more_trees (levels_below start) nodes node (old.within (omega (arith, few, more))) (subst (λ n. IsTreeWithin SECOND n (tree_of node)) levels (new.within few));
           few = omega (arith, many, many', count', long, counted);
         })
 

@@ -3,31 +3,35 @@ use Rattle.std.proofs.Common.{◌<◌, ◌≤◌, ◌+◌, ◌*◌, ℕ, zero, s
 use Rattle.match_board.specs.declared.limits.TheConstants.{MOST_ARRANGEMENTS, MOST_CELLS, MOST_CHILDREN}
 use Rattle.match_puzzle.specs.declared.items.Item.{Item}
 use Rattle.match_puzzle.specs.declared.items.Item.TheVariants.{Cell, Tile}
+use Rattle.match_text.specs.declared.ranges.TheConstants.{SECOND}
 use Rattle.cert_tree.specs.Tree.{Tree, Forest, branch, dead, found, same, image, none, more, count, tree_of, forest_of}
 use Rattle.cert_tree.specs.TreeSpelling.{IsItemWithin, IsTreeWithin, AreTreesWithin}
 use Rattle.cert_tree.specs.declared.nodes.Node.{Node}
 use Rattle.xcc_dance.specs.Found.{IsNumberOf, IsBranchOn}
 
-one_level : (levels : ℕ) (tree : Tree) → IsTreeWithin (suc levels) tree → IsTreeWithin (levels + 1) tree
-one_level levels tree h = subst (λ n. IsTreeWithin n tree) (sym (add-one levels)) h
+one_level : (levels : ℕ) (tree : Tree) → IsTreeWithin SECOND (suc levels) tree → IsTreeWithin SECOND (levels + 1) tree
+one_level levels tree h = subst (λ n. IsTreeWithin SECOND n tree) (sym (add-one levels)) h
 
-pub found_within : (levels number n : ℕ) → number < n → n ≤ MOST_ARRANGEMENTS → IsTreeWithin (levels + 1) (found number)
+pub found_within : (levels number n : ℕ) → number < n → n ≤ MOST_ARRANGEMENTS → IsTreeWithin SECOND (levels + 1) (found number)
 found_within levels number n lt few = one_level levels (found number) (omega (arith, lt, few))
 
-item_within : (cells number : ℕ) (item : Item) → cells ≤ MOST_CELLS → number < 2 * cells → IsNumberOf cells number item → IsItemWithin item
+item_within : (cells number : ℕ) (item : Item) → cells ≤ MOST_CELLS → number < 2 * cells → IsNumberOf cells number item → IsItemWithin SECOND item
 item_within cells number (Cell cell) few lt of = let a = of.1 in omega (arith, few, a)
 item_within cells number (Tile tile) few lt of = omega (arith, few, lt, of)
 
-pub branch_within : (levels cells item : ℕ) (children : Forest) (tree : Tree) → cells ≤ MOST_CELLS → item < 2 * cells → 1 ≤ count children → count children ≤ MOST_CHILDREN → AreTreesWithin levels children → IsBranchOn cells item children tree → IsTreeWithin (levels + 1) tree
-branch_within levels cells item children tree few lt some most all is = subst (IsTreeWithin (levels + 1)) (sym is.2) (one_level levels (branch is.0 children) (item_within cells item is.0 few lt is.1, some, most, all))
+pub dead_within : (levels cells number : ℕ) (item : Item) → cells ≤ MOST_CELLS → number < 2 * cells → IsNumberOf cells number item → IsTreeWithin SECOND (levels + 1) (dead item)
+dead_within levels cells number item few lt is = one_level levels (dead item) (item_within cells number item few lt is)
 
-pub within_more_trees : (levels : ℕ) (nodes : List Node) (node : Node) → AreTreesWithin levels (forest_of nodes) → IsTreeWithin levels (tree_of node) → AreTreesWithin levels (forest_of (nodes ++ node ∷ []))
+pub branch_within : (levels cells item : ℕ) (children : Forest) (tree : Tree) → cells ≤ MOST_CELLS → item < 2 * cells → 1 ≤ count children → count children ≤ MOST_CHILDREN → AreTreesWithin SECOND levels children → IsBranchOn cells item children tree → IsTreeWithin SECOND (levels + 1) tree
+branch_within levels cells item children tree few lt some most all is = subst (IsTreeWithin SECOND (levels + 1)) (sym is.2) (one_level levels (branch is.0 children) (item_within cells item is.0 few lt is.1, some, most, all))
+
+pub within_more_trees : (levels : ℕ) (nodes : List Node) (node : Node) → AreTreesWithin SECOND levels (forest_of nodes) → IsTreeWithin SECOND levels (tree_of node) → AreTreesWithin SECOND levels (forest_of (nodes ++ node ∷ []))
 within_more_trees levels [] node all one = (one, tt)
 within_more_trees levels (x ∷ nodes) node all one = (all.0, within_more_trees levels nodes node all.1 one)
 
 mutual
   -- what is within so many levels is within more
-  pub deeper : (m n : ℕ) → m ≤ n → (t : Tree) → IsTreeWithin m t → IsTreeWithin n t
+  pub deeper : (m n : ℕ) → m ≤ n → (t : Tree) → IsTreeWithin SECOND m t → IsTreeWithin SECOND n t
   deeper zero n le t h = absurd h
   deeper (suc m) zero le t h = absurd (omega (arith, le))
   deeper (suc m) (suc n) le (branch item children) h = (h.0, h.1, h.2, all_deeper m n (omega (arith, le)) children h.3)
@@ -36,6 +40,6 @@ mutual
   deeper (suc m) (suc n) le (same lemma) h = h
   deeper (suc m) (suc n) le (image lemma symmetry) h = h
 
-  all_deeper : (m n : ℕ) → m ≤ n → (ts : Forest) → AreTreesWithin m ts → AreTreesWithin n ts
+  all_deeper : (m n : ℕ) → m ≤ n → (ts : Forest) → AreTreesWithin SECOND m ts → AreTreesWithin SECOND n ts
   all_deeper m n le none h = tt
   all_deeper m n le (more t ts) h = (deeper m n le t h.0, all_deeper m n le ts h.1)

@@ -1,8 +1,9 @@
 -- What a search comes to.
 use Rattle.std.specs.Prelude.{◌≡◌, ◌<◌, ◌≤◌, ℕ, Bool, true, false, List, Contains, length}
-use Rattle.match_board.specs.declared.limits.TheConstants.{MOST_ARRANGEMENTS, MOST_LEMMAS, MOST_LEVELS, MOST_SYMMETRIES}
+use Rattle.match_board.specs.declared.limits.TheConstants.{MOST_ARRANGEMENTS, MOST_LEMMAS, MOST_SYMMETRIES}
 use Rattle.match_puzzle.specs.declared.placements.Placement.{Placement}
 use Rattle.match_puzzle.specs.declared.placements.Pair.{Pair}
+use Rattle.match_text.specs.declared.ranges.TheConstants.{SECOND}
 use Rattle.cert_tree.specs.Tree.{Tree, tree_of}
 use Rattle.cert_tree.specs.TreeSpelling.{IsTreeWithin}
 use Rattle.xcc_form.specs.Options.{Compiled}
@@ -26,13 +27,13 @@ pub record SearchState : Type 0 where
   pub failed : Bool
 
 -- What was found are arrangements that extend the prefix, which the tree numbers; it has so many branch nodes, and is
--- within the limits of a lemma where no more was found than may be listed.
+-- within the limits of a lemma's text where no more was found than may be listed.
 pub record IsSearched (x : Compiled) (prefix : List Pair) (tree : Tree) (found : List (List Placement))
     (branches : ℕ) : Type 0 where
   pub found_are : (a : List Placement) → Contains found a → IsArrangementWith x.puzzle prefix a
   pub numbers : IsFoundBelow (length found) tree
   pub branch_nodes : branch_count tree ≡ branches
-  pub within : length found ≤ MOST_ARRANGEMENTS → IsTreeWithin MOST_LEVELS tree
+  pub within : length found ≤ MOST_ARRANGEMENTS → IsTreeWithin SECOND SECOND.most_levels tree
 
 -- The outcome of a run, by what the search was before and is then: all was found, and each link and each size is what
 -- it was; or just the fuel was spent, and the search failed.

@@ -2,6 +2,7 @@
 use Rattle.std.specs.Prelude.{◌≡◌, ◌⊎◌, ◌≤◌, ◌+◌, ◌-◌, ◌*◌, ℕ, List, Some, Contains, length, slice_get}
 use Rattle.match_board.specs.declared.limits.TheConstants.{MOST_ARRANGEMENTS, MOST_CELLS, MOST_CHILDREN}
 use Rattle.match_puzzle.specs.declared.placements.Placement.{Placement}
+use Rattle.match_text.specs.declared.ranges.TheConstants.{SECOND}
 use Rattle.cert_tree.specs.Tree.{Tree, Forest, count}
 use Rattle.cert_tree.specs.TreeSpelling.{IsTreeWithin, AreTreesWithin}
 use Rattle.xcc_dance.specs.Chosen.{Selection}
@@ -28,7 +29,7 @@ pub record GoesOn (s : Selection) (before after : Progress) : Type 0 where
 pub record IsTreeOf (s : Selection) (before after : Progress) (tree : Tree) : Type 0 where
   pub spent : after.fuel + branch_count tree ≡ before.fuel
   pub numbers : IsFoundBelow (length after.found.items) tree
-  pub within : length after.found.items ≤ MOST_ARRANGEMENTS → IsTreeWithin (levels_below s + 1) tree
+  pub within : length after.found.items ≤ MOST_ARRANGEMENTS → IsTreeWithin SECOND (levels_below s + 1) tree
   pub few : length after.found.items + MOST_CHILDREN * after.fuel
       ≤ length before.found.items + MOST_CHILDREN * before.fuel + 1
 
@@ -36,6 +37,6 @@ pub record IsTreeOf (s : Selection) (before after : Progress) (tree : Tree) : Ty
 pub record AreTreesOf (s : Selection) (before after : Progress) (trees : Forest) : Type 0 where
   pub spent : after.fuel + branch_total trees ≡ before.fuel
   pub numbers : AreFoundBelow (length after.found.items) trees
-  pub within : length after.found.items ≤ MOST_ARRANGEMENTS → AreTreesWithin (levels_below s) trees
+  pub within : length after.found.items ≤ MOST_ARRANGEMENTS → AreTreesWithin SECOND (levels_below s) trees
   pub few : length after.found.items + MOST_CHILDREN * after.fuel
       ≤ length before.found.items + MOST_CHILDREN * before.fuel + count trees

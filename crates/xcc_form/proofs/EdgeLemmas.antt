@@ -3,7 +3,7 @@ use Rattle.std.proofs.Common.{◌≡◌, ◌≢◌, ◌<◌, ◌≤◌, ◌+◌,
 use Rattle.std.proofs.lemmas.Option.{none-some, some_pair_parts}
 use Rattle.match_board.specs.Board.{LiesBefore, StandsAt, Meets, cell_count, side_count}
 use Rattle.match_board.specs.declared.figures.Figure.{Figure}
-use Rattle.match_board.specs.declared.figures.Figure.TheVariants.{Rectangle, Triangle, Hexagon}
+use Rattle.match_board.specs.declared.figures.Figure.TheVariants.{Rectangle, Triangle, Hexagon, Shape}
 use Rattle.match_board.specs.Listing.{IsListing, ByKey, HoldsBefore}
 use Rattle.match_board.proofs.Listings.{listing_push, listing_skip}
 use Rattle.match_board.proofs.Places.{one_place, StandsAt-in_range}
@@ -22,6 +22,8 @@ elsewhere (Triangle size) row place side row' place' side' (inr (inr b)) r q = o
 elsewhere (Hexagon size) row place side row' place' side' (inl b) r q = omega (arith, b.4, q)
 elsewhere (Hexagon size) row place side row' place' side' (inr (inl b)) r q = omega (arith, b.4, q)
 elsewhere (Hexagon size) row place side row' place' side' (inr (inr b)) r q = omega (arith, b.3, r)
+elsewhere (Shape width height mask) row place side row' place' side' (inl b) r q = omega (arith, b.3, q)
+elsewhere (Shape width height mask) row place side row' place' side' (inr b) r q = omega (arith, b.2, r)
 
 -- sides that meet are of different cells
 pub other_cell : {s : Figure} {cell side cell' side' : ℕ} → Meets s cell side cell' side' → cell ≢ cell'

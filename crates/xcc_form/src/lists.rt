@@ -9,7 +9,7 @@ ghost use Rattle.xcc_form.specs.Options.{AreSharedEdges, IsOptionPair, PairComes
 ghost use Rattle.xcc_form.specs.Layout.{AreLaidOut, AddsEdges};
 
 use crate::edges::{Edge, SharedEdge};
-use match_board::limits::MOST_CELLS;
+use match_board::limits::{MOST_CELLS, MOST_CHILDREN};
 use match_puzzle::{FittingPairs, Item, Pair, Partial, Puzzle};
 use std::alloc::{AllocError, Global};
 
@@ -62,7 +62,7 @@ impl OptionLists {
         requires few { length shared.now ≤ 4 * MOST_CELLS }
         requires laid_out { AreLaidOut puzzle.now shared.now
             self.old.pairs.items self.old.starts.items self.old.edges.items }
-        requires short { length self.old.pairs.items + length fitting ≤ MOST_CELLS * u16.MAX }
+        requires short { length self.old.pairs.items + length fitting ≤ MOST_CELLS * MOST_CHILDREN }
         ensures laid_out { IfOk result
             (λ _. AreLaidOut puzzle.now shared.now self.new.pairs.items self.new.starts.items self.new.edges.items) }
         ensures pairs { IfOk result (λ _. self.new.pairs.items ≡ self.old.pairs.items ++ fitting) }
@@ -80,7 +80,7 @@ impl OptionLists {
         requires few { length shared.now ≤ 4 * MOST_CELLS }
         requires laid_out { AreLaidOut puzzle.now shared.now
             self.old.pairs.items self.old.starts.items self.old.edges.items }
-        requires short { length self.old.pairs.items < MOST_CELLS * u16.MAX }
+        requires short { length self.old.pairs.items < MOST_CELLS * MOST_CHILDREN }
         ensures laid_out { IfOk result
             (λ _. AreLaidOut puzzle.now shared.now self.new.pairs.items self.new.starts.items self.new.edges.items) }
         ensures pairs { IfOk result (λ _. self.new.pairs.items ≡ self.old.pairs.items ++ pair ∷ []) }

@@ -84,7 +84,7 @@ impl<'a> Xcc<'a> {
         self.puzzle.board().cells()
     }
 
-    /// How many primary items there are: cells and tiles, at most 200.
+    /// How many primary items there are: cells and tiles, at most 512.
     pub fn primaries(&self) -> u32
         ensures count { result ≡ primary_count self.now.puzzle }
         ensures few { result ≤ 2 * MOST_CELLS }
@@ -92,7 +92,7 @@ impl<'a> Xcc<'a> {
         2 * u32::from(self.cells())
     }
 
-    /// How many secondary items there are: shared edges, at most 400.
+    /// How many secondary items there are: shared edges, at most 1,024.
     pub fn secondaries(&self) -> u32
         ensures count { result ≡ length self.now.shared }
         ensures few { result ≤ 4 * MOST_CELLS }

@@ -1,5 +1,4 @@
 use Rattle.std.proofs.Common.{◌≡◌, ◌++◌, List, length, codes}
-use Rattle.match_board.specs.declared.limits.TheConstants.{MOST_CELLS}
 use Rattle.match_puzzle.specs.declared.placements.Pair.{Pair}
 use Rattle.match_text.specs.Words.{pair_in}
 use Rattle.cert_tree.specs.Entries.{entries_before}
@@ -8,7 +7,7 @@ use Rattle.cert_tree.proofs.entries.prefix.Given as goal
 
 -- These pairs were read, and are behind the old ones.
 abbrev pub invariant-loop-scan : goal.invariant-loop-scan
-invariant-loop-scan l = (read : List Pair) × (l.pairs.items ≡ l.fn.pairs.items ++ read) × AreRead MOST_CELLS (λ room. entries_before (codes "tree") room pair_in) l.fn.scan read l.scan
+invariant-loop-scan l = (read : List Pair) × (l.pairs.items ≡ l.fn.pairs.items ++ read) × AreRead l.ranges.most_cells (λ room. entries_before (codes "tree") room (pair_in l.ranges)) l.fn.scan read l.scan
 
 abbrev pub decreases-loop-scan : goal.decreases-loop-scan
 decreases-loop-scan l = length l.scan.words

@@ -1,12 +1,11 @@
 use Rattle.std.proofs.Common.{length}
-use Rattle.match_board.specs.declared.limits.TheConstants.{MOST_TILES, LAST_TILE}
 use Rattle.match_text.specs.Words.{number_in}
 use Rattle.match_text.specs.Place.{entries}
 use Rattle.match_text.proofs.LoopLemmas.{AreRead}
 use Rattle.cert_tree.proofs.entries.tile_images.Given as goal
 
 abbrev pub invariant-loop-scan : goal.invariant-loop-scan
-invariant-loop-scan l = AreRead MOST_TILES (λ room. entries room (number_in 0 LAST_TILE)) l.fn.scan l.images.items l.scan
+invariant-loop-scan l = AreRead l.ranges.most_cells (λ room. entries room (number_in 0 l.ranges.last_cell)) l.fn.scan l.images.items l.scan
 
 abbrev pub decreases-loop-scan : goal.decreases-loop-scan
 decreases-loop-scan l = length l.scan.words

@@ -1,3 +1,4 @@
+use Rattle.match_text.specs.declared.ranges.TheConstants.{SECOND}
 use Rattle.match_text.proofs.TextLaws.{reads_what_is_spelled}
 use Rattle.cert_tree.specs.CertificateText.{lemma_of}
 use Rattle.cert_tree.specs.CertificateSpelling.{lemma_spelling, IsLemmaWithin}
@@ -5,4 +6,4 @@ use Rattle.cert_tree.proofs.CertificateTextLemmas.{lemma_found, lemma_only, lemm
 use Rattle.cert_tree.proofs.laws.lemma_laws.Goals as goal
 
 pub returns : goal.returns
-returns c = reads_what_is_spelled lemma_of IsLemmaWithin lemma_spelling lemma_found lemma_only lemma_short
+returns c = reads_what_is_spelled lemma_of (IsLemmaWithin SECOND) lemma_spelling lemma_found lemma_only lemma_short

@@ -10,7 +10,7 @@ use Rattle.cert_tree.proofs.readers.lemmas.Goals as goal
 pub returns-in_err-span : goal.returns-in_err-span
 returns-in_err-span c =
     let p = err_from_is_err_and c.from_residual.result c.from_residual.ensures.1 in
-    rw (p.1, p.2) (times_fail lemma_line c.loop.scan (c.args.count - c.loop.counter) (c.args.count - (c.loop.counter + 1)) (map (piece_in c.loop.pairs.items c.loop.heads.items) c.loop.spans.items) c.in_err-span.field-0.0 (times c.args.count lemma_line c.args.scan.now) (omega arith) c.in_err-span.ensures.reads c.loop.invariant.read)
+    rw (p.1, p.2) (times_fail (lemma_line c.args.ranges.now) c.loop.scan (c.args.count - c.loop.counter) (c.args.count - (c.loop.counter + 1)) (map (piece_in c.loop.pairs.items c.loop.heads.items) c.loop.spans.items) c.in_err-span.field-0.0 (times c.args.count (lemma_line c.args.ranges.now) c.args.scan.now) (omega arith) c.in_err-span.ensures.reads c.loop.invariant.read)
 
 pub loop-preserved : goal.loop-preserved
 loop-preserved c =
@@ -18,11 +18,11 @@ loop-preserved c =
     let pushed = c.in_ok-push.ensures.items in
     record {
       spans = more_spans c.loop.pairs.items c.lemma.new.pairs.items c.loop.heads.items c.lemma.new.heads.items read.pairs read.heads c.loop.spans.items c.push.new.self.items c.in_ok-span.span c.loop.invariant.spans read.span pushed;
-      read = times_goes_on lemma_line c.loop.scan c.lemma.new.scan (c.args.count - c.loop.counter) (c.args.count - (c.loop.counter + 1)) (map (piece_in c.loop.pairs.items c.loop.heads.items) c.loop.spans.items) (map (piece_in c.lemma.new.pairs.items c.lemma.new.heads.items) c.push.new.self.items)
-          (piece_in c.lemma.new.pairs.items c.lemma.new.heads.items c.in_ok-span.span) (times c.args.count lemma_line c.args.scan.now) (omega arith)
+      read = times_goes_on (lemma_line c.args.ranges.now) c.loop.scan c.lemma.new.scan (c.args.count - c.loop.counter) (c.args.count - (c.loop.counter + 1)) (map (piece_in c.loop.pairs.items c.loop.heads.items) c.loop.spans.items) (map (piece_in c.lemma.new.pairs.items c.lemma.new.heads.items) c.push.new.self.items)
+          (piece_in c.lemma.new.pairs.items c.lemma.new.heads.items c.in_ok-span.span) (times c.args.count (lemma_line c.args.ranges.now) c.args.scan.now) (omega arith)
           (more_pieces c.loop.pairs.items c.lemma.new.pairs.items c.loop.heads.items c.lemma.new.heads.items read.pairs read.heads c.loop.spans.items c.push.new.self.items c.in_ok-span.span c.loop.invariant.spans read.span pushed)
           read.reads c.loop.invariant.read;
     }
 
 pub returns : goal.returns
-returns c = rw c.of.ensures (times_done lemma_line c.loop.scan (c.args.count - c.loop.counter) (map (piece_in c.loop.pairs.items c.loop.heads.items) c.loop.spans.items) (times c.args.count lemma_line c.args.scan.now) (omega arith) c.loop.invariant.read)
+returns c = rw c.of.ensures (times_done (lemma_line c.args.ranges.now) c.loop.scan (c.args.count - c.loop.counter) (map (piece_in c.loop.pairs.items c.loop.heads.items) c.loop.spans.items) (times c.args.count (lemma_line c.args.ranges.now) c.args.scan.now) (omega arith) c.loop.invariant.read)

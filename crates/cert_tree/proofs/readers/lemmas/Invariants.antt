@@ -9,5 +9,5 @@ use Rattle.cert_tree.proofs.readers.lemmas.Given as goal
 abbrev pub invariant-loop : goal.invariant-loop
 invariant-loop l = record {
   spans : AreSpans l.pairs.items l.heads.items l.spans.items;
-  read : with_front (map (piece_in l.pairs.items l.heads.items) l.spans.items) (times (l.count - l.counter) lemma_line l.scan) ≡ times l.count lemma_line l.fn.scan;
+  read : with_front (map (piece_in l.pairs.items l.heads.items) l.spans.items) (times (l.count - l.counter) (lemma_line l.ranges) l.scan) ≡ times l.count (lemma_line l.ranges) l.fn.scan;
 }

@@ -1,13 +1,15 @@
 use Rattle.cert_tree.specs.Certificate.{piece_number}
 use Rattle.std.proofs.lemmas.Result.{err_from_is_err_and}
 use Rattle.std.proofs.Common.{◌≡◌, length, Ok, Err, subst}
+use Rattle.match_text.specs.Ranges.{ranges_of}
+use Rattle.match_text.proofs.RangesLemmas.{are_ranges}
 use Rattle.cert_tree.specs.Assembly.{Assembles}
 use Rattle.cert_tree.specs.Lines.{said_of}
 use Rattle.cert_tree.proofs.ReadingLemmas.{short_within, made_fault}
 use Rattle.cert_tree.proofs.readers.made.Goals as goal
 
 pub assemble_flat-requires-clause-prefixes : goal.assemble_flat-requires-clause-prefixes
-assemble_flat-requires-clause-prefixes c = short_within c.args.lines.lemmas c.requires.pieces
+assemble_flat-requires-clause-prefixes c = short_within (ranges_of c.args.lines.version) (are_ranges c.args.lines.version) c.args.lines.lemmas c.requires.pieces
 
 pub returns-in_err-certificate : goal.returns-in_err-certificate
 returns-in_err-certificate c =

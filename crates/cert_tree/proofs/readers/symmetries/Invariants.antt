@@ -5,4 +5,4 @@ use Rattle.match_text.proofs.LoopLemmas.{with_front}
 use Rattle.cert_tree.proofs.readers.symmetries.Given as goal
 
 abbrev pub invariant-loop : goal.invariant-loop
-invariant-loop l = with_front l.lines.items (times (l.count - l.counter) symmetry_line l.scan) ≡ times l.count symmetry_line l.fn.scan
+invariant-loop l = with_front l.lines.items (times (l.count - l.counter) (symmetry_line l.ranges) l.scan) ≡ times l.count (symmetry_line l.ranges) l.fn.scan

@@ -1,5 +1,6 @@
 use Rattle.std.proofs.Common.{sym, ap, ◌∙◌}
-use Rattle.match_board.specs.declared.limits.TheConstants.{MOST_LEVELS}
+use Rattle.match_text.specs.declared.ranges.TheConstants.{SECOND}
+use Rattle.match_text.proofs.RangesLemmas.{second_are}
 use Rattle.match_text.specs.Spelling.{line_text}
 use Rattle.match_text.proofs.WritingLemmas.{line_alone}
 use Rattle.cert_tree.specs.Tree.{tree_of}
@@ -12,7 +13,7 @@ use Rattle.cert_tree.proofs.TreeLimitLemmas.{narrow_within}
 use Rattle.cert_tree.proofs.spellings.write_lemma.Goals as goal
 
 pub flat_lemmas-requires : goal.flat_lemmas-requires
-flat_lemmas-requires c = alone_narrow c.from_ref.result.now c.args.lemma.now c.from_ref.ensures.value (narrow_within MOST_LEVELS (tree_of c.args.lemma.now.tree) c.requires.tree)
+flat_lemmas-requires c = alone_narrow c.from_ref.result.now c.args.lemma.now c.from_ref.ensures.value (narrow_within SECOND second_are SECOND.most_levels (tree_of c.args.lemma.now.tree) c.requires.tree)
 
 pub returns-clause-spelling : goal.returns-clause-spelling
 unfolding lemma_spelling

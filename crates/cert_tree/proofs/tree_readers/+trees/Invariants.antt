@@ -17,5 +17,5 @@ decreases-nodes l = 2 * l.room + 1
 abbrev pub invariant-nodes-loop : goal.invariant-nodes-loop
 invariant-nodes-loop l =
     (trees : List Tree)
-    × (with_front trees (times (l.count - l.counter) (tree_by l.room) l.scan) ≡ times l.count (tree_by l.room) l.fn.scan)
+    × (with_front trees (times (l.count - l.counter) (tree_by l.ranges l.room) l.scan) ≡ times l.count (tree_by l.ranges l.room) l.fn.scan)
     × (l.heads.items ≡ l.fn.heads.items ++ heads_in (forest trees))

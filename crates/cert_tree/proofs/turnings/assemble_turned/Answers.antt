@@ -1,5 +1,6 @@
 use Rattle.std.proofs.Common.{◌≡◌, ◌≢◌, ◌≤◌, ◌<◌, List, None, length, map, reverse, ap, sym, subst, ◌∙◌, Bor}
 use Rattle.std.specs.Prelude.{All}
+use Rattle.match_text.specs.declared.ranges.TheConstants.{SECOND}
 use Rattle.cert_tree.specs.declared.certificates.Lemma.{Lemma}
 use Rattle.cert_tree.specs.Assembly.{HaveNoStranger, IsAssembly, TellsLeast, how_often}
 use Rattle.cert_tree.specs.Certificate.{Contents, Piece, IsNumbered, lent_piece, piece_number}
@@ -43,8 +44,8 @@ turned_lemmas-requires-clause-numbers c =
 
 pub turned_lemmas-requires-clause-within : goal.turned_lemmas-requires-clause-within
 turned_lemmas-requires-clause-within c =
-    subst (λ (lemmas : List (Bor Lemma)). All (λ lemma. IsLemmaWithin (lent_piece lemma)) lemmas) (sym c.deref-2.ensures.value)
-    (assembled_each (λ (lemma : Bor Lemma). lemma.now.number) (λ lemma. IsLemmaWithin (lent_piece lemma)) c.args.count c.args.pieces.items c.in_ok-lemmas.lemmas.items c.requires.within c.in_ok-lemmas.ensures.ok)
+    subst (λ (lemmas : List (Bor Lemma)). All (λ lemma. IsLemmaWithin SECOND (lent_piece lemma)) lemmas) (sym c.deref-2.ensures.value)
+    (assembled_each (λ (lemma : Bor Lemma). lemma.now.number) (λ lemma. IsLemmaWithin SECOND (lent_piece lemma)) c.args.count c.args.pieces.items c.in_ok-lemmas.lemmas.items c.requires.within c.in_ok-lemmas.ensures.ok)
 
 pub returns-in_err-lemmas-2-clause-memory : goal.returns-in_err-lemmas-2-clause-memory
 returns-in_err-lemmas-2-clause-memory c = λ _. none_past (goal.at.returns-in_err-lemmas-2-clause-memory c).After-least_stranger c.in_default.is
@@ -62,7 +63,7 @@ of-requires c =
     let turn = turned_piece c.args.count c.args.first.now in
     let made : c.in_ok-lemmas-2.lemmas ≡ reverse (map turn (sorted here)) = c.in_ok-lemmas-2.ensures ∙ ap (λ (ls : List (Bor Lemma)). reverse (map turn (map lent_piece ls))) c.deref-2.ensures.value in
     subst (λ (lemmas : List Piece). IsNumbered (record { symmetries = c.args.symmetries.items; lemmas = lemmas })) (sym made)
-    (turned_numbered c.args.count c.args.first.now c.args.symmetries.items (map lent_piece c.args.pieces.items) (sorted here) c.requires.count c.requires.symmetries (all_pieces lent_piece IsLemmaWithin c.args.pieces.items c.requires.within) (assembly here))
+    (turned_numbered c.args.count c.args.first.now c.args.symmetries.items (map lent_piece c.args.pieces.items) (sorted here) c.requires.count c.requires.symmetries (all_pieces lent_piece (IsLemmaWithin SECOND) c.args.pieces.items c.requires.within) (assembly here))
 
 pub returns-clause-lemmas : goal.returns-clause-lemmas
 returns-clause-lemmas c =

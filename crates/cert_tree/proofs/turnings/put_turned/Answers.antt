@@ -1,6 +1,8 @@
 use Rattle.std.proofs.Common.{◌≡◌, ℕ, ◌++◌, List, length, drop, get_or, ap, sym, subst, ◌∙◌, arith}
 use Rattle.std.specs.Prelude.{All}
-use Rattle.match_board.specs.declared.limits.TheConstants.{MOST_LEVELS, MOST_ARRANGEMENTS}
+use Rattle.match_board.specs.declared.limits.TheConstants.{MOST_ARRANGEMENTS}
+use Rattle.match_text.specs.declared.ranges.TheConstants.{SECOND}
+use Rattle.match_text.proofs.RangesLemmas.{second_are}
 use Rattle.match_puzzle.specs.declared.placements.Pair.{Pair}
 use Rattle.cert_tree.specs.declared.heads.Head.{Head}
 use Rattle.cert_tree.specs.Tree.{tree_of}
@@ -16,7 +18,7 @@ use Rattle.cert_tree.proofs.turnings.put_turned.Goals as goal
 use Rattle.cert_tree.proofs.turnings.put_turned.Goals.{After-deref-2}
 
 pub put_node-requires : goal.put_node-requires
-put_node-requires c = narrow_within MOST_LEVELS (tree_of c.args.lemma.now.tree) c.requires.within.tree
+put_node-requires c = narrow_within SECOND second_are SECOND.most_levels (tree_of c.args.lemma.now.tree) c.requires.within.tree
 
 pub turn_heads-requires-clause-found : goal.turn_heads-requires-clause-found
 turn_heads-requires-clause-found c =
@@ -24,7 +26,7 @@ turn_heads-requires-clause-found c =
     let start : c.len-heads_start.result ≡ length c.args.heads.now.items = omega (arith, c.len-heads_start.ensures, c.args.heads.now.ok.0) in
     let put : drop c.len-heads_start.result c.put_node.new.heads.items ≡ heads_of tree = ap (λ n. drop n c.put_node.new.heads.items) start
     ∙ behind_is c.args.heads.now.items c.put_node.new.heads.items (heads_of tree) c.in_ok-put_node.ensures in
-    subst (λ (hs : List Head). All (IsFoundUpTo MOST_ARRANGEMENTS) hs) (sym put) (found_below MOST_LEVELS tree c.requires.within.tree)
+    subst (λ (hs : List Head). All (IsFoundUpTo MOST_ARRANGEMENTS) hs) (sym put) (found_below SECOND SECOND.most_levels tree c.requires.within.tree)
 
 module _ (c : After-deref-2) where
   abbrev first : ℕ

@@ -12,8 +12,8 @@ decreases-are_first_within l = 2 * l.room + 1
 
 abbrev pub invariant-are_first_within-loop : goal.invariant-are_first_within-loop
 invariant-are_first_within-loop l = record {
-  back : AreTreesWithin l.room (front (l.children - l.counter) l.trees) → AreTreesWithin l.room (front l.children l.initial.trees);
-  on : AreTreesWithin l.room (front l.children l.initial.trees) → AreTreesWithin l.room (front (l.children - l.counter) l.trees);
+  back : AreTreesWithin l.ranges l.room (front (l.children - l.counter) l.trees) → AreTreesWithin l.ranges l.room (front l.children l.initial.trees);
+  on : AreTreesWithin l.ranges l.room (front l.children l.initial.trees) → AreTreesWithin l.ranges l.room (front (l.children - l.counter) l.trees);
   past : past (l.children - l.counter) l.trees ≡ past l.children l.initial.trees;
   counted : l.children - l.counter ≤ count l.trees;
 }

@@ -15,6 +15,6 @@ decreases-are_nodes_within l = 3 * l.room + 1
 
 abbrev pub invariant-are_nodes_within-loop-node : goal.invariant-are_nodes_within-loop-node
 invariant-are_nodes_within-loop-node l = record {
-  back : AreTreesWithin l.room (forest_of (drop l.node-index l.nodes)) → AreTreesWithin l.room (forest_of l.nodes);
-  on : AreTreesWithin l.room (forest_of l.nodes) → AreTreesWithin l.room (forest_of (drop l.node-index l.nodes));
+  back : AreTreesWithin l.ranges l.room (forest_of (drop l.node-index l.nodes)) → AreTreesWithin l.ranges l.room (forest_of l.nodes);
+  on : AreTreesWithin l.ranges l.room (forest_of l.nodes) → AreTreesWithin l.ranges l.room (forest_of (drop l.node-index l.nodes));
 }

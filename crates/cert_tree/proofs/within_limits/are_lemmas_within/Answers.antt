@@ -10,11 +10,11 @@ pub loop-number-preserved : goal.loop-number-preserved
 loop-number-preserved c =
     let next = from_place c.args.lemmas.now c.loop-number.number (flat_piece c.at.result) c.at.ensures in
     record {
-      back = λ rest. c.loop-number.invariant.back (subst (AllByRecursion IsLemmaWithin) (sym next) (c.if-not-is_flat_lemma_within.ensures, rest));
-      on = λ all. (subst (AllByRecursion IsLemmaWithin) next (c.loop-number.invariant.on all)).1;
+      back = λ rest. c.loop-number.invariant.back (subst (AllByRecursion (IsLemmaWithin c.args.ranges.now)) (sym next) (c.if-not-is_flat_lemma_within.ensures, rest));
+      on = λ all. (subst (AllByRecursion (IsLemmaWithin c.args.ranges.now)) next (c.loop-number.invariant.on all)).1;
     }
 
 pub returns : goal.returns
 returns c =
     let at_end : length c.args.lemmas.now ≤ c.loop-number.number = omega (arith, c.loop-number-test.false, c.len-number-end.ensures) in
-    c.loop-number.invariant.back (subst (AllByRecursion IsLemmaWithin) (sym (drop_of_length-le c.args.lemmas.now at_end)) tt)
+    c.loop-number.invariant.back (subst (AllByRecursion (IsLemmaWithin c.args.ranges.now)) (sym (drop_of_length-le c.args.lemmas.now at_end)) tt)

@@ -5,6 +5,6 @@ use Rattle.cert_tree.proofs.within_limits.are_lemmas_within.Given as goal
 
 abbrev pub invariant-loop-number : goal.invariant-loop-number
 invariant-loop-number l = record {
-  back : AllByRecursion IsLemmaWithin (drop l.number l.lemmas) → AllByRecursion IsLemmaWithin l.lemmas;
-  on : AllByRecursion IsLemmaWithin l.lemmas → AllByRecursion IsLemmaWithin (drop l.number l.lemmas);
+  back : AllByRecursion (IsLemmaWithin l.ranges) (drop l.number l.lemmas) → AllByRecursion (IsLemmaWithin l.ranges) l.lemmas;
+  on : AllByRecursion (IsLemmaWithin l.ranges) l.lemmas → AllByRecursion (IsLemmaWithin l.ranges) (drop l.number l.lemmas);
 }

@@ -5,6 +5,6 @@ use Rattle.cert_tree.proofs.within_limits.are_symmetries_within.Given as goal
 
 abbrev pub invariant-loop-line : goal.invariant-loop-line
 invariant-loop-line l = record {
-  back : AllByRecursion IsSymmetryWithin (drop l.line-index l.lines) → AllByRecursion IsSymmetryWithin l.lines;
-  on : AllByRecursion IsSymmetryWithin l.lines → AllByRecursion IsSymmetryWithin (drop l.line-index l.lines);
+  back : AllByRecursion (IsSymmetryWithin l.ranges) (drop l.line-index l.lines) → AllByRecursion (IsSymmetryWithin l.ranges) l.lines;
+  on : AllByRecursion (IsSymmetryWithin l.ranges) l.lines → AllByRecursion (IsSymmetryWithin l.ranges) (drop l.line-index l.lines);
 }

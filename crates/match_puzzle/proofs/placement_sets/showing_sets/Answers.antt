@@ -9,12 +9,12 @@ loop-place-preserved c =
     let words = map word c.args.tiles.now in
     let place = c.loop-place.place in
     let sets = c.loop-place.sets.items in
-    let set = c.showing_set.result in
+    let set = c.fixed.result in
     let grown = c.in_ok-push.ensures.items in
     let long = c.loop-place.invariant.long in
     record {
       long = ap length grown ∙ (let more = length-append sets (set ∷ []) in omega (arith, more, long));
       is = below_more (λ k. AreShowing words (k / 4) (k % 4) (slice_index_or c.push.new.self.items k [])) place
           (λ k lt. subst (AreShowing words (k / 4) (k % 4)) (sym (ap (λ xs. slice_index_or xs k []) grown ∙ get_or_append_left sets (set ∷ []) [] k (omega (arith, lt, long)))) (c.loop-place.invariant.is k lt))
-          (subst (AreShowing words (place / 4) (place % 4)) (sym (ap (λ xs. slice_index_or xs place []) grown ∙ get_or_push sets set [] place long)) c.showing_set.ensures);
+          (subst (AreShowing words (place / 4) (place % 4)) (sym (ap (λ xs. slice_index_or xs place []) grown ∙ get_or_push sets set [] place long)) (subst (AreShowing words (place / 4) (place % 4)) (sym c.fixed.ensures) c.showing_set.ensures));
     }

@@ -1,4 +1,4 @@
-use Rattle.std.proofs.Common.{subst, sym, true≢false, MatchBool, ◌∙◌, arith}
+use Rattle.std.proofs.Common.{subst, sym, true≢false, MatchBool, ◌∙◌}
 use Rattle.std.proofs.lemmas.List.{length-map}
 use Rattle.match_board.specs.Tile.{word}
 use Rattle.match_puzzle.specs.Mates.{mating_of}
@@ -10,7 +10,7 @@ use Rattle.match_puzzle.proofs.puzzles.puzzle_fault.Goals.{else-sides-eq3-via-th
 
 pub returns : goal.returns
 returns c = record {
-  board = (omega (arith, c.cells.ensures.count, c.cells.ensures.some), omega (arith, c.cells.ensures.count, c.cells.ensures.most));
+  board = c.cells.ensures.board;
   triangles = λ three.
       elim c.else-sides-eq3.branch [
         | else-sides-eq3-via-then-sides-eq3+else-not-turns w ↦ w.if-not-turns.false
@@ -20,13 +20,14 @@ returns c = record {
   sides = c.in_default.ensures;
   tile_colours = words_coloured c.args.tiles.now;
   border_colours = c.in_default-bad_colour.ensures;
-  border = subst (λ b. MatchBool b (IsAsLongAsBorder c.args.board (rule_of c.args.border.now)) (IsAsLongAsBorder c.args.board (rule_of c.args.border.now) → ⊥)) c.if-not-is_as_long_as.false c.is_as_long_as.ensures;
+  border = subst (λ b. MatchBool b (IsAsLongAsBorder c.args.board.now (rule_of c.args.border.now)) (IsAsLongAsBorder c.args.board.now (rule_of c.args.border.now) → ⊥)) c.if-not-is_as_long_as.false c.is_as_long_as.ensures;
   mating = record { version = c.requires.version; mates = c.in_default-broken_mate.ensures };
+  shapes = c.requires.shapes;
 }
 
 pub returns-in-Some-bad_colour : goal.returns-in-Some-bad_colour
 returns-in-Some-bad_colour c =
-    first_bad_colour (task_of c.args.board c.args.turns c.args.border.now (mating_of c.args.version c.args.mates.now) c.args.tiles.now) c.in-Some-bad_colour.place
+    first_bad_colour (task_of c.args.board.now c.args.turns c.args.border.now (mating_of c.args.version c.args.mates.now) c.args.tiles.now) c.in-Some-bad_colour.place
     (λ three unturned.
     elim c.else-sides-eq3.branch [
       | else-sides-eq3-via-then-sides-eq3+else-not-turns w ↦ true≢false (sym w.if-not-turns.false ∙ unturned)
@@ -36,12 +37,12 @@ returns-in-Some-bad_colour c =
 
 pub returns-in-Some-broken_mate : goal.returns-in-Some-broken_mate
 returns-in-Some-broken_mate c =
-    first_bad_mate (task_of c.args.board c.args.turns c.args.border.now (mating_of c.args.version c.args.mates.now) c.args.tiles.now) c.in-Some-broken_mate.place
+    first_bad_mate (task_of c.args.board.now c.args.turns c.args.border.now (mating_of c.args.version c.args.mates.now) c.args.tiles.now) c.in-Some-broken_mate.place
     (λ three unturned.
     elim c.else-sides-eq3.branch [
       | else-sides-eq3-via-then-sides-eq3+else-not-turns w ↦ true≢false (sym w.if-not-turns.false ∙ unturned)
       | else-sides-eq3-via-else-sides-eq3 w ↦ w.if-sides-eq3.false (c.sides.ensures.count ∙ three)
     ])
     (length-map c.args.tiles.now word ∙ c.if-tiles-from.false ∙ c.from.ensures ∙ c.cells.ensures.count) c.in_default.ensures c.in_default-bad_colour.ensures
-    (subst (λ b. MatchBool b (IsAsLongAsBorder c.args.board (rule_of c.args.border.now)) (IsAsLongAsBorder c.args.board (rule_of c.args.border.now) → ⊥)) c.if-not-is_as_long_as.false c.is_as_long_as.ensures)
+    (subst (λ b. MatchBool b (IsAsLongAsBorder c.args.board.now (rule_of c.args.border.now)) (IsAsLongAsBorder c.args.board.now (rule_of c.args.border.now) → ⊥)) c.if-not-is_as_long_as.false c.is_as_long_as.ensures)
     c.in-Some-broken_mate.ensures

@@ -9,7 +9,7 @@ use Rattle.match_puzzle.proofs.tables.cell_sides.Goals as goal
 pub loop-side-preserved : goal.loop-side-preserved
 loop-side-preserved c = record {
   sides = λ side x lt get turns mating tiles.
-      let p = task_of c.args.board turns c.args.border.now mating tiles in
+      let p = task_of c.args.board.now turns c.args.border.now mating tiles in
       ⊎_elim
       (λ w. subst (λ k. IsSide p c.args.cell k x) (sym w.0) (subst (λ y. IsSide p c.args.cell c.loop-side.side y) (sym w.1) (c.side_at.ensures.side turns mating tiles)))
       (λ w. c.loop-side.invariant.sides side x (omega (arith, w.0)) w.1 turns mating tiles)
@@ -24,5 +24,5 @@ returns-clause-outside c = λ side le lt. c.loop-side.invariant.outside side (om
 
 pub returns-clause-number : goal.returns-clause-number
 returns-clause-number c =
-    let at : c.loop-side.side ≡ side_count c.args.board = omega (arith, c.loop-side-test.false, c.sides-side-end.ensures.count) in
-    number_after_cell c.args.board c.args.cell c.loop-side.number (omega (arith, c.sides-side-end.ensures.count, c.sides-side-end.ensures.few)) (subst (λ k. IsNextNumber c.args.board (c.args.cell, k) c.loop-side.number) at c.loop-side.invariant.number)
+    let at : c.loop-side.side ≡ side_count c.args.board.now = omega (arith, c.loop-side-test.false, c.sides-side-end.ensures.count) in
+    number_after_cell c.args.board.now c.args.cell c.loop-side.number (omega (arith, c.sides-side-end.ensures.count, c.sides-side-end.ensures.few)) (subst (λ k. IsNextNumber c.args.board.now (c.args.cell, k) c.loop-side.number) at c.loop-side.invariant.number)

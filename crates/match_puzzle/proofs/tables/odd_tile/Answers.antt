@@ -6,6 +6,6 @@ use Rattle.match_puzzle.proofs.tables.odd_tile.Goals as goal
 
 pub loop-number-preserved : goal.loop-number-preserved
 loop-number-preserved c =
-    below_more (λ k. length (slice_index_or (map word c.args.tiles.now) k []) ≡ side_count c.args.board) c.loop-number.number c.loop-number.invariant
+    below_more (λ k. length (slice_index_or (map word c.args.tiles.now) k []) ≡ side_count c.args.board.now) c.loop-number.number c.loop-number.invariant
     (ap length (word_at c.args.tiles.now c.loop-number.number c.index-tiles-number.result c.loop-number-test.true c.index-tiles-number.is)
     ∙ sym c.sides.ensures.count ∙ c.if-sides.false ∙ c.sides-in-loop-number.ensures.count)

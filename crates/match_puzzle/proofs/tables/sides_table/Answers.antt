@@ -12,7 +12,7 @@ loop-cell-init c = record {
   is = λ cell side sides x get. absurd (in_empty_table cell sides (subst (λ (t : List CellSides). slice_get t cell ≡ Some sides) c.in_ok-table.ensures.items get));
   outside = λ cell side sides get. absurd (in_empty_table cell sides (subst (λ (t : List CellSides). slice_get t cell ≡ Some sides) c.in_ok-table.ensures.items get));
   asked = λ cell sides get. absurd (in_empty_table cell sides (subst (λ (t : List CellSides). slice_get t cell ≡ Some sides) c.in_ok-table.ensures.items get));
-  number = number_at_first c.args.board;
+  number = number_at_first c.args.board.now;
 }
 
 pub loop-cell-preserved : goal.loop-cell-preserved
@@ -23,7 +23,7 @@ loop-cell-preserved c =
     record {
       long = ap length grown ∙ omega (arith, length-append table (c.cell_sides-sides.result ∷ []), c.loop-cell.invariant.long);
       is = λ cell side sides x get side_in at turns mating tiles.
-          let p = task_of c.args.board turns c.args.border.now mating tiles in
+          let p = task_of c.args.board.now turns c.args.border.now mating tiles in
           ⊎_elim
           (λ w. c.loop-cell.invariant.is cell side sides x w.1 side_in at turns mating tiles)
           (λ w. subst (λ k. IsSide p k side x) (sym (w.0 ∙ c.loop-cell.invariant.long)) (c.cell_sides-sides.ensures.sides turns mating tiles side x side_in (subst (λ (s : CellSides). slice_get s.sides side ≡ Some x) w.1 at)))

@@ -2,12 +2,13 @@ use Rattle.std.proofs.Common.{List, [], map, ap, sym, ◌∙◌, subst}
 use Rattle.match_board.specs.declared.limits.TheConstants.{MOST_ARRANGEMENTS}
 use Rattle.std.proofs.lemmas.Result.{err_from_is_err_and}
 use Rattle.match_puzzle.specs.declared.placements.Placement.{Placement}
-use Rattle.match_text.specs.ListSpelling.{list_spelling, IsListWithin}
+use Rattle.match_text.specs.ListSpelling.{IsListWithin}
+use Rattle.match_text.specs.declared.ranges.TheConstants.{SECOND}
 use Rattle.cert_check.specs.Setting.{question_of}
 use Rattle.cert_check.specs.Answer.{AreSymmetries, IsCompleteList}
 use Rattle.match_report.specs.Closure.{AddsEach}
 use Rattle.match_report.specs.Expansion.{AreMoreReached, IsExpansion, Takes}
-use Rattle.match_runs.specs.Runs.{AreAllInOrder, motion_of}
+use Rattle.match_runs.specs.Runs.{AreAllInOrder, IsListText, motion_of}
 use Rattle.match_runs.proofs.RepetitionLemmas.{closure_all}
 use Rattle.match_runs.proofs.RunLemmas.{all_in_order, all_within, expand_fails, kept_are, kept_reach}
 use Rattle.match_runs.proofs.expansion_runs.all_text.Goals.{After-deref-2}
@@ -51,7 +52,7 @@ pub write_list-requires : goal.write_list-requires
 write_list-requires g c =
     let at = (goal.at.write_list-requires g c).After-deref-2 in
     let all = c.in_ok-all.all.keys in
-    subst IsListWithin (sym c.as_slice.ensures.keys)
+    subst (IsListWithin SECOND) (sym c.as_slice.ensures.keys)
     (all_within c.args.question.now.puzzle c.deref.result.now c.args.question.now.certificate.symmetries c.requires.puzzle (complete g at) all (expansion g at all c.in_ok-all.ensures.expansion) c.in_ok-all.ensures.few)
 
 pub returns-clause-all : goal.returns-clause-all
@@ -62,5 +63,6 @@ returns-clause-all g c =
     let ordered = all_in_order p c.deref.result.now c.args.question.now.certificate.symmetries c.requires.puzzle (complete g at) all (expansion g at all c.in_ok-all.ensures.expansion) c.in_ok-all.ensures.few c.args.question.now.certificate.lemmas in (
       all,
       subst (λ (l : List (List Placement)). AreAllInOrder (question_of p l c.args.question.now.certificate) all) c.deref.ensures.value ordered,
-      c.in_ok-text.ensures.spelling ∙ ap list_spelling c.as_slice.ensures.keys,
+      subst (λ (l : List (List Placement)). IsListText l c.in_ok-text.text.items) c.as_slice.ensures.keys
+          (record { first = c.in_ok-text.ensures.first; second = c.in_ok-text.ensures.second }),
     )

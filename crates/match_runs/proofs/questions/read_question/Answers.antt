@@ -12,7 +12,7 @@ use Rattle.match_runs.specs.FaultText.{run_of_certificate}
 use Rattle.match_text.specs.Puzzles.{PuzzleReads}
 use Rattle.match_runs.specs.Documents.{Texts}
 use Rattle.match_runs.specs.Runs.{RunGives, texts_of}
-use Rattle.match_runs.proofs.RunLemmas.{text_fails, lemmas_fail}
+use Rattle.match_runs.proofs.RunLemmas.{text_fails, lemmas_fail, certificate_said}
 use Rattle.match_runs.proofs.questions.read_question.Goals as goal
 
 certificate_fails : (ts : Texts) (e : CertTextFault) (fault : RunFault) (p : Task) (listed : List (List Placement)) → PuzzleReads ts.puzzle (Ok p) → list_of ts.list ≡ Ok listed → CertificateGives (Err e) (certificate_of ts.certificate) → fault ≡ run_of_certificate e → fault ≢ runs.Memory → RunGives ts (Err fault)
@@ -25,3 +25,15 @@ returns-in_err-certificate-clause-fault c =
     let r = err_from_is_err_and c.from_residual-in_err-certificate.result c.from_residual-in_err-certificate.ensures.1 in
     let d = c.args.documents.now in
     rw (r.1) (λ ne. certificate_fails (texts_of d) c.in_err-certificate.field-0.0 r.0 c.in_ok-puzzle.puzzle _ c.in_ok-puzzle.ensures.exact c.in_ok-listed.ensures.exact c.in_err-certificate.ensures.exact r.2 ne)
+
+pub returns-clause-question : goal.returns-clause-question
+returns-clause-question c =
+    let made = certificate_said c.in_ok-certificate.certificate (certificate_of (texts_of c.args.documents.now).certificate) c.in_ok-certificate.ensures.exact in
+    record {
+      puzzle_read = c.in_ok-puzzle.ensures.exact;
+      list_read = c.in_ok-listed.ensures.exact;
+      said = made.0;
+      certificate_read = made.1;
+      symmetries = made.2.0;
+      assembled = made.2.1;
+    }

@@ -5,4 +5,4 @@ use Rattle.match_text.proofs.LoopLemmas.{with_front}
 use Rattle.match_text.proofs.lists.arrangements.Given as goal
 
 abbrev pub invariant-loop : goal.invariant-loop
-invariant-loop l = with_front l.rows.items (times (l.count - l.counter) arrangement_line l.scan) ≡ times l.count arrangement_line l.fn.scan
+invariant-loop l = with_front l.rows.items (times (l.count - l.counter) (arrangement_line l.ranges) l.scan) ≡ times l.count (arrangement_line l.ranges) l.fn.scan

@@ -1,5 +1,4 @@
 use Rattle.std.proofs.Common.{◌<◌, ◌≤◌, length, arith}
-use Rattle.match_board.specs.declared.limits.TheConstants.{MOST_CELLS}
 use Rattle.std.proofs.lemmas.Result.{err_from_is_err_and}
 use Rattle.match_text.specs.declared.faults.ReadFault.TheVariants as faults
 use Rattle.match_text.specs.Words.{placement_in}
@@ -8,27 +7,27 @@ use Rattle.match_text.proofs.LoopLemmas.{reads_rest, none_read, one_read, entry_
 use Rattle.match_text.proofs.lists.placements.Goals as goal
 
 pub loop-scan-init : goal.loop-scan-init
-loop-scan-init c = rw c.clear.ensures.items (none_read MOST_CELLS (λ room. entries room placement_in) c.args.scan.now)
+loop-scan-init c = rw c.clear.ensures.items (none_read c.args.ranges.now.most_cells (λ room. entries room (placement_in c.args.ranges.now)) c.args.scan.now)
 
 pub returns-in_err-further_entry : goal.returns-in_err-further_entry
 returns-in_err-further_entry c =
     let p = err_from_is_err_and c.from_residual.result c.from_residual.ensures.1 in
-    let full : MOST_CELLS ≤ length c.loop-scan.row.items = omega (arith, c.in_err-further_entry.ensures.0, c.len.ensures, c.loop-scan.row.ok.0) in
-    rw (p.1, p.2, c.in_err-further_entry.ensures.1) (too_many (reads_rest placement_in) c.loop-scan.scan c.loop-scan.row.items full c.loop-scan-test.ensures c.loop-scan.invariant)
+    let full : c.args.ranges.now.most_cells ≤ length c.loop-scan.row.items = omega (arith, c.in_err-further_entry.ensures.0, c.len.ensures, c.loop-scan.row.ok.0) in
+    rw (p.1, p.2, c.in_err-further_entry.ensures.1) (too_many (reads_rest (placement_in c.args.ranges.now)) c.loop-scan.scan c.loop-scan.row.items full c.loop-scan-test.ensures c.loop-scan.invariant)
 
 pub returns-in_err-placement : goal.returns-in_err-placement
 returns-in_err-placement c =
     let p = err_from_is_err_and c.from_residual-in_err-placement.result c.from_residual-in_err-placement.ensures.1 in
-    let few : length c.loop-scan.row.items < MOST_CELLS = omega (arith, c.in_ok-further_entry.ensures, c.len.ensures, c.loop-scan.row.ok.0) in
-    rw (p.1, p.2) (entry_fails (reads_rest placement_in) c.loop-scan.scan c.loop-scan.row.items (faults.Text c.in_err-placement.field-0.0) few c.loop-scan-test.ensures c.in_err-placement.ensures.gives c.loop-scan.invariant)
+    let few : length c.loop-scan.row.items < c.args.ranges.now.most_cells = omega (arith, c.in_ok-further_entry.ensures, c.len.ensures, c.loop-scan.row.ok.0) in
+    rw (p.1, p.2) (entry_fails (reads_rest (placement_in c.args.ranges.now)) c.loop-scan.scan c.loop-scan.row.items (faults.Text c.in_err-placement.field-0.0) few c.loop-scan-test.ensures c.in_err-placement.ensures.gives c.loop-scan.invariant)
 
 pub loop-scan-smaller : goal.loop-scan-smaller
-loop-scan-smaller c = word_shorter placement_in c.loop-scan.scan c.placement.new.self c.in_ok-placement.placement c.in_ok-placement.ensures.gives
+loop-scan-smaller c = word_shorter (placement_in c.args.ranges.now) c.loop-scan.scan c.placement.new.self c.in_ok-placement.placement c.in_ok-placement.ensures.gives
 
 pub loop-scan-preserved : goal.loop-scan-preserved
 loop-scan-preserved c =
-    let few : length c.loop-scan.row.items < MOST_CELLS = omega (arith, c.in_ok-further_entry.ensures, c.len.ensures, c.loop-scan.row.ok.0) in
-    one_read (reads_rest placement_in) c.loop-scan.scan c.placement.new.self c.loop-scan.row.items c.push.new.self.items c.in_ok-placement.placement few c.in_ok-push.ensures.items c.loop-scan-test.ensures c.in_ok-placement.ensures.gives c.loop-scan.invariant
+    let few : length c.loop-scan.row.items < c.args.ranges.now.most_cells = omega (arith, c.in_ok-further_entry.ensures, c.len.ensures, c.loop-scan.row.ok.0) in
+    one_read (reads_rest (placement_in c.args.ranges.now)) c.loop-scan.scan c.placement.new.self c.loop-scan.row.items c.push.new.self.items c.in_ok-placement.placement few c.in_ok-push.ensures.items c.loop-scan-test.ensures c.in_ok-placement.ensures.gives c.loop-scan.invariant
 
 pub returns : goal.returns
-returns c = all_read (reads_rest placement_in) c.loop-scan.scan c.loop-scan.row.items c.loop-scan-test.ensures c.loop-scan.invariant
+returns c = all_read (reads_rest (placement_in c.args.ranges.now)) c.loop-scan.scan c.loop-scan.row.items c.loop-scan-test.ensures c.loop-scan.invariant

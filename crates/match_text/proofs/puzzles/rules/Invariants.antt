@@ -1,12 +1,11 @@
 use Rattle.std.proofs.Common.{length}
-use Rattle.match_board.specs.declared.limits.TheConstants.{MOST_RULES}
 use Rattle.match_text.specs.Words.{rule_in}
 use Rattle.match_text.specs.Place.{entries}
 use Rattle.match_text.proofs.LoopLemmas.{AreRead}
 use Rattle.match_text.proofs.puzzles.rules.Given as goal
 
 abbrev pub invariant-loop-scan : goal.invariant-loop-scan
-invariant-loop-scan l = AreRead MOST_RULES (λ room. entries room rule_in) l.fn.scan l.rules.items l.scan
+invariant-loop-scan l = AreRead l.ranges.most_rules (λ room. entries room rule_in) l.fn.scan l.rules.items l.scan
 
 abbrev pub decreases-loop-scan : goal.decreases-loop-scan
 decreases-loop-scan l = length l.scan.words

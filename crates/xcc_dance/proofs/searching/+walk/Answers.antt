@@ -16,9 +16,9 @@ use Rattle.xcc_dance.specs.Progress.{IsTreeOf, AreTreesOf}
 use Rattle.xcc_dance.specs.SearchTree.{IsSearchTree, AreChildren, IsChild, AreBranchesOf}
 use Rattle.xcc_dance.specs.declared.progress.Progress.{Progress}
 use Rattle.xcc_dance.proofs.SizeLemmas.{open_first, open_next, open_all}
-use Rattle.xcc_dance.proofs.SearchTreeLemmas.{AreBranchesBefore, children_stay, children_count, child_more, branches_count, found_searched, branch_searched}
+use Rattle.xcc_dance.proofs.SearchTreeLemmas.{AreBranchesBefore, children_stay, children_count, child_more, branches_count, found_searched, dead_searched, branch_searched}
 use Rattle.xcc_dance.proofs.GrowingLemmas.{next_open}
-use Rattle.xcc_dance.proofs.WalkLemmas.{goes_further, found_further, leaf_tree, branch_tree, no_trees, one_more_tree, room_for_one}
+use Rattle.xcc_dance.proofs.WalkLemmas.{goes_further, found_further, leaf_tree, dead_tree, branch_tree, no_trees, one_more_tree, room_for_one}
 use Rattle.xcc_dance.proofs.searching.+walk.Goals as goal
 
 pub walk-arrangement-requires : goal.walk-arrangement-requires
@@ -55,6 +55,23 @@ walk-returns-in_default-clause-tree g t c =
       c.choose_item.ensures.same,
       leaf_tree s c.args.progress.now _ c.len-number.result _ number items refl,
       found_searched (g.R.Chooses.picks c.args.rule.now) (g.C.Cites.answers c.args.cites.now) c.push.new.self.items s c.args.progress.now.found.items c.len-number.result c.in_ok-arrangement.field-0 number items solution,
+    )
+
+pub walk-returns-then-size-eq0-clause-tree : goal.walk-returns-then-size-eq0-clause-tree
+walk-returns-then-size-eq0-clause-tree g t c =
+    let s = selection_of c.args.path.now in
+    let same = c.links-links.ensures.same ∙ c.choose_item.ensures.same in
+    let picks = g.R.Chooses.picks c.args.rule.now in
+    let answers = g.C.Cites.answers c.args.cites.now in
+    let sized = subst (λ (v : LinkState). HasSize (cover_of v.compiled) v.chosen c.in-Some.item c.size.result) same c.size.ensures in
+    let none_left = subst (λ n. HasSize (cover_of s.compiled) s.chosen c.in-Some.item n) c.if-size-eq0.true sized in
+    let cells = c.cells-cells.ensures.count ∙ ap (λ (v : LinkState). cell_count v.compiled.puzzle.board) same in
+    let picked = subst (λ o. IfSome o (picks s)) c.in-Some.is c.in_ok-item.ensures.picked in
+    let uncovered = subst (λ o. MatchOption o (AreAllCovered (cover_of s.compiled) s.chosen) (IsUncovered (cover_of s.compiled) s.chosen)) c.in-Some.is c.in_ok-item.ensures.uncovered in
+    let few = subst (λ (v : LinkState). (item : ℕ) → item < (cover_of v.compiled).primaries → item < 2 * c.cells-cells.result) same c.cells-cells.ensures.few in (
+      c.choose_item.ensures.same,
+      dead_tree s c.args.progress.now c.cells-cells.result c.in-Some.item (tree_of c.dead_node.result) c.cells-cells.ensures.most (few c.in-Some.item uncovered.primary) c.dead_node.ensures,
+      dead_searched picks answers c.args.progress.now.found.items s c.cells-cells.result c.in-Some.item (tree_of c.dead_node.result) cells picked none_left c.dead_node.ensures,
     )
 
 pub walk-returns-in-Some-2-clause-tree : goal.walk-returns-in-Some-2-clause-tree

@@ -1,5 +1,6 @@
 use Rattle.std.proofs.Common.{◌≡◌, subst}
-use Rattle.match_board.specs.declared.limits.TheConstants.{MOST_LEVELS}
+use Rattle.match_text.specs.declared.ranges.TheConstants.{SECOND}
+use Rattle.match_text.proofs.RangesLemmas.{second_are}
 use Rattle.std.specs.Prelude.{IfOk}
 use Rattle.cert_tree.specs.Tree.{tree_of}
 use Rattle.cert_tree.specs.Certificate.{Piece, piece_of, flat_piece}
@@ -8,7 +9,7 @@ use Rattle.cert_tree.proofs.SpanLemmas.{alone_at, alone_narrow}
 use Rattle.cert_tree.proofs.certificates.Lemma.copy.Goals as goal
 
 pub flat_lemmas-requires : goal.flat_lemmas-requires
-flat_lemmas-requires c = alone_narrow c.from_ref.result.now c.args.self.now c.from_ref.ensures.value (narrow_within MOST_LEVELS (tree_of c.args.self.now.tree) c.requires.tree)
+flat_lemmas-requires c = alone_narrow c.from_ref.result.now c.args.self.now c.from_ref.ensures.value (narrow_within SECOND second_are SECOND.most_levels (tree_of c.args.self.now.tree) c.requires.tree)
 
 pub returns : goal.returns
 returns c =

@@ -8,3 +8,6 @@ returns-in-Triangle-clause-only c = rw c.in-Triangle.is c.beside-in-Triangle.ens
 
 pub returns-in-Hexagon-clause-only : goal.returns-in-Hexagon-clause-only
 returns-in-Hexagon-clause-only c = rw c.in-Hexagon.is c.beside-in-Hexagon.ensures.only
+
+pub returns-in-Shape-clause-only : goal.returns-in-Shape-clause-only
+returns-in-Shape-clause-only c = rw c.in-Shape.is c.beside-in-Shape.ensures.only

@@ -6,7 +6,7 @@ use Rattle.match_board.proofs.figures.Figure.meets.Goals as goal
 pub returns-in_err-row-clause-only : goal.returns-in_err-row-clause-only
 returns-in_err-row-clause-only c = λ c' k m.
     let to = met_place m c.place_of-row.ensures in
-    let same = c.beside.ensures.only to.0 to.1 k (to.2.row_in, to.2.place_in) to.3 in
+    let same = c.beside.ensures.only to.0 to.1 k (to.2.row_in, to.2.place_in, to.2.filled) to.3 in
     absurd (none_some (sym c.in_err-row.was ∙ same))
 
 pub returns-clause-within : goal.returns-clause-within
@@ -15,6 +15,6 @@ returns-clause-within c = (StandsAt-in_range c.number_of.ensures, c.in_ok-row.en
 pub returns-clause-only : goal.returns-clause-only
 returns-clause-only c = λ c' k m.
     let to = met_place m c.place_of-row.ensures in
-    let same = c.beside.ensures.only to.0 to.1 k (to.2.row_in, to.2.place_in) to.3 in
+    let same = c.beside.ensures.only to.0 to.1 k (to.2.row_in, to.2.place_in, to.2.filled) to.3 in
     let e = inside (sym c.in_ok-row.was ∙ same) in
     same_pair (one_number c.number_of.ensures to.2 (ap (λ (n : ℕ × ℕ × ℕ). n.0) e) (ap (λ (n : ℕ × ℕ × ℕ). n.1) e)) (ap (λ (n : ℕ × ℕ × ℕ). n.2) e)

@@ -1,18 +1,18 @@
-use Rattle.std.proofs.Common.{◌≤◌, arith}
+use Rattle.std.proofs.Common.{◌≤◌, ◌*◌, arith}
 use Rattle.match_puzzle.specs.NumberSets.{AreWordsOfSet}
 use Rattle.match_puzzle.proofs.NumberSetLemmas.{common_members, in_common, common_words}
 use Rattle.match_puzzle.proofs.number_sets.NumberSet.common.Goals as goal
-use Rattle.match_puzzle.proofs.number_sets.NumberSet.common.Goals.{After-loop-i}
+use Rattle.match_puzzle.proofs.number_sets.NumberSet.common.Goals.{After-loop-block}
 
-all_words : (c : After-loop-i) → c.self.inside.end ≤ c.loop-i.i
-all_words c = let most = c.self.invariant.most in let at_end = c.loop-i-test.false in omega (arith, most, at_end)
+all_words : (c : After-loop-block) → c.self.inside.end ≤ 4 * c.loop-block.block
+all_words c = omega (arith, c.loop-block-test.false)
 
-words_of : (c : After-loop-i) → AreWordsOfSet c.loop-i.words c.self.inside.end
+words_of : (c : After-loop-block) → AreWordsOfSet c.loop-block.words c.self.inside.end
 words_of c =
-    common_words c.self.inside.words c.first.inside.words c.second.inside.words c.third.inside.words c.fourth.inside.words c.loop-i.words c.self.inside.end c.loop-i.i c.self.invariant c.loop-i.invariant.long (all_words c) c.loop-i.invariant.done c.loop-i.invariant.rest
+    common_words c.self.inside.words c.first.inside.words c.second.inside.words c.third.inside.words c.fourth.inside.words c.loop-block.words c.self.inside.end (4 * c.loop-block.block) c.self.invariant c.loop-block.invariant.long (all_words c) c.loop-block.invariant.done c.loop-block.invariant.rest
 
 pub returns : goal.returns
 returns c =
     rw (← c.self.view_is, ← c.first.view_is, ← c.second.view_is, ← c.third.view_is, ← c.fourth.view_is)
-    (common_members c.self.inside.words c.first.inside.words c.second.inside.words c.third.inside.words c.fourth.inside.words c.self.invariant.small c.first.invariant.small c.second.invariant.small c.third.invariant.small c.fourth.invariant.small c.loop-i.words (words_of c).small
-    (in_common c.self.inside.words c.first.inside.words c.second.inside.words c.third.inside.words c.fourth.inside.words c.loop-i.words c.self.inside.end c.loop-i.i c.self.invariant c.loop-i.invariant.long (all_words c) c.loop-i.invariant.done c.loop-i.invariant.rest))
+    (common_members c.self.inside.words c.first.inside.words c.second.inside.words c.third.inside.words c.fourth.inside.words c.self.invariant.small c.first.invariant.small c.second.invariant.small c.third.invariant.small c.fourth.invariant.small c.loop-block.words (words_of c).small
+    (in_common c.self.inside.words c.first.inside.words c.second.inside.words c.third.inside.words c.fourth.inside.words c.loop-block.words c.self.inside.end (4 * c.loop-block.block) c.self.invariant c.loop-block.invariant.long (all_words c) c.loop-block.invariant.done c.loop-block.invariant.rest))

@@ -16,7 +16,7 @@ loop-word-preserved c =
     let few = few_ones i.words i.end c.loop-word.word-index c.self.invariant in
     record { counted = omega (arith, more); few = omega (arith, few) }
 
-pub returns : goal.returns
-returns c =
+pub returns-clause-count : goal.returns-clause-count
+returns-clause-count c =
     let i = c.self.inside in
     c.loop-word.invariant.counted ∙ ap (λ ws. count_ones (joined ws)) (take_all c.loop-word.word-index (take i.end i.words) c.loop-word-test.false) ∙ ones_to_end i.words i.end c.self.invariant ∙ ap length c.self.view_is

@@ -19,7 +19,7 @@ tile_in c =
     let legal = kept.prefix.legal c.args.cell c.in-Some.placement (stands c) in
     let tile = legal.tile in
     let tiles = kept.puzzle.tiles in
-    let cells = kept.puzzle.board.1 in
+    let cells = kept.puzzle.board.most in
     omega (arith, tile, tiles, cells)
 
 pub group-turns-requires : goal.group-turns-requires

@@ -12,4 +12,4 @@ returns c =
     let xs = c.fitting.result in
     let q = c.args.partial.now.placed in
     let fitting = subst (λ (p : Task). AreFitting p q (Cell c.args.cell) xs) c.requires.made c.fitting.ensures in
-    (placements_of c.args.self.now q c.args.cell xs, cell_listing c.args.self.now q c.args.cell xs fitting, length-map xs (λ (x : Pair). x.placement) ∙ sym c.len.ensures)
+    (placements_of c.args.self.now q c.args.cell xs, cell_listing c.args.self.now q c.args.cell xs fitting, length-map xs (λ (x : Pair). x.placement) ∙ sym c.len.ensures.count)

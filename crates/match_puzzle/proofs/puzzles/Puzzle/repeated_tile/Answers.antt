@@ -13,9 +13,9 @@ use Rattle.match_puzzle.proofs.puzzles.Puzzle.repeated_tile.Goals as goal
 abbrev first_tile : Placement
 first_tile = record { tile = 0; turn = 0 }
 
--- a tile of a puzzle is below 100
+-- a tile of a puzzle is below the most
 small_tile : (p : Task) (tile : ℕ) → IsPuzzle p → tile < length p.words → tile < MOST_TILES
-small_tile p tile is lt = omega (arith, is.tiles, is.board.1)
+small_tile p tile is lt = omega (arith, is.tiles, is.board.most)
 
 pub loop-cell-init : goal.loop-cell-init
 loop-cell-init c = record {

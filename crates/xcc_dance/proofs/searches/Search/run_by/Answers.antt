@@ -1,5 +1,5 @@
 use Rattle.std.proofs.Common.{◌≡◌, ◌+◌, Contains, MatchOption, arith, ap, sym, ◌∙◌, subst, ⊎_elim, refl}
-use Rattle.match_board.specs.declared.limits.TheConstants.{MOST_LEVELS}
+use Rattle.match_text.specs.declared.ranges.TheConstants.{SECOND}
 use Rattle.match_board.proofs.Listings.{contains_none}
 use Rattle.cert_tree.specs.Tree.{tree_of}
 use Rattle.cert_tree.specs.declared.nodes.Node.{Node}
@@ -40,7 +40,7 @@ returns-clause-outcome g c =
             (w.goes_on.found a h);
         numbers = t.numbers;
         branch_nodes = omega (arith, spent);
-        within = λ few. deeper (levels_below (selection_of s) + 1) MOST_LEVELS (omega arith) (tree_of c.in-Some.tree) (t.within few);
+        within = λ few. deeper (levels_below (selection_of s) + 1) SECOND.most_levels (omega arith) (tree_of c.in-Some.tree) (t.within few);
       },
       links,
       refl,

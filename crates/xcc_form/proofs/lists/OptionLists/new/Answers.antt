@@ -31,7 +31,7 @@ add_all-requires c =
       shared = c.requires.shared;
       few = c.requires.few;
       laid_out = subst (λ (pairs : List Pair). AreLaidOut p c.args.shared.now pairs c.loop-cell.lists.starts.items c.loop-cell.lists.edges.items) (sym kept) before.laid_out;
-      short = let few : c.len.result < 65536 = c.len.type_inv in omega (arith, as_long, before.short, few, c.len.ensures, c.loop-cell-test.true, c.cells-cell-end.ensures.most);
+      short = omega (arith, as_long, before.short, c.len.ensures.count, c.len.ensures.few, c.loop-cell-test.true, c.cells-cell-end.ensures.most);
     }
 
 pub loop-cell-preserved : goal.loop-cell-preserved
@@ -50,8 +50,7 @@ loop-cell-preserved c =
       short =
           let longer = ap length all in
           let both = length-append c.loop-cell.lists.pairs.items xs in
-          let few : c.len.result < 65536 = c.len.type_inv in
-          omega (arith, longer, both, before.short, few, c.len.ensures);
+          omega (arith, longer, both, before.short, c.len.ensures.count, c.len.ensures.few);
     }
 
 pub returns-clause-pairs : goal.returns-clause-pairs

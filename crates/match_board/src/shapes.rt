@@ -1,0 +1,92 @@
+//! The cells of a shape, which are squares: some of the places of a rectangle.
+
+ghost use Rattle.std.specs.Prelude.{◌≡◌, ◌<◌, ◌≤◌, ◌+◌, ◌*◌, ℕ, IfSome, true, length, replicate};
+ghost use Rattle.match_board.specs.Board.{marks_from, mask_of, IsMarked, IsPlace, LiesAgainst};
+ghost use Rattle.match_board.specs.declared.figures.Figure.TheVariants.{Shape};
+
+use crate::limits::{MOST_PLACES, MOST_PLAIN_CELLS};
+use crate::rectangles;
+
+/// How many cells the mask has among so many places from the first on.
+pub fn marks(mask: &[bool], first: usize, more: usize) -> usize
+    requires { first + more ≤ length mask.now }
+    ensures count { result ≡ marks_from mask.now first more }
+    ensures few { result ≤ more }
+{
+    let mut count = 0;
+    for place in 0..more {
+        if mask[first + place] {
+            count += 1;
+        }
+    }
+    count
+}
+
+/// The place of the row at which there is a cell, with so many left of it.
+pub fn place_with(width: u16, mask: &[bool; MOST_PLACES], first: u16, left: u16) -> u16
+    requires room { first + width ≤ MOST_PLACES }
+    requires left { left < marks_from mask.now first width }
+    ensures within { result < width }
+    ensures cell { IsMarked mask.now (first + result) }
+    ensures left { marks_from mask.now first result ≡ left }
+{
+    let mut count = 0;
+    for place in 0..width {
+        if mask[usize::from(first + place)] {
+            if count == left {
+                return place;
+            }
+            count += 1;
+        }
+    }
+    unreachable!()
+}
+
+/// The mask with as many places as a board keeps: there is no cell at those that are added.
+pub fn kept(mask: &[bool]) -> [bool; MOST_PLACES]
+    requires { length mask.now ≤ MOST_PLACES }
+    ensures { result ≡ mask_of mask.now }
+{
+    let mut kept = [false; MOST_PLACES];
+    for (place, mark) in mask.iter().enumerate() {
+        kept[place] = *mark;
+    }
+    kept
+}
+
+/// The mask with a cell at each of so many places.
+pub fn full(places: u16) -> [bool; MOST_PLACES]
+    requires { places ≤ MOST_PLAIN_CELLS }
+    ensures { result ≡ mask_of (replicate places true) }
+{
+    let every = [true; MOST_PLAIN_CELLS as usize];
+    kept(&every[..usize::from(places)])
+}
+
+/// The place that a side of this place lies against, and its side there, where there is a cell.
+pub fn beside(
+    width: u16,
+    height: u16,
+    mask: &[bool; MOST_PLACES],
+    row: u16,
+    place: u16,
+    side: u8,
+) -> Option<(u16, u16, u8)>
+    requires room { height * width ≤ MOST_PLACES }
+    requires row { row < height }
+    requires place { place < width }
+    requires side { side < 4 }
+    ensures side { IfSome result (λ n. n.2 < 4) }
+    ensures found { IfSome result
+        (λ n. IsPlace (Shape width height mask.now) n.0 n.1
+        × LiesAgainst (Shape width height mask.now) row place side n.0 n.1 n.2) }
+    ensures only { (r p k : ℕ) → IsPlace (Shape width height mask.now) r p
+        → LiesAgainst (Shape width height mask.now) row place side r p k → result ≡ Some (r, p, k) }
+{
+    let (row, place, side) = rectangles::beside(width, height, row, place, side)?;
+    if mask[usize::from(row * width + place)] {
+        Some((row, place, side))
+    } else {
+        None
+    }
+}

@@ -1,0 +1,102 @@
+-- Puzzles that differ in their versions and in their boards alone, which are alike.
+use Rattle.std.proofs.Common.{◌≡◌, ◌↔◌, ℕ, Bool, List, refl, ap, ◌∙◌, inr}
+use Rattle.match_board.specs.Board.{AreAlike}
+use Rattle.match_board.specs.declared.figures.Figure.{Figure}
+use Rattle.match_board.proofs.AlikeLemmas.{alike_turned, alike_border_pair, alike_border_order, second_alike, second_is_board}
+use Rattle.match_puzzle.specs.Mates.{mating_of}
+use Rattle.match_puzzle.specs.Puzzle.{Task, BorderRule, free, one, each, Asks, HasRule, IsLegal, IsAsLongAsBorder, IsPuzzle, colour_of, mate_of, second_form_of}
+use Rattle.match_puzzle.specs.Arrangement.{IsArrangement}
+use Rattle.match_puzzle.specs.Prefix.{Prefix}
+use Rattle.match_puzzle.specs.Fitting.{Fits}
+use Rattle.match_puzzle.specs.declared.placements.Placement.{Placement}
+
+pub asks_alike : {s t : Figure} → AreAlike s t → (border : BorderRule) (cell side colour : ℕ) → Asks s border cell side colour → Asks t border cell side colour
+asks_alike a free cell side colour asked = asked
+asks_alike a (one c) cell side colour asked = asked
+asks_alike a (each rules) cell side colour asked = (asked.0, alike_border_order asked.0 a asked.1, asked.2, asked.3, asked.4)
+
+long_alike : {s t : Figure} → AreAlike s t → (border : BorderRule) → IsAsLongAsBorder s border → IsAsLongAsBorder t border
+long_alike a free long = tt
+long_alike a (one c) long = tt
+long_alike a (each rules) long = (long.0, alike_border_order long.0 a long.1, long.2)
+
+-- puzzles with all but their boards and versions in common
+module _ (turns : Bool) (border : BorderRule) (mates : List ℕ) (words : List (List ℕ)) where
+  abbrev pub on : Figure → (version : ℕ) → Task
+  on board version = record { board = board; turns = turns; border = border; mating = mating_of version mates; words = words }
+
+  module _ {s t : Figure} (a : AreAlike s t) (v w : ℕ) where
+    pub rule_alike : {cell side colour : ℕ} → HasRule (on s v) cell side colour → HasRule (on t w) cell side colour
+    rule_alike {cell} {side} {colour} rule = record {
+      border_pair = alike_border_pair a rule.border_pair;
+      asked = asks_alike a border cell side colour rule.asked;
+    }
+
+    pub legal_alike : (x : Placement) → IsLegal (on s v) x → IsLegal (on t w) x
+    legal_alike x legal = record { tile = legal.tile; turn = legal.turn }
+
+    pub same_colour : (x : Placement) (side : ℕ) → colour_of (on s v) x side ≡ colour_of (on t w) x side
+    unfolding colour_of
+    same_colour x side = refl
+
+  module _ {s t : Figure} (a : AreAlike s t) (v w : ℕ) where
+    back : AreAlike t s
+    back = alike_turned a
+
+    pub arrangement_alike : (xs : List Placement) → IsArrangement (on s v) xs → IsArrangement (on t w) xs
+    arrangement_alike xs is = record {
+      cells = is.cells ∙ a.cells;
+      legal = λ cell x stands. legal_alike a v w x (is.legal cell x stands);
+      once = is.once;
+      placed = is.placed;
+      border = λ cell side colour x stands rule.
+          same_colour back w v x side ∙ is.border cell side colour x stands (rule_alike back w v rule);
+      edges = λ cell side cell' side' x y meets here there.
+          same_colour back w v x side
+          ∙ is.edges cell side cell' side' x y ((a.meet cell side cell' side').1 meets) here there
+          ∙ ap (mate_of (on s v)) (same_colour a v w y side');
+    }
+
+    pub fits_alike : (q : Prefix) (cell : ℕ) (x : Placement) → Fits (on s v) q cell x → Fits (on t w) q cell x
+    fits_alike q cell x fits = record {
+      free = fits.free;
+      unused = fits.unused;
+      legal = legal_alike a v w x fits.legal;
+      border = λ side colour rule. same_colour back w v x side ∙ fits.border side colour (rule_alike back w v rule);
+      edges = λ side cell' side' y meets has.
+          same_colour back w v x side
+          ∙ fits.edges side cell' side' y ((a.meet cell side cell' side').1 meets) has
+          ∙ ap (mate_of (on s v)) (same_colour a v w y side');
+    }
+
+pub same_arrangements : (p : Task) (xs : List Placement) → IsArrangement p xs ↔ IsArrangement (second_form_of p) xs
+same_arrangements p xs =
+    let a = second_alike p.board in
+    let v = p.mating.version in (
+      λ is. arrangement_alike p.turns p.border p.mating.mates p.words a v 2 xs is,
+      λ is. arrangement_alike p.turns p.border p.mating.mates p.words (alike_turned a) 2 v xs is,
+    )
+
+pub same_fits : (p : Task) (q : Prefix) (cell : ℕ) (x : Placement) → Fits p q cell x ↔ Fits (second_form_of p) q cell x
+same_fits p q cell x =
+    let a = second_alike p.board in
+    let v = p.mating.version in (
+      λ is. fits_alike p.turns p.border p.mating.mates p.words a v 2 q cell x is,
+      λ is. fits_alike p.turns p.border p.mating.mates p.words (alike_turned a) 2 v q cell x is,
+    )
+
+-- the second form of a puzzle is a puzzle
+pub second_is_puzzle : (p : Task) → IsPuzzle p → IsPuzzle (second_form_of p)
+second_is_puzzle p is =
+    let a = second_alike p.board in
+    record {
+      board = second_is_board p.board is.board;
+      triangles = λ three. is.triangles (a.sides ∙ three);
+      tiles = is.tiles ∙ a.cells;
+      sides = λ tile lt. is.sides tile lt ∙ a.sides;
+      tile_colours = is.tile_colours;
+      border_colours = is.border_colours;
+      border = long_alike a p.border is.border;
+      mating = record { version = inr refl; mates = is.mating.mates };
+      shapes = λ shape. refl;
+    }
