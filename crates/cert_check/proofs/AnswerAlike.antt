@@ -1,14 +1,13 @@
 -- Answers to questions on puzzles that differ in their versions and in their boards alone, which are alike.
-use Rattle.std.proofs.Common.{◌≡◌, ◌↔◌, ℕ, zero, suc, Bool, List, [], ◌∷◌, Some, None, replicate, slice_get, arith, ap, sym, ◌∙◌, subst, inl, inr, ⊎_elim}
-use Rattle.match_board.specs.Board.{AreAlike, cell_count, side_count}
+use Rattle.std.proofs.Common.{◌≡◌, ◌↔◌, ℕ, zero, suc, Bool, List, [], ◌∷◌, None, replicate, arith, ap, sym, ◌∙◌, subst, inl, inr, ⊎_elim}
+use Rattle.match_board.specs.Board.{AreAlike}
 use Rattle.match_board.specs.First.{Rank, IsFirst}
 use Rattle.match_board.specs.declared.figures.Figure.{Figure}
 use Rattle.match_board.proofs.AlikeLemmas.{alike_turned, alike_border_pair, listing_alike, second_alike}
 use Rattle.match_puzzle.specs.Puzzle.{Task, BorderRule, mate_of}
-use Rattle.match_puzzle.specs.Colours.{IsColourCount}
 use Rattle.match_puzzle.specs.Prefix.{Prefix, with_pairs, with_pair}
-use Rattle.match_puzzle.specs.PrefixFaults.{IsPairList, PrefixFails, IsPrefixFault}
-use Rattle.match_puzzle.specs.ArrangementFaults.{ArrangementFails, IsArrangementFault}
+use Rattle.match_puzzle.specs.PrefixFaults.{IsPairList, PrefixFails}
+use Rattle.match_puzzle.specs.ArrangementFaults.{ArrangementFails}
 use Rattle.match_puzzle.specs.Fitting.{FitsItem, AreFitting, IsOpen}
 use Rattle.match_puzzle.specs.declared.faults.ArrangementFault.{ArrangementFault}
 use Rattle.match_puzzle.specs.declared.faults.ArrangementFault.TheVariants.{Length, TileRange, TileTwice, BorderBroken, EdgeBroken}
@@ -21,7 +20,7 @@ use Rattle.match_puzzle.specs.declared.placements.Placement.{Placement}
 use Rattle.match_puzzle.specs.declared.placements.Pair.{Pair}
 use Rattle.match_puzzle.proofs.PuzzleAlike.{on, rule_alike, legal_alike, same_colour, arrangement_alike, fits_alike}
 use Rattle.puzzle_symmetry.specs.Symmetry.{IsPermutation}
-use Rattle.puzzle_symmetry.specs.SymmetryFaults.{SymmetryFails, IsSymmetryFault}
+use Rattle.puzzle_symmetry.specs.SymmetryFaults.{SymmetryFails}
 use Rattle.puzzle_symmetry.specs.Images.{IsImageWithin}
 use Rattle.puzzle_symmetry.specs.declared.lines.SymmetryLine.{SymmetryLine}
 use Rattle.puzzle_symmetry.specs.declared.faults.SymmetryFault.{SymmetryFault}

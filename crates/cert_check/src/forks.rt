@@ -12,7 +12,7 @@ ghost use Rattle.cert_check.specs.Setting.{question_of, line_of, AreOfPuzzle, Be
 ghost use Rattle.cert_check.specs.Walk.{Tells, HasChildren, TellsOfChildren, TellsOfLemma};
 
 use crate::faults::TreeFault;
-use crate::node_faults::branch_pairs;
+use crate::node_faults::branch_fault;
 use crate::settings::Setting;
 use crate::walks::{at_top, walk};
 use cert_tree::{Certificate, Head, Trees};
@@ -123,7 +123,8 @@ fn forked_branch<R: Threads + Sync>(
     requires counted { children ≤ count trees.now }
     ensures { IfOk result (Tells setting.now (branch item (front children trees.now)) partial.now.placed) }
 {
-    if let Err(of_node) = branch_pairs(item, children, partial) {
+    let mut pairs = FittingPairs::none(item);
+    if let Some(of_node) = branch_fault(item, children, partial, &mut pairs) {
         let mut fault = None;
         at_top(alloc, Some(of_node), &mut fault);
         return Ok(fault);

@@ -8,10 +8,10 @@ ghost use Rattle.cert_tree.specs.Heads.{first, front, past};
 ghost use Rattle.cert_check.specs.Walk.{Tells, IsAtTop, below};
 
 use crate::faults::{NodeFault, Path, TreeFault};
-use crate::node_faults::{branch_pairs, dead_fault, found_fault, image_fault, same_fault};
+use crate::node_faults::{branch_fault, dead_fault, found_fault, image_fault, same_fault};
 use crate::settings::Setting;
 use cert_tree::{Head, Trees};
-use match_puzzle::{Item, Partial};
+use match_puzzle::{FittingPairs, Item, Partial};
 use std::alloc::{AllocError, Global};
 
 // Whether the first tree holds at what is placed. Then what is placed is as before, and the tree is gone past; else its
@@ -74,10 +74,10 @@ fn walk_branch(
     ensures restored { IfOk result (λ holds. fault.new ≡ None → partial.new ≡ partial.old) }
     ensures past { IfOk result (λ holds. fault.new ≡ None → trees.new ≡ past children trees.old) }
 {
-    let mut pairs = match branch_pairs(item, children, partial) {
-        Ok(pairs) => pairs,
-        Err(of_node) => return Ok(at_top(alloc, Some(of_node), fault)),
-    };
+    let mut pairs = FittingPairs::none(item);
+    if let Some(of_node) = branch_fault(item, children, partial, &mut pairs) {
+        return Ok(at_top(alloc, Some(of_node), fault));
+    }
     for number in 0..children {
         let Some(pair) = pairs.take_first() else {
             unreachable!();

@@ -26,43 +26,53 @@ impl<'a> Partial<'a> {
         requires { IsItem self.now.puzzle item }
         ensures { AreFitting self.now.puzzle self.now.placed item result }
     {
-        let numbers = match item {
-            Item::Cell(cell) => self.fitting_at(cell),
-            Item::Tile(tile) => self.fitting_of(tile),
-        };
-        FittingPairs::new(item, numbers)
+        let mut pairs = FittingPairs::none(item);
+        pairs.refill(self, item);
+        pairs
     }
 
-    // The placements that fit at the cell: of tile t after turn r by 4 t + r.
-    fn fitting_at(&self, cell: u16) -> NumberSet
+    /// How many pairs fit and settle the item, at most 1,024.
+    pub fn count(&self, item: Item) -> u16
+        requires { IsItem self.now.puzzle item }
+        ensures { (xs : List StandingPair) × AreFitting self.now.puzzle self.now.placed item xs
+            × (length xs ≡ result) }
+    {
+        let mut pairs = FittingPairs::none(item);
+        pairs.refill(self, item);
+        pairs.len()
+    }
+
+    // Makes the set the placements that fit at the cell: of tile t after turn r by 4 t + r.
+    pub(crate) fn put_fitting_at(&self, cell: u16, numbers: &mut NumberSet)
         requires { cell < cell_count self.now.puzzle.board }
         ensures fitting { IsListing ◌<◌
-            (λ n. Fits self.now.puzzle self.now.placed cell (turned_tile (n / 4) (n % 4))) result }
+            (λ n. Fits self.now.puzzle self.now.placed cell (turned_tile (n / 4) (n % 4))) numbers.new }
         ensures puzzle { IsPuzzle self.now.puzzle }
     {
         if self.at(cell).is_some() {
-            return NumberSet::new();
+            numbers.clear();
+            return;
         }
-        self.free().common(
+        numbers.put_common(
+            self.free(),
             self.as_asked(cell, 0),
             self.as_asked(cell, 1),
             self.as_asked(cell, 2),
             self.as_asked(cell, 3),
-        )
+        );
     }
 
-    // Where the tile fits: at cell c after turn r by 4 c + r.
-    fn fitting_of(&self, tile: u16) -> NumberSet
+    // Makes the set where the tile fits: at cell c after turn r by 4 c + r.
+    pub(crate) fn put_fitting_of(&self, tile: u16, numbers: &mut NumberSet)
         requires { tile < length self.now.puzzle.words }
         ensures fitting { IsListing ◌<◌
-            (λ n. Fits self.now.puzzle self.now.placed (n / 4) (turned_tile tile (n % 4))) result }
+            (λ n. Fits self.now.puzzle self.now.placed (n / 4) (turned_tile tile (n % 4))) numbers.new }
         ensures puzzle { IsPuzzle self.now.puzzle }
     {
-        let mut numbers = NumberSet::new();
+        numbers.clear();
         for cell in 0..self.puzzle().board().cells() {
             numbers.put_group(cell, self.fitting_turns(cell, tile));
         }
-        numbers
     }
 
     // The turns after which the tile fits at the cell, as bits.
@@ -117,7 +127,7 @@ impl Puzzle {
         ensures { (xs : List Standing) × IsListing (ByKey tile_turn) (Fits self.now partial.now.placed cell) xs
             × (length xs ≡ result) }
     {
-        partial.fitting(Item::Cell(cell)).len()
+        partial.count(Item::Cell(cell))
     }
 
     /// How many pairs of the tile fit.
@@ -127,7 +137,7 @@ impl Puzzle {
         ensures { (xs : List StandingPair) × AreFitting self.now partial.now.placed (items.Tile tile) xs
             × (length xs ≡ result) }
     {
-        partial.fitting(Item::Tile(tile)).len()
+        partial.count(Item::Tile(tile))
     }
 
     /// The placements that fit at the cell, by tile, then by turn.

@@ -2,6 +2,7 @@
 
 use crate::items::Item;
 use crate::number_sets::NumberSet;
+use crate::partials::Partial;
 use crate::placements::{Pair, Placement};
 use match_board::limits::MOST_CHILDREN;
 use std::marker::Model;
@@ -26,14 +27,30 @@ impl Model for FittingPairs {
 }
 
 impl FittingPairs {
-    ghost use Rattle.std.specs.Prelude.{◌≡◌, ◌≤◌, ◌∷◌, [], MatchOption, length, map};
-    ghost use Rattle.match_puzzle.specs.Fitting.{numbered_pair};
+    ghost use Rattle.std.specs.Prelude.{◌≡◌, ◌≤◌, ◌∷◌, [], MatchOption, length};
+    ghost use Rattle.match_puzzle.specs.Fitting.{AreFitting, IsItem};
 
-    // The pairs with these numbers.
-    pub(crate) fn new(item: Item, numbers: NumberSet) -> FittingPairs
-        ensures { result ≡ map (numbered_pair item) numbers }
+    /// No pair of the item.
+    pub fn none(item: Item) -> FittingPairs
+        ensures { result ≡ [] }
     {
+        let numbers = NumberSet::new();
         FittingPairs { item, numbers }
+    }
+
+    /// Makes these all pairs that fit and settle the item, in the item's order. It takes no memory.
+    ///
+    /// It costs what `Partial::fitting` does, which moves them to the caller: a walk that wants them at each node has
+    /// them put in their place.
+    pub fn refill(&mut self, partial: &Partial<'_>, item: Item)
+        requires { IsItem partial.now.puzzle item }
+        ensures { AreFitting partial.now.puzzle partial.now.placed item self.new }
+    {
+        self.item = item;
+        match item {
+            Item::Cell(cell) => partial.put_fitting_at(cell, &mut self.numbers),
+            Item::Tile(tile) => partial.put_fitting_of(tile, &mut self.numbers),
+        }
     }
 
     /// How many pairs are left, at most 1,024: four turns for each of 256 tiles or cells.

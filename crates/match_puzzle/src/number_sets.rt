@@ -121,33 +121,39 @@ impl NumberSet {
         None
     }
 
-    /// The numbers that are in this set and in each of four others.
+    /// Takes all numbers off.
+    pub(crate) fn clear(&mut self)
+        ensures { self.new ≡ [] }
+    {
+        self.words = [0; WORDS];
+        self.end = 0;
+    }
+
+    /// Makes this the numbers that are in each of five sets.
     ///
-    /// Each word is made at once, so that a set is written and not read again on the way; four go together, up to the
-    /// last one that is looked at, since loops that go to an end known beforehand are faster.
-    pub(crate) fn common(
-        &self,
+    /// Each word is made at once, in its place, so that a set is written and not read again on the way; four go
+    /// together, up to the last one that is looked at, since loops that go to an end known beforehand are faster.
+    pub(crate) fn put_common(
+        &mut self,
+        all: &NumberSet,
         first: &FixedSet,
         second: &FixedSet,
         third: &FixedSet,
         fourth: &FixedSet,
-    ) -> NumberSet
-        ensures { IsListing ◌<◌ (λ n. Contains self.now n × Contains first.now n × Contains second.now n
-            × Contains third.now n × Contains fourth.now n) result }
+    )
+        ensures { IsListing ◌<◌ (λ n. Contains all.now n × Contains first.now n × Contains second.now n
+            × Contains third.now n × Contains fourth.now n) self.new }
     {
-        let mut words = [0; WORDS];
-        for block in 0..(self.end + 3) / 4 {
+        self.words = [0; WORDS];
+        self.end = all.end;
+        for block in 0..(all.end + 3) / 4 {
             for i in 4 * block..4 * block + 4 {
-                words[i] = self.words[i]
+                self.words[i] = all.words[i]
                     & first.words[i]
                     & second.words[i]
                     & third.words[i]
                     & fourth.words[i];
             }
-        }
-        NumberSet {
-            words,
-            end: self.end,
         }
     }
 

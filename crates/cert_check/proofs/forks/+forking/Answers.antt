@@ -1,4 +1,4 @@
-use Rattle.std.proofs.Common.{◌≤◌, ◌+◌, ◌-◌, ◌/◌, arith, sym, subst}
+use Rattle.std.proofs.Common.{◌≤◌, ◌+◌, ◌-◌, ◌/◌, arith, refl, sym, subst}
 use Rattle.std.proofs.lemmas.Result.{IfOk-weaker}
 use Rattle.match_board.specs.First.{IsFirst}
 use Rattle.match_puzzle.specs.Puzzle.{Task}
@@ -12,14 +12,14 @@ use Rattle.cert_check.proofs.ForkLemmas.{along_begin, along_some, along_trees, t
 use Rattle.cert_check.specs.declared.forks.Part.{Part}
 use Rattle.cert_check.proofs.forks.+forking.Goals as goal
 
-pub forked_branch-returns-in-Err : goal.forked_branch-returns-in-Err
-forked_branch-returns-in-Err g t c =
+pub forked_branch-returns-in-Some : goal.forked_branch-returns-in-Some
+forked_branch-returns-in-Some g t c =
     let s = c.args.setting.now in
     let q = c.args.partial.now.placed in
     let trees = front c.args.children c.args.trees.now in
     let many = count-front c.args.children c.args.trees.now c.requires.counted in
-    let fails = subst (λ (p : Task). IsFirst node_rank (BranchFails p q c.args.item c.args.children) c.in-Err.of_node) c.requires.made c.in-Err.ensures.fault in
-    subst (Tells s (branch c.args.item trees) q) (sym c.at_top.ensures.fault) (subst (λ n. IsFirst node_rank (BranchFails s.puzzle q c.args.item n) c.in-Err.of_node) (sym many) fails)
+    let fails = subst (λ (p : Task). IsFirst node_rank (BranchFails p q c.args.item c.args.children) c.in-Some.of_node) c.requires.made c.in-Some.ensures.fault in
+    subst (Tells s (branch c.args.item trees) q) (sym c.at_top.ensures.fault) (subst (λ n. IsFirst node_rank (BranchFails s.puzzle q c.args.item n) c.in-Some.of_node) (sym many) fails)
 
 pub walk_part-loop-number-init : goal.walk_part-loop-number-init
 walk_part-loop-number-init g t c =
@@ -84,28 +84,28 @@ walk_part-loop-number-preserved g t c =
 pub forked_branch-walk_part-requires-clause-children : goal.forked_branch-walk_part-requires-clause-children
 forked_branch-walk_part-requires-clause-children g t c κs within =
     let said = c.in_default.ensures in
-    branch_has c.args.setting.now c.args.partial.now c.args.item c.args.trees.now c.args.children c.in_default.field-0 c.requires.made said.pairs said.item c.requires.counted said.few
+    branch_has c.args.setting.now c.args.partial.now c.args.item c.args.trees.now c.args.children c.branch_fault.new.pairs c.requires.made said.fault (said.item refl) c.requires.counted (said.few refl)
 
 pub forked_branch-walk_halves-requires-clause-children : goal.forked_branch-walk_halves-requires-clause-children
 forked_branch-walk_halves-requires-clause-children g t c κs within =
     let said = c.in_default.ensures in
-    branch_has c.args.setting.now c.args.partial.now c.args.item c.args.trees.now c.args.children c.in_default.field-0 c.requires.made said.pairs said.item c.requires.counted said.few
+    branch_has c.args.setting.now c.args.partial.now c.args.item c.args.trees.now c.args.children c.branch_fault.new.pairs c.requires.made said.fault (said.item refl) c.requires.counted (said.few refl)
 
 pub forked_branch-returns-then-children-eq1 : goal.forked_branch-returns-then-children-eq1
 forked_branch-returns-then-children-eq1 g t c =
     let s = c.args.setting.now in
     let q = c.args.partial.now.placed in
     let n = c.args.children in
-    let is = subst (λ (p : Task). IsBranch p q c.args.item n c.in_default.field-0) c.requires.made c.in_default.ensures.pairs in
-    IfOk-weaker c.walk_part.result _ _ (λ said told. branch_said s c.args.item q n c.args.trees.now c.in_default.field-0 said c.requires.counted is told) c.walk_part.ensures
+    let is = subst (λ (p : Task). IsBranch p q c.args.item n c.branch_fault.new.pairs) c.requires.made c.in_default.ensures.fault in
+    IfOk-weaker c.walk_part.result _ _ (λ said told. branch_said s c.args.item q n c.args.trees.now c.branch_fault.new.pairs said c.requires.counted is told) c.walk_part.ensures
 
 pub forked_branch-returns : goal.forked_branch-returns
 forked_branch-returns g t c =
     let s = c.args.setting.now in
     let q = c.args.partial.now.placed in
     let n = c.args.children in
-    let is = subst (λ (p : Task). IsBranch p q c.args.item n c.in_default.field-0) c.requires.made c.in_default.ensures.pairs in
-    IfOk-weaker c.walk_halves.result _ _ (λ said told. branch_said s c.args.item q n c.args.trees.now c.in_default.field-0 said c.requires.counted is told) c.walk_halves.ensures
+    let is = subst (λ (p : Task). IsBranch p q c.args.item n c.branch_fault.new.pairs) c.requires.made c.in_default.ensures.fault in
+    IfOk-weaker c.walk_halves.result _ _ (λ said told. branch_said s c.args.item q n c.args.trees.now c.branch_fault.new.pairs said c.requires.counted is told) c.walk_halves.ensures
 
 pub walk_halves-returns : goal.walk_halves-returns
 walk_halves-returns g t c =

@@ -11,16 +11,16 @@ use Rattle.cert_check.specs.TreeFaults.{BranchFails, node_rank}
 use Rattle.cert_check.specs.Walk.{Tells}
 use Rattle.cert_check.proofs.WalkLemmas.{Going, going_start, going_on, going_done, some_left, Turn, turn_placed, turn_fewer, turn_said, still_some, turn_has, turn_lifted, turn_more}
 use Rattle.cert_check.proofs.walks.+walk.Goals as goal
-use Rattle.cert_check.proofs.walks.+walk.Goals.{walk_branch-In-Some}
+use Rattle.cert_check.proofs.walks.+walk.Goals.{walk_branch-In-Some-take_first}
 
-pub walk_branch-returns-in-Err-clause-tells : goal.walk_branch-returns-in-Err-clause-tells
-walk_branch-returns-in-Err-clause-tells t c =
+pub walk_branch-returns-in-Some-clause-tells : goal.walk_branch-returns-in-Some-clause-tells
+walk_branch-returns-in-Some-clause-tells t c =
     let s = c.args.setting.now in
     let q = c.args.partial.now.placed in
     let trees = front c.args.children c.args.trees.now in
     let many = count-front c.args.children c.args.trees.now c.requires.counted in
-    let fails = subst (λ (p : Task). IsFirst node_rank (BranchFails p q c.args.item c.args.children) c.in-Err.of_node) c.requires.made c.in-Err.ensures.fault in
-    subst (Tells s (branch c.args.item trees) q) (sym c.at_top.ensures.fault) (subst (λ n. IsFirst node_rank (BranchFails s.puzzle q c.args.item n) c.in-Err.of_node) (sym many) fails)
+    let fails = subst (λ (p : Task). IsFirst node_rank (BranchFails p q c.args.item c.args.children) c.in-Some.of_node) c.requires.made c.in-Some.ensures.fault in
+    subst (Tells s (branch c.args.item trees) q) (sym c.at_top.ensures.fault) (subst (λ n. IsFirst node_rank (BranchFails s.puzzle q c.args.item n) c.in-Some.of_node) (sym many) fails)
 
 pub walk_branch-loop-number-init : goal.walk_branch-loop-number-init
 walk_branch-loop-number-init t c =
@@ -28,8 +28,8 @@ walk_branch-loop-number-init t c =
     let q = c.args.partial.now.placed in
     let trees = front c.args.children c.args.trees.now in
     let many = count-front c.args.children c.args.trees.now c.requires.counted in
-    let pairs = c.in-Ok.pairs in
-    let is = subst (λ (p : Task). IsBranch p q c.args.item c.args.children pairs) c.requires.made c.in-Ok.ensures.pairs in
+    let pairs = c.branch_fault.new.pairs in
+    let is = subst (λ (p : Task). IsBranch p q c.args.item c.args.children pairs) c.requires.made c.in_default.ensures.fault in
     let all : c.args.children ≡ c.args.children - 0 = omega arith in
     record {
       partial = refl;
@@ -53,11 +53,11 @@ walk_branch-unreachable-requires t c =
     let rest = front (n - (l.number + 1)) (past 1 l.trees) in
     going_on s c.args.item c.args.partial.now.placed all l.number child rest l.pairs
     (subst (λ trees. Going s c.args.item c.args.partial.now.placed all l.number trees l.pairs) (front_first (n - l.number) (n - (l.number + 1)) l.trees (less l.number n c.loop-number-test.true) l.invariant.counted) l.invariant.going)
-    c.in_default.ensures.0
+    c.in_default-take_first.ensures.0
 
 -- The turn of the loop at which this pair was taken.
-turn_here : (t : ℕ) (c : walk_branch-In-Some t) →
-    Turn c.args.setting.now c.args.item (front c.args.children c.args.trees.now) c.args.partial.now c.loop-number.partial c.loop-number.number (first c.loop-number.trees) (front (c.args.children - (c.loop-number.number + 1)) (past 1 c.loop-number.trees)) c.in-Some.pair c.take_first.new.self
+turn_here : (t : ℕ) (c : walk_branch-In-Some-take_first t) →
+    Turn c.args.setting.now c.args.item (front c.args.children c.args.trees.now) c.args.partial.now c.loop-number.partial c.loop-number.number (first c.loop-number.trees) (front (c.args.children - (c.loop-number.number + 1)) (past 1 c.loop-number.trees)) c.in-Some-take_first.pair c.take_first.new.self
 turn_here t c =
     let s = c.args.setting.now in
     let l = c.loop-number in
@@ -66,7 +66,7 @@ turn_here t c =
     let all = front n c.args.trees.now in
     record {
       same = l.invariant.partial;
-      going = subst (λ (pairs : List Pair). Going s c.args.item q all l.number (more (first l.trees) (front (n - (l.number + 1)) (past 1 l.trees))) pairs) c.in-Some.ensures
+      going = subst (λ (pairs : List Pair). Going s c.args.item q all l.number (more (first l.trees) (front (n - (l.number + 1)) (past 1 l.trees))) pairs) c.in-Some-take_first.ensures
           (subst (λ trees. Going s c.args.item q all l.number trees l.pairs) (front_first (n - l.number) (n - (l.number + 1)) l.trees (less l.number n c.loop-number-test.true) l.invariant.counted) l.invariant.going);
     }
 
@@ -74,7 +74,7 @@ pub walk_branch-walk-requires : goal.walk_branch-walk-requires
 walk_branch-walk-requires t c =
     let l = c.loop-number in
     let n = c.args.children in
-    let turn = turn_here t (goal.at.walk_branch-walk-requires t c).In-Some in
+    let turn = turn_here t (goal.at.walk_branch-walk-requires t c).In-Some-take_first in
     let fewer = turn_fewer _ _ _ _ _ _ _ _ _ _ turn c.place.new.self c.place.ensures in
     let placed = turn_placed _ _ _ _ _ _ _ _ _ _ turn c.place.new.self c.place.ensures in
     let some : 0 < n - l.number = let below = c.loop-number-test.true in omega arith in
@@ -88,7 +88,7 @@ walk_branch-returns-then-not-branch-clause-holds t c =
 
 pub walk_branch-returns-then-not-branch-clause-tells : goal.walk_branch-returns-then-not-branch-clause-tells
 walk_branch-returns-then-not-branch-clause-tells t c =
-    let turn = turn_here t (goal.at.walk_branch-returns-then-not-branch-clause-tells t c).In-Some in
+    let turn = turn_here t (goal.at.walk_branch-returns-then-not-branch-clause-tells t c).In-Some-take_first in
     let said = c.walk.new.fault in
     let some = subst (λ b. MatchBool b (said ≡ None) (said ≢ None)) c.if-not-branch.true c.in_ok-walk.ensures.holds in
     turn_said _ _ _ _ _ _ _ _ _ _ turn c.place.new.self c.place.ensures said c.put_below.new.fault some c.in_ok-walk.ensures.tells c.in_ok-put_below.ensures
@@ -108,10 +108,10 @@ walk_branch-returns-clause-tells t c =
 
 pub walk_branch-lift-requires : goal.walk_branch-lift-requires
 walk_branch-lift-requires t c =
-    let turn = turn_here t (goal.at.walk_branch-lift-requires t c).In-Some in
+    let turn = turn_here t (goal.at.walk_branch-lift-requires t c).In-Some-take_first in
     let said = c.walk.new.fault in
     let none = subst (λ b. MatchBool b (said ≡ None) (said ≢ None)) c.if-not-branch.false c.in_ok-walk.ensures.holds in
-    (c.in-Some.pair.placement, turn_has _ _ _ _ _ _ _ _ _ _ turn c.place.new.self c.place.ensures c.walk.new.partial (c.in_ok-walk.ensures.restored none))
+    (c.in-Some-take_first.pair.placement, turn_has _ _ _ _ _ _ _ _ _ _ turn c.place.new.self c.place.ensures c.walk.new.partial (c.in_ok-walk.ensures.restored none))
 
 pub walk_branch-loop-number-preserved : goal.walk_branch-loop-number-preserved
 walk_branch-loop-number-preserved t c =
@@ -123,7 +123,7 @@ walk_branch-loop-number-preserved t c =
     let all = front n c.args.trees.now in
     let child = first l.trees in
     let fewer = less i n c.loop-number-test.true in
-    let turn = turn_here t (goal.at.walk_branch-loop-number-preserved t c).In-Some in
+    let turn = turn_here t (goal.at.walk_branch-loop-number-preserved t c).In-Some-take_first in
     let said = c.walk.new.fault in
     let none = subst (λ b. MatchBool b (said ≡ None) (said ≢ None)) c.if-not-branch.false c.in_ok-walk.ensures.holds in
     let restored = c.in_ok-walk.ensures.restored none in

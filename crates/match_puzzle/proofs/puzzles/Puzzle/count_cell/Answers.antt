@@ -1,4 +1,4 @@
-use Rattle.std.proofs.Common.{◌∙◌, sym, subst}
+use Rattle.std.proofs.Common.{◌∙◌, subst}
 use Rattle.std.proofs.lemmas.List.{length-map}
 use Rattle.match_puzzle.specs.Fitting.{AreFitting}
 use Rattle.match_puzzle.specs.Puzzle.{Task}
@@ -9,7 +9,7 @@ use Rattle.match_puzzle.proofs.puzzles.Puzzle.count_cell.Goals as goal
 
 pub returns : goal.returns
 returns c =
-    let xs = c.fitting.result in
+    let xs = c.count.ensures.0 in
     let q = c.args.partial.now.placed in
-    let fitting = subst (λ (p : Task). AreFitting p q (Cell c.args.cell) xs) c.requires.made c.fitting.ensures in
-    (placements_of c.args.self.now q c.args.cell xs, cell_listing c.args.self.now q c.args.cell xs fitting, length-map xs (λ (x : Pair). x.placement) ∙ sym c.len.ensures.count)
+    let fitting = subst (λ (p : Task). AreFitting p q (Cell c.args.cell) xs) c.requires.made c.count.ensures.1 in
+    (placements_of c.args.self.now q c.args.cell xs, cell_listing c.args.self.now q c.args.cell xs fitting, length-map xs (λ (x : Pair). x.placement) ∙ c.count.ensures.2)

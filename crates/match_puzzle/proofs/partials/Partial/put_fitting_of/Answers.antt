@@ -4,7 +4,7 @@ use Rattle.match_board.specs.Board.{cell_count}
 use Rattle.match_puzzle.specs.Puzzle.{Task}
 use Rattle.match_puzzle.specs.Fitting.{Fits, turned_tile}
 use Rattle.match_puzzle.proofs.PlacementSetLemmas.{one_group_more}
-use Rattle.match_puzzle.proofs.partials.Partial.fitting_of.Goals as goal
+use Rattle.match_puzzle.proofs.partials.Partial.put_fitting_of.Goals as goal
 
 pub loop-cell-preserved : goal.loop-cell-preserved
 loop-cell-preserved c =

@@ -1,7 +1,7 @@
 use Rattle.std.proofs.Common.{◌<◌, ◌/◌, ◌%◌}
 use Rattle.match_board.specs.Listing.{IsListing}
 use Rattle.match_puzzle.specs.Fitting.{Fits, turned_tile}
-use Rattle.match_puzzle.proofs.partials.Partial.fitting_of.Given as goal
+use Rattle.match_puzzle.proofs.partials.Partial.put_fitting_of.Given as goal
 
 abbrev pub invariant-loop-cell : goal.invariant-loop-cell
 invariant-loop-cell l = IsListing ◌<◌ (λ n. (n / 4 < l.cell) × Fits l.self.puzzle l.self.placed (n / 4) (turned_tile l.tile (n % 4))) l.numbers
