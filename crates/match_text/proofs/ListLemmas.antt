@@ -193,6 +193,10 @@ pub found_of : (text : List ℕ) (result : Result (Vec (List Placement)) ListTex
 found_of text (Ok rows) e = rows_found text rows.items e
 found_of text (Err f) e = tt
 
+pub within_of : (text : List ℕ) (result : Result (Vec (List Placement)) ListTextFault) → ListGives result (list_of text) → IfOk result (λ rows. IsListWithin SECOND rows.items)
+within_of text (Ok rows) e = let found = rows_found text rows.items e in spelled_second found.0 rows.items found.1
+within_of text (Err f) e = tt
+
 pub only_of : (text : List ℕ) (result : Result (Vec (List Placement)) ListTextFault) → ListGives result (list_of text) → (version : ℕ) (rows : List (List Placement)) → IsSpelledIn version rows → text ≡ list_spelling version rows → ListGives result (Ok rows)
 only_of text result gives version rows fits e = subst (λ outcome. ListGives result outcome) (ap list_of e ∙ rows_only version rows fits) gives
 

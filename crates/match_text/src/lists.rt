@@ -2,12 +2,13 @@
 
 ghost use Rattle.std.specs.Prelude.{◌≡◌, ◌+◌, ◌<◌, ◌^◌, ℕ, List, Ok, IfOk, length, take};
 ghost use Rattle.match_text.specs.Ranges.{AreRanges};
+ghost use Rattle.match_text.specs.declared.ranges.TheConstants.{SECOND};
 ghost use Rattle.match_text.specs.Words.{placement_in};
 ghost use Rattle.match_text.specs.Place.{Reads, entries, some_entries, times, fail};
 ghost use Rattle.match_puzzle.specs.declared.placements.Placement.{Placement as PlacementOf};
 ghost use Rattle.match_text.specs.Bytes.{line_ends};
 ghost use Rattle.match_text.specs.declared.faults.TextKind.TheVariants as kinds;
-ghost use Rattle.match_text.specs.ListSpelling.{list_spelling, IsSpelledIn};
+ghost use Rattle.match_text.specs.ListSpelling.{list_spelling, IsListWithin, IsSpelledIn};
 ghost use Rattle.match_text.specs.Lists.{arrangement_line, list_text, list_of, list_said, said_of, ListGives};
 
 use crate::faults::{ListTextFault, ReadFault};
@@ -123,6 +124,8 @@ pub fn read_list(alloc: Global, text: &[u8]) -> Result<Vec<Arrangement>, ListTex
     // What is read is spelled so.
     ensures found { IfOk result (λ rows. (version : ℕ) × IsSpelledIn version rows.items
         × (text.now ≡ list_spelling version rows.items)) }
+    // It can be written.
+    ensures within { IfOk result (λ rows. IsListWithin SECOND rows.items) }
     // What is spelled so is read.
     ensures only { (version : ℕ) (rows : List (List PlacementOf)) → IsSpelledIn version rows
         → text.now ≡ list_spelling version rows → ListGives result (Ok rows) }
