@@ -1,10 +1,16 @@
+ghost use Rattle.std.specs.Prelude.{◌≤◌};
+
 use crate::meetings::Meeting;
 use cert_check::Answer;
 use cert_tree::read_certificate;
+use match_board::limits::MOST_WORKERS;
 use match_crew::{Gate, check_with};
 use sample_puzzles::{TURNING_TRIANGLE_CERTIFICATE, turning_triangle, turning_triangle_list};
+use std::alloc::Global;
+use std::sync::Wait;
 use std::sync::atomic::{AtomicBool, Ordering};
 use std::test::Fail;
+use std::thread::Threads;
 
 // Which of the first three lemmas it was told of. Where lemmas 0 and 1 are to look for each other, whether each came.
 #[derive(Drop)]
@@ -42,24 +48,30 @@ impl Gate for Watch {
     }
 }
 
-// One worker tells of each lemma, and so do two, who are at lemmas 0 and 1 at once.
-#[test]
-fn tells_of_each_lemma(rt: HostRuntime) -> Result<(), Fail> {
-    let alloc = rt.alloc();
+// Whether a check by so many workers ends well and tells of each lemma. Two are at lemmas 0 and 1 at once.
+fn tells_of_each<R: Threads + Wait + Sync>(rt: &R, alloc: Global, workers: u8) -> Result<bool, Fail>
+    requires { (1 ≤ workers) × (workers ≤ MOST_WORKERS) }
+{
     let puzzle = turning_triangle(alloc)?;
     let list = turning_triangle_list(alloc)?;
-    assert!(rt; list.len() == 1);
+    if list.len() != 1 {
+        return Err(Fail::new("another list"));
+    }
     let certificate = read_certificate(alloc, TURNING_TRIANGLE_CERTIFICATE)?;
-    for workers in [1, 2u8] {
-        let watch = Watch::new(workers == 2);
-        let answer = check_with(&rt, alloc, &puzzle, &list, &certificate, workers, 0, &watch)?;
-        assert!(rt; matches!(answer, Answer::Complete));
-        let told = watch.told.iter().all(|told| told.load(Ordering::SeqCst));
-        assert!(rt; told, "by {workers}");
-        let met = watch.met.iter().all(|met| met.load(Ordering::SeqCst));
-        if met != watch.are_to_meet {
-            return Err(Fail::new("no other thread came"));
-        }
+    let watch = Watch::new(workers == 2);
+    let answer = check_with(rt, alloc, &puzzle, &list, &certificate, workers, 0, &watch)?;
+    let met = watch.met.iter().all(|met| met.load(Ordering::SeqCst));
+    if met != watch.are_to_meet {
+        return Err(Fail::new("no other thread came"));
+    }
+    let told = watch.told.iter().all(|told| told.load(Ordering::SeqCst));
+    Ok(matches!(answer, Answer::Complete) && told)
+}
+
+#[test]
+fn tells_of_each_lemma(rt: HostRuntime) -> Result<(), Fail> {
+    for workers in [1, 2] {
+        assert!(rt; tells_of_each(&rt, rt.alloc(), workers)?, "by {workers}");
     }
     Ok(())
 }
