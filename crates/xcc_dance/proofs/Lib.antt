@@ -31,3 +31,4 @@ pub mod FewestLemmas
 pub mod BranchItemLemmas
 pub mod NodeWords
 pub mod MakingWords
+pub mod NothingChosenLemmas

@@ -50,9 +50,11 @@ pub record IsTableOf (x : Compiled) (t : NodeTable) : Type 0 where
   pub items : t.items ≡ primary_count x.puzzle + length x.shared + 1
   pub options : t.options ≡ length x.options
   pub table : IsNodeTable t.primaries t.items t.options t.entries.items t.starts.items
+  pub own : (item : ℕ) → item < t.items → slice_index_or t.entries.items item no_entry ≡ own_entry item
   pub nodes : (option : ℕ) (c : Choice) → slice_get x.options option ≡ Some c
       → AreNodesOf (cell_count x.puzzle.board) option c t.entries.items (start_of t.starts.items option)
       (start_of t.starts.items (option + 1))
+  pub root : (item : ℕ) → item < t.primaries → IsRootNode (t.items - 1) t.options t.entries.items t.starts.items item
 
 -- The node is the option's at the item.
 pub record IsNodeAt (t : NodeTable) (option item node : ℕ) : Type 0 where

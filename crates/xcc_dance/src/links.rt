@@ -246,3 +246,16 @@ impl<'a> Links<'a> {
         }
     }
 }
+
+/// Does nothing. Its promise is a law: links of one compiled puzzle with nothing chosen are the same, each link and
+/// each size. So links whose choices were all taken back are as new ones.
+pub fn links_with_nothing_chosen_are_one(first: &Links<'_>, second: &Links<'_>)
+    requires compiled { second.now.compiled ≡ first.now.compiled }
+    requires first { first.now.chosen ≡ [] }
+    requires second { second.now.chosen ≡ [] }
+    ensures { second.now ≡ first.now }
+{
+    // what is proved of the fields holds of all links
+    let _first = &first.chosen;
+    let _second = &second.chosen;
+}

@@ -10,6 +10,7 @@ ghost use Rattle.xcc_dance.specs.SearchTree.{IsSearchOf, picks_fewest};
 use crate::chooses::{Chooses, FewestOptions};
 use crate::cites::Cites;
 use crate::faults::SearchFault;
+use crate::links::links_with_nothing_chosen_are_one;
 use crate::paths::Path;
 use crate::progress::Progress;
 use crate::searching::walk;
@@ -148,4 +149,15 @@ impl<'a> Search<'a> {
             found: progress.found,
         })
     }
+}
+
+/// Does nothing. Its promise is a law: two searches of one compiled puzzle have the same links, each link and each
+/// size, where neither failed. So one that is done has the links of a new one.
+pub fn links_of_ready_searches_are_one(first: &Search<'_>, second: &Search<'_>)
+    requires compiled { second.now.links.compiled ≡ first.now.links.compiled }
+    requires first { first.now.failed ≡ false }
+    requires second { second.now.failed ≡ false }
+    ensures { second.now.links ≡ first.now.links }
+{
+    links_with_nothing_chosen_are_one(first.path.links(), second.path.links());
 }

@@ -34,5 +34,7 @@ returns c =
       items = omega (arith, c.primaries-primaries.ensures.count, c.secondaries.ensures.count);
       options = c.options-options.ensures.count;
       table = laid_table x c.requires c.primaries-primaries.result (c.primaries-primaries.result + c.secondaries.result + 1) c.options-options.result c.loop-item.entries.items c.loop-item.starts.items (subst (λ n. IsLaidOutTo x (c.primaries-primaries.result + c.secondaries.result + 1) c.options-options.result n c.loop-item.entries.items c.loop-item.starts.items) roots c.loop-item.invariant) c.primaries-primaries.ensures.count (omega (arith, c.primaries-primaries.ensures.count, c.secondaries.ensures.count)) c.options-options.ensures.count (let e = c.entries.ensures.count in let f = c.entries.ensures.few in let l = c.loop-item.invariant.long in omega (arith, p, q, e, f, l)) (omega (arith, p, o));
+      own = c.loop-item.invariant.own;
       nodes = λ option d at. c.loop-item.invariant.nodes option d (let lt = slice_get_within x.options option d at in omega (arith, lt, c.options-options.ensures.count)) at;
+      root = λ item lt. c.loop-item.invariant.root item (omega (arith, lt, roots));
     }
