@@ -1,5 +1,5 @@
 -- The tree of a search grows node by node.
-use Rattle.std.proofs.Common.{◌≡◌, ◌≢◌, ◌+◌, ◌++◌, ◌∷◌, [], ℕ, List, Option, None, Some, slice_get, length, arith, refl, ap, sym, ◌∙◌, subst, inl, inr, ⊎_elim}
+use Rattle.std.proofs.Common.{◌≡◌, ◌≢◌, ◌+◌, ◌++◌, ◌∷◌, [], ℕ, List, Option, None, Some, slice_get, length, arith, refl, sym, subst, inl, inr, ⊎_elim}
 use Rattle.match_board.specs.Board.{cell_count}
 use Rattle.match_puzzle.specs.declared.placements.Placement.{Placement}
 use Rattle.match_puzzle.specs.declared.placements.Pair.{Pair}
@@ -9,10 +9,12 @@ use Rattle.xcc_form.specs.Correspondence.{IsSolutionOf}
 use Rattle.cert_tree.specs.Tree.{Tree, Forest, branch, dead, found, same, image, none, more, count, tree_of, forest_of}
 use Rattle.cert_tree.specs.declared.nodes.Node.{Node, Found}
 use Rattle.cert_tree.proofs.TreeLemmas.{tree_of-Found}
+use Rattle.xcc_dance.specs.Clashes.{IsOpenAt}
 use Rattle.xcc_dance.specs.Chosen.{Selection, AreOpenAt, HasSize, with_option}
-use Rattle.xcc_dance.specs.Found.{IsNumberOf, IsDeadAt, IsBranchOn}
+use Rattle.xcc_dance.specs.Found.{IsNumberOf, IsDeadAt, IsBranchOn, branch_total}
 use Rattle.xcc_dance.specs.Progress.{AreKept}
-use Rattle.xcc_dance.specs.SearchTree.{Picks, Answers, IsAbout, IsAnswered, IsSearchTree, AreChildren, IsChild, AreBranchesOf}
+use Rattle.xcc_dance.specs.SearchTree.{Picks, Answers, IsAbout, IsSearchTree, AreChildren, IsChild, AreBranchesOf}
+use Rattle.xcc_dance.specs.Unfinished.{wanted, begun, IsNotCited, IsPartOfSearch, IsUnfinished, AreUnfinished}
 use Rattle.xcc_dance.specs.declared.cites.Cite.{Cite}
 use Rattle.xcc_dance.proofs.SizeLemmas.{AreOpenBefore}
 use Rattle.xcc_dance.proofs.GrowingLemmas.{last_at}
@@ -87,3 +89,35 @@ module _ (picks : Picks) where
     pub branch_searched : (cells number : ℕ) (children : Forest) (tree : Tree) → cells ≡ cell_count s.compiled.puzzle.board → picks s number → AreBranchesOf picks answers all s number children → IsBranchOn cells number children tree → IsSearchTree picks answers all s tree
     branch_searched cells number children tree e picked branches is = subst (IsSearchTree picks answers all s) (sym is.2)
         (number, about cells number is.0 e picked is.1, branches)
+
+  -- ---- a search that isn't done
+
+  -- a branch is wanted
+  pub wanted_here : (answers : Answers) (all : List (List Placement)) (s : Selection) (number size fuel : ℕ) → picks s number → HasSize (cover_of s.compiled) s.chosen number size → size ≢ 0 → fuel ≡ 0 → IsUnfinished picks answers all s fuel
+  wanted_here answers all s number size fuel picked ([], open_at, long) some e = absurd (some (sym long))
+  wanted_here answers all s number size fuel picked (option ∷ options, open_at, long) some e =
+      (wanted number, (picked, (option, open_at.only option (0, omega arith, refl))), sym e)
+
+  -- a branch is begun, whose children aren't done
+  pub begun_there : (answers : Answers) (all : List (List Placement)) (s : Selection) (number nodes total : ℕ) → picks s number → nodes + 1 ≡ total → AreUnfinished picks answers all s number nodes → IsUnfinished picks answers all s total
+  begun_there answers all s number nodes total picked e w = let h = w.3 in (begun number w.0 w.1, (picked, w.2), omega (arith, h, e))
+
+  -- the first children are done, and the next one isn't
+  pub next_begun : (answers answers' : Answers) (all all' : List (List Placement)) → StayAnswered answers answers' → AreKept all all' → (s chosen : Selection) (number option : ℕ) (trees : Forest) (nodes total : ℕ)
+      → chosen ≡ with_option s option → IsOpenAt (cover_of s.compiled) s.chosen number option → AreBranchesBefore picks answers all s number (Some option) trees → IsNotCited answers' chosen
+      → IsUnfinished picks answers' all' chosen nodes → nodes + branch_total trees ≡ total → AreUnfinished picks answers' all' s number total
+  next_begun answers answers' all all' still kept s chosen number option trees nodes total e is old not_cited w sums =
+      let h = w.2 in (
+        trees,
+        w.0,
+        record {
+          options = old.0;
+          next = option;
+          below = old.1;
+          children = children_stay answers answers' all all' still kept s old.0 trees old.2;
+          next_open = is;
+          not_cited = subst (IsNotCited answers') e not_cited;
+          searched = subst (λ t. IsPartOfSearch picks answers' all' t w.0) e w.1;
+        },
+        omega (arith, h, sums),
+      )

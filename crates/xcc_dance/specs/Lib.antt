@@ -3,8 +3,9 @@ pub mod Chosen
 pub mod Placing
 pub mod Found
 pub mod Progress
-pub mod Outcome
 pub mod SearchTree
+pub mod Unfinished
+pub mod Outcome
 pub mod Rings
 pub mod NodeLists
 pub mod NodeTables

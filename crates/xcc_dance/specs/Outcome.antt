@@ -8,8 +8,10 @@ use Rattle.cert_tree.specs.Tree.{Tree, tree_of}
 use Rattle.cert_tree.specs.TreeSpelling.{IsTreeWithin}
 use Rattle.xcc_form.specs.Options.{Compiled}
 use Rattle.xcc_dance.specs.LinkStates.{LinkState}
-use Rattle.xcc_dance.specs.Placing.{IsArrangementWith}
+use Rattle.xcc_dance.specs.Placing.{ArePairsOf, IsArrangementWith}
 use Rattle.xcc_dance.specs.Found.{branch_count, IsFoundBelow}
+use Rattle.xcc_dance.specs.SearchTree.{Picks, Answers, IsSearchTree}
+use Rattle.xcc_dance.specs.Unfinished.{IsUnfinished}
 use Rattle.xcc_dance.specs.declared.cites.Cite.{Cite}
 use Rattle.xcc_dance.specs.declared.cites.Cite.TheVariants.{Same, Image}
 use Rattle.xcc_dance.specs.declared.searches.Outcome.{Outcome}
@@ -42,3 +44,11 @@ IsOutcome before after prefix fuel (Done tree found) =
     IsSearched after.links.compiled prefix (tree_of tree) found.items after.branches × (after.links ≡ before.links)
     × (after.failed ≡ false)
 IsOutcome before after prefix fuel GaveUp = (after.branches ≡ fuel) × (after.failed ≡ true)
+
+-- The tree that a run came to is that of a search from the options of the prefix. Where it gave up, such a search is
+-- unfinished after as many branch nodes as there was fuel.
+abbrev pub IsSearchOf : Picks → Answers → Compiled → List Pair → (fuel : ℕ) → Outcome → Type 0
+IsSearchOf picks answers x prefix fuel (Done tree all) = (chosen : List ℕ) × ArePairsOf x chosen prefix
+    × IsSearchTree picks answers all.items (record { compiled = x; chosen = chosen }) (tree_of tree)
+IsSearchOf picks answers x prefix fuel GaveUp = (chosen : List ℕ) × ArePairsOf x chosen prefix
+    × ((all : List (List Placement)) × IsUnfinished picks answers all (record { compiled = x; chosen = chosen }) fuel)

@@ -4,15 +4,13 @@ use Rattle.match_board.specs.Board.{cell_count}
 use Rattle.match_puzzle.specs.declared.placements.Placement.{Placement}
 use Rattle.match_puzzle.specs.declared.placements.Pair.{Pair}
 use Rattle.match_puzzle.specs.declared.items.Item.{Item}
-use Rattle.cert_tree.specs.Tree.{Tree, Forest, branch, dead, found, same, image, none, more, tree_of}
-use Rattle.xcc_form.specs.Options.{Compiled, cover_of}
+use Rattle.cert_tree.specs.Tree.{Tree, Forest, branch, dead, found, same, image, none, more}
+use Rattle.xcc_form.specs.Options.{cover_of}
 use Rattle.xcc_form.specs.Correspondence.{IsSolutionOf}
 use Rattle.xcc_dance.specs.Chosen.{Selection, AreOpenAt, IsToBranchOn, with_option}
 use Rattle.xcc_dance.specs.Placing.{ArePairsOf}
 use Rattle.xcc_dance.specs.Found.{IsNumberOf, IsCitation}
 use Rattle.xcc_dance.specs.declared.cites.Cite.{Cite}
-use Rattle.xcc_dance.specs.declared.searches.Outcome.{Outcome}
-use Rattle.xcc_dance.specs.declared.searches.Outcome.TheVariants.{Done, GaveUp}
 
 -- what a rule may pick where these options are chosen, by its number
 abbrev pub Picks : Type 1
@@ -70,9 +68,3 @@ IsChild picks answers all s tree = IsAnswered answers s tree (IsSearchTree picks
 abbrev pub AreBranchesOf : Picks → Answers → List (List Placement) → Selection → (number : ℕ) → Forest → Type 0
 AreBranchesOf picks answers all s number children = (options : List ℕ)
     × AreOpenAt (cover_of s.compiled) s.chosen number options × AreChildren picks answers all s options children
-
--- The tree that a run came to is that of a search from the options of the prefix.
-abbrev pub IsSearchOf : Picks → Answers → Compiled → List Pair → Outcome → Type 0
-IsSearchOf picks answers x prefix (Done tree all) = (chosen : List ℕ) × ArePairsOf x chosen prefix
-    × IsSearchTree picks answers all.items (record { compiled = x; chosen = chosen }) (tree_of tree)
-IsSearchOf picks answers x prefix GaveUp = Unit {0}

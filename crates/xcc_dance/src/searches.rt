@@ -4,8 +4,8 @@ ghost use Rattle.std.specs.Prelude.{◌≡◌, ◌↔◌, ◌⊎◌, ◌≤◌, 
 ghost use Rattle.match_puzzle.specs.declared.placements.Pair.{Pair as Placed};
 ghost use Rattle.xcc_dance.specs.LinkStates.{selection_of};
 ghost use Rattle.xcc_dance.specs.Placing.{FitInTurn};
-ghost use Rattle.xcc_dance.specs.Outcome.{IsOutcome};
-ghost use Rattle.xcc_dance.specs.SearchTree.{IsSearchOf, picks_fewest};
+ghost use Rattle.xcc_dance.specs.Outcome.{IsOutcome, IsSearchOf};
+ghost use Rattle.xcc_dance.specs.SearchTree.{picks_fewest};
 
 use crate::chooses::{Chooses, FewestOptions};
 use crate::cites::Cites;
@@ -97,7 +97,8 @@ impl<'a> Search<'a> {
             → C.takes cites.old pairs }
         ensures compiled { self.new.links.compiled ≡ self.old.links.compiled }
         ensures outcome { IfOk result (IsOutcome self.old self.new prefix.now fuel) }
-        ensures tree { IfOk result (IsSearchOf picks_fewest (C.answers cites.new) self.new.links.compiled prefix.now) }
+        ensures tree { IfOk result
+            (IsSearchOf picks_fewest (C.answers cites.new) self.new.links.compiled prefix.now fuel) }
         ensures most { self.new.branches ≤ fuel ⊎ IsErrOf result SearchFault.Failed }
         ensures failed { IsErrOf result SearchFault.Failed ↔ (self.old.failed ≡ true) }
         ensures memory { IsErrOf result SearchFault.Memory → self.new.failed ≡ true }
@@ -122,7 +123,7 @@ impl<'a> Search<'a> {
         ensures compiled { self.new.links.compiled ≡ self.old.links.compiled }
         ensures outcome { IfOk result (IsOutcome self.old self.new prefix.now fuel) }
         ensures tree { IfOk result
-            (IsSearchOf (R.picks rule.now) (C.answers cites.new) self.new.links.compiled prefix.now) }
+            (IsSearchOf (R.picks rule.now) (C.answers cites.new) self.new.links.compiled prefix.now fuel) }
         ensures most { self.new.branches ≤ fuel ⊎ IsErrOf result SearchFault.Failed }
         ensures failed { IsErrOf result SearchFault.Failed ↔ (self.old.failed ≡ true) }
         ensures memory { IsErrOf result SearchFault.Memory → self.new.failed ≡ true }

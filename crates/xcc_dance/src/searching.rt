@@ -10,6 +10,7 @@ ghost use Rattle.xcc_dance.specs.Placing.{FitInTurn};
 ghost use Rattle.xcc_dance.specs.Found.{IsDeadAt, IsBranchOn, IsCitation};
 ghost use Rattle.xcc_dance.specs.Progress.{GoesOn, IsTreeOf, AreTreesOf};
 ghost use Rattle.xcc_dance.specs.SearchTree.{IsSearchTree, IsChild, AreBranchesOf};
+ghost use Rattle.xcc_dance.specs.Unfinished.{IsNotCited, IsUnfinished, AreUnfinished};
 
 use crate::chooses::Chooses;
 use crate::cites::{Cite, Cites};
@@ -33,7 +34,10 @@ pub(crate) fn walk<R: Chooses, C: Cites>(
     ensures compiled { path.new.compiled ≡ path.old.compiled }
     ensures moved { C.moves cites.old cites.new }
     ensures goes_on { GoesOn (selection_of path.old) progress.old progress.new }
-    ensures tree { IfOk result (λ o. MatchOption o (progress.new.fuel ≡ 0)
+    ensures tree { IfOk result (λ o. MatchOption o
+        ((progress.new.fuel ≡ 0)
+        × IsUnfinished (R.picks rule.now) (C.answers cites.new) progress.new.found.items (selection_of path.old)
+        progress.old.fuel)
         (λ t. (path.new ≡ path.old) × IsTreeOf (selection_of path.old) progress.old progress.new (tree_of t)
         × IsSearchTree (R.picks rule.now) (C.answers cites.new) progress.new.found.items (selection_of path.old) (tree_of t))) }
 {
@@ -73,7 +77,10 @@ fn walk_options<R: Chooses, C: Cites>(
     ensures compiled { path.new.compiled ≡ path.old.compiled }
     ensures moved { C.moves cites.old cites.new }
     ensures goes_on { GoesOn (selection_of path.old) progress.old progress.new }
-    ensures trees { IfOk result (λ o. MatchOption o (progress.new.fuel ≡ 0)
+    ensures trees { IfOk result (λ o. MatchOption o
+        ((progress.new.fuel ≡ 0)
+        × AreUnfinished (R.picks rule.now) (C.answers cites.new) progress.new.found.items (selection_of path.old)
+        item progress.old.fuel)
         (λ c. (path.new ≡ path.old)
         × AreTreesOf (selection_of path.old) progress.old progress.new (forest_of c.nodes.items)
         × AreBranchesOf (R.picks rule.now) (C.answers cites.new) progress.new.found.items (selection_of path.old) item (forest_of c.nodes.items))) }
@@ -106,7 +113,10 @@ fn child<R: Chooses, C: Cites>(
     ensures compiled { path.new.compiled ≡ path.old.compiled }
     ensures moved { C.moves cites.old cites.new }
     ensures goes_on { GoesOn (selection_of path.old) progress.old progress.new }
-    ensures tree { IfOk result (λ o. MatchOption o (progress.new.fuel ≡ 0)
+    ensures tree { IfOk result (λ o. MatchOption o
+        ((progress.new.fuel ≡ 0) × IsNotCited (C.answers cites.new) (selection_of path.old)
+        × IsUnfinished (R.picks rule.now) (C.answers cites.new) progress.new.found.items (selection_of path.old)
+        progress.old.fuel)
         (λ t. (path.new ≡ path.old) × IsTreeOf (selection_of path.old) progress.old progress.new (tree_of t)
         × IsChild (R.picks rule.now) (C.answers cites.new) progress.new.found.items (selection_of path.old) (tree_of t))) }
 {

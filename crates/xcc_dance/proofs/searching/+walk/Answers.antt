@@ -13,10 +13,11 @@ use Rattle.xcc_dance.specs.Chosen.{Selection, IsSelection, IsUncovered, AreAllCo
 use Rattle.xcc_dance.specs.LinkStates.{LinkState, selection_of, taken_back}
 use Rattle.xcc_dance.specs.Placing.{FitInTurn}
 use Rattle.xcc_dance.specs.Progress.{IsTreeOf, AreTreesOf}
-use Rattle.xcc_dance.specs.SearchTree.{IsSearchTree, AreChildren, IsChild, AreBranchesOf}
+use Rattle.xcc_dance.specs.SearchTree.{AreChildren, IsChild, AreBranchesOf}
+use Rattle.xcc_dance.specs.Unfinished.{IsNotCited, IsUnfinished, AreUnfinished}
 use Rattle.xcc_dance.specs.declared.progress.Progress.{Progress}
 use Rattle.xcc_dance.proofs.SizeLemmas.{open_first, open_next, open_all}
-use Rattle.xcc_dance.proofs.SearchTreeLemmas.{AreBranchesBefore, children_stay, children_count, child_more, branches_count, found_searched, dead_searched, branch_searched}
+use Rattle.xcc_dance.proofs.SearchTreeLemmas.{AreBranchesBefore, children_stay, children_count, child_more, branches_count, found_searched, dead_searched, branch_searched, wanted_here, begun_there, next_begun}
 use Rattle.xcc_dance.proofs.GrowingLemmas.{next_open}
 use Rattle.xcc_dance.proofs.WalkLemmas.{goes_further, found_further, leaf_tree, dead_tree, branch_tree, no_trees, one_more_tree, room_for_one}
 use Rattle.xcc_dance.proofs.searching.+walk.Goals as goal
@@ -83,7 +84,7 @@ walk-returns-in-Some-2-clause-tree g t c =
     let picks = g.R.Chooses.picks c.args.rule.now in
     let answers = g.C.Cites.answers c.walk_options.new.cites in
     let of_children : LinkState → Children → Type 0 = λ (v : LinkState) (ch : Children). (c.walk_options.new.path ≡ v) × AreTreesOf (selection_of v) before after (forest_of ch.nodes.items) × AreBranchesOf picks answers after.found.items (selection_of v) c.in-Some.item (forest_of ch.nodes.items) in
-    let there = subst (λ o. MatchOption o (after.fuel ≡ 0) (of_children c.choose_item.new.self)) c.in-Some-2.is c.in_ok-walk_options.ensures.trees in
+    let there = subst (λ o. MatchOption o ((after.fuel ≡ 0) × AreUnfinished picks answers after.found.items (selection_of c.choose_item.new.self) c.in-Some.item before.fuel) (of_children c.choose_item.new.self)) c.in-Some-2.is c.in_ok-walk_options.ensures.trees in
     let trees = subst (λ (v : LinkState). of_children v c.in-Some-2.children) c.choose_item.ensures.same there in
     let sized = subst (λ (v : LinkState). HasSize (cover_of v.compiled) v.chosen c.in-Some.item c.size.result) same c.size.ensures in
     let right = subst (λ (v : LinkState). IsSelection v.compiled v.chosen) c.choose_item.ensures.same c.links-links.ensures.right in
@@ -96,6 +97,27 @@ walk-returns-in-Some-2-clause-tree g t c =
       branch_tree s c.args.progress.now before after c.cells-cells.result c.in-Some.item c.size.result children (tree_of c.branch_node.result) right (omega (arith, c.if-progress-eq0.false)) refl c.cells-cells.ensures.most (few c.in-Some.item uncovered.primary) sized c.if-size-eq0.false (branches_count picks answers after.found.items s c.in-Some.item children trees.2) trees.1 c.branch_node.ensures,
       branch_searched picks answers after.found.items s c.cells-cells.result c.in-Some.item children (tree_of c.branch_node.result) cells picked trees.2 c.branch_node.ensures,
     )
+
+pub walk-returns-then-progress-eq0-clause-tree : goal.walk-returns-then-progress-eq0-clause-tree
+walk-returns-then-progress-eq0-clause-tree g t c =
+    let s = selection_of c.args.path.now in
+    let same = c.links-links.ensures.same ∙ c.choose_item.ensures.same in
+    let picks = g.R.Chooses.picks c.args.rule.now in
+    let sized = subst (λ (v : LinkState). HasSize (cover_of v.compiled) v.chosen c.in-Some.item c.size.result) same c.size.ensures in
+    let picked = subst (λ o. IfSome o (picks s)) c.in-Some.is c.in_ok-item.ensures.picked in
+    (c.if-progress-eq0.true, wanted_here picks (g.C.Cites.answers c.args.cites.now) c.args.progress.now.found.items s c.in-Some.item c.size.result c.args.progress.now.fuel picked sized c.if-size-eq0.false c.if-progress-eq0.true)
+
+pub walk-returns-in-None-clause-tree : goal.walk-returns-in-None-clause-tree
+walk-returns-in-None-clause-tree g t c =
+    let s = selection_of c.args.path.now in
+    let fuel = c.args.progress.now.fuel - 1 in
+    let after = c.walk_options.new.progress in
+    let picks = g.R.Chooses.picks c.args.rule.now in
+    let answers = g.C.Cites.answers c.walk_options.new.cites in
+    let there = rw c.in-None.is at c.in_ok-walk_options.ensures.trees in
+    let unfinished = subst (λ (v : LinkState). AreUnfinished picks answers after.found.items (selection_of v) c.in-Some.item fuel) c.choose_item.ensures.same there.1 in
+    let picked = subst (λ o. IfSome o (picks s)) c.in-Some.is c.in_ok-item.ensures.picked in
+    (there.0, begun_there picks answers after.found.items s c.in-Some.item fuel c.args.progress.now.fuel picked (omega (arith, c.if-progress-eq0.false)) unfinished)
 
 pub walk_options-loop-next-init : goal.walk_options-loop-next-init
 walk_options-loop-next-init g t c =
@@ -145,7 +167,7 @@ walk_options-loop-next-preserved g t c =
     let answers' = g.C.Cites.answers c.child.new.cites in
     let found = c.loop-next.progress.found.items in
     let found' = c.child.new.progress.found.items in
-    let tree = subst (λ o. MatchOption o (c.child.new.progress.fuel ≡ 0) (λ (n : Node). (c.child.new.path ≡ c.choose.new.self) × IsTreeOf (selection_of c.choose.new.self) c.loop-next.progress c.child.new.progress (tree_of n) × IsChild picks answers' found' (selection_of c.choose.new.self) (tree_of n))) c.in-Some-2.is w.tree in
+    let tree = subst (λ o. MatchOption o ((c.child.new.progress.fuel ≡ 0) × IsNotCited answers' (selection_of c.choose.new.self) × IsUnfinished picks answers' found' (selection_of c.choose.new.self) c.loop-next.progress.fuel) (λ (n : Node). (c.child.new.path ≡ c.choose.new.self) × IsTreeOf (selection_of c.choose.new.self) c.loop-next.progress c.child.new.progress (tree_of n) × IsChild picks answers' found' (selection_of c.choose.new.self) (tree_of n))) c.in-Some-2.is w.tree in
     let back = c.undo.ensures ∙ ap taken_back tree.0 ∙ c.in_ok-choose.ensures.before ∙ i.path in
     let open_option = subst (λ o. MatchOption o (Unit {0}) (IsOpenAt (cover_of s.compiled) s.chosen c.args.item)) c.in-Some.is i.next in
     let old = subst (λ o. AreBranchesBefore picks answers found s c.args.item o (forest_of c.loop-next.nodes.items)) c.in-Some.is i.children in
@@ -181,6 +203,25 @@ walk_options-returns-clause-trees g t c =
       i.path,
       subst (λ ns. AreTreesOf s c.args.progress.now c.loop-next.progress (forest_of ns)) (sym same) i.trees,
       subst (λ ns. AreBranchesOf picks answers found s c.args.item (forest_of ns)) (sym same) (all.0, open_all (cover_of s.compiled) s.chosen c.args.item all.0 all.1, all.2),
+    )
+
+pub walk_options-returns-in-None-clause-trees : goal.walk_options-returns-in-None-clause-trees
+walk_options-returns-in-None-clause-trees g t c =
+    let s = selection_of c.args.path.now in
+    let i = c.loop-next.invariant in
+    let w = c.in_ok-child.ensures in
+    let picks = g.R.Chooses.picks c.args.rule.now in
+    let answers = g.C.Cites.answers c.loop-next.cites in
+    let answers' = g.C.Cites.answers c.child.new.cites in
+    let found = c.loop-next.progress.found.items in
+    let found' = c.child.new.progress.found.items in
+    let trees = forest_of c.loop-next.nodes.items in
+    let there = rw c.in-None.is at w.tree in
+    let open_option = subst (λ o. MatchOption o (Unit {0}) (IsOpenAt (cover_of s.compiled) s.chosen c.args.item)) c.in-Some.is i.next in
+    let old = subst (λ o. AreBranchesBefore picks answers found s c.args.item o trees) c.in-Some.is i.children in
+    let with = c.in_ok-choose.ensures.chosen ∙ ap (λ v. with_option (selection_of v) c.in-Some.option) i.path in (
+      there.0,
+      next_begun picks answers answers' found found' (λ pairs o is. g.met.C.Cites.answers_still c.loop-next.cites c.child.new.cites pairs o w.moved is) w.goes_on.kept s (selection_of c.choose.new.self) c.args.item c.in-Some.option trees c.loop-next.progress.fuel c.args.progress.now.fuel with open_option old there.1 there.2 i.trees.spent,
     )
 
 pub walk_options-returns-in_err-child-clause-goes_on : goal.walk_options-returns-in_err-child-clause-goes_on

@@ -9,6 +9,7 @@ use Rattle.xcc_dance.specs.Placing.{FitInTurn, IsArrangementWith}
 use Rattle.xcc_dance.specs.Progress.{IsTreeOf, levels_below}
 use Rattle.xcc_dance.specs.Outcome.{SearchState}
 use Rattle.xcc_dance.specs.SearchTree.{IsSearchTree}
+use Rattle.xcc_dance.specs.Unfinished.{IsUnfinished}
 use Rattle.xcc_dance.proofs.PlacingLemmas.{found_extends}
 use Rattle.xcc_dance.proofs.WithinLemmas.{deeper}
 use Rattle.xcc_dance.proofs.searches.Search.run_by.Goals as goal
@@ -26,7 +27,9 @@ returns-clause-outcome g c =
     let s = c.choose_all.new.self in
     let after = c.walk-walked.new.progress in
     let w = c.in_ok-tree.ensures in
-    let tree = subst (λ o. MatchOption o (after.fuel ≡ 0) (λ (n : Node). (c.walk-walked.new.path ≡ s) × IsTreeOf (selection_of s) (record { fuel = c.args.fuel; found = c.new-found.result }) after (tree_of n) × IsSearchTree (g.R.Chooses.picks c.args.rule.now) (g.C.Cites.answers c.walk-walked.new.cites) after.found.items (selection_of s) (tree_of n))) c.in-Some.is w.tree in
+    let picks = g.R.Chooses.picks c.args.rule.now in
+    let answers = g.C.Cites.answers c.walk-walked.new.cites in
+    let tree = subst (λ o. MatchOption o ((after.fuel ≡ 0) × IsUnfinished picks answers after.found.items (selection_of s) c.args.fuel) (λ (n : Node). (c.walk-walked.new.path ≡ s) × IsTreeOf (selection_of s) (record { fuel = c.args.fuel; found = c.new-found.result }) after (tree_of n) × IsSearchTree picks answers after.found.items (selection_of s) (tree_of n))) c.in-Some.is w.tree in
     let t = tree.1 in
     let back : c.undo_all.new.self ≡ c.self.inside.path = c.undo_all.ensures ∙ ap before_any tree.0 ∙ c.in_ok-choose_all.ensures.before in
     let links : c.undo_all.new.self ≡ c.args.self.now.links = back ∙ ap (λ (v : SearchState). v.links) c.self.view_is in
