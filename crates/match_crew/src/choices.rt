@@ -89,11 +89,15 @@ impl<'a, 'h> Choices<'a, 'h> {
         }
         self.gives
             && placed.len() <= self.level.saturating_add(LEVELS_GIVEN)
-            && !self
-                .rules
-                .plan
-                .images
-                .may_come(&Placed::of(placed), self.number)
+            && !self.may_cite_below(placed)
+    }
+
+    // Whether a later lemma may still be cited below. It stands apart, so that its table of what is placed doesn't lie
+    // on the stack at each level of the search.
+    #[inline(never)]
+    fn may_cite_below(&self, placed: &[Pair]) -> bool {
+        let images = &self.rules.plan.images;
+        images.may_come(&Placed::of(placed), self.number)
     }
 }
 
