@@ -12,8 +12,8 @@ use std::{env, io};
 // The exit status where the words can't be read.
 const UNREAD_WORDS: u8 = 2;
 
-// A stack that is enough, in bytes: a search of 256 cells takes 1.5 MiB. Threads get as much as the limit on stacks says.
-const STACK_LEN: usize = 0x20_0000;
+// A stack that is enough, in bytes: 256 cells take a fifth of it. Threads get as much as the limit on stacks says.
+const STACK_LEN: usize = 0x10_0000;
 
 // The stack that a program begins with grows as it is used, and where it can't, the system ends the program. So where
 // memory is limited, all is done on a thread, whose stack is there when it starts.
