@@ -34,9 +34,9 @@ def listing(rows):
     return "\n".join(["list 1", f"arrangements {len(rows)}", *rows, "end", ""])
 
 
-def certificate(symmetries, lemmas):
+def certificate(symmetries, lemmas, version=1):
     """Of lines of symmetries, and of lemmas, each a prefix and a tree."""
-    lines = ["certificate 1", f"symmetries {len(symmetries)}", *symmetries, f"lemmas {len(lemmas)}"]
+    lines = [f"certificate {version}", f"symmetries {len(symmetries)}", *symmetries, f"lemmas {len(lemmas)}"]
     for number, (prefix, tree) in enumerate(lemmas):
         lines.append(" ".join(["lemma", str(number), "prefix", *prefix, "tree", tree]))
     return "\n".join(lines + ["end", ""])
@@ -100,6 +100,14 @@ def dead_tiles(size):
     tree = branches([50, 20], 198, 2, "e 0")
     tiles = ["1111"] + ["0102"] * 99
     return CHECK, puzzle(ROW, "yes", "one 0", tiles), listing([]), certificate([], repeated(size, ([], tree)))
+
+
+def dead_tiles_of_a_shape(size):
+    """The same of 256 cells."""
+    board = "\n".join(["shape 256 1", "row " + "#" * 256])
+    tree = branches([50, 20], 510, 2, "e 0")
+    tiles = ["1111"] + ["0102"] * 255
+    return CHECK, puzzle(board, "yes", "one 0", tiles, []), listing([]), certificate([], repeated(size, ([], tree)), 2)
 
 
 def tile_branches(size):
@@ -257,9 +265,9 @@ def expansion(size):
     return orbit(OPTIONS.members, min(1024, size // 640))
 
 
-INPUTS = [plain_tree, dead_tiles, tile_branches, same_citations, image_citations, found, symmetries, mated_symmetries,
-          short_lemmas, forked, falling_list, long_falling_list, late_fault, long_number, long_mates, empty_words,
-          expansion]
+INPUTS = [plain_tree, dead_tiles, dead_tiles_of_a_shape, tile_branches, same_citations, image_citations, found,
+          symmetries, mated_symmetries, short_lemmas, forked, falling_list, long_falling_list, late_fault, long_number,
+          long_mates, empty_words, expansion]
 
 
 def run(program, words, texts):
