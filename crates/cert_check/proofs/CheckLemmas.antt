@@ -5,7 +5,6 @@ use Rattle.std.proofs.lemmas.Bool.{cases_lt}
 use Rattle.match_board.specs.First.{Rank, AtMost, IsLeast, IsFirst}
 use Rattle.match_puzzle.specs.Puzzle.{Task}
 use Rattle.match_puzzle.specs.Arrangement.{IsArrangement}
-use Rattle.match_puzzle.specs.Prefix.{empty_prefix, with_pairs}
 use Rattle.match_puzzle.specs.declared.placements.Pair.{Pair}
 use Rattle.match_puzzle.proofs.Prefixes.{inside}
 use Rattle.puzzle_symmetry.specs.Motion.{Motion}
@@ -23,7 +22,7 @@ use Rattle.cert_tree.specs.Certificate.{Contents, Piece}
 use Rattle.cert_check.specs.declared.faults.TreeFault.{TreeFault}
 use Rattle.cert_check.specs.declared.faults.Fault.{Fault}
 use Rattle.cert_check.specs.declared.faults.Fault.TheVariants as faults
-use Rattle.cert_check.specs.Setting.{Question, Setting, question_of, prefix_of, line_of, setting_at, setting_of}
+use Rattle.cert_check.specs.Setting.{Question, Setting, question_of, prefix_of, line_of, motion_of, AreOfPuzzle, setting_at, setting_of}
 use Rattle.cert_check.specs.NodeRules.{Holds}
 use Rattle.cert_check.specs.TreeFaults.{FailsAt}
 use Rattle.cert_check.specs.Derivation.{start_of, HavePrefixes, HasRoot, TreesHold}
@@ -33,6 +32,7 @@ use Rattle.cert_check.specs.declared.symmetries.SymmetriesFault.{SymmetriesFault
 use Rattle.cert_check.specs.declared.symmetries.SymmetriesFault.TheVariants.{Line, Memory}
 use Rattle.cert_check.specs.Lines.{LineFails as LineFailsAt, LinesFail}
 use Rattle.cert_check.specs.Walk.{Tells, TellsOfLemma, TellsOfListing}
+use Rattle.cert_check.proofs.ListLemmas.{mapped_at}
 use Rattle.cert_check.proofs.PrefixLemmas.{start_long}
 use Rattle.cert_check.proofs.FaultLemmas.{holds_not_fails}
 use Rattle.cert_check.proofs.AnswerLemmas.{arrangement_no_fault, prefix_no_fault}
@@ -210,15 +210,26 @@ earlier_is lemmas zero = refl
 earlier_is [] (suc number) = refl
 earlier_is (lemma ∷ lemmas) (suc number) = ap (λ rest. lemma.prefix ∷ rest) (earlier_is lemmas number)
 
--- what the walk of a lemma's tree says
-pub tells_lemma : (p : Task) (listed : List (List Placement)) (certificate : Contents) (motions : List Motion) (number : ℕ) (lemma : Piece) (said : Option TreeFault) →
-    map line_of motions ≡ certificate.symmetries → slice_get certificate.lemmas number ≡ Some lemma →
-    Tells (setting_of p listed motions (take number certificate.lemmas)) lemma.tree (with_pairs lemma.prefix (empty_prefix p)) said → TellsOfLemma (question_of p listed certificate) number said
-tells_lemma p listed certificate motions number lemma said lines at told =
+-- the lines of the symmetries with these lines
+pub lines_of : (p : Task) (lines : List SymmetryLine) → map line_of (map (motion_of p) lines) ≡ lines
+lines_of p [] = refl
+lines_of p (g ∷ lines) = ap (λ gs. g ∷ gs) (lines_of p lines)
+
+-- they are of the puzzle
+pub are_of_puzzle : (p : Task) (lines : List SymmetryLine) → AreOfPuzzle p (map (motion_of p) lines)
+are_of_puzzle p lines number m at = let from = mapped_at (motion_of p) lines number m at in ap (λ (n : Motion). n.puzzle) from.2
+
+-- what the tree of the lemma with this number may name
+pub setting_is : (p : Task) (listed : List (List Placement)) (certificate : Contents) (motions : List Motion) (number : ℕ) → motions ≡ map (motion_of p) certificate.symmetries →
+    setting_of p listed motions (take number certificate.lemmas) ≡ setting_at (question_of p listed certificate) number
+setting_is p listed certificate motions number made =
     let of : List SymmetryLine → List (List Pair) → Setting = λ gs earlier. record { puzzle = p; listed = listed; symmetries = gs; earlier = earlier } in
-    let same : setting_of p listed motions (take number certificate.lemmas) ≡ setting_at (question_of p listed certificate) number =
-    ap (λ gs. of gs (map prefix_of (take number certificate.lemmas))) lines ∙ ap (of certificate.symmetries) (earlier_is certificate.lemmas number) in
-    (lemma, at, subst (λ s. Tells s lemma.tree (with_pairs lemma.prefix (empty_prefix p)) said) same told)
+    ap (λ gs. of gs (map prefix_of (take number certificate.lemmas))) (ap (map line_of) made ∙ lines_of p certificate.symmetries) ∙ ap (of certificate.symmetries) (earlier_is certificate.lemmas number)
+
+-- what the walk of a lemma's tree says
+pub tells_lemma : (question : Question) (number : ℕ) (lemma : Piece) (setting : Setting) (said : Option TreeFault) → setting ≡ setting_at question number → slice_get question.lemmas number ≡ Some lemma →
+    Tells setting lemma.tree (start_of setting.puzzle lemma) said → TellsOfLemma question number said
+tells_lemma question number lemma setting said is at told = (lemma, at, subst (λ (s : Setting). Tells s lemma.tree (start_of s.puzzle lemma) said) is told)
 
 -- the lemmas before one that holds, and that one
 pub each_lemma : (P : ℕ → Piece → Type 0) (lemmas : List Piece) (n : ℕ) (lemma : Piece) → ((k : ℕ) (x : Piece) → k < n → slice_get lemmas k ≡ Some x → P k x) → slice_get lemmas n ≡ Some lemma → P n lemma →

@@ -1,7 +1,7 @@
 -- What the checker has to answer.
 use Rattle.std.specs.Prelude.{◌≡◌, ◌<◌, ℕ, List, Some, slice_get}
 use Rattle.match_board.specs.First.{Rank, IsFirst, rank_by, rank_by_two}
-use Rattle.match_puzzle.specs.Puzzle.{Task}
+use Rattle.match_puzzle.specs.Puzzle.{Task, IsPuzzle}
 use Rattle.match_puzzle.specs.Arrangement.{IsArrangement}
 use Rattle.match_puzzle.specs.ArrangementFaults.{IsArrangementFault}
 use Rattle.match_puzzle.specs.PrefixFaults.{IsPrefixFault}
@@ -9,13 +9,14 @@ use Rattle.match_puzzle.specs.declared.placements.Placement.{Placement}
 use Rattle.puzzle_symmetry.specs.Symmetry.{IsSymmetry}
 use Rattle.puzzle_symmetry.specs.SymmetryFaults.{IsSymmetryFault}
 use Rattle.puzzle_symmetry.specs.Reached.{IsReached}
+use Rattle.puzzle_symmetry.specs.Motion.{Motion}
 use Rattle.puzzle_symmetry.specs.declared.lines.SymmetryLine.{SymmetryLine}
 use Rattle.cert_check.specs.declared.faults.Fault.{Fault}
 use Rattle.cert_check.specs.declared.faults.Fault.TheVariants as faults
 use Rattle.cert_check.specs.declared.faults.Answer.{Answer}
 use Rattle.cert_check.specs.declared.faults.Answer.TheVariants.{Complete, Refused}
 use Rattle.cert_tree.specs.Certificate.{Piece}
-use Rattle.cert_check.specs.Setting.{Question, setting_at}
+use Rattle.cert_check.specs.Setting.{Question, motions_of, setting_at}
 use Rattle.cert_check.specs.TreeFaults.{FailsAt}
 use Rattle.cert_check.specs.Covered.{IsCovered}
 use Rattle.cert_check.specs.Derivation.{start_of, HavePrefixes, HasRoot, IsDerivation}
@@ -35,10 +36,9 @@ RepeatsEarlier listed number =
     × (slice_get listed number ≡ Some a)
 
 -- No two places have the same.
-abbrev pub AreDistinct : List (List Placement) → Type 0
-AreDistinct listed =
-    (place other : ℕ) (a : List Placement) → slice_get listed place ≡ Some a → slice_get listed other ≡ Some a
-    → place ≡ other
+abbrev pub AreDistinct : {X : Type 0} → List X → Type 0
+AreDistinct {X} xs =
+    (place other : ℕ) (x : X) → slice_get xs place ≡ Some x → slice_get xs other ≡ Some x → place ≡ other
 
 -- Different arrangements of the puzzle, from which symmetries of it reach all that there are.
 pub record IsCompleteList (p : Task) (lines : List SymmetryLine) (listed : List (List Placement)) : Type 0 where
@@ -61,6 +61,12 @@ pub record IsPrepared (question : Question) : Type 0 where
   pub symmetries : AreSymmetries question.puzzle question.symmetries
   pub prefixes : HavePrefixes question
   pub root : HasRoot question.lemmas
+
+-- All is right but perhaps the trees, and these are the symmetries of the lines.
+pub record IsPreparedWith (question : Question) (motions : List Motion) : Type 0 where
+  pub puzzle : IsPuzzle question.puzzle
+  pub prepared : IsPrepared question
+  pub symmetries : motions ≡ motions_of question
 
 -- Each arrangement that extends a lemma's prefix is reached.
 abbrev pub AreCovered : Question → Type 0

@@ -53,6 +53,14 @@ setting_at question number = record {
   earlier = take number (map prefix_of question.lemmas);
 }
 
+-- a line as a symmetry of the puzzle
+abbrev pub motion_of : Task → SymmetryLine → Motion
+motion_of p g = record { puzzle = p; line = g }
+
+-- the symmetries of a question's lines
+abbrev pub motions_of : Question → List Motion
+motions_of question = map (motion_of question.puzzle) question.symmetries
+
 -- the line that a symmetry was made of
 abbrev pub line_of : Motion → SymmetryLine
 line_of m = m.line

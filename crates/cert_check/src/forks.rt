@@ -3,19 +3,21 @@
 ghost use Rattle.std.specs.Prelude.{◌≡◌, ◌≢◌, ◌<◌, ◌≤◌, ◌^◌, ℕ, List, IfOk, None, Ok, length, map, drop};
 ghost use Rattle.std.specs.Fn.{FnReturnsAt};
 ghost use Rattle.std.specs.Thread.{IsSync};
-ghost use Rattle.match_puzzle.specs.Puzzle.{IsPuzzle};
+ghost use Rattle.match_puzzle.specs.PrefixFaults.{IsPairList};
 ghost use Rattle.match_puzzle.specs.Fitting.{AreFitting, IsItem};
 ghost use Rattle.match_puzzle.specs.declared.placements.Pair.{Pair};
 ghost use Rattle.cert_tree.specs.Tree.{branch, count, none};
 ghost use Rattle.cert_tree.specs.Heads.{first, front, past};
-ghost use Rattle.cert_check.specs.Setting.{question_of, line_of, AreOfPuzzle, BeginWithPrefixes};
+ghost use Rattle.cert_tree.specs.Certificate.{flat_piece};
+ghost use Rattle.cert_check.specs.Setting.{question_of, motion_of, BeginWithPrefixes};
+ghost use Rattle.cert_check.specs.Derivation.{start_of};
 ghost use Rattle.cert_check.specs.Walk.{Tells, HasChildren, TellsOfChildren, TellsOfLemma};
 
 use crate::faults::TreeFault;
 use crate::node_faults::branch_fault;
 use crate::settings::Setting;
 use crate::walks::{at_top, walk};
-use cert_tree::{Certificate, Head, Trees};
+use cert_tree::{Certificate, FlatLemma, Head, Trees};
 use match_board::limits::MOST_FORKS;
 use match_puzzle::{Arrangement, FittingPairs, Item, Partial, Puzzle};
 use puzzle_symmetry::Symmetry;
@@ -38,21 +40,32 @@ pub fn forked_tree_fault<R: Threads + Sync>(
     lemma: u32,
     forks: u8,
 ) -> Result<Option<TreeFault>, AllocError>
-    requires puzzle { AreOfPuzzle puzzle.now symmetries.now }
-    requires lines { map line_of symmetries.now ≡ certificate.now.symmetries }
+    requires symmetries { symmetries.now ≡ map (motion_of puzzle.now) certificate.now.symmetries }
     requires prefixes { BeginWithPrefixes puzzle.now certificate.now.lemmas }
     requires lemma { lemma < length certificate.now.lemmas }
     requires forks { forks ≤ MOST_FORKS }
-    ensures tree { IfOk result (TellsOfLemma (question_of puzzle.now listed.now certificate.now) lemma) }
-    ensures made { IfOk result (λ r. IsPuzzle puzzle.now) }
+    ensures { IfOk result (TellsOfLemma (question_of puzzle.now listed.now certificate.now) lemma) }
 {
-    let lemmas = certificate.lemmas();
-    let number = lemma as usize;
-    let lemma = lemmas.at(number);
-    let setting = Setting::new(puzzle, listed, symmetries, lemmas, number);
-    let mut partial = Partial::of(alloc, puzzle, lemma.prefix)?;
+    let setting = Setting::new(puzzle, listed, symmetries, certificate, lemma);
+    let lemma = certificate.lemmas().at(lemma as usize);
+    forked_lemma_fault(rt, alloc, &setting, &lemma, forks)
+}
+
+// The first fault of the lemma's tree in what it may name, or none where it holds.
+pub(crate) fn forked_lemma_fault<R: Threads + Sync>(
+    rt: &R,
+    alloc: Global,
+    setting: &Setting<'_>,
+    lemma: &FlatLemma<'_>,
+    forks: u8,
+) -> Result<Option<TreeFault>, AllocError>
+    requires { IsPairList setting.now.puzzle lemma.now.prefix.now }
+    ensures { IfOk result
+        (Tells setting.now lemma.now.tree (start_of setting.now.puzzle (flat_piece lemma.now))) }
+{
+    let mut partial = Partial::of(alloc, setting.puzzle(), lemma.prefix)?;
     let trees = lemma.tree.trees();
-    forked_walk(rt, alloc, &setting, forks, &trees, &mut partial)
+    forked_walk(rt, alloc, setting, forks, &trees, &mut partial)
 }
 
 // The first fault of the first tree at what is placed, in preorder, or none where it holds; what is placed is then as

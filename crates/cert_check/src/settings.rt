@@ -1,10 +1,10 @@
 //! What the tree of a lemma may name.
 
-ghost use Rattle.std.specs.Prelude.{◌≡◌, ◌≤◌, ℕ, IfSome, None, Some, length, map, take, slice_get};
+ghost use Rattle.std.specs.Prelude.{◌≡◌, ◌<◌, ◌≤◌, IfSome, None, Some, length, map, slice_get};
 ghost use Rattle.match_puzzle.specs.PrefixFaults.{IsPairList};
-ghost use Rattle.cert_check.specs.Setting.{setting_of, line_of, prefix_of, AreOfPuzzle, BeginWithPrefixes};
+ghost use Rattle.cert_check.specs.Setting.{question_of, setting_at, motion_of, BeginWithPrefixes};
 
-use cert_tree::Lemmas;
+use cert_tree::{Certificate, Lemmas};
 use match_puzzle::{Arrangement, Pair, Puzzle};
 use puzzle_symmetry::Symmetry;
 use std::marker::Model;
@@ -32,26 +32,26 @@ impl<'a> Model for Setting<'a> {
 }
 
 impl<'a> Setting<'a> {
-    // Of the lemma that so many lemmas come before. The symmetries are of the puzzle, and the lemmas begin with
-    // prefixes.
+    // What the tree of the lemma with this number may name. The symmetries are those of the certificate's lines, and the
+    // lemmas begin with prefixes.
     pub(crate) fn new(
         puzzle: &'a Puzzle,
         listed: &'a [Arrangement],
         symmetries: &'a [Symmetry<'a>],
-        lemmas: &'a Lemmas,
-        earlier: usize,
+        certificate: &'a Certificate,
+        lemma: u32,
     ) -> Setting<'a>
-        requires symmetries { AreOfPuzzle puzzle.now symmetries.now }
-        requires prefixes { BeginWithPrefixes puzzle.now lemmas.now }
-        requires earlier { earlier ≤ length lemmas.now }
-        ensures { result ≡ setting_of puzzle.now listed.now symmetries.now (take earlier lemmas.now) }
+        requires symmetries { symmetries.now ≡ map (motion_of puzzle.now) certificate.now.symmetries }
+        requires prefixes { BeginWithPrefixes puzzle.now certificate.now.lemmas }
+        requires lemma { lemma < length certificate.now.lemmas }
+        ensures { result ≡ setting_at (question_of puzzle.now listed.now certificate.now) lemma }
     {
         Setting {
             puzzle,
             listed,
             symmetries,
-            lemmas,
-            earlier,
+            lemmas: certificate.lemmas(),
+            earlier: lemma as usize,
         }
     }
 

@@ -25,6 +25,10 @@ symmetry_words g =
     ∷ codes "cells"
     ∷ (map decimal g.cells ++ (codes "colours" ∷ (map colour_word g.colours ++ (codes "tiles" ∷ map decimal g.tiles))))
 
+-- how many symmetries there are, and then the line of each
+abbrev pub symmetries_spelling : List SymmetryLine → List ℕ
+symmetries_spelling lines = text_of (count_words (codes "symmetries") (length lines) ∷ []) ++ text_of (map symmetry_words lines)
+
 -- ---- lemmas
 
 -- a cell, and a placement there

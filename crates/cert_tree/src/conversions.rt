@@ -70,7 +70,7 @@ pub(crate) fn put_node(heads: &mut Vec<Head>, node: &Node) -> Result<(), AllocEr
 }
 
 // The pairs and heads of the lemma go behind these. Where it lies there.
-fn put_lemma(
+fn put_flat(
     pairs: &mut Vec<Pair>,
     heads: &mut Vec<Head>,
     lemma: &Lemma,
@@ -97,7 +97,7 @@ pub(crate) fn flat_lemmas(alloc: Global, lemmas: &[Lemma]) -> Result<Lemmas, All
     let mut heads = Vec::new(alloc);
     let mut spans = Vec::with_capacity(alloc, lemmas.len())?;
     for lemma in lemmas {
-        let span = put_lemma(&mut pairs, &mut heads, lemma)?;
+        let span = put_flat(&mut pairs, &mut heads, lemma)?;
         spans.push(span)?;
     }
     Ok(Lemmas::of(pairs, heads, spans))

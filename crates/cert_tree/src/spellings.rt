@@ -1,6 +1,6 @@
 //! Lemmas and certificates are written.
 
-ghost use Rattle.std.specs.Prelude.{◌≡◌, ◌<◌, ◌≤◌, ◌++◌, ◌∷◌, [], ℕ, Ok, length, map, decimal, IfOk, OnOk};
+ghost use Rattle.std.specs.Prelude.{◌≡◌, ◌<◌, ◌≤◌, ◌^◌, ◌++◌, ◌∷◌, [], ℕ, Ok, length, map, decimal, IfOk, OnOk};
 ghost use Rattle.std.specs.List.{AllByRecursion};
 ghost use Rattle.match_text.specs.Spelling.{line_text, text_of, spaced, colour_word};
 ghost use Rattle.cert_tree.specs.Certificate.{piece_of, flat_piece};
@@ -8,7 +8,7 @@ ghost use Rattle.cert_tree.specs.HeadSpelling.{head_words};
 ghost use Rattle.std.specs.List.{flat_map};
 ghost use Rattle.cert_tree.specs.CertificateText.{lemma_of, certificate_of, Makes};
 ghost use Rattle.cert_tree.specs.CertificateSpelling.{mirrored_word, symmetry_words, pair_word, lemma_words};
-ghost use Rattle.cert_tree.specs.CertificateSpelling.{lemma_spelling, certificate_spelling};
+ghost use Rattle.cert_tree.specs.CertificateSpelling.{lemma_spelling, certificate_spelling, symmetries_spelling};
 ghost use Rattle.cert_tree.specs.CertificateSpelling.{AreColourImagesWithin, IsLemmaWithin, IsCertificateWithin};
 ghost use Rattle.cert_tree.specs.Writing.{said_by};
 
@@ -160,6 +160,18 @@ fn put_symmetries(text: &mut Vec<u8>, lines: &[SymmetryLine]) -> Result<(), Allo
         put_symmetry(text, line)?;
     }
     Ok(())
+}
+
+/// How many symmetries there are, and the line of each, as a certificate has them.
+pub fn write_symmetries(alloc: Global, lines: &[SymmetryLine]) -> Result<Vec<u8>, AllocError>
+    requires few { length lines.now < 2 ^ 32 }
+    requires colours { AllByRecursion (λ line. AreColourImagesWithin line.colours) lines.now }
+    ensures { IfOk result (λ text. text.items ≡ symmetries_spelling lines.now) }
+{
+    let mut text = Vec::new(alloc);
+    put_number_line(&mut text, b"symmetries", lines.len() as u32)?;
+    put_symmetries(&mut text, lines)?;
+    Ok(text)
 }
 
 /// The text of the lemma, one line, which reads back as an equal lemma.

@@ -4,8 +4,8 @@ ghost use Rattle.std.specs.Prelude.{◌<◌, ◌^◌, IfOk, length};
 
 use crate::texts::{certificate_of, joined, list_of, puzzle_of};
 use cert_check::{
-    Answer, Fault, SymmetriesFault, TreeFault, check, forked_tree_fault, list_fault,
-    make_symmetries, one_answer, prepare, tree_fault,
+    Answer, Fault, Question, SymmetriesFault, TreeFault, check, forked_tree_fault, make_symmetries,
+    one_answer, tree_fault,
 };
 use cert_tree::Certificate;
 use match_board::limits::MOST_FORKS;
@@ -22,7 +22,7 @@ use std::thread::Threads;
 
 // What is asked of the checker.
 #[derive(Drop)]
-struct Question {
+struct OwnedQuestion {
     puzzle: Puzzle,
     listed: Vec<Arrangement>,
     certificate: Certificate,
@@ -33,10 +33,10 @@ fn question_of(
     puzzle: &[u8],
     list: &[u8],
     certificate: &[u8],
-) -> Result<Question, Fail>
+) -> Result<OwnedQuestion, Fail>
     ensures { IfOk result (λ question. length question.listed.items < 2 ^ 32) }
 {
-    Ok(Question {
+    Ok(OwnedQuestion {
         puzzle: puzzle_of(alloc, puzzle)?,
         listed: list_of(alloc, list)?,
         certificate: certificate_of(alloc, certificate)?,
@@ -52,10 +52,10 @@ fn line_of(alloc: Global, lemma: u32, fault: Option<TreeFault>) -> Result<Vec<u8
 }
 
 // The line of what the check comes to, likewise.
-fn check_line(alloc: Global, question: &Question) -> Result<Vec<u8>, Fail>
+fn check_line(alloc: Global, question: &OwnedQuestion) -> Result<Vec<u8>, Fail>
     requires { length question.now.listed.items < 2 ^ 32 }
 {
-    let Question {
+    let OwnedQuestion {
         puzzle,
         listed,
         certificate,
@@ -71,13 +71,13 @@ fn check_line(alloc: Global, question: &Question) -> Result<Vec<u8>, Fail>
 fn tree_line<R: Threads + Sync>(
     rt: &R,
     alloc: Global,
-    question: &Question,
+    question: &OwnedQuestion,
     lemma: u32,
     forks: Option<u8>,
 ) -> Result<Vec<u8>, Fail>
     requires { length question.now.listed.items < 2 ^ 32 }
 {
-    let Question {
+    let OwnedQuestion {
         puzzle,
         listed,
         certificate,
@@ -87,18 +87,19 @@ fn tree_line<R: Threads + Sync>(
         return Err(Fail::from("a number is out of range"));
     }
     let listed = listed.as_slice();
-    let bad = list_fault(puzzle, listed);
-    let Ok(symmetries) = prepare(alloc, puzzle, listed, certificate, bad)? else {
+    let question = Question::new(puzzle, listed, certificate);
+    let Ok(prepared) = question.prepare(alloc, question.list_fault())? else {
         return Err(Fail::from("it is refused before the trees"));
     };
+    let symmetries = prepared.symmetries();
     let fault = match forks {
-        None => tree_fault(alloc, puzzle, listed, &symmetries, certificate, lemma)?,
+        None => tree_fault(alloc, puzzle, listed, symmetries, certificate, lemma)?,
         Some(_) => forked_tree_fault(
             rt,
             alloc,
             puzzle,
             listed,
-            &symmetries,
+            symmetries,
             certificate,
             lemma,
             forks_or_none,
@@ -111,7 +112,7 @@ fn tree_line<R: Threads + Sync>(
 fn finds<R: Threads + Sync>(
     rt: &R,
     alloc: Global,
-    question: &Question,
+    question: &OwnedQuestion,
     lemma: u32,
     line: &[u8],
     is_first: bool,
@@ -138,7 +139,7 @@ const SECOND: &[u8] = b"i 0 0";
 const ROOT: &[u8] = b"t 0 3 s 0 i 1 0 s 1";
 
 // The turning triangle, its list, and its certificate with these trees.
-fn turning(alloc: Global, trees: [&[u8]; 3]) -> Result<Question, Fail>
+fn turning(alloc: Global, trees: [&[u8]; 3]) -> Result<OwnedQuestion, Fail>
     ensures { IfOk result (λ question. length question.listed.items < 2 ^ 32) }
 {
     let [first, second, root] = trees;
@@ -345,6 +346,7 @@ fn made(
     let certificate = certificate_of(alloc, certificate)?;
     match make_symmetries(alloc, &puzzle, certificate.symmetries()) {
         Ok(made) => Ok(Ok(made.len())),
+        Err(SymmetriesFault::Memory) => Err(Fail::from(AllocError)),
         Err(fault) => Ok(Err(fault)),
     }
 }

@@ -166,17 +166,26 @@ fn copied(alloc: Global, text: &[u8]) -> Result<Vec<u8>, Fail> {
     Ok(write_lemma(alloc, &copy)?)
 }
 
+// What is wrong with the text, which spells no lemma; want of memory is handed on.
+fn fault_of(read: Result<Lemma, LemmaTextFault>) -> Result<Option<TextFault>, AllocError> {
+    match read {
+        Ok(_) => Ok(None),
+        Err(LemmaTextFault::Memory) => Err(AllocError),
+        Err(LemmaTextFault::Text(fault)) => Ok(Some(fault)),
+    }
+}
+
 #[test]
 fn reads_copies_and_writes_lemmas(rt: HostRuntime) -> Result<(), Fail> {
     for text in LEMMAS {
         assert!(rt; copied(rt.alloc(), text)?.as_slice() == text);
     }
     let text = b"lemma 1 prefix tree d 0\nlemma 2 prefix tree d 0\n";
-    let after = LemmaTextFault::Text(TextFault {
+    let after = TextFault {
         line: 2,
         kind: TextKind::After,
-    });
-    assert!(rt; read_lemma(rt.alloc(), text).err() == Some(after));
+    };
+    assert!(rt; fault_of(read_lemma(rt.alloc(), text))? == Some(after));
     lemma_laws();
     Ok(())
 }

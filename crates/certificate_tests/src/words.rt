@@ -32,6 +32,7 @@ fn ordered(alloc: Global, texts: &[&str]) -> Result<String, Fail> {
             forks,
         } => {
             let names = names(alloc, &files)?;
+            let (workers, forks) = (workers.get(), forks.get());
             Ok(format!(in alloc; "check {names}, workers {workers}, forks {forks}")?)
         }
         Order::Solve {
@@ -41,21 +42,27 @@ fn ordered(alloc: Global, texts: &[&str]) -> Result<String, Fail> {
             workers,
         } => {
             let names = names(alloc, &files)?;
+            let (depth, fuel, workers) = (depth.get(), fuel.get(), workers.get());
             Ok(format!(in alloc; "solve {names}, depth {depth}, fuel {fuel}, workers {workers}")?)
         }
         Order::Expand(files) => {
             let names = names(alloc, &files)?;
             Ok(format!(in alloc; "expand {names}")?)
         }
+        Order::Show(puzzle) => Ok(format!(in alloc; "show {puzzle}")?),
+        Order::Symmetries(puzzle) => Ok(format!(in alloc; "symmetries {puzzle}")?),
         Order::Tiles { sides, colours } => {
+            let (sides, colours) = (sides.get(), colours.get());
             Ok(format!(in alloc; "tiles of {sides} sides, {colours} colours")?)
         }
     }
 }
 
 // Each command, with its numbers or without.
-const ORDERS: [(&[&str], &[u8]); 15] = [
+const ORDERS: [(&[&str], &[u8]); 17] = [
     (&[], b"joined"),
+    (&["show", "p"], b"show p"),
+    (&["symmetries", "p"], b"symmetries p"),
     (
         &["check", "p", "l", "c"],
         b"check p l c, workers 1, forks 0",

@@ -1,7 +1,6 @@
 -- What the jobs find together is said of all trees.
-use Rattle.std.proofs.Common.{◌≡◌, ◌<◌, ◌∙◌, ℕ, List, Option, Some, None, length, slice_get, arith, sym, subst}
+use Rattle.std.proofs.Common.{◌≡◌, ◌∙◌, ℕ, List, Option, Some, None, length, slice_get, arith, sym, subst}
 use Rattle.std.proofs.lemmas.Option.{slice_get_within, get_or_from_slice_get}
-use Rattle.match_puzzle.specs.Puzzle.{IsPuzzle}
 use Rattle.match_puzzle.proofs.Prefixes.{inside}
 use Rattle.steal_crew.specs.Results.{Belongs}
 use Rattle.cert_tree.specs.Certificate.{Piece}
@@ -20,7 +19,7 @@ module _ (question : Question) (findings : List Finding) (long : length findings
       subst (IsFinding question number) (get_or_from_slice_get findings number finding finding at) (each number finding (slice_get_within findings number finding at))
 
   told_at : (number : ℕ) (finding : Finding) (said : Option TreeFault) → slice_get findings number ≡ Some finding → fault_of finding ≡ said → TellsOfLemma question number said
-  told_at number finding said at is = subst (TellsOfLemma question number) is (finding_at number finding at).tree
+  told_at number finding said at is = subst (TellsOfLemma question number) is (finding_at number finding at)
 
   -- the tree of a lemma where no fault was found
   holds_at : (number : ℕ) (lemma : Piece) → slice_get question.lemmas number ≡ Some lemma → ((finding : Finding) → slice_get findings number ≡ Some finding → fault_of finding ≡ None) →
@@ -37,6 +36,3 @@ module _ (question : Question) (findings : List Finding) (long : length findings
       let here = first.occurs in
       let told = told_at r.0 here.0 (Some r.1) here.1 here.2 in
       record { occurs = (told.0, told.1, told.2); before = λ earlier lemma lt at. holds_at earlier lemma at (λ finding is. first.before earlier finding lt is) }
-
-  pub is_puzzle : 0 < length question.lemmas → IsPuzzle question.puzzle
-  is_puzzle some = let found = member_at findings 0 (omega (arith, some, long)) in (finding_at 0 found.0 found.1).made

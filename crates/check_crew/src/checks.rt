@@ -1,53 +1,41 @@
 //! The check of a certificate by a crew.
 
-ghost use Rattle.std.specs.Prelude.{◌≡◌, ◌<◌, ◌≤◌, ◌^◌, IfOk, OnErr, length, map};
+ghost use Rattle.std.specs.Prelude.{◌≡◌, ◌<◌, ◌≤◌, ◌^◌, IfOk, OnErr, length};
 ghost use Rattle.match_board.specs.declared.limits.TheConstants.{MOST_WORKERS, MOST_FORKS};
-ghost use Rattle.match_puzzle.specs.Puzzle.{IsPuzzle};
-ghost use Rattle.cert_check.specs.Setting.{question_of, line_of, AreOfPuzzle, BeginWithPrefixes};
+ghost use Rattle.cert_check.specs.Setting.{question_of};
 ghost use Rattle.cert_check.specs.Walk.{TellsOfTrees};
 ghost use Rattle.cert_check.specs.Answer.{AreArrangements, IsAnswer, IsCompleteList, AreCovered};
 
 use crate::jobs::{Walks, first_found};
-use crate::lists;
-use cert_check::{Answer, Gate, TreeFault, answer_of, list_fault, prepare, trees_fault};
+use crate::lists::list_fault;
+use cert_check::{Answer, Gate, Prepared, Question, TreeFault};
 use cert_tree::Certificate;
 use match_puzzle::{Arrangement, Puzzle};
-use puzzle_symmetry::Symmetry;
 use std::alloc::{AllocError, Global};
 use std::thread::Threads;
 use steal_crew::run_crew;
 
 // The first lemma whose tree has a fault, with its first fault, or none where all hold: each lemma is a job of a crew.
-fn trees_fault_by_crew<R: Threads + Sync, G: Gate + Sync>(
+fn trees_fault<R: Threads + Sync, G: Gate + Sync>(
     rt: &R,
     alloc: Global,
-    puzzle: &Puzzle,
-    listed: &[Arrangement],
-    symmetries: &[Symmetry<'_>],
-    certificate: &Certificate,
+    prepared: &Prepared<'_>,
     workers: u8,
     forks: u8,
     gate: &G,
 ) -> Result<Option<(u32, TreeFault)>, AllocError>
     requires workers { (1 ≤ workers) × (workers ≤ MOST_WORKERS) }
     requires forks { forks ≤ MOST_FORKS }
-    requires puzzle { AreOfPuzzle puzzle.now symmetries.now }
-    requires lines { map line_of symmetries.now ≡ certificate.now.symmetries }
-    requires prefixes { BeginWithPrefixes puzzle.now certificate.now.lemmas }
-    ensures trees { IfOk result (TellsOfTrees (question_of puzzle.now listed.now certificate.now)) }
-    ensures made { IfOk result (λ r. 0 < length certificate.now.lemmas → IsPuzzle puzzle.now) }
+    ensures { IfOk result (TellsOfTrees prepared.now) }
 {
     let walks = Walks {
         rt,
         alloc,
-        puzzle,
-        listed,
-        symmetries,
-        certificate,
+        prepared,
         forks,
         gate,
     };
-    let count = certificate.lemmas().len() as u32;
+    let count = prepared.question().certificate().lemmas().len() as u32;
     let crew = run_crew(rt, alloc, &walks, count, workers)?;
     first_found(alloc, crew.results())
 }
@@ -86,30 +74,15 @@ pub fn check_with<R: Threads + Sync, G: Gate + Sync>(
     // Want of memory hides no fault of a listed one.
     ensures memory { OnErr result (AreArrangements puzzle.now listed.now) }
 {
-    let alone = workers == 1 && forks == 0;
-    let bad = if alone {
-        list_fault(puzzle, listed)
-    } else {
-        lists::list_fault(rt, puzzle, listed)
-    };
-    let symmetries = match prepare(alloc, puzzle, listed, certificate, bad)? {
-        Ok(symmetries) => symmetries,
+    let question = Question::new(puzzle, listed, certificate);
+    if workers == 1 && forks == 0 {
+        return question.check(alloc, gate);
+    }
+    let bad = list_fault(rt, puzzle, listed);
+    let prepared = match question.prepare(alloc, bad)? {
+        Ok(prepared) => prepared,
         Err(fault) => return Ok(Answer::Refused(fault)),
     };
-    let found = if alone {
-        trees_fault(alloc, puzzle, listed, &symmetries, certificate, gate)?
-    } else {
-        trees_fault_by_crew(
-            rt,
-            alloc,
-            puzzle,
-            listed,
-            &symmetries,
-            certificate,
-            workers,
-            forks,
-            gate,
-        )?
-    };
-    Ok(answer_of(puzzle, listed, certificate, found))
+    let found = trees_fault(rt, alloc, &prepared, workers, forks, gate)?;
+    Ok(prepared.answer(found))
 }

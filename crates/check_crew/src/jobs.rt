@@ -2,13 +2,9 @@
 
 ghost use Rattle.std.specs.Prelude.{◌≡◌, ◌≤◌, ◌<◌, ◌^◌, IfOk, length};
 ghost use Rattle.std.specs.Thread.{IsSync};
-ghost use Rattle.cert_check.specs.Setting.{question_of};
 ghost use Rattle.check_crew.specs.Jobs.{IsJob, IsFinding, IsFirstFound};
 
-use cert_check::{Gate, Path, TreeFault, forked_tree_fault};
-use cert_tree::Certificate;
-use match_puzzle::{Arrangement, Puzzle};
-use puzzle_symmetry::Symmetry;
+use cert_check::{Gate, Path, Prepared, TreeFault};
 use std::alloc::{AllocError, Global};
 use std::thread::Threads;
 use steal_crew::Work;
@@ -16,15 +12,12 @@ use steal_crew::Work;
 // A tree of fewer nodes is walked by one thread, which is done before others would have started.
 const LEAST_FORKED: usize = 10_000;
 
-// What the trees of a certificate's lemmas are walked by.
+// What the trees of a question's lemmas are walked by.
 #[derive(Drop)]
 pub(crate) struct Walks<'a, T: Threads + Sync, G: Gate + Sync> {
     pub rt: &'a T,
     pub alloc: Global,
-    pub puzzle: &'a Puzzle,
-    pub listed: &'a [Arrangement],
-    pub symmetries: &'a [Symmetry<'a>],
-    pub certificate: &'a Certificate,
+    pub prepared: &'a Prepared<'a>,
     pub forks: u8,
     pub gate: &'a G,
 }
@@ -33,22 +26,16 @@ pub(crate) struct Walks<'a, T: Threads + Sync, G: Gate + Sync> {
 impl<'a, T: Threads + Sync, G: Gate + Sync> Work for Walks<'a, T, G> {
     type R = Option<Box<TreeFault>>;
 
-    ghost accepts = { λ w n. IsSync T.row × IsJob w.puzzle.now w.symmetries.now w.certificate.now w.forks n };
+    ghost accepts = { λ w n. IsSync T.row × IsJob w.prepared.now w.forks n };
 
-    ghost gives = { λ w n r. IsFinding (question_of w.puzzle.now w.listed.now w.certificate.now) n r };
+    ghost gives = { λ w n r. IsFinding w.prepared.now n r };
 
     fn one(&self, number: u32) -> Result<Option<Box<TreeFault>>, AllocError> {
         self.gate.enter(number);
-        let found = forked_tree_fault(
-            self.rt,
-            self.alloc,
-            self.puzzle,
-            self.listed,
-            self.symmetries,
-            self.certificate,
-            number,
-            forks_of(self.certificate, number, self.forks),
-        )?;
+        let forks = forks_of(self.prepared, number, self.forks);
+        let found = self
+            .prepared
+            .forked_tree_fault(self.rt, self.alloc, number, forks)?;
         let Some(fault) = found else {
             return Ok(None);
         };
@@ -57,11 +44,12 @@ impl<'a, T: Threads + Sync, G: Gate + Sync> Work for Walks<'a, T, G> {
 }
 
 // In how many levels, of at most `forks`, the halves of a branch of the lemma's tree are walked at once.
-fn forks_of(certificate: &Certificate, number: u32, forks: u8) -> u8
-    requires { number < length certificate.now.lemmas }
+fn forks_of(prepared: &Prepared<'_>, number: u32, forks: u8) -> u8
+    requires { number < length prepared.now.lemmas }
     ensures { result ≤ forks }
 {
-    let tree = certificate.lemmas().at(number as usize).tree;
+    let lemmas = prepared.question().certificate().lemmas();
+    let tree = lemmas.at(number as usize).tree;
     if tree.nodes() < LEAST_FORKED {
         0
     } else {

@@ -1,5 +1,5 @@
 -- What the program's commands have, where they take words.
-use Rattle.std.proofs.Common.{◌≡◌, ◌≢◌, ◌∙◌, ◌&&◌, ◌||◌, ℕ, Bool, true, false, not, cond, List, [], ◌∷◌, Option, Some, None, refl, sym, ap, ap₂, subst, codes, is_some, option_map}
+use Rattle.std.proofs.Common.{◌≡◌, ◌≢◌, ◌∙◌, ◌&&◌, ◌||◌, ℕ, Bool, true, false, not, cond, List, [], ◌∷◌, Option, Some, None, inl, inr, refl, sym, ap, ap₂, subst, codes, is_some, option_map}
 use Rattle.std.specs.Prelude.{fold, find, nat_lt, slice_index_or, unwrap_or}
 use Rattle.std.specs.List.{AllByRecursion, list_all}
 use Rattle.std.specs.Option.{option_map_or}
@@ -14,7 +14,7 @@ use Rattle.clap.specs.Walk.{Held, Names, Outcome, Row, Rule, Step, Text, Waiting
 use Rattle.clap.specs.Simple.{App, HasMatchesOf, Shape, app_of, built, entered, is_simple, label_of, names_of, new_rule, new_shape, rows_at, subcommand_of, subcommand_rows}
 use Rattle.clap.specs.Faults.{entered_fault, fault_of, is_simple_and_free, level_fault, other_fault, step_fault, turn_fault, walk_fault, word_fault}
 use Rattle.clap.specs.Takes.{value_passes}
-use Rattle.clap.specs.Kinds.{or_else}
+use Rattle.clap.specs.Kinds.{HasKind, IsAmong, or_else}
 use Rattle.clap.specs.Matches.{subcommand_name_of}
 use Rattle.clap.specs.declared.builder.command.Command.{Command}
 use Rattle.clap.specs.declared.parser.matches.ArgMatches.{ArgMatches}
@@ -26,7 +26,8 @@ use Rattle.clap.specs.declared.error.kind.ErrorKind.TheVariants as kinds
 use Rattle.clap.proofs.OnLiterals.{clap_on_literals}
 use Rattle.clap.proofs.ValueTestLemmas.{accepts-Accepts}
 use Rattle.command_words.specs.Commands.{whole_app}
-use Rattle.command_words.specs.Orders.{HasFiles, HasNumber, HasText, IsFaultOf}
+use Rattle.command_words.specs.Orders.{HasFiles, HasNumber, HasText, IsFaultOf, IsOrder, IsOrderOf, IsRefusedBy}
+use Rattle.command_words.specs.declared.orders.Order.{Order}
 use Rattle.command_words.specs.declared.faults.WordsFault.{WordsFault}
 use Rattle.command_words.specs.declared.faults.WordsFault.TheVariants.{Words, Memory}
 use Rattle.command_words.proofs.FaultlessWalk.{IsValued, always_given, found_has, is_always_given, none_of_both, puts_values}
@@ -298,19 +299,39 @@ both_parts : {B : Type 0} (f : B → Text) (g : B → List Row) (o : Option B) (
 both_parts f g None name rows e h = absurd cc
 both_parts f g (Some b) name rows e h = ap₂ (λ n r. Some (n, r)) (sym (some_is e)) (sym (some_is h))
 
--- a command that a parse entered has what it needs
-pub parse_has : (command : Command) (m : ArgMatches) (words : List Text) → app_of command ≡ whole_app → (is_simple_and_free (app_of command) ≡ true → fault_of (app_of command) words ≡ []) → HasMatchesOf (app_of command) words m
-    → (name : Text) (rows : List Row) → Some name ≡ subcommand_name_of m → Some rows ≡ option_map (λ p. p.1) (subcommand_rows (out-ArgMatches m).subcommand) → IsEntered name rows
-parse_has command m words is none matches name rows named rowed =
-    let free = ap is_simple_and_free is ∙ whole_is_simple in
-    let none_whole = ap (λ (a : App). fault_of a words) (sym is) ∙ none free in
-    let simple : is_simple (app_of command) ≡ true = and_left (is_simple (app_of command)) _ free in
-    let entered = ap (λ (a : App). subcommand_of a words) (sym is) ∙ sym (matches simple).1 ∙ both_parts _ _ (out-ArgMatches m).subcommand name rows named rowed in
-    program_has words none_whole name rows entered
+abbrev is_free : (command : Command) → app_of command ≡ whole_app → is_simple_and_free (app_of command) ≡ true
+is_free command is = ap is_simple_and_free is ∙ whole_is_simple
+
+-- what a parse entered is what the words name
+pub parse_enters : (command : Command) (m : ArgMatches) (words : List Text) → app_of command ≡ whole_app → HasMatchesOf (app_of command) words m
+    → (name : Text) (rows : List Row) → Some name ≡ subcommand_name_of m → Some rows ≡ option_map (λ p. p.1) (subcommand_rows (out-ArgMatches m).subcommand) → subcommand_of whole_app words ≡ Some (name, rows)
+parse_enters command m words is matches name rows named rowed =
+    let simple : is_simple (app_of command) ≡ true = and_left (is_simple (app_of command)) _ (is_free command is) in
+    ap (λ (a : App). subcommand_of a words) (sym is) ∙ sym (matches simple).1 ∙ both_parts _ _ (out-ArgMatches m).subcommand name rows named rowed
   where
     and_left : (a b : Bool) → (a && b) ≡ true → a ≡ true
     and_left true b e = refl
     and_left false b e = absurd cc
+
+-- a command that a parse entered has what it needs
+pub parse_has : (command : Command) (words : List Text) → app_of command ≡ whole_app → (is_simple_and_free (app_of command) ≡ true → fault_of (app_of command) words ≡ [])
+    → (name : Text) (rows : List Row) → subcommand_of whole_app words ≡ Some (name, rows) → IsEntered name rows
+parse_has command words is none name rows enters =
+    program_has words (ap (λ (a : App). fault_of a words) (sym is) ∙ none (is_free command is)) name rows enters
+
+-- the order of the words, by what they enter
+pub orders : (words : List Text) (name : Text) (rows : List Row) (order : Order) → subcommand_of whole_app words ≡ Some (name, rows) → IsOrderOf (Some (name, rows)) order → IsOrder words order
+orders words name rows order enters is = subst (λ entered. IsOrderOf entered order) (sym enters) is
+
+-- a fault of a parse is of its kinds
+pub parse_refuses : (command : Command) (words : List Text) (e : Error) (fault : WordsFault) → app_of command ≡ whole_app → (is_simple_and_free (app_of command) ≡ true → HasKind (fault_of (app_of command) words) e)
+    → IsFaultOf e fault → IsRefusedBy (fault_of whole_app words) fault
+parse_refuses command words e Memory is has gives = tt
+parse_refuses command words e (Words other) is has gives = of_kinds (subst (λ (a : App). HasKind (fault_of a words) e) is (has (is_free command is)))
+  where
+    of_kinds : HasKind (fault_of whole_app words) e → IsAmong (kind_of other) (fault_of whole_app words)
+    of_kinds (inl memory) = absurd (gives.1 memory)
+    of_kinds (inr among) = subst (λ x. IsAmong (kind_of x) (fault_of whole_app words)) (sym gives.0) among
 
 -- ---- what a command has, by its name
 

@@ -25,10 +25,14 @@ optional_number id least most default =
     record (new_rule id)
     { long = Some id; parser = Some (parsers.Unsigned least most); value_names = 1; defaults = default ∷ [] }
 
+-- the file of a puzzle
+abbrev pub with_puzzle : App → App
+with_puzzle app = with_rule app (wanted (codes "PUZZLE"))
+
 -- three files by their names
 abbrev pub with_files : App → App
 with_files app =
-    with_rule (with_rule (with_rule app (wanted (codes "PUZZLE"))) (wanted (codes "LIST")))
+    with_rule (with_rule (with_puzzle app) (wanted (codes "LIST")))
     (wanted (codes "CERTIFICATE"))
 
 abbrev pub check_app : App
@@ -48,6 +52,12 @@ solve_app =
 abbrev pub expand_app : App
 expand_app = with_files (new_app (codes "expand"))
 
+abbrev pub show_app : App
+show_app = with_puzzle (new_app (codes "show"))
+
+abbrev pub symmetries_app : App
+symmetries_app = with_puzzle (new_app (codes "symmetries"))
+
 abbrev pub tiles_app : App
 tiles_app =
     with_rule (with_rule (new_app (codes "tiles")) (wanted_number (codes "SIDES") 3 4))
@@ -55,7 +65,7 @@ tiles_app =
 
 -- the commands, in the order of the help
 abbrev pub commands : List App
-commands = check_app ∷ solve_app ∷ expand_app ∷ tiles_app ∷ []
+commands = check_app ∷ solve_app ∷ expand_app ∷ show_app ∷ symmetries_app ∷ tiles_app ∷ []
 
 -- the program with all of them
 abbrev pub whole_app : App

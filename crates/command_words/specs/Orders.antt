@@ -1,8 +1,7 @@
 -- What words order.
-use Rattle.std.specs.Prelude.{◌≡◌, ◌≢◌, ◌≤◌, ◌⊎◌, ℕ, List, Option, Some, None, codes, option_map}
+use Rattle.std.specs.Prelude.{◌≡◌, ◌≢◌, ℕ, List, Option, Some, None, codes, option_map}
 use Rattle.std.specs.String.{string_bytes}
 use Rattle.std.specs.Str.Parse.{digits_value, without_leading_plus}
-use Rattle.match_board.specs.declared.limits.TheConstants.{MOST_COLOURS, MOST_DEPTH, MOST_FORKS, MOST_FUEL, MOST_WORKERS}
 use Rattle.clap.specs.Words.{IsAmong, IsUnsignedIn, Kinds, Row, Text, first_of, kind_of, subcommand_of}
 use Rattle.clap.specs.declared.error.Error.{Error}
 use Rattle.clap.specs.declared.error.kind.ErrorKind.TheVariants.{OutOfMemory}
@@ -10,7 +9,7 @@ use Rattle.command_words.specs.declared.faults.WordsFault.{WordsFault}
 use Rattle.command_words.specs.declared.faults.WordsFault.TheVariants.{Words, Memory}
 use Rattle.command_words.specs.declared.orders.Files.{Files}
 use Rattle.command_words.specs.declared.orders.Order.{Order}
-use Rattle.command_words.specs.declared.orders.Order.TheVariants.{Joined, Check, Solve, Expand, Tiles}
+use Rattle.command_words.specs.declared.orders.Order.TheVariants.{Joined, Check, Solve, Expand, Show, Symmetries, Tiles}
 use Rattle.command_words.specs.Commands.{whole_app}
 
 -- the matches of a command have a text under this id
@@ -46,6 +45,10 @@ IsOrderOf (Some (name, rows)) (Solve files depth fuel workers) =
     (name ≡ codes "solve") × NameFiles rows files × (number_of (codes "depth") rows ≡ Some depth)
     × (number_of (codes "fuel") rows ≡ Some fuel) × (number_of (codes "workers") rows ≡ Some workers)
 IsOrderOf (Some (name, rows)) (Expand files) = (name ≡ codes "expand") × NameFiles rows files
+IsOrderOf (Some (name, rows)) (Show puzzle) =
+    (name ≡ codes "show") × (first_of (codes "PUZZLE") rows ≡ Some (string_bytes puzzle))
+IsOrderOf (Some (name, rows)) (Symmetries puzzle) =
+    (name ≡ codes "symmetries") × (first_of (codes "PUZZLE") rows ≡ Some (string_bytes puzzle))
 IsOrderOf (Some (name, rows)) (Tiles sides colours) =
     (name ≡ codes "tiles") × (number_of (codes "SIDES") rows ≡ Some sides)
     × (number_of (codes "COLOURS") rows ≡ Some colours)
@@ -54,15 +57,6 @@ IsOrderOf matches order = ⊥
 -- The words give the order, by what the program's commands make of them.
 abbrev pub IsOrder : List Text → Order → Type 0
 IsOrder words order = IsOrderOf (subcommand_of whole_app words) order
-
--- The numbers of the order are in their ranges.
-abbrev pub IsInRange : Order → Type 0
-IsInRange Joined = Unit {0}
-IsInRange (Check files workers forks) = ((1 ≤ workers) × (workers ≤ MOST_WORKERS)) × (forks ≤ MOST_FORKS)
-IsInRange (Solve files depth fuel workers) =
-    (depth ≤ MOST_DEPTH) × ((1 ≤ fuel) × (fuel ≤ MOST_FUEL)) × ((1 ≤ workers) × (workers ≤ MOST_WORKERS))
-IsInRange (Expand files) = Unit {0}
-IsInRange (Tiles sides colours) = ((sides ≡ 3) ⊎ (sides ≡ 4)) × (1 ≤ colours) × (colours ≤ MOST_COLOURS)
 
 -- The fault of what `clap` answers: want of memory, or the words.
 abbrev pub IsFaultOf : Error → WordsFault → Type 0

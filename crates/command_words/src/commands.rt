@@ -4,8 +4,8 @@ ghost use Rattle.std.specs.Prelude.{◌≡◌, IfOk, codes, false};
 ghost use Rattle.match_board.specs.declared.limits.TheConstants.{MOST_WORKERS};
 ghost use Rattle.clap.specs.Words.{app_of, new_app, rule_of};
 ghost use Rattle.command_words.specs.Commands.{IsLocal, optional_number, wanted, wanted_number};
-ghost use Rattle.command_words.specs.Commands.{check_app, expand_app, solve_app, tiles_app};
-ghost use Rattle.command_words.specs.Commands.{whole_app, with_files};
+ghost use Rattle.command_words.specs.Commands.{check_app, expand_app, show_app, solve_app, symmetries_app, tiles_app};
+ghost use Rattle.command_words.specs.Commands.{whole_app, with_files, with_puzzle};
 
 use clap::builder::ValueParser;
 use clap::{Arg, Command};
@@ -25,7 +25,10 @@ Exit status:
   0  done; of a check, the list is complete
   1  the certificate does not show that the list is complete
   2  anything else, which is said on standard error
-  3  of solve, said there too: it gave up, or the puzzle is too large";
+  3  of solve, said there too: it gave up, or the puzzle is too large
+
+Example:
+  cat puzzle list certificate | edgematch";
 
 const CHECKED: &str = "\
 Prints the answer in one line: complete, or refused and why.
@@ -35,7 +38,10 @@ The answer is the same for any number of workers and forks.
 Exit status:
   0  the list is complete
   1  the certificate does not show that the list is complete
-  2  anything else, which is said on standard error";
+  2  anything else, which is said on standard error
+
+Example:
+  edgematch check puzzle list certificate --workers 4";
 
 const SOLVED: &str = "\
 Makes LIST and CERTIFICATE anew, whatever they held: the list of the puzzle's arrangements, and \
@@ -52,14 +58,18 @@ workers share the branches. What is found is the same in any case, in another or
 The fuel is the most branch nodes that are made for one lemma: cells or tiles at which it is tried \
 what fits. Where more than one worker searches, or the depth isn't 0, a lemma that is short of fuel \
 makes further lemmas of its branches. Where the fuel runs out all the same, it says gave up, and \
-nothing is written, so that both files are empty. Then give more fuel, up to 1000000, or a depth, \
-or take a smaller puzzle. Where it says too many options or too many arrangements, only a smaller \
-puzzle helps.
+nothing is written, so that both files are empty. Then give more fuel, up to 1000000, or a greater \
+depth, up to 3, or take a smaller puzzle. Where it says too many arrangements, a greater depth may \
+help too: of those that are images of each other it lists fewer. Where it says too many options, only \
+a smaller puzzle helps.
 
 Exit status:
   0  the list and the certificate are written
   2  anything else, which is said on standard error
-  3  gave up, too many options, or too many arrangements, said there too";
+  3  gave up, too many options, or too many arrangements, said there too
+
+Example:
+  edgematch solve puzzle list certificate --depth 2 --workers 4";
 
 const EXPANDED: &str = "\
 Prints the list with the images of its arrangements under the symmetries of the certificate, or \
@@ -68,7 +78,38 @@ the answer of check where it is refused.
 Exit status:
   0  every arrangement of the puzzle is printed, once
   1  the certificate does not show that the list is complete
-  2  anything else, which is said on standard error";
+  2  anything else, which is said on standard error
+
+Example:
+  edgematch expand puzzle list certificate";
+
+const SHOWN: &str = "\
+Draws the board with the numbers of its cells and the colours that the border asks for, and says \
+how many cells, tiles and colours there are, and where each colour stands.
+
+Exit status:
+  0  the board is drawn
+  2  anything else, which is said on standard error
+
+Example:
+  edgematch show puzzle";
+
+const LISTED: &str = "\
+Prints a line for each tile, as it stands in a puzzle; at most 100.
+
+Example:
+  edgematch tiles 4 3";
+
+const NAMED: &str = "\
+Prints the symmetries of the puzzle that solve would name, as the lines that a certificate has of \
+them.
+
+Exit status:
+  0  the lines are printed
+  2  anything else, which is said on standard error
+
+Example:
+  edgematch symmetries puzzle";
 
 // A word that a command needs.
 fn word<'a>(alloc: Global, id: &'a str, help: &'a str) -> Arg<'a>
@@ -201,6 +242,43 @@ fn expand<'a>(alloc: Global) -> Result<Command<'a>, AllocError>
     )
 }
 
+// The command of this name, with the file of a puzzle.
+fn of_puzzle<'a>(
+    alloc: Global,
+    name: &'a str,
+    about: &'a str,
+    help: &'a str,
+) -> Result<Command<'a>, AllocError>
+    ensures app { IfOk result (λ c. app_of c ≡ with_puzzle (new_app name.entry.now)) }
+    ensures local { IfOk result IsLocal }
+{
+    let puzzle = word(alloc, "PUZZLE", "File of the puzzle");
+    let command = Command::new(alloc, name)
+        .about(about)
+        .after_help(help)
+        .arg(puzzle)?;
+    Ok(command)
+}
+
+fn show<'a>(alloc: Global) -> Result<Command<'a>, AllocError>
+    ensures app { IfOk result (λ c. app_of c ≡ show_app) }
+    ensures local { IfOk result IsLocal }
+{
+    of_puzzle(
+        alloc,
+        "show",
+        "Draws a puzzle's board, and counts its colours",
+        SHOWN,
+    )
+}
+
+fn symmetries<'a>(alloc: Global) -> Result<Command<'a>, AllocError>
+    ensures app { IfOk result (λ c. app_of c ≡ symmetries_app) }
+    ensures local { IfOk result IsLocal }
+{
+    of_puzzle(alloc, "symmetries", "Finds symmetries of a puzzle", NAMED)
+}
+
 fn tiles<'a>(alloc: Global) -> Result<Command<'a>, AllocError>
     ensures app { IfOk result (λ c. app_of c ≡ tiles_app) }
     ensures local { IfOk result IsLocal }
@@ -217,6 +295,7 @@ fn tiles<'a>(alloc: Global) -> Result<Command<'a>, AllocError>
         .about(
             "Lists the tiles with so many sides and colours, one of those that turn into each other",
         )
+        .after_help(LISTED)
         .arg(sides)?
         .arg(colours)?;
     Ok(command)
@@ -237,6 +316,8 @@ pub fn program<'a>(alloc: Global) -> Result<Command<'a>, AllocError>
         .subcommand(check(alloc)?)?
         .subcommand(solve(alloc)?)?
         .subcommand(expand(alloc)?)?
+        .subcommand(show(alloc)?)?
+        .subcommand(symmetries(alloc)?)?
         .subcommand(tiles(alloc)?)?;
     Ok(program)
 }

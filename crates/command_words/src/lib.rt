@@ -3,9 +3,11 @@
 
 mod commands;
 mod faults;
+mod numbers;
 mod orders;
 mod readings;
 
 pub use faults::WordsFault;
+pub use numbers::{Colours, Depth, Forks, Fuel, Sides, Within, Workers};
 pub use orders::{Files, Order};
 pub use readings::order;

@@ -1,5 +1,7 @@
 //! What the program is to do.
 
+use crate::numbers::{Colours, Depth, Forks, Fuel, Sides, Workers};
+
 /// Three files by their names.
 #[derive(PartialEq, Eq, Debug, Drop)]
 pub struct Files {
@@ -13,27 +15,29 @@ pub struct Files {
 pub enum Order {
     /// To check the documents that stand on standard input, joined.
     Joined,
-    /// To check the documents in these files, by so many workers, 1 to 64, whose lemmas' trees are walked
-    /// with so many levels of forks, 0 to 6.
+    /// To check the documents in these files.
     Check {
         files: Files,
-        workers: u8,
-        forks: u8,
+        workers: Workers,
+        forks: Forks,
     },
     /// To search for all arrangements of the puzzle in its file, and to make the files of their list and of a
-    /// certificate: lemmas are made of branches of so many levels, 0 to 3, at first; each has at most `fuel` branch
-    /// nodes, 1 to 1,000,000; so many workers search, 1 to 64.
+    /// certificate.
     Solve {
         files: Files,
-        depth: u8,
-        fuel: u32,
-        workers: u8,
+        depth: Depth,
+        fuel: Fuel,
+        workers: Workers,
     },
     /// To check the documents in these files, and to print all arrangements.
     Expand(Files),
-    /// To list the tiles of so many sides, 3 or 4, and colours, 1 to 36.
+    /// To draw the board of the puzzle in its file.
+    Show(String),
+    /// To print symmetries of the puzzle in its file.
+    Symmetries(String),
+    /// To list the tiles of so many sides and colours.
     Tiles {
-        sides: u8,
-        colours: u8,
+        sides: Sides,
+        colours: Colours,
     },
 }

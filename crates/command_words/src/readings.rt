@@ -4,14 +4,14 @@ ghost use Rattle.std.specs.Prelude.{◌≡◌, Some, true, codes, map, IfOk, IfE
 ghost use Rattle.std.specs.String.{string_bytes};
 ghost use Rattle.clap.specs.Words.{fault_of, first_of, found_of, rows_of, takes};
 ghost use Rattle.command_words.specs.Commands.{whole_app};
-ghost use Rattle.command_words.specs.Orders.{HasFiles, HasNumber, HasText, IsInRange};
+ghost use Rattle.command_words.specs.Orders.{HasFiles, HasNumber, HasText};
 ghost use Rattle.command_words.specs.Orders.{IsOrder, IsOrderOf, IsRefusedBy, NameFiles, number_of};
 
 use crate::commands::program;
 use crate::faults::WordsFault;
+use crate::numbers::Within;
 use crate::orders::{Files, Order};
 use clap::ArgMatches;
-use match_board::limits::{MOST_COLOURS, MOST_DEPTH, MOST_FORKS, MOST_FUEL, MOST_WORKERS};
 use std::alloc::{AllocError, Global};
 
 // The text under this id.
@@ -26,8 +26,11 @@ fn text(alloc: Global, matches: &ArgMatches<'_>, id: &str) -> Result<String, All
 }
 
 // The number under this id.
-fn number(matches: &ArgMatches<'_>, id: &str) -> u32
-    requires { HasNumber id.now 0 4294967295 (rows_of (found_of matches.now)) }
+fn number<const LEAST: u32, const MOST: u32>(
+    matches: &ArgMatches<'_>,
+    id: &str,
+) -> Within<LEAST, MOST>
+    requires { HasNumber id.now LEAST MOST (rows_of (found_of matches.now)) }
     ensures { number_of id.now (rows_of (found_of matches.now)) ≡ Some result }
 {
     let Some(text) = matches.get_str(id) else {
@@ -36,15 +39,7 @@ fn number(matches: &ArgMatches<'_>, id: &str) -> u32
     let Ok(number) = text.parse::<u32>() else {
         unreachable!();
     };
-    number
-}
-
-// The number under this id, which is small.
-fn small_number(matches: &ArgMatches<'_>, id: &str) -> u8
-    requires { HasNumber id.now 0 255 (rows_of (found_of matches.now)) }
-    ensures { number_of id.now (rows_of (found_of matches.now)) ≡ Some result }
-{
-    number(matches, id) as u8
+    Within::new(number)
 }
 
 fn files(alloc: Global, matches: &ArgMatches<'_>) -> Result<Files, AllocError>
@@ -63,32 +58,31 @@ fn files(alloc: Global, matches: &ArgMatches<'_>) -> Result<Files, AllocError>
 
 fn check(alloc: Global, matches: &ArgMatches<'_>) -> Result<Order, AllocError>
     requires files { HasFiles (rows_of (found_of matches.now)) }
-    requires workers { HasNumber (codes "workers") 1 MOST_WORKERS (rows_of (found_of matches.now)) }
-    requires forks { HasNumber (codes "forks") 0 MOST_FORKS (rows_of (found_of matches.now)) }
-    ensures order { IfOk result (IsOrderOf (Some (codes "check", rows_of (found_of matches.now)))) }
-    ensures range { IfOk result IsInRange }
+    requires workers { HasNumber (codes "workers") 1 64 (rows_of (found_of matches.now)) }
+    requires forks { HasNumber (codes "forks") 0 6 (rows_of (found_of matches.now)) }
+    ensures { IfOk result (IsOrderOf (Some (codes "check", rows_of (found_of matches.now)))) }
 {
     let files = files(alloc, matches)?;
+    let workers = number(matches, "workers");
     Ok(Order::Check {
         files,
-        workers: small_number(matches, "workers"),
-        forks: small_number(matches, "forks"),
+        workers,
+        forks: number(matches, "forks"),
     })
 }
 
 fn solve(alloc: Global, matches: &ArgMatches<'_>) -> Result<Order, AllocError>
     requires files { HasFiles (rows_of (found_of matches.now)) }
-    requires depth { HasNumber (codes "depth") 0 MOST_DEPTH (rows_of (found_of matches.now)) }
-    requires fuel { HasNumber (codes "fuel") 1 MOST_FUEL (rows_of (found_of matches.now)) }
-    requires workers { HasNumber (codes "workers") 1 MOST_WORKERS (rows_of (found_of matches.now)) }
-    ensures order { IfOk result (IsOrderOf (Some (codes "solve", rows_of (found_of matches.now)))) }
-    ensures range { IfOk result IsInRange }
+    requires depth { HasNumber (codes "depth") 0 3 (rows_of (found_of matches.now)) }
+    requires fuel { HasNumber (codes "fuel") 1 1000000 (rows_of (found_of matches.now)) }
+    requires workers { HasNumber (codes "workers") 1 64 (rows_of (found_of matches.now)) }
+    ensures { IfOk result (IsOrderOf (Some (codes "solve", rows_of (found_of matches.now)))) }
 {
     let files = files(alloc, matches)?;
-    let workers = small_number(matches, "workers");
+    let workers = number(matches, "workers");
     Ok(Order::Solve {
         files,
-        depth: small_number(matches, "depth"),
+        depth: number(matches, "depth"),
         fuel: number(matches, "fuel"),
         workers,
     })
@@ -96,13 +90,12 @@ fn solve(alloc: Global, matches: &ArgMatches<'_>) -> Result<Order, AllocError>
 
 fn tiles(matches: &ArgMatches<'_>) -> Order
     requires sides { HasNumber (codes "SIDES") 3 4 (rows_of (found_of matches.now)) }
-    requires colours { HasNumber (codes "COLOURS") 1 MOST_COLOURS (rows_of (found_of matches.now)) }
-    ensures order { IsOrderOf (Some (codes "tiles", rows_of (found_of matches.now))) result }
-    ensures range { IsInRange result }
+    requires colours { HasNumber (codes "COLOURS") 1 36 (rows_of (found_of matches.now)) }
+    ensures { IsOrderOf (Some (codes "tiles", rows_of (found_of matches.now))) result }
 {
     Order::Tiles {
-        sides: small_number(matches, "SIDES"),
-        colours: small_number(matches, "COLOURS"),
+        sides: number(matches, "SIDES"),
+        colours: number(matches, "COLOURS"),
     }
 }
 
@@ -112,7 +105,6 @@ fn tiles(matches: &ArgMatches<'_>) -> Order
 /// by the program's commands as `clap` reads them; then the error says why.
 pub fn order(alloc: Global, words: &[String]) -> Result<Order, WordsFault>
     ensures order { IfOk result (IsOrder (map string_bytes words.now)) }
-    ensures range { IfOk result IsInRange }
 
     // Words that `clap` takes are refused for want of memory alone, and others by a kind that it has for them.
     ensures memory { takes whole_app (map string_bytes words.now) ≡ true
@@ -127,6 +119,8 @@ pub fn order(alloc: Global, words: &[String]) -> Result<Order, WordsFault>
         "check" => Ok(check(alloc, matches)?),
         "solve" => Ok(solve(alloc, matches)?),
         "expand" => Ok(Order::Expand(files(alloc, matches)?)),
+        "show" => Ok(Order::Show(text(alloc, matches, "PUZZLE")?)),
+        "symmetries" => Ok(Order::Symmetries(text(alloc, matches, "PUZZLE")?)),
         "tiles" => Ok(tiles(matches)),
         // `clap` answers the words of `help` itself, by an error.
         _ => unreachable!(),

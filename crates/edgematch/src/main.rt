@@ -1,16 +1,13 @@
 //! Solves edge-matching puzzles, and checks whether a list of arrangements is complete, by a certificate.
 #![tactic(auto)]
 
-use match_runs::{Input, Output, RunFault, System, SystemLimits, run_words, stopped};
+use match_runs::{Exit, Input, Output, RunFault, System, SystemLimits, run_words, stopped};
 use std::io::ErrorKind;
 use std::process::ExitCode;
 use std::random::RandomSource;
 use std::sync::Wait;
 use std::thread::{Builder, Threads};
 use std::{env, io};
-
-// The exit status where the words can't be read.
-const UNREAD_WORDS: u8 = 2;
 
 // A stack that is enough, in bytes: 256 cells take a fifth of it. Threads get as much as the limit on stacks says.
 const STACK_LEN: usize = 0x10_0000;
@@ -19,20 +16,20 @@ const STACK_LEN: usize = 0x10_0000;
 // memory is limited, all is done on a thread, whose stack is there when it starts.
 fn main(rt: HostRuntime) -> ExitCode {
     let limits = limits(&rt, rt);
-    let status = if !limits.allow_stack(STACK_LEN as u64) {
+    let exit = if !limits.allow_stack(STACK_LEN as u64) {
         out_of_memory(&rt)
     } else if limits.bound_memory() {
         match Builder::new()
             .stack_size(STACK_LEN)
-            .spawn(&rt, move || status(&rt, &rt))
+            .spawn(&rt, move || run(&rt, &rt))
         {
             Ok(thread) => thread.join(&rt),
             Err(_) => out_of_memory(&rt),
         }
     } else {
-        status(&rt, &rt)
+        run(&rt, &rt)
     };
-    ExitCode::from(status)
+    ExitCode::from(exit.code())
 }
 
 // What the system grants: asked for on a thread too, or here where none starts.
@@ -46,10 +43,10 @@ fn limits<R: Threads>(threads: &R, rt: HostRuntime) -> SystemLimits {
     }
 }
 
-// Does what the words order, over the system's files and streams, and gives the exit status. Apart from `main`, whose
-// share of the stack has to be small.
+// Does what the words order, over the system's files and streams, and says how the program ends. Apart from `main`,
+// whose share of the stack has to be small.
 #[inline(never)]
-fn status<R: Threads + Wait + Sync + RandomSource>(threads: &R, rt: &HostRuntime) -> u8 {
+fn run<R: Threads + Wait + Sync + RandomSource>(threads: &R, rt: &HostRuntime) -> Exit {
     match words(rt) {
         Ok(words) => run_words(
             threads,
@@ -70,15 +67,15 @@ fn words(rt: &HostRuntime) -> io::Result<Vec<String>> {
     Ok(words)
 }
 
-fn out_of_memory(rt: &HostRuntime) -> u8 {
+fn out_of_memory(rt: &HostRuntime) -> Exit {
     stopped(rt.alloc(), &RunFault::Memory, &mut Output::new(rt.stderr()))
 }
 
 // Says that the words can't be read.
-fn unread(rt: &HostRuntime, error: &io::Error) -> u8 {
+fn unread(rt: &HostRuntime, error: &io::Error) -> Exit {
     if error.kind() == ErrorKind::OutOfMemory {
         return out_of_memory(rt);
     }
     let _ = rt.eprintln("the words of the command line are not UTF-8");
-    UNREAD_WORDS
+    Exit::Failed
 }

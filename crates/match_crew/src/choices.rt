@@ -5,8 +5,8 @@ ghost use Rattle.steal_crew.specs.LiveHands.{Gave};
 ghost use Rattle.xcc_dance.specs.Outcome.{IsCiteWithin};
 
 use crate::branches::OpenBranch;
-use crate::images::Placed;
-use crate::rules::Rules;
+use crate::images::Occupied;
+use crate::shared::Shared;
 use match_puzzle::Pair;
 use std::alloc::AllocError;
 use std::sync::atomic::Ordering;
@@ -22,7 +22,7 @@ const LEVELS_GIVEN: usize = 6;
 // What a job is asked.
 #[derive(Drop)]
 pub struct Choices<'a, 'h> {
-    pub rules: &'a Rules<'a>,
+    pub shared: &'a Shared<'a>,
     pub hand: &'a mut Hand<'h, OpenBranch>,
     pub number: u32,
     // how many pairs the job's prefix has
@@ -40,7 +40,7 @@ impl<'a, 'h> Choices<'a, 'h> {
     fn known(&self, placed: &[Pair]) -> Option<Cite>
         ensures { IfSome result IsCiteWithin }
     {
-        let images = &self.rules.plan.images;
+        let images = &self.shared.plan.images;
         if self.holds {
             images.cite_any(placed, self.number)
         } else {
@@ -54,10 +54,10 @@ impl<'a, 'h> Choices<'a, 'h> {
         ensures same { self.new.hand.ghost_name ≡ self.old.hand.ghost_name }
         ensures gave { Gave self.old.hand.now self.new.hand.now }
     {
-        let pairs = pairs.to_vec(self.rules.alloc)?;
+        let pairs = pairs.to_vec(self.shared.alloc)?;
         match self.hand.give(OpenBranch { pairs }) {
             Ok(number) => {
-                self.rules.waiting.fetch_add(1, Ordering::Relaxed);
+                self.shared.waiting.fetch_add(1, Ordering::Relaxed);
                 Ok(Some(Cite::Same(number)))
             }
             Err(_) => Ok(None),
@@ -69,7 +69,7 @@ impl<'a, 'h> Choices<'a, 'h> {
         ensures same { self.new.hand.ghost_name ≡ self.old.hand.ghost_name }
         ensures gave { Gave self.old.hand.now self.new.hand.now }
     {
-        for prefix in &self.rules.plan.prefixes {
+        for prefix in &self.shared.plan.prefixes {
             let _cite = self.give(prefix)?;
         }
         Ok(())
@@ -81,11 +81,11 @@ impl<'a, 'h> Choices<'a, 'h> {
         ensures same { self.new.hand.ghost_name ≡ self.old.hand.ghost_name }
         ensures gave { self.new.hand.now ≡ self.old.hand.now }
     {
-        if self.rules.nearly_spent(self.asked) {
+        if self.shared.nearly_spent(self.asked) {
             return true;
         }
         if !self.gives && self.asked >= LONG && self.asked % 16 == 0 {
-            self.gives = self.rules.few_wait();
+            self.gives = self.shared.few_wait();
         }
         self.gives
             && placed.len() <= self.level.saturating_add(LEVELS_GIVEN)
@@ -96,8 +96,8 @@ impl<'a, 'h> Choices<'a, 'h> {
     // on the stack at each level of the search.
     #[inline(never)]
     fn may_cite_below(&self, placed: &[Pair]) -> bool {
-        let images = &self.rules.plan.images;
-        images.may_come(&Placed::of(placed), self.number)
+        let images = &self.shared.plan.images;
+        images.may_come(&Occupied::of(placed), self.number)
     }
 }
 

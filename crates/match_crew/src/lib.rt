@@ -9,8 +9,8 @@ mod images;
 mod items;
 mod orbits;
 mod plans;
-mod rules;
 mod searches;
+mod shared;
 mod solves;
 
 pub use check_crew::{Gate, Open, check_with};

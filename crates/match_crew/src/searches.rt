@@ -1,7 +1,7 @@
 //! A job for each open branch.
 
 ghost use Rattle.std.specs.Prelude.{Contains, List, IfOk, IfSome};
-ghost use Rattle.match_puzzle.specs.declared.placements.Pair.{Pair as Placed};
+ghost use Rattle.match_puzzle.specs.declared.placements.Pair.{Pair as PlacedPair};
 ghost use Rattle.match_puzzle.specs.declared.placements.Placement.{Placement};
 ghost use Rattle.steal_crew.specs.LiveHands.{Gave};
 ghost use Rattle.match_puzzle.specs.Arrangement.{IsArrangement};
@@ -9,7 +9,7 @@ ghost use Rattle.match_crew.specs.Solving.{AreArrangementsOf, IsOutcomeOf};
 
 use crate::branches::{OpenBranch, fit_in_turn, prefix_of};
 use crate::choices::Choices;
-use crate::rules::Rules;
+use crate::shared::Shared;
 use cert_tree::{Lemma, Node};
 use match_board::limits::{MOST_ARRANGEMENTS, MOST_FUEL};
 use match_puzzle::{Arrangement, Pair};
@@ -41,7 +41,7 @@ pub struct Searches<'a, T: Wait> {
     pub rt: &'a T,
     pub xcc: &'a Xcc<'a>,
     pub desk: &'a Desk,
-    pub rules: Rules<'a>,
+    pub shared: Shared<'a>,
     // whether a job gave up or found too many
     pub is_over: AtomicBool,
 }
@@ -56,17 +56,17 @@ struct Finished {
 impl<'a, T: Wait> Searches<'a, T> {
     // Searches below these pairs, which fit in turn, or finds that the fuel doesn't do.
     fn run<C: Cites>(&self, pairs: &[Pair], cites: &mut C) -> Result<Option<Finished>, AllocError>
-        requires takes { (asked : List Placed) → C.takes cites.old asked }
+        requires takes { (asked : List PlacedPair) → C.takes cites.old asked }
         ensures found { IfOk result (λ o. IfSome o
             (λ f. AreArrangementsOf self.now.xcc.now.puzzle f.found.items)) }
         ensures moved { C.moves cites.old cites.new }
     {
-        let rules = &self.rules;
-        if !fit_in_turn(rules.alloc, self.xcc.puzzle(), pairs)? {
+        let shared = &self.shared;
+        if !fit_in_turn(shared.alloc, self.xcc.puzzle(), pairs)? {
             return Ok(None);
         }
-        let mut search = Search::new(rules.alloc, self.xcc)?;
-        match search.run_by(pairs, rules.fuel.min(MOST_FUEL), &rules.item_rule, cites) {
+        let mut search = Search::new(shared.alloc, self.xcc)?;
+        match search.run_by(pairs, shared.fuel.min(MOST_FUEL), &shared.item_rule, cites) {
             Ok(Outcome::Done { tree, found }) => Ok(Some(Finished { tree, found })),
             Ok(Outcome::GaveUp) => Ok(None),
             // it did not run before
@@ -86,16 +86,16 @@ impl<'a, T: Wait> Searches<'a, T> {
             (λ f. AreArrangementsOf self.now.xcc.now.puzzle f.found.items)) }
         ensures gave { Gave hand.old hand.new }
     {
-        if self.rules.is_alone() {
+        if self.shared.is_alone() {
             return self.run(pairs, &mut NoCites);
         }
-        let rules = &self.rules;
+        let shared = &self.shared;
         let mut choices = Choices {
-            rules,
+            shared,
             hand,
             number,
             level: pairs.len(),
-            holds: rules.plan.images.cite_any(pairs, number).is_some(),
+            holds: shared.plan.images.cite_any(pairs, number).is_some(),
             asked: 0,
             gives: false,
         };
@@ -111,7 +111,7 @@ impl<'a, T: Wait> Searches<'a, T> {
         if found.len() > MOST_ARRANGEMENTS as usize {
             return Ok(Searched::Full);
         }
-        let prefix = prefix_of(self.rules.alloc, pairs)?;
+        let prefix = prefix_of(self.shared.alloc, pairs)?;
         let lemma = Lemma {
             number,
             prefix,
@@ -141,7 +141,7 @@ impl<'a, T: Wait> LiveWork for Searches<'a, T> {
         hand: &mut Hand<'_, OpenBranch>,
     ) -> Result<Searched, AllocError> {
         if number > 0 {
-            self.rules.waiting.fetch_sub(1, Ordering::Relaxed);
+            self.shared.waiting.fetch_sub(1, Ordering::Relaxed);
         }
         if self.is_over.load(Ordering::Relaxed) {
             return Ok(Searched::GaveUp);

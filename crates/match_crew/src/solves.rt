@@ -15,8 +15,8 @@ use crate::branches::OpenBranch;
 use crate::faults::SolveFault;
 use crate::items::ItemRule;
 use crate::plans::Plan;
-use crate::rules::Rules;
 use crate::searches::{Searched, Searches};
+use crate::shared::Shared;
 use cert_tree::{AssembleFault, Certificate};
 use match_board::limits::{MOST_ARRANGEMENTS, MOST_LEMMAS};
 use match_puzzle::{Arrangement, Puzzle};
@@ -75,17 +75,17 @@ fn search_all<R: Threads + Wait + Sync>(
     rt: &R,
     xcc: &Xcc<'_>,
     desk: &Desk,
-    rules: Rules<'_>,
+    shared: Shared<'_>,
 ) -> Result<Crew<Searched>, AllocError>
-    requires { (1 ≤ rules.workers) × (rules.workers ≤ MOST_WORKERS) }
-    ensures { IfOk result (λ c. IsSearchedBy xcc.now.puzzle desk.now rules.entry.workers c.results.items c.tallies.items) }
+    requires { (1 ≤ shared.workers) × (shared.workers ≤ MOST_WORKERS) }
+    ensures { IfOk result (λ c. IsSearchedBy xcc.now.puzzle desk.now shared.entry.workers c.results.items c.tallies.items) }
 {
-    let (alloc, workers) = (rules.alloc, rules.workers);
+    let (alloc, workers) = (shared.alloc, shared.workers);
     let searches = Searches {
         rt,
         xcc,
         desk,
-        rules,
+        shared,
         is_over: AtomicBool::new(false),
     };
     let root = OpenBranch {
@@ -123,7 +123,7 @@ fn add(
 }
 
 // The receipt of a lemma, and what it found.
-fn posted(
+fn receipt_of(
     _puzzle: &Puzzle,
     _desk: &Desk,
     searched: Searched,
@@ -160,7 +160,7 @@ fn collect(
         listed: Vec::new(alloc),
     };
     for searched in results {
-        let (receipt, found) = posted(_puzzle, _desk, searched)?;
+        let (receipt, found) = receipt_of(_puzzle, _desk, searched)?;
         if collected.listed.len() + found.len() > MOST_ARRANGEMENTS as usize {
             return Err(SolveFault::Full);
         }
@@ -229,7 +229,7 @@ pub fn solve_with<R: Threads + Wait + Sync>(
     };
     let plan = Plan::new(alloc, &xcc, &symmetries, item_rule, depth)?;
     let desk = Desk::new(alloc)?;
-    let rules = Rules {
+    let shared = Shared {
         alloc,
         plan: &plan,
         item_rule,
@@ -237,7 +237,7 @@ pub fn solve_with<R: Threads + Wait + Sync>(
         workers,
         waiting: AtomicU64::new(0),
     };
-    let (results, tally) = search_all(rt, &xcc, &desk, rules)?.into_parts();
+    let (results, tally) = search_all(rt, &xcc, &desk, shared)?.into_parts();
     let count = results.len() as u32;
     let Collected {
         receipts,

@@ -2,5 +2,3 @@ pub mod Line
 pub mod AnswerText
 pub mod TallyText
 pub mod BoardText
-pub mod Closure
-pub mod Expansion

@@ -3,12 +3,11 @@
 
 mod answers;
 mod boards;
-mod expansions;
 mod lines;
 mod tallies;
 
 pub use answers::write_answer;
 pub use boards::write_board;
-pub use expansions::{ExpandFault, expand, expansion_laws};
 pub use lines::Line;
+pub use symmetry_orbits::{ExpandFault, expand, expansion_laws};
 pub use tallies::{Taken, write_tally};

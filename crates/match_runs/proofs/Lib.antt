@@ -5,3 +5,4 @@ pub mod RepetitionLemmas
 pub mod RunLemmas
 pub mod SolvingLemmas
 mod WordLemmas
+mod NamingLemmas

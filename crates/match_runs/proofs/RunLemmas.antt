@@ -21,24 +21,25 @@ use Rattle.cert_tree.specs.Certificate.{Contents, Piece}
 use Rattle.cert_tree.specs.CertificateText.{Said, Makes, CertificateGives}
 use Rattle.cert_tree.specs.declared.faults.AssembleFault.{AssembleFault}
 use Rattle.cert_tree.specs.declared.faults.CertTextFault.TheVariants.{Text, Assemble}
-use Rattle.cert_check.specs.Setting.{Question, line_of}
+use Rattle.cert_check.specs.Setting.{Question, line_of, motion_of}
 use Rattle.cert_check.specs.Answer.{AreSymmetries, IsAnswer, IsCompleteList}
+use Rattle.cert_check.proofs.CheckLemmas.{are_of_puzzle, lines_of}
 use Rattle.cert_check.proofs.ListLemmas.{contains_at, contains_none, mapped_at, place_of}
 use Rattle.cert_check.specs.declared.faults.Answer.{Answer}
 use Rattle.cert_check.specs.declared.faults.Answer.TheVariants.{Refused}
 use Rattle.cert_check.specs.declared.faults.Fault.TheVariants as checks
-use Rattle.match_report.specs.Closure.{AddsEach}
-use Rattle.match_report.proofs.ClosureLemmas.{each_only}
-use Rattle.match_report.proofs.ExpansionLemmas.{has_what_is_reached}
+use Rattle.symmetry_orbits.specs.Closure.{AddsEach}
+use Rattle.symmetry_orbits.proofs.ClosureLemmas.{each_only}
+use Rattle.symmetry_orbits.proofs.ExpansionLemmas.{has_what_is_reached}
 use Rattle.match_runs.proofs.RepetitionLemmas.{more_are_reached}
 use Rattle.match_report.specs.AnswerText.{HasLine, HasWords}
-use Rattle.match_report.specs.declared.expansions.ExpandFault.{ExpandFault}
-use Rattle.match_report.specs.declared.expansions.ExpandFault.TheVariants as expansions
-use Rattle.match_report.specs.Expansion.{AreMoreReached, AreOf, IsExpansion, HasWhatIsReached}
+use Rattle.symmetry_orbits.specs.declared.expansions.ExpandFault.{ExpandFault}
+use Rattle.symmetry_orbits.specs.declared.expansions.ExpandFault.TheVariants as expansions
+use Rattle.symmetry_orbits.specs.Expansion.{AreMoreReached, AreOf, IsExpansion, HasWhatIsReached}
 use Rattle.match_runs.specs.declared.faults.RunFault.TheVariants as runs
 use Rattle.match_runs.specs.FaultText.{run_of_expand}
 use Rattle.match_runs.specs.Documents.{first_of, second_of, third_of, texts_in}
-use Rattle.match_runs.specs.Runs.{motion_of, AreAllInOrder, texts_of}
+use Rattle.match_runs.specs.Runs.{AreAllInOrder, texts_of}
 use Rattle.match_runs.specs.declared.streams.documents.Documents.{Documents}
 
 -- where a certificate is given, the text says what it is made of
@@ -87,11 +88,6 @@ row_within p a puzzle is = (
 pub arrangements_within : (p : Task) (listed : List (List Placement)) → IsPuzzle p → ((a : List Placement) → Contains listed a → IsArrangement p a) → length listed ≤ MOST_ARRANGEMENTS → IsListWithin SECOND listed
 arrangements_within p listed puzzle are few = (few, all_by_place (IsRowWithin SECOND) listed (λ i a at. row_within p a puzzle (are a (contains_at listed i a at))))
 
--- the lines of the symmetries with these lines
-lines_of : (p : Task) (lines : List SymmetryLine) → map line_of (map (motion_of p) lines) ≡ lines
-lines_of p [] = refl
-lines_of p (g ∷ lines) = ap (λ gs. g ∷ gs) (lines_of p lines)
-
 module _ (p : Task) (listed : List (List Placement)) (lines : List SymmetryLine) (puzzle : IsPuzzle p) (complete : IsCompleteList p lines listed) where
   -- each symmetry that is kept has one of the lines
   kept_line : (kept : List Motion) → AddsEach [] (map (motion_of p) lines) kept → (m : Motion) → Contains kept m → (number : ℕ) × (g : SymmetryLine) × (slice_get lines number ≡ Some g) × (m ≡ motion_of p g)
@@ -124,7 +120,7 @@ module _ (p : Task) (listed : List (List Placement)) (lines : List SymmetryLine)
   all_are = record {
     puzzle = puzzle;
     arrangements = complete.arrangements;
-    made = λ number m at. let g = mapped_at (motion_of p) lines number m at in ap (λ (n : Motion). n.puzzle) g.2;
+    made = are_of_puzzle p lines;
     symmetries = subst (AreSymmetries p) (sym (lines_of p lines)) complete.symmetries;
   }
 

@@ -19,8 +19,8 @@ use Rattle.cert_tree.specs.declared.faults.AssembleFault.{AssembleFault}
 use Rattle.cert_tree.specs.declared.faults.AssembleFault.TheVariants as assemblies
 use Rattle.cert_tree.specs.declared.faults.CertTextFault.{CertTextFault}
 use Rattle.cert_tree.specs.declared.faults.CertTextFault.TheVariants as cert_text
-use Rattle.match_report.specs.declared.expansions.ExpandFault.{ExpandFault}
-use Rattle.match_report.specs.declared.expansions.ExpandFault.TheVariants as expansions
+use Rattle.symmetry_orbits.specs.declared.expansions.ExpandFault.{ExpandFault}
+use Rattle.symmetry_orbits.specs.declared.expansions.ExpandFault.TheVariants as expansions
 use Rattle.match_crew.specs.declared.faults.SolveFault.{SolveFault}
 use Rattle.match_crew.specs.declared.faults.SolveFault.TheVariants as solves
 use Rattle.match_runs.specs.declared.faults.RunFault.{RunFault}

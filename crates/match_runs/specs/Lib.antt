@@ -1,9 +1,12 @@
 pub mod Streams
 pub mod Moves
 pub mod Documents
+pub mod Exits
 pub mod FaultText
 pub mod Runs
 pub mod Solving
+pub mod Naming
+pub mod Showing
 pub mod Files
 pub mod OrderRuns
 pub mod WordRuns

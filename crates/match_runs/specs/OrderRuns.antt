@@ -1,10 +1,10 @@
 -- What an order comes to.
-use Rattle.std.specs.Prelude.{◌≡◌, ℕ, List, Option, Err}
+use Rattle.std.specs.Prelude.{◌≡◌, ◌⊎◌, ℕ, List, Option, Err}
 use Rattle.std.specs.String.{string_bytes}
 use Rattle.std.specs.Io.KnownBytes.{Appends}
 use Rattle.command_words.specs.declared.orders.Files.{Files}
 use Rattle.command_words.specs.declared.orders.Order.{Order}
-use Rattle.command_words.specs.declared.orders.Order.TheVariants.{Joined, Check, Solve, Expand, Tiles}
+use Rattle.command_words.specs.declared.orders.Order.TheVariants.{Joined, Check, Solve, Expand, Show, Symmetries, Tiles}
 use Rattle.match_runs.specs.Documents.{Texts}
 use Rattle.match_board.specs.declared.limits.TheConstants.{MOST_CLASSES}
 use Rattle.match_board.specs.Turns.{HasMoreLeastWords}
@@ -12,31 +12,25 @@ use Rattle.match_runs.specs.Files.{FilesHold, HoldsText}
 use Rattle.match_runs.specs.Moves.{Reading, Writing, WritesFront, WritesWhole}
 use Rattle.match_runs.specs.Runs.{CheckGives, ExpansionGives, InputReadToEnd, IsOfChecking, IsOfDocuments, IsOfExpanding}
 use Rattle.match_runs.specs.Runs.{IsOfTiles, RunGives, SpellCompleteList, SpellTooMany, StopsReadingInput, TilesGive}
-use Rattle.match_runs.specs.Solving.{IsOfPuzzle, IsOfSolving, Products, SolveFails, SolveGives}
+use Rattle.match_runs.specs.Solving.{IsOfPuzzle, IsOfSolving, IsUnwritten, Products, SolveFails, SolveGives}
+use Rattle.match_runs.specs.Exits.{status_exit}
+use Rattle.match_runs.specs.Naming.{IsOfNaming, SymmetriesGive}
+use Rattle.match_runs.specs.Showing.{BoardGives}
+use Rattle.match_runs.specs.declared.exits.Exit.{Exit}
+use Rattle.match_runs.specs.declared.exits.Exit.TheVariants as exits
 use Rattle.match_runs.specs.declared.runs.Status.{Status}
-use Rattle.match_runs.specs.declared.runs.Status.TheVariants as status
 use Rattle.match_runs.specs.declared.faults.RunFault.{RunFault}
 use Rattle.match_runs.specs.declared.faults.RunFault.TheVariants as runs
 
--- the exit status of what a check found
-abbrev pub code_of : Status → ℕ
-code_of status.Complete = 0
-code_of status.Refused = 1
+-- The answer to the texts was written, and the program ends so.
+abbrev pub Checks : Writing → Exit → Texts → Type 0
+Checks output exit texts =
+    WritesWhole output (λ text. (status : Status) × CheckGives texts text status × (exit ≡ status_exit status))
 
--- the exit status of a fault: that a puzzle was not solved is told apart
-abbrev pub fault_code : RunFault → ℕ
-fault_code (runs.Solve fault) = 3
-fault_code fault = 2
-
--- The answer to the texts was written, and this is its exit status.
-abbrev pub Checks : Writing → ℕ → Texts → Type 0
-Checks output code texts =
-    WritesWhole output (λ text. (status : Status) × CheckGives texts text status × (code ≡ code_of status))
-
--- All arrangements were written, or the answer to the texts, and this is its exit status.
-abbrev pub Expands : Writing → ℕ → Texts → Type 0
-Expands output code texts =
-    WritesWhole output (λ text. (status : Status) × ExpansionGives texts text status × (code ≡ code_of status))
+-- All arrangements were written, or the answer to the texts, and the program ends so.
+abbrev pub Expands : Writing → Exit → Texts → Type 0
+Expands output exit texts =
+    WritesWhole output (λ text. (status : Status) × ExpansionGives texts text status × (exit ≡ status_exit status))
 
 -- What a solve of the puzzle that a file holds wrote: the list and the certificate each to the file of its name, which was
 -- made anew, and the report.
@@ -46,19 +40,27 @@ Solves takes output files workers text =
     × takes (string_bytes files.list) made.list × takes (string_bytes files.certificate) made.certificate
     × Appends output.before output.after made.report
 
--- What an order without a fault did, by what the files hold and which file took which text, and the exit status.
-abbrev pub OrderGives : (holds : List ℕ → Option (List ℕ)) (takes : (name text : List ℕ) → Type 0) (input : Reading)
-    (output : Writing) → Order → ℕ → Type 0
-OrderGives holds takes input output Joined code = InputReadToEnd input (Checks output code)
-OrderGives holds takes input output (Check files workers forks) code = FilesHold holds files (Checks output code)
-OrderGives holds takes input output (Solve files depth fuel workers) code =
-    (code ≡ 0)
-    × (text : List ℕ) × HoldsText (holds (string_bytes files.puzzle)) text × Solves takes output files workers text
-OrderGives holds takes input output (Expand files) code = FilesHold holds files (Expands output code)
-OrderGives holds takes input output (Tiles sides colours) code =
-    (code ≡ 0) × WritesWhole output (TilesGive sides colours)
+-- What the file of a puzzle holds is a text of which this is so.
+abbrev pub PuzzleHolds : (held : Option (List ℕ)) → (List ℕ → Type 0) → Type 0
+PuzzleHolds held Is = (text : List ℕ) × HoldsText held text × Is text
 
--- What exit status 0 of a check says of what was checked.
+-- What an order without a fault did, by what the files hold and which file took which text, and how it ends.
+abbrev pub OrderGives : (holds : List ℕ → Option (List ℕ)) (takes : (name text : List ℕ) → Type 0) (input : Reading)
+    (output : Writing) → Order → Exit → Type 0
+OrderGives holds takes input output Joined exit = InputReadToEnd input (Checks output exit)
+OrderGives holds takes input output (Check files workers forks) exit = FilesHold holds files (Checks output exit)
+OrderGives holds takes input output (Solve files depth fuel workers) exit =
+    (exit ≡ exits.Done)
+    × (text : List ℕ) × HoldsText (holds (string_bytes files.puzzle)) text × Solves takes output files workers text
+OrderGives holds takes input output (Expand files) exit = FilesHold holds files (Expands output exit)
+OrderGives holds takes input output (Show puzzle) exit =
+    (exit ≡ exits.Done) × PuzzleHolds (holds (string_bytes puzzle)) (λ text. WritesWhole output (BoardGives text))
+OrderGives holds takes input output (Symmetries puzzle) exit =
+    (exit ≡ exits.Done) × PuzzleHolds (holds (string_bytes puzzle)) (λ text. WritesWhole output (SymmetriesGive text))
+OrderGives holds takes input output (Tiles sides colours) exit =
+    (exit ≡ exits.Done) × WritesWhole output (TilesGive sides colours)
+
+-- What it says of what was checked that a check is done.
 abbrev pub OrderShows : (holds : List ℕ → Option (List ℕ)) (input : Reading) → Order → Type 0
 OrderShows holds input Joined = InputReadToEnd input SpellCompleteList
 OrderShows holds input (Check files workers forks) = FilesHold holds files SpellCompleteList
@@ -70,6 +72,8 @@ IsOfOrder Joined fault = IsOfChecking fault
 IsOfOrder (Check files workers forks) fault = IsOfChecking fault
 IsOfOrder (Solve files depth fuel workers) fault = IsOfSolving fault
 IsOfOrder (Expand files) fault = IsOfExpanding fault
+IsOfOrder (Show puzzle) fault = IsOfNaming fault
+IsOfOrder (Symmetries puzzle) fault = IsOfNaming fault
 IsOfOrder (Tiles sides colours) fault = IsOfTiles fault
 
 -- ---- what a fault says
@@ -99,6 +103,24 @@ StopsListing output sides colours runs.Write = WritesFront output (TilesGive sid
 StopsListing output sides colours runs.Tiles = HasMoreLeastWords sides colours MOST_CLASSES
 StopsListing output sides colours fault = Unit {0}
 
+-- A front of the report on what is made of the puzzle that the text spells was written.
+abbrev pub ReportsFront : Writing → (workers : ℕ) → (text : List ℕ) → Type 0
+ReportsFront output workers text =
+    WritesFront output (λ report. (made : Products) × SolveGives workers text made × (report ≡ made.report))
+
+-- What a failed writing of a solve says of the output: nothing was written to it, or a front of the report.
+abbrev pub StopsReporting : Writing → (held : Option (List ℕ)) → (workers : ℕ) → Type 0
+StopsReporting output held workers =
+    IsUnwritten output ⊎ ((text : List ℕ) × HoldsText held text × ReportsFront output workers text)
+
+-- What a fault says of telling of a puzzle: one of the puzzle is what its text comes to, and where writing failed, a
+-- front of what it gives went out.
+abbrev pub StopsTelling : Writing → (held : Option (List ℕ)) → (Gives : (text printed : List ℕ) → Type 0) → RunFault
+    → Type 0
+StopsTelling output held Gives fault =
+    (IsOfPuzzle fault → PuzzleHolds held (λ text. SolveFails text fault))
+    × (fault ≡ runs.Write → PuzzleHolds held (λ text. WritesFront output (Gives text)))
+
 -- What the fault that an order ends with says of what the files hold and of the input. Of a file that can't be opened,
 -- made or read it says no more than that.
 abbrev pub OrderStops : (holds : List ℕ → Option (List ℕ)) (input : Reading) (output : Writing) → Order → RunFault → Type 0
@@ -107,7 +129,12 @@ OrderStops holds input output Joined fault =
 OrderStops holds input output (Check files workers forks) fault =
     ComesOfTexts fault → FilesHold holds files (StopsChecking output fault)
 OrderStops holds input output (Solve files depth fuel workers) fault =
-    IsOfPuzzle fault → (text : List ℕ) × HoldsText (holds (string_bytes files.puzzle)) text × SolveFails text fault
+    (IsOfPuzzle fault → (text : List ℕ) × HoldsText (holds (string_bytes files.puzzle)) text × SolveFails text fault)
+    × (fault ≡ runs.Write → StopsReporting output (holds (string_bytes files.puzzle)) workers)
 OrderStops holds input output (Expand files) fault =
     ComesOfTexts fault → FilesHold holds files (StopsExpanding output fault)
+OrderStops holds input output (Show puzzle) fault =
+    StopsTelling output (holds (string_bytes puzzle)) BoardGives fault
+OrderStops holds input output (Symmetries puzzle) fault =
+    StopsTelling output (holds (string_bytes puzzle)) SymmetriesGive fault
 OrderStops holds input output (Tiles sides colours) fault = StopsListing output sides colours fault

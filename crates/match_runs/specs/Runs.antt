@@ -1,12 +1,10 @@
 -- What a run comes to.
-use Rattle.std.specs.Prelude.{◌≡◌, ◌≢◌, ◌+◌, ◌<◌, ◌≤◌, ◌^◌, ◌↔◌, ℕ, List, Result, Ok, Err, Contains, length, map}
+use Rattle.std.specs.Prelude.{◌≡◌, ◌≢◌, ◌+◌, ◌<◌, ◌≤◌, ◌^◌, ◌↔◌, ℕ, List, Result, Ok, Err, Contains, length}
 use Rattle.match_board.specs.declared.limits.TheConstants.{MOST_CLASSES, MOST_ARRANGEMENTS, MOST_BYTES}
 use Rattle.match_board.specs.Turns.{AreLeastWords}
 use Rattle.match_puzzle.specs.Puzzle.{Task}
 use Rattle.match_puzzle.specs.Arrangement.{IsArrangement}
 use Rattle.match_puzzle.specs.declared.placements.Placement.{Placement}
-use Rattle.puzzle_symmetry.specs.Motion.{Motion}
-use Rattle.puzzle_symmetry.specs.declared.lines.SymmetryLine.{SymmetryLine}
 use Rattle.match_text.specs.Puzzles.{PuzzleReads}
 use Rattle.match_text.specs.Lists.{list_of}
 use Rattle.match_text.specs.ListSpelling.{IsListWithin, list_spelling}
@@ -19,13 +17,12 @@ use Rattle.cert_tree.specs.Assembly.{Assembles, IsAssembly}
 use Rattle.cert_tree.specs.CertificateText.{Said, certificate_of}
 use Rattle.cert_tree.specs.declared.faults.AssembleFault.TheVariants as assemblies
 use Rattle.cert_tree.specs.declared.faults.CertTextFault.TheVariants as certificates
-use Rattle.cert_check.specs.Setting.{Question}
-use Rattle.cert_check.specs.Answer.{IsAnswer, IsCompleteList}
+use Rattle.cert_check.specs.Setting.{Question, motions_of}
+use Rattle.cert_check.specs.Answer.{AreDistinct, IsAnswer, IsCompleteList}
 use Rattle.cert_check.specs.declared.faults.Answer.{Answer}
 use Rattle.cert_check.specs.declared.faults.Answer.TheVariants.{Complete, Refused}
 use Rattle.match_report.specs.AnswerText.{answer_line}
-use Rattle.match_report.specs.Closure.{StandOnce}
-use Rattle.match_report.specs.Expansion.{IsExpansion, AreMoreReached}
+use Rattle.symmetry_orbits.specs.Expansion.{IsExpansion, AreMoreReached}
 use Rattle.match_runs.specs.Documents.{Texts, texts_in}
 use Rattle.match_runs.specs.Moves.{FailsToRead, Reading, ReadsAtMost, ReadsPast, ReadsToEnd, ReadsWhole}
 use Rattle.match_runs.specs.declared.streams.documents.Documents.{Documents}
@@ -99,10 +96,6 @@ CheckGives texts text ends =
 
 -- ---- expansions
 
--- a line as a symmetry of the puzzle
-abbrev pub motion_of : Task → SymmetryLine → Motion
-motion_of p g = record { puzzle = p; line = g }
-
 -- The text is the list's: of version 1 where that has the numbers for it, else of version 2.
 pub record IsListText (rows : List (List Placement)) (text : List ℕ) : Type 0 where
   pub first : IsListWithin FIRST rows → text ≡ list_spelling 1 rows
@@ -110,9 +103,9 @@ pub record IsListText (rows : List (List Placement)) (text : List ℕ) : Type 0 
 
 -- These are all arrangements of the puzzle, each once, in the order of the closure of the list, and they can be listed.
 pub record AreAllInOrder (question : Question) (all : List (List Placement)) : Type 0 where
-  pub expansion : IsExpansion (map (motion_of question.puzzle) question.symmetries) question.listed all
+  pub expansion : IsExpansion (motions_of question) question.listed all
   pub just : (a : List Placement) → Contains all a ↔ IsArrangement question.puzzle a
-  pub once : StandOnce all
+  pub once : AreDistinct all
   pub few : length all ≤ MOST_ARRANGEMENTS
 
 -- What is printed of what was asked: the answer where it is refused, and else the list of all arrangements.

@@ -8,8 +8,11 @@ use Rattle.command_words.specs.Commands.{whole_app}
 use Rattle.command_words.specs.Orders.{IsOrder}
 use Rattle.command_words.specs.declared.orders.Order.{Order}
 use Rattle.match_text.specs.Spelling.{line_text}
+use Rattle.match_runs.specs.Exits.{fault_exit}
 use Rattle.match_runs.specs.FaultText.{fault_line, memory_words}
 use Rattle.match_runs.specs.Moves.{FrontOf, Writing}
+use Rattle.match_runs.specs.declared.exits.Exit.{Exit}
+use Rattle.match_runs.specs.declared.exits.Exit.TheVariants.{Done, Failed}
 use Rattle.match_runs.specs.declared.faults.RunFault.{RunFault}
 use Rattle.match_runs.specs.declared.faults.RunFault.TheVariants as runs
 
@@ -29,12 +32,31 @@ TellsOfText errors = TellsFault errors runs.Memory ⊎ TellsFault errors runs.Wr
 abbrev pub AsksForText : ErrorKind → Type 0
 AsksForText kind = (kind ≡ DisplayHelp) ⊎ (kind ≡ DisplayVersion)
 
+-- What was ordered was done, and nothing was told; or a fault stopped it, which was told.
+abbrev pub CarriesOut : (Gives : Exit → Type 0) (Stops : RunFault → Type 0) (errors : Writing) (Untold Unwritten : Type 0)
+    → Exit → Type 0
+CarriesOut Gives Stops errors Untold Unwritten exit =
+    (Gives exit × Untold)
+    ⊎ ((fault : RunFault) × Stops fault × (exit ≡ fault_exit fault) × TellsFault errors fault
+    × (fault ≢ runs.Write → Unwritten))
+
+-- Memory was refused to the words, and that was told.
+abbrev pub WantsMemory : (errors : Writing) (Unwritten : Type 0) → Exit → Type 0
+WantsMemory errors Unwritten exit = (exit ≡ Failed) × TellsFault errors runs.Memory × Unwritten
+
+-- Words that `clap` refuses for a reason of this kind: where help or the version was asked for, all is done and nothing
+-- told, or it was told why that text wasn't written; else nothing was written.
+abbrev pub Explains : (errors : Writing) (Untold Unwritten : Type 0) → Exit → ErrorKind → Type 0
+Explains errors Untold Unwritten exit kind =
+    (AsksForText kind → ((exit ≡ Done) × Untold) ⊎ ((exit ≡ Failed) × TellsOfText errors))
+    × ((AsksForText kind → ⊥) → (exit ≡ Failed) × Unwritten)
+
 -- The words are those of an order, of which this is so; or memory was refused while they were read; or `clap` doesn't
 -- take them, for a reason of this kind.
-abbrev pub WordsGive : List Text → (IsOrdered : Order → Type 0) → (WantsMemory : Type 0) → (AreRefused : ErrorKind → Type 0)
+abbrev pub WordsGive : List Text → (IsOrdered : Order → Type 0) → (IsShort : Type 0) → (AreRefused : ErrorKind → Type 0)
     → Type 0
-WordsGive words IsOrdered WantsMemory AreRefused =
+WordsGive words IsOrdered IsShort AreRefused =
     ((order : Order) × IsOrder words order × IsOrdered order)
-    ⊎ (WantsMemory
+    ⊎ (IsShort
     ⊎ ((takes whole_app words ≢ true)
     × (kind : ErrorKind) × IsAmong kind (fault_of whole_app words) × AreRefused kind))

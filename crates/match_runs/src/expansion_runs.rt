@@ -3,16 +3,16 @@
 ghost use Rattle.std.specs.Prelude.{◌≡◌, ◌≢◌, ◌⊎◌, List, Err, IfOk, IfErr, IsErrOf};
 ghost use Rattle.match_puzzle.specs.Puzzle.{IsPuzzle};
 ghost use Rattle.match_puzzle.specs.declared.placements.Placement.{Placement};
-ghost use Rattle.cert_check.specs.Setting.{question_of};
 ghost use Rattle.cert_check.specs.Answer.{IsCompleteList};
-ghost use Rattle.match_report.specs.Expansion.{AreMoreReached};
+ghost use Rattle.match_report.specs.AnswerText.{HasLine, answer_line};
+ghost use Rattle.symmetry_orbits.specs.Expansion.{AreMoreReached};
 ghost use Rattle.match_runs.specs.Moves.{WritesFront, WritesWhole, reading_of, writing_of};
 ghost use Rattle.match_runs.specs.Runs.{IsOfDocuments, IsOfExpanding, IsOfPrinting};
 ghost use Rattle.match_runs.specs.Runs.{AreShort, ReadToEnds, StopsReading, texts_of};
-ghost use Rattle.match_runs.specs.Runs.{AreAllInOrder, IsListText, ExpansionGives, RunGives, SpellTooMany};
+ghost use Rattle.match_runs.specs.Runs.{AreAllInOrder, IsListText, ExpansionGives, RunGives, SpellTooMany, status_of};
 
 use crate::faults::{Document, RunFault};
-use crate::questions::{Question, read_question};
+use crate::questions::read_question;
 use crate::random_fold::RandomFold;
 use crate::repetitions::distinct_symmetries;
 use crate::runs::{Status, status_for, write_text};
@@ -20,7 +20,7 @@ use crate::streams::documents::Documents;
 use crate::streams::readings::read_whole;
 use crate::streams::sinks::Sink;
 use crate::streams::sources::Source;
-use cert_check::{Answer, check};
+use cert_check::{Answer, Open, Prepared};
 use match_board::limits::{MOST_ARRANGEMENTS, MOST_BYTES};
 use match_report::{expand, write_answer};
 use match_text::write_list;
@@ -124,17 +124,31 @@ fn make_text<R: RandomSource>(
     ensures kind { IfErr result IsOfPrinting }
     ensures write { IfErr result (λ fault. fault ≢ RunFault.Write) }
 {
-    let question = read_question(alloc, documents)?;
-    let answer = check(
-        alloc,
-        &question.puzzle,
-        &question.listed,
-        &question.certificate,
-    )?;
-    let text = match &answer {
-        Answer::Complete => all_text(rt, alloc, &question)?,
-        Answer::Refused(_) => write_answer(alloc, &answer, question.listed.len() as u32)?,
+    let owned = read_question(alloc, documents)?;
+    let question = owned.question();
+    let listed = question.listed().len() as u32;
+    let prepared = match question.prepare(alloc, question.list_fault())? {
+        Ok(prepared) => prepared,
+        Err(fault) => return answer_to(alloc, Answer::Refused(fault), listed),
     };
+    let found = prepared.trees_fault(alloc, &Open)?;
+    match prepared.answer(found) {
+        Answer::Complete => Ok(Printed {
+            text: all_text(rt, alloc, prepared)?,
+            status: Status::Complete,
+        }),
+        refused => answer_to(alloc, refused, listed),
+    }
+}
+
+// The line of an answer on a list of so many arrangements.
+fn answer_to(alloc: Global, answer: Answer, listed: u32) -> Result<Printed, RunFault>
+    requires { HasLine answer }
+    ensures text { IfOk result (λ printed. printed.text.items ≡ answer_line answer listed) }
+    ensures status { IfOk result (λ printed. printed.status ≡ status_of answer) }
+    ensures kind { IfErr result (λ fault. fault ≡ RunFault.Memory) }
+{
+    let text = write_answer(alloc, &answer, listed)?;
     Ok(Printed {
         text,
         status: status_for(&answer),
@@ -145,23 +159,21 @@ fn make_text<R: RandomSource>(
 fn all_text<R: RandomSource>(
     rt: &R,
     alloc: Global,
-    question: &Question,
+    prepared: Prepared<'_>,
 ) -> Result<Vec<u8>, RunFault>
-    requires puzzle { IsPuzzle question.now.puzzle }
-    requires complete { IsCompleteList question.now.puzzle question.now.certificate.symmetries
-        question.now.listed.items }
-    ensures all { IfOk result (λ text. (all : List (List Placement))
-        × AreAllInOrder (question_of question.now.puzzle question.now.listed.items question.now.certificate) all
+    requires { IsCompleteList prepared.puzzle prepared.symmetries prepared.listed }
+    ensures all { IfOk result (λ text. (all : List (List Placement)) × AreAllInOrder prepared.entry all
         × IsListText all text.items) }
-    ensures expand { IsErrOf result RunFault.Expand
-        → AreMoreReached MOST_ARRANGEMENTS question.now.puzzle question.now.certificate.symmetries
-        question.now.listed.items }
+    ensures expand { IsErrOf result RunFault.Expand → AreMoreReached MOST_ARRANGEMENTS
+        prepared.entry.puzzle prepared.entry.symmetries prepared.entry.listed }
     ensures kind { IfErr result (λ fault. (fault ≡ RunFault.Expand) ⊎ (fault ≡ RunFault.Memory)) }
 {
-    let lines = question.certificate.symmetries();
-    let symmetries = distinct_symmetries(alloc, &question.puzzle, lines)?;
+    let question = prepared.question();
+    let listed = question.listed();
+    let lines = question.certificate().symmetries();
+    let symmetries = distinct_symmetries(prepared.into_symmetries(), lines);
     let hasher = RandomFold::new(rt);
-    let all = expand(alloc, &question.listed, &symmetries, hasher)?;
+    let all = expand(alloc, listed, &symmetries, hasher)?;
     let text = write_list(alloc, all.as_slice())?;
     Ok(text)
 }

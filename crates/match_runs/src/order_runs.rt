@@ -3,42 +3,32 @@
 ghost use Rattle.std.specs.Prelude.{◌≡◌, ◌≢◌, ◌≤◌, ℕ, List, IfOk, IfErr, OnOk};
 ghost use Rattle.match_runs.specs.Files.{FilesHold, HoldsText, LeavesAll, TakesWhole};
 ghost use Rattle.match_runs.specs.Moves.{reading_of, writing_of};
-ghost use Rattle.match_runs.specs.OrderRuns.{Checks, Expands, IsOfOrder, OrderGives, OrderShows, code_of, fault_code};
+ghost use Rattle.match_runs.specs.OrderRuns.{Checks, Expands, IsOfOrder, OrderGives, OrderShows};
 ghost use Rattle.match_runs.specs.OrderRuns.{ComesOfTexts, OrderStops, Solves, StopsChecking, StopsExpanding};
+ghost use Rattle.match_runs.specs.OrderRuns.{StopsReporting};
 ghost use Rattle.match_runs.specs.Runs.{IsOfChecking, IsOfExpanding, SpellCompleteList};
 ghost use Rattle.match_runs.specs.Solving.{IsOfPuzzle, IsOfSolving, SolveFails};
 ghost use Rattle.std.specs.String.{string_bytes};
-ghost use Rattle.command_words.specs.Orders.{IsInRange};
 
+use crate::exits::Exit;
 use crate::expansion_runs::run_expand;
 use crate::faults::{Document, RunFault};
 use crate::files::{FileSystem, have_different_names, make, open};
-use crate::runs::{Status, run_check, run_joined};
+use crate::runs::{run_check, run_joined};
+use crate::show_runs::run_show;
 use crate::solve_runs::run_solve;
 use crate::streams::sinks::Sink;
 use crate::streams::sources::Source;
+use crate::symmetry_runs::run_symmetries;
 use crate::tile_runs::run_tiles;
-use command_words::{Files, Order};
-use match_board::limits::{MOST_DEPTH, MOST_FORKS, MOST_FUEL, MOST_WORKERS};
+use command_words::{Depth, Files, Forks, Fuel, Order, Workers};
 use std::alloc::Global;
 use std::random::RandomSource;
 use std::sync::Wait;
 use std::thread::Threads;
 
-// A check that shows that the list is complete.
-const COMPLETE: u8 = 0;
-
-// A check that does not show it.
-const REFUSED: u8 = 1;
-
-// What is neither an answer nor a fault of the documents that a solver makes.
-const OTHER: u8 = 2;
-
-// The puzzle was not solved.
-const UNSOLVED: u8 = 3;
-
-/// Does what is ordered, and gives the exit status where no fault came: 0, or 1 where a list is not shown to be
-/// complete.
+/// Does what is ordered, and says how the program ends where no fault came: `Done`, or `Refused` where a list is not
+/// shown to be complete.
 ///
 /// The files of an order are all opened before one is read: the puzzle's, the list's, the certificate's. `Read` of
 /// the first that can't be opened. A solve opens the puzzle's and makes the other two; where two of the three names
@@ -50,8 +40,7 @@ pub fn run_order<S: FileSystem, I: Source, W: Sink, R: Threads + Wait + Sync + R
     system: &S,
     input: &mut I,
     output: &mut W,
-) -> Result<u8, RunFault>
-    requires { IsInRange order.now }
+) -> Result<Exit, RunFault>
     ensures given { IfOk result (OrderGives (S.holds system.now)
         (λ name. TakesWhole S.Writer.Sink (S.makes system.now name))
         (reading_of I.Source input.old input.new) (writing_of W.Sink output.old output.new) order.now) }
@@ -60,14 +49,14 @@ pub fn run_order<S: FileSystem, I: Source, W: Sink, R: Threads + Wait + Sync + R
     ensures stops { IfErr result (OrderStops (S.holds system.now) (reading_of I.Source input.old input.new)
         (writing_of W.Sink output.old output.new) order.now) }
     ensures untouched { IfErr result (λ fault. fault ≢ RunFault.Write → output.new ≡ output.old) }
-    // Status 0 of a check says that the list is complete.
-    ensures shown { IfOk result (λ code. code ≡ 0
+    // A check that is done says that the list is complete.
+    ensures shown { IfOk result (λ exit. exit ≡ Exit.Done
         → OrderShows (S.holds system.now) (reading_of I.Source input.old input.new) order.now) }
 {
     match order {
         Order::Joined => {
-            let status = run_joined(rt, alloc, input, 1, 0, output)?;
-            Ok(status_code(status))
+            let status = run_joined(rt, alloc, input, Workers::new(1), Forks::new(0), output)?;
+            Ok(Exit::of_status(status))
         }
         Order::Check {
             files,
@@ -81,12 +70,22 @@ pub fn run_order<S: FileSystem, I: Source, W: Sink, R: Threads + Wait + Sync + R
             workers,
         } => {
             solve(rt, alloc, files, *depth, *fuel, *workers, system, output)?;
-            Ok(COMPLETE)
+            Ok(Exit::Done)
         }
         Order::Expand(files) => expand(rt, alloc, files, system, output),
+        Order::Show(puzzle) => {
+            let mut puzzle = open(system, puzzle, Document::Puzzle)?;
+            run_show(alloc, &mut puzzle, output)?;
+            Ok(Exit::Done)
+        }
+        Order::Symmetries(puzzle) => {
+            let mut puzzle = open(system, puzzle, Document::Puzzle)?;
+            run_symmetries(alloc, &mut puzzle, output)?;
+            Ok(Exit::Done)
+        }
         Order::Tiles { sides, colours } => {
             run_tiles(alloc, *sides, *colours, output)?;
-            Ok(COMPLETE)
+            Ok(Exit::Done)
         }
     }
 }
@@ -120,16 +119,14 @@ fn check<S: FileSystem, W: Sink, R: Threads + Sync>(
     rt: &R,
     alloc: Global,
     files: &Files,
-    workers: u8,
-    forks: u8,
+    workers: Workers,
+    forks: Forks,
     system: &S,
     output: &mut W,
-) -> Result<u8, RunFault>
-    requires workers { (1 ≤ workers) × (workers ≤ MOST_WORKERS) }
-    requires forks { forks ≤ MOST_FORKS }
-    ensures given { IfOk result (λ code.
-        FilesHold (S.holds system.now) files.now (Checks (writing_of W.Sink output.old output.new) code)) }
-    ensures shown { IfOk result (λ code. code ≡ 0 → FilesHold (S.holds system.now) files.now SpellCompleteList) }
+) -> Result<Exit, RunFault>
+    ensures given { IfOk result (λ exit.
+        FilesHold (S.holds system.now) files.now (Checks (writing_of W.Sink output.old output.new) exit)) }
+    ensures shown { IfOk result (λ exit. exit ≡ Exit.Done → FilesHold (S.holds system.now) files.now SpellCompleteList) }
     ensures fault { IfErr result IsOfChecking }
     ensures stops { IfErr result (λ fault. ComesOfTexts fault → FilesHold (S.holds system.now) files.now
         (StopsChecking (writing_of W.Sink output.old output.new) fault)) }
@@ -146,7 +143,7 @@ fn check<S: FileSystem, W: Sink, R: Threads + Sync>(
         forks,
         output,
     )?;
-    Ok(status_code(status))
+    Ok(Exit::of_status(status))
 }
 
 // Opens the puzzle's file and makes the others before anything is read. A file that has the name of another is not
@@ -155,21 +152,20 @@ fn solve<S: FileSystem, W: Sink, R: Threads + Wait + Sync>(
     rt: &R,
     alloc: Global,
     files: &Files,
-    depth: u8,
-    fuel: u32,
-    workers: u8,
+    depth: Depth,
+    fuel: Fuel,
+    workers: Workers,
     system: &S,
     output: &mut W,
 ) -> Result<(), RunFault>
-    requires depth { depth ≤ MOST_DEPTH }
-    requires fuel { (1 ≤ fuel) × (fuel ≤ MOST_FUEL) }
-    requires workers { (1 ≤ workers) × (workers ≤ MOST_WORKERS) }
     ensures given { OnOk result ((text : List ℕ) × HoldsText (S.holds system.now (string_bytes files.now.puzzle)) text
         × Solves (λ name. TakesWhole S.Writer.Sink (S.makes system.now name))
         (writing_of W.Sink output.old output.new) files.now workers text) }
     ensures fault { IfErr result IsOfSolving }
     ensures stops { IfErr result (λ fault. IsOfPuzzle fault → (text : List ℕ)
         × HoldsText (S.holds system.now (string_bytes files.now.puzzle)) text × SolveFails text fault) }
+    ensures write { IfErr result (λ fault. fault ≡ RunFault.Write → StopsReporting
+        (writing_of W.Sink output.old output.new) (S.holds system.now (string_bytes files.now.puzzle)) workers) }
     ensures untouched { IfErr result (λ fault. fault ≢ RunFault.Write → output.new ≡ output.old) }
 {
     let mut puzzle = open(system, &files.puzzle, Document::Puzzle)?;
@@ -198,9 +194,9 @@ fn expand<S: FileSystem, W: Sink, R: RandomSource>(
     files: &Files,
     system: &S,
     output: &mut W,
-) -> Result<u8, RunFault>
-    ensures given { IfOk result (λ code.
-        FilesHold (S.holds system.now) files.now (Expands (writing_of W.Sink output.old output.new) code)) }
+) -> Result<Exit, RunFault>
+    ensures given { IfOk result (λ exit.
+        FilesHold (S.holds system.now) files.now (Expands (writing_of W.Sink output.old output.new) exit)) }
     ensures fault { IfErr result IsOfExpanding }
     ensures stops { IfErr result (λ fault. ComesOfTexts fault → FilesHold (S.holds system.now) files.now
         (StopsExpanding (writing_of W.Sink output.old output.new) fault)) }
@@ -215,25 +211,5 @@ fn expand<S: FileSystem, W: Sink, R: RandomSource>(
         &mut opened.certificate,
         output,
     )?;
-    Ok(status_code(status))
-}
-
-// The exit status of what a check found.
-fn status_code(status: Status) -> u8
-    ensures { result ≡ code_of status }
-{
-    match status {
-        Status::Complete => COMPLETE,
-        Status::Refused => REFUSED,
-    }
-}
-
-/// The exit status of a fault: 3 where the puzzle was not solved, else 2.
-pub fn fault_status(fault: &RunFault) -> u8
-    ensures { result ≡ fault_code fault.now }
-{
-    match fault {
-        RunFault::Solve(_) => UNSOLVED,
-        _ => OTHER,
-    }
+    Ok(Exit::of_status(status))
 }

@@ -1,41 +1,67 @@
 //! What documents ask.
 
-ghost use Rattle.std.specs.Prelude.{◌≢◌, ◌≤◌, Err, IfOk, IfErr, length};
+ghost use Rattle.std.specs.Prelude.{◌≢◌, Err, IfOk, IfErr};
 ghost use Rattle.match_puzzle.specs.Puzzle.{IsPuzzle};
-ghost use Rattle.cert_check.specs.Setting.{question_of};
 ghost use Rattle.match_runs.specs.Runs.{AreShort, IsOfDocuments, RunGives, Spells, texts_of};
 
 use crate::faults::RunFault;
 use crate::streams::documents::Documents;
+use cert_check::Question;
 use cert_tree::{Certificate, read_certificate};
-use match_board::limits::MOST_ARRANGEMENTS;
 use match_puzzle::{Arrangement, Puzzle};
 use match_text::{read_list, read_puzzle};
 use std::alloc::Global;
+use std::marker::Model;
 
-/// Whether these are all arrangements of the puzzle, by this certificate.
+/// A question and what it is about: the puzzle, the list, of at most 1,000,000 arrangements, and the certificate.
 #[derive(Drop)]
-pub struct Question {
-    pub puzzle: Puzzle,
-    pub listed: Vec<Arrangement>,
-    pub certificate: Certificate,
+pub struct OwnedQuestion {
+    puzzle: Puzzle,
+    listed: Vec<Arrangement>,
+    certificate: Certificate,
+}
+
+impl Model for OwnedQuestion {
+    ghost use Rattle.std.specs.Prelude.{◌≤◌, length};
+    ghost use Rattle.std.specs.Coded.{codes};
+    ghost use Rattle.match_board.specs.declared.limits.TheConstants.{MOST_ARRANGEMENTS};
+    ghost use Rattle.cert_tree.specs.contracts.heads.Head as head;
+    ghost use Rattle.cert_tree.specs.HeadCode.{tree_code};
+    ghost use Rattle.cert_check.specs.Setting.{Question, question_of};
+
+    ghost Value = { Question };
+
+    ghost coded = { Prim.hlevel (codes, tree_code head.the_row.coded) };
+
+    ghost view = { λ q. question_of q.puzzle q.listed.items q.certificate };
+
+    ghost invariant = { λ q. length q.listed.items ≤ MOST_ARRANGEMENTS };
+}
+
+impl OwnedQuestion {
+    ghost use Rattle.std.specs.Prelude.{◌≡◌};
+
+    /// The question.
+    pub fn question(&self) -> Question<'_>
+        ensures { result ≡ self.now }
+    {
+        Question::new(&self.puzzle, &self.listed, &self.certificate)
+    }
 }
 
 /// The question that the documents spell, or their first fault, in the order of the documents;
 /// `Memory` only where that is refused.
-pub fn read_question(alloc: Global, documents: &Documents<'_>) -> Result<Question, RunFault>
+pub fn read_question(alloc: Global, documents: &Documents<'_>) -> Result<OwnedQuestion, RunFault>
     requires { AreShort (texts_of documents.now) }
-    ensures question { IfOk result (λ q.
-        Spells (texts_of documents.now) (question_of q.puzzle q.listed.items q.certificate)) }
+    ensures question { IfOk result (Spells (texts_of documents.now)) }
     ensures puzzle { IfOk result (λ q. IsPuzzle q.puzzle) }
-    ensures few { IfOk result (λ q. length q.listed.items ≤ MOST_ARRANGEMENTS) }
     ensures fault { IfErr result (λ fault. fault ≢ RunFault.Memory → RunGives (texts_of documents.now) (Err fault)) }
     ensures kind { IfErr result (λ fault. fault ≢ RunFault.Memory → IsOfDocuments fault) }
 {
     let puzzle = read_puzzle(alloc, documents.puzzle)?;
     let listed = read_list(alloc, documents.list)?;
     let certificate = read_certificate(alloc, documents.certificate)?;
-    Ok(Question {
+    Ok(OwnedQuestion {
         puzzle,
         listed,
         certificate,

@@ -14,7 +14,8 @@ use crate::streams::readings::read_whole;
 use crate::streams::sinks::{Sink, write_whole};
 use crate::streams::sources::Source;
 use cert_check::Answer;
-use match_board::limits::{MOST_BYTES, MOST_FORKS, MOST_WORKERS};
+use command_words::{Forks, Workers};
+use match_board::limits::MOST_BYTES;
 use match_crew::{Open, check_with};
 use match_report::write_answer;
 use std::alloc::Global;
@@ -30,7 +31,7 @@ pub enum Status {
 }
 
 /// Reads a puzzle, a list and a certificate, each to its end and in this order, and writes the
-/// answer to them and nothing else. The answer is the same for any number of workers, 1 to 64, and of forks, 0 to 6.
+/// answer to them and nothing else. The answer is the same for any number of workers and of forks.
 ///
 /// `Read` and `TooLong` name the document, and the ones after it are not touched then; a fault of a
 /// document is the first one, in the order of the documents. Where a fault other than `Write` is
@@ -41,12 +42,10 @@ pub fn run_check<P: Source, L: Source, C: Source, W: Sink, R: Threads + Sync>(
     puzzle: &mut P,
     list: &mut L,
     certificate: &mut C,
-    workers: u8,
-    forks: u8,
+    workers: Workers,
+    forks: Forks,
     writer: &mut W,
 ) -> Result<Status, RunFault>
-    requires workers { (1 ≤ workers) × (workers ≤ MOST_WORKERS) }
-    requires forks { forks ≤ MOST_FORKS }
 
     // What was written is the answer's line on the texts that came.
     ensures ok { IfOk result (λ status. ReadToEnds (reading_of P.Source puzzle.old puzzle.new)
@@ -88,7 +87,7 @@ pub fn run_check<P: Source, L: Source, C: Source, W: Sink, R: Threads + Sync>(
 }
 
 /// Reads a puzzle, a list and a certificate, joined, to the end, and writes the answer to them and nothing else. The
-/// answer is the same for any number of workers, 1 to 64, and of forks, 0 to 6.
+/// answer is the same for any number of workers and of forks.
 ///
 /// `Read` and `TooLong` are of the input; a fault of a document is the first one, in the order of the documents.
 /// Where a fault other than `Write` is answered, nothing was written.
@@ -96,12 +95,10 @@ pub fn run_joined<S: Source, W: Sink, R: Threads + Sync>(
     rt: &R,
     alloc: Global,
     reader: &mut S,
-    workers: u8,
-    forks: u8,
+    workers: Workers,
+    forks: Forks,
     writer: &mut W,
 ) -> Result<Status, RunFault>
-    requires workers { (1 ≤ workers) × (workers ≤ MOST_WORKERS) }
-    requires forks { forks ≤ MOST_FORKS }
 
     // What was written is the answer's line on the texts in what came.
     ensures ok { IfOk result (λ status. InputReadToEnd (reading_of S.Source reader.old reader.new)
@@ -146,13 +143,11 @@ fn write_answer_to<W: Sink, R: Threads + Sync>(
     rt: &R,
     alloc: Global,
     documents: &Documents<'_>,
-    workers: u8,
-    forks: u8,
+    workers: Workers,
+    forks: Forks,
     writer: &mut W,
 ) -> Result<Status, RunFault>
     requires short { AreShort (texts_of documents.now) }
-    requires workers { (1 ≤ workers) × (workers ≤ MOST_WORKERS) }
-    requires forks { forks ≤ MOST_FORKS }
     ensures ok { IfOk result (λ status. WritesWhole (writing_of W.Sink writer.old writer.new)
         (λ text. CheckGives (texts_of documents.now) text status)) }
     ensures complete { IfOk result (λ status. status ≡ Status.Complete → SpellCompleteList (texts_of documents.now)) }
@@ -163,18 +158,19 @@ fn write_answer_to<W: Sink, R: Threads + Sync>(
         → WritesFront (writing_of W.Sink writer.old writer.new)
         (λ text. (status : Status) × CheckGives (texts_of documents.now) text status) }
 {
-    let question = read_question(alloc, documents)?;
+    let owned = read_question(alloc, documents)?;
+    let question = owned.question();
     let answer = check_with(
         rt,
         alloc,
-        &question.puzzle,
-        &question.listed,
-        &question.certificate,
-        workers,
-        forks,
+        question.puzzle(),
+        question.listed(),
+        question.certificate(),
+        workers.get() as u8,
+        forks.get() as u8,
         &Open,
     )?;
-    let text = write_answer(alloc, &answer, question.listed.len() as u32)?;
+    let text = write_answer(alloc, &answer, question.listed().len() as u32)?;
     write_text(writer, &text)?;
     Ok(status_for(&answer))
 }

@@ -16,7 +16,8 @@ use crate::streams::readings::read_whole;
 use crate::streams::sinks::Sink;
 use crate::streams::sources::Source;
 use cert_tree::{Certificate, write_certificate};
-use match_board::limits::{MOST_BYTES, MOST_DEPTH, MOST_FUEL, MOST_WORKERS};
+use command_words::{Depth, Fuel, Workers};
+use match_board::limits::{MOST_BYTES, MOST_WORKERS};
 use match_crew::{Solved, solve_with};
 use match_puzzle::{Arrangement, Puzzle};
 use match_report::{Taken, write_board, write_tally};
@@ -38,16 +39,13 @@ pub fn run_solve<R: Threads + Wait + Sync, P: Source, L: Sink, C: Sink, W: Sink>
     rt: &R,
     alloc: Global,
     puzzle: &mut P,
-    depth: u8,
-    fuel: u32,
-    workers: u8,
+    depth: Depth,
+    fuel: Fuel,
+    workers: Workers,
     list: &mut L,
     certificate: &mut C,
     writer: &mut W,
 ) -> Result<(), RunFault>
-    requires depth { depth ≤ MOST_DEPTH }
-    requires fuel { (1 ≤ fuel) × (fuel ≤ MOST_FUEL) }
-    requires workers { (1 ≤ workers) × (workers ≤ MOST_WORKERS) }
 
     // What was written is made of the text that came.
     ensures ok { OnOk result (PuzzleReadToEnd (reading_of P.Source puzzle.old puzzle.new)
@@ -85,14 +83,11 @@ fn make_texts<R: Threads + Wait + Sync>(
     rt: &R,
     alloc: Global,
     text: &[u8],
-    depth: u8,
-    fuel: u32,
-    workers: u8,
+    depth: Depth,
+    fuel: Fuel,
+    workers: Workers,
 ) -> Result<Made, RunFault>
     requires text { length text.now ≤ MOST_BYTES }
-    requires depth { depth ≤ MOST_DEPTH }
-    requires fuel { (1 ≤ fuel) × (fuel ≤ MOST_FUEL) }
-    requires workers { (1 ≤ workers) × (workers ≤ MOST_WORKERS) }
     ensures made { IfOk result (λ made. SolveGives workers text.now (products_of made)) }
     ensures fault { IfErr result (SolveFails text.now) }
     ensures kind { IfErr result IsOfMaking }
@@ -102,7 +97,14 @@ fn make_texts<R: Threads + Wait + Sync>(
         list: listed,
         certificate,
         tally,
-    } = solve_with(rt, alloc, &puzzle, depth, fuel, workers)?;
+    } = solve_with(
+        rt,
+        alloc,
+        &puzzle,
+        depth.get() as u8,
+        fuel.get(),
+        workers.get() as u8,
+    )?;
     let shares = shares(alloc, tally)?;
     Ok(Made {
         list: write_list(alloc, &listed)?,

@@ -1,6 +1,6 @@
 //! Lists of tiles.
 
-ghost use Rattle.std.specs.Prelude.{◌≡◌, ◌≢◌, ◌≤◌, ◌⊎◌, OnOk, IfErr, IsErrOf};
+ghost use Rattle.std.specs.Prelude.{◌≡◌, ◌≢◌, OnOk, IfErr, IsErrOf};
 ghost use Rattle.match_board.specs.Turns.{HasMoreLeastWords};
 ghost use Rattle.match_runs.specs.Moves.{WritesFront, WritesWhole, writing_of};
 ghost use Rattle.match_runs.specs.Runs.{IsOfTiles, TilesGive};
@@ -8,25 +8,23 @@ ghost use Rattle.match_runs.specs.Runs.{IsOfTiles, TilesGive};
 use crate::faults::RunFault;
 use crate::runs::write_text;
 use crate::streams::sinks::Sink;
+use command_words::{Colours, Sides};
 use match_board::all_tiles;
-use match_board::limits::{MOST_CLASSES, MOST_COLOURS};
+use match_board::limits::MOST_CLASSES;
 use match_text::write_tiles;
 use std::alloc::Global;
 
-/// Writes a tile for each class of tiles that turn into each other, with 3 or 4 sides of so many
-/// colours, 1 to 36: its least word, rising, one on each line, as they stand in a puzzle's text.
+/// Writes a tile for each class of tiles that turn into each other, with so many sides and colours:
+/// its least word, rising, one on each line, as they stand in a puzzle's text.
 ///
 /// `Tiles` where there are over 100. Where a fault other than `Write` is answered, nothing was
 /// written.
 pub fn run_tiles<W: Sink>(
     alloc: Global,
-    sides: u8,
-    colours: u8,
+    sides: Sides,
+    colours: Colours,
     writer: &mut W,
 ) -> Result<(), RunFault>
-    requires sides { (sides ≡ 3) ⊎ (sides ≡ 4) }
-    requires colours { (1 ≤ colours) × (colours ≤ MOST_COLOURS) }
-
     ensures ok { OnOk result (WritesWhole (writing_of W.Sink writer.old writer.new) (TilesGive sides colours)) }
 
     ensures fault { IfErr result IsOfTiles }
@@ -36,7 +34,7 @@ pub fn run_tiles<W: Sink>(
     ensures write { IsErrOf result RunFault.Write
         → WritesFront (writing_of W.Sink writer.old writer.new) (TilesGive sides colours) }
 {
-    let tiles = all_tiles(alloc, sides, colours)?;
+    let tiles = all_tiles(alloc, sides.get() as u8, colours.get() as u8)?;
     let text = write_tiles(alloc, &tiles)?;
     write_text(writer, &text)?;
     Ok(())

@@ -1,18 +1,19 @@
 //! Runs of the words of a command line: what they order, and what is told where that fails.
 
-ghost use Rattle.std.specs.Prelude.{◌≡◌, ◌≢◌, ◌⊎◌, map, IfErr, IfOk};
+ghost use Rattle.std.specs.Prelude.{◌≡◌, map};
 ghost use Rattle.std.specs.String.{string_bytes};
 ghost use Rattle.clap.specs.Words.{kind_of};
 ghost use Rattle.clap.specs.declared.error.Error.{Error};
-ghost use Rattle.command_words.specs.Orders.{IsInRange};
 ghost use Rattle.match_runs.specs.Files.{TakesWhole};
 ghost use Rattle.match_runs.specs.Moves.{reading_of, writing_of};
-ghost use Rattle.match_runs.specs.OrderRuns.{IsOfOrder, OrderGives, OrderStops, fault_code};
-ghost use Rattle.match_runs.specs.WordRuns.{AsksForText, Tells, TellsFault, TellsOfText, WordsGive};
+ghost use Rattle.match_runs.specs.Exits.{fault_exit};
+ghost use Rattle.match_runs.specs.OrderRuns.{IsOfOrder, OrderGives, OrderStops};
+ghost use Rattle.match_runs.specs.WordRuns.{CarriesOut, Explains, Tells, TellsFault, WantsMemory, WordsGive};
 
+use crate::exits::Exit;
 use crate::faults::{RunFault, fault_text};
 use crate::files::FileSystem;
-use crate::order_runs::{fault_status, run_order};
+use crate::order_runs::run_order;
 use crate::streams::sinks::{Sink, write_whole};
 use crate::streams::sources::Source;
 use command_words::{Order, WordsFault, order};
@@ -21,16 +22,10 @@ use std::random::RandomSource;
 use std::sync::Wait;
 use std::thread::Threads;
 
-// The exit status where help or the version was asked for, and printed.
-const PRINTED: u8 = 0;
-
-// The exit status where the words order nothing.
-const WRONG_WORDS: u8 = 2;
-
-/// Does what the words after the program's name order, and gives the exit status. A fault's line goes to `errors`, and
+/// Does what the words after the program's name order, and says how the program ends. A fault's line goes to `errors`, and
 /// nothing else but what is wrong with words.
 ///
-/// Help and the version go to the output. The status is then 0; where they can't be written, it is that of `Write`.
+/// Help and the version go to the output. All is done then; where they can't be written, it ends as `Write` does.
 pub fn run_words<
     S: FileSystem,
     I: Source,
@@ -45,22 +40,16 @@ pub fn run_words<
     input: &mut I,
     output: &mut W,
     errors: &mut E,
-) -> u8
+) -> Exit
     ensures { WordsGive (map string_bytes words.now)
-        (λ order. (OrderGives (S.holds system.now) (λ name. TakesWhole S.Writer.Sink (S.makes system.now name))
-        (reading_of I.Source input.old input.new) (writing_of W.Sink output.old output.new) order result
-        × (errors.new ≡ errors.old))
-        ⊎ ((fault : RunFault) × IsOfOrder order fault
-        × OrderStops (S.holds system.now) (reading_of I.Source input.old input.new)
-        (writing_of W.Sink output.old output.new) order fault
-        × (result ≡ fault_code fault)
-        × TellsFault (writing_of E.Sink errors.old errors.new) fault
-        × (fault ≢ RunFault.Write → output.new ≡ output.old)))
-        ((result ≡ fault_code RunFault.Memory) × TellsFault (writing_of E.Sink errors.old errors.new) RunFault.Memory
-        × (output.new ≡ output.old))
-        (λ kind. (AsksForText kind → ((result ≡ 0) × (errors.new ≡ errors.old))
-        ⊎ ((result ≡ 2) × TellsOfText (writing_of E.Sink errors.old errors.new)))
-        × ((AsksForText kind → ⊥) → (result ≡ 2) × (output.new ≡ output.old))) }
+        (λ order. CarriesOut
+        (OrderGives (S.holds system.now) (λ name. TakesWhole S.Writer.Sink (S.makes system.now name))
+        (reading_of I.Source input.old input.new) (writing_of W.Sink output.old output.new) order)
+        (λ fault. IsOfOrder order fault × OrderStops (S.holds system.now) (reading_of I.Source input.old input.new)
+        (writing_of W.Sink output.old output.new) order fault)
+        (writing_of E.Sink errors.old errors.new) (errors.new ≡ errors.old) (output.new ≡ output.old) result)
+        (WantsMemory (writing_of E.Sink errors.old errors.new) (output.new ≡ output.old) result)
+        (Explains (writing_of E.Sink errors.old errors.new) (errors.new ≡ errors.old) (output.new ≡ output.old) result) }
 {
     match order(alloc, words) {
         Ok(order) => carry_out(rt, alloc, &order, system, input, output, errors),
@@ -77,32 +66,32 @@ fn carry_out<S: FileSystem, I: Source, W: Sink, E: Sink, R: Threads + Wait + Syn
     input: &mut I,
     output: &mut W,
     errors: &mut E,
-) -> u8
-    requires { IsInRange order.now }
-    ensures { (OrderGives (S.holds system.now) (λ name. TakesWhole S.Writer.Sink (S.makes system.now name))
-        (reading_of I.Source input.old input.new) (writing_of W.Sink output.old output.new) order.now result
-        × (errors.new ≡ errors.old))
-        ⊎ ((fault : RunFault) × IsOfOrder order.now fault
-        × OrderStops (S.holds system.now) (reading_of I.Source input.old input.new)
-        (writing_of W.Sink output.old output.new) order.now fault
-        × (result ≡ fault_code fault)
-        × TellsFault (writing_of E.Sink errors.old errors.new) fault
-        × (fault ≢ RunFault.Write → output.new ≡ output.old)) }
+) -> Exit
+    ensures { CarriesOut
+        (OrderGives (S.holds system.now) (λ name. TakesWhole S.Writer.Sink (S.makes system.now name))
+        (reading_of I.Source input.old input.new) (writing_of W.Sink output.old output.new) order.now)
+        (λ fault. IsOfOrder order.now fault × OrderStops (S.holds system.now) (reading_of I.Source input.old input.new)
+        (writing_of W.Sink output.old output.new) order.now fault)
+        (writing_of E.Sink errors.old errors.new) (errors.new ≡ errors.old) (output.new ≡ output.old) result }
 {
     match run_order(rt, alloc, order, system, input, output) {
-        Ok(status) => status,
+        Ok(exit) => exit,
         Err(fault) => stopped(alloc, &fault, errors),
     }
 }
 
 // Says why words order nothing.
-fn refuse<W: Sink, E: Sink>(alloc: Global, fault: &WordsFault, output: &mut W, errors: &mut E) -> u8
-    ensures memory { fault.now ≡ WordsFault.Memory → (result ≡ fault_code RunFault.Memory)
-        × TellsFault (writing_of E.Sink errors.old errors.new) RunFault.Memory × (output.new ≡ output.old) }
+fn refuse<W: Sink, E: Sink>(
+    alloc: Global,
+    fault: &WordsFault,
+    output: &mut W,
+    errors: &mut E,
+) -> Exit
+    ensures memory { fault.now ≡ WordsFault.Memory
+        → WantsMemory (writing_of E.Sink errors.old errors.new) (output.new ≡ output.old) result }
     ensures words { (error : Error) → fault.now ≡ WordsFault.Words error
-        → (AsksForText (kind_of error) → ((result ≡ 0) × (errors.new ≡ errors.old))
-        ⊎ ((result ≡ 2) × TellsOfText (writing_of E.Sink errors.old errors.new)))
-        × ((AsksForText (kind_of error) → ⊥) → (result ≡ 2) × (output.new ≡ output.old)) }
+        → Explains (writing_of E.Sink errors.old errors.new) (errors.new ≡ errors.old) (output.new ≡ output.old) result
+        (kind_of error) }
 {
     match fault {
         WordsFault::Words(error) => explained(alloc, error, output, errors),
@@ -110,13 +99,13 @@ fn refuse<W: Sink, E: Sink>(alloc: Global, fault: &WordsFault, output: &mut W, e
     }
 }
 
-/// Says in one line why a run stopped, and gives the exit status. Where the line can't be written, nothing can be said.
-pub fn stopped<E: Sink>(alloc: Global, fault: &RunFault, errors: &mut E) -> u8
-    ensures code { result ≡ fault_code fault.now }
+/// Says in one line why a run stopped, and how the program ends then. Where the line can't be written, nothing can be said.
+pub fn stopped<E: Sink>(alloc: Global, fault: &RunFault, errors: &mut E) -> Exit
+    ensures exit { result ≡ fault_exit fault.now }
     ensures told { TellsFault (writing_of E.Sink errors.old errors.new) fault.now }
 {
     tell(alloc, fault, errors);
-    fault_status(fault)
+    Exit::of_fault(fault)
 }
 
 // Where memory is refused to the line, that is told.
@@ -146,21 +135,19 @@ fn explained<W: Sink, E: Sink>(
     error: &clap::Error,
     output: &mut W,
     errors: &mut E,
-) -> u8
-    ensures asked { AsksForText (kind_of error.now)
-        → ((result ≡ 0) × (errors.new ≡ errors.old))
-        ⊎ ((result ≡ 2) × TellsOfText (writing_of E.Sink errors.old errors.new)) }
-    ensures wrong { (AsksForText (kind_of error.now) → ⊥) → (result ≡ 2) × (output.new ≡ output.old) }
+) -> Exit
+    ensures { Explains (writing_of E.Sink errors.old errors.new) (errors.new ≡ errors.old) (output.new ≡ output.old) result
+        (kind_of error.now) }
 {
     let Ok(text) = format!(in alloc; "{error}") else {
         return stopped(alloc, &RunFault::Memory, errors);
     };
     if error.use_stderr() {
         put(errors, text.as_bytes());
-        return WRONG_WORDS;
+        return Exit::Failed;
     }
     match write_whole(output, text.as_bytes()) {
-        Ok(()) => PRINTED,
+        Ok(()) => Exit::Done,
         Err(_) => stopped(alloc, &RunFault::Write, errors),
     }
 }

@@ -1,6 +1,7 @@
 //! Checks over readers and a writer that fail, or that move little at once, and of files whose texts are known.
 
 use crate::fakes::{Fake, with_memory};
+use command_words::{Forks, Workers};
 use match_runs::{Document, Documents, RunFault, Status, run_check, run_joined};
 use sample_puzzles::{
     SQUARE_OF_FOUR, SQUARE_OF_FOUR_CERTIFICATE, SQUARE_OF_FOUR_LIST, TURNING_TRIANGLE,
@@ -51,8 +52,8 @@ pub fn check_over<R: Threads + Sync>(
         &mut puzzle,
         &mut list,
         &mut certificate,
-        1,
-        0,
+        Workers::new(1),
+        Forks::new(0),
         writer,
     )
 }
@@ -109,7 +110,14 @@ fn joined_check<R: Threads + Sync>(
     input.extend_from_slice(documents.certificate)?;
     let mut reader = Fake::new(alloc, &input, usize::MAX, usize::MAX);
     let mut writer = Fake::new(alloc, b"", usize::MAX, fails_after);
-    let outcome = with_memory(run_joined(rt, alloc, &mut reader, 1, 0, &mut writer))?;
+    let outcome = with_memory(run_joined(
+        rt,
+        alloc,
+        &mut reader,
+        Workers::new(1),
+        Forks::new(0),
+        &mut writer,
+    ))?;
     Ok((Vec::from_slice(alloc, writer.written())?, outcome))
 }
 

@@ -2,6 +2,7 @@
 
 use crate::checks::{NEVER, SQUARE, TRIANGLE, TWINS, check_over};
 use crate::fakes::{Fake, with_memory};
+use command_words::{Depth, Fuel, Workers};
 use match_runs::{Document, Documents, RunFault, Status, run_expand, run_solve};
 use std::alloc::Global;
 use std::random::RandomSource;
@@ -25,9 +26,9 @@ fn says_why_it_stops(rt: HostRuntime) -> Result<(), Fail> {
             &rt,
             alloc,
             &mut puzzle,
-            0,
-            4,
-            1,
+            Depth::new(0),
+            Fuel::new(4),
+            Workers::new(1),
             &mut list,
             &mut certificate,
             &mut writer,
@@ -93,9 +94,9 @@ fn solves<R: Threads + Wait + Sync>(rt: &R, alloc: Global) -> bool {
         rt,
         alloc,
         &mut puzzle,
-        1,
-        10,
-        1,
+        Depth::new(1),
+        Fuel::new(10),
+        Workers::new(1),
         &mut list,
         &mut certificate,
         &mut writer,

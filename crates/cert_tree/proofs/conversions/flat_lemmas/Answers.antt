@@ -16,9 +16,9 @@ loop-lemma-preserved c =
     let next : take (i + 1) c.args.lemmas.now ≡ take i c.args.lemmas.now ++ lemma ∷ [] =
     take_more c.args.lemmas.now i lemma c.loop-lemma-test.true ∙ ap (λ (l : Lemma). take i c.args.lemmas.now ++ l ∷ []) (sym c.lemma-item.is) in
     record {
-      spans = more_spans c.loop-lemma.pairs.items c.put_lemma.new.pairs.items c.loop-lemma.heads.items c.put_lemma.new.heads.items put.pairs put.heads c.loop-lemma.spans.items c.push.new.self.items c.in_ok-span.span so_far.spans put.span pushed;
-      lemmas = more_pieces c.loop-lemma.pairs.items c.put_lemma.new.pairs.items c.loop-lemma.heads.items c.put_lemma.new.heads.items put.pairs put.heads c.loop-lemma.spans.items c.push.new.self.items c.in_ok-span.span so_far.spans put.span pushed
-          ∙ ap (λ (pieces : List Piece). pieces ++ piece_in c.put_lemma.new.pairs.items c.put_lemma.new.heads.items c.in_ok-span.span ∷ []) so_far.lemmas
+      spans = more_spans c.loop-lemma.pairs.items c.put_flat.new.pairs.items c.loop-lemma.heads.items c.put_flat.new.heads.items put.pairs put.heads c.loop-lemma.spans.items c.push.new.self.items c.in_ok-span.span so_far.spans put.span pushed;
+      lemmas = more_pieces c.loop-lemma.pairs.items c.put_flat.new.pairs.items c.loop-lemma.heads.items c.put_flat.new.heads.items put.pairs put.heads c.loop-lemma.spans.items c.push.new.self.items c.in_ok-span.span so_far.spans put.span pushed
+          ∙ ap (λ (pieces : List Piece). pieces ++ piece_in c.put_flat.new.pairs.items c.put_flat.new.heads.items c.in_ok-span.span ∷ []) so_far.lemmas
           ∙ ap (λ (piece : Piece). map piece_of (take i c.args.lemmas.now) ++ piece ∷ []) put.lemma
           ∙ sym (ap (map piece_of) next ∙ map-append piece_of (take i c.args.lemmas.now) (lemma ∷ []));
     }

@@ -9,8 +9,8 @@ use Rattle.piece_desk.specs.Desks.{IsOf}
 use Rattle.match_crew.specs.Solving.{AreArrangementsOf, IsOutcomeOf}
 use Rattle.match_crew.proofs.solves.collect.Goals as goal
 
-pub posted-requires : goal.posted-requires
-posted-requires c = All-head (IsOutcomeOf c.args._puzzle.now c.args._desk.now) c.in-Some.searched c.next.new.self.rest.items
+pub receipt_of-requires : goal.receipt_of-requires
+receipt_of-requires c = All-head (IsOutcomeOf c.args._puzzle.now c.args._desk.now) c.in-Some.searched c.next.new.self.rest.items
     (subst (All (IsOutcomeOf c.args._puzzle.now c.args._desk.now)) c.in-Some.ensures.steps.0 c.loop-searched.invariant.rest)
 
 -- as many numbers and one more

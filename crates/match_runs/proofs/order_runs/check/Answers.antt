@@ -2,12 +2,12 @@ use Rattle.std.proofs.Common.{Err, ap, ◌∙◌, sym}
 use Rattle.std.proofs.lemmas.Result.{err_from_is_err_and}
 use Rattle.match_runs.specs.Files.{FilesHold}
 use Rattle.match_runs.specs.Moves.{writing_of}
-use Rattle.match_runs.proofs.OrderLemmas.{code_complete, holds_text, stops_checking}
+use Rattle.match_runs.proofs.OrderLemmas.{done_complete, holds_text, stops_checking}
 use Rattle.match_runs.proofs.order_runs.check.Goals as goal
 
 pub returns-clause-shown : goal.returns-clause-shown
-returns-clause-shown g c = λ zero.
-    let t = c.in_ok-status.ensures.complete (code_complete c.in_ok-status.status (sym c.status_code.ensures ∙ zero)) in
+returns-clause-shown g c = λ done.
+    let t = c.in_ok-status.ensures.complete (done_complete c.in_ok-status.status (sym c.of_status.ensures ∙ done)) in
     let opened = c.in_ok-opened.ensures in
     (t.0, holds_text _ _ _ _ _ opened.puzzle t.1, holds_text _ _ _ _ _ opened.list t.2, holds_text _ _ _ _ _ opened.certificate t.3, t.4)
 

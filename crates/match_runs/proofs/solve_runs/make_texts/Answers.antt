@@ -1,7 +1,7 @@
 use Rattle.std.proofs.Common.{List, ap, length, subst, sym, ◌∙◌}
 use Rattle.std.proofs.lemmas.Result.{err_from_is_err_and}
 use Rattle.match_puzzle.specs.declared.placements.Placement.{Placement}
-use Rattle.match_crew.specs.Solving.{AreArrangementsOf}
+use Rattle.match_crew.specs.Solving.{AreArrangementsOf, IsSolvedBy}
 use Rattle.match_runs.specs.Runs.{IsListText}
 use Rattle.match_runs.specs.Solving.{report_text}
 use Rattle.match_runs.proofs.solve_runs.make_texts.Goals as goal
@@ -34,7 +34,7 @@ returns-clause-made g c =
       listed = solved.list.items;
       tally = solved.tally.items;
       contents = solved.certificate;
-      solved = c.in_ok-listed.ensures.solved;
+      solved = subst (λ n. IsSolvedBy p n solved.list.items solved.tally.items solved.certificate) c.get-3.ensures.number c.in_ok-listed.ensures.solved;
       list_text = subst (λ (l : List (List Placement)). IsListText l list.field-0.items) c.deref.ensures.value
           (record { first = list.ensures.first; second = list.ensures.second });
       certificate_text = record { first = certificate.ensures.first; second = certificate.ensures.second };

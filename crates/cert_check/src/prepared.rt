@@ -1,0 +1,155 @@
+//! Questions in which all is right but perhaps the trees.
+
+use crate::checks::lemma_fault;
+use crate::faults::{Answer, Fault, TreeFault};
+use crate::forks::forked_lemma_fault;
+use crate::gates::Gate;
+use crate::questions::Question;
+use crate::settings::Setting;
+use match_puzzle::Partial;
+use puzzle_symmetry::Symmetry;
+use std::alloc::{AllocError, Global};
+use std::marker::Model;
+use std::thread::Threads;
+
+/// A question in which all is right but perhaps the trees: the list has different arrangements, each line is a symmetry,
+/// each lemma begins with a prefix, and the last with nothing placed.
+#[derive(Drop)]
+pub struct Prepared<'a> {
+    question: Question<'a>,
+    symmetries: Vec<Symmetry<'a>>,
+}
+
+impl<'a> Model for Prepared<'a> {
+    ghost use Rattle.std.specs.Coded.{codes};
+    ghost use Rattle.cert_tree.specs.contracts.heads.Head as head;
+    ghost use Rattle.cert_tree.specs.HeadCode.{tree_code};
+    ghost use Rattle.cert_check.specs.Setting.{Question};
+
+    ghost Value = { Question };
+
+    ghost coded = { Prim.hlevel (codes, tree_code head.the_row.coded) };
+
+    ghost use Rattle.cert_check.specs.Answer.{IsPreparedWith};
+
+    ghost view = { λ p. p.question };
+
+    ghost invariant = { λ p. IsPreparedWith p.question p.symmetries.items };
+}
+
+impl<'a> Prepared<'a> {
+    ghost use Rattle.std.specs.Prelude.{◌≡◌, ◌<◌, ◌≤◌, IfOk, length};
+    ghost use Rattle.match_board.specs.declared.limits.TheConstants.{MOST_FORKS};
+    ghost use Rattle.cert_check.specs.Setting.{motions_of, setting_at};
+    ghost use Rattle.cert_check.specs.Walk.{TellsOfLemma, TellsOfTrees};
+    ghost use Rattle.match_puzzle.specs.Puzzle.{IsPuzzle};
+    ghost use Rattle.cert_check.specs.Answer.{IsPrepared, IsPreparedWith, IsAnswer, IsCompleteList, AreCovered};
+
+    // The question with these symmetries, those of its lines.
+    pub(crate) fn new(question: Question<'a>, symmetries: Vec<Symmetry<'a>>) -> Prepared<'a>
+        requires { IsPreparedWith question symmetries.items }
+        ensures { result ≡ question.entry }
+    {
+        Prepared {
+            question,
+            symmetries,
+        }
+    }
+
+    /// The question.
+    pub fn question(&self) -> &Question<'a>
+        ensures question { result.now ≡ self.now }
+        ensures prepared { IsPrepared self.now }
+        ensures puzzle { IsPuzzle self.now.puzzle }
+    {
+        &self.question
+    }
+
+    /// The symmetries of the certificate's lines, in order.
+    pub fn symmetries(&self) -> &[Symmetry<'a>]
+        ensures { result.now ≡ motions_of self.now }
+    {
+        &self.symmetries
+    }
+
+    /// The symmetries of the certificate's lines, in order, for the caller to keep.
+    pub fn into_symmetries(self) -> Vec<Symmetry<'a>>
+        ensures { result.items ≡ motions_of self.entry }
+    {
+        self.symmetries
+    }
+
+    // What the tree of the lemma with this number may name.
+    fn setting(&self, lemma: u32) -> Setting<'_>
+        requires { lemma < length self.now.lemmas }
+        ensures { result ≡ setting_at self.now lemma }
+    {
+        let question = &self.question;
+        Setting::new(
+            question.puzzle(),
+            question.listed(),
+            &self.symmetries,
+            question.certificate(),
+            lemma,
+        )
+    }
+
+    /// The first fault of the tree of the lemma with this number, in preorder, or none where it holds.
+    ///
+    /// In the first `forks` levels, at most 6, the halves of a branch's children are walked at once, as
+    /// [`forked_tree_fault`](crate::forked_tree_fault) does. An `Err` comes where memory is refused.
+    pub fn forked_tree_fault<R: Threads + Sync>(
+        &self,
+        rt: &R,
+        alloc: Global,
+        lemma: u32,
+        forks: u8,
+    ) -> Result<Option<TreeFault>, AllocError>
+        requires lemma { lemma < length self.now.lemmas }
+        requires forks { forks ≤ MOST_FORKS }
+        ensures { IfOk result (TellsOfLemma self.now lemma) }
+    {
+        let setting = self.setting(lemma);
+        let lemmas = self.question.certificate().lemmas();
+        forked_lemma_fault(rt, alloc, &setting, &lemmas.at(lemma as usize), forks)
+    }
+
+    /// The first lemma whose tree has a fault, with its first fault in preorder, or none where all hold. The gate is
+    /// told of each lemma before its tree is walked. An `Err` comes where memory is refused.
+    pub fn trees_fault<G: Gate>(
+        &self,
+        alloc: Global,
+        gate: &G,
+    ) -> Result<Option<(u32, TreeFault)>, AllocError>
+        ensures { IfOk result (TellsOfTrees self.now) }
+    {
+        let mut partial = Partial::new(alloc, self.question.puzzle())?;
+        let lemmas = self.question.certificate().lemmas();
+        for lemma in 0..lemmas.len() as u32 {
+            gate.enter(lemma);
+            let setting = self.setting(lemma);
+            let found = lemma_fault(alloc, &setting, &lemmas.at(lemma as usize), &mut partial)?;
+            if let Some(fault) = found {
+                return Ok(Some((lemma, fault)));
+            }
+        }
+        Ok(None)
+    }
+
+    /// The answer, where this was found of the trees: the first lemma whose tree has a fault, with its first fault, or
+    /// none where all hold.
+    pub fn answer(&self, found: Option<(u32, TreeFault)>) -> Answer
+        requires { TellsOfTrees self.now found }
+        ensures answer { IsAnswer self.now result }
+        // The main theorem: a list that is called complete is.
+        ensures complete { result ≡ Answer.Complete
+            → IsCompleteList self.now.puzzle self.now.symmetries self.now.listed }
+        ensures covered { result ≡ Answer.Complete → AreCovered self.now }
+    {
+        let _ = &self.question;
+        match found {
+            None => Answer::Complete,
+            Some((number, fault)) => Answer::Refused(Fault::Tree(number, fault)),
+        }
+    }
+}

@@ -1,0 +1,176 @@
+//! What is asked of the checker, and what is checked of it before the trees.
+
+ghost use Rattle.std.specs.Prelude.{◌≡◌, ◌<◌, ◌^◌, IfOk, OnErr, length};
+ghost use Rattle.cert_check.specs.Walk.{TellsOfArrangements, TellsOfListing};
+ghost use Rattle.cert_check.specs.Answer.{AreArrangements};
+
+use crate::faults::{Answer, Fault};
+use crate::gates::Gate;
+use crate::list_faults::list_fault;
+use crate::prefixes::{ends_at_a_root, prefixes_fault};
+use crate::prepared::Prepared;
+use crate::repeats::first_repeated;
+use crate::symmetries::{SymmetriesFault, make_symmetries};
+use cert_tree::Certificate;
+use match_puzzle::{Arrangement, ArrangementFault, Puzzle};
+use std::alloc::{AllocError, Global};
+use std::marker::Model;
+
+/// Whether the certificate shows that the list, with the images of its members under the named symmetries, has each
+/// arrangement of the puzzle, and none twice in the list itself.
+#[derive(Drop)]
+pub struct Question<'a> {
+    puzzle: &'a Puzzle,
+    listed: &'a [Arrangement],
+    certificate: &'a Certificate,
+}
+
+impl<'a> Model for Question<'a> {
+    ghost use Rattle.std.specs.Prelude.{◌<◌, ◌^◌, length};
+    ghost use Rattle.std.specs.Coded.{codes};
+    ghost use Rattle.cert_tree.specs.contracts.heads.Head as head;
+    ghost use Rattle.cert_tree.specs.HeadCode.{tree_code};
+    ghost use Rattle.cert_check.specs.Setting.{Question, question_of};
+
+    ghost Value = { Question };
+
+    ghost coded = { Prim.hlevel (codes, tree_code head.the_row.coded) };
+
+    ghost view = { λ q. question_of q.puzzle.now q.listed.now q.certificate.now };
+
+    ghost invariant = { λ q. length q.listed.now < 2 ^ 32 };
+}
+
+impl<'a> Question<'a> {
+    ghost use Rattle.std.specs.Prelude.{◌≡◌, ◌<◌, ◌≤◌, ◌^◌, IfOk, IfErr, OnErr, length};
+    ghost use Rattle.match_board.specs.First.{IsFirst};
+    ghost use Rattle.match_board.specs.declared.limits.TheConstants.{MOST_LEMMAS};
+    ghost use Rattle.cert_check.specs.Setting.{question_of};
+    ghost use Rattle.cert_check.specs.Walk.{TellsOfArrangements};
+    ghost use Rattle.cert_check.specs.Answer.{AreArrangements, AreCovered, IsAnswer, IsCompleteList};
+    ghost use Rattle.cert_check.specs.Answer.{Occurs, fault_rank};
+
+    /// Whether these are all arrangements of the puzzle, by this certificate.
+    pub fn new(
+        puzzle: &'a Puzzle,
+        listed: &'a [Arrangement],
+        certificate: &'a Certificate,
+    ) -> Question<'a>
+        requires { length listed.now < 2 ^ 32 }
+        ensures { result ≡ question_of puzzle.now listed.now certificate.now }
+    {
+        Question {
+            puzzle,
+            listed,
+            certificate,
+        }
+    }
+
+    /// The puzzle.
+    pub fn puzzle(&self) -> &'a Puzzle
+        ensures { result.now ≡ self.now.puzzle }
+    {
+        self.puzzle
+    }
+
+    /// The list, which has fewer than 2^32 members.
+    pub fn listed(&self) -> &'a [Arrangement]
+        ensures listed { result.now ≡ self.now.listed }
+        ensures few { length result.now < 2 ^ 32 }
+    {
+        self.listed
+    }
+
+    /// The certificate.
+    pub fn certificate(&self) -> &'a Certificate
+        ensures { result.now ≡ record { symmetries = self.now.symmetries; lemmas = self.now.lemmas } }
+    {
+        self.certificate
+    }
+
+    /// The first listed one that is no arrangement, with its first fault, or none where each is one.
+    pub fn list_fault(&self) -> Option<(u32, ArrangementFault)>
+        ensures { TellsOfArrangements self.now.puzzle self.now.listed result }
+    {
+        list_fault(self.puzzle, self.listed)
+    }
+
+    /// The question with the certificate's symmetries, where all is right but perhaps the trees; else the first fault.
+    ///
+    /// `bad` is the first listed one that is no arrangement, with its first fault, or none where each is one. An `Err`
+    /// comes where memory is refused before a fault is found.
+    pub fn prepare(
+        &self,
+        alloc: Global,
+        bad: Option<(u32, ArrangementFault)>,
+    ) -> Result<Result<Prepared<'a>, Fault>, AllocError>
+        requires { TellsOfArrangements self.now.puzzle self.now.listed bad }
+        ensures prepared { IfOk result (λ r. IfOk r (λ prepared. prepared ≡ self.now)) }
+        ensures fault { IfOk result (λ r. IfErr r (IsFirst fault_rank (Occurs self.now))) }
+        // Want of memory hides no fault of a listed one.
+        ensures memory { OnErr result (AreArrangements self.now.puzzle self.now.listed) }
+    {
+        let puzzle = self.puzzle;
+        if let Some(fault) = listing_fault(alloc, puzzle, self.listed, bad)? {
+            return Ok(Err(fault));
+        }
+        let symmetries = match make_symmetries(alloc, puzzle, self.certificate.symmetries()) {
+            Ok(symmetries) => symmetries,
+            Err(SymmetriesFault::Line(number, fault)) => {
+                return Ok(Err(Fault::Symmetry(number, fault)));
+            }
+            Err(SymmetriesFault::Memory) => return Err(AllocError),
+        };
+        let lemmas = self.certificate.lemmas();
+        if let Some((number, fault)) = prefixes_fault(puzzle, lemmas) {
+            return Ok(Err(Fault::Prefix(number, fault)));
+        }
+        if !ends_at_a_root(lemmas) {
+            return Ok(Err(Fault::Root));
+        }
+        // It says that the puzzle is one.
+        let _ = puzzle.board();
+        let question = Question::new(puzzle, self.listed, self.certificate);
+        Ok(Ok(Prepared::new(question, symmetries)))
+    }
+
+    /// The answer, found on one thread and on one board for all lemmas. The gate is told of each lemma before its tree
+    /// is walked. An `Err` comes where memory is refused before a fault is found.
+    pub fn check<G: Gate>(&self, alloc: Global, gate: &G) -> Result<Answer, AllocError>
+        ensures answer { IfOk result (IsAnswer self.now) }
+        // The main theorem: a list that is called complete is.
+        ensures complete { IfOk result (λ answer. answer ≡ Answer.Complete
+            → IsCompleteList self.now.puzzle self.now.symmetries self.now.listed) }
+        ensures covered { IfOk result (λ answer. answer ≡ Answer.Complete → AreCovered self.now) }
+        // Want of memory hides no fault of a listed one.
+        ensures memory { OnErr result (AreArrangements self.now.puzzle self.now.listed) }
+    {
+        let prepared = match self.prepare(alloc, self.list_fault())? {
+            Ok(prepared) => prepared,
+            Err(fault) => return Ok(Answer::Refused(fault)),
+        };
+        let found = prepared.trees_fault(alloc, gate)?;
+        Ok(prepared.answer(found))
+    }
+}
+
+// What is wrong with the list alone.
+fn listing_fault(
+    alloc: Global,
+    puzzle: &Puzzle,
+    listed: &[Arrangement],
+    bad: Option<(u32, ArrangementFault)>,
+) -> Result<Option<Fault>, AllocError>
+    requires listed { length listed.now < 2 ^ 32 }
+    requires bad { TellsOfArrangements puzzle.now listed.now bad }
+    ensures told { IfOk result (TellsOfListing puzzle.now listed.now) }
+    ensures memory { OnErr result (AreArrangements puzzle.now listed.now) }
+{
+    if let Some((number, fault)) = bad {
+        return Ok(Some(Fault::List(number, fault)));
+    }
+    match first_repeated(alloc, listed)? {
+        None => Ok(None),
+        Some(number) => Ok(Some(Fault::Repeated(number))),
+    }
+}

@@ -1,0 +1,52 @@
+-- What is known of a puzzle before it is solved.
+use Rattle.std.specs.Prelude.{◌≡◌, ◌==◌, ℕ, List, [], ◌∷◌, ◌++◌, Option, Some, None, Bool, false, if◌then◌else◌, codes}
+use Rattle.std.specs.Prelude.{count_by, decimal, length, sum_by}
+use Rattle.std.specs.List.{flat_map, range_with_len}
+use Rattle.match_board.specs.Board.{cell_count, IsBorderOrder}
+use Rattle.match_puzzle.specs.Puzzle.{Task, BorderRule, free, one, each}
+use Rattle.match_puzzle.specs.Colours.{IsColourCount}
+use Rattle.match_text.specs.Spelling.{colour_character, count_words, text_of}
+
+abbrev pub is_colour : (colour other : ℕ) → Bool
+is_colour colour other = other == colour
+
+-- The rule asks for the colour.
+abbrev pub is_rule : (colour : ℕ) → Option ℕ → Bool
+is_rule colour None = false
+is_rule colour (Some asked) = is_colour colour asked
+
+-- how many of so many outer sides ask for the colour
+abbrev pub border_count : BorderRule → (outer colour : ℕ) → ℕ
+border_count free outer colour = 0
+border_count (one asked) outer colour = if is_colour colour asked then outer else 0
+border_count (each rules) outer colour = count_by (is_rule colour) rules
+
+-- how many sides of tiles have the colour
+abbrev pub tile_count : List (List ℕ) → (colour : ℕ) → ℕ
+tile_count words colour = sum_by (count_by (is_colour colour)) words
+
+-- the line of a colour
+abbrev pub colour_line : Task → (outer colour : ℕ) → List ℕ
+colour_line p outer colour =
+    codes "colour " ++ colour_character colour ∷ codes ": "
+    ++ decimal (border_count p.border outer colour) ++ codes " on the border, "
+    ++ decimal (tile_count p.words colour) ++ codes " on tiles\n"
+
+-- a name and a number
+abbrev pub number_line : List ℕ → ℕ → List ℕ
+number_line name number = text_of (count_words name number ∷ [])
+
+-- how many cells, tiles and colours there are, and a line for each colour, where there are so many outer sides
+abbrev pub facts_text : Task → (outer colours : ℕ) → List ℕ
+facts_text p outer colours =
+    number_line (codes "cells") (cell_count p.board) ++ number_line (codes "tiles") (length p.words)
+    ++ number_line (codes "colours") colours
+    ++ flat_map (colour_line p outer) (range_with_len 0 colours)
+
+-- the text has the facts of the puzzle, with all its outer sides and all its colours
+pub record IsFacts (p : Task) (text : List ℕ) : Type 0 where
+  pub outer : List (ℕ × ℕ)
+  pub border : IsBorderOrder p.board outer
+  pub colours : ℕ
+  pub counted : IsColourCount p colours
+  pub written : text ≡ facts_text p (length outer) colours

@@ -1,0 +1,9 @@
+pub mod Arrangement
+pub mod Face
+pub mod Rows
+pub mod Pieces
+pub mod Squares
+pub mod Triangles
+pub mod Drawing
+pub mod Facts
+pub mod Laws

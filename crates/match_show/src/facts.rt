@@ -1,0 +1,142 @@
+//! What is known of a puzzle before it is solved.
+
+ghost use Rattle.std.specs.Prelude.{◌≡◌, ◌++◌, ◌<◌, ◌≤◌, ◌^◌, IfOk, OnOk, count_by, decimal, length, map, sum_by};
+ghost use Rattle.std.specs.List.{flat_map, range_with_len};
+ghost use Rattle.match_board.specs.Tile.{word};
+ghost use Rattle.match_puzzle.specs.Puzzle.{Task, IsPuzzle, rule_of};
+ghost use Rattle.match_show.specs.Facts.{IsFacts, border_count, tile_count, colour_line, is_colour, is_rule};
+
+use itoa::Buffer;
+use match_board::Tile;
+use match_board::limits::{MOST_COLOURS, MOST_TILES};
+use match_puzzle::{Border, Puzzle};
+use match_text::{character, put_number_line};
+use std::alloc::{AllocError, Global};
+
+/// Facts of a puzzle: the lines `cells N`, `tiles N` and `colours N`, and for each colour C, from 0 on, a line
+/// `colour C: N on the border, N on tiles` with how many outer sides ask for it, and how many sides of tiles have it.
+///
+/// An `Err` where memory is refused, and nowhere else. It asks what each side of each cell meets, and goes through the
+/// tiles once for each colour.
+pub fn write_facts(alloc: Global, puzzle: &Puzzle) -> Result<Vec<u8>, AllocError>
+    ensures { IfOk result (λ text. IsFacts puzzle.now text.items) }
+{
+    let mut text = Vec::new(alloc);
+    let board = puzzle.board();
+    let colours = puzzle.colours();
+    put_number_line(&mut text, b"cells", u32::from(board.cells()))?;
+    put_number_line(&mut text, b"tiles", u32::from(board.cells()))?;
+    put_number_line(&mut text, b"colours", u32::from(colours))?;
+    put_colour_lines(&mut text, puzzle, board.border_len(), colours)?;
+    Ok(text)
+}
+
+// A line for each colour, where the board has so many outer sides.
+fn put_colour_lines(
+    text: &mut Vec<u8>,
+    puzzle: &Puzzle,
+    outer: u16,
+    colours: u8,
+) -> Result<(), AllocError>
+    requires colours { colours ≤ MOST_COLOURS }
+    requires puzzle { IsPuzzle puzzle.now }
+    ensures { OnOk result (text.new.items ≡ text.old.items
+        ++ flat_map (colour_line puzzle.now outer) (range_with_len 0 colours)) }
+{
+    for colour in 0..colours {
+        put_colour_line(text, puzzle, outer, colour)?;
+    }
+    Ok(())
+}
+
+fn put_colour_line(
+    text: &mut Vec<u8>,
+    puzzle: &Puzzle,
+    outer: u16,
+    colour: u8,
+) -> Result<(), AllocError>
+    requires colour { colour < MOST_COLOURS }
+    requires puzzle { IsPuzzle puzzle.now }
+    ensures { OnOk result (text.new.items ≡ text.old.items ++ colour_line puzzle.now outer colour) }
+{
+    text.extend_from_slice(b"colour ")?;
+    text.push(character(colour))?;
+    text.extend_from_slice(b": ")?;
+    put_count(text, on_border(puzzle.border(), outer, colour))?;
+    text.extend_from_slice(b" on the border, ")?;
+    put_count(text, on_tiles(puzzle.tiles(), colour))?;
+    text.extend_from_slice(b" on tiles\n")?;
+    Ok(())
+}
+
+fn put_count(text: &mut Vec<u8>, count: usize) -> Result<(), AllocError>
+    ensures { OnOk result (text.new.items ≡ text.old.items ++ decimal count) }
+{
+    let mut buffer = Buffer::new();
+    text.extend_from_slice(buffer.format(count).as_bytes())?;
+    Ok(())
+}
+
+// How many of so many outer sides ask for the colour.
+fn on_border(border: &Border, outer: u16, colour: u8) -> usize
+    ensures { result ≡ border_count (rule_of border.now) outer colour }
+{
+    match border {
+        Border::Free => 0,
+        Border::One(asked) => {
+            if *asked == colour {
+                usize::from(outer)
+            } else {
+                0
+            }
+        }
+        Border::Each(rules) => rules_asking(rules.as_slice(), colour),
+    }
+}
+
+fn rules_asking(rules: &[Option<u8>], colour: u8) -> usize
+    ensures { result ≡ count_by (is_rule colour) rules.now }
+{
+    let mut count = 0;
+    for rule in rules {
+        if asks(*rule, colour) {
+            count += 1;
+        }
+    }
+    count
+}
+
+fn asks(rule: Option<u8>, colour: u8) -> bool
+    ensures { result ≡ is_rule colour rule }
+{
+    match rule {
+        Some(asked) => asked == colour,
+        None => false,
+    }
+}
+
+// How many sides of tiles have the colour.
+fn on_tiles(tiles: &[Tile], colour: u8) -> usize
+    requires { length tiles.now ≤ MOST_TILES }
+    ensures { result ≡ sum_by (count_by (is_colour colour)) (map word tiles.now) }
+{
+    let mut count = 0;
+    for tile in tiles {
+        count += on_tile(tile, colour);
+    }
+    count
+}
+
+// How many sides of the tile have the colour.
+fn on_tile(tile: &Tile, colour: u8) -> usize
+    ensures count { result ≡ count_by (is_colour colour) (word tile.now) }
+    ensures few { result ≤ 4 }
+{
+    let mut count = 0;
+    for side in 0..tile.sides() {
+        if tile.shows(0, side) == colour {
+            count += 1;
+        }
+    }
+    count
+}

@@ -1,0 +1,18 @@
+//! Boards drawn in text.
+#![tactic(auto)]
+
+mod arrangements;
+mod drawings;
+mod faces;
+mod facts;
+mod figures;
+mod laws;
+mod pieces;
+mod rows;
+mod squares;
+mod triangles;
+
+pub use arrangements::write_arrangement;
+pub use drawings::write_drawing;
+pub use facts::write_facts;
+pub use laws::drawing_laws;
