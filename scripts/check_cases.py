@@ -246,6 +246,15 @@ def expand(trial, case):
         trial.wants_status("expand", 0, got.status)
         wanted = f"arrangements {case.keys['arrangements']}".encode("latin-1")
         trial.wants("expand", "the list's second line", wanted, b"".join(got.stdout.splitlines()[1:2]))
+    count(trial, "count", got)
+
+
+def count(trial, way, expanded):
+    """A count of the documents: it says how many the expansion lists, or what that says of a refusal."""
+    got = trial.run(["count", *trial.paths()])
+    trial.wants_status(way, expanded.status, got.status)
+    first = expanded.stdout.splitlines()[1:2] if expanded.status == 0 else [expanded.stdout[:-1]]
+    trial.wants(way, "its first line", b"".join(first), b"".join(got.stdout.splitlines()[:1]))
 
 
 def order(trial, case):
@@ -270,7 +279,7 @@ def order(trial, case):
             trial.differs(way, f"the file {document}, a part of it", text_of(text), trial.contents(document))
 
 
-def solve(trial, options, count, every=None):
+def solve(trial, options, number, every=None):
     """A solve: what it writes is complete by a check, and expands to all arrangements, so many or these."""
     way = " ".join(["solve", *options])
     report = trial.run(["solve", *trial.paths(), *options])
@@ -281,8 +290,10 @@ def solve(trial, options, count, every=None):
     trial.wants(way, "standard error", b"", report.stderr)
     checked = trial.run(["check", *trial.paths(), "--workers", "3", "--forks", "2"])
     trial.wants_outcome(f"{way}, its check", outcome_of(f"complete {listed}"), checked)
-    expanded = sorted(arrangements_in(trial.run(["expand", *trial.paths()]).stdout))
-    trial.wants(f"{way}, its expansion", "how many", str(count).encode(), str(len(expanded)).encode())
+    expansion = trial.run(["expand", *trial.paths()])
+    expanded = sorted(arrangements_in(expansion.stdout))
+    trial.wants(f"{way}, its expansion", "how many", str(number).encode(), str(len(expanded)).encode())
+    count(trial, f"{way}, its count", expansion)
     if every is not None:
         trial.wants(f"{way}, its expansion", "which", list_text(every), list_text(expanded))
 

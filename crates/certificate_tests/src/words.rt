@@ -49,6 +49,10 @@ fn ordered(alloc: Global, texts: &[&str]) -> Result<String, Fail> {
             let names = names(alloc, &files)?;
             Ok(format!(in alloc; "expand {names}")?)
         }
+        Order::Count(files) => {
+            let names = names(alloc, &files)?;
+            Ok(format!(in alloc; "count {names}")?)
+        }
         Order::Show(puzzle) => Ok(format!(in alloc; "show {puzzle}")?),
         Order::Symmetries(puzzle) => Ok(format!(in alloc; "symmetries {puzzle}")?),
         Order::Tiles { sides, colours } => {
@@ -59,8 +63,9 @@ fn ordered(alloc: Global, texts: &[&str]) -> Result<String, Fail> {
 }
 
 // Each command, with its numbers or without.
-const ORDERS: [(&[&str], &[u8]); 17] = [
+const ORDERS: [(&[&str], &[u8]); 18] = [
     (&[], b"joined"),
+    (&["count", "p", "l", "c"], b"count p l c"),
     (&["show", "p"], b"show p"),
     (&["symmetries", "p"], b"symmetries p"),
     (

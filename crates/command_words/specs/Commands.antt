@@ -52,6 +52,9 @@ solve_app =
 abbrev pub expand_app : App
 expand_app = with_files (new_app (codes "expand"))
 
+abbrev pub count_app : App
+count_app = with_files (new_app (codes "count"))
+
 abbrev pub show_app : App
 show_app = with_puzzle (new_app (codes "show"))
 
@@ -65,7 +68,7 @@ tiles_app =
 
 -- the commands, in the order of the help
 abbrev pub commands : List App
-commands = check_app ∷ solve_app ∷ expand_app ∷ show_app ∷ symmetries_app ∷ tiles_app ∷ []
+commands = check_app ∷ solve_app ∷ expand_app ∷ count_app ∷ show_app ∷ symmetries_app ∷ tiles_app ∷ []
 
 -- the program with all of them
 abbrev pub whole_app : App

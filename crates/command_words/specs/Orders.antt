@@ -9,7 +9,7 @@ use Rattle.command_words.specs.declared.faults.WordsFault.{WordsFault}
 use Rattle.command_words.specs.declared.faults.WordsFault.TheVariants.{Words, Memory}
 use Rattle.command_words.specs.declared.orders.Files.{Files}
 use Rattle.command_words.specs.declared.orders.Order.{Order}
-use Rattle.command_words.specs.declared.orders.Order.TheVariants.{Joined, Check, Solve, Expand, Show, Symmetries, Tiles}
+use Rattle.command_words.specs.declared.orders.Order.TheVariants.{Joined, Check, Solve, Expand, Count, Show, Symmetries, Tiles}
 use Rattle.command_words.specs.Commands.{whole_app}
 
 -- the matches of a command have a text under this id
@@ -45,6 +45,7 @@ IsOrderOf (Some (name, rows)) (Solve files depth fuel workers) =
     (name ≡ codes "solve") × NameFiles rows files × (number_of (codes "depth") rows ≡ Some depth)
     × (number_of (codes "fuel") rows ≡ Some fuel) × (number_of (codes "workers") rows ≡ Some workers)
 IsOrderOf (Some (name, rows)) (Expand files) = (name ≡ codes "expand") × NameFiles rows files
+IsOrderOf (Some (name, rows)) (Count files) = (name ≡ codes "count") × NameFiles rows files
 IsOrderOf (Some (name, rows)) (Show puzzle) =
     (name ≡ codes "show") × (first_of (codes "PUZZLE") rows ≡ Some (string_bytes puzzle))
 IsOrderOf (Some (name, rows)) (Symmetries puzzle) =

@@ -4,7 +4,8 @@ ghost use Rattle.std.specs.Prelude.{◌≡◌, IfOk, codes, false};
 ghost use Rattle.match_board.specs.declared.limits.TheConstants.{MOST_WORKERS};
 ghost use Rattle.clap.specs.Words.{app_of, new_app, rule_of};
 ghost use Rattle.command_words.specs.Commands.{IsLocal, optional_number, wanted, wanted_number};
-ghost use Rattle.command_words.specs.Commands.{check_app, expand_app, show_app, solve_app, symmetries_app, tiles_app};
+ghost use Rattle.command_words.specs.Commands.{check_app, count_app, expand_app, show_app, solve_app};
+ghost use Rattle.command_words.specs.Commands.{symmetries_app, tiles_app};
 ghost use Rattle.command_words.specs.Commands.{whole_app, with_files, with_puzzle};
 
 use clap::builder::ValueParser;
@@ -82,6 +83,18 @@ Exit status:
 
 Example:
   edgematch expand puzzle list certificate";
+
+const COUNTED: &str = "\
+Prints how many arrangements the puzzle has, and how many where those that the symmetries of the \
+certificate take into each other count once; or the answer of check where it is refused.
+
+Exit status:
+  0  the arrangements are counted
+  1  the certificate does not show that the list is complete
+  2  anything else, which is said on standard error
+
+Example:
+  edgematch count puzzle list certificate";
 
 const SHOWN: &str = "\
 Draws the board with the numbers of its cells and the colours that the border asks for, and says \
@@ -242,6 +255,18 @@ fn expand<'a>(alloc: Global) -> Result<Command<'a>, AllocError>
     )
 }
 
+fn count<'a>(alloc: Global) -> Result<Command<'a>, AllocError>
+    ensures app { IfOk result (λ c. app_of c ≡ count_app) }
+    ensures local { IfOk result IsLocal }
+{
+    of_files(
+        alloc,
+        "count",
+        "Checks a list, and counts the arrangements of the puzzle",
+        COUNTED,
+    )
+}
+
 // The command of this name, with the file of a puzzle.
 fn of_puzzle<'a>(
     alloc: Global,
@@ -316,6 +341,7 @@ pub fn program<'a>(alloc: Global) -> Result<Command<'a>, AllocError>
         .subcommand(check(alloc)?)?
         .subcommand(solve(alloc)?)?
         .subcommand(expand(alloc)?)?
+        .subcommand(count(alloc)?)?
         .subcommand(show(alloc)?)?
         .subcommand(symmetries(alloc)?)?
         .subcommand(tiles(alloc)?)?;

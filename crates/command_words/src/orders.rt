@@ -31,6 +31,8 @@ pub enum Order {
     },
     /// To check the documents in these files, and to print all arrangements.
     Expand(Files),
+    /// To check the documents in these files, and to count all arrangements.
+    Count(Files),
     /// To draw the board of the puzzle in its file.
     Show(String),
     /// To print symmetries of the puzzle in its file.

@@ -119,6 +119,7 @@ pub fn order(alloc: Global, words: &[String]) -> Result<Order, WordsFault>
         "check" => Ok(check(alloc, matches)?),
         "solve" => Ok(solve(alloc, matches)?),
         "expand" => Ok(Order::Expand(files(alloc, matches)?)),
+        "count" => Ok(Order::Count(files(alloc, matches)?)),
         "show" => Ok(Order::Show(text(alloc, matches, "PUZZLE")?)),
         "symmetries" => Ok(Order::Symmetries(text(alloc, matches, "PUZZLE")?)),
         "tiles" => Ok(tiles(matches)),

@@ -5,12 +5,13 @@ use Rattle.std.specs.Io.KnownBytes.{Consumes, IsAtEnd}
 use Rattle.match_runs.specs.Files.{HoldsText, LeavesAll}
 use Rattle.match_runs.specs.Documents.{Texts}
 use Rattle.match_runs.specs.Moves.{WritesFront, Writing}
-use Rattle.match_runs.specs.OrderRuns.{ComesOfTexts, StopsChecking, StopsExpanding, StopsReporting}
+use Rattle.match_runs.specs.OrderRuns.{ComesOfTexts, StopsChecking, StopsPrinting, StopsReporting}
 use Rattle.match_runs.specs.Solving.{Products, SolveGives, StopsWriting}
-use Rattle.match_runs.specs.Runs.{CheckGives, ExpansionGives, IsOfChecking, IsOfDocuments, IsOfExpanding, RunGives, SpellTooMany}
+use Rattle.match_runs.specs.Runs.{CheckGives, PrintingGives, IsOfChecking, IsOfDocuments, IsOfExpanding, RunGives, SpellTooMany}
 use Rattle.match_runs.specs.Streams.{GivesWhole}
 use Rattle.match_runs.specs.declared.faults.RunFault.{RunFault}
 use Rattle.match_runs.specs.declared.faults.RunFault.TheVariants as runs
+use Rattle.match_runs.specs.declared.expansion_runs.Printing.{Printing}
 use Rattle.match_runs.specs.Exits.{status_exit}
 use Rattle.match_runs.specs.declared.exits.Exit.TheVariants.{Done}
 use Rattle.match_runs.specs.declared.runs.Status.{Status}
@@ -44,18 +45,18 @@ stops_checking output Hold runs.Write kind document write comes = write refl
 stops_checking output Hold runs.Expand kind document write comes = absurd kind
 stops_checking output Hold _ kind document write comes = absurd comes
 
--- The same of an expansion.
-pub stops_expanding : (output : Writing) (Hold : (Texts → Type 0) → Type 0) (fault : RunFault) → IsOfExpanding fault
+-- The same where all arrangements are printed.
+pub stops_printing : (printing : Printing) (output : Writing) (Hold : (Texts → Type 0) → Type 0) (fault : RunFault) → IsOfExpanding fault
     → (IsOfDocuments fault → Hold (λ texts. RunGives texts (Err fault)))
     → (fault ≡ runs.Expand → Hold SpellTooMany)
-    → (fault ≡ runs.Write → Hold (λ texts. WritesFront output (λ text. (ends : Status) × ExpansionGives texts text ends)))
-    → ComesOfTexts fault → Hold (StopsExpanding output fault)
-stops_expanding output Hold (runs.Puzzle fault) kind document expand write comes = document tt
-stops_expanding output Hold (runs.List fault) kind document expand write comes = document tt
-stops_expanding output Hold (runs.Certificate fault) kind document expand write comes = document tt
-stops_expanding output Hold runs.Write kind document expand write comes = write refl
-stops_expanding output Hold runs.Expand kind document expand write comes = expand refl
-stops_expanding output Hold _ kind document expand write comes = absurd comes
+    → (fault ≡ runs.Write → Hold (λ texts. WritesFront output (λ text. (ends : Status) × PrintingGives printing texts text ends)))
+    → ComesOfTexts fault → Hold (StopsPrinting printing output fault)
+stops_printing printing output Hold (runs.Puzzle fault) kind document expand write comes = document tt
+stops_printing printing output Hold (runs.List fault) kind document expand write comes = document tt
+stops_printing printing output Hold (runs.Certificate fault) kind document expand write comes = document tt
+stops_printing printing output Hold runs.Write kind document expand write comes = write refl
+stops_printing printing output Hold runs.Expand kind document expand write comes = expand refl
+stops_printing printing output Hold _ kind document expand write comes = absurd comes
 
 -- What a failed writing of a solve says of the output.
 pub stops_reporting : (list certificate output : Writing) (held : Option (List ℕ)) (workers : ℕ) (text : List ℕ) (made : Products)

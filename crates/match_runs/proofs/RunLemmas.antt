@@ -116,7 +116,7 @@ module _ (p : Task) (listed : List (List Placement)) (lines : List SymmetryLine)
       let from = kept_line kept adds m.0 (contains_at kept at.0 m.0 m.1) in
       subst (Contains lines) (sym (m.2 ∙ ap line_of from.3)) (contains_at lines from.0 from.1 from.2)) more
 
-  all_are : AreOf p listed (map (motion_of p) lines)
+  pub all_are : AreOf p listed (map (motion_of p) lines)
   all_are = record {
     puzzle = puzzle;
     arrangements = complete.arrangements;

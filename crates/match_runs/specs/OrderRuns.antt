@@ -4,18 +4,20 @@ use Rattle.std.specs.String.{string_bytes}
 use Rattle.std.specs.Io.KnownBytes.{Appends}
 use Rattle.command_words.specs.declared.orders.Files.{Files}
 use Rattle.command_words.specs.declared.orders.Order.{Order}
-use Rattle.command_words.specs.declared.orders.Order.TheVariants.{Joined, Check, Solve, Expand, Show, Symmetries, Tiles}
+use Rattle.command_words.specs.declared.orders.Order.TheVariants.{Joined, Check, Solve, Expand, Count, Show, Symmetries, Tiles}
 use Rattle.match_runs.specs.Documents.{Texts}
 use Rattle.match_board.specs.declared.limits.TheConstants.{MOST_CLASSES}
 use Rattle.match_board.specs.Turns.{HasMoreLeastWords}
 use Rattle.match_runs.specs.Files.{FilesHold, HoldsText}
 use Rattle.match_runs.specs.Moves.{Reading, Writing, WritesFront, WritesWhole}
-use Rattle.match_runs.specs.Runs.{CheckGives, ExpansionGives, InputReadToEnd, IsOfChecking, IsOfDocuments, IsOfExpanding}
-use Rattle.match_runs.specs.Runs.{IsOfTiles, RunGives, SpellCompleteList, SpellTooMany, StopsReadingInput, TilesGive}
+use Rattle.match_runs.specs.Runs.{CheckGives, InputReadToEnd, IsOfChecking, IsOfDocuments, IsOfExpanding}
+use Rattle.match_runs.specs.Runs.{IsOfTiles, PrintingGives, RunGives, SpellCompleteList, SpellTooMany, StopsReadingInput, TilesGive}
 use Rattle.match_runs.specs.Solving.{IsOfPuzzle, IsOfSolving, IsUnwritten, Products, SolveFails, SolveGives}
 use Rattle.match_runs.specs.Exits.{status_exit}
 use Rattle.match_runs.specs.Naming.{IsOfNaming, SymmetriesGive}
 use Rattle.match_runs.specs.Showing.{BoardGives}
+use Rattle.match_runs.specs.declared.expansion_runs.Printing.{Printing}
+use Rattle.match_runs.specs.declared.expansion_runs.Printing.TheVariants as printings
 use Rattle.match_runs.specs.declared.exits.Exit.{Exit}
 use Rattle.match_runs.specs.declared.exits.Exit.TheVariants as exits
 use Rattle.match_runs.specs.declared.runs.Status.{Status}
@@ -27,10 +29,11 @@ abbrev pub Checks : Writing → Exit → Texts → Type 0
 Checks output exit texts =
     WritesWhole output (λ text. (status : Status) × CheckGives texts text status × (exit ≡ status_exit status))
 
--- All arrangements were written, or the answer to the texts, and the program ends so.
-abbrev pub Expands : Writing → Exit → Texts → Type 0
-Expands output exit texts =
-    WritesWhole output (λ text. (status : Status) × ExpansionGives texts text status × (exit ≡ status_exit status))
+-- All arrangements were written, or how many they are, or the answer to the texts, and the program ends so.
+abbrev pub PrintsAll : Printing → Writing → Exit → Texts → Type 0
+PrintsAll printing output exit texts =
+    WritesWhole output
+    (λ text. (status : Status) × PrintingGives printing texts text status × (exit ≡ status_exit status))
 
 -- What a solve of the puzzle that a file holds wrote: the list and the certificate each to the file of its name, which was
 -- made anew, and the report.
@@ -52,7 +55,8 @@ OrderGives holds takes input output (Check files workers forks) exit = FilesHold
 OrderGives holds takes input output (Solve files depth fuel workers) exit =
     (exit ≡ exits.Done)
     × (text : List ℕ) × HoldsText (holds (string_bytes files.puzzle)) text × Solves takes output files workers text
-OrderGives holds takes input output (Expand files) exit = FilesHold holds files (Expands output exit)
+OrderGives holds takes input output (Expand files) exit = FilesHold holds files (PrintsAll printings.All output exit)
+OrderGives holds takes input output (Count files) exit = FilesHold holds files (PrintsAll printings.Count output exit)
 OrderGives holds takes input output (Show puzzle) exit =
     (exit ≡ exits.Done) × PuzzleHolds (holds (string_bytes puzzle)) (λ text. WritesWhole output (BoardGives text))
 OrderGives holds takes input output (Symmetries puzzle) exit =
@@ -72,6 +76,7 @@ IsOfOrder Joined fault = IsOfChecking fault
 IsOfOrder (Check files workers forks) fault = IsOfChecking fault
 IsOfOrder (Solve files depth fuel workers) fault = IsOfSolving fault
 IsOfOrder (Expand files) fault = IsOfExpanding fault
+IsOfOrder (Count files) fault = IsOfExpanding fault
 IsOfOrder (Show puzzle) fault = IsOfNaming fault
 IsOfOrder (Symmetries puzzle) fault = IsOfNaming fault
 IsOfOrder (Tiles sides colours) fault = IsOfTiles fault
@@ -90,12 +95,12 @@ StopsChecking output runs.Write texts =
     WritesFront output (λ text. (status : Status) × CheckGives texts text status)
 StopsChecking output fault texts = RunGives texts (Err fault)
 
--- The same of an expansion, for which too many may be reached.
-abbrev pub StopsExpanding : Writing → RunFault → Texts → Type 0
-StopsExpanding output runs.Write texts =
-    WritesFront output (λ text. (status : Status) × ExpansionGives texts text status)
-StopsExpanding output runs.Expand texts = SpellTooMany texts
-StopsExpanding output fault texts = RunGives texts (Err fault)
+-- The same where all arrangements are printed, of which too many may be reached.
+abbrev pub StopsPrinting : Printing → Writing → RunFault → Texts → Type 0
+StopsPrinting printing output runs.Write texts =
+    WritesFront output (λ text. (status : Status) × PrintingGives printing texts text status)
+StopsPrinting printing output runs.Expand texts = SpellTooMany texts
+StopsPrinting printing output fault texts = RunGives texts (Err fault)
 
 -- What a fault says of a list of tiles.
 abbrev pub StopsListing : Writing → (sides colours : ℕ) → RunFault → Type 0
@@ -132,7 +137,9 @@ OrderStops holds input output (Solve files depth fuel workers) fault =
     (IsOfPuzzle fault → (text : List ℕ) × HoldsText (holds (string_bytes files.puzzle)) text × SolveFails text fault)
     × (fault ≡ runs.Write → StopsReporting output (holds (string_bytes files.puzzle)) workers)
 OrderStops holds input output (Expand files) fault =
-    ComesOfTexts fault → FilesHold holds files (StopsExpanding output fault)
+    ComesOfTexts fault → FilesHold holds files (StopsPrinting printings.All output fault)
+OrderStops holds input output (Count files) fault =
+    ComesOfTexts fault → FilesHold holds files (StopsPrinting printings.Count output fault)
 OrderStops holds input output (Show puzzle) fault =
     StopsTelling output (holds (string_bytes puzzle)) BoardGives fault
 OrderStops holds input output (Symmetries puzzle) fault =

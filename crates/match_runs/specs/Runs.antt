@@ -1,5 +1,5 @@
 -- What a run comes to.
-use Rattle.std.specs.Prelude.{◌≡◌, ◌≢◌, ◌+◌, ◌<◌, ◌≤◌, ◌^◌, ◌↔◌, ℕ, List, Result, Ok, Err, Contains, length}
+use Rattle.std.specs.Prelude.{◌≡◌, ◌≢◌, ◌+◌, ◌<◌, ◌≤◌, ◌^◌, ◌↔◌, ◌++◌, ℕ, List, [], ◌∷◌, Result, Ok, Err, Contains, codes, length}
 use Rattle.match_board.specs.declared.limits.TheConstants.{MOST_CLASSES, MOST_ARRANGEMENTS, MOST_BYTES}
 use Rattle.match_board.specs.Turns.{AreLeastWords}
 use Rattle.match_puzzle.specs.Puzzle.{Task}
@@ -23,6 +23,11 @@ use Rattle.cert_check.specs.declared.faults.Answer.{Answer}
 use Rattle.cert_check.specs.declared.faults.Answer.TheVariants.{Complete, Refused}
 use Rattle.match_report.specs.AnswerText.{answer_line}
 use Rattle.symmetry_orbits.specs.Expansion.{IsExpansion, AreMoreReached}
+use Rattle.symmetry_orbits.specs.Orbits.{HasArrangements, IsCount}
+use Rattle.symmetry_orbits.specs.declared.numbers.Count.{Count}
+use Rattle.match_text.specs.Spelling.{count_words, text_of}
+use Rattle.match_runs.specs.declared.expansion_runs.Printing.{Printing}
+use Rattle.match_runs.specs.declared.expansion_runs.Printing.TheVariants as printings
 use Rattle.match_runs.specs.Documents.{Texts, texts_in}
 use Rattle.match_runs.specs.Moves.{FailsToRead, Reading, ReadsAtMost, ReadsPast, ReadsToEnd, ReadsWhole}
 use Rattle.match_runs.specs.declared.streams.documents.Documents.{Documents}
@@ -108,17 +113,35 @@ pub record AreAllInOrder (question : Question) (all : List (List Placement)) : T
   pub once : AreDistinct all
   pub few : length all ≤ MOST_ARRANGEMENTS
 
--- What is printed of what was asked: the answer where it is refused, and else the list of all arrangements.
-abbrev pub ExpansionPrints : Question → Answer → List ℕ → Type 0
-ExpansionPrints question Complete text =
-    (all : List (List Placement)) × AreAllInOrder question all × IsListText all text
-ExpansionPrints question (Refused fault) text = text ≡ answer_line (Refused fault) (length question.listed)
+-- a line of a word and a number
+abbrev pub number_line : (name : List ℕ) → (number : ℕ) → List ℕ
+number_line name number = text_of (count_words name number ∷ [])
 
--- What an expansion on three documents prints, and the status that it ends with.
-abbrev pub ExpansionGives : Texts → (text : List ℕ) → Status → Type 0
-ExpansionGives texts text ends =
+-- how many arrangements there are, and how many orbits
+abbrev pub count_text : Count → List ℕ
+count_text count =
+    number_line (codes "arrangements") count.arrangements ++ number_line (codes "orbits") count.orbits
+
+-- So many arrangements and orbits are reached from the list, and so many arrangements the puzzle has.
+abbrev pub IsCountOf : Question → Count → Type 0
+IsCountOf question count =
+    IsCount question.puzzle question.symmetries question.listed count
+    × HasArrangements question.puzzle count.arrangements
+
+-- What is printed of what was asked: the answer where it is refused, and else the list of all arrangements, or how many
+-- they are.
+abbrev pub Prints : Question → Answer → Printing → List ℕ → Type 0
+Prints question Complete printings.All text =
+    (all : List (List Placement)) × AreAllInOrder question all × IsListText all text
+Prints question Complete printings.Count text =
+    (count : Count) × IsCountOf question count × (text ≡ count_text count)
+Prints question (Refused fault) printing text = text ≡ answer_line (Refused fault) (length question.listed)
+
+-- What is printed of three documents, and the status that it ends with.
+abbrev pub PrintingGives : Printing → Texts → (text : List ℕ) → Status → Type 0
+PrintingGives printing texts text ends =
     (question : Question) × (answer : Answer) × Spells texts question × IsAnswer question answer
-    × ExpansionPrints question answer text × (ends ≡ status_of answer)
+    × Prints question answer printing text × (ends ≡ status_of answer)
 
 -- The list is complete, and more arrangements are reached than can be listed.
 abbrev pub SpellTooMany : Texts → Type 0

@@ -5,7 +5,6 @@ use Rattle.std.specs.Io.KnownBytes.{Appends}
 use Rattle.match_puzzle.specs.Puzzle.{Task}
 use Rattle.match_puzzle.specs.declared.placements.Placement.{Placement}
 use Rattle.match_text.specs.Puzzles.{PuzzleReads}
-use Rattle.match_text.specs.Spelling.{count_words, text_of}
 use Rattle.cert_tree.specs.Certificate.{Contents}
 use Rattle.cert_tree.specs.CertificateSpelling.{IsCertificateWithin, certificate_spelling}
 use Rattle.cert_tree.specs.Writing.{said_by}
@@ -15,7 +14,7 @@ use Rattle.match_text.specs.declared.faults.PuzzleTextFault.TheVariants as puzzl
 use Rattle.xcc_form.specs.Options.{HasTooManyEntries}
 use Rattle.match_crew.specs.Solving.{IsSolvedBy}
 use Rattle.match_crew.specs.declared.faults.SolveFault.TheVariants as solves
-use Rattle.match_runs.specs.Runs.{IsListText}
+use Rattle.match_runs.specs.Runs.{IsListText, number_line}
 use Rattle.match_runs.specs.Moves.{FailsToRead, FrontOf, Reading, ReadsAtMost, ReadsPast, ReadsWhole, Writing}
 use Rattle.match_runs.specs.declared.faults.Document.TheVariants as documents
 use Rattle.match_runs.specs.declared.faults.RunFault.{RunFault}
@@ -27,10 +26,6 @@ use Rattle.match_runs.specs.declared.solve_runs.Made.{Made}
 abbrev pub first_board : Task → List (List Placement) → List ℕ
 first_board p [] = []
 first_board p (a ∷ listed) = board_text p a
-
--- a line of a word and a number
-abbrev pub number_line : (name : List ℕ) → (number : ℕ) → List ℕ
-number_line name number = text_of (count_words name number ∷ [])
 
 -- how much was found, by how many lemmas; who took them; and the first arrangement
 abbrev pub report_text : Task → (listed : List (List Placement)) → (lemmas : ℕ) → (tally : List (List ℕ)) → List ℕ

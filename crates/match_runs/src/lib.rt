@@ -20,7 +20,7 @@ mod tile_runs;
 mod word_runs;
 
 pub use exits::Exit;
-pub use expansion_runs::run_expand;
+pub use expansion_runs::{Printing, run_expand, run_printing};
 pub use faults::{Document, RunFault, fault_text};
 pub use files::{FileSystem, System, have_different_names, make, open};
 pub use order_runs::run_order;

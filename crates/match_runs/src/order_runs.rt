@@ -3,15 +3,15 @@
 ghost use Rattle.std.specs.Prelude.{◌≡◌, ◌≢◌, ◌≤◌, ℕ, List, IfOk, IfErr, OnOk};
 ghost use Rattle.match_runs.specs.Files.{FilesHold, HoldsText, LeavesAll, TakesWhole};
 ghost use Rattle.match_runs.specs.Moves.{reading_of, writing_of};
-ghost use Rattle.match_runs.specs.OrderRuns.{Checks, Expands, IsOfOrder, OrderGives, OrderShows};
-ghost use Rattle.match_runs.specs.OrderRuns.{ComesOfTexts, OrderStops, Solves, StopsChecking, StopsExpanding};
+ghost use Rattle.match_runs.specs.OrderRuns.{Checks, IsOfOrder, PrintsAll, OrderGives, OrderShows};
+ghost use Rattle.match_runs.specs.OrderRuns.{ComesOfTexts, OrderStops, Solves, StopsChecking, StopsPrinting};
 ghost use Rattle.match_runs.specs.OrderRuns.{StopsReporting};
 ghost use Rattle.match_runs.specs.Runs.{IsOfChecking, IsOfExpanding, SpellCompleteList};
 ghost use Rattle.match_runs.specs.Solving.{IsOfPuzzle, IsOfSolving, SolveFails};
 ghost use Rattle.std.specs.String.{string_bytes};
 
 use crate::exits::Exit;
-use crate::expansion_runs::run_expand;
+use crate::expansion_runs::{Printing, run_printing};
 use crate::faults::{Document, RunFault};
 use crate::files::{FileSystem, have_different_names, make, open};
 use crate::runs::{run_check, run_joined};
@@ -72,7 +72,8 @@ pub fn run_order<S: FileSystem, I: Source, W: Sink, R: Threads + Wait + Sync + R
             solve(rt, alloc, files, *depth, *fuel, *workers, system, output)?;
             Ok(Exit::Done)
         }
-        Order::Expand(files) => expand(rt, alloc, files, system, output),
+        Order::Expand(files) => print_all(rt, alloc, files, Printing::All, system, output),
+        Order::Count(files) => print_all(rt, alloc, files, Printing::Count, system, output),
         Order::Show(puzzle) => {
             let mut puzzle = open(system, puzzle, Document::Puzzle)?;
             run_show(alloc, &mut puzzle, output)?;
@@ -187,28 +188,30 @@ fn solve<S: FileSystem, W: Sink, R: Threads + Wait + Sync>(
     )
 }
 
-// As a check, and prints all arrangements.
-fn expand<S: FileSystem, W: Sink, R: RandomSource>(
+// As a check, and prints all arrangements, or how many they are.
+fn print_all<S: FileSystem, W: Sink, R: RandomSource>(
     rt: &R,
     alloc: Global,
     files: &Files,
+    printing: Printing,
     system: &S,
     output: &mut W,
 ) -> Result<Exit, RunFault>
     ensures given { IfOk result (λ exit.
-        FilesHold (S.holds system.now) files.now (Expands (writing_of W.Sink output.old output.new) exit)) }
+        FilesHold (S.holds system.now) files.now (PrintsAll printing (writing_of W.Sink output.old output.new) exit)) }
     ensures fault { IfErr result IsOfExpanding }
     ensures stops { IfErr result (λ fault. ComesOfTexts fault → FilesHold (S.holds system.now) files.now
-        (StopsExpanding (writing_of W.Sink output.old output.new) fault)) }
+        (StopsPrinting printing (writing_of W.Sink output.old output.new) fault)) }
     ensures untouched { IfErr result (λ fault. fault ≢ RunFault.Write → output.new ≡ output.old) }
 {
     let mut opened = open_all(system, files)?;
-    let status = run_expand(
+    let status = run_printing(
         rt,
         alloc,
         &mut opened.puzzle,
         &mut opened.list,
         &mut opened.certificate,
+        printing,
         output,
     )?;
     Ok(Exit::of_status(status))

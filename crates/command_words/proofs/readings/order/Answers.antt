@@ -7,7 +7,7 @@ use Rattle.std.specs.Str.{bytes_eq}
 use Rattle.command_words.specs.Commands.{whole_app}
 use Rattle.command_words.specs.Orders.{IsOrder, IsOrderOf}
 use Rattle.command_words.specs.declared.orders.Order.{Order}
-use Rattle.command_words.specs.declared.orders.Order.TheVariants.{Expand, Show, Symmetries}
+use Rattle.command_words.specs.declared.orders.Order.TheVariants.{Expand, Count, Show, Symmetries}
 use Rattle.command_words.proofs.ProgramLemmas.{HasNeeded, IsEntered, command_at, command_named, has_number, differs, has_files, has_text, needed_at, none_is_some, only_memory, orders, parse_enters, parse_has, parse_refuses, rule_at}
 use Rattle.command_words.proofs.readings.order.Goals.{In-Some}
 use Rattle.command_words.proofs.readings.order.Goals as goal
@@ -67,6 +67,9 @@ solve-requires-clause-workers c = has_number (command_at (codes "solve")) (rows_
 pub files-requires : goal.files-requires
 files-requires c = has_files (command_at (codes "expand")) (rows_of (found_of c.in-Some.matches.now)) (needed (goal.at.files-requires c).In-Some (codes "expand") (search rules) refl) refl refl refl
 
+pub files-requires-in-count : goal.files-requires-in-count
+files-requires-in-count c = has_files (command_at (codes "count")) (rows_of (found_of c.in-Some.matches.now)) (needed (goal.at.files-requires-in-count c).In-Some (codes "count") (search rules) refl) refl refl refl
+
 pub text-requires : goal.text-requires
 text-requires c = has_text (command_at (codes "show")) (rows_of (found_of c.in-Some.matches.now)) (codes "PUZZLE") (needed (goal.at.text-requires c).In-Some (codes "show") (search rules) refl) refl
 
@@ -88,6 +91,9 @@ returns-in-solve-clause-order c = ordered (goal.at.returns-in-solve-clause-order
 pub returns-in-expand-clause-order : goal.returns-in-expand-clause-order
 returns-in-expand-clause-order c = ordered (goal.at.returns-in-expand-clause-order c).In-Some (codes "expand") (Expand c.in_ok-files-in-expand.field-0) (search rules) (refl, c.in_ok-files-in-expand.ensures)
 
+pub returns-in-count-clause-order : goal.returns-in-count-clause-order
+returns-in-count-clause-order c = ordered (goal.at.returns-in-count-clause-order c).In-Some (codes "count") (Count c.in_ok-files-in-count.field-0) (search rules) (refl, c.in_ok-files-in-count.ensures)
+
 pub returns-in-show-clause-order : goal.returns-in-show-clause-order
 returns-in-show-clause-order c = ordered (goal.at.returns-in-show-clause-order c).In-Some (codes "show") (Show c.in_ok-text-in-show.field-0) (search rules) (refl, c.in_ok-text-in-show.ensures)
 
@@ -101,4 +107,4 @@ pub unreachable-requires : goal.unreachable-requires
 unreachable-requires c =
     let own = entered (goal.at.unreachable-requires c).In-Some in
     let other : (name : Text) → c.in-Some.name.now ≢ name → bytes_eq name c.in-Some.name.now ≡ false = differs c.in-Some.name.now in
-    none_is_some (rw (other (codes "check") (search rules), other (codes "solve") (search rules), other (codes "expand") (search rules), other (codes "show") (search rules), other (codes "symmetries") (search rules), other (codes "tiles") (search rules), other (codes "help") own.no_help) at own.is_named)
+    none_is_some (rw (other (codes "check") (search rules), other (codes "solve") (search rules), other (codes "expand") (search rules), other (codes "count") (search rules), other (codes "show") (search rules), other (codes "symmetries") (search rules), other (codes "tiles") (search rules), other (codes "help") own.no_help) at own.is_named)

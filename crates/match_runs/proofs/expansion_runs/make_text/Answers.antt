@@ -37,20 +37,20 @@ returns-in-Err-clause-printed g c =
     (λ printed text status. (owned, Refused c.in-Err.fault, c.in_ok-owned.ensures.question, first g at, text ∙ line, status))
     c.answer_to.ensures.text c.answer_to.ensures.status
 
-pub returns-in_err-all_text-in-Complete-clause-document : goal.returns-in_err-all_text-in-Complete-clause-document
-returns-in_err-all_text-in-Complete-clause-document g c =
-    let w = err_from_is_err_and c.from_residual-in_err-all_text-in-Complete.result c.from_residual-in_err-all_text-in-Complete.ensures.1 in
-    rw (w.1, w.2) (⊎_elim (λ e. rw e (λ is. absurd is)) (λ e. rw e (λ is. absurd is)) c.in_err-all_text-in-Complete.ensures.kind)
+pub returns-in_err-complete_text-in-Complete-clause-document : goal.returns-in_err-complete_text-in-Complete-clause-document
+returns-in_err-complete_text-in-Complete-clause-document g c =
+    let w = err_from_is_err_and c.from_residual-in_err-complete_text-in-Complete.result c.from_residual-in_err-complete_text-in-Complete.ensures.1 in
+    rw (w.1, w.2) (⊎_elim (λ e. rw e (λ is. absurd is)) (λ e. rw e (λ is. absurd is)) c.in_err-complete_text-in-Complete.ensures.kind)
 
-pub returns-in_err-all_text-in-Complete-clause-kind : goal.returns-in_err-all_text-in-Complete-clause-kind
-returns-in_err-all_text-in-Complete-clause-kind g c =
-    let w = err_from_is_err_and c.from_residual-in_err-all_text-in-Complete.result c.from_residual-in_err-all_text-in-Complete.ensures.1 in
-    rw (w.1, w.2) (⊎_elim (λ e. rw e tt) (λ e. rw e tt) c.in_err-all_text-in-Complete.ensures.kind)
+pub returns-in_err-complete_text-in-Complete-clause-kind : goal.returns-in_err-complete_text-in-Complete-clause-kind
+returns-in_err-complete_text-in-Complete-clause-kind g c =
+    let w = err_from_is_err_and c.from_residual-in_err-complete_text-in-Complete.result c.from_residual-in_err-complete_text-in-Complete.ensures.1 in
+    rw (w.1, w.2) (⊎_elim (λ e. rw e tt) (λ e. rw e tt) c.in_err-complete_text-in-Complete.ensures.kind)
 
-pub returns-in_err-all_text-in-Complete-clause-write : goal.returns-in_err-all_text-in-Complete-clause-write
-returns-in_err-all_text-in-Complete-clause-write g c =
-    let w = err_from_is_err_and c.from_residual-in_err-all_text-in-Complete.result c.from_residual-in_err-all_text-in-Complete.ensures.1 in
-    rw (w.1, w.2) (⊎_elim (λ e. rw e (λ is. absurd cc)) (λ e. rw e (λ is. absurd cc)) c.in_err-all_text-in-Complete.ensures.kind)
+pub returns-in_err-complete_text-in-Complete-clause-write : goal.returns-in_err-complete_text-in-Complete-clause-write
+returns-in_err-complete_text-in-Complete-clause-write g c =
+    let w = err_from_is_err_and c.from_residual-in_err-complete_text-in-Complete.result c.from_residual-in_err-complete_text-in-Complete.ensures.1 in
+    rw (w.1, w.2) (⊎_elim (λ e. rw e (λ is. absurd cc)) (λ e. rw e (λ is. absurd cc)) c.in_err-complete_text-in-Complete.ensures.kind)
 
 pub answer_to-requires-in_default : goal.answer_to-requires-in_default
 answer_to-requires-in_default g c =

@@ -1,6 +1,6 @@
 use Rattle.std.proofs.Common.{subst}
 use Rattle.match_runs.specs.Moves.{FrontOf, writing_of}
-use Rattle.match_runs.proofs.expansion_runs.write_expansion_of.Goals as goal
+use Rattle.match_runs.proofs.expansion_runs.write_printing_of.Goals as goal
 
 pub returns-in_err-write_text-clause-write : goal.returns-in_err-write_text-clause-write
 returns-in_err-write_text-clause-write g c = λ _.
