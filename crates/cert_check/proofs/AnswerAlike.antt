@@ -245,17 +245,17 @@ module _ (turns : Bool) (border : BorderRule) (mates : List ℕ) (words : List (
 
       shown_alike : IsShown (asked s v) → IsShown (asked t w)
       shown_alike is = record {
-        distinct = is.distinct;
-        arrangements = λ number xs stands. arrangement_alike turns border mates words a v w xs (is.arrangements number xs stands);
-        symmetries = λ number g stands. symmetry_alike turns border mates words g a v w (is.symmetries number g stands);
-        derivation = record {
-          prefixes = λ number lemma stands. pairs_alike a v w lemma.prefix (is.derivation.prefixes number lemma stands);
-          root = is.derivation.root;
-          trees = λ number lemma stands.
-              let setting = setting_at (asked t w) number in
-              subst (λ q. Holds setting lemma.tree q) (start_alike a v w lemma)
-              (holds_alike setting.listed setting.symmetries setting.earlier a v w lemma.tree (start_of (at s v) lemma) (is.derivation.trees number lemma stands));
+        prepared = record {
+          distinct = is.prepared.distinct;
+          arrangements = λ number xs stands. arrangement_alike turns border mates words a v w xs (is.prepared.arrangements number xs stands);
+          symmetries = λ number g stands. symmetry_alike turns border mates words g a v w (is.prepared.symmetries number g stands);
+          prefixes = λ number lemma stands. pairs_alike a v w lemma.prefix (is.prepared.prefixes number lemma stands);
+          root = is.prepared.root;
         };
+        trees = λ number lemma stands.
+            let setting = setting_at (asked t w) number in
+            subst (λ q. Holds setting lemma.tree q) (start_alike a v w lemma)
+            (holds_alike setting.listed setting.symmetries setting.earlier a v w lemma.tree (start_of (at s v) lemma) (is.trees number lemma stands));
       }
 
     module _ {s t : Figure} (a : AreAlike s t) (v w : ℕ) where

@@ -21,10 +21,10 @@ use Rattle.cert_check.specs.declared.faults.Fault.{Fault}
 use Rattle.cert_check.specs.declared.faults.Fault.TheVariants as faults
 use Rattle.cert_check.specs.declared.faults.Answer.TheVariants.{Complete, Refused}
 use Rattle.cert_tree.specs.Certificate.{Piece}
-use Rattle.cert_check.specs.Setting.{Question, prefix_of, setting_at}
+use Rattle.cert_check.specs.Setting.{Question, BeginWithPrefixes, prefix_of, setting_at}
 use Rattle.cert_check.specs.TreeFaults.{FailsAt}
 use Rattle.cert_check.specs.Derivation.{start_of}
-use Rattle.cert_check.specs.Answer.{IsShown, Occurs, fault_rank, OneAnswer}
+use Rattle.cert_check.specs.Answer.{AreArrangements, AreDistinct, AreSymmetries, IsShown, Occurs, fault_rank, OneAnswer}
 use Rattle.match_puzzle.proofs.Prefixes.{inside}
 use Rattle.cert_check.proofs.PrefixLemmas.{start_long}
 use Rattle.cert_check.proofs.FaultLemmas.{SameRank, same_rank, holds_not_fails, one_failing}
@@ -87,14 +87,27 @@ one_symmetry_fault p a b f g same h k = of_symmetry_rank f g (same_rank symmetry
 
 -- ---- what is shown has no fault
 
-shown_no_fault : (question : Question) (fault : Fault) → IsShown question → Occurs question fault → ⊥
-shown_no_fault question (faults.List number fault) shown occurs = arrangement_no_fault question.puzzle occurs.0 fault (shown.arrangements number occurs.0 occurs.1) occurs.2.occurs
-shown_no_fault question (faults.Repeated number) shown occurs = omega (arith, shown.distinct occurs.0 number occurs.1 occurs.3 occurs.4, occurs.2)
-shown_no_fault question (faults.Symmetry number fault) shown occurs = no_fault question.puzzle occurs.0 (shown.symmetries number occurs.0 occurs.1) fault occurs.2.occurs
-shown_no_fault question (faults.Prefix number fault) shown occurs = prefix_no_fault question.puzzle occurs.0.prefix fault (shown.derivation.prefixes number occurs.0 occurs.1) occurs.2.occurs
-shown_no_fault question faults.Root shown occurs = occurs shown.derivation.root
-shown_no_fault question (faults.Tree number fault) shown occurs =
-    holds_not_fails (setting_at question number) occurs.0.tree (start_of question.puzzle occurs.0) fault.path fault.fault (start_long question.puzzle occurs.0) (shown.derivation.trees number occurs.0 occurs.1) occurs.2
+module _ (question : Question) where
+  pub no_list : AreArrangements question.puzzle question.listed → (number : ℕ) (fault : ArrangementFault) → Occurs question (faults.List number fault) → ⊥
+  no_list arranged number fault occurs = arrangement_no_fault question.puzzle occurs.0 fault (arranged number occurs.0 occurs.1) occurs.2.occurs
+
+  pub no_repeated : AreDistinct question.listed → (number : ℕ) → Occurs question (faults.Repeated number) → ⊥
+  no_repeated distinct number occurs = omega (arith, distinct occurs.0 number occurs.1 occurs.3 occurs.4, occurs.2)
+
+  pub no_symmetry : AreSymmetries question.puzzle question.symmetries → (number : ℕ) (fault : SymmetryFault) → Occurs question (faults.Symmetry number fault) → ⊥
+  no_symmetry symmetric number fault occurs = no_fault question.puzzle occurs.0 (symmetric number occurs.0 occurs.1) fault occurs.2.occurs
+
+  pub no_prefix : BeginWithPrefixes question.puzzle question.lemmas → (number : ℕ) (fault : PrefixFault) → Occurs question (faults.Prefix number fault) → ⊥
+  no_prefix prefixes number fault occurs = prefix_no_fault question.puzzle occurs.0.prefix fault (prefixes number occurs.0 occurs.1) occurs.2.occurs
+
+  shown_no_fault : (fault : Fault) → IsShown question → Occurs question fault → ⊥
+  shown_no_fault (faults.List number fault) shown occurs = no_list shown.prepared.arrangements number fault occurs
+  shown_no_fault (faults.Repeated number) shown occurs = no_repeated shown.prepared.distinct number occurs
+  shown_no_fault (faults.Symmetry number fault) shown occurs = no_symmetry shown.prepared.symmetries number fault occurs
+  shown_no_fault (faults.Prefix number fault) shown occurs = no_prefix shown.prepared.prefixes number fault occurs
+  shown_no_fault faults.Root shown occurs = occurs shown.prepared.root
+  shown_no_fault (faults.Tree number fault) shown occurs =
+      holds_not_fails (setting_at question number) occurs.0.tree (start_of question.puzzle occurs.0) fault.path fault.fault (start_long question.puzzle occurs.0) (shown.trees number occurs.0 occurs.1) occurs.2
 
 -- ---- one first fault
 

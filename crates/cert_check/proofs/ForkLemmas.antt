@@ -65,39 +65,39 @@ past_some (suc n) (more tree trees) lt e = past_some n trees (omega (arith, lt))
 
 -- ---- some children after the other
 
-module _ (s : Setting) (item : Item) (q : Prefix) (children : Forest) (start end : ℕ) where
-  -- How far a walk of some children has come: those before the number hold, and these trees and pairs are left.
-  pub record Along (number : ℕ) (rest : Forest) (left : List Pair) : Type 0 where
-    pub pairs : List Pair
-    pub fitting : AreFitting s.puzzle q item pairs
-    pub left_is : left ≡ drop number pairs
-    pub rest_is : rest ≡ past number children
-    pub after : start ≤ number
-    pub until : number ≤ end
-    pub enough : (end ≤ length pairs) × (end ≤ count children)
-    pub before : ChildrenHold s children q pairs start number
+-- How far a walk of some children has come: those before the number hold, and these trees and pairs are left.
+pub record Along (s : Setting) (item : Item) (q : Prefix) (children : Forest) (start end number : ℕ) (rest : Forest) (left : List Pair) : Type 0 where
+  pub pairs : List Pair
+  pub fitting : AreFitting s.puzzle q item pairs
+  pub left_is : left ≡ drop number pairs
+  pub rest_is : rest ≡ past number children
+  pub after : start ≤ number
+  pub until : number ≤ end
+  pub enough : (end ≤ length pairs) × (end ≤ count children)
+  pub before : ChildrenHold s children q pairs start number
 
-  pub along_start : (pairs left : List Pair) (rest : Forest) → AreFitting s.puzzle q item pairs → left ≡ drop start pairs → rest ≡ past start children → start ≤ end → end ≤ length pairs → end ≤ count children → Along start rest left
-  along_start pairs left rest fitting left_is rest_is le long many = record {
-    pairs = pairs;
-    fitting = fitting;
-    left_is = left_is;
-    rest_is = rest_is;
-    after = omega arith;
-    until = le;
-    enough = (long, many);
-    before = λ number ge lt. absurd (omega (arith, ge, lt));
-  }
+-- what a walk of some children begins with
+pub along_begin : (s : Setting) (item : Item) (w : Layout) (trees : Forest) (start end : ℕ) (rest : Forest) (left pairs : List Pair) → HasChildren s w item trees end → start ≤ end → AreFitting w.puzzle w.placed item pairs → left ≡ drop start pairs → rest ≡ past start trees → Along s item w.placed trees start end start rest left
+along_begin s item w trees start end rest left pairs has le fitting left_is rest_is = record {
+  pairs = pairs;
+  fitting = subst (λ (p : Task). AreFitting p w.placed item pairs) has.made fitting;
+  left_is = left_is;
+  rest_is = rest_is;
+  after = omega arith;
+  until = le;
+  enough = (has.fitting pairs fitting, has.counted);
+  before = λ number ge lt. absurd (omega (arith, ge, lt));
+}
 
-  module _ (number : ℕ) (rest : Forest) (left : List Pair) (g : Along number rest left) where
-    pub along_some : number < end → left ≡ [] → ⊥
-    along_some lt e = omega (arith, dropped_none number g.pairs (sym g.left_is ∙ e), g.enough.0, lt)
+module _ {s : Setting} {item : Item} {q : Prefix} {children : Forest} {start end number : ℕ} {rest : Forest} where
+  pub along_some : {left : List Pair} → Along s item q children start end number rest left → number < end → left ≡ [] → ⊥
+  along_some g lt e = omega (arith, dropped_none number g.pairs (sym g.left_is ∙ e), g.enough.0, lt)
 
-    pub along_trees : number < end → rest ≢ none
-    along_trees lt e = past_some number children (omega (arith, lt, g.enough.1)) (sym g.rest_is ∙ e)
+  pub along_trees : {left : List Pair} → Along s item q children start end number rest left → number < end → rest ≢ none
+  along_trees g lt e = past_some number children (omega (arith, lt, g.enough.1)) (sym g.rest_is ∙ e)
 
   -- a turn of the loop, at which this pair was taken
-  module _ (number : ℕ) (rest : Forest) (x : Pair) (left : List Pair) (g : Along number rest (x ∷ left)) (lt : number < end) where
+  module _ {x : Pair} {left : List Pair} (g : Along s item q children start end number rest (x ∷ left)) (lt : number < end) where
     along_at : (slice_get g.pairs number ≡ Some x) × (drop (suc number) g.pairs ≡ left)
     along_at = dropped_first number g.pairs x left (sym g.left_is)
 
@@ -105,7 +105,7 @@ module _ (s : Setting) (item : Item) (q : Prefix) (children : Forest) (start end
     along_fits = g.fitting.only x (contains_at g.pairs number x along_at.0)
 
     -- the child holds
-    pub along_more : Holds s (first rest) (with_pair q x.cell x.placement) → (rest' : Forest) → rest' ≡ past 1 rest → Along (number + 1) rest' left
+    pub along_more : Holds s (first rest) (with_pair q x.cell x.placement) → (rest' : Forest) → rest' ≡ past 1 rest → Along s item q children start end (number + 1) rest' left
     along_more holds rest' is =
         let one : suc number ≡ number + 1 = omega arith in
         record {
@@ -144,17 +144,12 @@ module _ (s : Setting) (item : Item) (q : Prefix) (children : Forest) (start end
 
 -- ---- a turn of the loop over some children
 
--- what a walk of some children begins with
-pub along_begin : (s : Setting) (item : Item) (w : Layout) (trees : Forest) (start end : ℕ) (rest : Forest) (left pairs : List Pair) → HasChildren s w item trees end → start ≤ end → AreFitting w.puzzle w.placed item pairs → left ≡ drop start pairs → rest ≡ past start trees → Along s item w.placed trees start end start rest left
-along_begin s item w trees start end rest left pairs has le fitting left_is rest_is =
-    along_start s item w.placed trees start end pairs left rest (subst (λ (p : Task). AreFitting p w.placed item pairs) has.made fitting) left_is rest_is le (has.fitting pairs fitting) has.counted
-
-module _ (s : Setting) (item : Item) (w : Layout) (trees : Forest) (start end number : ℕ) (own : Layout) (rest : Forest) (now left : List Pair) (x : Pair) (along : Along s item w.placed trees start end number rest now) (same : own ≡ w) (took : now ≡ x ∷ left) (made : w.puzzle ≡ s.puzzle) (lt : number < end) where
+module _ {s : Setting} {item : Item} {w : Layout} {trees : Forest} {start end number : ℕ} {own : Layout} {rest : Forest} {now left : List Pair} {x : Pair} (along : Along s item w.placed trees start end number rest now) (same : own ≡ w) (took : now ≡ x ∷ left) (made : w.puzzle ≡ s.puzzle) (lt : number < end) where
   here : Along s item w.placed trees start end number rest (x ∷ left)
   here = subst (λ (pairs : List Pair). Along s item w.placed trees start end number rest pairs) took along
 
   fits : FitsItem s.puzzle w.placed item x
-  fits = along_fits s item w.placed trees start end number rest x left here lt
+  fits = along_fits here lt
 
   pub turn_fits : Fits own.puzzle own.placed x.cell x.placement
   turn_fits = subst (λ (u : Layout). Fits u.puzzle u.placed x.cell x.placement) (sym same) (subst (λ (p : Task). Fits p w.placed x.cell x.placement) (sym made) fits.1)
@@ -165,7 +160,7 @@ module _ (s : Setting) (item : Item) (w : Layout) (trees : Forest) (start end nu
 
     pub turn_fault : (of_child fault : TreeFault) → FailsAt s (first rest) n.placed of_child.path of_child.fault → fault.path ≡ number ∷ of_child.path → fault.fault ≡ of_child.fault → TellsOfChildren s item trees w.placed start end (Some fault)
     turn_fault of_child fault fails =
-        along_fault s item w.placed trees start end number rest x left here lt of_child fault (subst (λ (u : Layout). FailsAt s (first rest) u.placed of_child.path of_child.fault) on_w fails)
+        along_fault here lt of_child fault (subst (λ (u : Layout). FailsAt s (first rest) u.placed of_child.path of_child.fault) on_w fails)
 
     -- the child holds, and nothing else was changed
     module _ (after : Layout) (restored : after ≡ n) where
@@ -176,7 +171,7 @@ module _ (s : Setting) (item : Item) (w : Layout) (trees : Forest) (start end nu
       turn_lifted lifted is = after_lift w after lifted x fits.1.free (restored ∙ on_w) is
 
     pub turn_more : Holds s (first rest) n.placed → (rest' : Forest) → rest' ≡ past 1 rest → Along s item w.placed trees start end (number + 1) rest' left
-    turn_more holds = along_more s item w.placed trees start end number rest x left here lt (subst (λ (u : Layout). Holds s (first rest) u.placed) on_w holds)
+    turn_more holds = along_more here lt (subst (λ (u : Layout). Holds s (first rest) u.placed) on_w holds)
 
 -- ---- both halves
 

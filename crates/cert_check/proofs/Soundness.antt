@@ -134,12 +134,12 @@ module _ (question : Question) (puzzle : IsPuzzle question.puzzle) (shown : IsSh
   all_below zero number lemma lt at = absurd (omega (arith, lt))
   all_below (suc bound) number lemma lt at =
       let below : (n : ℕ) (other : Piece) → n < bound → slice_get question.lemmas n ≡ Some other → CoveredHere other = λ n other less there. all_below bound n other less there in
-      covered (setting_at question number) puzzle shown.symmetries (before below) lemma.tree (start_of question.puzzle lemma) (start_long question.puzzle lemma) (shown.derivation.trees number lemma at)
+      covered (setting_at question number) puzzle shown.prepared.symmetries (before below) lemma.tree (start_of question.puzzle lemma) (start_long question.puzzle lemma) (shown.trees number lemma at)
     where
       before : ((n : ℕ) (other : Piece) → n < bound → slice_get question.lemmas n ≡ Some other → CoveredHere other) → AreEarlierCovered (setting_at question number)
       before below n pairs e =
           let w = earlier_at prefix_of question.lemmas number n pairs e in (
-            subst (IsPairList question.puzzle) (sym w.2) (shown.derivation.prefixes n w.1 w.3),
+            subst (IsPairList question.puzzle) (sym w.2) (shown.prepared.prefixes n w.1 w.3),
             subst (λ (ps : List Pair). IsCovered question.puzzle (IsReached question.puzzle question.symmetries question.listed) (with_pairs ps (empty_prefix question.puzzle))) (sym w.2) (below n w.1 (let less = w.0 in omega (arith, lt, less)) w.3),
           )
 
@@ -150,7 +150,7 @@ module _ (question : Question) (puzzle : IsPuzzle question.puzzle) (shown : IsSh
   -- Lemmas that derive their lemmas leave no arrangement out.
   derived : (a : List Placement) → IsArrangement question.puzzle a → IsReached question.puzzle question.symmetries question.listed a
   derived a is =
-      let root = shown.derivation.root in
+      let root = shown.prepared.root in
       let p = question.puzzle in
       all_covered root.0 root.1 root.3 a is
       (subst (λ pairs. Extends a (with_pairs pairs (empty_prefix p))) (sym root.4) (λ cell x has. absurd (has_none (cell_count p.board) cell x has)))
@@ -158,8 +158,8 @@ module _ (question : Question) (puzzle : IsPuzzle question.puzzle) (shown : IsSh
   -- What is shown complete is complete.
   pub complete : IsCompleteList question.puzzle question.symmetries question.listed
   complete = record {
-    distinct = shown.distinct;
-    arrangements = shown.arrangements;
-    symmetries = shown.symmetries;
+    distinct = shown.prepared.distinct;
+    arrangements = shown.prepared.arrangements;
+    symmetries = shown.prepared.symmetries;
     reached = derived;
   }

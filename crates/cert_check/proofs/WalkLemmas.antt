@@ -1,5 +1,7 @@
 -- Steps of a walk.
 use Rattle.std.proofs.Common.{◌≡◌, ◌≢◌, ◌<◌, ◌≤◌, ◌+◌, ℕ, zero, suc, List, [], ◌∷◌, Option, Some, None, Contains, length, ap, sym, ◌∙◌, refl, arith, subst}
+use Rattle.match_board.specs.First.{IsFirst}
+use Rattle.match_puzzle.specs.Puzzle.{Task}
 use Rattle.match_puzzle.specs.Prefix.{Prefix, Layout, Has, IsFree, with_pair, without_cell}
 use Rattle.match_puzzle.specs.Fitting.{FitsItem}
 use Rattle.match_puzzle.specs.declared.items.Item.{Item}
@@ -11,9 +13,11 @@ use Rattle.cert_check.specs.declared.faults.TreeFault.{TreeFault}
 use Rattle.std.specs.Option.{option_map}
 use Rattle.cert_check.specs.Setting.{Setting}
 use Rattle.cert_tree.specs.Tree.{Tree, Forest, branch, none, more, count}
+use Rattle.cert_tree.specs.Heads.{front}
+use Rattle.cert_tree.proofs.HeadLemmas.{count-front}
 use Rattle.cert_check.specs.NodeRules.{IsBranch, Holds, EachHolds}
-use Rattle.cert_check.specs.TreeFaults.{FailsAt, EachFails}
-use Rattle.cert_check.specs.Walk.{Tells, below}
+use Rattle.cert_check.specs.TreeFaults.{BranchFails, FailsAt, EachFails, node_rank}
+use Rattle.cert_check.specs.Walk.{Tells, IsAtTop, below}
 
 module _ (s : Setting) (item : Item) (q : Prefix) (trees : Forest) where
   -- How far the walk of a branch's children has come: those before the number hold, and these children and pairs are left.
@@ -107,6 +111,16 @@ pub still_some : (number : ℕ) (said said' : Option TreeFault) → said ≢ Non
 still_some number None said' some is = absurd (some refl)
 still_some number (Some fault) said' some is = λ none. let gone = sym is ∙ none in cc
 
+-- ---- a branch
+
+-- a fault of the branch itself is the first of its tree
+pub branch_told : (s : Setting) (w : Layout) (item : Item) (children : ℕ) (trees : Forest) (fault : NodeFault) (said : Option TreeFault) → w.puzzle ≡ s.puzzle → children ≤ count trees → IsFirst node_rank (BranchFails w.puzzle w.placed item children) fault →
+    IsAtTop (Some fault) said → Tells s (branch item (front children trees)) w.placed said
+branch_told s w item children trees fault said made counted fails is =
+    subst (Tells s (branch item (front children trees)) w.placed) (sym is)
+    (subst (λ n. IsFirst node_rank (BranchFails s.puzzle w.placed item n) fault) (sym (count-front children trees counted))
+    (subst (λ (p : Task). IsFirst node_rank (BranchFails p w.placed item children) fault) made fails))
+
 -- ---- a turn of the loop over the children of a branch
 
 -- what is placed now is what was placed before, and this child and the others are left, with this pair and the others
@@ -114,7 +128,7 @@ pub record Turn (s : Setting) (item : Item) (trees : Forest) (before now : Layou
   pub same : now ≡ before
   pub going : Going s item before.placed trees number (more child rest) (x ∷ pairs)
 
-module _ (s : Setting) (item : Item) (trees : Forest) (w v : Layout) (number : ℕ) (child : Tree) (rest : Forest) (x : Pair) (pairs : List Pair) (t : Turn s item trees w v number child rest x pairs) (n : Layout) (placed : n ≡ grown v x) where
+module _ {s : Setting} {item : Item} {trees : Forest} {w v : Layout} {number : ℕ} {child : Tree} {rest : Forest} {x : Pair} {pairs : List Pair} (t : Turn s item trees w v number child rest x pairs) (n : Layout) (placed : n ≡ grown v x) where
   free : IsFree w.placed x.cell
   free = (going_fits s item w.placed trees number child rest x pairs t.going).1.free
 

@@ -16,10 +16,10 @@ use Rattle.cert_check.specs.declared.faults.Fault.TheVariants as faults
 use Rattle.cert_check.specs.declared.faults.Answer.{Answer}
 use Rattle.cert_check.specs.declared.faults.Answer.TheVariants.{Complete, Refused}
 use Rattle.cert_tree.specs.Certificate.{Piece}
-use Rattle.cert_check.specs.Setting.{Question, motions_of, setting_at}
+use Rattle.cert_check.specs.Setting.{Question, BeginWithPrefixes, motions_of, setting_at}
 use Rattle.cert_check.specs.TreeFaults.{FailsAt}
 use Rattle.cert_check.specs.Covered.{IsCovered}
-use Rattle.cert_check.specs.Derivation.{start_of, HavePrefixes, HasRoot, IsDerivation}
+use Rattle.cert_check.specs.Derivation.{start_of, HasRoot, TreesHold}
 
 -- Each listed one is an arrangement of the puzzle.
 abbrev pub AreArrangements : Task → List (List Placement) → Type 0
@@ -47,20 +47,19 @@ pub record IsCompleteList (p : Task) (lines : List SymmetryLine) (listed : List 
   pub symmetries : AreSymmetries p lines
   pub reached : (a : List Placement) → IsArrangement p a → IsReached p lines listed a
 
--- Different arrangements of the puzzle, symmetries of it, and lemmas that derive that these reach all.
-pub record IsShown (question : Question) : Type 0 where
-  pub distinct : AreDistinct question.listed
-  pub arrangements : AreArrangements question.puzzle question.listed
-  pub symmetries : AreSymmetries question.puzzle question.symmetries
-  pub derivation : IsDerivation question
-
--- All is right but perhaps the trees.
+-- All is right but perhaps the trees: different arrangements of the puzzle, symmetries of it, and lemmas that begin with
+-- prefixes, the last with nothing placed.
 pub record IsPrepared (question : Question) : Type 0 where
   pub distinct : AreDistinct question.listed
   pub arrangements : AreArrangements question.puzzle question.listed
   pub symmetries : AreSymmetries question.puzzle question.symmetries
-  pub prefixes : HavePrefixes question
+  pub prefixes : BeginWithPrefixes question.puzzle question.lemmas
   pub root : HasRoot question.lemmas
+
+-- All is right, the trees too: so the lemmas derive that the symmetries reach all from the list.
+pub record IsShown (question : Question) : Type 0 where
+  pub prepared : IsPrepared question
+  pub trees : TreesHold question
 
 -- All is right but perhaps the trees, and these are the symmetries of the lines.
 pub record IsPreparedWith (question : Question) (motions : List Motion) : Type 0 where
@@ -102,6 +101,15 @@ fault_rank (faults.Tree number fault) = rank_by_two 6 number
 abbrev pub IsAnswer : Question → Answer → Type 0
 IsAnswer question Complete = IsShown question
 IsAnswer question (Refused fault) = IsFirst fault_rank (Occurs question) fault
+
+-- Where the list is called complete, it is: the main theorem.
+abbrev pub IsSound : Question → Answer → Type 0
+IsSound question answer =
+    answer ≡ Complete → IsCompleteList question.puzzle question.symmetries question.listed
+
+-- Where it is called complete, the lemmas' prefixes are covered.
+abbrev pub IsCovering : Question → Answer → Type 0
+IsCovering question answer = answer ≡ Complete → AreCovered question
 
 -- There is no more than one answer.
 abbrev pub OneAnswer : Type 0

@@ -17,12 +17,13 @@ use Rattle.cert_check.specs.declared.faults.NodeFault.{NodeFault}
 use Rattle.cert_check.specs.declared.faults.TreeFault.{TreeFault}
 use Rattle.cert_check.specs.declared.faults.Fault.{Fault}
 use Rattle.cert_check.specs.declared.faults.Fault.TheVariants as faults
+use Rattle.cert_check.specs.declared.forks.Part.{Part}
 use Rattle.cert_check.specs.Setting.{Question, Setting, setting_at}
 use Rattle.cert_check.specs.NodeRules.{Holds}
 use Rattle.cert_check.specs.TreeFaults.{FailsAt}
-use Rattle.cert_check.specs.Derivation.{start_of, TreesHold}
+use Rattle.cert_check.specs.Derivation.{start_of}
 use Rattle.cert_check.specs.Answer.{AreArrangements, AreDistinct, RepeatsEarlier}
-use Rattle.cert_check.specs.Lists.{IsFirstBad}
+use Rattle.cert_check.specs.Lists.{IsFirstBad, TellsOfAll}
 
 -- What is said of a tree: that it holds, or its first fault.
 abbrev pub Tells : Setting → Tree → Prefix → Option TreeFault → Type 0
@@ -79,6 +80,16 @@ TellsOfChildren s item children q start end said =
     (pairs : List Pair) × AreFitting s.puzzle q item pairs
     × MatchOption said (ChildrenHold s children q pairs start end) (IsFaultOfChildren s children q pairs start end)
 
+-- The part is of the children of a branch.
+pub record IsPart (part : Part) : Type 0 where
+  pub children : HasChildren part.setting.now part.partial.now part.item part.trees.now part.end
+  pub range : part.start ≤ part.end
+
+-- the same, said of a part
+abbrev pub TellsOfPart : Part → Option TreeFault → Type 0
+TellsOfPart part =
+    TellsOfChildren part.setting.now part.item part.trees.now part.partial.now.placed part.start part.end
+
 -- What is said of the tree of the lemma with this number, at its prefix.
 abbrev pub TellsOfLemma : Question → ℕ → Option TreeFault → Type 0
 TellsOfLemma question number said =
@@ -87,12 +98,11 @@ TellsOfLemma question number said =
 
 -- What is said of all trees: that each holds, or the first that doesn't, with its first fault.
 abbrev pub TellsOfTrees : Question → Option (ℕ × TreeFault) → Type 0
-TellsOfTrees question said =
-    MatchOption said (TreesHold question)
-    (λ r. IsFirstBad (λ n lemma. Holds (setting_at question n) lemma.tree (start_of question.puzzle lemma))
+TellsOfTrees question =
+    TellsOfAll (λ n lemma. Holds (setting_at question n) lemma.tree (start_of question.puzzle lemma))
     (λ n lemma fault.
     FailsAt (setting_at question n) lemma.tree (start_of question.puzzle lemma) fault.path fault.fault)
-    question.lemmas r.0 r.1)
+    question.lemmas
 
 -- What is said of the members of the list: that each is an arrangement, or the first that isn't, with its first fault.
 abbrev pub TellsOfArrangements : Task → List (List Placement) → Option (ℕ × ArrangementFault) → Type 0
@@ -103,8 +113,7 @@ TellsOfArrangements p listed said =
 -- What is said of the list: that it has different arrangements, or its first fault.
 abbrev pub TellsOfListing : Task → List (List Placement) → Option Fault → Type 0
 TellsOfListing p listed None = AreArrangements p listed × AreDistinct listed
-TellsOfListing p listed (Some (faults.List number fault)) =
-    IsFirstBad (λ n a. IsArrangement p a) (λ n a f. IsArrangementFault p a f) listed number fault
+TellsOfListing p listed (Some (faults.List number fault)) = TellsOfArrangements p listed (Some (number, fault))
 TellsOfListing p listed (Some (faults.Repeated number)) =
     AreArrangements p listed × IsLeast (RepeatsEarlier listed) number
 TellsOfListing p listed (Some fault) = ⊥

@@ -7,7 +7,7 @@ ghost use Rattle.cert_tree.specs.Certificate.{flat_piece};
 ghost use Rattle.cert_check.specs.Setting.{Question, question_of, motion_of, BeginWithPrefixes, in_second_form};
 ghost use Rattle.cert_check.specs.Derivation.{start_of};
 ghost use Rattle.cert_check.specs.Walk.{Tells, TellsOfLemma};
-ghost use Rattle.cert_check.specs.Answer.{AreArrangements, IsAnswer, IsCompleteList, AreCovered, OneAnswer};
+ghost use Rattle.cert_check.specs.Answer.{AreArrangements, IsAnswer, IsSound, IsCovering, OneAnswer};
 
 use crate::faults::{Answer, TreeFault};
 use crate::gates::Open;
@@ -38,10 +38,8 @@ pub fn check(
     requires { length listed.now < 2 ^ 32 }
     ensures answer { IfOk result (IsAnswer (question_of puzzle.now listed.now certificate.now)) }
     // The main theorem: a list that is called complete is.
-    ensures complete { IfOk result
-        (λ answer. answer ≡ Answer.Complete → IsCompleteList puzzle.now certificate.now.symmetries listed.now) }
-    ensures covered { IfOk result
-        (λ answer. answer ≡ Answer.Complete → AreCovered (question_of puzzle.now listed.now certificate.now)) }
+    ensures complete { IfOk result (IsSound (question_of puzzle.now listed.now certificate.now)) }
+    ensures covered { IfOk result (IsCovering (question_of puzzle.now listed.now certificate.now)) }
     // Want of memory hides no fault of a listed one.
     ensures memory { OnErr result (AreArrangements puzzle.now listed.now) }
 {

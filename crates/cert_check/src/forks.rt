@@ -3,21 +3,18 @@
 ghost use Rattle.std.specs.Prelude.{◌≡◌, ◌≢◌, ◌<◌, ◌≤◌, ◌^◌, ℕ, List, IfOk, None, Ok, length, map, drop};
 ghost use Rattle.std.specs.Fn.{FnReturnsAt};
 ghost use Rattle.std.specs.Thread.{IsSync};
-ghost use Rattle.match_puzzle.specs.PrefixFaults.{IsPairList};
 ghost use Rattle.match_puzzle.specs.Fitting.{AreFitting, IsItem};
 ghost use Rattle.match_puzzle.specs.declared.placements.Pair.{Pair};
 ghost use Rattle.cert_tree.specs.Tree.{branch, count, none};
 ghost use Rattle.cert_tree.specs.Heads.{first, front, past};
-ghost use Rattle.cert_tree.specs.Certificate.{flat_piece};
 ghost use Rattle.cert_check.specs.Setting.{question_of, motion_of, BeginWithPrefixes};
-ghost use Rattle.cert_check.specs.Derivation.{start_of};
-ghost use Rattle.cert_check.specs.Walk.{Tells, HasChildren, TellsOfChildren, TellsOfLemma};
+ghost use Rattle.cert_check.specs.Walk.{Tells, TellsOfLemma, IsPart, TellsOfPart};
 
 use crate::faults::TreeFault;
 use crate::node_faults::branch_fault;
 use crate::settings::Setting;
 use crate::walks::{at_top, walk};
-use cert_tree::{Certificate, FlatLemma, Head, Trees};
+use cert_tree::{Certificate, Head, Trees};
 use match_board::limits::MOST_FORKS;
 use match_puzzle::{Arrangement, FittingPairs, Item, Partial, Puzzle};
 use puzzle_symmetry::Symmetry;
@@ -48,24 +45,15 @@ pub fn forked_tree_fault<R: Threads + Sync>(
 {
     let setting = Setting::new(puzzle, listed, symmetries, certificate, lemma);
     let lemma = certificate.lemmas().at(lemma as usize);
-    forked_lemma_fault(rt, alloc, &setting, &lemma, forks)
-}
-
-// The first fault of the lemma's tree in what it may name, or none where it holds.
-pub(crate) fn forked_lemma_fault<R: Threads + Sync>(
-    rt: &R,
-    alloc: Global,
-    setting: &Setting<'_>,
-    lemma: &FlatLemma<'_>,
-    forks: u8,
-) -> Result<Option<TreeFault>, AllocError>
-    requires { IsPairList setting.now.puzzle lemma.now.prefix.now }
-    ensures { IfOk result
-        (Tells setting.now lemma.now.tree (start_of setting.now.puzzle (flat_piece lemma.now))) }
-{
-    let mut partial = Partial::of(alloc, setting.puzzle(), lemma.prefix)?;
-    let trees = lemma.tree.trees();
-    forked_walk(rt, alloc, setting, forks, &trees, &mut partial)
+    let mut partial = Partial::of(alloc, puzzle, lemma.prefix)?;
+    forked_walk(
+        rt,
+        alloc,
+        &setting,
+        forks,
+        &lemma.tree.trees(),
+        &mut partial,
+    )
 }
 
 // The first fault of the first tree at what is placed, in preorder, or none where it holds; what is placed is then as
@@ -150,14 +138,11 @@ fn forked_branch<R: Threads + Sync>(
         trees: &*trees,
         partial: &*partial,
     };
-    if children == 1 {
-        return walk_part(rt, alloc, forks, &all);
-    }
     walk_halves(rt, alloc, forks, &all)
 }
 
 // Some children of a branch, from one number up to another, and what they are walked on.
-#[derive(Drop)]
+#[derive(Clone, Copy)]
 struct Part<'a> {
     setting: &'a Setting<'a>,
     item: Item,
@@ -168,7 +153,7 @@ struct Part<'a> {
     partial: &'a Partial<'a>,
 }
 
-// The same of some children, the halves of which are walked at once.
+// The same of some children, the halves of which are walked at once where there are several.
 #[cycle(forking)]
 fn walk_halves<R: Threads + Sync>(
     rt: &R,
@@ -176,38 +161,29 @@ fn walk_halves<R: Threads + Sync>(
     forks: u8,
     part: &Part<'_>,
 ) -> Result<Option<TreeFault>, AllocError>
-    requires children { HasChildren part.now.setting.now part.now.partial.now part.now.item part.now.trees.now
-        part.now.end }
-    requires range { part.now.start ≤ part.now.end }
-    ensures { IfOk result (TellsOfChildren part.now.setting.now part.now.item part.now.trees.now
-        part.now.partial.now.placed part.now.start part.now.end) }
+    requires { IsPart part.now }
+    ensures { IfOk result (TellsOfPart part.now) }
 {
-    let middle = part.start + (part.end - part.start) / 2;
+    let count = part.end - part.start;
+    if count == 1 {
+        return walk_part(rt, alloc, forks, part);
+    }
+    let middle = part.start + count / 2;
     let left = Part {
-        setting: part.setting,
-        item: part.item,
-        start: part.start,
         end: middle,
-        trees: part.trees,
-        partial: part.partial,
+        ..*part
     };
     let right = Part {
-        setting: part.setting,
-        item: part.item,
         start: middle,
-        end: part.end,
-        trees: part.trees,
-        partial: part.partial,
+        ..*part
     };
     let (left, right) = at_once(
         rt,
         &left,
         &right,
         &|half: &Part<'_>| -> Result<Option<TreeFault>, AllocError>
-            requires { IsSync R.row × (half.now.start ≤ half.now.end)
-                × HasChildren half.now.setting.now half.now.partial.now half.now.item half.now.trees.now half.now.end }
-            ensures { IfOk result (TellsOfChildren half.now.setting.now half.now.item half.now.trees.now
-                half.now.partial.now.placed half.now.start half.now.end) }
+            requires { IsSync R.row × IsPart half.now }
+            ensures { IfOk result (TellsOfPart half.now) }
         { walk_part(rt, alloc, forks, half) },
     )?;
     Ok(left.or(right))
@@ -246,11 +222,8 @@ fn walk_part<R: Threads + Sync>(
     forks: u8,
     part: &Part<'_>,
 ) -> Result<Option<TreeFault>, AllocError>
-    requires children { HasChildren part.now.setting.now part.now.partial.now part.now.item part.now.trees.now
-        part.now.end }
-    requires range { part.now.start ≤ part.now.end }
-    ensures { IfOk result (TellsOfChildren part.now.setting.now part.now.item part.now.trees.now
-        part.now.partial.now.placed part.now.start part.now.end) }
+    requires { IsPart part.now }
+    ensures { IfOk result (TellsOfPart part.now) }
 {
     let mut own = part.partial.copy(alloc)?;
     let mut pairs = pairs_from(part.item, part.start, part.partial);

@@ -2,10 +2,11 @@
 
 use crate::checks::lemma_fault;
 use crate::faults::{Answer, Fault, TreeFault};
-use crate::forks::forked_lemma_fault;
+use crate::forks::forked_tree_fault;
 use crate::gates::Gate;
 use crate::questions::Question;
 use crate::settings::Setting;
+use cert_tree::FlatLemma;
 use match_puzzle::Partial;
 use puzzle_symmetry::Symmetry;
 use std::alloc::{AllocError, Global};
@@ -38,12 +39,14 @@ impl<'a> Model for Prepared<'a> {
 }
 
 impl<'a> Prepared<'a> {
-    ghost use Rattle.std.specs.Prelude.{◌≡◌, ◌<◌, ◌≤◌, IfOk, length};
+    ghost use Rattle.std.specs.Prelude.{◌≡◌, ◌<◌, ◌≤◌, IfOk, length, slice_get};
     ghost use Rattle.match_board.specs.declared.limits.TheConstants.{MOST_FORKS};
     ghost use Rattle.cert_check.specs.Setting.{motions_of, setting_at};
     ghost use Rattle.cert_check.specs.Walk.{TellsOfLemma, TellsOfTrees};
     ghost use Rattle.match_puzzle.specs.Puzzle.{IsPuzzle};
-    ghost use Rattle.cert_check.specs.Answer.{IsPrepared, IsPreparedWith, IsAnswer, IsCompleteList, AreCovered};
+    ghost use Rattle.match_puzzle.specs.PrefixFaults.{IsPairList};
+    ghost use Rattle.cert_tree.specs.Certificate.{flat_piece};
+    ghost use Rattle.cert_check.specs.Answer.{IsPrepared, IsPreparedWith, IsAnswer, IsSound, IsCovering};
 
     // The question with these symmetries, those of its lines.
     pub(crate) fn new(question: Question<'a>, symmetries: Vec<Symmetry<'a>>) -> Prepared<'a>
@@ -94,6 +97,15 @@ impl<'a> Prepared<'a> {
         )
     }
 
+    // The lemma with this number.
+    fn lemma(&self, number: u32) -> FlatLemma<'_>
+        requires { number < length self.now.lemmas }
+        ensures place { slice_get self.now.lemmas number ≡ Some (flat_piece result) }
+        ensures prefix { IsPairList self.now.puzzle result.prefix.now }
+    {
+        self.question.lemmas().at(number as usize)
+    }
+
     /// The first fault of the tree of the lemma with this number, in preorder, or none where it holds.
     ///
     /// In the first `forks` levels, at most 6, the halves of a branch's children are walked at once, as
@@ -109,9 +121,17 @@ impl<'a> Prepared<'a> {
         requires forks { forks ≤ MOST_FORKS }
         ensures { IfOk result (TellsOfLemma self.now lemma) }
     {
-        let setting = self.setting(lemma);
-        let lemmas = self.question.certificate().lemmas();
-        forked_lemma_fault(rt, alloc, &setting, &lemmas.at(lemma as usize), forks)
+        let question = &self.question;
+        forked_tree_fault(
+            rt,
+            alloc,
+            question.puzzle(),
+            question.listed(),
+            &self.symmetries,
+            question.certificate(),
+            lemma,
+            forks,
+        )
     }
 
     /// The first lemma whose tree has a fault, with its first fault in preorder, or none where all hold. The gate is
@@ -124,13 +144,12 @@ impl<'a> Prepared<'a> {
         ensures { IfOk result (TellsOfTrees self.now) }
     {
         let mut partial = Partial::new(alloc, self.question.puzzle())?;
-        let lemmas = self.question.certificate().lemmas();
-        for lemma in 0..lemmas.len() as u32 {
-            gate.enter(lemma);
-            let setting = self.setting(lemma);
-            let found = lemma_fault(alloc, &setting, &lemmas.at(lemma as usize), &mut partial)?;
-            if let Some(fault) = found {
-                return Ok(Some((lemma, fault)));
+        for number in 0..self.question.lemmas().len() as u32 {
+            gate.enter(number);
+            let setting = self.setting(number);
+            let lemma = self.lemma(number);
+            if let Some(fault) = lemma_fault(alloc, &setting, &lemma, &mut partial)? {
+                return Ok(Some((number, fault)));
             }
         }
         Ok(None)
@@ -142,9 +161,8 @@ impl<'a> Prepared<'a> {
         requires { TellsOfTrees self.now found }
         ensures answer { IsAnswer self.now result }
         // The main theorem: a list that is called complete is.
-        ensures complete { result ≡ Answer.Complete
-            → IsCompleteList self.now.puzzle self.now.symmetries self.now.listed }
-        ensures covered { result ≡ Answer.Complete → AreCovered self.now }
+        ensures complete { IsSound self.now result }
+        ensures covered { IsCovering self.now result }
     {
         let _ = &self.question;
         match found {

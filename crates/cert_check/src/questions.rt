@@ -11,7 +11,7 @@ use crate::prefixes::{ends_at_a_root, prefixes_fault};
 use crate::prepared::Prepared;
 use crate::repeats::first_repeated;
 use crate::symmetries::{SymmetriesFault, make_symmetries};
-use cert_tree::Certificate;
+use cert_tree::{Certificate, Lemmas};
 use match_puzzle::{Arrangement, ArrangementFault, Puzzle};
 use std::alloc::{AllocError, Global};
 use std::marker::Model;
@@ -47,8 +47,7 @@ impl<'a> Question<'a> {
     ghost use Rattle.match_board.specs.declared.limits.TheConstants.{MOST_LEMMAS};
     ghost use Rattle.cert_check.specs.Setting.{question_of};
     ghost use Rattle.cert_check.specs.Walk.{TellsOfArrangements};
-    ghost use Rattle.cert_check.specs.Answer.{AreArrangements, AreCovered, IsAnswer, IsCompleteList};
-    ghost use Rattle.cert_check.specs.Answer.{Occurs, fault_rank};
+    ghost use Rattle.cert_check.specs.Answer.{AreArrangements, IsAnswer, IsSound, IsCovering, Occurs, fault_rank};
 
     /// Whether these are all arrangements of the puzzle, by this certificate.
     pub fn new(
@@ -86,6 +85,14 @@ impl<'a> Question<'a> {
         ensures { result.now ≡ record { symmetries = self.now.symmetries; lemmas = self.now.lemmas } }
     {
         self.certificate
+    }
+
+    /// The certificate's lemmas, at most 1,000,000.
+    pub fn lemmas(&self) -> &'a Lemmas
+        ensures lemmas { result.now ≡ self.now.lemmas }
+        ensures few { length result.now ≤ MOST_LEMMAS }
+    {
+        self.certificate.lemmas()
     }
 
     /// The first listed one that is no arrangement, with its first fault, or none where each is one.
@@ -139,9 +146,8 @@ impl<'a> Question<'a> {
     pub fn check<G: Gate>(&self, alloc: Global, gate: &G) -> Result<Answer, AllocError>
         ensures answer { IfOk result (IsAnswer self.now) }
         // The main theorem: a list that is called complete is.
-        ensures complete { IfOk result (λ answer. answer ≡ Answer.Complete
-            → IsCompleteList self.now.puzzle self.now.symmetries self.now.listed) }
-        ensures covered { IfOk result (λ answer. answer ≡ Answer.Complete → AreCovered self.now) }
+        ensures complete { IfOk result (IsSound self.now) }
+        ensures covered { IfOk result (IsCovering self.now) }
         // Want of memory hides no fault of a listed one.
         ensures memory { OnErr result (AreArrangements self.now.puzzle self.now.listed) }
     {

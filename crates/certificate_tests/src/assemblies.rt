@@ -8,8 +8,9 @@ use cert_tree::{
     AssembleFault, Certificate, Head, Lemma, Node, Pairs, assemble, assemble_turned, assembly_laws,
     write_certificate,
 };
-use puzzle_symmetry::{ColourImages, Images, SymmetryLine};
-use sample_puzzles::TWIN_TILES_CERTIFICATE;
+use sample_puzzles::{
+    TWIN_TILES_AFTER_FIVE, TWIN_TILES_CERTIFICATE, TWIN_TILES_FROM_THE_ROOT, exchange_of_twins,
+};
 use std::alloc::{AllocError, Global};
 use std::test::Fail;
 
@@ -85,33 +86,13 @@ fn assembles_lemmas_by_number(rt: HostRuntime) -> Result<(), Fail> {
     Ok(())
 }
 
-// The symmetry that exchanges the twin tiles.
-fn exchange(alloc: Global) -> Result<Vec<SymmetryLine>, AllocError>
-    ensures { IfOk result (λ lines. length lines.items < 2 ^ 32) }
-{
-    let line = SymmetryLine {
-        shift: 0,
-        mirrored: false,
-        cells: Images::new(vec![in alloc; 0, 1]?),
-        colours: ColourImages::new(vec![in alloc; 0, 1]?),
-        tiles: Images::new(vec![in alloc; 1, 0]?),
-    };
-    Ok(vec![in alloc; line]?)
-}
-
-// The twin tiles' lemmas, numbered from the root.
-const FROM_THE_ROOT: [&[u8]; 2] = [
-    b"lemma 0 prefix tree c 0 2 s 1 i 1 0\n",
-    b"lemma 1 prefix 0:0.0 tree c 1 1 f 0\n",
-];
-
 // What is written of these two lemmas, turned, where the arrangements of the second begin at this number.
 fn turned(alloc: Global, root: &Lemma, other: &Lemma, first: u32) -> Result<Vec<u8>, Fail> {
     if !root.within_limits() || !other.within_limits() || first > 1_000_000 {
         return Err(Fail::from("a number is out of range"));
     }
     let pieces = vec![in alloc; other, root]?;
-    let certificate = assemble_turned(alloc, 2, &[0, first], exchange(alloc)?, pieces)?;
+    let certificate = assemble_turned(alloc, 2, &[0, first], exchange_of_twins(alloc)?, pieces)?;
     if !certificate.within_limits() {
         return Err(Fail::from("what was assembled can't be written"));
     }
@@ -121,15 +102,19 @@ fn turned(alloc: Global, root: &Lemma, other: &Lemma, first: u32) -> Result<Vec<
 #[test]
 fn assembles_lemmas_counted_from_the_root(rt: HostRuntime) -> Result<(), Fail> {
     let alloc = rt.alloc();
-    let [root, other] = FROM_THE_ROOT;
+    let [root, other] = TWIN_TILES_FROM_THE_ROOT;
     let root = lemma_of(alloc, root)?;
     let other = lemma_of(alloc, other)?;
-    let sixth =
-        b"certificate 1\nsymmetries 1\nsymmetry 0 + cells 0 1 colours 0 1 tiles 1 0\nlemmas 2\nlemma 0 prefix 0:0.0 tree c 1 1 f 5\nlemma 1 prefix tree c 0 2 s 0 i 0 0\nend\n";
     assert!(rt; turned(alloc, &root, &other, 0)?.as_slice() == TWIN_TILES_CERTIFICATE);
-    assert!(rt; turned(alloc, &root, &other, 5)?.as_slice() == sixth.as_slice());
+    assert!(rt; turned(alloc, &root, &other, 5)?.as_slice() == TWIN_TILES_AFTER_FIVE);
     assert!(rt; root.within_limits());
-    let alone = assemble_turned(alloc, 2, &[0, 0], exchange(alloc)?, vec![in alloc; &root]?);
+    let alone = assemble_turned(
+        alloc,
+        2,
+        &[0, 0],
+        exchange_of_twins(alloc)?,
+        vec![in alloc; &root]?,
+    );
     assert!(rt; fault_of(alone)? == Some(AssembleFault::Missing(1)));
     Ok(())
 }

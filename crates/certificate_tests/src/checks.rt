@@ -2,7 +2,7 @@
 
 ghost use Rattle.std.specs.Prelude.{◌<◌, ◌^◌, IfOk, length};
 
-use crate::texts::{certificate_of, joined, list_of, puzzle_of};
+use crate::texts::{TURNING_HEAD, certificate_of, joined, list_of, puzzle_of};
 use cert_check::{
     Answer, Fault, Question, SymmetriesFault, TreeFault, check, forked_tree_fault, make_symmetries,
     one_answer, tree_fault,
@@ -108,28 +108,30 @@ fn tree_line<R: Threads + Sync>(
     Ok(line_of(alloc, lemma, fault)?)
 }
 
-// Whether each walk of this lemma's tree finds what the line says, and the check too, where it is to come so far.
+// Whether each walk of this lemma's tree finds this fault, or nothing where it is empty, and the check too, where it is
+// to come so far.
 fn finds<R: Threads + Sync>(
     rt: &R,
     alloc: Global,
     question: &OwnedQuestion,
     lemma: u32,
-    line: &[u8],
+    fault: &str,
     is_first: bool,
 ) -> Result<bool, Fail>
     requires { length question.now.listed.items < 2 ^ 32 }
 {
+    let line = match fault {
+        "" => String::new(alloc),
+        _ => format!(in alloc; "refused tree {lemma} at {fault}\n")?,
+    };
     for forks in [None, Some(0), Some(1), Some(3), Some(6)] {
         let found = tree_line(rt, alloc, question, lemma, forks)?;
-        if found.as_slice() != line {
+        if found.as_slice() != line.as_bytes() {
             return Ok(false);
         }
     }
-    Ok(!is_first || check_line(alloc, question)?.as_slice() == line)
+    Ok(!is_first || check_line(alloc, question)?.as_slice() == line.as_bytes())
 }
-
-const TURNING_HEAD: &[u8] =
-    b"certificate 1\nsymmetries 1\nsymmetry 1 + cells 3 0 2 1 colours 0 1 2 3 tiles 0 1 2 3\nlemmas 3\n";
 
 // The trees of the turning triangle's certificate.
 const FIRST: &[u8] = b"c 0 1 c 1 1 c 3 1 f 0";
@@ -161,104 +163,49 @@ fn turning(alloc: Global, trees: [&[u8]; 3]) -> Result<OwnedQuestion, Fail>
 
 // Trees of the turning triangle, and what is found of the one with this number: nothing, each kind of fault that a node
 // may have, and a fault in both halves of a branch or in the right one alone. Last whether no earlier tree has a fault.
-const TURNING: [([&[u8]; 3], u32, &[u8], bool); 19] = [
-    ([FIRST, SECOND, ROOT], 0, b"", true),
-    ([FIRST, SECOND, ROOT], 1, b"", true),
-    ([FIRST, SECOND, ROOT], 2, b"", true),
-    (
-        [b"d 4", SECOND, ROOT],
-        0,
-        b"refused tree 0 at - cell-range\n",
-        true,
-    ),
-    (
-        [b"d 2", SECOND, ROOT],
-        0,
-        b"refused tree 0 at - cell-taken\n",
-        true,
-    ),
-    (
-        [b"e 4", SECOND, ROOT],
-        0,
-        b"refused tree 0 at - tile-range\n",
-        true,
-    ),
-    (
-        [b"e 0", SECOND, ROOT],
-        0,
-        b"refused tree 0 at - tile-taken\n",
-        true,
-    ),
+const TURNING: [([&[u8]; 3], u32, &str, bool); 19] = [
+    ([FIRST, SECOND, ROOT], 0, "", true),
+    ([FIRST, SECOND, ROOT], 1, "", true),
+    ([FIRST, SECOND, ROOT], 2, "", true),
+    ([b"d 4", SECOND, ROOT], 0, "- cell-range", true),
+    ([b"d 2", SECOND, ROOT], 0, "- cell-taken", true),
+    ([b"e 4", SECOND, ROOT], 0, "- tile-range", true),
+    ([b"e 0", SECOND, ROOT], 0, "- tile-taken", true),
     (
         [b"c 0 2 f 0 f 0", SECOND, ROOT],
         0,
-        b"refused tree 0 at - wrong-count 1 2\n",
+        "- wrong-count 1 2",
         true,
     ),
-    (
-        [b"d 0", b"i 1 0", ROOT],
-        0,
-        b"refused tree 0 at - not-dead 1\n",
-        true,
-    ),
-    (
-        [b"c 0 1 f 0", SECOND, ROOT],
-        0,
-        b"refused tree 0 at 0 not-whole\n",
-        true,
-    ),
+    ([b"d 0", b"i 1 0", ROOT], 0, "- not-dead 1", true),
+    ([b"c 0 1 f 0", SECOND, ROOT], 0, "0 not-whole", true),
     (
         [b"c 0 1 c 1 1 c 3 1 f 1", SECOND, ROOT],
         0,
-        b"refused tree 0 at 0.0.0 list-range\n",
+        "0.0.0 list-range",
         true,
     ),
-    (
-        [b"s 0", SECOND, ROOT],
-        0,
-        b"refused tree 0 at - not-earlier\n",
-        true,
-    ),
-    (
-        [FIRST, FIRST, ROOT],
-        1,
-        b"refused tree 1 at 0.0.0 not-listed\n",
-        true,
-    ),
-    (
-        [FIRST, b"i 1 0", ROOT],
-        1,
-        b"refused tree 1 at - not-earlier\n",
-        true,
-    ),
-    (
-        [b"d 0", b"i 1 0", ROOT],
-        1,
-        b"refused tree 1 at - not-earlier\n",
-        false,
-    ),
-    (
-        [FIRST, b"i 0 1", ROOT],
-        1,
-        b"refused tree 1 at - symmetry-range\n",
-        true,
-    ),
+    ([b"s 0", SECOND, ROOT], 0, "- not-earlier", true),
+    ([FIRST, FIRST, ROOT], 1, "0.0.0 not-listed", true),
+    ([FIRST, b"i 1 0", ROOT], 1, "- not-earlier", true),
+    ([b"d 0", b"i 1 0", ROOT], 1, "- not-earlier", false),
+    ([FIRST, b"i 0 1", ROOT], 1, "- symmetry-range", true),
     (
         [FIRST, SECOND, b"t 0 3 s 0 i 0 0 s 1"],
         2,
-        b"refused tree 2 at 1 not-within\n",
+        "1 not-within",
         true,
     ),
     (
         [b"d 0", b"d 0", b"t 0 3 s 1 s 1 s 0"],
         2,
-        b"refused tree 2 at 0 not-within\n",
+        "0 not-within",
         false,
     ),
     (
         [b"d 0", b"d 0", b"t 0 3 s 0 s 0 s 1"],
         2,
-        b"refused tree 2 at 1 not-within\n",
+        "1 not-within",
         false,
     ),
 ];
@@ -286,51 +233,32 @@ const ONE_CELL_LIST: &[u8] = b"list 1\narrangements 1\n0.0\nend\n";
 const ONE_CELL_TWICE: &[u8] =
     b"certificate 1\nsymmetries 0\nlemmas 1\nlemma 0 prefix tree c 0 1 c 0 1 f 0\nend\n";
 
+const FIVE: [&[u8]; 3] = [FIVE_CELLS, FIVE_CELLS_LIST, FIVE_CELLS_CERTIFICATE];
+
 // Other puzzles with their lists and certificates, and what is found of the tree with this number.
-const OTHERS: [([&[u8]; 3], u32, &[u8]); 6] = [
+const OTHERS: [([&[u8]; 3], u32, &str); 6] = [
     (
         [FREE_SQUARE, SQUARE_OF_FOUR_LIST, SQUARE_OF_FOUR_CERTIFICATE],
         0,
-        b"refused tree 0 at - wrong-count 4 1\n",
+        "- wrong-count 4 1",
     ),
-    (
-        [ONE_CELL, ONE_CELL_LIST, ONE_CELL_TWICE],
-        0,
-        b"refused tree 0 at 0 cell-taken\n",
-    ),
-    (
-        [FIVE_CELLS, FIVE_CELLS_LIST, FIVE_CELLS_CERTIFICATE],
-        0,
-        b"",
-    ),
-    (
-        [FIVE_CELLS, FIVE_CELLS_LIST, FIVE_CELLS_CERTIFICATE],
-        1,
-        b"",
-    ),
-    (
-        [FIVE_CELLS, FIVE_CELLS_LIST, FIVE_CELLS_CERTIFICATE],
-        2,
-        b"",
-    ),
-    (
-        [FIVE_CELLS, FIVE_CELLS_LIST, FIVE_CELLS_CERTIFICATE],
-        3,
-        b"",
-    ),
+    ([ONE_CELL, ONE_CELL_LIST, ONE_CELL_TWICE], 0, "0 cell-taken"),
+    (FIVE, 0, ""),
+    (FIVE, 1, ""),
+    (FIVE, 2, ""),
+    (FIVE, 3, ""),
 ];
 
 #[test]
 fn finds_the_first_fault_of_each_tree(rt: HostRuntime) -> Result<(), Fail> {
     let alloc = rt.alloc();
-    for (trees, lemma, line, is_first) in TURNING {
+    for (trees, lemma, fault, is_first) in TURNING {
         let question = turning(alloc, trees)?;
-        assert!(rt; finds(&rt, alloc, &question, lemma, line, is_first)?);
+        assert!(rt; finds(&rt, alloc, &question, lemma, fault, is_first)?);
     }
-    for (documents, lemma, line) in OTHERS {
-        let [puzzle, list, certificate] = documents;
+    for ([puzzle, list, certificate], lemma, fault) in OTHERS {
         let question = question_of(alloc, puzzle, list, certificate)?;
-        assert!(rt; finds(&rt, alloc, &question, lemma, line, true)?);
+        assert!(rt; finds(&rt, alloc, &question, lemma, fault, true)?);
     }
     one_answer();
     Ok(())

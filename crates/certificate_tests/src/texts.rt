@@ -11,6 +11,10 @@ use std::test::Fail;
 // No test has a text of so many bytes.
 const TOO_LONG: usize = 100_000;
 
+/// How the certificate of the turning triangle begins, before its three lemmas.
+pub const TURNING_HEAD: &[u8] =
+    b"certificate 1\nsymmetries 1\nsymmetry 1 + cells 3 0 2 1 colours 0 1 2 3 tiles 0 1 2 3\nlemmas 3\n";
+
 /// The texts, one after the other, each so many times.
 pub fn joined(alloc: Global, parts: &[(&[u8], u32)]) -> Result<Vec<u8>, AllocError> {
     let mut text = Vec::new(alloc);

@@ -1,6 +1,6 @@
 //! Lemmas and certificates are read, walked, copied and written.
 
-use crate::texts::{certificate_of, joined, lemma_of};
+use crate::texts::{TURNING_HEAD, certificate_of, joined, lemma_of};
 use cert_tree::{
     Children, FlatTree, Head, Lemma, LemmaTextFault, Node, Pairs, certificate_laws, head_laws,
     lemma_laws, read_lemma, write_certificate, write_lemma,
@@ -33,9 +33,6 @@ const PAST_VERSION_1: [&[u8]; 3] = [
     b"certificate 2\nsymmetries 1\nsymmetry 0 + cells 255 colours tiles 255\nlemmas 0\nend\n",
     b"certificate 2\nsymmetries 0\nlemmas 1\nlemma 0 prefix 255:255.3 tree t 255 1 e 255\nend\n",
 ];
-
-const TURNING_HEAD: &[u8] =
-    b"certificate 1\nsymmetries 1\nsymmetry 1 + cells 3 0 2 1 colours 0 1 2 3 tiles 0 1 2 3\nlemmas 3\n";
 
 const FIRST: &[u8] = b"lemma 0 prefix 2:0.0 tree c 0 1 c 1 1 c 3 1 f 0\n";
 

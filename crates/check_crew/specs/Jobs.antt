@@ -1,9 +1,9 @@
 -- A job for each lemma.
-use Rattle.std.specs.Prelude.{◌≡◌, ◌<◌, ◌≤◌, ℕ, List, Option, Some, None, MatchOption, Box, length}
+use Rattle.std.specs.Prelude.{◌≡◌, ◌<◌, ◌≤◌, ℕ, List, Option, Some, None, Box, length}
 use Rattle.std.specs.declared.alloc.Global.{Global}
 use Rattle.match_board.specs.declared.limits.TheConstants.{MOST_FORKS}
 use Rattle.cert_check.specs.declared.faults.TreeFault.{TreeFault}
-use Rattle.cert_check.specs.Lists.{AreAll, IsFirstBad}
+use Rattle.cert_check.specs.Lists.{TellsOfAll}
 use Rattle.cert_check.specs.Setting.{Question}
 use Rattle.cert_check.specs.Walk.{TellsOfLemma}
 
@@ -26,7 +26,5 @@ IsFinding question number finding = TellsOfLemma question number (fault_of findi
 
 -- What is said of the findings: that none is a fault, or the first that is, with its number.
 abbrev pub IsFirstFound : List Finding → Option (ℕ × TreeFault) → Type 0
-IsFirstFound findings said =
-    MatchOption said (AreAll (λ n finding. fault_of finding ≡ None) findings)
-    (λ r. IsFirstBad (λ n finding. fault_of finding ≡ None) (λ n finding fault. fault_of finding ≡ Some fault)
-    findings r.0 r.1)
+IsFirstFound =
+    TellsOfAll (λ n finding. fault_of finding ≡ None) (λ n finding fault. fault_of finding ≡ Some fault)

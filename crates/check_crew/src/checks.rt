@@ -1,10 +1,10 @@
 //! The check of a certificate by a crew.
 
-ghost use Rattle.std.specs.Prelude.{◌≡◌, ◌<◌, ◌≤◌, ◌^◌, IfOk, OnErr, length};
+ghost use Rattle.std.specs.Prelude.{◌<◌, ◌≤◌, ◌^◌, IfOk, OnErr, length};
 ghost use Rattle.match_board.specs.declared.limits.TheConstants.{MOST_WORKERS, MOST_FORKS};
 ghost use Rattle.cert_check.specs.Setting.{question_of};
 ghost use Rattle.cert_check.specs.Walk.{TellsOfTrees};
-ghost use Rattle.cert_check.specs.Answer.{AreArrangements, IsAnswer, IsCompleteList, AreCovered};
+ghost use Rattle.cert_check.specs.Answer.{AreArrangements, IsAnswer, IsSound, IsCovering};
 
 use crate::jobs::{Walks, first_found};
 use crate::lists::list_fault;
@@ -35,7 +35,7 @@ fn trees_fault<R: Threads + Sync, G: Gate + Sync>(
         forks,
         gate,
     };
-    let count = prepared.question().certificate().lemmas().len() as u32;
+    let count = prepared.question().lemmas().len() as u32;
     let crew = run_crew(rt, alloc, &walks, count, workers)?;
     first_found(alloc, crew.results())
 }
@@ -67,10 +67,8 @@ pub fn check_with<R: Threads + Sync, G: Gate + Sync>(
     requires forks { forks ≤ MOST_FORKS }
     ensures answer { IfOk result (IsAnswer (question_of puzzle.now listed.now certificate.now)) }
     // The main theorem: a list that is called complete is.
-    ensures complete { IfOk result
-        (λ answer. answer ≡ Answer.Complete → IsCompleteList puzzle.now certificate.now.symmetries listed.now) }
-    ensures covered { IfOk result
-        (λ answer. answer ≡ Answer.Complete → AreCovered (question_of puzzle.now listed.now certificate.now)) }
+    ensures complete { IfOk result (IsSound (question_of puzzle.now listed.now certificate.now)) }
+    ensures covered { IfOk result (IsCovering (question_of puzzle.now listed.now certificate.now)) }
     // Want of memory hides no fault of a listed one.
     ensures memory { OnErr result (AreArrangements puzzle.now listed.now) }
 {

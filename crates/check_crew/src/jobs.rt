@@ -48,9 +48,8 @@ fn forks_of(prepared: &Prepared<'_>, number: u32, forks: u8) -> u8
     requires { number < length prepared.now.lemmas }
     ensures { result ≤ forks }
 {
-    let lemmas = prepared.question().certificate().lemmas();
-    let tree = lemmas.at(number as usize).tree;
-    if tree.nodes() < LEAST_FORKED {
+    let lemma = prepared.question().lemmas().at(number as usize);
+    if lemma.tree.nodes() < LEAST_FORKED {
         0
     } else {
         forks

@@ -6,21 +6,14 @@ ghost use Rattle.piece_desk.specs.Desks.{IsOf};
 
 use cert_tree::{AssembleFault, Lemma, Node, Pairs, read_lemma, write_certificate, write_lemma};
 use piece_desk::{Desk, Receipt};
-use puzzle_symmetry::{ColourImages, Images, SymmetryLine};
-use sample_puzzles::TWIN_TILES_CERTIFICATE;
+use sample_puzzles::{
+    TWIN_TILES_AFTER_FIVE, TWIN_TILES_CERTIFICATE, TWIN_TILES_FROM_THE_ROOT, exchange_of_twins,
+};
 use std::alloc::{AllocError, Global};
 use std::process::Abort;
 use std::sync::Wait;
 use std::test::Fail;
 use std::thread;
-
-// The twin tiles' lemmas as they are on the desk, where the root is 0.
-const ROOT: &[u8] = b"lemma 0 prefix tree c 0 2 s 1 i 1 0\n";
-
-const OTHER: &[u8] = b"lemma 1 prefix 0:0.0 tree c 1 1 f 0\n";
-
-const FIVE_LISTED_BEFORE: &[u8] =
-    b"certificate 1\nsymmetries 1\nsymmetry 0 + cells 0 1 colours 0 1 tiles 1 0\nlemmas 2\nlemma 0 prefix 0:0.0 tree c 1 1 f 5\nlemma 1 prefix tree c 0 2 s 0 i 0 0\nend\n";
 
 // Four lemmas, which cite each other, a lemma at their count and one past it.
 const FOUR_LEMMAS: [&[u8]; 4] = [
@@ -32,22 +25,6 @@ const FOUR_LEMMAS: [&[u8]; 4] = [
 
 const FOUR_TURNED: &[u8] =
     b"certificate 1\nsymmetries 1\nsymmetry 0 + cells 0 1 colours 0 1 tiles 1 0\nlemmas 4\nlemma 0 prefix 0:2.0 tree t 1 2 f 4 i 9 0\nlemma 1 prefix 0:1.0 tree c 1 1 s 4\nlemma 2 prefix 0:0.0 tree c 1 2 f 5 s 0\nlemma 3 prefix tree c 0 3 s 2 i 1 0 s 0\nend\n";
-
-// The twin tiles' symmetry.
-fn exchange(alloc: Global) -> Result<Vec<SymmetryLine>, AllocError>
-    ensures { IfOk result (λ lines. vec_len lines ≡ 1) }
-{
-    let line = SymmetryLine {
-        shift: 0,
-        mirrored: false,
-        cells: Images::new(Vec::from_array(alloc, [0, 1])?),
-        colours: ColourImages::new(Vec::from_array(alloc, [0, 1])?),
-        tiles: Images::new(Vec::from_array(alloc, [1, 0])?),
-    };
-    let mut lines = Vec::new(alloc);
-    lines.push(line)?;
-    Ok(lines)
-}
 
 // Posts a lemma. Where it comes back for want of memory, it is to be the same, and is posted again.
 fn post_at_last<R: Wait>(
@@ -98,7 +75,7 @@ fn gathered(
     requires { All (IsOf desk.now) receipts.now }
 {
     let first = [0, listed_before.min(9)];
-    let certificate = desk.gather(alloc, receipts, exchange(alloc)?, 2, &first)?;
+    let certificate = desk.gather(alloc, receipts, exchange_of_twins(alloc)?, 2, &first)?;
     if !certificate.within_limits() {
         return Err(Fail::new("more is gathered than a text has"));
     }
@@ -109,7 +86,8 @@ fn gathered(
 fn gathers_the_twin_tiles(rt: HostRuntime) -> Result<(), Fail> {
     let alloc = rt.alloc();
     let desk = Desk::new(alloc)?;
-    for (one, other) in [(ROOT, OTHER), (OTHER, ROOT)] {
+    let [root, other] = TWIN_TILES_FROM_THE_ROOT;
+    for (one, other) in [(root, other), (other, root)] {
         let receipts = [
             post_text(&rt, alloc, &desk, one)?,
             post_text(&rt, alloc, &desk, other)?,
@@ -117,10 +95,10 @@ fn gathers_the_twin_tiles(rt: HostRuntime) -> Result<(), Fail> {
         let text = gathered(alloc, &desk, &receipts, 0)?;
         assert!(rt; text.as_slice() == TWIN_TILES_CERTIFICATE);
         let text = gathered(alloc, &desk, &receipts, 5)?;
-        assert!(rt; text.as_slice() == FIVE_LISTED_BEFORE);
+        assert!(rt; text.as_slice() == TWIN_TILES_AFTER_FIVE);
     }
-    let alone = [post_text(&rt, alloc, &desk, ROOT)?];
-    match desk.gather(alloc, &alone, exchange(alloc)?, 2, &[0, 0]) {
+    let alone = [post_text(&rt, alloc, &desk, root)?];
+    match desk.gather(alloc, &alone, exchange_of_twins(alloc)?, 2, &[0, 0]) {
         Err(AssembleFault::Memory) => return Err(AllocError.into()),
         missing => assert!(rt; missing.err() == Some(AssembleFault::Missing(1))),
     }
@@ -153,7 +131,13 @@ fn fault_of<R: Wait>(
     let desk = Desk::new(alloc)?;
     let receipts = post_numbers(rt, alloc, &desk, numbers)?;
     let first = vec![in alloc; 0; count.min(9) as usize]?;
-    match desk.gather(alloc, &receipts, exchange(alloc)?, count.min(9), &first) {
+    match desk.gather(
+        alloc,
+        &receipts,
+        exchange_of_twins(alloc)?,
+        count.min(9),
+        &first,
+    ) {
         Err(AssembleFault::Memory) => Err(AllocError.into()),
         gathered => Ok(gathered.err()),
     }
@@ -164,7 +148,13 @@ fn gathers_four_lemmas(rt: HostRuntime) -> Result<(), Fail> {
     let alloc = rt.alloc();
     let desk = Desk::new(alloc)?;
     let receipts = post_numbers(&rt, alloc, &desk, &[2, 0, 3, 1])?;
-    let certificate = desk.gather(alloc, &receipts, exchange(alloc)?, 4, &[0, 5, 2, 1])?;
+    let certificate = desk.gather(
+        alloc,
+        &receipts,
+        exchange_of_twins(alloc)?,
+        4,
+        &[0, 5, 2, 1],
+    )?;
     if !certificate.within_limits() {
         return Err(Fail::new("more is gathered than a text has"));
     }

@@ -1,15 +1,15 @@
 -- What a solve of a puzzle comes to.
-use Rattle.std.specs.Prelude.{◌≡◌, ◌≤◌, ℕ, List, All, Contains, Vec, length}
+use Rattle.std.specs.Prelude.{◌≡◌, ◌≤◌, ℕ, List, All, Vec, length}
 use Rattle.std.specs.declared.alloc.Global.{Global}
 use Rattle.match_board.specs.declared.limits.TheConstants.{MOST_LEMMAS}
 use Rattle.match_puzzle.specs.Puzzle.{Task}
-use Rattle.match_puzzle.specs.Arrangement.{IsArrangement}
 use Rattle.match_puzzle.specs.declared.placements.Placement.{Placement}
 use Rattle.match_text.specs.ListSpelling.{IsListWithin}
 use Rattle.match_text.specs.declared.ranges.TheConstants.{SECOND}
 use Rattle.cert_tree.specs.Certificate.{Contents}
 use Rattle.cert_tree.specs.CertificateSpelling.{IsCertificateWithin}
 use Rattle.cert_tree.specs.Writing.{said_by}
+use Rattle.cert_check.specs.Answer.{AreArrangements}
 use Rattle.steal_crew.specs.Counts.{total, times, once_below}
 use Rattle.piece_desk.specs.Desks.{IsOf}
 use Rattle.piece_desk.specs.declared.desks.Desk.{Desk}
@@ -25,13 +25,9 @@ abbrev pub solve_of_compile : CompileFault → SolveFault
 solve_of_compile compile.TooMany = solve.TooMany
 solve_of_compile compile.Memory = solve.Memory
 
--- All of these are arrangements of the puzzle.
-abbrev pub AreArrangementsOf : Task → List (List Placement) → Type 0
-AreArrangementsOf p found = (a : List Placement) → Contains found a → IsArrangement p a
-
 -- Its lemma is on the desk, and what it found are arrangements; or the branch was given up.
 abbrev pub IsOutcomeOf : Task → Desk → Searched → Type 0
-IsOutcomeOf p desk (Posted receipt found) = IsOf desk receipt × AreArrangementsOf p found.items
+IsOutcomeOf p desk (Posted receipt found) = IsOf desk receipt × AreArrangements p found.items
 IsOutcomeOf p desk GaveUp = Unit {0}
 IsOutcomeOf p desk Full = Unit {0}
 
@@ -51,7 +47,7 @@ pub record IsSearchedBy (p : Task) (desk : Desk) (count : ℕ) (results : List S
 -- lemma.
 pub record IsSolvedBy (p : Task) (count : ℕ) (listed : List (List Placement)) (tally : List (Vec ℕ Global))
     (c : Contents) : Type 0 where
-  pub arrangements : AreArrangementsOf p listed
+  pub arrangements : AreArrangements p listed
   pub list : IsListWithin SECOND listed
   pub certificate : IsCertificateWithin (said_by 2 c)
   pub workers : length tally ≡ count

@@ -5,7 +5,8 @@ ghost use Rattle.match_puzzle.specs.declared.placements.Pair.{Pair as PlacedPair
 ghost use Rattle.match_puzzle.specs.declared.placements.Placement.{Placement};
 ghost use Rattle.steal_crew.specs.LiveHands.{Gave};
 ghost use Rattle.match_puzzle.specs.Arrangement.{IsArrangement};
-ghost use Rattle.match_crew.specs.Solving.{AreArrangementsOf, IsOutcomeOf};
+ghost use Rattle.cert_check.specs.Answer.{AreArrangements};
+ghost use Rattle.match_crew.specs.Solving.{IsOutcomeOf};
 
 use crate::branches::{OpenBranch, fit_in_turn, prefix_of};
 use crate::choices::Choices;
@@ -58,7 +59,7 @@ impl<'a, T: Wait> Searches<'a, T> {
     fn run<C: Cites>(&self, pairs: &[Pair], cites: &mut C) -> Result<Option<Finished>, AllocError>
         requires takes { (asked : List PlacedPair) → C.takes cites.old asked }
         ensures found { IfOk result (λ o. IfSome o
-            (λ f. AreArrangementsOf self.now.xcc.now.puzzle f.found.items)) }
+            (λ f. AreArrangements self.now.xcc.now.puzzle f.found.items)) }
         ensures moved { C.moves cites.old cites.new }
     {
         let shared = &self.shared;
@@ -83,7 +84,7 @@ impl<'a, T: Wait> Searches<'a, T> {
         hand: &mut Hand<'_, OpenBranch>,
     ) -> Result<Option<Finished>, AllocError>
         ensures found { IfOk result (λ o. IfSome o
-            (λ f. AreArrangementsOf self.now.xcc.now.puzzle f.found.items)) }
+            (λ f. AreArrangements self.now.xcc.now.puzzle f.found.items)) }
         ensures gave { Gave hand.old hand.new }
     {
         if self.shared.is_alone() {
@@ -104,7 +105,7 @@ impl<'a, T: Wait> Searches<'a, T> {
 
     // Puts the lemma with this number on the desk.
     fn post(&self, number: u32, pairs: &[Pair], finished: Finished) -> Result<Searched, AllocError>
-        requires { AreArrangementsOf self.now.xcc.now.puzzle finished.found.items }
+        requires { AreArrangements self.now.xcc.now.puzzle finished.found.items }
         ensures { IfOk result (IsOutcomeOf self.now.xcc.now.puzzle self.now.desk.now) }
     {
         let Finished { tree, found } = finished;

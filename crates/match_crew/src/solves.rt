@@ -9,7 +9,8 @@ ghost use Rattle.cert_tree.specs.CertificateSpelling.{IsCertificateWithin};
 ghost use Rattle.cert_tree.specs.Writing.{said_by};
 ghost use Rattle.piece_desk.specs.Desks.{IsOf};
 ghost use Rattle.xcc_form.specs.Options.{HasTooManyEntries};
-ghost use Rattle.match_crew.specs.Solving.{AreArrangementsOf, IsOutcomeOf, IsSearchedBy, IsSolvedBy};
+ghost use Rattle.cert_check.specs.Answer.{AreArrangements};
+ghost use Rattle.match_crew.specs.Solving.{IsOutcomeOf, IsSearchedBy, IsSolvedBy};
 
 use crate::branches::OpenBranch;
 use crate::faults::SolveFault;
@@ -130,7 +131,7 @@ fn receipt_of(
 ) -> Result<(Receipt, Vec<Arrangement>), SolveFault>
     requires { IsOutcomeOf _puzzle.now _desk.now searched }
     ensures receipt { IfOk result (λ r. IsOf _desk.now r.0) }
-    ensures found { IfOk result (λ r. AreArrangementsOf _puzzle.now r.1.items) }
+    ensures found { IfOk result (λ r. AreArrangements _puzzle.now r.1.items) }
     ensures fault { IfErr result (λ f. f ≢ SolveFault.TooMany) }
 {
     match searched {
@@ -151,7 +152,7 @@ fn collect(
     ensures receipts { IfOk result (λ c. All (λ receipt. IsOf _desk.now receipt) c.receipts.items) }
     ensures many { IfOk result (λ c. vec_len c.first ≡ vec_len results) }
     ensures first { IfOk result (λ c. All (λ n. n ≤ MOST_ARRANGEMENTS) c.first.items) }
-    ensures listed { IfOk result (λ c. AreArrangementsOf _puzzle.now c.listed.items) }
+    ensures listed { IfOk result (λ c. AreArrangements _puzzle.now c.listed.items) }
     ensures fault { IfErr result (λ f. f ≢ SolveFault.TooMany) }
 {
     let mut collected = Collected {

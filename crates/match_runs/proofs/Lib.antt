@@ -1,8 +1,9 @@
 pub mod CutLemmas
 pub mod StreamLemmas
+pub mod SourceLemmas
 pub mod OrderLemmas
 pub mod RepetitionLemmas
 pub mod RunLemmas
 pub mod SolvingLemmas
 mod WordLemmas
-mod NamingLemmas
+mod DescribingLemmas

@@ -1,5 +1,5 @@
 -- What the parts of a run read.
-use Rattle.std.proofs.Common.{◌≡◌, ◌≤◌, ℕ, suc, List, [], ◌∷◌, Some, Result, Ok, Err, IsErrOf, Contains, length, map, slice_get, arith, refl, ap, sym, ◌∙◌, subst, ⊎_elim}
+use Rattle.std.proofs.Common.{◌≡◌, ◌≤◌, ℕ, suc, List, [], ◌∷◌, Some, Result, Ok, Err, IfOk, IsErrOf, Contains, length, map, slice_get, arith, refl, ap, sym, ◌∙◌, subst, ⊎_elim}
 use Rattle.match_board.specs.declared.limits.TheConstants.{MOST_ARRANGEMENTS}
 use Rattle.std.specs.List.{AllByRecursion}
 use Rattle.match_puzzle.specs.Puzzle.{Task, IsPuzzle}
@@ -39,7 +39,8 @@ use Rattle.symmetry_orbits.specs.Expansion.{AreMoreReached, AreOf, IsExpansion, 
 use Rattle.match_runs.specs.declared.faults.RunFault.TheVariants as runs
 use Rattle.match_runs.specs.FaultText.{run_of_expand}
 use Rattle.match_runs.specs.Documents.{first_of, second_of, third_of, texts_in}
-use Rattle.match_runs.specs.Runs.{AreAllInOrder, texts_of}
+use Rattle.match_runs.specs.Runs.{AreAllInOrder}
+use Rattle.match_runs.specs.Sources.{texts_of}
 use Rattle.match_runs.specs.declared.streams.documents.Documents.{Documents}
 
 -- where a certificate is given, the text says what it is made of
@@ -67,6 +68,11 @@ has_words p g puzzle _ fails = tt
 pub has_line : (question : Question) (answer : Answer) → IsPuzzle question.puzzle → IsAnswer question answer → HasLine answer
 has_line question (Refused (checks.Symmetry number fault)) puzzle is = has_words question.puzzle is.occurs.0 puzzle fault is.occurs.2.occurs
 has_line question _ puzzle is = tt
+
+-- what follows where two things hold of an Ok
+pub both : {T E : Type 0} {P Q R : T → Type 0} (result : Result T E) → ((x : T) → P x → Q x → R x) → IfOk result P → IfOk result Q → IfOk result R
+both (Ok x) follows p q = follows x p q
+both (Err e) follows p q = tt
 
 -- ---- lists of all arrangements
 

@@ -1,12 +1,13 @@
 pub mod Streams
 pub mod Moves
 pub mod Documents
+pub mod Sources
 pub mod Exits
 pub mod FaultText
 pub mod Runs
+pub mod Describing
 pub mod Solving
-pub mod Naming
-pub mod Showing
+pub mod Tiles
 pub mod Files
 pub mod OrderRuns
 pub mod WordRuns

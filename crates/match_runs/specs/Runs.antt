@@ -1,7 +1,7 @@
 -- What a run comes to.
-use Rattle.std.specs.Prelude.{◌≡◌, ◌≢◌, ◌+◌, ◌<◌, ◌≤◌, ◌^◌, ◌↔◌, ◌++◌, ℕ, List, [], ◌∷◌, Result, Ok, Err, Contains, codes, length}
-use Rattle.match_board.specs.declared.limits.TheConstants.{MOST_CLASSES, MOST_ARRANGEMENTS, MOST_BYTES}
-use Rattle.match_board.specs.Turns.{AreLeastWords}
+use Rattle.std.specs.Prelude.{◌≡◌, ◌≢◌, ◌≤◌, ◌↔◌, ◌++◌, ℕ, List, [], ◌∷◌, Contains, codes, length}
+use Rattle.std.specs.Prelude.{Result, Ok, Err, IfErr}
+use Rattle.match_board.specs.declared.limits.TheConstants.{MOST_ARRANGEMENTS}
 use Rattle.match_puzzle.specs.Puzzle.{Task}
 use Rattle.match_puzzle.specs.Arrangement.{IsArrangement}
 use Rattle.match_puzzle.specs.declared.placements.Placement.{Placement}
@@ -9,7 +9,6 @@ use Rattle.match_text.specs.Puzzles.{PuzzleReads}
 use Rattle.match_text.specs.Lists.{list_of}
 use Rattle.match_text.specs.ListSpelling.{IsListWithin, list_spelling}
 use Rattle.match_text.specs.declared.ranges.TheConstants.{FIRST}
-use Rattle.match_text.specs.PuzzleSpelling.{tiles_spelling}
 use Rattle.match_text.specs.declared.faults.PuzzleTextFault.TheVariants as puzzles
 use Rattle.match_text.specs.declared.faults.ListTextFault.TheVariants as lists
 use Rattle.cert_tree.specs.Certificate.{piece_number}
@@ -23,20 +22,18 @@ use Rattle.cert_check.specs.declared.faults.Answer.{Answer}
 use Rattle.cert_check.specs.declared.faults.Answer.TheVariants.{Complete, Refused}
 use Rattle.match_report.specs.AnswerText.{answer_line}
 use Rattle.symmetry_orbits.specs.Expansion.{IsExpansion, AreMoreReached}
-use Rattle.symmetry_orbits.specs.Orbits.{HasArrangements, IsCount}
+use Rattle.symmetry_orbits.specs.Orbits.{AreMoreListedOrInOrbit, HasArrangements, IsCount}
 use Rattle.symmetry_orbits.specs.declared.numbers.Count.{Count}
 use Rattle.match_text.specs.Spelling.{count_words, text_of}
 use Rattle.match_runs.specs.declared.expansion_runs.Printing.{Printing}
 use Rattle.match_runs.specs.declared.expansion_runs.Printing.TheVariants as printings
-use Rattle.match_runs.specs.Documents.{Texts, texts_in}
-use Rattle.match_runs.specs.Moves.{FailsToRead, Reading, ReadsAtMost, ReadsPast, ReadsToEnd, ReadsWhole}
-use Rattle.match_runs.specs.declared.streams.documents.Documents.{Documents}
-use Rattle.match_runs.specs.declared.faults.Document.{Document}
-use Rattle.match_runs.specs.declared.faults.Document.TheVariants as documents
+use Rattle.match_runs.specs.Documents.{Texts}
+use Rattle.match_runs.specs.Exits.{status_of}
+use Rattle.match_runs.specs.Moves.{Writing, WritesFront, WritesWhole}
+use Rattle.match_runs.specs.Sources.{Sources, ReadToEnds, StopsReading}
 use Rattle.match_runs.specs.declared.faults.RunFault.{RunFault}
 use Rattle.match_runs.specs.declared.faults.RunFault.TheVariants as runs
-use Rattle.match_runs.specs.declared.runs.Status.{Status}
-use Rattle.match_runs.specs.declared.runs.Status.TheVariants as status
+use Rattle.match_runs.specs.declared.exits.Status.{Status}
 
 -- an answer, and how many arrangements are listed
 pub record Outcome : Type 0 where
@@ -81,11 +78,6 @@ IsOfDocuments (runs.Puzzle fault) = Unit {0}
 IsOfDocuments (runs.List fault) = Unit {0}
 IsOfDocuments (runs.Certificate fault) = Unit {0}
 IsOfDocuments fault = ⊥
-
--- the status of an answer
-abbrev pub status_of : Answer → Status
-status_of Complete = status.Complete
-status_of (Refused fault) = status.Refused
 
 -- The documents spell a list that is complete: different arrangements are listed, from which the named symmetries reach
 -- all of the puzzle's.
@@ -143,116 +135,90 @@ PrintingGives printing texts text ends =
     (question : Question) × (answer : Answer) × Spells texts question × IsAnswer question answer
     × Prints question answer printing text × (ends ≡ status_of answer)
 
--- The list is complete, and more arrangements are reached than can be listed.
-abbrev pub SpellTooMany : Texts → Type 0
-SpellTooMany texts =
-    (question : Question) × Spells texts question × IsAnswer question Complete
-    × AreMoreReached MOST_ARRANGEMENTS question.puzzle question.symmetries question.listed
+-- More arrangements are reached than can be listed; or to be counted, more are listed than can be, or in one orbit.
+abbrev pub AreTooMany : Printing → Question → Type 0
+AreTooMany printings.All question =
+    AreMoreReached MOST_ARRANGEMENTS question.puzzle question.symmetries question.listed
+AreTooMany printings.Count question =
+    AreMoreListedOrInOrbit MOST_ARRANGEMENTS question.puzzle question.symmetries question.listed
+
+-- The list is complete, and what it reaches is too many to be printed so.
+abbrev pub SpellTooMany : Printing → Texts → Type 0
+SpellTooMany printing texts =
+    (question : Question) × Spells texts question × IsAnswer question Complete × AreTooMany printing question
 
 -- an outcome by its parts
 abbrev pub outcome_of : Answer → ℕ → Outcome
 outcome_of answer listed = record { answer = answer; listed = listed }
 
--- The fault is one of answering what was read: of the documents, of writing, or want of memory.
-abbrev pub IsOfAnswering : RunFault → Type 0
-IsOfAnswering (runs.Puzzle fault) = Unit {0}
-IsOfAnswering (runs.List fault) = Unit {0}
-IsOfAnswering (runs.Certificate fault) = Unit {0}
-IsOfAnswering runs.Write = Unit {0}
-IsOfAnswering runs.Memory = Unit {0}
-IsOfAnswering fault = ⊥
+-- ---- what is asked of the documents
 
--- The fault is one of a check: of reading, or of answering what was read.
-abbrev pub IsOfChecking : RunFault → Type 0
-IsOfChecking (runs.Read document) = Unit {0}
-IsOfChecking (runs.TooLong document) = Unit {0}
-IsOfChecking fault = IsOfAnswering fault
+pub data Request : Type 0 where
+  -- whether the list is complete
+  checked : Request
+  -- that, and where it is, all arrangements or how many they are
+  printed : Printing → Request
 
--- The fault is one of printing what was read: of answering it, or that too many are reached.
-abbrev pub IsOfPrinting : RunFault → Type 0
-IsOfPrinting runs.Expand = Unit {0}
-IsOfPrinting fault = IsOfAnswering fault
+-- What is printed of them, and the status that it ends with.
+abbrev pub Gives : Request → Texts → (text : List ℕ) → Status → Type 0
+Gives checked texts text ends = CheckGives texts text ends
+Gives (printed printing) texts text ends = PrintingGives printing texts text ends
 
--- The fault is one of an expansion: of a check, or that too many are reached.
-abbrev pub IsOfExpanding : RunFault → Type 0
-IsOfExpanding runs.Expand = Unit {0}
-IsOfExpanding fault = IsOfChecking fault
+-- More is to be printed of them than is.
+abbrev pub AskTooMuch : Request → Texts → Type 0
+AskTooMuch checked texts = ⊥
+AskTooMuch (printed printing) texts = SpellTooMany printing texts
 
--- ---- reading
+-- What a fault says of them that comes before anything is written of them: too much is to be printed, or they come to
+-- the fault, or it is want of memory.
+abbrev pub Fails : Request → Texts → RunFault → Type 0
+Fails request texts runs.Expand = AskTooMuch request texts
+Fails request texts runs.Memory = Unit {0}
+Fails request texts fault = RunGives texts (Err fault)
 
--- the texts behind references
-abbrev pub texts_of : Documents → Texts
-texts_of documents = record {
-  puzzle = documents.puzzle.now;
-  list = documents.list.now;
-  certificate = documents.certificate.now;
-}
+-- All that they give was written, and it ends with this status.
+abbrev pub Answers : Request → Writing → Status → Texts → Type 0
+Answers request output ends texts = WritesWhole output (λ text. Gives request texts text ends)
 
--- The texts are shorter together than a number of 32 bits says.
-abbrev pub AreShort : Texts → Type 0
-AreShort texts = length texts.puzzle + length texts.list + length texts.certificate + 1 < 2 ^ 32
+-- What a fault says of them once they were read: a front of what they give was written, or they have the fault.
+abbrev pub Stops : Request → Writing → RunFault → Texts → Type 0
+Stops request output runs.Write texts = WritesFront output (λ text. (ends : Status) × Gives request texts text ends)
+Stops request output fault texts = Fails request texts fault
 
--- The three sources were read to their ends, and this holds of the texts that came.
-abbrev pub ReadToEnds : (puzzle list certificate : Reading) → (Texts → Type 0) → Type 0
-ReadToEnds puzzle list certificate Holds =
-    (texts : Texts)
-    × ReadsWhole puzzle texts.puzzle × ReadsWhole list texts.list × ReadsWhole certificate texts.certificate
-    × Holds texts
+-- The fault comes after the documents were read: of what they say, of what is asked of them, or of writing.
+abbrev pub ComesOfTexts : RunFault → Type 0
+ComesOfTexts runs.Expand = Unit {0}
+ComesOfTexts runs.Write = Unit {0}
+ComesOfTexts fault = IsOfDocuments fault
 
--- This holds of the source of the document; the ones before it were read to their ends, and the ones after it not at
--- all.
-abbrev pub StopsAt : (puzzle list certificate : Reading) → (Reading → Type 0) → Document → Type 0
-StopsAt puzzle list certificate Holds documents.Puzzle = Holds puzzle × list.Untouched × certificate.Untouched
-StopsAt puzzle list certificate Holds documents.List = ReadsToEnd puzzle × Holds list × certificate.Untouched
-StopsAt puzzle list certificate Holds documents.Certificate =
-    ReadsToEnd puzzle × ReadsToEnd list × Holds certificate
-StopsAt puzzle list certificate Holds documents.Input = ⊥
+-- ---- what a run comes to
 
--- None of the three sources answered an error, or gave more bytes than are read.
-abbrev pub ReadWithoutFault : (puzzle list certificate : Reading) → Type 0
-ReadWithoutFault puzzle list certificate =
-    ReadsAtMost MOST_BYTES puzzle × ReadsAtMost MOST_BYTES list × ReadsAtMost MOST_BYTES certificate
+-- What a run on documents comes to, where `Hold` tells what holds of their texts.
+abbrev pub ComesTo : (Hold : (Texts → Type 0) → Type 0) → Request → Writing → Result Status RunFault → Type 0
+ComesTo Hold request output (Ok ends) = Hold (Answers request output ends)
+ComesTo Hold request output (Err fault) = ComesOfTexts fault → Hold (Stops request output fault)
 
--- What a fault says of the three sources: the one that it names answered an error, or gave more bytes than are read.
--- Want of memory hides neither.
-abbrev pub StopsReading : (puzzle list certificate : Reading) → RunFault → Type 0
-StopsReading puzzle list certificate (runs.Read of) = StopsAt puzzle list certificate (FailsToRead MOST_BYTES) of
-StopsReading puzzle list certificate (runs.TooLong of) = StopsAt puzzle list certificate (ReadsPast MOST_BYTES) of
-StopsReading puzzle list certificate runs.Memory = ReadWithoutFault puzzle list certificate
-StopsReading puzzle list certificate fault = Unit {0}
+-- What a run over sources comes to: what the texts that came give was written, or it stopped by a fault of theirs, or
+-- of reading them.
+abbrev pub RunsOver : Sources → Request → Writing → Result Status RunFault → Type 0
+RunsOver sources request output result =
+    ComesTo (ReadToEnds sources) request output result × IfErr result (StopsReading sources)
 
--- One source was read to its end, and this holds of the three texts in what came.
-abbrev pub InputReadToEnd : Reading → (Texts → Type 0) → Type 0
-InputReadToEnd source Holds = (input : List ℕ) × ReadsWhole source input × Holds (texts_in input)
+-- The request is one by which too much may be asked.
+abbrev pub IsPrinted : Request → Type 0
+IsPrinted checked = ⊥
+IsPrinted (printed printing) = Unit {0}
 
--- What a fault says of one source.
-abbrev pub StopsReadingInput : Reading → RunFault → Type 0
-StopsReadingInput source (runs.Read of) = (of ≡ documents.Input) × FailsToRead MOST_BYTES source
-StopsReadingInput source (runs.TooLong of) = (of ≡ documents.Input) × ReadsPast MOST_BYTES source
-StopsReadingInput source runs.Memory = ReadsAtMost MOST_BYTES source
-StopsReadingInput source fault = Unit {0}
+-- The fault is one of what is asked of documents: of what they say, of writing, want of memory, or that too much is
+-- asked.
+abbrev pub IsOfRequest : Request → RunFault → Type 0
+IsOfRequest request runs.Expand = IsPrinted request
+IsOfRequest request runs.Write = Unit {0}
+IsOfRequest request runs.Memory = Unit {0}
+IsOfRequest request fault = IsOfDocuments fault
 
--- The fault is one of reading this document, or want of memory.
-abbrev pub IsOfReading : RunFault → Document → Type 0
-IsOfReading (runs.Read of) document = of ≡ document
-IsOfReading (runs.TooLong of) document = of ≡ document
-IsOfReading runs.Memory document = Unit {0}
-IsOfReading fault document = ⊥
-
--- ---- lists of tiles
-
--- The words are those of the tiles, one for each class of words that turn into each other, and few enough to be listed.
-abbrev pub AreTileWords : (sides colours : ℕ) → List (List ℕ) → Type 0
-AreTileWords sides colours words = AreLeastWords sides colours words × (length words ≤ MOST_CLASSES)
-
--- What a list of tiles prints.
-abbrev pub TilesGive : (sides colours : ℕ) → (text : List ℕ) → Type 0
-TilesGive sides colours text =
-    (words : List (List ℕ)) × AreTileWords sides colours words × (text ≡ tiles_spelling words)
-
--- The fault is one of listing tiles.
-abbrev pub IsOfTiles : RunFault → Type 0
-IsOfTiles runs.Tiles = Unit {0}
-IsOfTiles runs.Write = Unit {0}
-IsOfTiles runs.Memory = Unit {0}
-IsOfTiles fault = ⊥
+-- The fault is one of a run: of reading, or of what is asked of what was read.
+abbrev pub IsOfRun : Request → RunFault → Type 0
+IsOfRun request (runs.Read document) = Unit {0}
+IsOfRun request (runs.TooLong document) = Unit {0}
+IsOfRun request fault = IsOfRequest request fault

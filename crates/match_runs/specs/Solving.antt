@@ -1,5 +1,5 @@
 -- What a solve of a puzzle makes.
-use Rattle.std.specs.Prelude.{◌≡◌, ◌⊎◌, ◌++◌, ℕ, List, [], ◌∷◌, Ok, Err, Vec, codes, length, map}
+use Rattle.std.specs.Prelude.{◌≡◌, ◌⊎◌, ◌++◌, ℕ, List, [], ◌∷◌, Ok, Vec, codes, length, map}
 use Rattle.std.specs.declared.alloc.Global.{Global}
 use Rattle.std.specs.Io.KnownBytes.{Appends}
 use Rattle.match_puzzle.specs.Puzzle.{Task}
@@ -10,16 +10,14 @@ use Rattle.cert_tree.specs.CertificateSpelling.{IsCertificateWithin, certificate
 use Rattle.cert_tree.specs.Writing.{said_by}
 use Rattle.match_report.specs.BoardText.{board_text}
 use Rattle.match_report.specs.TallyText.{tally_text}
-use Rattle.match_text.specs.declared.faults.PuzzleTextFault.TheVariants as puzzles
 use Rattle.xcc_form.specs.Options.{HasTooManyEntries}
 use Rattle.match_crew.specs.Solving.{IsSolvedBy}
 use Rattle.match_crew.specs.declared.faults.SolveFault.TheVariants as solves
 use Rattle.match_runs.specs.Runs.{IsListText, number_line}
-use Rattle.match_runs.specs.Moves.{FailsToRead, FrontOf, Reading, ReadsAtMost, ReadsPast, ReadsWhole, Writing}
-use Rattle.match_runs.specs.declared.faults.Document.TheVariants as documents
+use Rattle.match_runs.specs.Describing.{IsOfDescribing, IsOfReadText, SpellsNoPuzzle}
+use Rattle.match_runs.specs.Moves.{FrontOf, Writing}
 use Rattle.match_runs.specs.declared.faults.RunFault.{RunFault}
 use Rattle.match_runs.specs.declared.faults.RunFault.TheVariants as runs
-use Rattle.match_board.specs.declared.limits.TheConstants.{MOST_BYTES}
 use Rattle.match_runs.specs.declared.solve_runs.Made.{Made}
 
 -- the first arrangement as it lies on the board, if there is one
@@ -87,39 +85,22 @@ StopsWriting list certificate report made =
 abbrev pub products_of : Made → Products
 products_of made = record { list = made.list.items; certificate = made.certificate.items; report = made.report.items }
 
--- The source of the puzzle was read to its end, and this holds of the text that came.
-abbrev pub PuzzleReadToEnd : Reading → (List ℕ → Type 0) → Type 0
-PuzzleReadToEnd source Holds = (text : List ℕ) × ReadsWhole source text × Holds text
-
--- What a fault says of the source of the puzzle.
-abbrev pub StopsReadingPuzzle : Reading → RunFault → Type 0
-StopsReadingPuzzle source (runs.Read of) = (of ≡ documents.Puzzle) × FailsToRead MOST_BYTES source
-StopsReadingPuzzle source (runs.TooLong of) = (of ≡ documents.Puzzle) × ReadsPast MOST_BYTES source
-StopsReadingPuzzle source runs.Memory = ReadsAtMost MOST_BYTES source
-StopsReadingPuzzle source fault = Unit {0}
-
 -- The text spells no puzzle, with this fault, or one that is not solved for this reason.
 abbrev pub SolveFails : (text : List ℕ) → RunFault → Type 0
-SolveFails text (runs.Puzzle puzzles.Memory) = ⊥
-SolveFails text (runs.Puzzle fault) = PuzzleReads text (Err fault)
 SolveFails text (runs.Solve solves.TooMany) = (p : Task) × PuzzleReads text (Ok p) × HasTooManyEntries p
 SolveFails text (runs.Solve solves.Memory) = ⊥
 SolveFails text (runs.Solve fault) = (p : Task) × PuzzleReads text (Ok p)
-SolveFails text fault = Unit {0}
+SolveFails text fault = SpellsNoPuzzle text fault
 
 -- The fault is of what was read, or want of memory.
 abbrev pub IsOfMaking : RunFault → Type 0
-IsOfMaking (runs.Puzzle fault) = Unit {0}
 IsOfMaking (runs.Solve fault) = Unit {0}
-IsOfMaking runs.Memory = Unit {0}
-IsOfMaking fault = ⊥
+IsOfMaking fault = IsOfReadText fault
 
 -- The fault is one of a solve.
 abbrev pub IsOfSolving : RunFault → Type 0
-IsOfSolving (runs.Read of) = of ≡ documents.Puzzle
-IsOfSolving (runs.TooLong of) = of ≡ documents.Puzzle
-IsOfSolving runs.Write = Unit {0}
-IsOfSolving fault = IsOfMaking fault
+IsOfSolving (runs.Solve fault) = Unit {0}
+IsOfSolving fault = IsOfDescribing fault
 
 -- The fault is of what was read, and not want of memory.
 abbrev pub IsOfPuzzle : RunFault → Type 0

@@ -1,10 +1,31 @@
-//! How the program ends.
+//! How a check ends, and the program.
 
 ghost use Rattle.std.specs.Prelude.{◌≡◌};
-ghost use Rattle.match_runs.specs.Exits.{code_of, fault_exit, status_exit};
+ghost use Rattle.match_runs.specs.Exits.{code_of, fault_exit, status_exit, status_of};
 
 use crate::faults::RunFault;
-use crate::runs::Status;
+use cert_check::Answer;
+
+/// What a check found.
+#[derive(Clone, Copy, PartialEq, Eq, Debug)]
+pub enum Status {
+    /// The list is complete.
+    Complete,
+    /// The certificate does not show that it is.
+    Refused,
+}
+
+impl Status {
+    /// What an answer comes to.
+    pub(crate) fn of_answer(answer: &Answer) -> Status
+        ensures { result ≡ status_of answer.now }
+    {
+        match answer {
+            Answer::Complete => Status::Complete,
+            Answer::Refused(_) => Status::Refused,
+        }
+    }
+}
 
 /// How the program ends; each has its exit status.
 #[derive(Clone, Copy, PartialEq, Eq, Debug)]

@@ -1,30 +1,26 @@
 //! Runs that print all arrangements.
 
-ghost use Rattle.std.specs.Prelude.{◌≡◌, ◌≢◌, ◌⊎◌, ◌++◌, List, Err, IfOk, IfErr, IsErrOf, OnOk};
-ghost use Rattle.match_puzzle.specs.Puzzle.{IsPuzzle};
+ghost use Rattle.std.specs.Prelude.{◌≡◌, ◌≢◌, ◌⊎◌, ◌++◌, List, IfOk, IfErr, IsErrOf, OnOk};
 ghost use Rattle.match_puzzle.specs.declared.placements.Placement.{Placement};
 ghost use Rattle.cert_check.specs.Answer.{IsCompleteList};
-ghost use Rattle.match_report.specs.AnswerText.{HasLine, answer_line};
-ghost use Rattle.symmetry_orbits.specs.Expansion.{AreMoreReached};
-ghost use Rattle.match_runs.specs.Moves.{WritesFront, WritesWhole, reading_of, writing_of};
-ghost use Rattle.match_runs.specs.Runs.{IsOfDocuments, IsOfExpanding, IsOfPrinting};
-ghost use Rattle.match_runs.specs.Runs.{AreShort, ReadToEnds, StopsReading, texts_of};
-ghost use Rattle.match_runs.specs.Runs.{AreAllInOrder, IsCountOf, IsListText, Prints, PrintingGives, RunGives};
-ghost use Rattle.match_runs.specs.Runs.{SpellTooMany, count_text, number_line, status_of};
+ghost use Rattle.match_runs.specs.Moves.{reading_of, writing_of};
+ghost use Rattle.match_runs.specs.Runs.{AreAllInOrder, AreTooMany, IsCountOf, IsListText, Prints, count_text, number_line};
+ghost use Rattle.match_runs.specs.Runs.{ComesTo, Fails, Gives, IsOfRequest, IsOfRun, RunsOver, printed};
+ghost use Rattle.match_runs.specs.Sources.{AreShort, apart, texts_of};
 
-use crate::faults::{Document, RunFault};
+use crate::exits::Status;
+use crate::faults::RunFault;
+use crate::printed::{Printed, answer_to};
 use crate::questions::read_question;
 use crate::random_fold::RandomFold;
 use crate::repetitions::distinct_symmetries;
-use crate::runs::{Status, status_for, write_text};
 use crate::streams::documents::Documents;
-use crate::streams::readings::read_whole;
+use crate::streams::readings::read_documents;
 use crate::streams::sinks::Sink;
 use crate::streams::sources::Source;
 use cert_check::{Answer, Open, Prepared};
 use itoa::Buffer;
-use match_board::limits::{MOST_ARRANGEMENTS, MOST_BYTES};
-use match_report::{expand, write_answer};
+use match_report::expand;
 use match_text::write_list;
 use std::alloc::{AllocError, Global};
 use std::random::RandomSource;
@@ -45,7 +41,7 @@ pub enum Printing {
 /// arrangements are hashed with a secret, so that no list can be made to be dear.
 ///
 /// `Expand` where there are over 1,000,000. The other faults are those of
-/// [`run_check`](crate::runs::run_check). Where a fault other than `Write` is answered, nothing was
+/// [`run_check`](crate::check_runs::run_check). Where a fault other than `Write` is answered, nothing was
 /// written.
 pub fn run_expand<P: Source, L: Source, C: Source, W: Sink, R: RandomSource>(
     rt: &R,
@@ -55,37 +51,22 @@ pub fn run_expand<P: Source, L: Source, C: Source, W: Sink, R: RandomSource>(
     certificate: &mut C,
     writer: &mut W,
 ) -> Result<Status, RunFault>
-    // What was written is what the texts that came ask for.
-    ensures ok { IfOk result (λ status. ReadToEnds (reading_of P.Source puzzle.old puzzle.new)
-        (reading_of L.Source list.old list.new) (reading_of C.Source certificate.old certificate.new)
-        (λ texts. WritesWhole (writing_of W.Sink writer.old writer.new) (λ text. PrintingGives Printing.All texts text status))) }
-    // A fault of a document is what the texts come to.
-    ensures document { IfErr result (λ fault. IsOfDocuments fault
-        → ReadToEnds (reading_of P.Source puzzle.old puzzle.new) (reading_of L.Source list.old list.new)
-        (reading_of C.Source certificate.old certificate.new) (λ texts. RunGives texts (Err fault))) }
-    ensures expand { IsErrOf result RunFault.Expand
-        → ReadToEnds (reading_of P.Source puzzle.old puzzle.new) (reading_of L.Source list.old list.new)
-        (reading_of C.Source certificate.old certificate.new) SpellTooMany }
-    ensures fault { IfErr result IsOfExpanding }
+    // What was written is what the texts that came ask for, or a front of it where that failed; a fault of a document,
+    // or that too much is asked, is what they come to; and reading fails only where a source failed, or gave more than
+    // is read.
+    ensures run { RunsOver (apart (reading_of P.Source puzzle.old puzzle.new) (reading_of L.Source list.old list.new)
+        (reading_of C.Source certificate.old certificate.new))
+        (printed Printing.All) (writing_of W.Sink writer.old writer.new) result }
+    ensures fault { IfErr result (IsOfRun (printed Printing.All)) }
     ensures untouched { IfErr result (λ fault. fault ≢ RunFault.Write → writer.new ≡ writer.old) }
-
-    // Reading fails only where the document's source answered an error, or more bytes came than are
-    // read. The documents before it were read to their ends, and the ones after it not at all. Want of memory hides
-    // neither.
-    ensures reading { IfErr result (StopsReading (reading_of P.Source puzzle.old puzzle.new)
-        (reading_of L.Source list.old list.new) (reading_of C.Source certificate.old certificate.new)) }
-    // Writing fails only where the sink answered an error, or took nothing; then a front of the text went out.
-    ensures write { IsErrOf result RunFault.Write
-        → ReadToEnds (reading_of P.Source puzzle.old puzzle.new) (reading_of L.Source list.old list.new)
-        (reading_of C.Source certificate.old certificate.new)
-        (λ texts. WritesFront (writing_of W.Sink writer.old writer.new)
-        (λ text. (status : Status) × PrintingGives Printing.All texts text status)) }
 {
     run_printing(rt, alloc, puzzle, list, certificate, Printing::All, writer)
 }
 
-/// As [`run_expand`], and prints the list of all arrangements, or how many they are: a line `arrangements N`, and a line
-/// `orbits N`, how many where those that the certificate's symmetries take into each other count once.
+/// As [`run_expand`], and prints the list of all arrangements, or how many they are: a line `arrangements N`, and a
+/// line `orbits N`, how many where those that the certificate's symmetries take into each other count once.
+///
+/// `Expand` where over 1,000,000 are to be listed; of a count, where so many are in one orbit.
 pub fn run_printing<P: Source, L: Source, C: Source, W: Sink, R: RandomSource>(
     rt: &R,
     alloc: Global,
@@ -95,41 +76,17 @@ pub fn run_printing<P: Source, L: Source, C: Source, W: Sink, R: RandomSource>(
     printing: Printing,
     writer: &mut W,
 ) -> Result<Status, RunFault>
-    // What was written is what the texts that came ask for.
-    ensures ok { IfOk result (λ status. ReadToEnds (reading_of P.Source puzzle.old puzzle.new)
-        (reading_of L.Source list.old list.new) (reading_of C.Source certificate.old certificate.new)
-        (λ texts. WritesWhole (writing_of W.Sink writer.old writer.new) (λ text. PrintingGives printing texts text status))) }
-    // A fault of a document is what the texts come to.
-    ensures document { IfErr result (λ fault. IsOfDocuments fault
-        → ReadToEnds (reading_of P.Source puzzle.old puzzle.new) (reading_of L.Source list.old list.new)
-        (reading_of C.Source certificate.old certificate.new) (λ texts. RunGives texts (Err fault))) }
-    ensures expand { IsErrOf result RunFault.Expand
-        → ReadToEnds (reading_of P.Source puzzle.old puzzle.new) (reading_of L.Source list.old list.new)
-        (reading_of C.Source certificate.old certificate.new) SpellTooMany }
-    ensures fault { IfErr result IsOfExpanding }
+    // What was written is what the texts that came ask for, or a front of it where that failed; a fault of a document,
+    // or that too much is asked, is what they come to; and reading fails only where a source failed, or gave more than
+    // is read.
+    ensures run { RunsOver (apart (reading_of P.Source puzzle.old puzzle.new) (reading_of L.Source list.old list.new)
+        (reading_of C.Source certificate.old certificate.new))
+        (printed printing) (writing_of W.Sink writer.old writer.new) result }
+    ensures fault { IfErr result (IsOfRun (printed printing)) }
     ensures untouched { IfErr result (λ fault. fault ≢ RunFault.Write → writer.new ≡ writer.old) }
-
-    // Reading fails only where the document's source answered an error, or more bytes came than are
-    // read. The documents before it were read to their ends, and the ones after it not at all. Want of memory hides
-    // neither.
-    ensures reading { IfErr result (StopsReading (reading_of P.Source puzzle.old puzzle.new)
-        (reading_of L.Source list.old list.new) (reading_of C.Source certificate.old certificate.new)) }
-    // Writing fails only where the sink answered an error, or took nothing; then a front of the text went out.
-    ensures write { IsErrOf result RunFault.Write
-        → ReadToEnds (reading_of P.Source puzzle.old puzzle.new) (reading_of L.Source list.old list.new)
-        (reading_of C.Source certificate.old certificate.new)
-        (λ texts. WritesFront (writing_of W.Sink writer.old writer.new)
-        (λ text. (status : Status) × PrintingGives printing texts text status)) }
 {
-    let puzzle = read_whole(alloc, puzzle, MOST_BYTES, Document::Puzzle)?;
-    let list = read_whole(alloc, list, MOST_BYTES, Document::List)?;
-    let certificate = read_whole(alloc, certificate, MOST_BYTES, Document::Certificate)?;
-    let documents = Documents {
-        puzzle: &puzzle,
-        list: &list,
-        certificate: &certificate,
-    };
-    write_printing_of(rt, alloc, &documents, printing, writer)
+    let read = read_documents(alloc, puzzle, list, certificate)?;
+    write_printing_of(rt, alloc, &read.lend(), printing, writer)
 }
 
 // Writes what is printed for the documents, and nothing else.
@@ -141,42 +98,26 @@ fn write_printing_of<W: Sink, R: RandomSource>(
     writer: &mut W,
 ) -> Result<Status, RunFault>
     requires { AreShort (texts_of documents.now) }
-    ensures ok { IfOk result (λ status. WritesWhole (writing_of W.Sink writer.old writer.new)
-        (λ text. PrintingGives printing (texts_of documents.now) text status)) }
-    ensures document { IfErr result (λ fault. IsOfDocuments fault → RunGives (texts_of documents.now) (Err fault)) }
-    ensures expand { IsErrOf result RunFault.Expand → SpellTooMany (texts_of documents.now) }
-    ensures fault { IfErr result IsOfPrinting }
+    ensures run { ComesTo (λ Holds. Holds (texts_of documents.now))
+        (printed printing) (writing_of W.Sink writer.old writer.new) result }
+    ensures fault { IfErr result (IsOfRequest (printed printing)) }
     ensures untouched { IfErr result (λ fault. fault ≢ RunFault.Write → writer.new ≡ writer.old) }
-    ensures write { IsErrOf result RunFault.Write
-        → WritesFront (writing_of W.Sink writer.old writer.new)
-        (λ text. (status : Status) × PrintingGives printing (texts_of documents.now) text status) }
 {
-    let printed = make_text(rt, alloc, documents, printing)?;
-    write_text(writer, &printed.text)?;
-    Ok(printed.status)
-}
-
-// A text, and the status of the run that prints it.
-#[derive(Drop)]
-struct Printed {
-    text: Vec<u8>,
-    status: Status,
+    let printed = printing_of(rt, alloc, documents, printing)?;
+    printed.write(writer)
 }
 
 // What is printed for the documents.
-fn make_text<R: RandomSource>(
+fn printing_of<R: RandomSource>(
     rt: &R,
     alloc: Global,
     documents: &Documents<'_>,
     printing: Printing,
 ) -> Result<Printed, RunFault>
     requires { AreShort (texts_of documents.now) }
-    ensures printed { IfOk result (λ printed.
-        PrintingGives printing (texts_of documents.now) printed.text.items printed.status) }
-    ensures document { IfErr result (λ fault. IsOfDocuments fault → RunGives (texts_of documents.now) (Err fault)) }
-    ensures expand { IsErrOf result RunFault.Expand → SpellTooMany (texts_of documents.now) }
-    ensures kind { IfErr result IsOfPrinting }
-    ensures write { IfErr result (λ fault. fault ≢ RunFault.Write) }
+    ensures gives { IfOk result (λ made.
+        Gives (printed printing) (texts_of documents.now) made.text.items made.status) }
+    ensures fails { IfErr result (Fails (printed printing) (texts_of documents.now)) }
 {
     let owned = read_question(alloc, documents)?;
     let question = owned.question();
@@ -195,20 +136,6 @@ fn make_text<R: RandomSource>(
     }
 }
 
-// The line of an answer on a list of so many arrangements.
-fn answer_to(alloc: Global, answer: Answer, listed: u32) -> Result<Printed, RunFault>
-    requires { HasLine answer }
-    ensures text { IfOk result (λ printed. printed.text.items ≡ answer_line answer listed) }
-    ensures status { IfOk result (λ printed. printed.status ≡ status_of answer) }
-    ensures kind { IfErr result (λ fault. fault ≡ RunFault.Memory) }
-{
-    let text = write_answer(alloc, &answer, listed)?;
-    Ok(Printed {
-        text,
-        status: status_for(&answer),
-    })
-}
-
 // What is printed where the list is complete.
 fn complete_text<R: RandomSource>(
     rt: &R,
@@ -218,8 +145,7 @@ fn complete_text<R: RandomSource>(
 ) -> Result<Vec<u8>, RunFault>
     requires { IsCompleteList prepared.puzzle prepared.symmetries prepared.listed }
     ensures prints { IfOk result (λ text. Prints prepared.entry Answer.Complete printing text.items) }
-    ensures expand { IsErrOf result RunFault.Expand → AreMoreReached MOST_ARRANGEMENTS
-        prepared.entry.puzzle prepared.entry.symmetries prepared.entry.listed }
+    ensures expand { IsErrOf result RunFault.Expand → AreTooMany printing prepared.entry }
     ensures kind { IfErr result (λ fault. (fault ≡ RunFault.Expand) ⊎ (fault ≡ RunFault.Memory)) }
 {
     match printing {
@@ -237,8 +163,7 @@ fn counted_text<R: RandomSource>(
     requires { IsCompleteList prepared.now.puzzle prepared.now.symmetries prepared.now.listed }
     ensures count { IfOk result (λ text.
         (n : Count) × IsCountOf prepared.now n × (text.items ≡ count_text n)) }
-    ensures expand { IsErrOf result RunFault.Expand → AreMoreReached MOST_ARRANGEMENTS
-        prepared.now.puzzle prepared.now.symmetries prepared.now.listed }
+    ensures expand { IsErrOf result RunFault.Expand → AreTooMany Printing.Count prepared.now }
     ensures kind { IfErr result (λ fault. (fault ≡ RunFault.Expand) ⊎ (fault ≡ RunFault.Memory)) }
 {
     let listed = prepared.question().listed();
@@ -279,8 +204,7 @@ fn all_text<R: RandomSource>(
     requires { IsCompleteList prepared.puzzle prepared.symmetries prepared.listed }
     ensures all { IfOk result (λ text. (all : List (List Placement)) × AreAllInOrder prepared.entry all
         × IsListText all text.items) }
-    ensures expand { IsErrOf result RunFault.Expand → AreMoreReached MOST_ARRANGEMENTS
-        prepared.entry.puzzle prepared.entry.symmetries prepared.entry.listed }
+    ensures expand { IsErrOf result RunFault.Expand → AreTooMany Printing.All prepared.entry }
     ensures kind { IfErr result (λ fault. (fault ≡ RunFault.Expand) ⊎ (fault ≡ RunFault.Memory)) }
 {
     let question = prepared.question();

@@ -2,38 +2,37 @@
 //! them; and what is told of faults.
 #![tactic(auto)]
 
+mod check_runs;
+mod description_runs;
 mod exits;
 mod expansion_runs;
 mod faults;
 mod files;
 mod order_runs;
+mod printed;
 mod questions;
 mod random_fold;
 mod repetitions;
-mod runs;
-mod show_runs;
 mod solve_runs;
 mod streams;
-mod symmetry_runs;
 mod system_limits;
 mod tile_runs;
 mod word_runs;
 
-pub use exits::Exit;
+pub use check_runs::{run_check, run_joined};
+pub use description_runs::{Description, run_description};
+pub use exits::{Exit, Status};
 pub use expansion_runs::{Printing, run_expand, run_printing};
 pub use faults::{Document, RunFault, fault_text};
 pub use files::{FileSystem, System, have_different_names, make, open};
 pub use order_runs::run_order;
 pub use random_fold::RandomFold;
-pub use runs::{Status, run_check, run_joined};
-pub use show_runs::run_show;
 pub use solve_runs::run_solve;
 pub use streams::documents::{Documents, cut_joined};
 pub use streams::readings::read_whole;
 pub use streams::sinks::{Sink, write_whole};
 pub use streams::sources::{Failed, Source};
 pub use streams::systems::{Input, Output};
-pub use symmetry_runs::run_symmetries;
 pub use system_limits::SystemLimits;
 pub use tile_runs::run_tiles;
 pub use word_runs::{run_words, stopped};

@@ -1,27 +1,28 @@
 //! Runs of orders: over which files each runs, and the exit status.
 
-ghost use Rattle.std.specs.Prelude.{◌≡◌, ◌≢◌, ◌≤◌, ℕ, List, IfOk, IfErr, OnOk};
-ghost use Rattle.match_runs.specs.Files.{FilesHold, HoldsText, LeavesAll, TakesWhole};
-ghost use Rattle.match_runs.specs.Moves.{reading_of, writing_of};
-ghost use Rattle.match_runs.specs.OrderRuns.{Checks, IsOfOrder, PrintsAll, OrderGives, OrderShows};
-ghost use Rattle.match_runs.specs.OrderRuns.{ComesOfTexts, OrderStops, Solves, StopsChecking, StopsPrinting};
-ghost use Rattle.match_runs.specs.OrderRuns.{StopsReporting};
-ghost use Rattle.match_runs.specs.Runs.{IsOfChecking, IsOfExpanding, SpellCompleteList};
-ghost use Rattle.match_runs.specs.Solving.{IsOfPuzzle, IsOfSolving, SolveFails};
+ghost use Rattle.std.specs.Prelude.{◌≡◌, ◌≢◌, Err, IfOk, IfErr};
 ghost use Rattle.std.specs.String.{string_bytes};
+ghost use Rattle.match_runs.specs.Describing.{IsOfDescribing};
+ghost use Rattle.match_runs.specs.Files.{FilesHold, LeavesAll, TakesWhole};
+ghost use Rattle.match_runs.specs.Moves.{WritesWhole, reading_of, writing_of};
+ghost use Rattle.match_runs.specs.OrderRuns.{EndsBy, IsDescribed, IsOfOrder, OrderGives, OrderShows, OrderStops};
+ghost use Rattle.match_runs.specs.OrderRuns.{PuzzleHolds, Solves, StopsDescribing, StopsListing, StopsSolving};
+ghost use Rattle.match_runs.specs.Runs.{ComesTo, IsOfRun, RunsOver, SpellCompleteList, checked, printed};
+ghost use Rattle.match_runs.specs.Solving.{IsOfSolving};
+ghost use Rattle.match_runs.specs.Sources.{ReadToEnds, together};
+ghost use Rattle.match_runs.specs.Tiles.{IsOfTiles, TilesGive};
 
+use crate::check_runs::{run_check, run_joined};
+use crate::description_runs::{Description, run_description};
 use crate::exits::Exit;
 use crate::expansion_runs::{Printing, run_printing};
 use crate::faults::{Document, RunFault};
 use crate::files::{FileSystem, have_different_names, make, open};
-use crate::runs::{run_check, run_joined};
-use crate::show_runs::run_show;
 use crate::solve_runs::run_solve;
 use crate::streams::sinks::Sink;
 use crate::streams::sources::Source;
-use crate::symmetry_runs::run_symmetries;
 use crate::tile_runs::run_tiles;
-use command_words::{Depth, Files, Forks, Fuel, Order, Workers};
+use command_words::{Colours, Depth, Files, Forks, Fuel, Order, Sides, Workers};
 use std::alloc::Global;
 use std::random::RandomSource;
 use std::sync::Wait;
@@ -54,10 +55,7 @@ pub fn run_order<S: FileSystem, I: Source, W: Sink, R: Threads + Wait + Sync + R
         → OrderShows (S.holds system.now) (reading_of I.Source input.old input.new) order.now) }
 {
     match order {
-        Order::Joined => {
-            let status = run_joined(rt, alloc, input, Workers::new(1), Forks::new(0), output)?;
-            Ok(Exit::of_status(status))
-        }
+        Order::Joined => check_joined(rt, alloc, input, output),
         Order::Check {
             files,
             workers,
@@ -68,27 +66,34 @@ pub fn run_order<S: FileSystem, I: Source, W: Sink, R: Threads + Wait + Sync + R
             depth,
             fuel,
             workers,
-        } => {
-            solve(rt, alloc, files, *depth, *fuel, *workers, system, output)?;
-            Ok(Exit::Done)
-        }
+        } => solve(rt, alloc, files, *depth, *fuel, *workers, system, output),
         Order::Expand(files) => print_all(rt, alloc, files, Printing::All, system, output),
         Order::Count(files) => print_all(rt, alloc, files, Printing::Count, system, output),
-        Order::Show(puzzle) => {
-            let mut puzzle = open(system, puzzle, Document::Puzzle)?;
-            run_show(alloc, &mut puzzle, output)?;
-            Ok(Exit::Done)
-        }
+        Order::Show(puzzle) => describe(alloc, puzzle, Description::Board, system, output),
         Order::Symmetries(puzzle) => {
-            let mut puzzle = open(system, puzzle, Document::Puzzle)?;
-            run_symmetries(alloc, &mut puzzle, output)?;
-            Ok(Exit::Done)
+            describe(alloc, puzzle, Description::Symmetries, system, output)
         }
-        Order::Tiles { sides, colours } => {
-            run_tiles(alloc, *sides, *colours, output)?;
-            Ok(Exit::Done)
-        }
+        Order::Tiles { sides, colours } => list_tiles(alloc, *sides, *colours, output),
     }
+}
+
+fn check_joined<I: Source, W: Sink, R: Threads + Sync>(
+    rt: &R,
+    alloc: Global,
+    input: &mut I,
+    output: &mut W,
+) -> Result<Exit, RunFault>
+    ensures given { IfOk result (EndsBy (ReadToEnds (together (reading_of I.Source input.old input.new))) checked
+        (writing_of W.Sink output.old output.new)) }
+    ensures shown { IfOk result (λ exit. exit ≡ Exit.Done
+        → ReadToEnds (together (reading_of I.Source input.old input.new)) SpellCompleteList) }
+    ensures fault { IfErr result (IsOfRun checked) }
+    ensures stops { IfErr result (λ fault. RunsOver (together (reading_of I.Source input.old input.new)) checked
+        (writing_of W.Sink output.old output.new) (Err fault)) }
+    ensures untouched { IfErr result (λ fault. fault ≢ RunFault.Write → output.new ≡ output.old) }
+{
+    let status = run_joined(rt, alloc, input, Workers::new(1), Forks::new(0), output)?;
+    Ok(Exit::of_status(status))
 }
 
 // The files of three documents.
@@ -125,12 +130,13 @@ fn check<S: FileSystem, W: Sink, R: Threads + Sync>(
     system: &S,
     output: &mut W,
 ) -> Result<Exit, RunFault>
-    ensures given { IfOk result (λ exit.
-        FilesHold (S.holds system.now) files.now (Checks (writing_of W.Sink output.old output.new) exit)) }
-    ensures shown { IfOk result (λ exit. exit ≡ Exit.Done → FilesHold (S.holds system.now) files.now SpellCompleteList) }
-    ensures fault { IfErr result IsOfChecking }
-    ensures stops { IfErr result (λ fault. ComesOfTexts fault → FilesHold (S.holds system.now) files.now
-        (StopsChecking (writing_of W.Sink output.old output.new) fault)) }
+    ensures given { IfOk result (EndsBy (FilesHold (S.holds system.now) files.now) checked
+        (writing_of W.Sink output.old output.new)) }
+    ensures shown { IfOk result (λ exit. exit ≡ Exit.Done
+        → FilesHold (S.holds system.now) files.now SpellCompleteList) }
+    ensures fault { IfErr result (IsOfRun checked) }
+    ensures stops { IfErr result (λ fault. ComesTo (FilesHold (S.holds system.now) files.now) checked
+        (writing_of W.Sink output.old output.new) (Err fault)) }
     ensures untouched { IfErr result (λ fault. fault ≢ RunFault.Write → output.new ≡ output.old) }
 {
     let mut opened = open_all(system, files)?;
@@ -158,15 +164,14 @@ fn solve<S: FileSystem, W: Sink, R: Threads + Wait + Sync>(
     workers: Workers,
     system: &S,
     output: &mut W,
-) -> Result<(), RunFault>
-    ensures given { OnOk result ((text : List ℕ) × HoldsText (S.holds system.now (string_bytes files.now.puzzle)) text
-        × Solves (λ name. TakesWhole S.Writer.Sink (S.makes system.now name))
-        (writing_of W.Sink output.old output.new) files.now workers text) }
+) -> Result<Exit, RunFault>
+    ensures given { IfOk result (λ exit. (exit ≡ Exit.Done)
+        × PuzzleHolds (S.holds system.now (string_bytes files.now.puzzle))
+        (Solves (λ name. TakesWhole S.Writer.Sink (S.makes system.now name))
+        (writing_of W.Sink output.old output.new) files.now workers)) }
     ensures fault { IfErr result IsOfSolving }
-    ensures stops { IfErr result (λ fault. IsOfPuzzle fault → (text : List ℕ)
-        × HoldsText (S.holds system.now (string_bytes files.now.puzzle)) text × SolveFails text fault) }
-    ensures write { IfErr result (λ fault. fault ≡ RunFault.Write → StopsReporting
-        (writing_of W.Sink output.old output.new) (S.holds system.now (string_bytes files.now.puzzle)) workers) }
+    ensures stops { IfErr result (StopsSolving (writing_of W.Sink output.old output.new)
+        (S.holds system.now (string_bytes files.now.puzzle)) workers) }
     ensures untouched { IfErr result (λ fault. fault ≢ RunFault.Write → output.new ≡ output.old) }
 {
     let mut puzzle = open(system, &files.puzzle, Document::Puzzle)?;
@@ -185,7 +190,8 @@ fn solve<S: FileSystem, W: Sink, R: Threads + Wait + Sync>(
         &mut list,
         &mut certificate,
         output,
-    )
+    )?;
+    Ok(Exit::Done)
 }
 
 // As a check, and prints all arrangements, or how many they are.
@@ -197,11 +203,11 @@ fn print_all<S: FileSystem, W: Sink, R: RandomSource>(
     system: &S,
     output: &mut W,
 ) -> Result<Exit, RunFault>
-    ensures given { IfOk result (λ exit.
-        FilesHold (S.holds system.now) files.now (PrintsAll printing (writing_of W.Sink output.old output.new) exit)) }
-    ensures fault { IfErr result IsOfExpanding }
-    ensures stops { IfErr result (λ fault. ComesOfTexts fault → FilesHold (S.holds system.now) files.now
-        (StopsPrinting printing (writing_of W.Sink output.old output.new) fault)) }
+    ensures given { IfOk result (EndsBy (FilesHold (S.holds system.now) files.now) (printed printing)
+        (writing_of W.Sink output.old output.new)) }
+    ensures fault { IfErr result (IsOfRun (printed printing)) }
+    ensures stops { IfErr result (λ fault. ComesTo (FilesHold (S.holds system.now) files.now) (printed printing)
+        (writing_of W.Sink output.old output.new) (Err fault)) }
     ensures untouched { IfErr result (λ fault. fault ≢ RunFault.Write → output.new ≡ output.old) }
 {
     let mut opened = open_all(system, files)?;
@@ -215,4 +221,39 @@ fn print_all<S: FileSystem, W: Sink, R: RandomSource>(
         output,
     )?;
     Ok(Exit::of_status(status))
+}
+
+fn describe<S: FileSystem, W: Sink>(
+    alloc: Global,
+    name: &str,
+    description: Description,
+    system: &S,
+    output: &mut W,
+) -> Result<Exit, RunFault>
+    ensures given { IfOk result (λ exit. (exit ≡ Exit.Done)
+        × IsDescribed (S.holds system.now name.now) description (writing_of W.Sink output.old output.new)) }
+    ensures fault { IfErr result IsOfDescribing }
+    ensures stops { IfErr result (StopsDescribing (writing_of W.Sink output.old output.new)
+        (S.holds system.now name.now) description) }
+    ensures untouched { IfErr result (λ fault. fault ≢ RunFault.Write → output.new ≡ output.old) }
+{
+    let mut puzzle = open(system, name, Document::Puzzle)?;
+    run_description(alloc, &mut puzzle, description, output)?;
+    Ok(Exit::Done)
+}
+
+fn list_tiles<W: Sink>(
+    alloc: Global,
+    sides: Sides,
+    colours: Colours,
+    output: &mut W,
+) -> Result<Exit, RunFault>
+    ensures given { IfOk result (λ exit. (exit ≡ Exit.Done)
+        × WritesWhole (writing_of W.Sink output.old output.new) (TilesGive sides colours)) }
+    ensures fault { IfErr result IsOfTiles }
+    ensures stops { IfErr result (StopsListing (writing_of W.Sink output.old output.new) sides colours) }
+    ensures untouched { IfErr result (λ fault. fault ≢ RunFault.Write → output.new ≡ output.old) }
+{
+    run_tiles(alloc, sides, colours, output)?;
+    Ok(Exit::Done)
 }

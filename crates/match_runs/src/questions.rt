@@ -2,7 +2,8 @@
 
 ghost use Rattle.std.specs.Prelude.{◌≢◌, Err, IfOk, IfErr};
 ghost use Rattle.match_puzzle.specs.Puzzle.{IsPuzzle};
-ghost use Rattle.match_runs.specs.Runs.{AreShort, IsOfDocuments, RunGives, Spells, texts_of};
+ghost use Rattle.match_runs.specs.Runs.{RunGives, Spells};
+ghost use Rattle.match_runs.specs.Sources.{AreShort, texts_of};
 
 use crate::faults::RunFault;
 use crate::streams::documents::Documents;
@@ -56,7 +57,6 @@ pub fn read_question(alloc: Global, documents: &Documents<'_>) -> Result<OwnedQu
     ensures question { IfOk result (Spells (texts_of documents.now)) }
     ensures puzzle { IfOk result (λ q. IsPuzzle q.puzzle) }
     ensures fault { IfErr result (λ fault. fault ≢ RunFault.Memory → RunGives (texts_of documents.now) (Err fault)) }
-    ensures kind { IfErr result (λ fault. fault ≢ RunFault.Memory → IsOfDocuments fault) }
 {
     let puzzle = read_puzzle(alloc, documents.puzzle)?;
     let listed = read_list(alloc, documents.list)?;

@@ -3,17 +3,16 @@
 ghost use Rattle.std.specs.Prelude.{◌≡◌, ◌≢◌, ◌≤◌, IfOk, OnOk, OnErr, IfErr, IsErrOf, length};
 ghost use Rattle.match_text.specs.ListSpelling.{IsListWithin};
 ghost use Rattle.match_text.specs.declared.ranges.TheConstants.{SECOND};
-ghost use Rattle.match_crew.specs.Solving.{AreArrangementsOf};
+ghost use Rattle.cert_check.specs.Answer.{AreArrangements};
 ghost use Rattle.match_runs.specs.Moves.{reading_of, writing_of};
 ghost use Rattle.match_runs.specs.Solving.{Products, SolveGives, StopsWriting, WritesAll};
 ghost use Rattle.match_runs.specs.Solving.{first_board, products_of, report_text, shares_of};
-ghost use Rattle.match_runs.specs.Solving.{IsOfMaking, IsOfPuzzle, IsOfSolving, PuzzleReadToEnd, SolveFails};
-ghost use Rattle.match_runs.specs.Solving.{StopsReadingPuzzle};
+ghost use Rattle.match_runs.specs.Solving.{IsOfMaking, IsOfPuzzle, IsOfSolving, SolveFails};
+ghost use Rattle.match_runs.specs.Sources.{PuzzleReadToEnd, StopsReadingPuzzle};
 
 use crate::faults::{Document, RunFault};
-use crate::runs::write_text;
 use crate::streams::readings::read_whole;
-use crate::streams::sinks::Sink;
+use crate::streams::sinks::{Sink, write_text};
 use crate::streams::sources::Source;
 use cert_tree::{Certificate, write_certificate};
 use command_words::{Depth, Fuel, Workers};
@@ -128,7 +127,7 @@ fn report_on(
     certificate: &Certificate,
     shares: &[Taken],
 ) -> Result<Vec<u8>, AllocError>
-    requires arrangements { AreArrangementsOf puzzle.now listed.now }
+    requires arrangements { AreArrangements puzzle.now listed.now }
     requires list { IsListWithin SECOND listed.now }
     requires workers { length shares.now ≤ MOST_WORKERS }
     ensures { IfOk result (λ text. text.items
@@ -148,7 +147,7 @@ fn board_of_first(
     puzzle: &Puzzle,
     listed: &[Arrangement],
 ) -> Result<Vec<u8>, AllocError>
-    requires { AreArrangementsOf puzzle.now listed.now }
+    requires { AreArrangements puzzle.now listed.now }
     ensures { IfOk result (λ text. text.items ≡ first_board puzzle.now listed.now) }
 {
     match listed.first() {

@@ -3,11 +3,10 @@
 ghost use Rattle.std.specs.Prelude.{◌≡◌, ◌≢◌, OnOk, IfErr, IsErrOf};
 ghost use Rattle.match_board.specs.Turns.{HasMoreLeastWords};
 ghost use Rattle.match_runs.specs.Moves.{WritesFront, WritesWhole, writing_of};
-ghost use Rattle.match_runs.specs.Runs.{IsOfTiles, TilesGive};
+ghost use Rattle.match_runs.specs.Tiles.{IsOfTiles, TilesGive};
 
 use crate::faults::RunFault;
-use crate::runs::write_text;
-use crate::streams::sinks::Sink;
+use crate::streams::sinks::{Sink, write_text};
 use command_words::{Colours, Sides};
 use match_board::all_tiles;
 use match_board::limits::MOST_CLASSES;

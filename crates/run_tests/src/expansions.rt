@@ -3,6 +3,7 @@
 use crate::checks::{TRIANGLE, TWINS};
 use crate::fakes::{Fake, with_memory};
 use match_runs::{Documents, RunFault, Status, run_expand};
+use sample_puzzles::ALL_OF_TURNING_TRIANGLE;
 use std::alloc::{AllocError, Global};
 use std::io::{self, ErrorKind};
 use std::random::RandomSource;
@@ -46,10 +47,7 @@ fn prints_all_arrangements_without_a_secret(rt: HostRuntime) -> Result<(), Fail>
             TWINS,
             b"list 1\narrangements 2\n0.0 1.0\n1.0 0.0\nend\n".as_slice(),
         ),
-        (
-            TRIANGLE,
-            b"list 1\narrangements 3\n2.2 1.0 0.0 3.1\n1.2 3.0 0.2 2.1\n3.2 2.0 0.1 1.1\nend\n",
-        ),
+        (TRIANGLE, ALL_OF_TURNING_TRIANGLE),
     ] {
         let (written, status) = expansion(&NoRandomBytes, rt.alloc(), &documents)?;
         assert!(rt; status == Ok(Status::Complete));

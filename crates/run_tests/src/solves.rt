@@ -4,6 +4,7 @@ use crate::checks::{NEVER, SQUARE, TRIANGLE, TWINS, check_over};
 use crate::fakes::{Fake, with_memory};
 use command_words::{Depth, Fuel, Workers};
 use match_runs::{Document, Documents, RunFault, Status, run_expand, run_solve};
+use sample_puzzles::ALL_OF_TURNING_TRIANGLE;
 use std::alloc::Global;
 use std::random::RandomSource;
 use std::sync::Wait;
@@ -42,9 +43,6 @@ fn says_why_it_stops(rt: HostRuntime) -> Result<(), Fail> {
     Ok(())
 }
 
-const ALL_OF_TRIANGLE: &[u8] =
-    b"list 1\narrangements 3\n2.2 1.0 0.0 3.1\n1.2 3.0 0.2 2.1\n3.2 2.0 0.1 1.1\nend\n";
-
 // Whether a run that ended so wrote this text, and nothing where it wants memory. A writer that wants memory itself
 // answers an error.
 fn is_written(outcome: Result<Status, RunFault>, writer: &Fake<'_>, text: &[u8]) -> bool {
@@ -81,7 +79,7 @@ fn expands<R: RandomSource>(rt: &R, alloc: Global) -> bool {
         &mut certificate,
         &mut writer,
     );
-    is_written(outcome, &writer, ALL_OF_TRIANGLE)
+    is_written(outcome, &writer, ALL_OF_TURNING_TRIANGLE)
 }
 
 // Whether a solve does, with its three writers: what it wrote checks as complete.

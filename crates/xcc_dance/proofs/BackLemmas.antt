@@ -1,5 +1,5 @@
 -- Link arrays as they stood before several choices.
-use Rattle.std.proofs.Common.{◌≡◌, ◌<◌, ◌+◌, ◌-◌, ◌++◌, ◌∷◌, [], ℕ, suc, length, length-append, take, arith, ap, sym, ◌∙◌}
+use Rattle.std.proofs.Common.{◌≡◌, ◌<◌, ◌-◌, ◌∷◌, [], ℕ, suc, length, length-append, take, arith, ap, sym, ◌∙◌}
 use Rattle.std.proofs.lemmas.List.{length-take-le}
 use Rattle.xcc_dance.specs.Chosen.{Selection, with_option}
 use Rattle.xcc_dance.specs.LinkStates.{LinkState, selection_of, taken_back, before_last, before_any}

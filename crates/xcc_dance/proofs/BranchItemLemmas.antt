@@ -21,11 +21,11 @@ abbrev pub IsBestSoFar : (items : ℕ) → List Entry → (trail sizes : List �
 IsBestSoFar items entries trail sizes root first None fewest node = IsWalking items entries trail root (λ _. ⊥) node
 IsBestSoFar items entries trail sizes root first (Some best) fewest node = IsBest items entries trail sizes root first best fewest node
 
-module _ (x : Compiled) (t : NodeTable) (a : LinkArrays) (marks chosen : List ℕ) (h : AreLinksOf x t a marks chosen) where
+module _ {x : Compiled} {t : NodeTable} {a : LinkArrays} {marks chosen : List ℕ} (h : AreLinksOf x t a marks chosen) where
   abbrev SoFar : (first : ℕ) → Option ℕ → (fewest node : ℕ) → Type 0
   SoFar first best fewest node = IsBestSoFar t.items t.entries.items a.trail.items a.sizes.items (t.items - 1) first best fewest node
 
-  is_root : (t.items - 1) + 1 ≡ t.items
+  pub is_root : (t.items - 1) + 1 ≡ t.items
   is_root = let s = h.table.table.some in omega (arith, s)
 
   right : AreRight t.items t.entries.items t.starts.items a.links.items a.sizes.items a.trail.items

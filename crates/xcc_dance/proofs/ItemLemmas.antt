@@ -1,14 +1,14 @@
 -- Which items options have, and when they clash.
-use Rattle.std.proofs.Common.{◌≡◌, ◌⊎◌, ◌+◌, ℕ, zero, suc, List, [], ◌∷◌, Some, Contains, slice_get, map, arith, refl, ap, inl, inr, sym, ◌∙◌, subst, ⊎_elim}
+use Rattle.std.proofs.Common.{◌≡◌, ◌⊎◌, ◌+◌, ℕ, zero, suc, List, [], ◌∷◌, Some, Contains, slice_get, map, arith, ap, inl, inr, sym, ◌∙◌, subst, ⊎_elim}
 use Rattle.std.proofs.lemmas.Option.{none-some}
 use Rattle.match_board.specs.Board.{cell_count}
 use Rattle.match_puzzle.specs.declared.placements.Pair.{Pair}
 use Rattle.match_puzzle.proofs.Prefixes.{inside}
-use Rattle.xcc_form.specs.ExactCover.{ItemSet, HasPrimary, HasColour}
+use Rattle.xcc_form.specs.ExactCover.{HasPrimary, HasColour}
 use Rattle.xcc_form.specs.Options.{Choice, Compiled, IsCompiled, items_of, cover_of}
 use Rattle.xcc_form.specs.Correspondence.{IsPairOf}
 use Rattle.xcc_form.specs.declared.edges.Edge.{Edge}
-use Rattle.xcc_form.proofs.OptionLemmas.{option_pair, one_pair, of_map, primary_of, has_cell, has_tile}
+use Rattle.xcc_form.proofs.OptionLemmas.{option_pair, one_pair, primary_of, has_cell, has_tile}
 use Rattle.xcc_dance.specs.Clashes.{Clash, ShareAnItem}
 
 pub to_map : {X Y : Type 0} (f : X → Y) (xs : List X) (i : ℕ) (x : X) → slice_get xs i ≡ Some x → slice_get (map f xs) i ≡ Some (f x)

@@ -32,3 +32,4 @@ pub mod BranchItemLemmas
 pub mod NodeWords
 pub mod MakingWords
 pub mod NothingChosenLemmas
+pub mod FollowingLemmas

@@ -1,10 +1,9 @@
 -- Partial solutions with one option more, and with fewer.
-use Rattle.std.proofs.Common.{◌≡◌, ◌⊎◌, ◌<◌, ◌++◌, ◌∷◌, [], ℕ, zero, suc, List, Some, length, slice_get, take, arith, inl, inr, sym, subst, ⊎_elim, refl}
+use Rattle.std.proofs.Common.{◌≡◌, ◌⊎◌, ◌<◌, ◌++◌, ◌∷◌, [], ℕ, zero, suc, List, Some, length, slice_get, arith, inl, inr, sym, subst, ⊎_elim, refl}
 use Rattle.std.proofs.lemmas.List.Elements.{Contains-push_cases}
 use Rattle.std.proofs.lemmas.Option.{slice_get_within, none-some}
 use Rattle.match_puzzle.proofs.Prefixes.{inside}
-use Rattle.match_puzzle.proofs.PairLemmas.{taken_at}
-use Rattle.xcc_form.proofs.OptionLemmas.{contains_at, place_of}
+use Rattle.xcc_form.proofs.OptionLemmas.{contains_at}
 use Rattle.xcc_form.specs.ExactCover.{Cover}
 use Rattle.xcc_dance.specs.Clashes.{Clash, IsOpen, IsPartialSolution}
 

@@ -11,7 +11,6 @@ ghost use Rattle.xcc_dance.specs.LinkStates.{selection_of, taken_back};
 
 mod arrays;
 mod committing;
-mod making;
 mod tables;
 
 use arrays::LinkArrays;

@@ -17,12 +17,12 @@ use xcc_form::Xcc;
 
 // Chosen options with their pairs, in the order of choosing. It is seen as the link arrays.
 #[derive(Drop)]
-pub(crate) struct Path<'a> {
+pub(crate) struct SearchPath<'a> {
     links: Links<'a>,
     pairs: Vec<Pair>,
 }
 
-impl<'a> Model for Path<'a> {
+impl<'a> Model for SearchPath<'a> {
     ghost use Rattle.xcc_dance.specs.LinkStates.{LinkState};
     ghost use Rattle.xcc_dance.specs.Placing.{ArePairsOf};
 
@@ -33,14 +33,14 @@ impl<'a> Model for Path<'a> {
     ghost invariant = { λ p. ArePairsOf p.links.compiled p.links.chosen p.pairs.items };
 }
 
-impl<'a> Path<'a> {
+impl<'a> SearchPath<'a> {
     // Nothing is chosen yet.
-    pub(crate) fn new(alloc: Global, xcc: &'a Xcc<'a>) -> Result<Path<'a>, AllocError>
+    pub(crate) fn new(alloc: Global, xcc: &'a Xcc<'a>) -> Result<SearchPath<'a>, AllocError>
         ensures { IfOk result (λ p. selection_of p ≡ record { compiled = xcc.now; chosen = [] }) }
     {
         let links = Links::new(alloc, xcc)?;
         let pairs = Vec::with_capacity(alloc, usize::from(links.cells()))?;
-        Ok(Path { links, pairs })
+        Ok(SearchPath { links, pairs })
     }
 
     // What is chosen, and what is open beside it.

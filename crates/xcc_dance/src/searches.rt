@@ -11,7 +11,7 @@ use crate::chooses::{Chooses, FewestOptions};
 use crate::cites::Cites;
 use crate::faults::SearchFault;
 use crate::links::links_with_nothing_chosen_are_one;
-use crate::paths::Path;
+use crate::paths::SearchPath;
 use crate::progress::Progress;
 use crate::searching::walk;
 use cert_tree::Node;
@@ -38,7 +38,7 @@ pub enum Outcome {
 #[derive(Drop)]
 pub struct Search<'a> {
     alloc: Global,
-    path: Path<'a>,
+    path: SearchPath<'a>,
     branches: u32,
     failed: bool,
 }
@@ -64,7 +64,7 @@ impl<'a> Search<'a> {
     {
         Ok(Search {
             alloc,
-            path: Path::new(alloc, xcc)?,
+            path: SearchPath::new(alloc, xcc)?,
             branches: 0,
             failed: false,
         })

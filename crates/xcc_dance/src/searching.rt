@@ -14,7 +14,7 @@ ghost use Rattle.xcc_dance.specs.Unfinished.{IsNotCited, IsUnfinished, AreUnfini
 
 use crate::chooses::Chooses;
 use crate::cites::{Cite, Cites};
-use crate::paths::Path;
+use crate::paths::SearchPath;
 use crate::progress::Progress;
 use cert_tree::{Children, Node};
 use match_board::limits::{MOST_CELLS, MOST_CHILDREN};
@@ -24,7 +24,7 @@ use std::alloc::{AllocError, Global};
 #[cycle(walk)]
 pub(crate) fn walk<R: Chooses, C: Cites>(
     alloc: Global,
-    path: &mut Path<'_>,
+    path: &mut SearchPath<'_>,
     rule: &R,
     cites: &mut C,
     progress: &mut Progress,
@@ -65,7 +65,7 @@ pub(crate) fn walk<R: Chooses, C: Cites>(
 #[cycle(walk)]
 fn walk_options<R: Chooses, C: Cites>(
     alloc: Global,
-    path: &mut Path<'_>,
+    path: &mut SearchPath<'_>,
     item: u32,
     rule: &R,
     cites: &mut C,
@@ -103,7 +103,7 @@ fn walk_options<R: Chooses, C: Cites>(
 #[cycle(walk)]
 fn child<R: Chooses, C: Cites>(
     alloc: Global,
-    path: &mut Path<'_>,
+    path: &mut SearchPath<'_>,
     rule: &R,
     cites: &mut C,
     progress: &mut Progress,

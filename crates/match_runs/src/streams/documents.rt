@@ -1,7 +1,8 @@
-//! An input cut into its documents.
+//! The texts of three documents, and an input cut into them.
 
 ghost use Rattle.std.specs.Prelude.{◌≡◌, ◌==◌, ◌≤◌, ◌++◌, ◌∷◌, All, false, length, take, drop, IfSome, IfNone};
 ghost use Rattle.match_runs.specs.Documents.{cut_document, first_of, second_of, third_of};
+ghost use Rattle.match_runs.specs.Sources.{owned_texts, texts_of};
 
 use memchr::memchr;
 
@@ -11,6 +12,27 @@ pub struct Documents<'a> {
     pub puzzle: &'a [u8],
     pub list: &'a [u8],
     pub certificate: &'a [u8],
+}
+
+/// The texts of three documents that were read.
+#[derive(Drop)]
+pub struct OwnedDocuments {
+    pub puzzle: Vec<u8>,
+    pub list: Vec<u8>,
+    pub certificate: Vec<u8>,
+}
+
+impl OwnedDocuments {
+    /// The documents, lent.
+    pub fn lend(&self) -> Documents<'_>
+        ensures { texts_of result ≡ owned_texts self.now }
+    {
+        Documents {
+            puzzle: &self.puzzle,
+            list: &self.list,
+            certificate: &self.certificate,
+        }
+    }
 }
 
 // The first line, and what stands after its LF.

@@ -1,11 +1,12 @@
 //! Where bytes go.
 
 ghost use Rattle.std.specs.Prelude.{◌≡◌, ◌≤◌, ◌<◌, ◌↔◌, ◌⊎◌};
-ghost use Rattle.std.specs.Prelude.{ℕ, Bool, List, Option, true, false, length, take, IfOk, OnOk, OnErr};
+ghost use Rattle.std.specs.Prelude.{ℕ, Bool, List, Option, true, false, length, take, IfOk, IfErr, OnOk, OnErr};
 ghost use Rattle.std.specs.Io.KnownBytes.{Appends, Keeps};
 ghost use Rattle.match_runs.specs.Streams.{AppendsFront, one_more};
 
 use super::sources::Failed;
+use crate::faults::RunFault;
 
 /// Where bytes go.
 pub trait Sink {
@@ -45,4 +46,17 @@ pub fn write_whole<W: Sink>(writer: &mut W, text: &[u8]) -> Result<(), Failed>
         }
     }
     Ok(())
+}
+
+/// As [`write_whole`], of a text that a run writes: `Write` where that fails.
+pub(crate) fn write_text<W: Sink>(writer: &mut W, text: &[u8]) -> Result<(), RunFault>
+    ensures whole { OnOk result (Appends (W.written writer.old) (W.written writer.new) text.now) }
+    ensures front { OnErr result (AppendsFront (W.written writer.old) (W.written writer.new) text.now
+        × ((W.errors writer.new ≡ one_more (W.errors writer.old)) ⊎ (W.idle writer.new ≡ true))) }
+    ensures fault { IfErr result (λ fault. fault ≡ RunFault.Write) }
+{
+    match write_whole(writer, text) {
+        Ok(()) => Ok(()),
+        Err(_) => Err(RunFault::Write),
+    }
 }

@@ -8,7 +8,7 @@ ghost use Rattle.xcc_dance.specs.Rings.{Inside, unlinked, relinked, fewer_at, mo
 ghost use Rattle.xcc_dance.specs.Trails.{back};
 
 use crate::links::tables::NodeTable;
-use std::alloc::AllocError;
+use std::alloc::{AllocError, Global};
 
 /// The neighbours of a node in the list of its item, which goes round. A node that is taken out keeps them, so that it
 /// can be put back between them.
@@ -27,6 +27,41 @@ pub(crate) struct LinkArrays {
 }
 
 impl LinkArrays {
+    /// Nothing is hidden: the nodes of all options stand in their lists.
+    ///
+    /// An error where memory is refused. The trail has room for each option once.
+    pub(crate) fn new(alloc: Global, table: &NodeTable) -> Result<LinkArrays, AllocError>
+        requires table { IsTable table.now }
+        ensures trail { IfOk result (λ t. t.trail.items ≡ []) }
+        ensures right { IfOk result (ListTheOpen table.now) }
+    {
+        let nodes = table.entries.len() as u32;
+        let mut links = Vec::with_capacity(alloc, nodes as usize)?;
+        for node in 0..nodes {
+            links.push(Link {
+                up: node,
+                down: node,
+            })?;
+        }
+        let sizes = vec![in alloc; 0; table.items as usize]?;
+        let trail = Vec::with_capacity(alloc, table.starts.len())?;
+        let mut arrays = LinkArrays {
+            links,
+            sizes,
+            trail,
+        };
+        for node in table.items..nodes {
+            let item = table.entries[node as usize].item;
+            let last = arrays.links[item as usize].up;
+            arrays.links[node as usize] = Link {
+                up: last,
+                down: item,
+            };
+            arrays.relink(table, node);
+        }
+        Ok(arrays)
+    }
+
     // Takes a node out of its item's list.
     fn unlink(&mut self, table: &NodeTable, node: u32)
         requires node { node < length self.old.links.items }
@@ -53,8 +88,8 @@ impl LinkArrays {
         self.sizes[item] -= 1;
     }
 
-    /// Puts a node back between its neighbours.
-    pub(crate) fn relink(&mut self, table: &NodeTable, node: u32)
+    // Puts a node back between its neighbours.
+    fn relink(&mut self, table: &NodeTable, node: u32)
         requires node { node < length self.old.links.items }
         requires entry { node < length table.now.entries.items }
         requires inside { Inside self.old.links.items }

@@ -1,12 +1,9 @@
-use Rattle.std.proofs.Common.{◌≡◌, List, Some, slice_get, sym, subst}
-use Rattle.match_puzzle.specs.PrefixFaults.{IsPairList}
+use Rattle.std.proofs.Common.{◌≡◌, List, Some, slice_get, subst}
 use Rattle.cert_tree.specs.Certificate.{Piece, flat_piece}
-use Rattle.cert_check.specs.Setting.{Setting}
 use Rattle.cert_check.proofs.forks.forked_tree_fault.Goals as goal
 
 -- the lemma begins with a prefix of the puzzle
-pub forked_lemma_fault-requires-after_bounds : goal.forked_lemma_fault-requires-after_bounds
-forked_lemma_fault-requires-after_bounds g c κs within =
+pub of-requires : goal.of-requires
+of-requires g c =
     let lemma = flat_piece c.at-lemma.result in
-    let at = subst (λ (ls : List Piece). slice_get ls c.args.lemma ≡ Some lemma) c.lemmas.ensures.lemmas c.at-lemma.ensures in
-    subst (λ (s : Setting). IsPairList s.puzzle lemma.prefix) (sym c.new-setting.ensures) (c.requires.prefixes c.args.lemma lemma at)
+    c.requires.prefixes c.args.lemma lemma (subst (λ (ls : List Piece). slice_get ls c.args.lemma ≡ Some lemma) c.lemmas.ensures.lemmas c.at-lemma.ensures)

@@ -1,5 +1,4 @@
 use Rattle.std.proofs.Common.{◌≡◌, ◌<◌, ◌≤◌, ◌+◌, ◌-◌, ℕ, suc, List, None, MatchBool, ◌≢◌, arith, ap, sym, ◌∙◌, refl, subst}
-use Rattle.match_board.specs.First.{IsFirst}
 use Rattle.match_puzzle.specs.Puzzle.{Task}
 use Rattle.match_puzzle.specs.Prefix.{Layout}
 use Rattle.match_puzzle.specs.declared.placements.Pair.{Pair}
@@ -7,20 +6,14 @@ use Rattle.cert_tree.specs.Tree.{branch, count, more}
 use Rattle.cert_tree.specs.Heads.{first, front, past}
 use Rattle.cert_tree.proofs.HeadLemmas.{count-front, front_first, past_first, count_first}
 use Rattle.cert_check.specs.NodeRules.{IsBranch}
-use Rattle.cert_check.specs.TreeFaults.{BranchFails, node_rank}
 use Rattle.cert_check.specs.Walk.{Tells}
-use Rattle.cert_check.proofs.WalkLemmas.{Going, going_start, going_on, going_done, some_left, Turn, turn_placed, turn_fewer, turn_said, still_some, turn_has, turn_lifted, turn_more}
+use Rattle.cert_check.proofs.WalkLemmas.{branch_told, Going, going_start, going_on, going_done, some_left, Turn, turn_placed, turn_fewer, turn_said, still_some, turn_has, turn_lifted, turn_more}
 use Rattle.cert_check.proofs.walks.+walk.Goals as goal
 use Rattle.cert_check.proofs.walks.+walk.Goals.{walk_branch-In-Some-take_first}
 
 pub walk_branch-returns-in-Some-clause-tells : goal.walk_branch-returns-in-Some-clause-tells
 walk_branch-returns-in-Some-clause-tells t c =
-    let s = c.args.setting.now in
-    let q = c.args.partial.now.placed in
-    let trees = front c.args.children c.args.trees.now in
-    let many = count-front c.args.children c.args.trees.now c.requires.counted in
-    let fails = subst (λ (p : Task). IsFirst node_rank (BranchFails p q c.args.item c.args.children) c.in-Some.of_node) c.requires.made c.in-Some.ensures.fault in
-    subst (Tells s (branch c.args.item trees) q) (sym c.at_top.ensures.fault) (subst (λ n. IsFirst node_rank (BranchFails s.puzzle q c.args.item n) c.in-Some.of_node) (sym many) fails)
+    branch_told c.args.setting.now c.args.partial.now c.args.item c.args.children c.args.trees.now c.in-Some.of_node _ c.requires.made c.requires.counted c.in-Some.ensures.fault c.at_top.ensures.fault
 
 pub walk_branch-loop-number-init : goal.walk_branch-loop-number-init
 walk_branch-loop-number-init t c =
@@ -75,8 +68,8 @@ walk_branch-walk-requires t c =
     let l = c.loop-number in
     let n = c.args.children in
     let turn = turn_here t (goal.at.walk_branch-walk-requires t c).In-Some-take_first in
-    let fewer = turn_fewer _ _ _ _ _ _ _ _ _ _ turn c.place.new.self c.place.ensures in
-    let placed = turn_placed _ _ _ _ _ _ _ _ _ _ turn c.place.new.self c.place.ensures in
+    let fewer = turn_fewer turn c.place.new.self c.place.ensures in
+    let placed = turn_placed turn c.place.new.self c.place.ensures in
     let some : 0 < n - l.number = let below = c.loop-number-test.true in omega arith in
     (omega (arith, c.decreases, fewer), (ap (λ (u : Layout). u.puzzle) placed ∙ c.requires.made, (some_left (n - l.number) l.trees some l.invariant.counted, l.invariant.no_fault)))
 
@@ -91,7 +84,7 @@ walk_branch-returns-then-not-branch-clause-tells t c =
     let turn = turn_here t (goal.at.walk_branch-returns-then-not-branch-clause-tells t c).In-Some-take_first in
     let said = c.walk.new.fault in
     let some = subst (λ b. MatchBool b (said ≡ None) (said ≢ None)) c.if-not-branch.true c.in_ok-walk.ensures.holds in
-    turn_said _ _ _ _ _ _ _ _ _ _ turn c.place.new.self c.place.ensures said c.put_below.new.fault some c.in_ok-walk.ensures.tells c.in_ok-put_below.ensures
+    turn_said turn c.place.new.self c.place.ensures said c.put_below.new.fault some c.in_ok-walk.ensures.tells c.in_ok-put_below.ensures
 
 pub walk_branch-returns-clause-holds : goal.walk_branch-returns-clause-holds
 walk_branch-returns-clause-holds t c = c.loop-number.invariant.no_fault
@@ -111,7 +104,7 @@ walk_branch-lift-requires t c =
     let turn = turn_here t (goal.at.walk_branch-lift-requires t c).In-Some-take_first in
     let said = c.walk.new.fault in
     let none = subst (λ b. MatchBool b (said ≡ None) (said ≢ None)) c.if-not-branch.false c.in_ok-walk.ensures.holds in
-    (c.in-Some-take_first.pair.placement, turn_has _ _ _ _ _ _ _ _ _ _ turn c.place.new.self c.place.ensures c.walk.new.partial (c.in_ok-walk.ensures.restored none))
+    (c.in-Some-take_first.pair.placement, turn_has turn c.place.new.self c.place.ensures c.walk.new.partial (c.in_ok-walk.ensures.restored none))
 
 pub walk_branch-loop-number-preserved : goal.walk_branch-loop-number-preserved
 walk_branch-loop-number-preserved t c =
@@ -130,8 +123,8 @@ walk_branch-loop-number-preserved t c =
     let holds = subst (Tells s child c.place.new.self.placed) none c.in_ok-walk.ensures.tells in
     let gone = c.in_ok-walk.ensures.past none in
     record {
-      partial = turn_lifted _ _ _ _ _ _ _ _ _ _ turn c.place.new.self c.place.ensures c.walk.new.partial restored c.lift.new.self c.lift.ensures;
-      going = subst (λ trees. Going s c.args.item w.placed all (i + 1) (front (n - (i + 1)) trees) c.take_first.new.self) (sym gone) (turn_more _ _ _ _ _ _ _ _ _ _ turn c.place.new.self c.place.ensures c.walk.new.partial restored holds);
+      partial = turn_lifted turn c.place.new.self c.place.ensures c.walk.new.partial restored c.lift.new.self c.lift.ensures;
+      going = subst (λ trees. Going s c.args.item w.placed all (i + 1) (front (n - (i + 1)) trees) c.take_first.new.self) (sym gone) (turn_more turn c.place.new.self c.place.ensures c.walk.new.partial restored holds);
       no_fault = none;
       past = ap (past (n - (i + 1))) gone ∙ sym (past_first (n - i) (n - (i + 1)) l.trees fewer l.invariant.counted) ∙ l.invariant.past;
       counted = subst (λ trees. n - (i + 1) ≤ count trees) (sym gone) (count_first (n - i) (n - (i + 1)) l.trees fewer l.invariant.counted);

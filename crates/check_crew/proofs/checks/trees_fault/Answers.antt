@@ -1,6 +1,5 @@
 use Rattle.std.proofs.Common.{◌≡◌, ◌∙◌, List, length, sym, ap, subst, vec_len}
 use Rattle.rayon.proofs.ListFacts.{IfOk-then}
-use Rattle.cert_tree.specs.Certificate.{Contents}
 use Rattle.cert_check.specs.Setting.{Question}
 use Rattle.check_crew.specs.Jobs.{Finding, IsFirstFound}
 use Rattle.check_crew.proofs.FindingLemmas.{tells_trees}
@@ -12,6 +11,6 @@ returns g c =
     let findings = c.in_ok-crew.crew.results.items in
     let n : vec_len c.in_ok-crew.crew.results ≡ length findings = c.in_ok-crew.crew.results.ok.0 in
     let long : length findings ≡ length question.lemmas = sym n ∙ c.in_ok-crew.ensures.results.0 ∙ c.len-count.ensures
-    ∙ ap length (c.lemmas.ensures.lemmas ∙ ap (λ (k : Contents). k.lemmas) c.certificate.ensures ∙ ap (λ (q : Question). q.lemmas) c.question.ensures.question) in
+    ∙ ap length (c.lemmas.ensures.lemmas ∙ ap (λ (q : Question). q.lemmas) c.question.ensures.question) in
     IfOk-then c.first_found.result _ _ c.first_found.ensures (λ said first.
     tells_trees question findings long c.in_ok-crew.ensures.results.1 said (subst (λ (fs : List Finding). IsFirstFound fs said) c.results.ensures first))

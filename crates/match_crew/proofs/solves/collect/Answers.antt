@@ -6,7 +6,9 @@ use Rattle.match_puzzle.specs.declared.placements.Placement.{Placement}
 use Rattle.match_board.specs.declared.limits.TheConstants.{MOST_ARRANGEMENTS}
 use Rattle.steal_crew.proofs.QueueRuleLemmas.{all_more}
 use Rattle.piece_desk.specs.Desks.{IsOf}
-use Rattle.match_crew.specs.Solving.{AreArrangementsOf, IsOutcomeOf}
+use Rattle.cert_check.specs.Answer.{AreArrangements}
+use Rattle.cert_check.proofs.ListLemmas.{contains_at, place_of}
+use Rattle.match_crew.specs.Solving.{IsOutcomeOf}
 use Rattle.match_crew.proofs.solves.collect.Goals as goal
 
 pub receipt_of-requires : goal.receipt_of-requires
@@ -19,8 +21,11 @@ one_more a b x n m k rest rest' y is an bn steps even =
     let l : length b ≡ length a + 1 = ap length is ∙ length-append a (x ∷ []) in let r : length rest ≡ suc (length rest') = ap length steps in omega arith
 
 -- arrangements and more of them
-both_are : (p : Task) (xs ys zs : List (List Placement)) → zs ≡ xs ++ ys → AreArrangementsOf p xs → AreArrangementsOf p ys → AreArrangementsOf p zs
-both_are p xs ys zs is one two a has = ⊎_elim (λ h. one a h) (λ h. two a h) (Contains-append_cases xs ys a (subst (λ (l : List (List Placement)). Contains l a) is has))
+both_are : (p : Task) (xs ys zs : List (List Placement)) → zs ≡ xs ++ ys → AreArrangements p xs → AreArrangements p ys → AreArrangements p zs
+both_are p xs ys zs is one two number a at = ⊎_elim
+    (λ h. let w = place_of xs a h in one w.0 a w.1)
+    (λ h. let w = place_of ys a h in two w.0 a w.1)
+    (Contains-append_cases xs ys a (subst (λ (l : List (List Placement)). Contains l a) is (contains_at zs number a at)))
 
 pub loop-searched-preserved : goal.loop-searched-preserved
 loop-searched-preserved c =

@@ -1,7 +1,8 @@
 use Rattle.std.proofs.Common.{◌≡◌, ◌+◌, ◌≤◌, All, length, vec_len}
 use Rattle.match_board.specs.declared.limits.TheConstants.{MOST_ARRANGEMENTS}
 use Rattle.piece_desk.specs.Desks.{IsOf}
-use Rattle.match_crew.specs.Solving.{AreArrangementsOf, IsOutcomeOf}
+use Rattle.cert_check.specs.Answer.{AreArrangements}
+use Rattle.match_crew.specs.Solving.{IsOutcomeOf}
 use Rattle.match_crew.proofs.solves.collect.Given as goal
 
 abbrev pub invariant-loop-searched : goal.invariant-loop-searched
@@ -10,6 +11,6 @@ invariant-loop-searched l = record {
   receipts : All (λ receipt. IsOf l._desk receipt) l.collected.receipts.items;
   many : vec_len l.collected.first + length l.searched-iterator.rest.items ≡ length l.fn.results.items;
   first : All (λ n. n ≤ MOST_ARRANGEMENTS) l.collected.first.items;
-  listed : AreArrangementsOf l._puzzle l.collected.listed.items;
+  listed : AreArrangements l._puzzle l.collected.listed.items;
   few : vec_len l.collected.listed ≤ MOST_ARRANGEMENTS;
 }

@@ -1,4 +1,4 @@
-use Rattle.std.proofs.Common.{◌≡◌, ◌∙◌, List, [], ap, map, sym, subst}
+use Rattle.std.proofs.Common.{◌≡◌, ◌∙◌, List, [], ap, sym, subst}
 use Rattle.std.proofs.lemmas.Result.{err_from_is_err_and}
 use Rattle.match_board.specs.declared.limits.TheConstants.{MOST_ARRANGEMENTS}
 use Rattle.match_puzzle.specs.declared.placements.Placement.{Placement}
@@ -6,7 +6,7 @@ use Rattle.puzzle_symmetry.specs.Motion.{Motion}
 use Rattle.match_text.specs.ListSpelling.{IsListWithin}
 use Rattle.match_text.specs.declared.ranges.TheConstants.{SECOND}
 use Rattle.cert_check.specs.Answer.{IsCompleteList}
-use Rattle.cert_check.specs.Setting.{Question, motion_of, motions_of}
+use Rattle.cert_check.specs.Setting.{Question, motions_of}
 use Rattle.symmetry_orbits.specs.Closure.{AddsEach}
 use Rattle.symmetry_orbits.specs.Expansion.{AreMoreReached, IsExpansion, Takes}
 use Rattle.match_runs.specs.Runs.{AreAllInOrder, IsListText}

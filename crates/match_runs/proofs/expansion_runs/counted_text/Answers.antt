@@ -7,8 +7,8 @@ use Rattle.puzzle_symmetry.specs.declared.lines.SymmetryLine.{SymmetryLine}
 use Rattle.cert_check.specs.Answer.{IsCompleteList}
 use Rattle.cert_check.specs.Setting.{Question, line_of, motions_of}
 use Rattle.cert_check.proofs.CheckLemmas.{lines_of}
-use Rattle.symmetry_orbits.specs.Expansion.{AreMoreReached, AreOf}
-use Rattle.symmetry_orbits.specs.Orbits.{IsCount}
+use Rattle.symmetry_orbits.specs.Expansion.{AreOf}
+use Rattle.symmetry_orbits.specs.Orbits.{AreMoreListedOrInOrbit, IsCount}
 use Rattle.match_runs.proofs.RunLemmas.{all_are, expand_fails}
 use Rattle.match_runs.proofs.expansion_runs.counted_text.Goals.{After-new}
 use Rattle.match_runs.proofs.expansion_runs.counted_text.Goals as goal
@@ -49,8 +49,8 @@ returns-in_err-counted-clause-expand g c =
     rw (w.1, w.2)
     (λ e.
     let more = c.in_err-counted.ensures.too_many (expand_fails e) q.puzzle (are g at) in
-    subst (AreMoreReached MOST_ARRANGEMENTS q.puzzle q.symmetries) (listed_is g at)
-    (subst (λ (lines : List SymmetryLine). AreMoreReached MOST_ARRANGEMENTS q.puzzle lines c.listed-listed.result.now) (lines_are g at) more))
+    subst (AreMoreListedOrInOrbit MOST_ARRANGEMENTS q.puzzle q.symmetries) (listed_is g at)
+    (subst (λ (lines : List SymmetryLine). AreMoreListedOrInOrbit MOST_ARRANGEMENTS q.puzzle lines c.listed-listed.result.now) (lines_are g at) more))
 
 pub returns-clause-count : goal.returns-clause-count
 returns-clause-count g c =

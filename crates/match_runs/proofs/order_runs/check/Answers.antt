@@ -1,25 +1,22 @@
-use Rattle.std.proofs.Common.{Err, ap, ◌∙◌, sym}
+use Rattle.std.proofs.Common.{◌∙◌, sym}
 use Rattle.std.proofs.lemmas.Result.{err_from_is_err_and}
-use Rattle.match_runs.specs.Files.{FilesHold}
-use Rattle.match_runs.specs.Moves.{writing_of}
-use Rattle.match_runs.proofs.OrderLemmas.{done_complete, holds_text, stops_checking}
+use Rattle.match_runs.proofs.OrderLemmas.{done_complete, holds_text}
 use Rattle.match_runs.proofs.order_runs.check.Goals as goal
+
+pub returns-clause-given : goal.returns-clause-given
+returns-clause-given g c =
+    let t = c.in_ok-status.ensures.run.0 in
+    let opened = c.in_ok-opened.ensures in
+    (c.in_ok-status.status, (t.0, holds_text _ _ _ _ _ opened.puzzle t.1.0, holds_text _ _ _ _ _ opened.list t.1.1, holds_text _ _ _ _ _ opened.certificate t.1.2, t.2), c.of_status.ensures)
 
 pub returns-clause-shown : goal.returns-clause-shown
 returns-clause-shown g c = λ done.
     let t = c.in_ok-status.ensures.complete (done_complete c.in_ok-status.status (sym c.of_status.ensures ∙ done)) in
     let opened = c.in_ok-opened.ensures in
-    (t.0, holds_text _ _ _ _ _ opened.puzzle t.1, holds_text _ _ _ _ _ opened.list t.2, holds_text _ _ _ _ _ opened.certificate t.3, t.4)
+    (t.0, holds_text _ _ _ _ _ opened.puzzle t.1.0, holds_text _ _ _ _ _ opened.list t.1.1, holds_text _ _ _ _ _ opened.certificate t.1.2, t.2)
 
 pub returns-in_err-status-clause-stops : goal.returns-in_err-status-clause-stops
 returns-in_err-status-clause-stops g c =
     let w = err_from_is_err_and c.from_residual-in_err-status.result c.from_residual-in_err-status.ensures.1 in
-    let failed = c.in_err-status.ensures in
     let opened = c.in_ok-opened.ensures in
-    rw (w.1, w.2)
-    (stops_checking (writing_of g.W.Sink c.args.output.now c.run_check.new.writer) (FilesHold (g.S.FileSystem.holds c.args.system.now) c.args.files.now)
-    c.in_err-status.field-0.0 failed.fault
-    (λ is. let t = failed.document is in
-    (t.0, holds_text _ _ _ _ _ opened.puzzle t.1, holds_text _ _ _ _ _ opened.list t.2, holds_text _ _ _ _ _ opened.certificate t.3, t.4))
-    (λ is. let t = failed.write (ap Err is) in
-    (t.0, holds_text _ _ _ _ _ opened.puzzle t.1, holds_text _ _ _ _ _ opened.list t.2, holds_text _ _ _ _ _ opened.certificate t.3, t.4)))
+    rw (w.1, w.2) (λ comes. let t = c.in_err-status.ensures.run.0 comes in (t.0, holds_text _ _ _ _ _ opened.puzzle t.1.0, holds_text _ _ _ _ _ opened.list t.1.1, holds_text _ _ _ _ _ opened.certificate t.1.2, t.2))

@@ -1,7 +1,59 @@
-use Rattle.std.proofs.lemmas.Result.{err_from_is_err_and}
+use Rattle.std.proofs.Common.{◌≡◌, ℕ, List, IfOk, IfErr, subst}
+use Rattle.match_runs.specs.Moves.{writing_of}
+use Rattle.match_runs.specs.OrderRuns.{IsDescribed, StopsDescribing}
+use Rattle.match_runs.specs.declared.description_runs.Description.TheVariants.{Board, Symmetries}
+use Rattle.match_runs.specs.declared.exits.Exit.TheVariants.{Done}
+use Rattle.match_runs.proofs.OrderLemmas.{nothing_shown}
 use Rattle.match_runs.proofs.order_runs.run_order.Goals as goal
 
-pub returns-in_err-solve-in-Solve-clause-stops : goal.returns-in_err-solve-in-Solve-clause-stops
-returns-in_err-solve-in-Solve-clause-stops g c =
-    let w = err_from_is_err_and c.from_residual-in_err-solve-in-Solve.result c.from_residual-in_err-solve-in-Solve.ensures.1 in
-    rw (w.1, w.2, c.in-Solve.is) (c.in_err-solve-in-Solve.ensures.stops, c.in_err-solve-in-Solve.ensures.write)
+pub returns-in-Joined : goal.returns-in-Joined
+returns-in-Joined g c =
+    let does = c.check_joined.ensures in
+    rw c.in-Joined.is (record { given = does.given; fault = does.fault; stops = does.stops; untouched = does.untouched; shown = does.shown })
+
+pub returns-in-Check : goal.returns-in-Check
+returns-in-Check g c =
+    let does = c.check.ensures in
+    rw c.in-Check.is (record { given = does.given; fault = does.fault; stops = does.stops; untouched = does.untouched; shown = does.shown })
+
+pub returns-in-Solve : goal.returns-in-Solve
+returns-in-Solve g c =
+    let does = c.solve.ensures in
+    rw c.in-Solve.is (record { given = does.given; fault = does.fault; stops = does.stops; untouched = does.untouched; shown = nothing_shown c.solve.result })
+
+pub returns-in-Expand : goal.returns-in-Expand
+returns-in-Expand g c =
+    let does = c.print_all.ensures in
+    rw c.in-Expand.is (record { given = does.given; fault = does.fault; stops = does.stops; untouched = does.untouched; shown = nothing_shown c.print_all.result })
+
+pub returns-in-Count : goal.returns-in-Count
+returns-in-Count g c =
+    let does = c.print_all-in-Count.ensures in
+    rw c.in-Count.is (record { given = does.given; fault = does.fault; stops = does.stops; untouched = does.untouched; shown = nothing_shown c.print_all-in-Count.result })
+
+pub returns-in-Show : goal.returns-in-Show
+returns-in-Show g c =
+    let call = c.describe in
+    let does = call.ensures in
+    let name = c.deref.ensures in
+    let holds = g.S.FileSystem.holds c.args.system.now in
+    let output = writing_of g.W.Sink c.args.output.now call.new.output in
+    let given = subst (λ (n : List ℕ). IfOk call.result (λ exit. (exit ≡ Done) × IsDescribed (holds n) Board output)) name does.given in
+    let stops = subst (λ (n : List ℕ). IfErr call.result (StopsDescribing output (holds n) Board)) name does.stops in
+    rw c.in-Show.is (record { given = given; fault = does.fault; stops = stops; untouched = does.untouched; shown = nothing_shown call.result })
+
+pub returns-in-Symmetries : goal.returns-in-Symmetries
+returns-in-Symmetries g c =
+    let call = c.describe-in-Symmetries in
+    let does = call.ensures in
+    let name = c.deref-in-Symmetries.ensures in
+    let holds = g.S.FileSystem.holds c.args.system.now in
+    let output = writing_of g.W.Sink c.args.output.now call.new.output in
+    let given = subst (λ (n : List ℕ). IfOk call.result (λ exit. (exit ≡ Done) × IsDescribed (holds n) Symmetries output)) name does.given in
+    let stops = subst (λ (n : List ℕ). IfErr call.result (StopsDescribing output (holds n) Symmetries)) name does.stops in
+    rw c.in-Symmetries.is (record { given = given; fault = does.fault; stops = stops; untouched = does.untouched; shown = nothing_shown call.result })
+
+pub returns-in-Tiles : goal.returns-in-Tiles
+returns-in-Tiles g c =
+    let does = c.list_tiles.ensures in
+    rw c.in-Tiles.is (record { given = does.given; fault = does.fault; stops = does.stops; untouched = does.untouched; shown = nothing_shown c.list_tiles.result })

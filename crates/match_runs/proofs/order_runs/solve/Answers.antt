@@ -1,13 +1,16 @@
-use Rattle.std.proofs.Common.{subst}
-use Rattle.match_runs.specs.Files.{HoldsText}
-use Rattle.match_runs.proofs.OrderLemmas.{holds_text, if_fault, stops_reporting}
-use Rattle.match_runs.specs.declared.faults.RunFault.TheVariants as runs
+use Rattle.std.proofs.Common.{Err, List, ℕ, ap, subst}
+use Rattle.std.proofs.lemmas.Result.{err_from_is_err_and}
+use Rattle.match_runs.specs.Files.{LeavesAll}
+use Rattle.match_runs.proofs.OrderLemmas.{holds_text, stops_reporting}
 use Rattle.match_runs.proofs.order_runs.solve.Goals as goal
 
-pub returns-clause-write : goal.returns-clause-write
-returns-clause-write g c =
-    if_fault c.run_solve.result runs.Write
-    (λ is.
-    let t = c.run_solve.ensures.write is in
-    let holds = subst (λ name. HoldsText (g.S.FileSystem.holds c.args.system.now name) t.0) c.deref.ensures (holds_text _ _ _ _ _ c.in_ok-puzzle.ensures.left t.1) in
-    stops_reporting _ _ _ _ _ t.0 t.2.0 holds t.2.1 t.2.2)
+pub returns-in_err-run_solve-clause-stops : goal.returns-in_err-run_solve-clause-stops
+returns-in_err-run_solve-clause-stops g c =
+    let w = err_from_is_err_and c.from_residual-in_err-run_solve.result c.from_residual-in_err-run_solve.ensures.1 in
+    let failed = c.in_err-run_solve.ensures in
+    let holds = g.S.FileSystem.holds c.args.system.now in
+    let leaves = subst (λ (name : List ℕ). LeavesAll (holds name) (g.S.Reader.Source.left c.in_ok-puzzle.puzzle)) c.deref.ensures c.in_ok-puzzle.ensures.left in
+    rw (w.1, w.2) (
+      (λ is. let t = failed.puzzle is in (t.0, holds_text _ _ _ _ _ leaves t.1, t.2)),
+      (λ is. let t = failed.write (ap Err is) in stops_reporting _ _ _ _ _ t.0 t.2.0 (holds_text _ _ _ _ _ leaves t.1) t.2.1 t.2.2),
+    )

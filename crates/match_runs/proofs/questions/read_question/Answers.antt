@@ -11,7 +11,8 @@ use Rattle.match_runs.specs.declared.faults.RunFault.TheVariants as runs
 use Rattle.match_runs.specs.FaultText.{run_of_certificate}
 use Rattle.match_text.specs.Puzzles.{PuzzleReads}
 use Rattle.match_runs.specs.Documents.{Texts}
-use Rattle.match_runs.specs.Runs.{RunGives, texts_of}
+use Rattle.match_runs.specs.Runs.{RunGives}
+use Rattle.match_runs.specs.Sources.{texts_of}
 use Rattle.match_runs.proofs.RunLemmas.{text_fails, lemmas_fail, certificate_said}
 use Rattle.match_runs.proofs.questions.read_question.Goals as goal
 

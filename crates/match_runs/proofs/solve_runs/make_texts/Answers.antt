@@ -1,7 +1,8 @@
 use Rattle.std.proofs.Common.{List, ap, length, subst, sym, ◌∙◌}
 use Rattle.std.proofs.lemmas.Result.{err_from_is_err_and}
 use Rattle.match_puzzle.specs.declared.placements.Placement.{Placement}
-use Rattle.match_crew.specs.Solving.{AreArrangementsOf, IsSolvedBy}
+use Rattle.cert_check.specs.Answer.{AreArrangements}
+use Rattle.match_crew.specs.Solving.{IsSolvedBy}
 use Rattle.match_runs.specs.Runs.{IsListText}
 use Rattle.match_runs.specs.Solving.{report_text}
 use Rattle.match_runs.proofs.solve_runs.make_texts.Goals as goal
@@ -9,7 +10,7 @@ use Rattle.match_runs.proofs.solve_runs.make_texts.Goals as goal
 pub report_on-requires-clause-arrangements : goal.report_on-requires-clause-arrangements
 report_on-requires-clause-arrangements g c =
     let solved = c.in_ok-listed.ensures.solved in
-    subst (AreArrangementsOf c.in_ok-puzzle.puzzle) (sym c.deref-2.ensures.value) solved.arrangements
+    subst (AreArrangements c.in_ok-puzzle.puzzle) (sym c.deref-2.ensures.value) solved.arrangements
 
 pub returns-in_err-report_on-clause-fault : goal.returns-in_err-report_on-clause-fault
 returns-in_err-report_on-clause-fault g c =

@@ -1,18 +1,18 @@
 use Rattle.std.proofs.Common.{subst}
+use Rattle.match_puzzle.specs.Puzzle.{IsPuzzle}
 use Rattle.cert_check.specs.Setting.{Question}
 use Rattle.cert_check.specs.Answer.{IsPrepared, IsShown}
 use Rattle.cert_check.specs.Walk.{TellsOfTrees}
-use Rattle.match_puzzle.specs.Puzzle.{IsPuzzle}
-use Rattle.cert_check.proofs.CheckLemmas.{first_tree, all_shown}
+use Rattle.cert_check.proofs.CheckLemmas.{first_tree}
 use Rattle.cert_check.proofs.Soundness.{complete, all_covered}
 use Rattle.cert_check.proofs.prepared.Prepared.answer.Goals as goal
 
 -- the trees hold too
 shown : (c : goal.In-None) → IsShown c.args.self.now
-shown c =
-    let question = c.args.self.now in
-    let right = subst IsPrepared c.self.view_is c.self.invariant.prepared in
-    all_shown question right.arrangements right.distinct right.symmetries right.prefixes right.root (subst (TellsOfTrees question) c.in-None.is c.requires)
+shown c = record {
+  prepared = subst IsPrepared c.self.view_is c.self.invariant.prepared;
+  trees = subst (TellsOfTrees c.args.self.now) c.in-None.is c.requires;
+}
 
 puzzle : (c : goal.In-None) → IsPuzzle c.args.self.now.puzzle
 puzzle c = subst (λ (q : Question). IsPuzzle q.puzzle) c.self.view_is c.self.invariant.puzzle
@@ -28,6 +28,5 @@ returns-in-None-clause-covered c = λ _. all_covered c.args.self.now (puzzle c) 
 
 pub returns-in-Some-clause-answer : goal.returns-in-Some-clause-answer
 returns-in-Some-clause-answer c =
-    let question = c.args.self.now in
     let right = subst IsPrepared c.self.view_is c.self.invariant.prepared in
-    first_tree question right.arrangements right.distinct right.symmetries right.prefixes right.root c.in-Some.number c.in-Some.fault (subst (TellsOfTrees question) c.in-Some.is c.requires)
+    first_tree c.args.self.now right c.in-Some.number c.in-Some.fault (subst (TellsOfTrees c.args.self.now) c.in-Some.is c.requires)

@@ -7,9 +7,9 @@ use Rattle.cert_check.specs.Derivation.{start_of}
 use Rattle.cert_check.proofs.prepared.Prepared.trees_fault.Given as goal
 
 -- The trees before this one hold.
-abbrev pub invariant-loop-lemma : goal.invariant-loop-lemma
-invariant-loop-lemma g l = record {
-  before : (number : ℕ) (lemma : Piece) → number < l.lemma → slice_get l.self.lemmas number ≡ Some lemma →
+abbrev pub invariant-loop-number : goal.invariant-loop-number
+invariant-loop-number g l = record {
+  before : (number : ℕ) (lemma : Piece) → number < l.number → slice_get l.self.lemmas number ≡ Some lemma →
       Holds (setting_at l.self number) lemma.tree (start_of l.self.puzzle lemma);
   empty : l.partial ≡ record { puzzle = l.self.puzzle; placed = empty_prefix l.self.puzzle };
 }

@@ -1,10 +1,10 @@
-use Rattle.std.proofs.Common.{◌∙◌, List, MatchBool, ap, map, sym, subst}
+use Rattle.std.proofs.Common.{◌∙◌, List, Some, MatchBool, ap, map, sym, subst}
 use Rattle.std.proofs.lemmas.Result.{err_from_is_err_and}
 use Rattle.cert_tree.specs.Certificate.{Piece}
 use Rattle.cert_check.specs.Setting.{Question, question_of, motion_of, BeginWithPrefixes}
 use Rattle.cert_check.specs.Derivation.{HasRoot}
 use Rattle.cert_check.specs.Answer.{AreArrangements, AreSymmetries, IsPrepared, IsPreparedWith, Occurs, fault_rank}
-use Rattle.cert_check.specs.Lines.{LinesFail, IsFirstBadPrefix}
+use Rattle.cert_check.specs.Lines.{LinesFail, TellsOfPrefixes}
 use Rattle.cert_check.specs.Walk.{TellsOfArrangements, TellsOfListing}
 use Rattle.match_board.specs.First.{IsFirst}
 use Rattle.cert_check.specs.declared.faults.Fault.TheVariants as faults
@@ -47,7 +47,7 @@ returns-in-Some-prefixes_fault-clause-fault c =
     let symmetric = subst (AreSymmetries question.puzzle) c.symmetries.ensures.symmetries c.in-Ok.ensures.moves in
     let number = c.in-Some-prefixes_fault.number in
     let fault = c.in-Some-prefixes_fault.fault in
-    let is = subst (λ (ls : List Piece). IsFirstBadPrefix question.puzzle ls number fault) c.lemmas-lemmas.ensures.lemmas c.in-Some-prefixes_fault.ensures in
+    let is = subst (λ (ls : List Piece). TellsOfPrefixes question.puzzle ls (Some (number, fault))) c.lemmas-lemmas.ensures.lemmas c.in-Some-prefixes_fault.ensures in
     subst (λ q. IsFirst fault_rank (Occurs q) (faults.Prefix number fault)) c.self.view_is (first_prefix question told.0 told.1 symmetric number fault is)
 
 pub returns-then-not-ends_at_a_root-clause-fault : goal.returns-then-not-ends_at_a_root-clause-fault

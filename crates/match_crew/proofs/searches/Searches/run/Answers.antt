@@ -5,6 +5,7 @@ use Rattle.xcc_form.specs.Options.{Compiled}
 use Rattle.xcc_dance.specs.Chosen.{Selection}
 use Rattle.xcc_dance.specs.Outcome.{IsOutcome}
 use Rattle.xcc_dance.specs.Placing.{FitInTurn}
+use Rattle.cert_check.proofs.ListLemmas.{contains_at}
 use Rattle.match_crew.proofs.searches.Searches.run.Goals as goal
 
 pub run_by-requires-clause-prefix : goal.run_by-requires-clause-prefix
@@ -13,8 +14,8 @@ run_by-requires-clause-prefix g c =
     subst (λ (p : Task). FitInTurn p c.args.pairs.now) (c.puzzle.ensures.value ∙ sym compiled) (c.in_ok-fit_in_turn.ensures c.if-not-branch.false)
 
 pub returns-in-Ok-Done-clause-found : goal.returns-in-Ok-Done-clause-found
-returns-in-Ok-Done-clause-found g c = λ a h.
+returns-in-Ok-Done-clause-found g c = λ number a at.
     let w = c.in-Ok-Done in
     let outcome = subst (IsOutcome c.in_ok-search.search c.run_by.new.self c.args.pairs.now _) w.field-0-is w.ensures.outcome in
     let compiled : c.run_by.new.self.links.compiled.puzzle ≡ c.args.self.now.xcc.now.puzzle = ap (λ (x : Compiled). x.puzzle) (w.ensures.compiled ∙ ap (λ (v : Selection). v.compiled) c.in_ok-search.ensures.empty) in
-    subst (λ (q : Task). IsArrangement q a) compiled (outcome.0.found_are a h).arrangement
+    subst (λ (q : Task). IsArrangement q a) compiled (outcome.0.found_are a (contains_at w.found.items number a at)).arrangement

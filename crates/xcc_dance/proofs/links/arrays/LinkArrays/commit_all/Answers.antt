@@ -8,16 +8,29 @@ use Rattle.xcc_dance.proofs.TrailLemmas.{goes_on}
 use Rattle.xcc_dance.proofs.PurifyingLemmas.{goes_has}
 use Rattle.xcc_dance.proofs.CommittingLemmas.{not_yet, all_barred, only_barred}
 use Rattle.xcc_dance.proofs.links.arrays.LinkArrays.commit_all.Goals as goal
+use Rattle.xcc_dance.proofs.links.arrays.LinkArrays.commit_all.Goals.{After-index-node-end, After-loop-node}
+
+in_starts : (c : After-index-node-end) → c.args.option + 1 < length c.args.table.now.starts.items
+in_starts c = omega (arith, c.requires.table.starts_long, c.requires.option)
+
+-- where the option's nodes end
+end : (c : After-index-node-end) → c.index-node-end.result.now ≡ start_of c.args.table.now.starts.items (c.args.option + 1)
+end c = get_or_read c.args.table.now.starts.items (c.args.option + 1) c.index-node-end.result.now (in_starts c) c.index-node-end.ensures 0
+
+-- the loop has come there
+ended : (c : After-loop-node) → c.args.option + 1 < length c.args.table.now.starts.items → c.index-node-end.result.now ≡ start_of c.args.table.now.starts.items (c.args.option + 1) → c.loop-node.node ≡ start_of c.args.table.now.starts.items (c.args.option + 1)
+ended c long z =
+    let y = get_or_read c.args.table.now.starts.items c.args.option c.index-node.result.now (omega (arith, long)) c.index-node.ensures 0 in
+    let r = c.requires.table.runs.rising c.args.option long in
+    let up = c.loop-node.auto.node-end (omega (arith, y, z, r)) in
+    omega (arith, y, z, r, up)
 
 pub commit-requires-clause-uncovered : goal.commit-requires-clause-uncovered
 commit-requires-clause-uncovered c = λ primary.
     let f = c.args.table.now in
-    let s = f.starts.items in
     let n = c.loop-node.node in
     let i = c.loop-node.invariant in
-    let ex : c.args.option + 1 < length s = omega (arith, c.requires.table.starts_long, c.requires.option) in
-    let z = get_or_read s (c.args.option + 1) c.index-node-end.result.now ex c.index-node-end.ensures 0 in
-    let to : n < start_of s (c.args.option + 1) = omega (arith, z) in
+    let to : n < start_of f.starts.items (c.args.option + 1) = omega (arith, end (goal.at.commit-requires-clause-uncovered c).After-index-node-end) in
     let first = c.requires.uncovered n i.from to primary in
     not_yet f.primaries f.items f.options f.entries.items f.starts.items c.requires.table c.args.option c.requires.option n i.from to _ (λ e. ⊎_elim (λ h. absurd (true≢false (sym h ∙ first))) (λ w. w) (i.only (f.options + item_of f.entries.items n) e))
 
@@ -27,12 +40,8 @@ returns-in_err-commit-clause-goes c = goes_on _ _ _ _ _ _ _ c.loop-node.invarian
 pub loop-node-preserved : goal.loop-node-preserved
 loop-node-preserved c =
     let f = c.args.table.now in
-    let s = f.starts.items in
     let n = c.loop-node.node in
     let i = c.loop-node.invariant in
-    let ex : c.args.option + 1 < length s = omega (arith, c.requires.table.starts_long, c.requires.option) in
-    let z = get_or_read s (c.args.option + 1) c.index-node-end.result.now ex c.index-node-end.ensures 0 in
-    let to : n < start_of s (c.args.option + 1) = omega (arith, z) in
     let e = c.in_ok-commit.ensures in
     record {
       from = omega (arith, i.from);
@@ -51,27 +60,13 @@ loop-node-preserved c =
 pub returns-clause-all : goal.returns-clause-all
 returns-clause-all c =
     let f = c.args.table.now in
-    let s = f.starts.items in
-    let n = c.loop-node.node in
-    let i = c.loop-node.invariant in
-    let ex : c.args.option + 1 < length s = omega (arith, c.requires.table.starts_long, c.requires.option) in
-    let z = get_or_read s (c.args.option + 1) c.index-node-end.result.now ex c.index-node-end.ensures 0 in
-    let y = get_or_read s c.args.option c.index-node.result.now (omega (arith, ex)) c.index-node.ensures 0 in
-    let r = c.requires.table.runs.rising c.args.option ex in
-    let up = c.loop-node.auto.node-end (omega (arith, y, z, r)) in
-    let same : n ≡ start_of s (c.args.option + 1) = omega (arith, y, z, r, up) in
-    all_barred f.primaries f.items f.options f.entries.items f.starts.items c.requires.table c.args.option c.requires.option c.loop-node.self.trail.items (λ m mf mt p b. i.all m mf (omega (arith, mt, same)) p b)
+    let at = goal.at.returns-clause-all c in
+    let same = ended at.After-loop-node (in_starts at.After-index-node-end) (end at.After-index-node-end) in
+    all_barred f.primaries f.items f.options f.entries.items f.starts.items c.requires.table c.args.option c.requires.option c.loop-node.self.trail.items (λ m mf mt p b. c.loop-node.invariant.all m mf (omega (arith, mt, same)) p b)
 
 pub returns-clause-only : goal.returns-clause-only
 returns-clause-only c = λ p h.
     let f = c.args.table.now in
-    let s = f.starts.items in
-    let n = c.loop-node.node in
-    let i = c.loop-node.invariant in
-    let ex : c.args.option + 1 < length s = omega (arith, c.requires.table.starts_long, c.requires.option) in
-    let z = get_or_read s (c.args.option + 1) c.index-node-end.result.now ex c.index-node-end.ensures 0 in
-    let y = get_or_read s c.args.option c.index-node.result.now (omega (arith, ex)) c.index-node.ensures 0 in
-    let r = c.requires.table.runs.rising c.args.option ex in
-    let up = c.loop-node.auto.node-end (omega (arith, y, z, r)) in
-    let same : n ≡ start_of s (c.args.option + 1) = omega (arith, y, z, r, up) in
-    ⊎_elim (λ x. inl x) (λ w. inr (only_barred f.primaries f.items f.options f.entries.items f.starts.items c.requires.table c.args.option c.requires.option p (w.0, w.1, (let lt = w.2 in omega (arith, lt, same)), w.3))) (i.only p h)
+    let at = goal.at.returns-clause-only c in
+    let same = ended at.After-loop-node (in_starts at.After-index-node-end) (end at.After-index-node-end) in
+    ⊎_elim (λ x. inl x) (λ w. inr (only_barred f.primaries f.items f.options f.entries.items f.starts.items c.requires.table c.args.option c.requires.option p (w.0, w.1, (let lt = w.2 in omega (arith, lt, same)), w.3))) (c.loop-node.invariant.only p h)

@@ -1,13 +1,13 @@
 use Rattle.std.proofs.Common.{◌≡◌, ◌≤◌, ◌<◌, ◌+◌, ◌-◌, ◌∙◌, List, ℕ, length, get_or, arith, ap, sym, subst}
 use Rattle.std.proofs.lemmas.List.{get_or_read}
 use Rattle.xcc_dance.specs.Rings.{item_of, unlinked, fewer_at, hidden_links, hidden_sizes}
-use Rattle.xcc_dance.specs.NodeTables.{AreInRange, AreRight, shown_by, start_of, width_of}
-use Rattle.xcc_dance.specs.Trails.{LeadsBack, put_back}
+use Rattle.xcc_dance.specs.NodeTables.{AreInRange, shown_by, start_of, width_of}
 use Rattle.xcc_dance.specs.declared.links.arrays.Link.{Link}
 use Rattle.xcc_dance.specs.declared.links.tables.Entry.{Entry}
 use Rattle.xcc_dance.proofs.LinkedLemmas.{can_size}
 use Rattle.xcc_dance.proofs.HidingLemmas.{rise, end_is, nodes_shown, right_hidden, goes_hidden, fits_unlinked, hide_step, hide_size_step}
 use Rattle.xcc_dance.proofs.links.arrays.LinkArrays.hide.Goals as goal
+use Rattle.xcc_dance.proofs.links.arrays.LinkArrays.hide.Goals.{After-loop-node}
 
 moved : (items : ℕ) (entries : List Entry) (l l' : List Link) (s s' : List ℕ) → l' ≡ l → s' ≡ s → AreInRange items entries l s → AreInRange items entries l' s'
 moved items entries l l' s s' el es h = subst (λ x. AreInRange items entries x s') (sym el) (subst (λ x. AreInRange items entries l x) (sym es) h)
@@ -46,40 +46,35 @@ loop-node-preserved c =
       trail = e.trail ∙ i.trail;
     }
 
+-- all nodes of the option are taken out
+width : (c : After-loop-node) → c.loop-node.node - start_of c.args.table.now.starts.items c.args.option ≡ width_of c.args.table.now.starts.items c.args.option
+width c =
+    let f = c.args.table.now in
+    let y = get_or_read f.starts.items c.args.option c.index-node.result.now (omega (arith, c.requires.option)) c.index-node.ensures 0 in
+    let z = get_or_read f.starts.items (c.args.option + 1) c.index-node-end.result.now (omega (arith, c.requires.option)) c.index-node-end.ensures 0 in
+    let r = rise f.primaries f.items f.options f.entries.items f.starts.items c.requires.table c.args.self.now.trail.items c.args.option c.requires.option c.requires.free in
+    let up = c.loop-node.auto.node-end (omega (arith, y, z, r)) in
+    omega (arith, y, z, r, up)
+
+links : (c : After-loop-node) → c.loop-node.self.links.items ≡ hidden_links c.args.self.now.links.items (start_of c.args.table.now.starts.items c.args.option) (width_of c.args.table.now.starts.items c.args.option)
+links c = c.loop-node.invariant.links ∙ ap (hidden_links c.args.self.now.links.items (start_of c.args.table.now.starts.items c.args.option)) (width c)
+
+sizes : (c : After-loop-node) → c.loop-node.self.sizes.items ≡ hidden_sizes c.args.table.now.entries.items c.args.self.now.sizes.items (start_of c.args.table.now.starts.items c.args.option) (width_of c.args.table.now.starts.items c.args.option)
+sizes c = c.loop-node.invariant.sizes ∙ ap (hidden_sizes c.args.table.now.entries.items c.args.self.now.sizes.items (start_of c.args.table.now.starts.items c.args.option)) (width c)
+
 pub returns-clause-right : goal.returns-clause-right
 returns-clause-right c =
     let f = c.args.table.now in
     let s = c.args.self.now in
-    let a = start_of f.starts.items c.args.option in
-    let n = c.loop-node.node in
+    let at = (goal.at.returns-clause-right c).After-loop-node in
     let i = c.loop-node.invariant in
-    let y = get_or_read f.starts.items c.args.option c.index-node.result.now (omega (arith, c.requires.option)) c.index-node.ensures 0 in
-    let z = get_or_read f.starts.items (c.args.option + 1) c.index-node-end.result.now (omega (arith, c.requires.option)) c.index-node-end.ensures 0 in
-    let r = rise f.primaries f.items f.options f.entries.items f.starts.items c.requires.table s.trail.items c.args.option c.requires.option c.requires.free in
-    let up = c.loop-node.auto.node-end (omega (arith, y, z, r)) in
-    let w : n - a ≡ width_of f.starts.items c.args.option = omega (arith, y, z, r, up) in
-    let el = i.links ∙ ap (hidden_links s.links.items a) w in
-    let es = i.sizes ∙ ap (hidden_sizes f.entries.items s.sizes.items a) w in
-    let h = right_hidden f.primaries f.items f.options f.entries.items f.starts.items c.requires.table s.trail.items c.args.option c.requires.option c.requires.free s.links.items s.sizes.items c.requires.right (moved f.items f.entries.items _ _ _ _ (sym el) (sym es) i.fits) in
-    subst (λ x. AreRight f.items f.entries.items f.starts.items x c.loop-node.self.sizes.items c.loop-node.self.trail.items) (sym el)
-    (subst (λ x. AreRight f.items f.entries.items f.starts.items (hidden_links s.links.items a (width_of f.starts.items c.args.option)) x c.loop-node.self.trail.items) (sym es)
-    (subst (λ x. AreRight f.items f.entries.items f.starts.items (hidden_links s.links.items a (width_of f.starts.items c.args.option)) (hidden_sizes f.entries.items s.sizes.items a (width_of f.starts.items c.args.option)) x) (sym (i.trail ∙ c.in_ok-push.ensures.items)) h))
+    let h = right_hidden f.primaries f.items f.options f.entries.items f.starts.items c.requires.table s.trail.items c.args.option c.requires.option c.requires.free s.links.items s.sizes.items c.requires.right (moved f.items f.entries.items _ _ _ _ (sym (links at)) (sym (sizes at)) i.fits) in
+    rw (links at, sizes at, i.trail, c.in_ok-push.ensures.items) h
 
 pub returns-clause-goes : goal.returns-clause-goes
 returns-clause-goes c =
     let f = c.args.table.now in
     let s = c.args.self.now in
-    let a = start_of f.starts.items c.args.option in
-    let n = c.loop-node.node in
-    let i = c.loop-node.invariant in
-    let y = get_or_read f.starts.items c.args.option c.index-node.result.now (omega (arith, c.requires.option)) c.index-node.ensures 0 in
-    let z = get_or_read f.starts.items (c.args.option + 1) c.index-node-end.result.now (omega (arith, c.requires.option)) c.index-node-end.ensures 0 in
-    let r = rise f.primaries f.items f.options f.entries.items f.starts.items c.requires.table s.trail.items c.args.option c.requires.option c.requires.free in
-    let up = c.loop-node.auto.node-end (omega (arith, y, z, r)) in
-    let w : n - a ≡ width_of f.starts.items c.args.option = omega (arith, y, z, r, up) in
-    let el = i.links ∙ ap (hidden_links s.links.items a) w in
-    let es = i.sizes ∙ ap (hidden_sizes f.entries.items s.sizes.items a) w in
+    let at = (goal.at.returns-clause-goes c).After-loop-node in
     let g = goes_hidden f.primaries f.items f.options f.entries.items f.starts.items c.requires.table s.trail.items c.args.option c.requires.option c.requires.free s.links.items s.sizes.items c.requires.right in
-    subst (λ x. LeadsBack (put_back f.entries.items f.starts.items) (s.links.items, s.sizes.items) s.trail.items (x, c.loop-node.self.sizes.items) c.loop-node.self.trail.items) (sym el)
-    (subst (λ x. LeadsBack (put_back f.entries.items f.starts.items) (s.links.items, s.sizes.items) s.trail.items (hidden_links s.links.items a (width_of f.starts.items c.args.option), x) c.loop-node.self.trail.items) (sym es)
-    (subst (λ x. LeadsBack (put_back f.entries.items f.starts.items) (s.links.items, s.sizes.items) s.trail.items (hidden_links s.links.items a (width_of f.starts.items c.args.option), hidden_sizes f.entries.items s.sizes.items a (width_of f.starts.items c.args.option)) x) (sym (i.trail ∙ c.in_ok-push.ensures.items)) g))
+    rw (links at, sizes at, c.loop-node.invariant.trail, c.in_ok-push.ensures.items) g

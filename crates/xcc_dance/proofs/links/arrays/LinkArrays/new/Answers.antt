@@ -7,6 +7,7 @@ use Rattle.xcc_dance.specs.declared.links.arrays.Link.{Link}
 use Rattle.xcc_dance.specs.declared.links.tables.Entry.{Entry}
 use Rattle.xcc_dance.proofs.MakingLemmas.{items_in, built_first, inside0, built_more, built_right}
 use Rattle.xcc_dance.proofs.links.arrays.LinkArrays.new.Goals as goal
+use Rattle.xcc_dance.proofs.links.arrays.LinkArrays.new.Goals.{After-index-in-loop-node-2}
 
 pub loop-node-2-init : goal.loop-node-2-init
 loop-node-2-init c =
@@ -19,21 +20,30 @@ loop-node-2-init c =
       trail = c.in_ok-trail.ensures.items;
     }
 
+within : (c : After-index-in-loop-node-2) → c.loop-node-2.node < length c.args.table.now.entries.items
+within c = omega (arith, c.len-nodes.ensures, c.args.table.now.entries.ok.0)
+
+-- the links with the node between the last one of its list and the item's own
+placed : (c : After-index-in-loop-node-2) →
+    let f = c.args.table.now in
+    let ls = c.loop-node-2.arrays.links.items in
+    let m = c.loop-node-2.node in
+    set ls m (record { up = c.index-in-loop-node-2.result.now.up; down = c.index.result.now.item }) ≡ set ls m (record { up = up_of ls (item_of f.entries.items m); down = item_of f.entries.items m })
+placed c =
+    let f = c.args.table.now in
+    let b = c.loop-node-2.invariant.built in
+    let ls = c.loop-node-2.arrays.links.items in
+    let m = c.loop-node-2.node in
+    let entry = ap (λ (x : Entry). x.item) (get_or_read f.entries.items m c.index.result.now (within c) c.index.ensures no_entry) in
+    let up = ap (λ (x : Link). x.up) (get_or_read ls c.index.result.now.item c.index-in-loop-node-2.result.now (omega (arith, entry, c.requires.table.small m, b.kept.own_high, b.fits.long)) c.index-in-loop-node-2.ensures no_link) ∙ ap (up_of ls) entry in
+    ap (λ k. set ls m (record { up = k; down = c.index.result.now.item })) up ∙ ap (λ k. set ls m (record { up = up_of ls (item_of f.entries.items m); down = k })) entry
+
 pub relink-requires-clause-inside : goal.relink-requires-clause-inside
 relink-requires-clause-inside c =
     let f = c.args.table.now in
-    let b = c.loop-node-2.invariant.built in
     let t = c.loop-node-2.arrays in
-    let m = c.loop-node-2.node in
-    let nodes : c.len-nodes.result ≡ length f.entries.items = omega (arith, c.len-nodes.ensures, f.entries.ok.0) in
-    let lt : m < length f.entries.items = omega (arith, nodes) in
-    let s = c.requires.table.small m in
-    let entry = ap (λ (x : Entry). x.item) (get_or_read f.entries.items m c.index.result.now lt c.index.ensures no_entry) in
-    let up = ap (λ (x : Link). x.up) (get_or_read t.links.items c.index.result.now.item c.index-in-loop-node-2.result.now (omega (arith, entry, s, b.kept.own_high, b.fits.long)) c.index-in-loop-node-2.ensures no_link) in
-    let up2 : c.index-in-loop-node-2.result.now.up ≡ up_of t.links.items (item_of f.entries.items m) = up ∙ ap (up_of t.links.items) entry in
-    let w : set t.links.items m (record { up = c.index-in-loop-node-2.result.now.up; down = c.index.result.now.item }) ≡ set t.links.items m (record { up = up_of t.links.items (item_of f.entries.items m); down = item_of f.entries.items m }) =
-    ap (λ k. set t.links.items m (record { up = k; down = c.index.result.now.item })) up2 ∙ ap (λ k. set t.links.items m (record { up = up_of t.links.items (item_of f.entries.items m); down = k })) entry in
-    inside0 f.primaries f.items f.options f.entries.items f.starts.items c.requires.table t.links.items t.sizes.items m b lt _ w
+    let at = (goal.at.relink-requires-clause-inside c).After-index-in-loop-node-2 in
+    inside0 f.primaries f.items f.options f.entries.items f.starts.items c.requires.table t.links.items t.sizes.items c.loop-node-2.node c.loop-node-2.invariant.built (within at) _ (placed at)
 
 moved : (items : ℕ) (entries : List Entry) (l l' : List Link) (s s' : List ℕ) (n : ℕ) → l' ≡ l → s' ≡ s → IsBuilt items entries l s n → IsBuilt items entries l' s' n
 moved items entries l l' s s' n el es h = subst (λ x. IsBuilt items entries x s' n) (sym el) (subst (λ x. IsBuilt items entries l x n) (sym es) h)
@@ -41,18 +51,10 @@ moved items entries l l' s s' n el es h = subst (λ x. IsBuilt items entries x s
 pub loop-node-2-preserved : goal.loop-node-2-preserved
 loop-node-2-preserved c =
     let f = c.args.table.now in
-    let b = c.loop-node-2.invariant.built in
     let t = c.loop-node-2.arrays in
     let m = c.loop-node-2.node in
-    let nodes : c.len-nodes.result ≡ length f.entries.items = omega (arith, c.len-nodes.ensures, f.entries.ok.0) in
-    let lt : m < length f.entries.items = omega (arith, nodes) in
-    let s = c.requires.table.small m in
-    let entry = ap (λ (x : Entry). x.item) (get_or_read f.entries.items m c.index.result.now lt c.index.ensures no_entry) in
-    let up = ap (λ (x : Link). x.up) (get_or_read t.links.items c.index.result.now.item c.index-in-loop-node-2.result.now (omega (arith, entry, s, b.kept.own_high, b.fits.long)) c.index-in-loop-node-2.ensures no_link) in
-    let up2 : c.index-in-loop-node-2.result.now.up ≡ up_of t.links.items (item_of f.entries.items m) = up ∙ ap (up_of t.links.items) entry in
-    let w : set t.links.items m (record { up = c.index-in-loop-node-2.result.now.up; down = c.index.result.now.item }) ≡ set t.links.items m (record { up = up_of t.links.items (item_of f.entries.items m); down = item_of f.entries.items m }) =
-    ap (λ k. set t.links.items m (record { up = k; down = c.index.result.now.item })) up2 ∙ ap (λ k. set t.links.items m (record { up = up_of t.links.items (item_of f.entries.items m); down = k })) entry in
-    let h = built_more f.primaries f.items f.options f.entries.items f.starts.items c.requires.table t.links.items t.sizes.items m b lt _ w in
+    let at = (goal.at.loop-node-2-preserved c).After-index-in-loop-node-2 in
+    let h = built_more f.primaries f.items f.options f.entries.items f.starts.items c.requires.table t.links.items t.sizes.items m c.loop-node-2.invariant.built (within at) _ (placed at) in
     record {
       built = moved f.items f.entries.items _ _ _ _ (m + 1) c.relink.ensures.links c.relink.ensures.sizes h;
       trail = c.relink.ensures.trail ∙ c.loop-node-2.invariant.trail;

@@ -1,0 +1,31 @@
+use Rattle.std.proofs.Common.{subst}
+use Rattle.std.proofs.lemmas.Result.{err_from_is_err_and}
+use Rattle.match_runs.specs.Documents.{Texts}
+use Rattle.match_runs.specs.Moves.{reading_of, writing_of}
+use Rattle.match_runs.specs.Runs.{ComesTo, printed}
+use Rattle.match_runs.specs.Sources.{apart, owned_texts}
+use Rattle.match_runs.proofs.SourceLemmas.{over, reading_kind, run_kinds, stopped_reading}
+use Rattle.match_runs.proofs.expansion_runs.run_printing.Goals as goal
+
+pub returns-in_err-read-clause-run : goal.returns-in_err-read-clause-run
+returns-in_err-read-clause-run g c =
+    let w = err_from_is_err_and c.from_residual.result c.from_residual.ensures.1 in
+    let sources = apart (reading_of g.P.Source c.args.puzzle.now c.read_documents.new.puzzle) (reading_of g.L.Source c.args.list.now c.read_documents.new.list) (reading_of g.C.Source c.args.certificate.now c.read_documents.new.certificate) in
+    rw (w.1, w.2) (stopped_reading sources (printed c.args.printing) (writing_of g.W.Sink c.args.writer.now c.args.writer.now) c.in_err-read.field-0.0 c.in_err-read.ensures.fault c.in_err-read.ensures.stops)
+
+pub returns-in_err-read-clause-fault : goal.returns-in_err-read-clause-fault
+returns-in_err-read-clause-fault g c =
+    let w = err_from_is_err_and c.from_residual.result c.from_residual.ensures.1 in
+    rw (w.1, w.2) (reading_kind (printed c.args.printing) c.in_err-read.field-0.0 c.in_err-read.ensures.fault)
+
+pub returns-clause-run : goal.returns-clause-run
+returns-clause-run g c =
+    let sources = apart (reading_of g.P.Source c.args.puzzle.now c.read_documents.new.puzzle) (reading_of g.L.Source c.args.list.now c.read_documents.new.list) (reading_of g.C.Source c.args.certificate.now c.read_documents.new.certificate) in
+    let read = c.in_ok-read.ensures in
+    let wrote = c.write_printing_of in
+    let output = writing_of g.W.Sink c.args.writer.now wrote.new.writer in
+    let comes = subst (λ (texts : Texts). ComesTo (λ Holds. Holds texts) (printed c.args.printing) output wrote.result) c.lend.ensures wrote.ensures.run in
+    over sources (printed c.args.printing) output (owned_texts c.in_ok-read.read) wrote.result read.given read.within wrote.ensures.fault comes
+
+pub returns-clause-fault : goal.returns-clause-fault
+returns-clause-fault g c = run_kinds (printed c.args.printing) c.write_printing_of.result c.write_printing_of.ensures.fault

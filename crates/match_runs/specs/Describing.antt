@@ -1,0 +1,61 @@
+-- What is written of a puzzle that is described.
+use Rattle.std.specs.Prelude.{◌≡◌, ◌≤◌, ◌++◌, ℕ, List, All, None, Ok, Err, length}
+use Rattle.match_board.specs.declared.limits.TheConstants.{MOST_SYMMETRIES}
+use Rattle.match_puzzle.specs.Puzzle.{Task}
+use Rattle.match_puzzle.specs.Prefix.{empty_prefix}
+use Rattle.match_text.specs.Puzzles.{PuzzleReads}
+use Rattle.match_text.specs.declared.faults.PuzzleTextFault.TheVariants as puzzles
+use Rattle.match_show.specs.Drawing.{IsDrawing}
+use Rattle.match_show.specs.Facts.{IsFacts}
+use Rattle.puzzle_symmetry.specs.Symmetry.{IsSymmetry}
+use Rattle.puzzle_symmetry.specs.declared.lines.SymmetryLine.{SymmetryLine}
+use Rattle.cert_tree.specs.CertificateSpelling.{symmetries_spelling}
+use Rattle.match_runs.specs.declared.description_runs.Description.{Description}
+use Rattle.match_runs.specs.declared.description_runs.Description.TheVariants as descriptions
+use Rattle.match_runs.specs.declared.faults.Document.TheVariants as documents
+use Rattle.match_runs.specs.declared.faults.RunFault.{RunFault}
+use Rattle.match_runs.specs.declared.faults.RunFault.TheVariants as runs
+
+-- The text of the puzzle spells one, and what is printed is its empty board, drawn, and then facts of it.
+pub record BoardGives (text printed : List ℕ) : Type 0 where
+  pub puzzle : Task
+  pub puzzle_read : PuzzleReads text (Ok puzzle)
+  pub drawing : List ℕ
+  pub drawn : IsDrawing (record { puzzle = puzzle; placed = empty_prefix puzzle }) None drawing
+  pub facts : List ℕ
+  pub told : IsFacts puzzle facts
+  pub spelled : printed ≡ drawing ++ facts
+
+-- The text of the puzzle spells one, and what is printed are lines of symmetries of it, at most so many as a
+-- certificate may have, as a certificate has them.
+pub record SymmetriesGive (text printed : List ℕ) : Type 0 where
+  pub puzzle : Task
+  pub puzzle_read : PuzzleReads text (Ok puzzle)
+  pub lines : List SymmetryLine
+  pub symmetries : All (IsSymmetry puzzle) lines
+  pub few : length lines ≤ MOST_SYMMETRIES
+  pub spelled : printed ≡ symmetries_spelling lines
+
+-- What is printed of the puzzle that the text spells.
+abbrev pub Describes : Description → (text printed : List ℕ) → Type 0
+Describes descriptions.Board text printed = BoardGives text printed
+Describes descriptions.Symmetries text printed = SymmetriesGive text printed
+
+-- The text spells no puzzle, with this fault.
+abbrev pub SpellsNoPuzzle : (text : List ℕ) → RunFault → Type 0
+SpellsNoPuzzle text (runs.Puzzle puzzles.Memory) = ⊥
+SpellsNoPuzzle text (runs.Puzzle fault) = PuzzleReads text (Err fault)
+SpellsNoPuzzle text fault = Unit {0}
+
+-- The fault is that a text spells no puzzle, or want of memory.
+abbrev pub IsOfReadText : RunFault → Type 0
+IsOfReadText (runs.Puzzle fault) = Unit {0}
+IsOfReadText runs.Memory = Unit {0}
+IsOfReadText fault = ⊥
+
+-- The fault is one of describing a puzzle: of reading it, of what was read, or of writing.
+abbrev pub IsOfDescribing : RunFault → Type 0
+IsOfDescribing (runs.Read of) = of ≡ documents.Puzzle
+IsOfDescribing (runs.TooLong of) = of ≡ documents.Puzzle
+IsOfDescribing runs.Write = Unit {0}
+IsOfDescribing fault = IsOfReadText fault

@@ -1,0 +1,102 @@
+//! Runs that describe a puzzle.
+
+ghost use Rattle.std.specs.Prelude.{◌≡◌, ◌≢◌, ◌≤◌, IfErr, IfOk, IsErrOf, OnOk, length};
+ghost use Rattle.match_runs.specs.Describing.{BoardGives, Describes, IsOfDescribing, IsOfReadText, SpellsNoPuzzle};
+ghost use Rattle.match_runs.specs.Describing.{SymmetriesGive};
+ghost use Rattle.match_runs.specs.Moves.{WritesFront, WritesWhole, reading_of, writing_of};
+ghost use Rattle.match_runs.specs.Solving.{IsOfPuzzle};
+ghost use Rattle.match_runs.specs.Sources.{PuzzleReadToEnd, StopsReadingPuzzle};
+
+use crate::faults::{Document, RunFault};
+use crate::streams::readings::read_whole;
+use crate::streams::sinks::{Sink, write_text};
+use crate::streams::sources::Source;
+use cert_tree::write_symmetries;
+use match_board::limits::MOST_BYTES;
+use match_puzzle::Partial;
+use match_show::{write_drawing, write_facts};
+use match_symmetry::suggest;
+use match_text::read_puzzle;
+use std::alloc::Global;
+
+/// What is written of a puzzle.
+#[derive(Clone, Copy, PartialEq, Eq, Debug)]
+pub enum Description {
+    /// Its empty board, drawn, with the numbers of its cells and the colours that the border asks for, and then how
+    /// many cells, tiles and colours there are, and where each colour stands.
+    Board,
+    /// Symmetries of it, at most 1,024: how many they are, and then the line of each, as a certificate has them. They
+    /// are those that a solve of the puzzle may cite by.
+    Symmetries,
+}
+
+/// Reads a puzzle to its end, and writes what is asked of it.
+///
+/// `Read` and `TooLong` are of the puzzle; `Puzzle` where its text spells none. Where a fault other than `Write` is
+/// answered, nothing was written.
+pub fn run_description<P: Source, W: Sink>(
+    alloc: Global,
+    puzzle: &mut P,
+    description: Description,
+    writer: &mut W,
+) -> Result<(), RunFault>
+    // What was written describes the puzzle that the text spells.
+    ensures ok { OnOk result (PuzzleReadToEnd (reading_of P.Source puzzle.old puzzle.new)
+        (λ text. WritesWhole (writing_of W.Sink writer.old writer.new) (Describes description text))) }
+    // A fault of the puzzle is what the text comes to.
+    ensures puzzle { IfErr result (λ fault. IsOfPuzzle fault
+        → PuzzleReadToEnd (reading_of P.Source puzzle.old puzzle.new) (λ text. SpellsNoPuzzle text fault)) }
+    ensures fault { IfErr result IsOfDescribing }
+    ensures untouched { IfErr result (λ fault. fault ≢ RunFault.Write → writer.new ≡ writer.old) }
+    // Reading fails only where the source answered an error, or more bytes came than are read. Want of memory hides
+    // neither.
+    ensures reading { IfErr result (StopsReadingPuzzle (reading_of P.Source puzzle.old puzzle.new)) }
+    // Writing fails only where the sink answered an error, or took nothing; then a front of it went out.
+    ensures write { IsErrOf result RunFault.Write → PuzzleReadToEnd (reading_of P.Source puzzle.old puzzle.new)
+        (λ text. WritesFront (writing_of W.Sink writer.old writer.new) (Describes description text)) }
+{
+    let text = read_whole(alloc, puzzle, MOST_BYTES, Document::Puzzle)?;
+    let printed = described(alloc, &text, description)?;
+    write_text(writer, &printed)
+}
+
+// What is written of the puzzle that the text spells.
+fn described(alloc: Global, text: &[u8], description: Description) -> Result<Vec<u8>, RunFault>
+    requires { length text.now ≤ MOST_BYTES }
+    ensures describes { IfOk result (λ printed. Describes description text.now printed.items) }
+    ensures puzzle { IfErr result (SpellsNoPuzzle text.now) }
+    ensures kind { IfErr result IsOfReadText }
+{
+    match description {
+        Description::Board => board_text(alloc, text),
+        Description::Symmetries => symmetries_text(alloc, text),
+    }
+}
+
+// The board of the puzzle that the text spells, and facts of it.
+fn board_text(alloc: Global, text: &[u8]) -> Result<Vec<u8>, RunFault>
+    requires { length text.now ≤ MOST_BYTES }
+    ensures board { IfOk result (λ printed. BoardGives text.now printed.items) }
+    ensures puzzle { IfErr result (SpellsNoPuzzle text.now) }
+    ensures kind { IfErr result IsOfReadText }
+{
+    let puzzle = read_puzzle(alloc, text)?;
+    let partial = Partial::new(alloc, &puzzle)?;
+    let mut printed = write_drawing(alloc, &partial, None)?;
+    let facts = write_facts(alloc, &puzzle)?;
+    printed.extend_from_slice(&facts)?;
+    Ok(printed)
+}
+
+// The lines of symmetries of the puzzle that the text spells.
+fn symmetries_text(alloc: Global, text: &[u8]) -> Result<Vec<u8>, RunFault>
+    requires { length text.now ≤ MOST_BYTES }
+    ensures symmetries { IfOk result (λ printed. SymmetriesGive text.now printed.items) }
+    ensures puzzle { IfErr result (SpellsNoPuzzle text.now) }
+    ensures kind { IfErr result IsOfReadText }
+{
+    let puzzle = read_puzzle(alloc, text)?;
+    let lines = suggest(alloc, &puzzle)?;
+    let printed = write_symmetries(alloc, &lines)?;
+    Ok(printed)
+}
