@@ -1,5 +1,5 @@
 #!/usr/bin/env python3
-"""Runs the built program on each case of `cases/` and each folder of `examples/`, and shows what isn't as wanted.
+"""Runs the built program on each case of `cases/` and each example of `examples/`, and shows what isn't as wanted.
 
 usage: check_cases.py PROGRAM [CASE..]
 
@@ -22,6 +22,8 @@ from plain_search import ItemSearch, Search, read_puzzle
 
 TOP = os.path.join(os.path.dirname(os.path.abspath(__file__)), "..")
 CASES, EXAMPLES = os.path.join(TOP, "cases"), os.path.join(TOP, "examples")
+# The folder of `examples/` that has puzzles alone.
+GALLERY = "gallery"
 DOCUMENTS = ("puzzle", "list", "certificate")
 WORKERS, FORKS, DEPTHS = (1, 2, 7, 64), (0, 3, 6), (0, 1, 2, 3)
 # The seconds that one run of the program may take.
@@ -407,6 +409,8 @@ def tried(work):
 def every_case():
     """Each kind of work with its case, the dearest first."""
     for name in sorted(os.listdir(EXAMPLES)):
+        if name == GALLERY:
+            continue
         documents = example_documents(name)
         yield "example", Case(f"examples/{name}", documents)
         for document in DOCUMENTS:

@@ -170,7 +170,7 @@ def commands():
     found = []
     for words in ("tiles 3 2", "tiles 4 3", "tiles 4 5", "--version", "--help", "solve --help", "check", "tiles 5 x"):
         found.append(Command(f"program: {words}", [program, *words.split()]))
-    for example in sorted(os.listdir(EXAMPLES)):
+    for example in sorted(set(os.listdir(EXAMPLES)) - {"gallery"}):
         files = [os.path.join(EXAMPLES, example, it) for it in ("puzzle", "list", "certificate")]
         joined = "".join(map(contents, files))
         found.append(Command(f"program: {example}, joined", [program], joined))
