@@ -33,7 +33,7 @@ LONGEST = 300
 TEXTS = {"like", "change", *DOCUMENTS}
 CHECKED = {"answer", "fault", "joined", "rows", "expansion", "arrangements", "cut"}
 STREAMED = {f"{stream}{end}" for stream in ("stdout", "stderr") for end in ("", "_begins", "_has")}
-ORDERED = {"words", "stdin", "status", "files", "files_have", *STREAMED}
+ORDERED = {"words", "stdin", "status", "files", "files_have", "stdout_lines", *STREAMED}
 SOLVED = {"solve"}
 WANTED = {"answer", "fault", "rows", "expansion", "arrangements", "words", "solve"}
 
@@ -272,7 +272,10 @@ def order(trial, case):
             trial.wants(way, f"{stream}, its begin", begins, text[: len(begins)])
         if has is not None and text_of(has) not in text:
             trial.differs(way, f"{stream}, a part of it", text_of(has), text)
-        if begins is None and has is None:
+        lines = keys.get("stdout_lines") if stream == "stdout" else None
+        if lines is not None:
+            trial.wants(way, f"{stream}, its lines", b"%d" % lines, b"%d" % text.count(b"\n"))
+        if begins is None and has is None and lines is None:
             trial.wants(way, stream, text_of(keys.get(stream, "")), text)
     for document, text in keys.get("files", {}).items():
         trial.wants(way, f"the file {document}", text_of(text), trial.contents(document))

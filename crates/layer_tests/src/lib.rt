@@ -16,8 +16,6 @@ mod puzzles;
 #[cfg(test)]
 mod scans;
 #[cfg(test)]
-mod suggestions;
-#[cfg(test)]
 mod symmetries;
 #[cfg(test)]
 mod texts;
