@@ -2,15 +2,10 @@
 
 ghost use Rattle.std.specs.Prelude.{◌≡◌};
 
-use match_board::Tile;
 use match_puzzle::{Pair, Placement, Puzzle};
 use match_text::read_puzzle;
 use std::alloc::Global;
 use std::test::Fail;
-
-/// One cell, whose tile shows the same colour on opposite sides and may be turned.
-pub const STRIPED_TILE: &[u8] =
-    b"match 1\nboard rect 1 1\nturns yes\nborder free\ntiles 1\ntile 0101\nend\n";
 
 /// Six triangles round a point, with 0 all round; the colours 1 to 6 go round.
 pub const SIX_TRIANGLES: &[u8] =
@@ -34,14 +29,6 @@ pub fn pair(cell: u16, tile: u16, turn: u8) -> Pair
         cell,
         placement: turned(tile, turn),
     }
-}
-
-/// The tile with these colours, of which it takes as many as it has sides.
-pub fn tile(colours: [u8; 4], sides: u8) -> Result<Tile, Fail> {
-    if sides != 3 && sides != 4 {
-        return Err(Fail::from("no tile"));
-    }
-    Ok(Tile::new(colours, sides)?)
 }
 
 /// The puzzle of a short text.

@@ -1,8 +1,6 @@
-//! Tests of boards, tiles, puzzles and their texts, symmetries and exact covers, over what their libraries give.
+//! Tests of puzzles and their texts, symmetries and exact covers, over what their libraries give.
 #![tactic(auto)]
 
-#[cfg(test)]
-mod boards;
 #[cfg(test)]
 mod covers;
 #[cfg(test)]
@@ -10,14 +8,12 @@ mod faults;
 #[cfg(test)]
 mod fixtures;
 #[cfg(test)]
+mod limits;
+#[cfg(test)]
 mod partials;
 #[cfg(test)]
-mod puzzles;
-#[cfg(test)]
-mod scans;
+mod second_forms;
 #[cfg(test)]
 mod symmetries;
 #[cfg(test)]
 mod texts;
-#[cfg(test)]
-mod tiles;

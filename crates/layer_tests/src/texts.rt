@@ -1,13 +1,12 @@
 //! Texts of puzzles and lists that are read, and written again.
 
-use crate::fixtures::{MATED_PAIR, SIX_TRIANGLES, puzzle_of, turned};
-use match_puzzle::Arrangement;
-use match_text::{list_laws, list_within_limits, puzzle_laws, read_list, write_list, write_puzzle};
+use crate::fixtures::{MATED_PAIR, SIX_TRIANGLES, puzzle_of};
+use match_text::{list_laws, puzzle_laws, read_list, write_list, write_puzzle};
 use sample_puzzles::{
     SQUARE_OF_FOUR, SQUARE_OF_FOUR_LIST, TURNING_TRIANGLE, TURNING_TRIANGLE_LIST, TWIN_TILES,
     TWIN_TILES_LIST,
 };
-use std::alloc::{AllocError, Global};
+use std::alloc::Global;
 use std::test::Fail;
 
 // A puzzle with a rule of its own for each of the border's four pairs.
@@ -24,16 +23,6 @@ const CORNER_SHAPE: &[u8] =
 
 // Rows of one to three placements.
 const UNEVEN_LIST: &[u8] = b"list 1\narrangements 3\n10.1 2.0\n3.3 4.2 50.0\n6.1\nend\n";
-
-const UNEVEN_ROWS: [&[(u16, u8)]; 3] = [&[(10, 1), (2, 0)], &[(3, 3), (4, 2), (50, 0)], &[(6, 1)]];
-
-// The list of a short text.
-fn list_of(alloc: Global, text: &[u8]) -> Result<Vec<Arrangement>, Fail> {
-    if text.len() > 1000 {
-        return Err(Fail::from("too long"));
-    }
-    Ok(read_list(alloc, text)?)
-}
 
 // What is written of the list of a short text.
 fn list_again(alloc: Global, text: &[u8]) -> Result<Vec<u8>, Fail> {
@@ -70,80 +59,5 @@ fn writes_what_was_read(rt: HostRuntime) -> Result<(), Fail> {
     }
     list_laws();
     puzzle_laws();
-    Ok(())
-}
-
-#[test]
-fn keeps_each_row_by_itself(rt: HostRuntime) -> Result<(), Fail> {
-    let list = list_of(rt.alloc(), UNEVEN_LIST)?;
-    assert!(rt; list.len() == 3);
-    for (arrangement, row) in list.iter().zip(UNEVEN_ROWS) {
-        let placements = arrangement.placements();
-        assert!(rt; placements.len() == row.len());
-        for (placement, (tile, turn)) in placements.iter().zip(row) {
-            assert!(rt; *placement == turned(*tile, *turn), "{tile}.{turn}");
-        }
-    }
-    Ok(())
-}
-
-// Lists, and what is written of them: version 1 where that spells the list.
-const WRITTEN: [(&[u8], &[u8]); 4] = [
-    (
-        b"list 2\narrangements 1\n99.3\nend\n",
-        b"list 1\narrangements 1\n99.3\nend\n",
-    ),
-    (
-        b"list 2\narrangements 0\nend\n",
-        b"list 1\narrangements 0\nend\n",
-    ),
-    (
-        b"list 2\narrangements 1\n100.0\nend\n",
-        b"list 2\narrangements 1\n100.0\nend\n",
-    ),
-    (
-        b"list 2\narrangements 2\n0.0\n9.1 255.3\nend\n",
-        b"list 2\narrangements 2\n0.0\n9.1 255.3\nend\n",
-    ),
-];
-
-#[test]
-fn writes_lists_in_the_first_version_that_spells_them(rt: HostRuntime) -> Result<(), Fail> {
-    for (text, written) in WRITTEN {
-        assert!(rt; list_again(rt.alloc(), text)?.as_slice() == written);
-    }
-    Ok(())
-}
-
-// A list of one row of so many equal placements.
-fn list_with(
-    alloc: Global,
-    count: usize,
-    tile: u16,
-    turn: u8,
-) -> Result<Vec<Arrangement>, AllocError> {
-    let placements = vec![in alloc; turned(tile, turn); count]?;
-    let mut list = Vec::new(alloc);
-    list.push(Arrangement::new(placements))?;
-    Ok(list)
-}
-
-#[test]
-fn tells_which_lists_have_a_spelling(rt: HostRuntime) -> Result<(), Fail> {
-    let rows = [
-        (1, 255, 3, true),
-        (256, 0, 0, true),
-        (0, 0, 0, false),
-        (257, 0, 0, false),
-        (1, 256, 0, false),
-        (1, 0, 4, false),
-    ];
-    for (count, tile, turn, within) in rows {
-        let list = list_with(rt.alloc(), count, tile, turn)?;
-        assert!(rt;
-            list_within_limits(&list) == within,
-            "{count} of {tile}.{turn}"
-        );
-    }
     Ok(())
 }
