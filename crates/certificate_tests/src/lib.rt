@@ -1,4 +1,4 @@
-//! Tests of certificates, of their check, of what is said of it, and of the words of the command line.
+//! Tests of certificates, of their check and of what is said of it, by calls that the program does not make.
 #![tactic(auto)]
 
 #[cfg(test)]
@@ -11,5 +11,3 @@ mod reports;
 mod texts;
 #[cfg(test)]
 mod trees;
-#[cfg(test)]
-mod words;

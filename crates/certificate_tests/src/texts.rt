@@ -2,7 +2,7 @@
 
 ghost use Rattle.std.specs.Prelude.{◌<◌, ◌^◌, IfOk, OnOk, length};
 
-use cert_tree::{Certificate, Lemma, read_certificate, read_lemma};
+use cert_tree::{Certificate, read_certificate};
 use match_puzzle::{Arrangement, Puzzle};
 use match_text::{read_list, read_puzzle};
 use std::alloc::{AllocError, Global};
@@ -10,10 +10,6 @@ use std::test::Fail;
 
 // No test has a text of so many bytes.
 const TOO_LONG: usize = 100_000;
-
-/// How the certificate of the turning triangle begins, before its three lemmas.
-pub const TURNING_HEAD: &[u8] =
-    b"certificate 1\nsymmetries 1\nsymmetry 1 + cells 3 0 2 1 colours 0 1 2 3 tiles 0 1 2 3\nlemmas 3\n";
 
 /// The texts, one after the other, each so many times.
 pub fn joined(alloc: Global, parts: &[(&[u8], u32)]) -> Result<Vec<u8>, AllocError> {
@@ -57,10 +53,4 @@ pub fn list_of(alloc: Global, text: &[u8]) -> Result<Vec<Arrangement>, Fail>
 pub fn certificate_of(alloc: Global, text: &[u8]) -> Result<Certificate, Fail> {
     short(text)?;
     Ok(read_certificate(alloc, text)?)
-}
-
-/// The lemma of this text.
-pub fn lemma_of(alloc: Global, text: &[u8]) -> Result<Lemma, Fail> {
-    short(text)?;
-    Ok(read_lemma(alloc, text)?)
 }
