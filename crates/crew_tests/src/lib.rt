@@ -10,8 +10,6 @@ mod desks;
 #[cfg(test)]
 mod joins;
 #[cfg(test)]
-mod links;
-#[cfg(test)]
 mod live_crews;
 #[cfg(test)]
 mod machines;
@@ -19,7 +17,5 @@ mod machines;
 mod meetings;
 #[cfg(test)]
 mod searches;
-#[cfg(test)]
-mod solves;
 #[cfg(test)]
 mod tickets;

@@ -1,51 +1,6 @@
 use std::test::Fail;
 use steal_crew::machine::{Event, State, StepFault};
 
-#[test]
-fn two_workers_at_one_queue(rt: HostRuntime) -> Result<(), Fail> {
-    let mut state = State::new(rt.alloc(), 2, 1, 2)?;
-    let events = [
-        Event::Deal {
-            queue: 0,
-            number: 5,
-        },
-        Event::Deal {
-            queue: 0,
-            number: 7,
-        },
-        Event::Take {
-            worker: 1,
-            queue: 0,
-        },
-        Event::Take {
-            worker: 0,
-            queue: 0,
-        },
-        Event::Draw { worker: 0 },
-        Event::Post { worker: 1 },
-        Event::Finish { worker: 1 },
-    ];
-    for event in events.iter() {
-        state.step(event)?;
-    }
-    let empty = state.step(&Event::Take {
-        worker: 1,
-        queue: 0,
-    });
-    assert!(rt; empty == Err(StepFault::Empty));
-    assert!(rt; state.dealt() == [5, 7].as_slice());
-    assert!(rt; state.waiting(0).len() == 0);
-    assert!(rt; state.taken(0) == [7].as_slice());
-    assert!(rt; state.taken(1) == [5].as_slice());
-    assert!(rt; (state.busy(0), state.busy(1)) == (Some(7), None));
-    assert!(rt; state.drawn(0) == [0].as_slice());
-    assert!(rt; state.next() == 1);
-    assert!(rt; state.posted() == [5].as_slice());
-    assert!(rt; state.done() == [5].as_slice());
-    assert!(rt; !state.stopped(1));
-    Ok(())
-}
-
 // Each row is an event and what comes of it.
 #[test]
 fn each_event_comes_again(rt: HostRuntime) -> Result<(), Fail> {
@@ -106,6 +61,13 @@ fn each_event_comes_again(rt: HostRuntime) -> Result<(), Fail> {
         (Event::Stop { worker: 0 }, Ok(())),
         (Event::Stop { worker: 0 }, Err(StepFault::Stopped)),
         (Event::Draw { worker: 0 }, Err(StepFault::Stopped)),
+        (
+            Event::Take {
+                worker: 1,
+                queue: 1,
+            },
+            Err(StepFault::Empty),
+        ),
         (Event::Stop { worker: 1 }, Ok(())),
     ];
     for (event, wanted) in rows.iter() {
