@@ -139,14 +139,3 @@ fn writes_a_front_where_the_writer_fails(rt: HostRuntime) -> Result<(), Fail> {
     }
     Ok(())
 }
-
-#[test]
-fn moves_one_byte_at_a_time(rt: HostRuntime) -> Result<(), Fail> {
-    for documents in [SQUARE, TWINS, TRIANGLE] {
-        let mut writer = Fake::new(rt.alloc(), b"", 1, usize::MAX);
-        let outcome = check_over(&rt, rt.alloc(), &documents, 1, NEVER, &mut writer);
-        assert!(rt; with_memory(outcome)? == Ok(Status::Complete));
-        assert!(rt; writer.written() == b"complete 1\n".as_slice());
-    }
-    Ok(())
-}

@@ -1,10 +1,9 @@
-//! Reading whole, writing whole, and cutting what was joined.
+//! Reading whole and writing whole.
 
 use crate::fakes::{Fake, with_memory};
 use match_runs::{
-    Document, Failed, Input, Output, RunFault, Sink, Source, cut_joined, read_whole, write_whole,
+    Document, Failed, Input, Output, RunFault, Sink, Source, read_whole, write_whole,
 };
-use std::alloc::{AllocError, Global};
 use std::io::{self, ErrorKind, Read, Write};
 use std::test::Fail;
 
@@ -51,34 +50,6 @@ fn reads_and_writes_up_to_an_error(rt: HostRuntime) -> Result<(), Fail> {
         assert!(rt; write_whole(&mut writer, b"complete 1\n") == outcome);
         assert!(rt; writer.written() == front);
         assert!(rt; writer.errors() == errors);
-    }
-    Ok(())
-}
-
-// So many bytes, the numbers below 251 over and over.
-fn many_bytes(alloc: Global, count: u32) -> Result<Vec<u8>, AllocError> {
-    let mut bytes = Vec::new(alloc);
-    for number in 0..count {
-        bytes.push((number % 251) as u8)?;
-    }
-    Ok(bytes)
-}
-
-// Whether a source that gives at most so many of these bytes a call, and the system's reader over them, are read whole.
-fn are_read_whole(alloc: Global, bytes: &[u8], most: usize) -> Result<bool, Fail> {
-    let mut fake = Fake::new(alloc, bytes, most, usize::MAX);
-    let of_fake = read_whole(alloc, &mut fake, 1_000_000, Document::Input)?;
-    let mut input = Input::new(bytes);
-    let of_system = read_whole(alloc, &mut input, 1_000_000, Document::Input)?;
-    Ok(of_fake.as_slice() == bytes && of_system.as_slice() == bytes)
-}
-
-#[test]
-fn reads_long_inputs_whole(rt: HostRuntime) -> Result<(), Fail> {
-    for count in [1_001, 65_536, 65_537, 200_000] {
-        let bytes = many_bytes(rt.alloc(), count)?;
-        assert!(rt; are_read_whole(rt.alloc(), &bytes, 1_000)?);
-        assert!(rt; are_read_whole(rt.alloc(), &bytes, usize::MAX)?);
     }
     Ok(())
 }
@@ -134,24 +105,5 @@ fn tries_again_where_it_is_interrupted(rt: HostRuntime) {
     for outcome in [Ok(1), Ok(1), Err(Failed)] {
         assert!(rt; reader.read(&mut [0; 4]) == outcome);
         assert!(rt; writer.write(b"end") == outcome);
-    }
-}
-
-// Behind each line that is `end`, and nothing else.
-#[test]
-fn cuts_joined_documents(rt: HostRuntime) {
-    for (joined, puzzle, list, certificate) in [
-        (
-            b"one\nend\n end\nend \nend\nthree\nend\n\n".as_slice(),
-            b"one\nend\n".as_slice(),
-            b" end\nend \nend\n".as_slice(),
-            b"three\nend\n\n".as_slice(),
-        ),
-        (b"one\nend\nend", b"one\nend\n", b"end", b""),
-    ] {
-        let cut = cut_joined(joined);
-        assert!(rt; cut.puzzle == puzzle);
-        assert!(rt; cut.list == list);
-        assert!(rt; cut.certificate == certificate);
     }
 }
