@@ -57,21 +57,6 @@ pub fn square_of_four(alloc: Global) -> Result<Puzzle, PuzzleTextFault> {
     read_puzzle(alloc, SQUARE_OF_FOUR)
 }
 
-/// The list of [`SQUARE_OF_FOUR_LIST`].
-pub fn square_of_four_list(alloc: Global) -> Result<Vec<Arrangement>, ListTextFault> {
-    read_list(alloc, SQUARE_OF_FOUR_LIST)
-}
-
-/// The puzzle of [`TWIN_TILES`].
-pub fn twin_tiles(alloc: Global) -> Result<Puzzle, PuzzleTextFault> {
-    read_puzzle(alloc, TWIN_TILES)
-}
-
-/// The list of [`TWIN_TILES_LIST`].
-pub fn twin_tiles_list(alloc: Global) -> Result<Vec<Arrangement>, ListTextFault> {
-    read_list(alloc, TWIN_TILES_LIST)
-}
-
 /// The symmetry that exchanges the [`TWIN_TILES`], the only one.
 pub fn exchange_of_twins(alloc: Global) -> Result<Vec<SymmetryLine>, AllocError>
     ensures one { IfOk result (λ lines. vec_len lines ≡ 1) }
