@@ -4,7 +4,7 @@ _edgematch() {
   local word=${COMP_WORDS[COMP_CWORD]} before=${COMP_WORDS[COMP_CWORD - 1]} command=${COMP_WORDS[1]} words
   COMPREPLY=()
   if [ "$COMP_CWORD" -eq 1 ]; then
-    words="check solve expand count show symmetries tiles help --help --version"
+    words="check explain solve expand count show symmetries tiles help --help --version"
   else
     case $before in
       --depth | --fuel | --forks | --workers) return ;;
@@ -12,12 +12,12 @@ _edgematch() {
     case $command in
       check) words="--workers --forks --help" ;;
       solve) words="--depth --fuel --workers --help" ;;
-      expand | count | show | symmetries | tiles) words="--help" ;;
-      help) words="check solve expand count show symmetries tiles help" ;;
+      explain | expand | count | show | symmetries | tiles) words="--help" ;;
+      help) words="check explain solve expand count show symmetries tiles help" ;;
     esac
   fi
   case $command in
-    check | solve | expand | count | show | symmetries)
+    check | explain | solve | expand | count | show | symmetries)
       if [ "$COMP_CWORD" -gt 1 ] && [ "${word:0:1}" != - ]; then
         mapfile -t COMPREPLY < <(compgen -f -- "$word")
         return

@@ -1,6 +1,7 @@
 # Completion for fish: put this file into a folder of $fish_complete_path.
 
 complete -c edgematch -f -n __fish_use_subcommand -a check -d "Checks that a list has every arrangement of a puzzle"
+complete -c edgematch -f -n __fish_use_subcommand -a explain -d "Checks a list, and says why it is refused"
 complete -c edgematch -f -n __fish_use_subcommand -a solve -d "Searches for every arrangement of a puzzle, and writes their list and a certificate"
 complete -c edgematch -f -n __fish_use_subcommand -a expand -d "Checks a list, and prints every arrangement of the puzzle"
 complete -c edgematch -f -n __fish_use_subcommand -a count -d "Checks a list, and counts the arrangements of the puzzle"

@@ -31,11 +31,11 @@ LONGEST = 300
 
 # What a table of a case may have, by what it is.
 TEXTS = {"like", "change", *DOCUMENTS}
-CHECKED = {"answer", "fault", "joined", "rows", "expansion", "arrangements", "cut"}
+CHECKED = {"answer", "fault", "joined", "rows", "explanations", "explanation", "expansion", "arrangements", "cut"}
 STREAMED = {f"{stream}{end}" for stream in ("stdout", "stderr") for end in ("", "_begins", "_has")}
 ORDERED = {"words", "stdin", "status", "files", "files_have", "stdout_lines", *STREAMED}
 SOLVED = {"solve"}
-WANTED = {"answer", "fault", "rows", "expansion", "arrangements", "words", "solve"}
+WANTED = {"answer", "fault", "rows", "explanations", "expansion", "arrangements", "words", "solve"}
 
 
 class Unreadable(Exception):
@@ -115,12 +115,15 @@ def rows_of(case):
     marked = [it for it in case.documents if b"@" in case.documents[it]]
     if len(marked) != 1 or case.documents[marked[0]].count(b"@") != 1:
         raise Unreadable(f"{case.name}: one '@' stands in its documents, where a row's text goes")
-    for text, wanted, *joined in case.keys["rows"]:
+    rows = [(text, answer, joined[0] if joined else case.keys.get("joined"), None)
+            for text, answer, *joined in case.keys.get("rows", ())]
+    rows += [(text, answer, None, why) for text, answer, why in case.keys.get("explanations", ())]
+    for text, answer, joined, why in rows:
         text = text_of(text)
         documents = dict(case.documents)
         documents[marked[0]] = documents[marked[0]].replace(b"@", text)
         shown = repr(text[:60].decode("latin-1"))
-        keys = {"answer": wanted, "joined": joined[0] if joined else case.keys.get("joined")}
+        keys = {"answer": answer, "joined": joined, "explanation": why}
         yield Case(f"{case.name}[{shown}]", documents, {it: keys[it] for it in keys if keys[it] is not None})
 
 
@@ -138,7 +141,7 @@ def cases_of(path):
             raise Unreadable(f"{name}: a case {why}")
         case = Case(name, documents_of(name, table, earlier), {it: table[it] for it in table if it not in TEXTS})
         earlier[key] = case
-        if "rows" in table:
+        if "rows" in table or "explanations" in table:
             yield from rows_of(case)
         else:
             yield case
@@ -227,6 +230,18 @@ def check(trial, case):
     if joined is not False:
         stdin = b"".join(case.documents[it] for it in DOCUMENTS)
         trial.wants_outcome("joined", outcome_of(joined), trial.run([], stdin))
+    explain(trial, wanted, case.keys.get("explanation", ""))
+
+
+def explain(trial, wanted, why):
+    """An explanation: what a check comes to, and below a refusal why, which begins with these lines."""
+    got = trial.run(["explain", *trial.paths()])
+    line, below = got.stdout[: len(wanted.stdout)], got.stdout[len(wanted.stdout) :]
+    trial.wants_outcome("explain", wanted, Outcome(got.status, line, got.stderr))
+    why = why.encode("latin-1")
+    trial.wants("explain", "what stands below", why, below[: len(why)])
+    if (wanted.status == 1) != (below != b""):
+        trial.differs("explain", "what stands below, and should only below a refusal", b"", below)
 
 
 def list_text(arrangements):

@@ -41,6 +41,9 @@ check_app =
     (with_rule (with_files (new_app (codes "check"))) (optional_number (codes "workers") 1 MOST_WORKERS (codes "1")))
     (optional_number (codes "forks") 0 MOST_FORKS (codes "0"))
 
+abbrev pub explain_app : App
+explain_app = with_files (new_app (codes "explain"))
+
 abbrev pub solve_app : App
 solve_app =
     with_rule
@@ -68,7 +71,8 @@ tiles_app =
 
 -- the commands, in the order of the help
 abbrev pub commands : List App
-commands = check_app ∷ solve_app ∷ expand_app ∷ count_app ∷ show_app ∷ symmetries_app ∷ tiles_app ∷ []
+commands =
+    check_app ∷ explain_app ∷ solve_app ∷ expand_app ∷ count_app ∷ show_app ∷ symmetries_app ∷ tiles_app ∷ []
 
 -- the program with all of them
 abbrev pub whole_app : App

@@ -9,7 +9,7 @@ use Rattle.command_words.specs.declared.faults.WordsFault.{WordsFault}
 use Rattle.command_words.specs.declared.faults.WordsFault.TheVariants.{Words, Memory}
 use Rattle.command_words.specs.declared.orders.Files.{Files}
 use Rattle.command_words.specs.declared.orders.Order.{Order}
-use Rattle.command_words.specs.declared.orders.Order.TheVariants.{Joined, Check, Solve, Expand, Count, Show, Symmetries, Tiles}
+use Rattle.command_words.specs.declared.orders.Order.TheVariants.{Joined, Check, Explain, Solve, Expand, Count, Show, Symmetries, Tiles}
 use Rattle.command_words.specs.Commands.{whole_app}
 
 -- the matches of a command have a text under this id
@@ -41,6 +41,7 @@ IsOrderOf None Joined = Unit {0}
 IsOrderOf (Some (name, rows)) (Check files workers forks) =
     (name ≡ codes "check") × NameFiles rows files × (number_of (codes "workers") rows ≡ Some workers)
     × (number_of (codes "forks") rows ≡ Some forks)
+IsOrderOf (Some (name, rows)) (Explain files) = (name ≡ codes "explain") × NameFiles rows files
 IsOrderOf (Some (name, rows)) (Solve files depth fuel workers) =
     (name ≡ codes "solve") × NameFiles rows files × (number_of (codes "depth") rows ≡ Some depth)
     × (number_of (codes "fuel") rows ≡ Some fuel) × (number_of (codes "workers") rows ≡ Some workers)

@@ -4,7 +4,7 @@ ghost use Rattle.std.specs.Prelude.{◌≡◌, IfOk, codes, false};
 ghost use Rattle.match_board.specs.declared.limits.TheConstants.{MOST_WORKERS};
 ghost use Rattle.clap.specs.Words.{app_of, new_app, rule_of};
 ghost use Rattle.command_words.specs.Commands.{IsLocal, optional_number, wanted, wanted_number};
-ghost use Rattle.command_words.specs.Commands.{check_app, count_app, expand_app, show_app, solve_app};
+ghost use Rattle.command_words.specs.Commands.{check_app, count_app, expand_app, explain_app, show_app, solve_app};
 ghost use Rattle.command_words.specs.Commands.{symmetries_app, tiles_app};
 ghost use Rattle.command_words.specs.Commands.{whole_app, with_files, with_puzzle};
 
@@ -83,6 +83,19 @@ Exit status:
 
 Example:
   edgematch expand puzzle list certificate";
+
+const EXPLAINED: &str = "\
+Prints the answer of check, and where it is refused, why: a sentence, the line and the word where \
+the fault is, the board with what is placed there, and the pairs that fit where their number is told \
+wrongly.
+
+Exit status:
+  0  the list is complete
+  1  the certificate does not show that
+  2  anything else, which is said on standard error
+
+Example:
+  edgematch explain puzzle list certificate";
 
 const COUNTED: &str = "\
 Prints how many arrangements the puzzle has, and how many where those that the symmetries of the \
@@ -255,6 +268,18 @@ fn expand<'a>(alloc: Global) -> Result<Command<'a>, AllocError>
     )
 }
 
+fn explain<'a>(alloc: Global) -> Result<Command<'a>, AllocError>
+    ensures app { IfOk result (λ c. app_of c ≡ explain_app) }
+    ensures local { IfOk result IsLocal }
+{
+    of_files(
+        alloc,
+        "explain",
+        "Checks a list, and says why it is refused",
+        EXPLAINED,
+    )
+}
+
 fn count<'a>(alloc: Global) -> Result<Command<'a>, AllocError>
     ensures app { IfOk result (λ c. app_of c ≡ count_app) }
     ensures local { IfOk result IsLocal }
@@ -339,6 +364,7 @@ pub fn program<'a>(alloc: Global) -> Result<Command<'a>, AllocError>
         .no_binary_name(true)
         .bin_name(NAME)?
         .subcommand(check(alloc)?)?
+        .subcommand(explain(alloc)?)?
         .subcommand(solve(alloc)?)?
         .subcommand(expand(alloc)?)?
         .subcommand(count(alloc)?)?

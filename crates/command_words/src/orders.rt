@@ -21,6 +21,8 @@ pub enum Order {
         workers: Workers,
         forks: Forks,
     },
+    /// To check the documents in these files, and to say why they are refused.
+    Explain(Files),
     /// To search for all arrangements of the puzzle in its file, and to make the files of their list and of a
     /// certificate.
     Solve {

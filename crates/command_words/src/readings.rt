@@ -117,6 +117,7 @@ pub fn order(alloc: Global, words: &[String]) -> Result<Order, WordsFault>
     };
     match name {
         "check" => Ok(check(alloc, matches)?),
+        "explain" => Ok(Order::Explain(files(alloc, matches)?)),
         "solve" => Ok(solve(alloc, matches)?),
         "expand" => Ok(Order::Expand(files(alloc, matches)?)),
         "count" => Ok(Order::Count(files(alloc, matches)?)),

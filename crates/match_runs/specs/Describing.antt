@@ -16,30 +16,30 @@ use Rattle.match_runs.specs.declared.faults.Document.TheVariants as documents
 use Rattle.match_runs.specs.declared.faults.RunFault.{RunFault}
 use Rattle.match_runs.specs.declared.faults.RunFault.TheVariants as runs
 
--- The text of the puzzle spells one, and what is printed is its empty board, drawn, and then facts of it.
-pub record BoardGives (text printed : List ℕ) : Type 0 where
-  pub puzzle : Task
-  pub puzzle_read : PuzzleReads text (Ok puzzle)
+-- The text is the empty board of the puzzle, drawn, and then facts of it.
+pub record IsBoardText (puzzle : Task) (text : List ℕ) : Type 0 where
   pub drawing : List ℕ
   pub drawn : IsDrawing (record { puzzle = puzzle; placed = empty_prefix puzzle }) None drawing
   pub facts : List ℕ
   pub told : IsFacts puzzle facts
-  pub spelled : printed ≡ drawing ++ facts
+  pub parts : text ≡ drawing ++ facts
 
--- The text of the puzzle spells one, and what is printed are lines of symmetries of it, at most so many as a
--- certificate may have, as a certificate has them.
-pub record SymmetriesGive (text printed : List ℕ) : Type 0 where
-  pub puzzle : Task
-  pub puzzle_read : PuzzleReads text (Ok puzzle)
+-- The text has lines of symmetries of the puzzle, at most so many as a certificate may have, as a certificate has them.
+pub record IsSymmetriesText (puzzle : Task) (text : List ℕ) : Type 0 where
   pub lines : List SymmetryLine
   pub symmetries : All (IsSymmetry puzzle) lines
   pub few : length lines ≤ MOST_SYMMETRIES
-  pub spelled : printed ≡ symmetries_spelling lines
+  pub spelled : text ≡ symmetries_spelling lines
+
+-- What is printed of a puzzle.
+abbrev pub DescribesPuzzle : Description → (puzzle : Task) (printed : List ℕ) → Type 0
+DescribesPuzzle descriptions.Board puzzle printed = IsBoardText puzzle printed
+DescribesPuzzle descriptions.Symmetries puzzle printed = IsSymmetriesText puzzle printed
 
 -- What is printed of the puzzle that the text spells.
 abbrev pub Describes : Description → (text printed : List ℕ) → Type 0
-Describes descriptions.Board text printed = BoardGives text printed
-Describes descriptions.Symmetries text printed = SymmetriesGive text printed
+Describes description text printed =
+    (puzzle : Task) × PuzzleReads text (Ok puzzle) × DescribesPuzzle description puzzle printed
 
 -- The text spells no puzzle, with this fault.
 abbrev pub SpellsNoPuzzle : (text : List ℕ) → RunFault → Type 0

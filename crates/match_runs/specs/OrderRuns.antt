@@ -4,7 +4,7 @@ use Rattle.std.specs.String.{string_bytes}
 use Rattle.std.specs.Io.KnownBytes.{Appends}
 use Rattle.command_words.specs.declared.orders.Files.{Files}
 use Rattle.command_words.specs.declared.orders.Order.{Order}
-use Rattle.command_words.specs.declared.orders.Order.TheVariants.{Joined, Check, Solve, Expand, Count, Show, Symmetries, Tiles}
+use Rattle.command_words.specs.declared.orders.Order.TheVariants.{Joined, Check, Explain, Solve, Expand, Count, Show, Symmetries, Tiles}
 use Rattle.match_runs.specs.Documents.{Texts}
 use Rattle.match_board.specs.declared.limits.TheConstants.{MOST_CLASSES}
 use Rattle.match_board.specs.Turns.{HasMoreLeastWords}
@@ -18,7 +18,7 @@ use Rattle.match_runs.specs.Sources.{ReadToEnds, together}
 use Rattle.match_runs.specs.Tiles.{IsOfTiles, TilesGive}
 use Rattle.match_runs.specs.declared.description_runs.Description.{Description}
 use Rattle.match_runs.specs.declared.description_runs.Description.TheVariants as descriptions
-use Rattle.match_runs.specs.declared.expansion_runs.Printing.TheVariants as printings
+use Rattle.match_runs.specs.declared.printing_runs.Printing.TheVariants as printings
 use Rattle.match_runs.specs.declared.exits.Exit.{Exit}
 use Rattle.match_runs.specs.declared.exits.Exit.TheVariants as exits
 use Rattle.match_runs.specs.declared.exits.Status.{Status}
@@ -56,6 +56,8 @@ OrderGives holds takes input output (Solve files depth fuel workers) exit =
     (exit ≡ exits.Done) × PuzzleHolds (holds (string_bytes files.puzzle)) (Solves takes output files workers)
 OrderGives holds takes input output (Expand files) exit =
     EndsBy (FilesHold holds files) (printed printings.All) output exit
+OrderGives holds takes input output (Explain files) exit =
+    EndsBy (FilesHold holds files) (printed printings.Explanation) output exit
 OrderGives holds takes input output (Count files) exit =
     EndsBy (FilesHold holds files) (printed printings.Count) output exit
 OrderGives holds takes input output (Show puzzle) exit =
@@ -77,6 +79,7 @@ IsOfOrder Joined fault = IsOfRun checked fault
 IsOfOrder (Check files workers forks) fault = IsOfRun checked fault
 IsOfOrder (Solve files depth fuel workers) fault = IsOfSolving fault
 IsOfOrder (Expand files) fault = IsOfRun (printed printings.All) fault
+IsOfOrder (Explain files) fault = IsOfRun (printed printings.Explanation) fault
 IsOfOrder (Count files) fault = IsOfRun (printed printings.Count) fault
 IsOfOrder (Show puzzle) fault = IsOfDescribing fault
 IsOfOrder (Symmetries puzzle) fault = IsOfDescribing fault
@@ -123,6 +126,8 @@ OrderStops holds input output (Solve files depth fuel workers) fault =
     StopsSolving output (holds (string_bytes files.puzzle)) workers fault
 OrderStops holds input output (Expand files) fault =
     ComesTo (FilesHold holds files) (printed printings.All) output (Err fault)
+OrderStops holds input output (Explain files) fault =
+    ComesTo (FilesHold holds files) (printed printings.Explanation) output (Err fault)
 OrderStops holds input output (Count files) fault =
     ComesTo (FilesHold holds files) (printed printings.Count) output (Err fault)
 OrderStops holds input output (Show puzzle) fault =

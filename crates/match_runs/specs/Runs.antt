@@ -21,12 +21,13 @@ use Rattle.cert_check.specs.Answer.{AreDistinct, IsAnswer, IsCompleteList}
 use Rattle.cert_check.specs.declared.faults.Answer.{Answer}
 use Rattle.cert_check.specs.declared.faults.Answer.TheVariants.{Complete, Refused}
 use Rattle.match_report.specs.AnswerText.{answer_line}
+use Rattle.match_explain.specs.Explanation.{IsExplanation}
 use Rattle.symmetry_orbits.specs.Expansion.{IsExpansion, AreMoreReached}
 use Rattle.symmetry_orbits.specs.Orbits.{AreMoreListedOrInOrbit, HasArrangements, IsCount}
 use Rattle.symmetry_orbits.specs.declared.numbers.Count.{Count}
 use Rattle.match_text.specs.Spelling.{count_words, text_of}
-use Rattle.match_runs.specs.declared.expansion_runs.Printing.{Printing}
-use Rattle.match_runs.specs.declared.expansion_runs.Printing.TheVariants as printings
+use Rattle.match_runs.specs.declared.printing_runs.Printing.{Printing}
+use Rattle.match_runs.specs.declared.printing_runs.Printing.TheVariants as printings
 use Rattle.match_runs.specs.Documents.{Texts}
 use Rattle.match_runs.specs.Exits.{status_of}
 use Rattle.match_runs.specs.Moves.{Writing, WritesFront, WritesWhole}
@@ -120,14 +121,19 @@ IsCountOf question count =
     IsCount question.puzzle question.symmetries question.listed count
     × HasArrangements question.puzzle count.arrangements
 
--- What is printed of what was asked: the answer where it is refused, and else the list of all arrangements, or how many
--- they are.
+-- What is printed of what was asked. Where it is complete: the list of all arrangements, or how many they are, or the
+-- answer. Where it is refused: the answer, and why, where that is to be explained.
 abbrev pub Prints : Question → Answer → Printing → List ℕ → Type 0
 Prints question Complete printings.All text =
     (all : List (List Placement)) × AreAllInOrder question all × IsListText all text
 Prints question Complete printings.Count text =
     (count : Count) × IsCountOf question count × (text ≡ count_text count)
-Prints question (Refused fault) printing text = text ≡ answer_line (Refused fault) (length question.listed)
+Prints question Complete printings.Explanation text = text ≡ answer_line Complete (length question.listed)
+Prints question (Refused fault) printings.All text = text ≡ answer_line (Refused fault) (length question.listed)
+Prints question (Refused fault) printings.Count text = text ≡ answer_line (Refused fault) (length question.listed)
+Prints question (Refused fault) printings.Explanation text =
+    (why : List ℕ) × IsExplanation question fault why
+    × (text ≡ answer_line (Refused fault) (length question.listed) ++ why)
 
 -- What is printed of three documents, and the status that it ends with.
 abbrev pub PrintingGives : Printing → Texts → (text : List ℕ) → Status → Type 0
@@ -141,6 +147,7 @@ AreTooMany printings.All question =
     AreMoreReached MOST_ARRANGEMENTS question.puzzle question.symmetries question.listed
 AreTooMany printings.Count question =
     AreMoreListedOrInOrbit MOST_ARRANGEMENTS question.puzzle question.symmetries question.listed
+AreTooMany printings.Explanation question = ⊥
 
 -- The list is complete, and what it reaches is too many to be printed so.
 abbrev pub SpellTooMany : Printing → Texts → Type 0
@@ -156,7 +163,7 @@ outcome_of answer listed = record { answer = answer; listed = listed }
 pub data Request : Type 0 where
   -- whether the list is complete
   checked : Request
-  -- that, and where it is, all arrangements or how many they are
+  -- that, and where it is, all arrangements or how many they are; or where it is not, why
   printed : Printing → Request
 
 -- What is printed of them, and the status that it ends with.

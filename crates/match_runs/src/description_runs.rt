@@ -1,8 +1,9 @@
 //! Runs that describe a puzzle.
 
 ghost use Rattle.std.specs.Prelude.{◌≡◌, ◌≢◌, ◌≤◌, IfErr, IfOk, IsErrOf, OnOk, length};
-ghost use Rattle.match_runs.specs.Describing.{BoardGives, Describes, IsOfDescribing, IsOfReadText, SpellsNoPuzzle};
-ghost use Rattle.match_runs.specs.Describing.{SymmetriesGive};
+ghost use Rattle.match_puzzle.specs.Puzzle.{IsPuzzle};
+ghost use Rattle.match_runs.specs.Describing.{Describes, IsBoardText, IsOfDescribing, IsOfReadText, IsSymmetriesText};
+ghost use Rattle.match_runs.specs.Describing.{SpellsNoPuzzle};
 ghost use Rattle.match_runs.specs.Moves.{WritesFront, WritesWhole, reading_of, writing_of};
 ghost use Rattle.match_runs.specs.Solving.{IsOfPuzzle};
 ghost use Rattle.match_runs.specs.Sources.{PuzzleReadToEnd, StopsReadingPuzzle};
@@ -13,11 +14,11 @@ use crate::streams::sinks::{Sink, write_text};
 use crate::streams::sources::Source;
 use cert_tree::write_symmetries;
 use match_board::limits::MOST_BYTES;
-use match_puzzle::Partial;
+use match_puzzle::{Partial, Puzzle};
 use match_show::{write_drawing, write_facts};
 use match_symmetry::suggest;
 use match_text::read_puzzle;
-use std::alloc::Global;
+use std::alloc::{AllocError, Global};
 
 /// What is written of a puzzle.
 #[derive(Clone, Copy, PartialEq, Eq, Debug)]
@@ -67,36 +68,31 @@ fn described(alloc: Global, text: &[u8], description: Description) -> Result<Vec
     ensures puzzle { IfErr result (SpellsNoPuzzle text.now) }
     ensures kind { IfErr result IsOfReadText }
 {
-    match description {
-        Description::Board => board_text(alloc, text),
-        Description::Symmetries => symmetries_text(alloc, text),
-    }
+    let puzzle = read_puzzle(alloc, text)?;
+    let printed = match description {
+        Description::Board => board_text(alloc, &puzzle),
+        Description::Symmetries => symmetries_text(alloc, &puzzle),
+    };
+    Ok(printed?)
 }
 
-// The board of the puzzle that the text spells, and facts of it.
-fn board_text(alloc: Global, text: &[u8]) -> Result<Vec<u8>, RunFault>
-    requires { length text.now ≤ MOST_BYTES }
-    ensures board { IfOk result (λ printed. BoardGives text.now printed.items) }
-    ensures puzzle { IfErr result (SpellsNoPuzzle text.now) }
-    ensures kind { IfErr result IsOfReadText }
+// The board of the puzzle, and facts of it.
+fn board_text(alloc: Global, puzzle: &Puzzle) -> Result<Vec<u8>, AllocError>
+    ensures { IfOk result (λ text. IsBoardText puzzle.now text.items) }
 {
-    let puzzle = read_puzzle(alloc, text)?;
-    let partial = Partial::new(alloc, &puzzle)?;
-    let mut printed = write_drawing(alloc, &partial, None)?;
-    let facts = write_facts(alloc, &puzzle)?;
-    printed.extend_from_slice(&facts)?;
-    Ok(printed)
+    let partial = Partial::new(alloc, puzzle)?;
+    let mut text = write_drawing(alloc, &partial, None)?;
+    let facts = write_facts(alloc, puzzle)?;
+    text.extend_from_slice(&facts)?;
+    Ok(text)
 }
 
-// The lines of symmetries of the puzzle that the text spells.
-fn symmetries_text(alloc: Global, text: &[u8]) -> Result<Vec<u8>, RunFault>
-    requires { length text.now ≤ MOST_BYTES }
-    ensures symmetries { IfOk result (λ printed. SymmetriesGive text.now printed.items) }
-    ensures puzzle { IfErr result (SpellsNoPuzzle text.now) }
-    ensures kind { IfErr result IsOfReadText }
+// The lines of symmetries of the puzzle.
+fn symmetries_text(alloc: Global, puzzle: &Puzzle) -> Result<Vec<u8>, AllocError>
+    requires { IsPuzzle puzzle.now }
+    ensures { IfOk result (λ text. IsSymmetriesText puzzle.now text.items) }
 {
-    let puzzle = read_puzzle(alloc, text)?;
-    let lines = suggest(alloc, &puzzle)?;
-    let printed = write_symmetries(alloc, &lines)?;
-    Ok(printed)
+    let lines = suggest(alloc, puzzle)?;
+    let text = write_symmetries(alloc, &lines)?;
+    Ok(text)
 }

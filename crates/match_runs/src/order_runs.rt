@@ -15,9 +15,9 @@ ghost use Rattle.match_runs.specs.Tiles.{IsOfTiles, TilesGive};
 use crate::check_runs::{run_check, run_joined};
 use crate::description_runs::{Description, run_description};
 use crate::exits::Exit;
-use crate::expansion_runs::{Printing, run_printing};
 use crate::faults::{Document, RunFault};
 use crate::files::{FileSystem, have_different_names, make, open};
+use crate::printing_runs::{Printing, run_printing};
 use crate::solve_runs::run_solve;
 use crate::streams::sinks::Sink;
 use crate::streams::sources::Source;
@@ -67,6 +67,9 @@ pub fn run_order<S: FileSystem, I: Source, W: Sink, R: Threads + Wait + Sync + R
             fuel,
             workers,
         } => solve(rt, alloc, files, *depth, *fuel, *workers, system, output),
+        Order::Explain(files) => {
+            print_all(rt, alloc, files, Printing::Explanation, system, output)
+        }
         Order::Expand(files) => print_all(rt, alloc, files, Printing::All, system, output),
         Order::Count(files) => print_all(rt, alloc, files, Printing::Count, system, output),
         Order::Show(puzzle) => describe(alloc, puzzle, Description::Board, system, output),

@@ -7,7 +7,7 @@ use Rattle.std.specs.Str.{bytes_eq}
 use Rattle.command_words.specs.Commands.{whole_app}
 use Rattle.command_words.specs.Orders.{IsOrder, IsOrderOf}
 use Rattle.command_words.specs.declared.orders.Order.{Order}
-use Rattle.command_words.specs.declared.orders.Order.TheVariants.{Expand, Count, Show, Symmetries}
+use Rattle.command_words.specs.declared.orders.Order.TheVariants.{Explain, Expand, Count, Show, Symmetries}
 use Rattle.command_words.proofs.ProgramLemmas.{HasNeeded, IsEntered, command_at, command_named, has_number, differs, has_files, has_text, needed_at, none_is_some, only_memory, orders, parse_enters, parse_has, parse_refuses, rule_at}
 use Rattle.command_words.proofs.readings.order.Goals.{In-Some}
 use Rattle.command_words.proofs.readings.order.Goals as goal
@@ -65,7 +65,10 @@ pub solve-requires-clause-workers : goal.solve-requires-clause-workers
 solve-requires-clause-workers c = has_number (command_at (codes "solve")) (rows_of (found_of c.in-Some.matches.now)) (rule_at (command_at (codes "solve")) 5) 1 64 (needed (goal.at.solve-requires-clause-workers c).In-Some (codes "solve") (search rules) refl) refl refl refl
 
 pub files-requires : goal.files-requires
-files-requires c = has_files (command_at (codes "expand")) (rows_of (found_of c.in-Some.matches.now)) (needed (goal.at.files-requires c).In-Some (codes "expand") (search rules) refl) refl refl refl
+files-requires c = has_files (command_at (codes "explain")) (rows_of (found_of c.in-Some.matches.now)) (needed (goal.at.files-requires c).In-Some (codes "explain") (search rules) refl) refl refl refl
+
+pub files-requires-in-expand : goal.files-requires-in-expand
+files-requires-in-expand c = has_files (command_at (codes "expand")) (rows_of (found_of c.in-Some.matches.now)) (needed (goal.at.files-requires-in-expand c).In-Some (codes "expand") (search rules) refl) refl refl refl
 
 pub files-requires-in-count : goal.files-requires-in-count
 files-requires-in-count c = has_files (command_at (codes "count")) (rows_of (found_of c.in-Some.matches.now)) (needed (goal.at.files-requires-in-count c).In-Some (codes "count") (search rules) refl) refl refl refl
@@ -84,6 +87,9 @@ tiles-requires-clause-colours c = has_number (command_at (codes "tiles")) (rows_
 
 pub returns-in-check-clause-order : goal.returns-in-check-clause-order
 returns-in-check-clause-order c = ordered (goal.at.returns-in-check-clause-order c).In-Some (codes "check") c.in_ok-check-in-check.field-0 (search rules) c.in_ok-check-in-check.ensures
+
+pub returns-in-explain-clause-order : goal.returns-in-explain-clause-order
+returns-in-explain-clause-order c = ordered (goal.at.returns-in-explain-clause-order c).In-Some (codes "explain") (Explain c.in_ok-files-in-explain.field-0) (search rules) (refl, c.in_ok-files-in-explain.ensures)
 
 pub returns-in-solve-clause-order : goal.returns-in-solve-clause-order
 returns-in-solve-clause-order c = ordered (goal.at.returns-in-solve-clause-order c).In-Some (codes "solve") c.in_ok-solve-in-solve.field-0 (search rules) c.in_ok-solve-in-solve.ensures
@@ -107,4 +113,4 @@ pub unreachable-requires : goal.unreachable-requires
 unreachable-requires c =
     let own = entered (goal.at.unreachable-requires c).In-Some in
     let other : (name : Text) → c.in-Some.name.now ≢ name → bytes_eq name c.in-Some.name.now ≡ false = differs c.in-Some.name.now in
-    none_is_some (rw (other (codes "check") (search rules), other (codes "solve") (search rules), other (codes "expand") (search rules), other (codes "count") (search rules), other (codes "show") (search rules), other (codes "symmetries") (search rules), other (codes "tiles") (search rules), other (codes "help") own.no_help) at own.is_named)
+    none_is_some (rw (other (codes "check") (search rules), other (codes "explain") (search rules), other (codes "solve") (search rules), other (codes "expand") (search rules), other (codes "count") (search rules), other (codes "show") (search rules), other (codes "symmetries") (search rules), other (codes "tiles") (search rules), other (codes "help") own.no_help) at own.is_named)

@@ -21,10 +21,15 @@ returns-in-Solve g c =
     let does = c.solve.ensures in
     rw c.in-Solve.is (record { given = does.given; fault = does.fault; stops = does.stops; untouched = does.untouched; shown = nothing_shown c.solve.result })
 
+pub returns-in-Explain : goal.returns-in-Explain
+returns-in-Explain g c =
+    let does = c.print_all.ensures in
+    rw c.in-Explain.is (record { given = does.given; fault = does.fault; stops = does.stops; untouched = does.untouched; shown = nothing_shown c.print_all.result })
+
 pub returns-in-Expand : goal.returns-in-Expand
 returns-in-Expand g c =
-    let does = c.print_all.ensures in
-    rw c.in-Expand.is (record { given = does.given; fault = does.fault; stops = does.stops; untouched = does.untouched; shown = nothing_shown c.print_all.result })
+    let does = c.print_all-in-Expand.ensures in
+    rw c.in-Expand.is (record { given = does.given; fault = does.fault; stops = does.stops; untouched = does.untouched; shown = nothing_shown c.print_all-in-Expand.result })
 
 pub returns-in-Count : goal.returns-in-Count
 returns-in-Count g c =

@@ -1,8 +1,12 @@
-//! Runs that print all arrangements.
+//! Runs that print all arrangements, or why a list is refused.
 
-ghost use Rattle.std.specs.Prelude.{◌≡◌, ◌≢◌, ◌⊎◌, ◌++◌, List, IfOk, IfErr, IsErrOf, OnOk};
+ghost use Rattle.std.specs.Prelude.{◌≡◌, ◌≢◌, ◌⊎◌, ◌++◌, List, IfOk, IfErr, IsErrOf, OnOk, length};
+ghost use Rattle.match_puzzle.specs.Puzzle.{IsPuzzle};
 ghost use Rattle.match_puzzle.specs.declared.placements.Placement.{Placement};
-ghost use Rattle.cert_check.specs.Answer.{IsCompleteList};
+ghost use Rattle.cert_check.specs.Answer.{IsAnswer, IsCompleteList};
+ghost use Rattle.cert_check.specs.declared.faults.Answer.TheVariants.{Refused};
+ghost use Rattle.match_report.specs.AnswerText.{answer_line};
+ghost use Rattle.match_runs.specs.Exits.{status_of};
 ghost use Rattle.match_runs.specs.Moves.{reading_of, writing_of};
 ghost use Rattle.match_runs.specs.Runs.{AreAllInOrder, AreTooMany, IsCountOf, IsListText, Prints, count_text, number_line};
 ghost use Rattle.match_runs.specs.Runs.{ComesTo, Fails, Gives, IsOfRequest, IsOfRun, RunsOver, printed};
@@ -18,21 +22,24 @@ use crate::streams::documents::Documents;
 use crate::streams::readings::read_documents;
 use crate::streams::sinks::Sink;
 use crate::streams::sources::Source;
-use cert_check::{Answer, Open, Prepared};
+use cert_check::{Answer, Fault, Open, Prepared, Question};
 use itoa::Buffer;
-use match_report::expand;
+use match_explain::write_explanation;
+use match_report::{expand, write_answer};
 use match_text::write_list;
 use std::alloc::{AllocError, Global};
 use std::random::RandomSource;
 use symmetry_orbits::{Count, count, counting_laws};
 
-/// What is printed of all arrangements of a puzzle.
+/// What is printed of a puzzle, a list and a certificate.
 #[derive(Clone, Copy, PartialEq, Eq, Debug)]
 pub enum Printing {
-    /// Their list.
+    /// The list of all arrangements.
     All,
-    /// How many they are, and how many orbits.
+    /// How many arrangements there are, and how many orbits.
     Count,
+    /// The answer, and where it is refused, why.
+    Explanation,
 }
 
 /// Reads a puzzle, a list and a certificate, each to its end and in this order, and checks them. Where
@@ -63,8 +70,9 @@ pub fn run_expand<P: Source, L: Source, C: Source, W: Sink, R: RandomSource>(
     run_printing(rt, alloc, puzzle, list, certificate, Printing::All, writer)
 }
 
-/// As [`run_expand`], and prints the list of all arrangements, or how many they are: a line `arrangements N`, and a
-/// line `orbits N`, how many where those that the certificate's symmetries take into each other count once.
+/// As [`run_expand`], and prints the list of all arrangements; or how many they are: a line `arrangements N`, and a line
+/// `orbits N`, how many where those that the certificate's symmetries take into each other count once; or the answer,
+/// and where it is refused, why.
 ///
 /// `Expand` where over 1,000,000 are to be listed; of a count, where so many are in one orbit.
 pub fn run_printing<P: Source, L: Source, C: Source, W: Sink, R: RandomSource>(
@@ -121,10 +129,9 @@ fn printing_of<R: RandomSource>(
 {
     let owned = read_question(alloc, documents)?;
     let question = owned.question();
-    let listed = question.listed().len() as u32;
     let prepared = match question.prepare(alloc, question.list_fault())? {
         Ok(prepared) => prepared,
-        Err(fault) => return answer_to(alloc, Answer::Refused(fault), listed),
+        Err(fault) => return refused_text(alloc, &question, fault, documents.certificate, printing),
     };
     let found = prepared.trees_fault(alloc, &Open)?;
     match prepared.answer(found) {
@@ -132,7 +139,9 @@ fn printing_of<R: RandomSource>(
             text: complete_text(rt, alloc, prepared, printing)?,
             status: Status::Complete,
         }),
-        refused => answer_to(alloc, refused, listed),
+        Answer::Refused(fault) => {
+            refused_text(alloc, &question, fault, documents.certificate, printing)
+        }
     }
 }
 
@@ -151,6 +160,43 @@ fn complete_text<R: RandomSource>(
     match printing {
         Printing::All => all_text(rt, alloc, prepared),
         Printing::Count => counted_text(rt, alloc, &prepared),
+        Printing::Explanation => complete_line(alloc, &prepared),
+    }
+}
+
+// The answer that a list is complete.
+fn complete_line(alloc: Global, prepared: &Prepared<'_>) -> Result<Vec<u8>, RunFault>
+    ensures line { IfOk result (λ text.
+        text.items ≡ answer_line Answer.Complete (length prepared.now.listed)) }
+    ensures kind { IfErr result (λ fault. fault ≡ RunFault.Memory) }
+{
+    let listed = prepared.question().listed().len() as u32;
+    Ok(write_answer(alloc, &Answer::Complete, listed)?)
+}
+
+// What is printed where the list is refused for this fault.
+fn refused_text(
+    alloc: Global,
+    question: &Question<'_>,
+    fault: Fault,
+    certificate: &[u8],
+    printing: Printing,
+) -> Result<Printed, RunFault>
+    requires puzzle { IsPuzzle question.now.puzzle }
+    requires answer { IsAnswer question.now (Refused fault) }
+    ensures prints { IfOk result (λ made. Prints question.now (Refused fault) printing made.text.items) }
+    ensures status { IfOk result (λ made. made.status ≡ status_of (Refused fault)) }
+    ensures kind { IfErr result (λ fault. fault ≡ RunFault.Memory) }
+{
+    let listed = question.listed().len() as u32;
+    match printing {
+        Printing::All | Printing::Count => answer_to(alloc, Answer::Refused(fault), listed),
+        Printing::Explanation => {
+            let why = write_explanation(alloc, question, &fault, certificate)?;
+            let mut printed = answer_to(alloc, Answer::Refused(fault), listed)?;
+            printed.text.extend_from_slice(&why)?;
+            Ok(printed)
+        }
     }
 }
 

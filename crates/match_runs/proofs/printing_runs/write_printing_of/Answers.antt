@@ -4,7 +4,7 @@ use Rattle.match_runs.specs.Moves.{writing_of}
 use Rattle.match_runs.specs.Runs.{printed}
 use Rattle.match_runs.specs.Sources.{texts_of}
 use Rattle.match_runs.proofs.SourceLemmas.{failed, failed_kind, only_write, write_kinds, written}
-use Rattle.match_runs.proofs.expansion_runs.write_printing_of.Goals as goal
+use Rattle.match_runs.proofs.printing_runs.write_printing_of.Goals as goal
 
 pub returns-in_err-printed-clause-run : goal.returns-in_err-printed-clause-run
 returns-in_err-printed-clause-run g c =

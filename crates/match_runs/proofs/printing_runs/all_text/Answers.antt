@@ -12,8 +12,8 @@ use Rattle.symmetry_orbits.specs.Expansion.{AreMoreReached, IsExpansion, Takes}
 use Rattle.match_runs.specs.Runs.{AreAllInOrder, IsListText}
 use Rattle.match_runs.proofs.RepetitionLemmas.{closure_all}
 use Rattle.match_runs.proofs.RunLemmas.{all_in_order, all_within, expand_fails, kept_are, kept_reach}
-use Rattle.match_runs.proofs.expansion_runs.all_text.Goals.{After-deref}
-use Rattle.match_runs.proofs.expansion_runs.all_text.Goals as goal
+use Rattle.match_runs.proofs.printing_runs.all_text.Goals.{After-deref}
+use Rattle.match_runs.proofs.printing_runs.all_text.Goals as goal
 
 -- ---- what is expanded: the list, by the symmetries that are kept of the lines
 

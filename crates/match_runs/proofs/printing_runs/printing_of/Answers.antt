@@ -1,18 +1,17 @@
-use Rattle.std.proofs.Common.{◌∙◌, List, length, Err, rules, ap, subst, sym, ⊎_elim}
+use Rattle.std.proofs.Common.{◌≡◌, Err, rules, ap, subst, sym, ⊎_elim}
 use Rattle.std.proofs.lemmas.Result.{err_from_is_err_and}
 use Rattle.match_board.specs.First.{IsFirst}
 use Rattle.match_puzzle.specs.Puzzle.{IsPuzzle}
-use Rattle.match_puzzle.specs.declared.placements.Placement.{Placement}
 use Rattle.cert_check.specs.Answer.{IsAnswer, Occurs, fault_rank}
 use Rattle.cert_check.specs.Setting.{Question}
+use Rattle.cert_check.specs.declared.faults.Answer.{Answer}
 use Rattle.cert_check.specs.declared.faults.Answer.TheVariants.{Complete, Refused}
-use Rattle.match_report.specs.AnswerText.{answer_line}
-use Rattle.match_runs.specs.Runs.{Fails, Spells, printed}
+use Rattle.match_runs.specs.Runs.{Fails, Prints, Spells, printed}
 use Rattle.match_runs.specs.Sources.{texts_of}
-use Rattle.match_runs.proofs.RunLemmas.{both, has_line}
+use Rattle.match_runs.proofs.RunLemmas.{both}
 use Rattle.match_runs.proofs.SourceLemmas.{documents_fail, memory_fails}
-use Rattle.match_runs.proofs.expansion_runs.printing_of.Goals.{In-Err}
-use Rattle.match_runs.proofs.expansion_runs.printing_of.Goals as goal
+use Rattle.match_runs.proofs.printing_runs.printing_of.Goals.{In-Err}
+use Rattle.match_runs.proofs.printing_runs.printing_of.Goals as goal
 
 -- the fault that was found before the trees is the first
 first : (g : _) (c : In-Err g) → IsFirst fault_rank (Occurs c.in_ok-owned.owned) c.in-Err.fault
@@ -20,20 +19,21 @@ first g c =
     let found : IsFirst fault_rank (Occurs c.question-question.result) c.in-Err.fault = search rules in
     subst (λ (q : Question). IsFirst fault_rank (Occurs q) c.in-Err.fault) c.question-question.ensures found
 
-pub answer_to-requires : goal.answer_to-requires
-answer_to-requires g c =
-    let at = (goal.at.answer_to-requires g c).In-Err in
-    has_line c.in_ok-owned.owned (Refused c.in-Err.fault) c.in_ok-owned.ensures.puzzle (first g at)
+pub refused_text-requires-clause-puzzle : goal.refused_text-requires-clause-puzzle
+refused_text-requires-clause-puzzle g c = subst (λ (q : Question). IsPuzzle q.puzzle) (sym c.question-question.ensures) c.in_ok-owned.ensures.puzzle
+
+pub refused_text-requires-clause-answer : goal.refused_text-requires-clause-answer
+refused_text-requires-clause-answer g c =
+    let found : IsFirst fault_rank (Occurs c.question-question.result) c.in-Err.fault = search rules in
+    found
 
 pub returns-in-Err-clause-gives : goal.returns-in-Err-clause-gives
 returns-in-Err-clause-gives g c =
     let at = (goal.at.returns-in-Err-clause-gives g c).In-Err in
     let owned = c.in_ok-owned.owned in
-    let listed = c.listed.ensures.listed ∙ ap (λ (q : Question). q.listed) c.question-question.ensures in
-    let line = ap (λ (l : List (List Placement)). answer_line (Refused c.in-Err.fault) (length l)) listed in
-    both c.answer_to.result
-    (λ printed text status. (owned, Refused c.in-Err.fault, c.in_ok-owned.ensures.question, first g at, text ∙ line, status))
-    c.answer_to.ensures.text c.answer_to.ensures.status
+    both c.refused_text.result
+    (λ made prints status. (owned, Refused c.in-Err.fault, c.in_ok-owned.ensures.question, first g at, subst (λ (q : Question). Prints q (Refused c.in-Err.fault) c.args.printing made.text.items) c.question-question.ensures prints, status))
+    c.refused_text.ensures.prints c.refused_text.ensures.status
 
 pub returns-in_err-owned-clause-fails : goal.returns-in_err-owned-clause-fails
 returns-in_err-owned-clause-fails g c =
@@ -41,7 +41,7 @@ returns-in_err-owned-clause-fails g c =
     rw (w.1, w.2) (documents_fail (printed c.args.printing) (texts_of c.args.documents.now) c.in_err-owned.field-0.0 c.in_err-owned.ensures.fault)
 
 pub returns-in-Err-clause-fails : goal.returns-in-Err-clause-fails
-returns-in-Err-clause-fails g c = memory_fails (printed c.args.printing) (texts_of c.args.documents.now) c.answer_to.result c.answer_to.ensures.kind
+returns-in-Err-clause-fails g c = memory_fails (printed c.args.printing) (texts_of c.args.documents.now) c.refused_text.result c.refused_text.ensures.kind
 
 pub returns-in_err-complete_text-in-Complete-clause-fails : goal.returns-in_err-complete_text-in-Complete-clause-fails
 returns-in_err-complete_text-in-Complete-clause-fails g c =
@@ -52,10 +52,15 @@ returns-in_err-complete_text-in-Complete-clause-fails g c =
     let answered : IsAnswer c.in-Ok.prepared Complete = search rules in
     rw (w.1, w.2) (⊎_elim (λ e. subst says (sym e) (c.in-Ok.prepared, spells, answered, failed.expand (ap Err e))) (λ e. subst says (sym e) tt) failed.kind)
 
-pub answer_to-requires-in_default : goal.answer_to-requires-in_default
-answer_to-requires-in_default g c =
-    let puzzle : IsPuzzle c.in-Ok.prepared.puzzle = search rules in
-    has_line c.in-Ok.prepared c.answer.result puzzle c.answer.ensures.answer
-
 pub returns-clause-fails : goal.returns-clause-fails
-returns-clause-fails g c = memory_fails (printed c.args.printing) (texts_of c.args.documents.now) c.answer_to-in_default.result c.answer_to-in_default.ensures.kind
+returns-clause-fails g c = memory_fails (printed c.args.printing) (texts_of c.args.documents.now) c.refused_text-in-Refused.result c.refused_text-in-Refused.ensures.kind
+
+pub returns-clause-gives : goal.returns-clause-gives
+returns-clause-gives g c =
+    let at = c.in-Ok.prepared in
+    let spells : Spells (texts_of c.args.documents.now) at = search rules in
+    let same : at ≡ c.question-question.result = search rules in
+    let answered : IsAnswer at (Refused c.in-Refused.fault) = subst (λ (a : Answer). IsAnswer at a) c.in-Refused.is c.answer.ensures.answer in
+    both c.refused_text-in-Refused.result
+    (λ made prints status. (at, Refused c.in-Refused.fault, spells, answered, subst (λ (q : Question). Prints q (Refused c.in-Refused.fault) c.args.printing made.text.items) (sym same) prints, status))
+    c.refused_text-in-Refused.ensures.prints c.refused_text-in-Refused.ensures.status

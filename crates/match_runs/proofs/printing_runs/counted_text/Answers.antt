@@ -10,8 +10,8 @@ use Rattle.cert_check.proofs.CheckLemmas.{lines_of}
 use Rattle.symmetry_orbits.specs.Expansion.{AreOf}
 use Rattle.symmetry_orbits.specs.Orbits.{AreMoreListedOrInOrbit, IsCount}
 use Rattle.match_runs.proofs.RunLemmas.{all_are, expand_fails}
-use Rattle.match_runs.proofs.expansion_runs.counted_text.Goals.{After-new}
-use Rattle.match_runs.proofs.expansion_runs.counted_text.Goals as goal
+use Rattle.match_runs.proofs.printing_runs.counted_text.Goals.{After-new}
+use Rattle.match_runs.proofs.printing_runs.counted_text.Goals as goal
 
 -- ---- what is counted: what is reached from the list by the lines' symmetries
 

@@ -5,7 +5,7 @@ use Rattle.match_runs.specs.Moves.{reading_of, writing_of}
 use Rattle.match_runs.specs.Runs.{ComesTo, printed}
 use Rattle.match_runs.specs.Sources.{apart, owned_texts}
 use Rattle.match_runs.proofs.SourceLemmas.{over, reading_kind, run_kinds, stopped_reading}
-use Rattle.match_runs.proofs.expansion_runs.run_printing.Goals as goal
+use Rattle.match_runs.proofs.printing_runs.run_printing.Goals as goal
 
 pub returns-in_err-read-clause-run : goal.returns-in_err-read-clause-run
 returns-in_err-read-clause-run g c =

@@ -1,0 +1,70 @@
+use Rattle.std.proofs.Common.{◌≡◌, ◌++◌, ◌∙◌, List, Some, arith, refl, rules, slice_get, subst, sym}
+use Rattle.match_puzzle.specs.PrefixFaults.{IsPrefixFault}
+use Rattle.match_puzzle.specs.Puzzle.{Task}
+use Rattle.cert_tree.specs.Certificate.{Piece, flat_piece}
+use Rattle.cert_tree.specs.Heads.{first}
+use Rattle.cert_check.specs.Derivation.{start_of}
+use Rattle.cert_check.specs.Setting.{setting_at}
+use Rattle.cert_check.specs.declared.faults.Fault.TheVariants as faults
+use Rattle.match_show.specs.Drawing.{IsDrawing}
+use Rattle.match_explain.specs.Explanation.{NamesWhatFits}
+use Rattle.match_explain.specs.Scene.{IsPath, LeadsTo}
+use Rattle.match_explain.proofs.NodeLemmas.{four_parts, has_fault, leads_to_fault}
+use Rattle.match_explain.proofs.node_explanations.explain_node.Goals as goal
+
+pub unreachable-requires : goal.unreachable-requires
+unreachable-requires c =
+    let question = c.args.question.now in
+    let lemma = flat_piece c.at-lemma.result in
+    let at = subst (λ (ls : List Piece). slice_get ls c.args.number ≡ Some lemma) c.lemmas.ensures.lemmas c.at-lemma.ensures in
+    let has : IsPrefixFault question.puzzle lemma.prefix c.in_default.field-0 = search rules in
+    omega (arith, (c.requires.first (faults.Prefix c.args.number c.in_default.field-0) (lemma, at, has)).first)
+
+pub at-requires-clause-path : goal.at-requires-clause-path
+at-requires-clause-path c =
+    let question = c.args.question.now in
+    let lemma = flat_piece c.at-lemma.result in
+    let at = subst (λ (ls : List Piece). slice_get ls c.args.number ≡ Some lemma) c.lemmas.ensures.lemmas c.at-lemma.ensures in
+    let (node, placed, leads, has) = leads_to_fault question c.args.number c.args.fault.now lemma at c.requires.occurs in
+    let path : IsPath question.puzzle lemma.tree (start_of question.puzzle lemma) c.args.fault.now.path = (node, placed, leads) in
+    rw (c.steps.ensures, c.puzzle-2.ensures) path
+
+pub write_what_fits-requires-clause-fault : goal.write_what_fits-requires-clause-fault
+write_what_fits-requires-clause-fault c =
+    let question = c.args.question.now in
+    let lemma = flat_piece c.at-lemma.result in
+    let scene = c.in_ok-scene.scene in
+    let at = subst (λ (ls : List Piece). slice_get ls c.args.number ≡ Some lemma) c.lemmas.ensures.lemmas c.at-lemma.ensures in
+    let leads : LeadsTo question.puzzle lemma.tree (start_of question.puzzle lemma) c.args.fault.now.path (first scene.trees) scene.partial.placed = rw (← c.steps.ensures, ← c.puzzle-2.ensures) c.in_ok-scene.ensures.leads in
+    (setting_at question c.args.number, sym (c.in_ok-scene.ensures.puzzle ∙ c.puzzle-2.ensures), has_fault question c.args.number c.args.fault.now lemma (first scene.trees) scene.partial.placed at c.requires.occurs leads)
+
+pub returns : goal.returns
+returns c =
+    let question = c.args.question.now in
+    let lemma = flat_piece c.at-lemma.result in
+    let scene = c.in_ok-scene.scene in
+    let at = subst (λ (ls : List Piece). slice_get ls c.args.number ≡ Some lemma) c.lemmas.ensures.lemmas c.at-lemma.ensures in
+    let leads : LeadsTo question.puzzle lemma.tree (start_of question.puzzle lemma) c.args.fault.now.path (first scene.trees) scene.partial.placed = rw (← c.steps.ensures, ← c.puzzle-2.ensures) c.in_ok-scene.ensures.leads in
+    let puzzle : scene.partial.puzzle ≡ question.puzzle = c.in_ok-scene.ensures.puzzle ∙ c.puzzle-2.ensures in
+    let words = c.from-text.result.items in
+    let fitting = c.in_ok-fitting.fitting.items in
+    let drawing = c.in_ok-drawing.drawing.items in
+    let closing = c.as_bytes.result.now in
+    let written : c.extend_from_slice-3.new.self.items ≡ ((words ++ fitting) ++ drawing) ++ closing =
+    rw (c.in_ok-extend_from_slice-3.ensures.items, c.in_ok-extend_from_slice-2.ensures.items, c.in_ok-extend_from_slice.ensures.items, c.deref.ensures.value, c.deref-2.ensures.value) refl in
+    record {
+      lemma = lemma;
+      is = at;
+      node = first scene.trees;
+      placed = scene.partial.placed;
+      leads = leads;
+      has = has_fault question c.args.number c.args.fault.now lemma (first scene.trees) scene.partial.placed at c.requires.occurs leads;
+      words = words;
+      fitting = fitting;
+      names = subst (λ (p : Task). NamesWhatFits p scene.partial.placed (first scene.trees) c.args.fault.now.fault c.in_ok-fitting.fitting.items) puzzle c.in_ok-fitting.ensures;
+      mark = c.cell.result;
+      drawing = drawing;
+      drawn = subst (λ (p : Task). IsDrawing (record { puzzle = p; placed = scene.partial.placed }) c.cell.result c.in_ok-drawing.drawing.items) puzzle c.in_ok-drawing.ensures;
+      closing = closing;
+      parts = written ∙ four_parts words fitting drawing closing;
+    }

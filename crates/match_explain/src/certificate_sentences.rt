@@ -1,0 +1,92 @@
+//! What is wrong with a certificate's symmetries and prefixes, in words.
+
+use crate::sides::{CellSide, letter, why_not_turned};
+use cert_tree::Lemmas;
+use match_puzzle::{Pair, Placement, PrefixFault, Puzzle};
+use puzzle_symmetry::SymmetryFault;
+use std::alloc::{AllocError, Global};
+
+// What is wrong with a line that is no symmetry of the puzzle.
+pub(crate) fn symmetry_sentence(
+    alloc: Global,
+    puzzle: &Puzzle,
+    fault: SymmetryFault,
+) -> Result<String, AllocError> {
+    match fault {
+        SymmetryFault::Cells => {
+            format!(in alloc; "the images of the cells are not each cell once")
+        }
+        SymmetryFault::Colours => {
+            format!(in alloc; "the images of the colours are not each colour once")
+        }
+        SymmetryFault::Tiles => {
+            format!(in alloc; "the images of the tiles are not each tile once")
+        }
+        SymmetryFault::EdgeBroken(cell, side) => {
+            let name = CellSide { cell, side }.name(puzzle);
+            format!(in alloc;
+                "what the {name} of cell {cell} meets does not go to what its image meets"
+            )
+        }
+        SymmetryFault::BorderBroken(cell, side) => {
+            let name = CellSide { cell, side }.name(puzzle);
+            format!(in alloc;
+                "what the border asks of the {name} of cell {cell} does not go to what it asks of its image"
+            )
+        }
+        SymmetryFault::TileBroken(tile) => {
+            format!(in alloc; "the turns of tile {tile} do not go to those of its image")
+        }
+        SymmetryFault::MatesBroken(colour) => {
+            let colour = letter(colour);
+            format!(in alloc; "the mate of colour {colour} does not go to the mate of its image")
+        }
+        SymmetryFault::Memory => format!(in alloc; "{fault}"),
+    }
+}
+
+// What is wrong with pairs that are no prefix. Where they have no such fault, that is named alone.
+pub(crate) fn prefix_sentence(
+    alloc: Global,
+    puzzle: &Puzzle,
+    pairs: &[Pair],
+    fault: PrefixFault,
+) -> Result<String, AllocError> {
+    let place = match fault {
+        PrefixFault::Cell(place) | PrefixFault::Tile(place) | PrefixFault::Turn(place) => place,
+    };
+    let Some(pair) = pairs.get(place as usize) else {
+        return format!(in alloc; "{fault}");
+    };
+    let Pair { cell, placement } = *pair;
+    let Placement { tile, turn } = placement;
+    let last = puzzle.board().cells().saturating_sub(1);
+    match fault {
+        PrefixFault::Cell(_) if cell > last => format!(in alloc;
+            "the pair {cell}:{tile}.{turn} has cell {cell}, and the cells are 0 to {last}"
+        ),
+        PrefixFault::Cell(_) => format!(in alloc;
+            "the pair {cell}:{tile}.{turn} has cell {cell}, which does not come after that of the pair before"
+        ),
+        PrefixFault::Tile(_) if tile > last => format!(in alloc;
+            "the pair {cell}:{tile}.{turn} has tile {tile}, and the tiles are 0 to {last}"
+        ),
+        PrefixFault::Tile(_) => format!(in alloc;
+            "the pair {cell}:{tile}.{turn} has tile {tile}, which an earlier pair has"
+        ),
+        PrefixFault::Turn(_) => format!(in alloc;
+            "the pair {cell}:{tile}.{turn} turns tile {tile} by {turn}, {}",
+            why_not_turned(puzzle)
+        ),
+    }
+}
+
+// What is wrong with lemmas that end at no root.
+pub(crate) fn root_sentence(alloc: Global, lemmas: &Lemmas) -> Result<String, AllocError> {
+    let count = lemmas.len();
+    if count == 0 {
+        return format!(in alloc; "there is no lemma, and the last one has to say all");
+    }
+    let last = count - 1;
+    format!(in alloc; "lemma {last}, the last one, has to begin with nothing placed")
+}

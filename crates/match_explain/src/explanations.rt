@@ -1,0 +1,145 @@
+//! Why a list and its certificate are refused, in words and drawings.
+
+ghost use Rattle.std.specs.Prelude.{IfOk};
+ghost use Rattle.cert_check.specs.Answer.{IsAnswer};
+ghost use Rattle.cert_check.specs.declared.faults.Answer.TheVariants.{Refused};
+ghost use Rattle.match_explain.specs.Explanation.{IsExplanation};
+
+use crate::certificate_sentences::{prefix_sentence, root_sentence, symmetry_sentence};
+use crate::cited_pairs::prefix_of;
+use crate::list_sentences::Listed;
+use crate::node_explanations::explain_node;
+use crate::places::line_of;
+use cert_check::{Fault, Question};
+use match_puzzle::{Arrangement, ArrangementFault, PrefixFault, Puzzle};
+use match_show::write_drawing;
+use puzzle_symmetry::SymmetryFault;
+use std::alloc::{AllocError, Global};
+
+/// Why a question's list and certificate are refused, by this fault: where it stands in their texts, what is wrong
+/// there, and for a listed arrangement or a node of a tree the board, drawn with what is placed.
+///
+/// The certificate's text is asked for the line that a lemma stands on. An `Err` where memory is refused, and nowhere
+/// else. It takes time in proportion to the question and the text, and memory for what is written.
+pub fn write_explanation(
+    alloc: Global,
+    question: &Question<'_>,
+    fault: &Fault,
+    certificate: &[u8],
+) -> Result<Vec<u8>, AllocError>
+    requires { IsAnswer question.now (Refused fault.now) }
+    ensures { IfOk result (λ text. IsExplanation question.now fault.now text.items) }
+{
+    match fault {
+        Fault::List(number, fault) => explain_listed(alloc, question, *number, *fault),
+        Fault::Repeated(number) => explain_repeated(alloc, question.listed(), *number),
+        Fault::Symmetry(number, fault) => {
+            explain_symmetry(alloc, question.puzzle(), *number, *fault)
+        }
+        Fault::Prefix(number, fault) => {
+            explain_prefix(alloc, question, *number, *fault, certificate)
+        }
+        Fault::Root => {
+            let sentence = root_sentence(alloc, question.lemmas())?;
+            let text = format!(in alloc; "certificate: {sentence}\n{CLOSING}")?;
+            Ok(Vec::from(text))
+        }
+        Fault::Tree(number, fault) => explain_node(alloc, question, *number, fault, certificate),
+    }
+}
+
+// What a certificate that is refused leaves open.
+pub(crate) const CLOSING: &str = "This does not say that the list is incomplete.\n";
+
+// The lines of a list and of a certificate before the first arrangement, or the first symmetry.
+const LINES_BEFORE: u64 = 3;
+
+fn explain_listed(
+    alloc: Global,
+    question: &Question<'_>,
+    number: u32,
+    fault: ArrangementFault,
+) -> Result<Vec<u8>, AllocError> {
+    let Some(arrangement) = question.listed().get(number as usize) else {
+        return Ok(Vec::new(alloc));
+    };
+    let listed = Listed {
+        puzzle: question.puzzle(),
+        placements: arrangement.placements(),
+    };
+    let sentence = listed.sentence(alloc, fault)?;
+    let line = u64::from(number) + LINES_BEFORE;
+    let words = format!(in alloc; "list line {line}, arrangement {number}: {sentence}\n")?;
+    let drawing = write_drawing(alloc, &listed.laid_out(alloc)?, cell_of(fault))?;
+    let mut text = Vec::from(words);
+    text.extend_from_slice(&drawing)?;
+    Ok(text)
+}
+
+// The cell where a listed arrangement has the fault.
+fn cell_of(fault: ArrangementFault) -> Option<u16> {
+    match fault {
+        ArrangementFault::Length => None,
+        ArrangementFault::TileRange(cell)
+        | ArrangementFault::Turn(cell)
+        | ArrangementFault::TileTwice(cell)
+        | ArrangementFault::BorderBroken(cell, _)
+        | ArrangementFault::EdgeBroken(cell, _) => u16::try_from(cell).ok(),
+    }
+}
+
+fn explain_repeated(
+    alloc: Global,
+    listed: &[Arrangement],
+    number: u32,
+) -> Result<Vec<u8>, AllocError> {
+    let line = u64::from(number) + LINES_BEFORE;
+    let first = first_like(listed, number);
+    let text = format!(in alloc;
+        "list line {line}, arrangement {number}: it is arrangement {first} once more\n"
+    )?;
+    Ok(Vec::from(text))
+}
+
+// The number of the first listed one that has the placements of that with this number.
+fn first_like(listed: &[Arrangement], number: u32) -> u32 {
+    let Some(arrangement) = listed.get(number as usize) else {
+        return number;
+    };
+    let mut first = 0u32;
+    for other in listed {
+        if other.placements() == arrangement.placements() {
+            return first;
+        }
+        first = first.saturating_add(1);
+    }
+    number
+}
+
+fn explain_symmetry(
+    alloc: Global,
+    puzzle: &Puzzle,
+    number: u32,
+    fault: SymmetryFault,
+) -> Result<Vec<u8>, AllocError> {
+    let sentence = symmetry_sentence(alloc, puzzle, fault)?;
+    let line = u64::from(number) + LINES_BEFORE;
+    let text = format!(in alloc;
+        "certificate line {line}, symmetry {number}: {sentence}\n{CLOSING}"
+    )?;
+    Ok(Vec::from(text))
+}
+
+fn explain_prefix(
+    alloc: Global,
+    question: &Question<'_>,
+    number: u32,
+    fault: PrefixFault,
+    certificate: &[u8],
+) -> Result<Vec<u8>, AllocError> {
+    let pairs = prefix_of(question, number);
+    let sentence = prefix_sentence(alloc, question.puzzle(), pairs, fault)?;
+    let line = line_of(alloc, certificate, number)?;
+    let text = format!(in alloc; "certificate line {line}, lemma {number}: {sentence}\n{CLOSING}")?;
+    Ok(Vec::from(text))
+}

@@ -1,0 +1,15 @@
+//! Why a list and its certificate are refused.
+#![tactic(auto)]
+
+mod certificate_sentences;
+mod cited_pairs;
+mod differences;
+mod explanations;
+mod list_sentences;
+mod node_explanations;
+mod node_sentences;
+mod places;
+mod scenes;
+mod sides;
+
+pub use explanations::write_explanation;

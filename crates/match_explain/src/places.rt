@@ -1,0 +1,16 @@
+//! Where lemmas stand in the text of a certificate.
+
+use std::alloc::{AllocError, Global};
+
+// The line, from 1, that the lemma with this number stands on; where it stands on none, one more than there are.
+pub(crate) fn line_of(alloc: Global, certificate: &[u8], lemma: u32) -> Result<u32, AllocError> {
+    let start = format!(in alloc; "lemma {lemma} ")?;
+    let mut number = 1u32;
+    for line in certificate.split(|byte| *byte == b'\n') {
+        if line.starts_with(start.as_bytes()) {
+            return Ok(number);
+        }
+        number = number.saturating_add(1);
+    }
+    Ok(number)
+}

@@ -1,0 +1,144 @@
+//! Nodes of trees, and what is placed there.
+
+ghost use Rattle.std.specs.Prelude.{◌≡◌, ◌≢◌, ◌≤◌, ℕ, IfOk, MatchOption, length, slice_get};
+ghost use Rattle.match_board.specs.Board.{cell_count};
+ghost use Rattle.match_puzzle.specs.Prefix.{Prefix};
+ghost use Rattle.match_puzzle.specs.declared.items.Item.{Item};
+ghost use Rattle.match_puzzle.specs.PrefixFaults.{IsPairList};
+ghost use Rattle.cert_tree.specs.Certificate.{flat_piece};
+ghost use Rattle.cert_tree.specs.Heads.{arity, branch_head, first, past, put};
+ghost use Rattle.cert_tree.specs.Tree.{Forest, Tree, count, none};
+ghost use Rattle.cert_check.specs.Derivation.{start_of};
+ghost use Rattle.match_explain.specs.Scene.{IsChild, IsPath, LeadsTo};
+
+use cert_tree::{FlatLemma, Head, Trees};
+use match_puzzle::{FittingPairs, Item, Pair, Partial, Puzzle};
+use std::alloc::{AllocError, Global};
+
+// A node of a lemma's tree, and the board there.
+#[derive(Drop)]
+pub(crate) struct Scene<'a> {
+    // What is placed.
+    pub(crate) partial: Partial<'a>,
+    // What is left of a walk in preorder: the node is the first.
+    pub(crate) trees: Trees<'a>,
+    // How many words of the tree's text stand before the node's.
+    pub(crate) words: usize,
+}
+
+impl<'a> Scene<'a> {
+    // The node that the path of child numbers leads to from the top of the lemma's tree.
+    pub(crate) fn at(
+        alloc: Global,
+        puzzle: &'a Puzzle,
+        lemma: &FlatLemma<'a>,
+        path: &[u16],
+    ) -> Result<Scene<'a>, AllocError>
+        requires prefix { IsPairList puzzle.now (flat_piece lemma.now).prefix }
+        requires path { IsPath puzzle.now (flat_piece lemma.now).tree (start_of puzzle.now (flat_piece lemma.now))
+            path.now }
+        ensures puzzle { IfOk result (λ scene. scene.partial.puzzle ≡ puzzle.now) }
+        ensures leads { IfOk result (λ scene.
+            LeadsTo puzzle.now (flat_piece lemma.now).tree (start_of puzzle.now (flat_piece lemma.now)) path.now
+            (first scene.trees) scene.partial.placed) }
+        ensures some { IfOk result (λ scene. scene.trees ≢ none) }
+        ensures long { IfOk result (λ scene.
+            length scene.partial.placed ≡ cell_count scene.partial.puzzle.board) }
+    {
+        let mut scene = Scene {
+            partial: Partial::of(alloc, puzzle, lemma.prefix)?,
+            trees: lemma.tree.trees(),
+            words: 0,
+        };
+        for number in path {
+            scene.go_to_child(*number);
+        }
+        Ok(scene)
+    }
+
+    // The node without its children.
+    pub(crate) fn head(&self) -> Head
+        requires { self.now.trees ≢ none }
+        ensures { (rest : Forest) × (put result rest ≡ self.now.trees) }
+    {
+        self.trees.copy().next()
+    }
+
+    // Goes to the child with this number.
+    fn go_to_child(&mut self, number: u16)
+        requires some { self.old.trees ≢ none }
+        requires long { length self.old.partial.placed ≡ cell_count self.old.partial.puzzle.board }
+        requires child { (node : Tree) × (placed : Prefix)
+            × IsChild self.old.partial.puzzle (first self.old.trees) self.old.partial.placed number node placed }
+        ensures some { self.new.trees ≢ none }
+        ensures long { length self.new.partial.placed ≡ cell_count self.new.partial.puzzle.board }
+        ensures puzzle { self.new.partial.puzzle ≡ self.old.partial.puzzle }
+        ensures child { IsChild self.old.partial.puzzle (first self.old.trees) self.old.partial.placed number
+            (first self.new.trees) self.new.partial.placed }
+    {
+        let head = self.trees.next();
+        let Some(item) = branched_on(head) else {
+            unreachable!();
+        };
+        self.words = self.words.saturating_add(words_of(head));
+        go_past(&mut self.trees, number, &mut self.words);
+        let mut pairs = self.partial.fitting(item);
+        let Some(pair) = pair_at(&mut pairs, number) else {
+            unreachable!();
+        };
+        self.partial.place(pair.cell, pair.placement);
+    }
+}
+
+// The pair with this number; the others up to it are taken.
+fn pair_at(pairs: &mut FittingPairs, number: u16) -> Option<Pair>
+    ensures { result ≡ slice_get pairs.old number }
+{
+    for _ in 0..number {
+        pairs.take_first();
+    }
+    pairs.take_first()
+}
+
+// Goes past so many trees, in a step for each of their nodes, and adds the words of their text.
+fn go_past(trees: &mut Trees<'_>, number: u16, words: &mut usize)
+    requires { number ≤ count trees.old }
+    ensures { trees.new ≡ past number trees.old }
+{
+    let mut left = usize::from(number);
+    while left > 0 {
+        let head = trees.next();
+        left = left - 1 + children_of(head) as usize;
+        *words = words.saturating_add(words_of(head));
+    }
+}
+
+// The item that the node is a branch on, if it is one.
+fn branched_on(head: Head) -> Option<Item>
+    ensures { MatchOption result ((item : Item) (children : ℕ) → head ≢ branch_head item children)
+        (λ item. head ≡ branch_head item (arity head)) }
+{
+    match head {
+        Head::Cell { cell, .. } => Some(Item::Cell(cell)),
+        Head::Tile { tile, .. } => Some(Item::Tile(tile)),
+        _ => None,
+    }
+}
+
+// How many children the node has.
+fn children_of(head: Head) -> u32
+    ensures { result ≡ arity head }
+{
+    match head {
+        Head::Cell { children, .. } | Head::Tile { children, .. } => children,
+        _ => 0,
+    }
+}
+
+// How many words a node has in the text of its tree.
+fn words_of(head: Head) -> usize {
+    match head {
+        Head::Cell { .. } | Head::Tile { .. } | Head::Image { .. } => 3,
+        Head::DeadCell(_) | Head::DeadTile(_) | Head::Found(_) | Head::Same(_) => 2,
+    }
+}
