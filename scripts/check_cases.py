@@ -278,6 +278,7 @@ def order(trial, case):
     """The words of a case, with what it wants of their run."""
     keys, way = case.keys, " ".join(case.keys["words"])
     known = {it.upper(): trial.path(it) for it in DOCUMENTS}
+    known.update({f"./{it.upper()}": os.path.join(trial.folder, ".", it) for it in DOCUMENTS})
     got = trial.run([known.get(it, it) for it in keys["words"]], text_of(keys.get("stdin", "")))
     trial.wants_status(way, keys.get("status", 0), got.status)
     for stream, text in (("stdout", got.stdout), ("stderr", got.stderr)):

@@ -7,6 +7,7 @@ use crate::faults::{Document, RunFault};
 use crate::streams::sinks::Sink;
 use crate::streams::sources::{Failed, Source};
 use crate::streams::systems::{Input, Output};
+use std::alloc::Global;
 use std::fs::{self, File};
 use std::rt::Files;
 
@@ -32,6 +33,9 @@ pub trait FileSystem {
         ensures made { IfOk result (makes self.now name.now) }
         ensures unwritten { IfOk result
             (λ writer. (Self.Writer.idle writer ≡ false) × (Self.Writer.errors writer ≡ 0)) };
+
+    /// Whether both names lead to one file that is there, as far as it can be told.
+    fn lead_to_one(&self, alloc: Global, first: &str, second: &str) -> bool;
 }
 
 /// The files of the system. What they hold is not told.
@@ -67,6 +71,17 @@ impl<R: Files> FileSystem for System<'_, R> {
         match File::create(self.runtime, name) {
             Ok(file) => Ok(Output::new(file)),
             Err(_) => Err(Failed),
+        }
+    }
+
+    // By what the names come to when each link on the way is followed; two links to one file that have no target in
+    // their text, hard links, are not told.
+    fn lead_to_one(&self, alloc: Global, first: &str, second: &str) -> bool {
+        let first = self.runtime.canonicalize(alloc, first);
+        let second = self.runtime.canonicalize(alloc, second);
+        match (first, second) {
+            (Ok(first), Ok(second)) => first == second,
+            _ => false,
         }
     }
 }

@@ -156,8 +156,7 @@ fn check<S: FileSystem, W: Sink, R: Threads + Sync>(
     Ok(Exit::of_status(status))
 }
 
-// Opens the puzzle's file and makes the others before anything is read. A file that has the name of another is not
-// made.
+// Opens the puzzle's file and makes the others before anything is read. A file that is another of them is not made.
 fn solve<S: FileSystem, W: Sink, R: Threads + Wait + Sync>(
     rt: &R,
     alloc: Global,
@@ -178,10 +177,14 @@ fn solve<S: FileSystem, W: Sink, R: Threads + Wait + Sync>(
     ensures untouched { IfErr result (λ fault. fault ≢ RunFault.Write → output.new ≡ output.old) }
 {
     let mut puzzle = open(system, &files.puzzle, Document::Puzzle)?;
-    if !have_different_names(&files.puzzle, &files.list, &files.certificate) {
+    if !are_apart(alloc, files, system) {
         return Err(RunFault::Write);
     }
     let mut list = make(system, &files.list)?;
+    // What was no file may be the list's now.
+    if !are_apart(alloc, files, system) {
+        return Err(RunFault::Write);
+    }
     let mut certificate = make(system, &files.certificate)?;
     run_solve(
         rt,
@@ -197,7 +200,20 @@ fn solve<S: FileSystem, W: Sink, R: Threads + Wait + Sync>(
     Ok(Exit::Done)
 }
 
-// As a check, and prints all arrangements, or how many they are.
+// Whether the three files have different names, and as far as it can be told are three.
+fn are_apart<S: FileSystem>(alloc: Global, files: &Files, system: &S) -> bool {
+    let Files {
+        puzzle,
+        list,
+        certificate,
+    } = files;
+    have_different_names(puzzle, list, certificate)
+        && !system.lead_to_one(alloc, puzzle, list)
+        && !system.lead_to_one(alloc, puzzle, certificate)
+        && !system.lead_to_one(alloc, list, certificate)
+}
+
+// As a check, and prints all arrangements, or how many they are, or why the list is refused.
 fn print_all<S: FileSystem, W: Sink, R: RandomSource>(
     rt: &R,
     alloc: Global,

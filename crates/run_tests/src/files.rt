@@ -45,4 +45,8 @@ impl<'a> FileSystem for HeldFiles<'a> {
     fn make(&self, _name: &str) -> Result<Fake<'a>, Failed> {
         Ok(Fake::new(self.alloc, b"", 5, usize::MAX))
     }
+
+    fn lead_to_one(&self, _alloc: Global, _first: &str, _second: &str) -> bool {
+        false
+    }
 }
