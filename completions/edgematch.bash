@@ -10,8 +10,8 @@ _edgematch() {
       --depth | --fuel | --forks | --workers) return ;;
     esac
     case $command in
-      check) words="--workers --forks --help" ;;
-      solve) words="--depth --fuel --workers --help" ;;
+      check) words="--workers --forks --progress --help" ;;
+      solve) words="--depth --fuel --workers --keep --progress --help" ;;
       explain | expand | count | show | symmetries | tiles) words="--help" ;;
       help) words="check explain solve expand count show symmetries tiles help" ;;
     esac

@@ -33,7 +33,7 @@ LONGEST = 300
 TEXTS = {"like", "change", *DOCUMENTS}
 CHECKED = {"answer", "fault", "joined", "rows", "explanations", "explanation", "expansion", "arrangements", "cut"}
 STREAMED = {f"{stream}{end}" for stream in ("stdout", "stderr") for end in ("", "_begins", "_has")}
-ORDERED = {"words", "stdin", "status", "files", "files_have", "stdout_lines", *STREAMED}
+ORDERED = {"words", "beside", "stdin", "status", "files", "files_have", "left", "stdout_lines", *STREAMED}
 SOLVED = {"solve"}
 WANTED = {"answer", "fault", "rows", "explanations", "expansion", "arrangements", "words", "solve"}
 
@@ -237,7 +237,8 @@ def explain(trial, wanted, why):
     """An explanation: what a check comes to, and below a refusal why, which begins with these lines."""
     got = trial.run(["explain", *trial.paths()])
     line, below = got.stdout[: len(wanted.stdout)], got.stdout[len(wanted.stdout) :]
-    trial.wants_outcome("explain", wanted, Outcome(got.status, line, got.stderr))
+    fault = b"".join(got.stderr.splitlines(True)[:1])
+    trial.wants_outcome("explain", wanted, Outcome(got.status, line, fault))
     why = why.encode("latin-1")
     trial.wants("explain", "what stands below", why, below[: len(why)])
     if (wanted.status == 1) != (below != b""):
@@ -278,7 +279,12 @@ def order(trial, case):
     """The words of a case, with what it wants of their run."""
     keys, way = case.keys, " ".join(case.keys["words"])
     known = {it.upper(): trial.path(it) for it in DOCUMENTS}
+    for name, text in keys.get("beside", {}).items():
+        trial.put(name, text_of(text))
     known.update({f"./{it.upper()}": os.path.join(trial.folder, ".", it) for it in DOCUMENTS})
+    if "FOLDER" in keys["words"]:
+        known["FOLDER"] = trial.path("folder")
+        os.mkdir(known["FOLDER"])
     got = trial.run([known.get(it, it) for it in keys["words"]], text_of(keys.get("stdin", "")))
     trial.wants_status(way, keys.get("status", 0), got.status)
     for stream, text in (("stdout", got.stdout), ("stderr", got.stderr)):
@@ -298,6 +304,9 @@ def order(trial, case):
     for document, text in keys.get("files_have", {}).items():
         if text_of(text) not in trial.contents(document):
             trial.differs(way, f"the file {document}, a part of it", text_of(text), trial.contents(document))
+    if "left" in keys:
+        left = " ".join(sorted(os.listdir(trial.folder)))
+        trial.wants(way, "the files that are left", " ".join(keys["left"]).encode(), left.encode())
 
 
 def solve(trial, options, number, every=None):

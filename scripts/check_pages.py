@@ -30,15 +30,20 @@ def helped(program, *command):
     return subprocess.run([program, *command, "--help"], capture_output=True, text=True, check=True).stdout
 
 
-def numbers_of(text):
-    """The options of a help that take a number, with what is said of each, and of its default."""
-    return {words.split()[0]: said for words, said in rows(text, "Options") if words.endswith("<N>")}
+def options_of(text):
+    """The options of a help, as `--fuel <N>` or `--keep`, with what is said of each, and of its default."""
+    return {words: said for words, said in rows(text, "Options") if words.startswith("--")}
+
+
+def option(name, number):
+    """An option as a help has it, by its name and whether a number stands behind it."""
+    return f"{name} <N>" if number else name
 
 
 def said_by_help(program):
     """What is said of each command, and of the options of each."""
     commands = dict(rows(helped(program), "Commands"))
-    options = {name: numbers_of(helped(program, name)) for name in commands if name != "help"}
+    options = {name: options_of(helped(program, name)) for name in commands if name != "help"}
     return commands, options
 
 
@@ -58,7 +63,8 @@ def manual_faults(commands, options):
         part = told.get(name, "")
         if said not in part.replace("\n", " "):
             yield f"what {name} does"
-        if dict(re.findall(r'^(--\w+) " N"\n(.*)$', part, re.MULTILINE)) != options.get(name, {}):
+        found = re.findall(r'^\n(--\w+)( " N")?\n(.*)$', part, re.MULTILINE)
+        if {option(long, number): said for long, number, said in found} != options.get(name, {}):
             yield f"the options of {name}"
 
 
@@ -74,7 +80,7 @@ def bash_faults(commands, options):
     if bash_words("") != {*commands, "--help", "--version"}:
         yield "commands"
     for name in options:
-        if bash_words(name, "-") != {*options[name], "--help"}:
+        if bash_words(name, "-") != {*(words.split()[0] for words in options[name]), "--help"}:
             yield f"the options of {name}"
 
 
@@ -85,7 +91,8 @@ def zsh_faults(commands, options):
         yield "commands"
     cases = {name: part for names, part in parts(text, r"^    ([\w |]+)\)$").items() for name in names.split(" | ")}
     for name in options:
-        if dict(re.findall(r"'(--\w+)\[(.*?)\]:N:'", cases.get(name, ""))) != without_defaults(options[name]):
+        found = re.findall(r"'(--\w+)\[(.*?)\](:N:)?'", cases.get(name, ""))
+        if {option(long, number): said for long, said, number in found} != without_defaults(options[name]):
             yield f"the options of {name}"
 
 
@@ -94,9 +101,10 @@ def fish_faults(commands, options):
     text = page("completions/edgematch.fish")
     if dict(re.findall(r'-n __fish_use_subcommand -a (\w+) -d "(.*)"$', text, re.MULTILINE)) != commands:
         yield "commands"
-    found = re.findall(r'-n "__fish_seen_subcommand_from (\w+)" -x -l (\w+) -d "(.*)"$', text, re.MULTILINE)
+    found = re.findall(r'-n "__fish_seen_subcommand_from (\w+)"( -x)? -l (\w+) -d "(.*)"$', text, re.MULTILINE)
     for name in options:
-        if {f"--{option}": said for of, option, said in found if of == name} != without_defaults(options[name]):
+        told = {option(f"--{long}", number): said for of, number, long, said in found if of == name}
+        if told != without_defaults(options[name]):
             yield f"the options of {name}"
 
 

@@ -12,12 +12,12 @@ use Rattle.match_text.specs.declared.ranges.Ranges.{Ranges}
 use Rattle.match_text.specs.declared.ranges.TheConstants.{SECOND}
 use Rattle.match_text.specs.Ranges.{AreRanges, ranges_of}
 use Rattle.match_text.specs.Bytes.{line_ends}
-use Rattle.match_text.specs.Place.{fail}
+use Rattle.match_text.specs.Place.{Says, fail}
 use Rattle.cert_tree.specs.declared.certificates.Lemma.{Lemma}
 use Rattle.cert_tree.specs.declared.flat_lemmas.LemmaSpan.{LemmaSpan}
 use Rattle.cert_tree.specs.declared.faults.AssembleFault.{AssembleFault}
 use Rattle.cert_tree.specs.declared.faults.AssembleFault.TheVariants.{Stranger, Double, Missing, Memory}
-use Rattle.cert_tree.specs.declared.faults.LemmaTextFault.{LemmaTextFault}
+use Rattle.match_text.specs.declared.faults.ReadFault.{ReadFault}
 use Rattle.cert_tree.specs.declared.faults.CertTextFault.{CertTextFault}
 use Rattle.cert_tree.specs.Faults.{of_assembly}
 use Rattle.cert_tree.specs.Certificate.{Contents, Piece, piece_of, piece_number}
@@ -25,7 +25,7 @@ use Rattle.cert_tree.specs.Spans.{number_of, AreSpans}
 use Rattle.cert_tree.specs.declared.heads.Head.{Head}
 use Rattle.match_puzzle.specs.declared.placements.Pair.{Pair}
 use Rattle.cert_tree.specs.Assembly.{how_often, IsOnly, HaveNoStranger, IsAssembly, AssemblyFails, assembly_rank, Assembles, TellsLeast}
-use Rattle.cert_tree.specs.CertificateText.{Said, lemma_of, LemmaGives, certificate_of, Makes, CertificateGives}
+use Rattle.cert_tree.specs.CertificateText.{Said, lemma_of, certificate_of, Makes, CertificateGives}
 use Rattle.cert_tree.specs.CertificateSpelling.{lemma_spelling, certificate_spelling, IsSymmetryWithin, IsLemmaWithin, IsCertificateWithin}
 use Rattle.cert_tree.specs.Writing.{said_by}
 use Rattle.cert_tree.proofs.AssemblyLemmas.{often-map, later_contained, tells_same}
@@ -34,17 +34,17 @@ use Rattle.cert_tree.proofs.CertificateTextLemmas.{lemma_found, lemma_only, lemm
 
 -- ---- a lemma
 
-pub found_of : (text : List ℕ) (result : Result Lemma LemmaTextFault) → LemmaGives result (lemma_of text) → IfOk result (λ lemma. IsLemmaWithin SECOND (piece_of lemma) × (text ≡ lemma_spelling (piece_of lemma)))
+pub found_of : (text : List ℕ) (result : Result Lemma ReadFault) → Says piece_of result (lemma_of text) → IfOk result (λ lemma. IsLemmaWithin SECOND (piece_of lemma) × (text ≡ lemma_spelling (piece_of lemma)))
 found_of text (Ok lemma) e = lemma_found text (piece_of lemma) e
 found_of text (Err f) e = tt
 
-pub only_of : (text : List ℕ) (result : Result Lemma LemmaTextFault) → LemmaGives result (lemma_of text) → (piece : Piece) → IsLemmaWithin SECOND piece → text ≡ lemma_spelling piece → LemmaGives result (Ok piece)
-only_of text result gives piece fits e = subst (λ outcome. LemmaGives result outcome) (ap lemma_of e ∙ lemma_only piece fits) gives
+pub only_of : (text : List ℕ) (result : Result Lemma ReadFault) → Says piece_of result (lemma_of text) → (piece : Piece) → IsLemmaWithin SECOND piece → text ≡ lemma_spelling piece → Says piece_of result (Ok piece)
+only_of text result gives piece fits e = subst (λ outcome. Says piece_of result outcome) (ap lemma_of e ∙ lemma_only piece fits) gives
 
-pub cut_of : (text : List ℕ) (result : Result Lemma LemmaTextFault) → LemmaGives result (lemma_of text) → (piece : Piece) (k : ℕ) → IsLemmaWithin SECOND piece → k < length (lemma_spelling piece) → text ≡ take k (lemma_spelling piece)
-    → LemmaGives result (fail (line_ends text + 1) Ends)
+pub cut_of : (text : List ℕ) (result : Result Lemma ReadFault) → Says piece_of result (lemma_of text) → (piece : Piece) (k : ℕ) → IsLemmaWithin SECOND piece → k < length (lemma_spelling piece) → text ≡ take k (lemma_spelling piece)
+    → Says piece_of result (fail (line_ends text + 1) Ends)
 cut_of text result gives piece k fits lt e =
-    subst (λ outcome. LemmaGives result outcome) (ap lemma_of e ∙ lemma_short (lemma_spelling piece) piece k (lemma_only piece fits) lt ∙ ap (λ t. fail (line_ends t + 1) Ends) (sym e)) gives
+    subst (λ outcome. Says piece_of result outcome) (ap lemma_of e ∙ lemma_short (lemma_spelling piece) piece k (lemma_only piece fits) lt ∙ ap (λ t. fail (line_ends t + 1) Ends) (sym e)) gives
 
 contained_at : {X : Type 0} (xs : List X) (x : X) (at : Contains xs x) → slice_get xs at.0 ≡ Some x
 contained_at [] x at = absurd (omega (arith, at.1))

@@ -13,13 +13,10 @@ use Rattle.match_text.specs.Ranges.{ranges_of}
 use Rattle.match_text.specs.Words.{fixed_in, number_in, colour_in, pair_in}
 use Rattle.match_text.specs.Place.{Read, ◌>>=◌, give, line_of, word_by, entries, opening, counted, closing, end_of_text}
 use Rattle.match_text.specs.Place.{times, start, value_of}
-use Rattle.cert_tree.specs.declared.certificates.Lemma.{Lemma}
 use Rattle.cert_tree.specs.declared.faults.AssembleFault.TheVariants.{Memory}
-use Rattle.cert_tree.specs.declared.faults.LemmaTextFault.{LemmaTextFault}
-use Rattle.cert_tree.specs.declared.faults.LemmaTextFault.TheVariants as lemma_text_faults
 use Rattle.cert_tree.specs.declared.faults.CertTextFault.{CertTextFault}
 use Rattle.cert_tree.specs.declared.faults.CertTextFault.TheVariants as faults
-use Rattle.cert_tree.specs.Certificate.{Contents, Piece, piece_of, piece_number}
+use Rattle.cert_tree.specs.Certificate.{Contents, Piece, piece_number}
 use Rattle.cert_tree.specs.Assembly.{Assembles}
 use Rattle.cert_tree.specs.Entries.{entries_before}
 use Rattle.cert_tree.specs.TreeText.{tree_by}
@@ -90,12 +87,6 @@ unfoldable pub certificate_of : List ℕ → Result Said TextFault
 certificate_of text = value_of (certificate_text (start text))
 
 -- ---- what a call comes to
-
--- What a call returned is this outcome. Of want of memory nothing is said.
-abbrev pub LemmaGives : Result Lemma LemmaTextFault → Result Piece TextFault → Type 0
-LemmaGives (Ok lemma) outcome = outcome ≡ Ok (piece_of lemma)
-LemmaGives (Err (lemma_text_faults.Text fault)) outcome = outcome ≡ Err fault
-LemmaGives (Err lemma_text_faults.Memory) outcome = Unit {0}
 
 -- The certificate that is assembled of what a text says, or the first fault of its lemmas. Of want of memory nothing is
 -- said.

@@ -3,15 +3,8 @@ use Rattle.match_text.specs.declared.faults.ReadFault.{ReadFault}
 use Rattle.match_text.specs.declared.faults.ReadFault.TheVariants as read
 use Rattle.cert_tree.specs.declared.faults.AssembleFault.{AssembleFault}
 use Rattle.cert_tree.specs.declared.faults.AssembleFault.TheVariants as assemble
-use Rattle.cert_tree.specs.declared.faults.LemmaTextFault.{LemmaTextFault}
-use Rattle.cert_tree.specs.declared.faults.LemmaTextFault.TheVariants as lemma_text
 use Rattle.cert_tree.specs.declared.faults.CertTextFault.{CertTextFault}
 use Rattle.cert_tree.specs.declared.faults.CertTextFault.TheVariants as certificate_text
-
--- a fault of a lemma's text
-abbrev pub of_lemma_text : ReadFault → LemmaTextFault
-of_lemma_text (read.Text fault) = lemma_text.Text fault
-of_lemma_text read.Memory = lemma_text.Memory
 
 -- a fault of a certificate's text
 abbrev pub of_certificate_text : ReadFault → CertTextFault

@@ -2,8 +2,7 @@
 
 ghost use Rattle.std.specs.Prelude.{◌≡◌};
 ghost use Rattle.cert_tree.specs.declared.faults.AssembleFault.TheVariants as assemble;
-ghost use Rattle.cert_tree.specs.declared.faults.LemmaTextFault.TheVariants as lemma_text;
-ghost use Rattle.cert_tree.specs.Faults.{of_lemma_text, of_certificate_text, of_assembly};
+ghost use Rattle.cert_tree.specs.Faults.{of_certificate_text, of_assembly};
 
 use match_text::{ReadFault, TextFault};
 use std::alloc::{AllocError, AllocFailed};
@@ -42,32 +41,7 @@ impl<T: Drop> From<AllocFailed<T>> for AssembleFault {
 }
 
 /// Why there is no lemma of a text.
-#[derive(Clone, Copy, PartialEq, Eq, Debug, Error)]
-pub enum LemmaTextFault {
-    #[error("{0}")]
-    Text(TextFault),
-    #[error("out of memory")]
-    Memory,
-}
-
-impl From<AllocError> for LemmaTextFault {
-    ghost from_gives = { λ _ e. e ≡ lemma_text.Memory };
-
-    fn from(_error: AllocError) -> LemmaTextFault {
-        LemmaTextFault::Memory
-    }
-}
-
-impl From<ReadFault> for LemmaTextFault {
-    ghost from_gives = { λ fault e. e ≡ of_lemma_text fault };
-
-    fn from(fault: ReadFault) -> LemmaTextFault {
-        match fault {
-            ReadFault::Text(fault) => LemmaTextFault::Text(fault),
-            ReadFault::Memory => LemmaTextFault::Memory,
-        }
-    }
-}
+pub type LemmaTextFault = ReadFault;
 
 /// Why there is no certificate of a text, in the order in which it is looked for.
 #[derive(Clone, Copy, PartialEq, Eq, Debug, Error)]

@@ -43,8 +43,8 @@ impl Head {
         }
     }
 
-    // How many children the node has.
-    pub(crate) fn children(self) -> u32
+    /// How many children the node has.
+    pub fn children(self) -> u32
         ensures { result ≡ arity self }
     {
         match self {

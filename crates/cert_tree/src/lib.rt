@@ -27,5 +27,5 @@ pub use heads::Head;
 pub use laws::{certificate_laws, head_laws, lemma_laws};
 pub use nodes::{Children, Node};
 pub use readers::{read_certificate, read_lemma};
-pub use spellings::{write_certificate, write_lemma, write_symmetries};
+pub use spellings::{put_pair, write_certificate, write_lemma, write_symmetries};
 pub use turnings::assemble_turned;

@@ -11,7 +11,7 @@ ghost use Rattle.match_text.specs.declared.faults.TextKind.TheVariants as kinds;
 ghost use Rattle.match_text.specs.Bytes.{line_ends};
 ghost use Rattle.cert_tree.specs.Lines.{said_of};
 ghost use Rattle.cert_tree.specs.CertificateText.{Said, mirrored_in, symmetry_line, lemma_line, lemma_text, lemma_of};
-ghost use Rattle.cert_tree.specs.CertificateText.{LemmaGives, certificate_text, certificate_of, Makes};
+ghost use Rattle.cert_tree.specs.CertificateText.{certificate_text, certificate_of, Makes};
 ghost use Rattle.cert_tree.specs.CertificateText.{CertificateGives};
 ghost use Rattle.cert_tree.specs.Writing.{said_by};
 ghost use Rattle.cert_tree.specs.CertificateSpelling.{lemma_spelling, certificate_spelling, IsLemmaWithin};
@@ -147,9 +147,9 @@ fn whole_lemma(alloc: Global, scan: &mut Scan) -> Result<Lemma, ReadFault>
 }
 
 #[tactic(auto, unfolding(crate::specs::CertificateText::lemma_of))]
-fn read_lemma_text(alloc: Global, text: &[u8]) -> Result<Lemma, LemmaTextFault>
+fn read_lemma_text(alloc: Global, text: &[u8]) -> Result<Lemma, ReadFault>
     requires { length text.now + 1 < 2 ^ 32 }
-    ensures { LemmaGives result (lemma_of text.now) }
+    ensures { Says piece_of result (lemma_of text.now) }
 {
     let mut scan = Scan::new(text);
     let lemma = whole_lemma(alloc, &mut scan)?;
@@ -161,17 +161,17 @@ fn read_lemma_text(alloc: Global, text: &[u8]) -> Result<Lemma, LemmaTextFault>
 pub fn read_lemma(alloc: Global, text: &[u8]) -> Result<Lemma, LemmaTextFault>
     requires { length text.now + 1 < 2 ^ 32 }
     // Which lemma, and which fault.
-    ensures exact { LemmaGives result (lemma_of text.now) }
+    ensures exact { Says piece_of result (lemma_of text.now) }
     // What is read is spelled so.
     ensures found { IfOk result
         (λ lemma. IsLemmaWithin SECOND (piece_of lemma) × (text.now ≡ lemma_spelling (piece_of lemma))) }
     // What is spelled so is read.
     ensures only { (piece : Piece) → IsLemmaWithin SECOND piece → text.now ≡ lemma_spelling piece
-        → LemmaGives result (Ok piece) }
+        → Says piece_of result (Ok piece) }
     // A spelling that is cut short ends at its last line.
     ensures cut { (piece : Piece) (k : ℕ) → IsLemmaWithin SECOND piece → k < length (lemma_spelling piece)
         → text.now ≡ take k (lemma_spelling piece)
-        → LemmaGives result (fail (line_ends text.now + 1) kinds.Ends) }
+        → Says piece_of result (fail (line_ends text.now + 1) kinds.Ends) }
 {
     read_lemma_text(alloc, text)
 }

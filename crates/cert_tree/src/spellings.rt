@@ -68,7 +68,8 @@ fn put_heads(text: &mut Vec<u8>, heads: &[Head]) -> Result<(), AllocError>
     Ok(())
 }
 
-fn put_pair(text: &mut Vec<u8>, pair: Pair) -> Result<(), AllocError>
+/// Adds a space and the pair, as it stands in a prefix.
+pub fn put_pair(text: &mut Vec<u8>, pair: Pair) -> Result<(), AllocError>
     ensures { OnOk result (text.new.items ≡ text.old.items ++ (32 ∷ pair_word pair)) }
 {
     put_behind(text, b" ", u32::from(pair.cell))?;

@@ -1,8 +1,8 @@
--- A parse that has no fault: each row has values, and they pass the parser of their argument.
+-- A parse that has no fault: each row has values, they pass the parser of their argument, and are read by it.
 use Rattle.std.proofs.Common.{◌≡◌, ◌∙◌, ◌&&◌, ◌||◌, ◌<◌, ℕ, zero, suc, Bool, true, false, not, cond, List, [], ◌∷◌, ◌++◌, Option, Some, None, is_some, length, drop, refl, sym, ap, subst, arith}
 use Rattle.std.specs.Prelude.{encode_utf8, slice_get, nat_lt, fold, find, option_and_then}
 use Rattle.std.specs.List.{AllByRecursion, list_any}
-use Rattle.std.specs.Option.{option_map_or}
+use Rattle.std.specs.Option.{option_map, option_map_or}
 use Rattle.std.specs.Str.{bytes_eq, chars}
 use Rattle.std.proofs.lemmas.Bool.{ne_eqb, or_left, or_right}
 use Rattle.std.proofs.lemmas.List.{length-append}
@@ -10,8 +10,9 @@ use Rattle.std.proofs.lemmas.List.Folds.{list_all-append}
 use Rattle.std.proofs.lemmas.Slice.Eq.{bytes_eq-Decides}
 use Rattle.clap.specs.Lexer.{long_of, short_of}
 use Rattle.clap.specs.Facts.{explicit_source, parser_of_value, unwrap_or_range}
-use Rattle.clap.specs.Walk.{Held, Names, Outcome, Row, Rule, Step, Text, Waiting, Walk, action_of, after_flag, after_step, arg_by_id, arg_by_index, arg_by_long, arg_by_short, attached_value, bundle, bundle_met, bundle_step, default_rows, done, first_of, flag_met, has_row, idle, is_empty, is_pending, long_met, long_or_other, most_values, more_values, next, nothing_held, option, option_met, option_word, plain, plain_word, positional, pushed, reacted, reading_by, refused, rows_after, settled, settled_rows, short_met, short_or_plain, subcommand, subcommand_met, subcommand_or_other, takes_several, takes_values, to_positional, trailing, used, used_as, used_by_id, value, values_or_missing, waits, walk, walk_from, walked, walked_from, with_default, with_values, without, word_met}
+use Rattle.clap.specs.Walk.{Held, Names, Outcome, Row, Rule, Step, Text, Waiting, Walk, action_of, after_flag, after_step, arg_by_id, arg_by_index, arg_by_long, arg_by_short, attached_value, bundle, bundle_met, bundle_step, default_rows, done, first_of, flag_met, has_row, idle, is_empty, is_pending, long_met, long_or_other, most_values, more_values, next, nothing_held, one_of, option, option_met, option_word, plain, plain_word, positional, pushed, reacted, reading_by, refused, row_text, rows_after, settled, settled_rows, short_met, short_or_plain, subcommand, subcommand_met, subcommand_or_other, takes_several, takes_values, to_positional, trailing, used, used_as, used_by_id, value, values_or_missing, waits, walk, walk_from, walked, walked_from, with_default, with_values, without, word_met}
 use Rattle.clap.specs.Simple.{Shape}
+use Rattle.clap.specs.Values.{read_as}
 use Rattle.clap.specs.Takes.{is_given, value_passes, values_pass}
 use Rattle.clap.specs.Kinds.{Kinds, check_kinds, or_else, range_kinds, request_kinds, value_kinds}
 use Rattle.clap.specs.Faults.{action_fault, bundle_fault, bundle_step_fault, check_fault, default_fault, defaults_fault, flag_word_fault, flags_fault, given_default_fault, level_fault, long_fault, option_fault, other_fault, positional_fault, react_fault, settle_fault, short_fault, step_fault, stray_fault, turn_fault, use_fault, values_fault, walk_fault, word_fault}
@@ -50,14 +51,19 @@ values_pass_of a (v ∷ vs) e =
     go true is none rest = rw (is, rest) refl
     go false is none rest = let bad = rw is at none in absurd cc
 
--- a use has values where one is wanted
-some_values : (least most : ℕ) (values : List Text) → nat_lt 0 least ≡ true → range_kinds least most (length values) ≡ [] → 0 < length values
-some_values least most [] some e = let bad = rw some at e in absurd cc
-some_values least most (v ∷ vs) some e = omega arith
+-- a use of the argument wants a value, or one stands for it
+abbrev pub wants_values : Rule → Bool
+wants_values a = nat_lt 0 (unwrap_or_range a.range).start_inclusive || not (is_empty a.missing)
 
-same_values : (a : Rule) (values : List Text) → 0 < length values → values_or_missing a values ≡ values
-same_values a [] e = absurd (omega arith)
-same_values a (v ∷ vs) e = refl
+-- a use has values where one is wanted, or stands for it
+some_values : (a : Rule) (most : ℕ) (values : List Text) → wants_values a ≡ true → range_kinds (unwrap_or_range a.range).start_inclusive most (length values) ≡ [] → 0 < length (values_or_missing a values)
+some_values a most (v ∷ vs) wants e = omega arith
+some_values a most [] wants e = go (nat_lt 0 (unwrap_or_range a.range).start_inclusive) refl a.missing wants
+  where
+    go : (b : Bool) → nat_lt 0 (unwrap_or_range a.range).start_inclusive ≡ b → (missing : List Text) → (b || not (is_empty missing)) ≡ true → 0 < length missing
+    go true is missing any = let bad = rw is at e in absurd cc
+    go false is [] any = absurd cc
+    go false is (v ∷ vs) any = omega arith
 
 more_nonempty : (xs ys : List Text) → 0 < length ys → 0 < length (xs ++ ys)
 more_nonempty xs ys lt = simp length-append (omega (arith, lt))
@@ -68,6 +74,8 @@ more_nonempty xs ys lt = simp length-append (omega (arith, lt))
 abbrev pub puts_values : ArgAction → Bool → Bool
 puts_values action.Set some = some
 puts_values action.Append some = some
+puts_values action.SetTrue some = some
+puts_values action.SetFalse some = some
 puts_values action.Help some = true
 puts_values action.HelpShort some = true
 puts_values action.HelpLong some = true
@@ -77,22 +85,24 @@ puts_values _ some = false
 -- the arguments have ids of their own, and uses of this one put values in
 pub record IsValued (c : List Rule) (a : Rule) : Type 0 where
   pub own : arg_by_id c a.id ≡ Some a
-  pub puts : puts_values (action_of a) (nat_lt 0 (unwrap_or_range a.range).start_inclusive) ≡ true
+  pub puts : puts_values (action_of a) (wants_values a) ≡ true
 
--- a row has values, and they pass the parser of its argument
+-- a row has values, they pass the parser of its argument, and are read by it
 pub record IsFull (c : List Rule) (r : Row) : Type 0 where
   pub some : 0 < length r.values
   pub pass : (a : Rule) → arg_by_id c r.id ≡ Some a → values_pass a r.values ≡ true
+  pub read : (a : Rule) → arg_by_id c r.id ≡ Some a → r.reading ≡ reading_by a
 
 module _ (c : List Rule) where
   abbrev pub AllFull : List Row → Type 0
   AllFull = AllByRecursion (IsFull c)
 
-  new_full : (a : Rule) (how : Reading) (s : ValueSource) (values : List Text) → arg_by_id c a.id ≡ Some a → 0 < length values → values_pass a values ≡ true
-      → IsFull c (record { id = a.id; values = values; count = None; source = Some s; reading = how })
-  new_full a how s values own some pass = record {
+  new_full : (a : Rule) (s : ValueSource) (values : List Text) → arg_by_id c a.id ≡ Some a → 0 < length values → values_pass a values ≡ true
+      → IsFull c (record { id = a.id; values = values; count = None; source = Some s; reading = reading_by a })
+  new_full a s values own some pass = record {
     some = some;
     pass = λ b is. let same : a ≡ b = cc in subst (λ d. values_pass d values ≡ true) same pass;
+    read = λ b is. let same : a ≡ b = cc in ap reading_by same;
   }
 
   more_full : (a : Rule) (r : Row) (values : List Text) (source : Option ValueSource) → arg_by_id c a.id ≡ Some a → r.id ≡ a.id → 0 < length values → values_pass a values ≡ true → IsFull c r
@@ -103,15 +113,16 @@ module _ (c : List Rule) where
         let own_id : arg_by_id c r.id ≡ Some a = subst (λ id. arg_by_id c id ≡ Some a) (sym same_id) own in
         let same : a ≡ b = cc in
         list_all-append (value_passes b) r.values values ∙ rw (full.pass b is) (subst (λ d. values_pass d values ≡ true) same pass);
+    read = full.read;
   }
 
-  with_values_full : (a : Rule) (how : Reading) (s : ValueSource) (values : List Text) → arg_by_id c a.id ≡ Some a → 0 < length values → values_pass a values ≡ true
-      → (rows : List Row) → AllFull rows → AllFull (with_values a.id how s values rows)
-  with_values_full a how s values own some pass [] full = (new_full a how s values own some pass, tt)
-  with_values_full a how s values own some pass (r ∷ rs) full = go (bytes_eq r.id a.id) refl (with_values_full a how s values own some pass rs full.1)
+  with_values_full : (a : Rule) (s : ValueSource) (values : List Text) → arg_by_id c a.id ≡ Some a → 0 < length values → values_pass a values ≡ true
+      → (rows : List Row) → AllFull rows → AllFull (with_values a.id (reading_by a) s values rows)
+  with_values_full a s values own some pass [] full = (new_full a s values own some pass, tt)
+  with_values_full a s values own some pass (r ∷ rs) full = go (bytes_eq r.id a.id) refl (with_values_full a s values own some pass rs full.1)
     where
-      go : (b : Bool) → bytes_eq r.id a.id ≡ b → AllFull (with_values a.id how s values rs)
-          → AllFull (cond b (more_values s values r ++ rs) (r ∷ with_values a.id how s values rs))
+      go : (b : Bool) → bytes_eq r.id a.id ≡ b → AllFull (with_values a.id (reading_by a) s values rs)
+          → AllFull (cond b (more_values s values r ++ rs) (r ∷ with_values a.id (reading_by a) s values rs))
       go true is later = (more_full a r values _ own ((bytes_eq-Decides r.id a.id).0 is) some pass full.0, full.1)
       go false is later = (full.0, later)
 
@@ -126,30 +137,25 @@ module _ (c : List Rule) where
   used_full : (again : Bool) (a : Rule) (values : List Text) (rows : List Row) → IsValued c a → use_fault again a values rows ≡ [] → AllFull rows → AllFull (used a values rows)
   used_full again a values rows valued e full = go (action_of a) valued.puts parts.1
     where
-      some : Bool
-      some = nat_lt 0 (unwrap_or_range a.range).start_inclusive
-
       given : List Text
       given = values_or_missing a values
 
       parts : (range_kinds (unwrap_or_range a.range).start_inclusive (most_values a) (length values) ≡ []) × (action_fault (action_of a) again a given rows ≡ [])
       parts = none_of_both _ _ e
 
-      put : some ≡ true → (before : List Row) → AllFull before → values_fault a given ≡ [] → AllFull (with_values a.id (reading_by a) CommandLine given before)
+      put : wants_values a ≡ true → (before : List Row) → AllFull before → values_fault a given ≡ [] → AllFull (with_values a.id (reading_by a) CommandLine given before)
       put is before held none =
-          let nonempty = some_values _ _ values is parts.0 in
-          let given_nonempty : 0 < length given = subst (λ vs. 0 < length vs) (sym (same_values a values nonempty)) nonempty in
-          with_values_full a _ _ given valued.own given_nonempty (values_pass_of a given none) before held
+          with_values_full a _ given valued.own (some_values a _ values is parts.0) (values_pass_of a given none) before held
 
-      go : (x : ArgAction) → puts_values x some ≡ true → action_fault x again a given rows ≡ [] → AllFull (used_as x a.id (reading_by a) given rows)
+      go : (x : ArgAction) → puts_values x (wants_values a) ≡ true → action_fault x again a given rows ≡ [] → AllFull (used_as x a.id (reading_by a) given rows)
       go action.Set is none = put is (without a.id rows) (without_full a.id rows full) (none_of_both _ _ none).1
       go action.Append is none = put is rows full none
       go action.Help is none = full
       go action.HelpShort is none = full
       go action.HelpLong is none = full
       go action.Version is none = full
-      go action.SetTrue is none = absurd cc
-      go action.SetFalse is none = absurd cc
+      go action.SetTrue is none = put is (without a.id rows) (without_full a.id rows full) (none_of_both _ _ none).1
+      go action.SetFalse is none = put is (without a.id rows) (without_full a.id rows full) (none_of_both _ _ none).1
       go action.Count is none = absurd cc
 
 -- ---- the words
@@ -310,7 +316,7 @@ module _ (s : Shape) (all : AllByRecursion (IsValued s.rules) s.rules) (names : 
           let some : is_empty (v ∷ vs) ≡ false = ne_eqb _ _ (λ e. omega (arith, e)) in
           let given : given_default_fault a (v ∷ vs) ≡ [] = rw some at none in
           let pass = values_pass_of a (v ∷ vs) (none_of_both (request_kinds (action_of a)) _ given).1 in
-          with_values_full s.rules a _ _ (v ∷ vs) valued.0.own (omega arith) pass rows full
+          with_values_full s.rules a _ (v ∷ vs) valued.0.own (omega arith) pass rows full
 
   -- ---- the end of a level
 
@@ -425,9 +431,16 @@ defaults_own a some (b ∷ rules) rows e = go (bytes_eq b.id a.id) e (defaults_o
 abbrev pub is_always_given : Rule → Bool
 is_always_given a = a.required || not (is_empty a.defaults)
 
--- an argument of a leaf that is required, or has a default, has a first value, which passes
+-- the rows have a first value for the argument, which passes its parser, and is read by it
+pub record IsGiven (a : Rule) (rows : List Row) : Type 0 where
+  pub text : Text
+  pub first : first_of a.id rows ≡ Some text
+  pub passes : value_passes a text ≡ true
+  pub read : one_of a.id rows ≡ Some (read_as (reading_by a) text)
+
+-- an argument of a leaf that is required, or has a default, is given
 pub always_given : (s : Shape) → AllByRecursion (IsValued s.rules) s.rules → s.subcommand_negates_reqs ≡ false → (words : List Text) → level_fault s [] nothing_held words false [] ≡ []
-    → (a : Rule) → arg_by_id s.rules a.id ≡ Some a → is_always_given a ≡ true → (text : Text) × (first_of a.id (rows_after s.rules [] words) ≡ Some text) × (value_passes a text ≡ true)
+    → (a : Rule) → arg_by_id s.rules a.id ≡ Some a → is_always_given a ≡ true → IsGiven a (rows_after s.rules [] words)
 always_given s all strict words e a own always = let found = has_row_found a.id rows stands in go found.0 found.1
   where
     rows : List Row
@@ -461,9 +474,15 @@ always_given s all strict words e a own always = let found = has_row_found a.id 
         both true e = refl
         both false e = absurd cc
 
-    go : (r : Row) → find (λ r. bytes_eq r.id a.id) rows ≡ Some r → (text : Text) × (first_of a.id rows ≡ Some text) × (value_passes a text ≡ true)
+    go : (r : Row) → find (λ r. bytes_eq r.id a.id) rows ≡ Some r → IsGiven a rows
     go r is =
         let found = found_has (IsFull s.rules) (λ r. bytes_eq r.id a.id) rows ends.0 r is in
         let same : r.id ≡ a.id = (bytes_eq-Decides r.id a.id).0 found.1 in
-        let value = first r.values (found.0.pass a (subst (λ id. arg_by_id s.rules id ≡ Some a) (sym same) own)) found.0.some in
-        (value.0, ap (option_and_then (λ (r : Row). slice_get r.values 0)) is ∙ value.1, value.2)
+        let own_row : arg_by_id s.rules r.id ≡ Some a = subst (λ id. arg_by_id s.rules id ≡ Some a) (sym same) own in
+        let value = first r.values (found.0.pass a own_row) found.0.some in
+        record {
+          text = value.0;
+          first = ap (option_and_then (λ (r : Row). slice_get r.values 0)) is ∙ value.1;
+          passes = value.2;
+          read = ap (option_and_then row_text) is ∙ ap (option_map (read_as r.reading)) value.1 ∙ ap (λ how. Some (read_as how value.0)) (found.0.read a own_row);
+        }

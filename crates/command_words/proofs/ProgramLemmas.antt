@@ -1,11 +1,11 @@
 -- What the program's commands have, where they take words.
 use Rattle.std.proofs.Common.{◌≡◌, ◌≢◌, ◌∙◌, ◌&&◌, ◌||◌, ℕ, Bool, true, false, not, cond, List, [], ◌∷◌, Option, Some, None, inl, inr, refl, sym, ap, ap₂, subst, codes, is_some, option_map}
-use Rattle.std.specs.Prelude.{fold, find, nat_lt, slice_index_or, unwrap_or}
+use Rattle.std.specs.Prelude.{fold, find, slice_index_or, unwrap_or}
 use Rattle.std.specs.List.{AllByRecursion, list_all}
 use Rattle.std.specs.Option.{option_map_or}
 use Rattle.std.specs.Str.{bytes_eq}
 use Rattle.std.proofs.lemmas.Slice.Eq.{bytes_eq-Decides}
-use Rattle.clap.specs.Facts.{parser_of_value, unwrap_or_range}
+use Rattle.clap.specs.Facts.{parser_of_value}
 use Rattle.clap.specs.ValueTests.{accepts}
 use Rattle.clap.specs.Words.{IsUnsignedIn}
 use Rattle.clap.specs.declared.builder.value_parser.ValueParser.{ValueParser}
@@ -13,24 +13,23 @@ use Rattle.clap.specs.Lexer.{long_of, short_of}
 use Rattle.clap.specs.Walk.{Held, Names, Outcome, Row, Rule, Step, Text, Waiting, Walk, action_of, after_flag, after_step, answers_to, arg_by_id, arg_by_index, bundle, arg_by_long, done, first_of, idle, long_met, long_or_other, next, nothing_held, option, plain, plain_word, positional, refused, rows_after, short_or_plain, subcommand, subcommand_met, subcommand_or_other, to_positional, trailing, value, waits, walk, walk_from, walked, walked_from, word_met}
 use Rattle.clap.specs.Simple.{App, HasMatchesOf, Shape, app_of, built, entered, is_simple, label_of, names_of, new_rule, new_shape, rows_at, subcommand_of, subcommand_rows}
 use Rattle.clap.specs.Faults.{entered_fault, fault_of, is_simple_and_free, level_fault, other_fault, step_fault, turn_fault, walk_fault, word_fault}
-use Rattle.clap.specs.Takes.{value_passes}
 use Rattle.clap.specs.Kinds.{HasKind, IsAmong, or_else}
 use Rattle.clap.specs.Matches.{subcommand_name_of}
 use Rattle.clap.specs.declared.builder.command.Command.{Command}
 use Rattle.clap.specs.declared.parser.matches.ArgMatches.{ArgMatches}
 use Rattle.clap.specs.declared.parser.matches.ArgMatches.TheViews.{out-ArgMatches}
 use Rattle.clap.specs.declared.builder.value_parser.ValueParser.TheVariants as parsers
-use Rattle.clap.specs.Values.{kind_of}
+use Rattle.clap.specs.Values.{bool_text, kind_of, read_as, reading_of}
 use Rattle.clap.specs.declared.error.Error.{Error}
 use Rattle.clap.specs.declared.error.kind.ErrorKind.TheVariants as kinds
 use Rattle.clap.proofs.OnLiterals.{clap_on_literals}
 use Rattle.clap.proofs.ValueTestLemmas.{accepts-Accepts}
 use Rattle.command_words.specs.Commands.{whole_app}
-use Rattle.command_words.specs.Orders.{HasFiles, HasNumber, HasText, IsFaultOf, IsOrder, IsOrderOf, IsRefusedBy}
+use Rattle.command_words.specs.Orders.{HasFiles, HasFlag, HasNumber, HasText, IsFaultOf, IsOrder, IsOrderOf, IsRefusedBy}
 use Rattle.command_words.specs.declared.orders.Order.{Order}
 use Rattle.command_words.specs.declared.faults.WordsFault.{WordsFault}
 use Rattle.command_words.specs.declared.faults.WordsFault.TheVariants.{Words, Memory}
-use Rattle.command_words.proofs.FaultlessWalk.{IsValued, always_given, found_has, is_always_given, none_of_both, puts_values}
+use Rattle.command_words.proofs.FaultlessWalk.{IsGiven, IsValued, always_given, found_has, is_always_given, none_of_both, puts_values, wants_values}
 
 pub some_is : {A : Type 0} {x y : A} → Some x ≡ Some y → x ≡ y
 some_is e = cc
@@ -173,7 +172,7 @@ found_passes test (y ∷ ys) x e = go (test y) refl (found_passes test ys x) e
 
 -- a use of the argument puts values in
 abbrev takes_a_value : Rule → Bool
-takes_a_value a = puts_values (action_of a) (nat_lt 0 (unwrap_or_range a.range).start_inclusive)
+takes_a_value a = puts_values (action_of a) (wants_values a)
 
 -- the command's arguments have different names and take values
 abbrev is_ready : Shape → Bool
@@ -191,9 +190,9 @@ all_valued : (c rules : List Rule) → AllByRecursion (λ a. arg_by_id c a.id �
 all_valued c [] own puts = tt
 all_valued c (a ∷ rules) own puts = let parts = both_true _ _ puts in (record { own = own.0; puts = parts.0 }, all_valued c rules own.1 parts.1)
 
--- Each word that a command needs, or has a default for, has a value, which passes its parser.
+-- Each word that a command needs, or has a default for, is given.
 abbrev pub HasNeeded : Shape → List Row → Type 0
-HasNeeded s rows = (a : Rule) → arg_by_id s.rules a.id ≡ Some a → is_always_given a ≡ true → (text : Text) × (first_of a.id rows ≡ Some text) × (value_passes a text ≡ true)
+HasNeeded s rows = (a : Rule) → arg_by_id s.rules a.id ≡ Some a → is_always_given a ≡ true → IsGiven a rows
 
 -- the command of this name
 abbrev pub command_named : Text → Option Shape
@@ -357,16 +356,34 @@ has_text s rows id has wants = go (arg_by_id s.rules id) refl wants
     go (Some a) is always =
         let same = (bytes_eq-Decides a.id id).0 (found_passes (λ b. bytes_eq b.id id) s.rules a is) in
         let given = has a (subst (λ t. arg_by_id s.rules t ≡ Some a) (sym same) is) always in
-        (given.0, subst (λ t. first_of t rows ≡ Some given.0) same given.1)
+        (given.text, subst (λ t. first_of t rows ≡ Some given.text) same given.first)
 
 -- a number that a command needs, or has a default for
 pub has_number : (s : Shape) (rows : List Row) (a : Rule) (least most : ℕ) → HasNeeded s rows → arg_by_id s.rules a.id ≡ Some a → is_always_given a ≡ true → a.parser ≡ Some (parsers.Unsigned least most) → HasNumber a.id least most rows
 has_number s rows a least most has own always number =
     let given = has a own always in
-    (given.0, given.1, read a.ignore_case a.parser given.0 number given.2)
+    (given.text, given.first, read a.ignore_case a.parser given.text number given.passes)
   where
     read : (ignores : Bool) (parser : Option ValueParser) (text : Text) → parser ≡ Some (parsers.Unsigned least most) → accepts ignores (parser_of_value parser) text ≡ true → IsUnsignedIn least most text
     read ignores parser text is passes = accepts-Accepts ignores (parsers.Unsigned least most) text (rw is at passes)
+
+-- a flag has a value, whether it is given or not
+pub has_flag : (s : Shape) (rows : List Row) (a : Rule) → HasNeeded s rows → arg_by_id s.rules a.id ≡ Some a → is_always_given a ≡ true → a.parser ≡ Some parsers.Bool → HasFlag a.id rows
+has_flag s rows a has own always flag =
+    let given = has a own always in
+    let word = either given.text (passes a.ignore_case a.parser given.text flag given.passes) in
+    (word.0, given.read ∙ ap (λ p. Some (read_as (reading_of (parser_of_value p)) given.text)) flag ∙ ap Some word.1)
+  where
+    passes : (ignores : Bool) (parser : Option ValueParser) (text : Text) → parser ≡ Some parsers.Bool → accepts ignores (parser_of_value parser) text ≡ true → (bytes_eq text (codes "true") || bytes_eq text (codes "false")) ≡ true
+    passes ignores parser text is accepted = rw is at accepted
+
+    either : (text : Text) → (bytes_eq text (codes "true") || bytes_eq text (codes "false")) ≡ true → (given : Bool) × (text ≡ bool_text given)
+    either text any = go (bytes_eq text (codes "true")) refl (bytes_eq text (codes "false")) refl any
+      where
+        go : (a : Bool) → bytes_eq text (codes "true") ≡ a → (b : Bool) → bytes_eq text (codes "false") ≡ b → (a || b) ≡ true → (given : Bool) × (text ≡ bool_text given)
+        go true is b other any = (true, (bytes_eq-Decides text (codes "true")).0 is)
+        go false is true other any = (false, (bytes_eq-Decides text (codes "false")).0 other)
+        go false is false other any = absurd cc
 
 pub has_files : (s : Shape) (rows : List Row) → HasNeeded s rows → needs s (codes "PUZZLE") ≡ true → needs s (codes "LIST") ≡ true → needs s (codes "CERTIFICATE") ≡ true → HasFiles rows
 has_files s rows has puzzle list certificate = (has_text s rows _ has puzzle, has_text s rows _ has list, has_text s rows _ has certificate)

@@ -1,8 +1,9 @@
 -- The program's commands, as `clap` reads them.
 use Rattle.std.specs.Prelude.{◌≡◌, ℕ, List, true, false, [], ◌∷◌, Some, codes, fold}
-use Rattle.match_board.specs.declared.limits.TheConstants.{MOST_COLOURS, MOST_DEPTH, MOST_FORKS, MOST_FUEL, MOST_WORKERS}
+use Rattle.match_board.specs.declared.limits.TheConstants.{LAST_ARRANGEMENT, MOST_COLOURS, MOST_DEPTH, MOST_FORKS, MOST_FUEL, MOST_WORKERS}
 use Rattle.clap.specs.Words.{App, Rule, Text, new_app, new_rule, with_rule, with_subcommand}
 use Rattle.clap.specs.Simple.{on_top}
+use Rattle.clap.specs.declared.builder.action.ArgAction.TheVariants.{SetTrue}
 use Rattle.clap.specs.declared.builder.command.Command.{Command}
 use Rattle.clap.specs.declared.builder.command.Command.TheViews.{out-Command}
 use Rattle.clap.specs.declared.builder.value_parser.ValueParser.TheVariants as parsers
@@ -19,11 +20,23 @@ wanted id = record (new_rule id) { required = true }
 abbrev pub wanted_number : Text → ℕ → ℕ → Rule
 wanted_number id least most = record (wanted id) { parser = Some (parsers.Unsigned least most) }
 
+-- a number from `least` to `most`, which is `default` where none is given
+abbrev pub number_or_default : Text → ℕ → ℕ → Text → Rule
+number_or_default id least most default =
+    record (new_rule id) { parser = Some (parsers.Unsigned least most); defaults = default ∷ [] }
+
 -- a number from `least` to `most` behind an option of this name, which is `default` where the option isn't given
 abbrev pub optional_number : Text → ℕ → ℕ → Text → Rule
 optional_number id least most default =
-    record (new_rule id)
-    { long = Some id; parser = Some (parsers.Unsigned least most); value_names = 1; defaults = default ∷ [] }
+    record (number_or_default id least most default) { long = Some id; value_names = 1 }
+
+-- a flag of this name
+abbrev pub flag : Text → Rule
+flag id = record (new_rule id) { long = Some id; action = Some SetTrue }
+
+-- the command with these arguments behind its own
+abbrev pub with_rules : App → List Rule → App
+with_rules = fold with_rule
 
 -- the file of a puzzle
 abbrev pub with_puzzle : App → App
@@ -31,26 +44,28 @@ with_puzzle app = with_rule app (wanted (codes "PUZZLE"))
 
 -- three files by their names
 abbrev pub with_files : App → App
-with_files app =
-    with_rule (with_rule (with_puzzle app) (wanted (codes "LIST")))
-    (wanted (codes "CERTIFICATE"))
+with_files app = with_rules (with_puzzle app) (wanted (codes "LIST") ∷ wanted (codes "CERTIFICATE") ∷ [])
 
 abbrev pub check_app : App
 check_app =
-    with_rule
-    (with_rule (with_files (new_app (codes "check"))) (optional_number (codes "workers") 1 MOST_WORKERS (codes "1")))
-    (optional_number (codes "forks") 0 MOST_FORKS (codes "0"))
+    with_rules (with_files (new_app (codes "check")))
+    (optional_number (codes "workers") 1 MOST_WORKERS (codes "1")
+    ∷ optional_number (codes "forks") 0 MOST_FORKS (codes "0")
+    ∷ flag (codes "progress")
+    ∷ [])
 
 abbrev pub explain_app : App
 explain_app = with_files (new_app (codes "explain"))
 
 abbrev pub solve_app : App
 solve_app =
-    with_rule
-    (with_rule
-    (with_rule (with_files (new_app (codes "solve"))) (optional_number (codes "depth") 0 MOST_DEPTH (codes "1")))
-    (optional_number (codes "fuel") 1 MOST_FUEL (codes "1000000")))
-    (optional_number (codes "workers") 1 MOST_WORKERS (codes "1"))
+    with_rules (with_files (new_app (codes "solve")))
+    (optional_number (codes "depth") 0 MOST_DEPTH (codes "1")
+    ∷ optional_number (codes "fuel") 1 MOST_FUEL (codes "1000000")
+    ∷ optional_number (codes "workers") 1 MOST_WORKERS (codes "1")
+    ∷ flag (codes "keep")
+    ∷ flag (codes "progress")
+    ∷ [])
 
 abbrev pub expand_app : App
 expand_app = with_files (new_app (codes "expand"))
@@ -59,15 +74,17 @@ abbrev pub count_app : App
 count_app = with_files (new_app (codes "count"))
 
 abbrev pub show_app : App
-show_app = with_puzzle (new_app (codes "show"))
+show_app =
+    with_rules (with_puzzle (new_app (codes "show")))
+    (new_rule (codes "LIST") ∷ number_or_default (codes "N") 0 LAST_ARRANGEMENT (codes "0") ∷ [])
 
 abbrev pub symmetries_app : App
 symmetries_app = with_puzzle (new_app (codes "symmetries"))
 
 abbrev pub tiles_app : App
 tiles_app =
-    with_rule (with_rule (new_app (codes "tiles")) (wanted_number (codes "SIDES") 3 4))
-    (wanted_number (codes "COLOURS") 1 MOST_COLOURS)
+    with_rules (new_app (codes "tiles"))
+    (wanted_number (codes "SIDES") 3 4 ∷ wanted_number (codes "COLOURS") 1 MOST_COLOURS ∷ [])
 
 -- the commands, in the order of the help
 abbrev pub commands : List App

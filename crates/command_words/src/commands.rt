@@ -1,16 +1,19 @@
 //! The program's commands, with their help.
 
 ghost use Rattle.std.specs.Prelude.{◌≡◌, IfOk, codes, false};
-ghost use Rattle.match_board.specs.declared.limits.TheConstants.{MOST_WORKERS};
-ghost use Rattle.clap.specs.Words.{app_of, new_app, rule_of};
-ghost use Rattle.command_words.specs.Commands.{IsLocal, optional_number, wanted, wanted_number};
+ghost use Rattle.match_board.specs.declared.limits.TheConstants.{LAST_ARRANGEMENT, MOST_WORKERS};
+ghost use Rattle.clap.specs.Words.{app_of, new_app, new_rule, rule_of};
+ghost use Rattle.command_words.specs.Commands.{IsLocal, flag, number_or_default, optional_number, wanted};
+ghost use Rattle.command_words.specs.Commands.{wanted_number};
 ghost use Rattle.command_words.specs.Commands.{check_app, count_app, expand_app, explain_app, show_app, solve_app};
 ghost use Rattle.command_words.specs.Commands.{symmetries_app, tiles_app};
 ghost use Rattle.command_words.specs.Commands.{whole_app, with_files, with_puzzle};
 
 use clap::builder::ValueParser;
-use clap::{Arg, Command};
-use match_board::limits::{MOST_COLOURS, MOST_DEPTH, MOST_FORKS, MOST_FUEL, MOST_WORKERS};
+use clap::{Arg, ArgAction, Command};
+use match_board::limits::{
+    LAST_ARRANGEMENT, MOST_COLOURS, MOST_DEPTH, MOST_FORKS, MOST_FUEL, MOST_WORKERS,
+};
 use std::alloc::{AllocError, Global};
 
 const NAME: &str = "edgematch";
@@ -34,7 +37,8 @@ Example:
 const CHECKED: &str = "\
 Prints the answer in one line: complete, or refused and why.
 
-The answer is the same for any number of workers and forks.
+The answer is the same for any number of workers and forks. With --progress it says meanwhile how far \
+it is, which changes no answer either.
 
 Exit status:
   0  the list is complete
@@ -48,7 +52,11 @@ const SOLVED: &str = "\
 Makes LIST and CERTIFICATE anew, whatever they held: the list of the puzzle's arrangements, and \
 the certificate that there is no other, both as check reads them. Prints how many arrangements \
 were found, how many lemmas the certificate has, which of these each worker took, and the first \
-arrangement.
+arrangement. With --progress it says meanwhile how far it is.
+
+With --keep the two are made beside their names, as LIST.part and CERTIFICATE.part, and renamed once \
+both are written, so that after any fault until then, gave up included, what stood there stands. \
+Where there is a .part already, it says cannot write.
 
 With a depth of 1 or more it looks for symmetries of the puzzle first, makes lemmas of at most 64 \
 branches of so many levels, and cites these, and their images, instead of searching again: most \
@@ -59,10 +67,10 @@ workers share the branches. What is found is the same in any case, in another or
 The fuel is the most branch nodes that are made for one lemma: cells or tiles at which it is tried \
 what fits. Where more than one worker searches, or the depth isn't 0, a lemma that is short of fuel \
 makes further lemmas of its branches. Where the fuel runs out all the same, it says gave up, and \
-nothing is written, so that both files are empty. Then give more fuel, up to 1000000, or a greater \
-depth, up to 3, or take a smaller puzzle. Where it says too many arrangements, a greater depth may \
-help too: of those that are images of each other it lists fewer. Where it says too many options, only \
-a smaller puzzle helps.
+nothing is written, so that both files are empty, or with --keep as they were. Then give more fuel, \
+up to 1000000, or a greater depth, up to 3, or take a smaller puzzle. Where it says too many \
+arrangements, a greater depth may help too: of those that are images of each other it lists fewer. \
+Where it says too many options, only a smaller puzzle helps.
 
 Exit status:
   0  the list and the certificate are written
@@ -113,12 +121,15 @@ const SHOWN: &str = "\
 Draws the board with the numbers of its cells and the colours that the border asks for, and says \
 how many cells, tiles and colours there are, and where each colour stands.
 
+With a list it draws arrangement N of it in place of that. Where the list has no such arrangement, or \
+it is none of the puzzle's, that is said on standard error.
+
 Exit status:
-  0  the board is drawn
+  0  the board is drawn, or the arrangement
   2  anything else, which is said on standard error
 
 Example:
-  edgematch show puzzle";
+  edgematch show puzzle list 0";
 
 const LISTED: &str = "\
 Prints a line for each tile, as it stands in a puzzle; at most 100.
@@ -153,6 +164,24 @@ fn number<'a>(alloc: Global, id: &'a str, least: u64, most: u64, help: &'a str) 
     word(alloc, id, help).value_parser(ValueParser::unsigned(least, most))
 }
 
+// A number from `least` to `most`, which is `default` where none is given.
+fn number_or_default<'a>(
+    alloc: Global,
+    id: &'a str,
+    least: u64,
+    most: u64,
+    default: &'a str,
+    help: &'a str,
+) -> Arg<'a>
+    ensures rule { rule_of result ≡ number_or_default id.entry.now least most default.entry.now }
+    ensures local { result.global ≡ false }
+{
+    Arg::new(alloc, id)
+        .value_parser(ValueParser::unsigned(least, most))
+        .default_value(default)
+        .help(help)
+}
+
 // A number from `least` to `most` behind an option of this name, which is `default` where the option isn't given.
 fn optional_number<'a>(
     alloc: Global,
@@ -165,11 +194,19 @@ fn optional_number<'a>(
     ensures rule { rule_of result ≡ optional_number id.entry.now least most default.entry.now }
     ensures local { result.global ≡ false }
 {
-    Arg::new(alloc, id)
+    number_or_default(alloc, id, least, most, default, help)
         .long(id)
         .value_name("N")
-        .value_parser(ValueParser::unsigned(least, most))
-        .default_value(default)
+}
+
+// A flag of this name.
+fn flag<'a>(alloc: Global, id: &'a str, help: &'a str) -> Arg<'a>
+    ensures rule { rule_of result ≡ flag id.entry.now }
+    ensures local { result.global ≡ false }
+{
+    Arg::new(alloc, id)
+        .long(id)
+        .action(ArgAction::SetTrue)
         .help(help)
 }
 
@@ -179,6 +216,18 @@ fn workers<'a>(alloc: Global, help: &'a str) -> Arg<'a>
     ensures local { result.global ≡ false }
 {
     optional_number(alloc, "workers", 1, u64::from(MOST_WORKERS), "1", help)
+}
+
+// That it tells how far it is.
+fn progress<'a>(alloc: Global) -> Arg<'a>
+    ensures rule { rule_of result ≡ flag (codes "progress") }
+    ensures local { result.global ≡ false }
+{
+    flag(
+        alloc,
+        "progress",
+        "Tells on standard error how far it is, at most once a second",
+    )
 }
 
 // The command of this name, with three files by their names.
@@ -212,6 +261,7 @@ fn check<'a>(alloc: Global) -> Result<Command<'a>, AllocError>
         "0",
         "In how many levels of a tree the halves of a branch are walked at once, 0 to 6",
     );
+    let progress = progress(alloc);
     let command = of_files(
         alloc,
         "check",
@@ -219,7 +269,8 @@ fn check<'a>(alloc: Global) -> Result<Command<'a>, AllocError>
         CHECKED,
     )?
     .arg(workers)?
-    .arg(forks)?;
+    .arg(forks)?
+    .arg(progress)?;
     Ok(command)
 }
 
@@ -244,6 +295,12 @@ fn solve<'a>(alloc: Global) -> Result<Command<'a>, AllocError>
         "The most branch nodes that are made for a lemma, 1 to 1000000",
     );
     let workers = workers(alloc, "How many workers search at once, 1 to 64");
+    let keep = flag(
+        alloc,
+        "keep",
+        "Leaves LIST and CERTIFICATE as they are until both are written",
+    );
+    let progress = progress(alloc);
     let command = of_files(
         alloc,
         "solve",
@@ -252,7 +309,9 @@ fn solve<'a>(alloc: Global) -> Result<Command<'a>, AllocError>
     )?
     .arg(depth)?
     .arg(fuel)?
-    .arg(workers)?;
+    .arg(workers)?
+    .arg(keep)?
+    .arg(progress)?;
     Ok(command)
 }
 
@@ -314,12 +373,26 @@ fn show<'a>(alloc: Global) -> Result<Command<'a>, AllocError>
     ensures app { IfOk result (λ c. app_of c ≡ show_app) }
     ensures local { IfOk result IsLocal }
 {
-    of_puzzle(
+    let list = Arg::new(alloc, "LIST").help(
+        "File of a list of arrangements, of which one is drawn",
+    );
+    let number = number_or_default(
+        alloc,
+        "N",
+        0,
+        u64::from(LAST_ARRANGEMENT),
+        "0",
+        "Which arrangement of the list is drawn, 0 to 999999",
+    );
+    let command = of_puzzle(
         alloc,
         "show",
         "Draws a puzzle's board, and counts its colours",
         SHOWN,
-    )
+    )?
+    .arg(list)?
+    .arg(number)?;
+    Ok(command)
 }
 
 fn symmetries<'a>(alloc: Global) -> Result<Command<'a>, AllocError>

@@ -8,6 +8,6 @@ mod orders;
 mod readings;
 
 pub use faults::WordsFault;
-pub use numbers::{Colours, Depth, Forks, Fuel, Sides, Within, Workers};
-pub use orders::{Files, Order};
+pub use numbers::{ArrangementNumber, Colours, Depth, Forks, Fuel, Sides, Within, Workers};
+pub use orders::{Files, Listed, Order};
 pub use readings::order;

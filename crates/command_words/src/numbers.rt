@@ -55,6 +55,9 @@ pub type Depth = Within<0, 3>;
 /// The most branch nodes of one lemma.
 pub type Fuel = Within<1, 1_000_000>;
 
+/// The number of an arrangement in a list, from 0.
+pub type ArrangementNumber = Within<0, 999_999>;
+
 /// How many sides a tile has.
 pub type Sides = Within<3, 4>;
 

@@ -4,13 +4,13 @@ ghost use Rattle.std.specs.Prelude.{◌≡◌, Some, true, codes, map, IfOk, IfE
 ghost use Rattle.std.specs.String.{string_bytes};
 ghost use Rattle.clap.specs.Words.{fault_of, first_of, found_of, rows_of, takes};
 ghost use Rattle.command_words.specs.Commands.{whole_app};
-ghost use Rattle.command_words.specs.Orders.{HasFiles, HasNumber, HasText};
+ghost use Rattle.command_words.specs.Orders.{HasFiles, HasFlag, HasNumber, HasText, IsFlagged, IsListed};
 ghost use Rattle.command_words.specs.Orders.{IsOrder, IsOrderOf, IsRefusedBy, NameFiles, number_of};
 
 use crate::commands::program;
 use crate::faults::WordsFault;
 use crate::numbers::Within;
-use crate::orders::{Files, Order};
+use crate::orders::{Files, Listed, Order};
 use clap::ArgMatches;
 use std::alloc::{AllocError, Global};
 
@@ -42,6 +42,14 @@ fn number<const LEAST: u32, const MOST: u32>(
     Within::new(number)
 }
 
+// Whether the flag under this id is given.
+fn flag(matches: &ArgMatches<'_>, id: &str) -> bool
+    requires { HasFlag id.now (rows_of (found_of matches.now)) }
+    ensures { IsFlagged id.now (rows_of (found_of matches.now)) result }
+{
+    matches.get_flag(id)
+}
+
 fn files(alloc: Global, matches: &ArgMatches<'_>) -> Result<Files, AllocError>
     requires { HasFiles (rows_of (found_of matches.now)) }
     ensures { IfOk result (NameFiles (rows_of (found_of matches.now))) }
@@ -60,6 +68,7 @@ fn check(alloc: Global, matches: &ArgMatches<'_>) -> Result<Order, AllocError>
     requires files { HasFiles (rows_of (found_of matches.now)) }
     requires workers { HasNumber (codes "workers") 1 64 (rows_of (found_of matches.now)) }
     requires forks { HasNumber (codes "forks") 0 6 (rows_of (found_of matches.now)) }
+    requires progress { HasFlag (codes "progress") (rows_of (found_of matches.now)) }
     ensures { IfOk result (IsOrderOf (Some (codes "check", rows_of (found_of matches.now)))) }
 {
     let files = files(alloc, matches)?;
@@ -68,6 +77,7 @@ fn check(alloc: Global, matches: &ArgMatches<'_>) -> Result<Order, AllocError>
         files,
         workers,
         forks: number(matches, "forks"),
+        progress: flag(matches, "progress"),
     })
 }
 
@@ -76,6 +86,8 @@ fn solve(alloc: Global, matches: &ArgMatches<'_>) -> Result<Order, AllocError>
     requires depth { HasNumber (codes "depth") 0 3 (rows_of (found_of matches.now)) }
     requires fuel { HasNumber (codes "fuel") 1 1000000 (rows_of (found_of matches.now)) }
     requires workers { HasNumber (codes "workers") 1 64 (rows_of (found_of matches.now)) }
+    requires keep { HasFlag (codes "keep") (rows_of (found_of matches.now)) }
+    requires progress { HasFlag (codes "progress") (rows_of (found_of matches.now)) }
     ensures { IfOk result (IsOrderOf (Some (codes "solve", rows_of (found_of matches.now)))) }
 {
     let files = files(alloc, matches)?;
@@ -85,7 +97,34 @@ fn solve(alloc: Global, matches: &ArgMatches<'_>) -> Result<Order, AllocError>
         depth: number(matches, "depth"),
         fuel: number(matches, "fuel"),
         workers,
+        keep: flag(matches, "keep"),
+        progress: flag(matches, "progress"),
     })
+}
+
+// The list and the number, if a list is named.
+fn listed(alloc: Global, matches: &ArgMatches<'_>) -> Result<Option<Listed>, AllocError>
+    requires { HasNumber (codes "N") 0 999999 (rows_of (found_of matches.now)) }
+    ensures { IfOk result (IsListed (rows_of (found_of matches.now))) }
+{
+    let Some(list) = matches.get_str("LIST") else {
+        return Ok(None);
+    };
+    let list = String::from_str(alloc, list)?;
+    Ok(Some(Listed {
+        list,
+        number: number(matches, "N"),
+    }))
+}
+
+fn show(alloc: Global, matches: &ArgMatches<'_>) -> Result<Order, AllocError>
+    requires puzzle { HasText (codes "PUZZLE") (rows_of (found_of matches.now)) }
+    requires number { HasNumber (codes "N") 0 999999 (rows_of (found_of matches.now)) }
+    ensures { IfOk result (IsOrderOf (Some (codes "show", rows_of (found_of matches.now)))) }
+{
+    let puzzle = text(alloc, matches, "PUZZLE")?;
+    let listed = listed(alloc, matches)?;
+    Ok(Order::Show { puzzle, listed })
 }
 
 fn tiles(matches: &ArgMatches<'_>) -> Order
@@ -121,7 +160,7 @@ pub fn order(alloc: Global, words: &[String]) -> Result<Order, WordsFault>
         "solve" => Ok(solve(alloc, matches)?),
         "expand" => Ok(Order::Expand(files(alloc, matches)?)),
         "count" => Ok(Order::Count(files(alloc, matches)?)),
-        "show" => Ok(Order::Show(text(alloc, matches, "PUZZLE")?)),
+        "show" => Ok(show(alloc, matches)?),
         "symmetries" => Ok(Order::Symmetries(text(alloc, matches, "PUZZLE")?)),
         "tiles" => Ok(tiles(matches)),
         // `clap` answers the words of `help` itself, by an error.

@@ -7,6 +7,7 @@ use std::process::ExitCode;
 use std::random::RandomSource;
 use std::sync::Wait;
 use std::thread::{Builder, Threads};
+use std::time::Clock;
 use std::{env, io};
 
 // A stack that is enough, in bytes: 256 cells take a fifth of it. Threads get as much as the limit on stacks says.
@@ -46,7 +47,10 @@ fn limits<R: Threads>(threads: &R, rt: HostRuntime) -> SystemLimits {
 // Does what the words order, over the system's files and streams, and says how the program ends. Apart from `main`,
 // whose share of the stack has to be small.
 #[inline(never)]
-fn run<R: Threads + Wait + Sync + RandomSource>(threads: &R, rt: &HostRuntime) -> Exit {
+fn run<R: Threads + Wait + Sync + RandomSource + Clock + Eprint>(
+    threads: &R,
+    rt: &HostRuntime,
+) -> Exit {
     match words(rt) {
         Ok(words) => run_words(
             threads,

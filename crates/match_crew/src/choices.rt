@@ -7,6 +7,7 @@ ghost use Rattle.xcc_dance.specs.Outcome.{IsCiteWithin};
 use crate::branches::OpenBranch;
 use crate::images::Occupied;
 use crate::shared::Shared;
+use crate::watches::{Watch, tell};
 use match_puzzle::Pair;
 use std::alloc::AllocError;
 use std::sync::atomic::Ordering;
@@ -21,8 +22,9 @@ const LEVELS_GIVEN: usize = 6;
 
 // What a job is asked.
 #[derive(Drop)]
-pub struct Choices<'a, 'h> {
+pub struct Choices<'a, 'h, W: Watch> {
     pub shared: &'a Shared<'a>,
+    pub watch: &'a W,
     pub hand: &'a mut Hand<'h, OpenBranch>,
     pub number: u32,
     // how many pairs the job's prefix has
@@ -35,7 +37,7 @@ pub struct Choices<'a, 'h> {
     pub gives: bool,
 }
 
-impl<'a, 'h> Choices<'a, 'h> {
+impl<'a, 'h, W: Watch> Choices<'a, 'h, W> {
     // What is known to stand for the child.
     fn known(&self, placed: &[Pair]) -> Option<Cite>
         ensures { IfSome result IsCiteWithin }
@@ -101,7 +103,7 @@ impl<'a, 'h> Choices<'a, 'h> {
     }
 }
 
-impl<'a, 'h> Cites for Choices<'a, 'h> {
+impl<'a, 'h, W: Watch> Cites for Choices<'a, 'h, W> {
     ghost use Rattle.steal_crew.specs.LiveHands.{Gave};
     ghost use Rattle.std.specs.Prelude.{◌≡◌, refl};
     ghost use Rattle.std.proofs.Common.{◌∙◌};
@@ -126,6 +128,7 @@ impl<'a, 'h> Cites for Choices<'a, 'h> {
             self.give_planned()?;
         }
         self.asked = self.asked.saturating_add(1);
+        tell(self.watch, self.asked);
         if let Some(cite) = self.known(prefix) {
             return Ok(Some(cite));
         }

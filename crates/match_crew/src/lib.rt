@@ -12,7 +12,9 @@ mod plans;
 mod searches;
 mod shared;
 mod solves;
+mod watches;
 
 pub use check_crew::{Gate, Open, check_with};
 pub use faults::SolveFault;
-pub use solves::{Solved, solve_with};
+pub use solves::{Solved, solve_watched, solve_with};
+pub use watches::{Unwatched, Watch};

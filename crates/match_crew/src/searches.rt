@@ -11,6 +11,7 @@ ghost use Rattle.match_crew.specs.Solving.{IsOutcomeOf};
 use crate::branches::{OpenBranch, fit_in_turn, prefix_of};
 use crate::choices::Choices;
 use crate::shared::Shared;
+use crate::watches::{Counted, Watch, tell_rest};
 use cert_tree::{Lemma, Node};
 use match_board::limits::{MOST_ARRANGEMENTS, MOST_FUEL};
 use match_puzzle::{Arrangement, Pair};
@@ -19,7 +20,7 @@ use std::alloc::AllocError;
 use std::sync::Wait;
 use std::sync::atomic::{AtomicBool, Ordering};
 use steal_crew::{Hand, LiveWork};
-use xcc_dance::{Cites, NoCites, Outcome, Search, SearchFault};
+use xcc_dance::{Cites, Outcome, Search, SearchFault};
 use xcc_form::Xcc;
 
 // What an open branch came to.
@@ -38,11 +39,12 @@ pub enum Searched {
 
 // What open branches are searched by.
 #[derive(Drop)]
-pub struct Searches<'a, T: Wait> {
+pub struct Searches<'a, T: Wait, W: Watch> {
     pub rt: &'a T,
     pub xcc: &'a Xcc<'a>,
     pub desk: &'a Desk,
     pub shared: Shared<'a>,
+    pub watch: &'a W,
     // whether a job gave up or found too many
     pub is_over: AtomicBool,
 }
@@ -54,7 +56,7 @@ struct Finished {
     found: Vec<Arrangement>,
 }
 
-impl<'a, T: Wait> Searches<'a, T> {
+impl<'a, T: Wait, W: Watch> Searches<'a, T, W> {
     // Searches below these pairs, which fit in turn, or finds that the fuel doesn't do.
     fn run<C: Cites>(&self, pairs: &[Pair], cites: &mut C) -> Result<Option<Finished>, AllocError>
         requires takes { (asked : List PlacedPair) → C.takes cites.old asked }
@@ -88,11 +90,18 @@ impl<'a, T: Wait> Searches<'a, T> {
         ensures gave { Gave hand.old hand.new }
     {
         if self.shared.is_alone() {
-            return self.run(pairs, &mut NoCites);
+            let mut cites = Counted {
+                watch: self.watch,
+                looked: 0,
+            };
+            let finished = self.run(pairs, &mut cites);
+            tell_rest(self.watch, cites.looked);
+            return finished;
         }
         let shared = &self.shared;
         let mut choices = Choices {
             shared,
+            watch: self.watch,
             hand,
             number,
             level: pairs.len(),
@@ -100,7 +109,9 @@ impl<'a, T: Wait> Searches<'a, T> {
             asked: 0,
             gives: false,
         };
-        self.run(pairs, &mut choices)
+        let finished = self.run(pairs, &mut choices);
+        tell_rest(self.watch, choices.asked);
+        finished
     }
 
     // Puts the lemma with this number on the desk.
@@ -122,13 +133,17 @@ impl<'a, T: Wait> Searches<'a, T> {
             return Ok(Searched::GaveUp);
         }
         match self.desk.post(self.rt, lemma) {
-            Ok(receipt) => Ok(Searched::Posted { receipt, found }),
+            Ok(receipt) => {
+                let waiting = self.shared.waiting.load(Ordering::Relaxed);
+                self.watch.searched(found.len(), waiting);
+                Ok(Searched::Posted { receipt, found })
+            }
             Err(_) => Err(AllocError),
         }
     }
 }
 
-impl<'a, T: Wait> LiveWork for Searches<'a, T> {
+impl<'a, T: Wait, W: Watch> LiveWork for Searches<'a, T, W> {
     type Job = OpenBranch;
 
     type R = Searched;
@@ -149,7 +164,10 @@ impl<'a, T: Wait> LiveWork for Searches<'a, T> {
         }
         let OpenBranch { pairs } = job;
         let searched = match self.run_job(number, &pairs, hand)? {
-            None => Searched::GaveUp,
+            None => {
+                self.watch.gave_up(pairs.len());
+                Searched::GaveUp
+            }
             Some(finished) => self.post(number, &pairs, finished)?,
         };
         if !matches!(searched, Searched::Posted { .. }) {

@@ -18,6 +18,7 @@ use crate::items::ItemRule;
 use crate::plans::Plan;
 use crate::searches::{Searched, Searches};
 use crate::shared::Shared;
+use crate::watches::{Unwatched, Watch};
 use cert_tree::{AssembleFault, Certificate};
 use match_board::limits::{MOST_ARRANGEMENTS, MOST_LEMMAS};
 use match_puzzle::{Arrangement, Puzzle};
@@ -72,11 +73,12 @@ fn symmetries_of<'a>(
 }
 
 // Searches from the empty prefix, and each branch that is given away.
-fn search_all<R: Threads + Wait + Sync>(
+fn search_all<R: Threads + Wait + Sync, W: Watch + Sync>(
     rt: &R,
     xcc: &Xcc<'_>,
     desk: &Desk,
     shared: Shared<'_>,
+    watch: &W,
 ) -> Result<Crew<Searched>, AllocError>
     requires { (1 ≤ shared.workers) × (shared.workers ≤ MOST_WORKERS) }
     ensures { IfOk result (λ c. IsSearchedBy xcc.now.puzzle desk.now shared.entry.workers c.results.items c.tallies.items) }
@@ -87,6 +89,7 @@ fn search_all<R: Threads + Wait + Sync>(
         xcc,
         desk,
         shared,
+        watch,
         is_over: AtomicBool::new(false),
     };
     let root = OpenBranch {
@@ -220,6 +223,25 @@ pub fn solve_with<R: Threads + Wait + Sync>(
     ensures solved { IfOk result (λ s. IsSolvedBy puzzle.now workers s.list.items s.tally.items s.certificate) }
     ensures too_many { IsErrOf result SolveFault.TooMany → HasTooManyEntries puzzle.now }
 {
+    solve_watched(rt, alloc, puzzle, depth, fuel, workers, &Unwatched)
+}
+
+/// The same, of which the watch is told while it runs.
+pub fn solve_watched<R: Threads + Wait + Sync, W: Watch + Sync>(
+    rt: &R,
+    alloc: Global,
+    puzzle: &Puzzle,
+    depth: u8,
+    fuel: u32,
+    workers: u8,
+    watch: &W,
+) -> Result<Solved, SolveFault>
+    requires depth { depth ≤ MOST_DEPTH }
+    requires fuel { (1 ≤ fuel) × (fuel ≤ MOST_FUEL) }
+    requires workers { (1 ≤ workers) × (workers ≤ MOST_WORKERS) }
+    ensures solved { IfOk result (λ s. IsSolvedBy puzzle.now workers s.list.items s.tally.items s.certificate) }
+    ensures too_many { IsErrOf result SolveFault.TooMany → HasTooManyEntries puzzle.now }
+{
     let xcc = compile(alloc, puzzle)?;
     let lines = lines_of(alloc, puzzle, depth)?;
     let symmetries = symmetries_of(alloc, puzzle, &lines)?;
@@ -238,7 +260,7 @@ pub fn solve_with<R: Threads + Wait + Sync>(
         workers,
         waiting: AtomicU64::new(0),
     };
-    let (results, tally) = search_all(rt, &xcc, &desk, shared)?.into_parts();
+    let (results, tally) = search_all(rt, &xcc, &desk, shared, watch)?.into_parts();
     let count = results.len() as u32;
     let Collected {
         receipts,

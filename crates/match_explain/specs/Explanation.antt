@@ -4,11 +4,12 @@ use Rattle.match_puzzle.specs.Puzzle.{Task}
 use Rattle.match_puzzle.specs.Prefix.{Prefix}
 use Rattle.match_puzzle.specs.Fitting.{AreFitting}
 use Rattle.match_puzzle.specs.declared.items.Item.{Item}
+use Rattle.match_puzzle.specs.declared.items.Item.TheVariants as items
 use Rattle.match_puzzle.specs.declared.placements.Pair.{Pair}
 use Rattle.match_text.specs.Spelling.{spaced}
 use Rattle.cert_tree.specs.Certificate.{Piece}
 use Rattle.cert_tree.specs.CertificateSpelling.{pair_word}
-use Rattle.cert_tree.specs.Tree.{Tree, branch, dead}
+use Rattle.cert_tree.specs.Tree.{Tree, branch, dead, found, same, image}
 use Rattle.cert_check.specs.Derivation.{start_of}
 use Rattle.cert_check.specs.Setting.{Question, setting_at}
 use Rattle.cert_check.specs.TreeFaults.{IsNodeFault}
@@ -36,6 +37,16 @@ abbrev pub NamesWhatFits : Task → Prefix → Tree → NodeFault → (line : Li
 NamesWhatFits p q node fault line =
     MatchOption (miscounted_item node fault) (line ≡ []) (λ item. NamesFitting p q item line)
 
+-- The cell that is marked is the one that the node branches on, or says to be dead, if that is a cell.
+abbrev pub MarksNode : Tree → (mark : Option ℕ) → Type 0
+MarksNode (branch (items.Cell cell) children) mark = mark ≡ Some cell
+MarksNode (branch (items.Tile tile) children) mark = mark ≡ None
+MarksNode (dead (items.Cell cell)) mark = mark ≡ Some cell
+MarksNode (dead (items.Tile tile)) mark = mark ≡ None
+MarksNode (found number) mark = Unit {0}
+MarksNode (same lemma) mark = mark ≡ None
+MarksNode (image lemma symmetry) mark = mark ≡ None
+
 -- The text tells of the node that the fault's path leads to: in words, by the pairs that fit, and by the board, drawn as
 -- it is there.
 pub record TellsOfNode (question : Question) (number : ℕ) (fault : TreeFault) (text : List ℕ) : Type 0 where
@@ -49,6 +60,7 @@ pub record TellsOfNode (question : Question) (number : ℕ) (fault : TreeFault) 
   pub fitting : List ℕ
   pub names : NamesWhatFits question.puzzle placed node fault.fault fitting
   pub mark : Option ℕ
+  pub marks : MarksNode node mark
   pub drawing : List ℕ
   pub drawn : IsDrawing (record { puzzle = question.puzzle; placed = placed }) mark drawing
   pub closing : List ℕ

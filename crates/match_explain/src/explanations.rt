@@ -51,8 +51,8 @@ pub fn write_explanation(
 // What a certificate that is refused leaves open.
 pub(crate) const CLOSING: &str = "This does not say that the list is incomplete.\n";
 
-// The lines of a list and of a certificate before the first arrangement, or the first symmetry.
-const LINES_BEFORE: u64 = 3;
+// The line, from 1, of a list's first arrangement, and of a certificate's first symmetry.
+const FIRST_LINE: u64 = 3;
 
 fn explain_listed(
     alloc: Global,
@@ -68,7 +68,7 @@ fn explain_listed(
         placements: arrangement.placements(),
     };
     let sentence = listed.sentence(alloc, fault)?;
-    let line = u64::from(number) + LINES_BEFORE;
+    let line = u64::from(number) + FIRST_LINE;
     let words = format!(in alloc; "list line {line}, arrangement {number}: {sentence}\n")?;
     let drawing = write_drawing(alloc, &listed.laid_out(alloc)?, cell_of(fault))?;
     let mut text = Vec::from(words);
@@ -93,7 +93,7 @@ fn explain_repeated(
     listed: &[Arrangement],
     number: u32,
 ) -> Result<Vec<u8>, AllocError> {
-    let line = u64::from(number) + LINES_BEFORE;
+    let line = u64::from(number) + FIRST_LINE;
     let first = first_like(listed, number);
     let text = format!(in alloc;
         "list line {line}, arrangement {number}: it is arrangement {first} once more\n"
@@ -123,7 +123,7 @@ fn explain_symmetry(
     fault: SymmetryFault,
 ) -> Result<Vec<u8>, AllocError> {
     let sentence = symmetry_sentence(alloc, puzzle, fault)?;
-    let line = u64::from(number) + LINES_BEFORE;
+    let line = u64::from(number) + FIRST_LINE;
     let text = format!(in alloc;
         "certificate line {line}, symmetry {number}: {sentence}\n{CLOSING}"
     )?;

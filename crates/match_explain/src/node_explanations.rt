@@ -19,10 +19,9 @@ use crate::node_sentences::Node;
 use crate::places::line_of;
 use crate::scenes::Scene;
 use cert_check::{NodeFault, Question, TreeFault};
-use cert_tree::Head;
-use match_puzzle::{FittingPairs, Item, Pair, Partial};
+use cert_tree::{Head, put_pair};
+use match_puzzle::{FittingPairs, Item, Partial};
 use match_show::write_drawing;
-use match_text::{put_number, put_placement};
 use std::alloc::{AllocError, Global};
 
 // Why the tree of the lemma with this number is refused.
@@ -119,13 +118,4 @@ fn put_pairs(text: &mut Vec<u8>, mut pairs: FittingPairs) -> Result<(), AllocErr
         put_pair(text, pair)?;
     }
     Ok(())
-}
-
-fn put_pair(text: &mut Vec<u8>, pair: Pair) -> Result<(), AllocError>
-    ensures { OnOk result (text.new.items ≡ text.old.items ++ (32 ∷ pair_word pair)) }
-{
-    text.push(b' ')?;
-    put_number(text, u32::from(pair.cell))?;
-    text.push(b':')?;
-    put_placement(text, pair.placement)
 }

@@ -1,5 +1,10 @@
 //! What is wrong with a node of a lemma's tree, in words.
 
+ghost use Rattle.std.specs.Prelude.{◌≡◌};
+ghost use Rattle.cert_tree.specs.Heads.{first, put};
+ghost use Rattle.cert_tree.specs.Tree.{Forest};
+ghost use Rattle.match_explain.specs.Explanation.{MarksNode};
+
 use crate::cited_pairs::{missing_image_sentence, missing_sentence};
 use crate::differences::{Difference, first_difference, first_empty, place_in};
 use cert_check::{NodeFault, Question};
@@ -32,7 +37,9 @@ impl<'a> Node<'a> {
     }
 
     // The cell that it is about, if it is about one.
-    pub(crate) fn cell(&self) -> Option<u16> {
+    pub(crate) fn cell(&self) -> Option<u16>
+        ensures { (rest : Forest) → MarksNode (first (put self.now.head rest)) result }
+    {
         match self.head {
             Head::Cell { cell, .. } | Head::DeadCell(cell) => Some(cell),
             Head::Found(number) => self.cell_of_found(number),

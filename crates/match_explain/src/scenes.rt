@@ -108,7 +108,7 @@ fn go_past(trees: &mut Trees<'_>, number: u16, words: &mut usize)
     let mut left = usize::from(number);
     while left > 0 {
         let head = trees.next();
-        left = left - 1 + children_of(head) as usize;
+        left = left - 1 + head.children() as usize;
         *words = words.saturating_add(words_of(head));
     }
 }
@@ -122,16 +122,6 @@ fn branched_on(head: Head) -> Option<Item>
         Head::Cell { cell, .. } => Some(Item::Cell(cell)),
         Head::Tile { tile, .. } => Some(Item::Tile(tile)),
         _ => None,
-    }
-}
-
-// How many children the node has.
-fn children_of(head: Head) -> u32
-    ensures { result ≡ arity head }
-{
-    match head {
-        Head::Cell { children, .. } | Head::Tile { children, .. } => children,
-        _ => 0,
     }
 }
 

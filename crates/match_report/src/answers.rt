@@ -20,8 +20,9 @@ fn put_numbered(line: &mut Line, word: &[u8], number: u32) -> Result<(), AllocEr
     line.number(number)
 }
 
+/// Adds the words of a listed arrangement's fault to the line: its kind, and the cell and the side where it is.
 #[tactic(auto, using(crate::proofs::LineLemmas::line_laws), unfolding(crate::specs::AnswerText::arrangement_fault_words))]
-fn put_arrangement_fault(line: &mut Line, fault: &ArrangementFault) -> Result<(), AllocError>
+pub fn put_arrangement_fault(line: &mut Line, fault: &ArrangementFault) -> Result<(), AllocError>
     ensures { OnOk result (line.new ≡ line.old ++ spaced (arrangement_fault_words fault.now)) }
 {
     match *fault {

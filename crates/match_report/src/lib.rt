@@ -6,7 +6,7 @@ mod boards;
 mod lines;
 mod tallies;
 
-pub use answers::write_answer;
+pub use answers::{put_arrangement_fault, write_answer};
 pub use boards::write_board;
 pub use lines::Line;
 pub use symmetry_orbits::{ExpandFault, expand, expansion_laws};

@@ -131,7 +131,7 @@ write_kinds request (Ok ends) is = tt
 write_kinds request (Err fault) is = subst (IsOfRequest request) (sym is) tt
 
 -- where writing alone fails, another fault says anything
-pub only_write : (P : Type 0) (result : Result Status RunFault) → IfErr result (λ fault. fault ≡ runs.Write) → IfErr result (λ fault. fault ≢ runs.Write → P)
+pub only_write : {T : Type 0} (P : Type 0) (result : Result T RunFault) → IfErr result (λ fault. fault ≡ runs.Write) → IfErr result (λ fault. fault ≢ runs.Write → P)
 only_write P (Ok ends) is = tt
 only_write P (Err fault) is = λ other. absurd (other is)
 

@@ -13,8 +13,8 @@ use Rattle.match_runs.specs.declared.faults.Document.{Document}
 use Rattle.match_runs.specs.declared.faults.Document.TheVariants as documents
 use Rattle.match_text.specs.declared.faults.PuzzleTextFault.{PuzzleTextFault}
 use Rattle.match_text.specs.declared.faults.PuzzleTextFault.TheVariants as puzzle_text
-use Rattle.match_text.specs.declared.faults.ListTextFault.{ListTextFault}
-use Rattle.match_text.specs.declared.faults.ListTextFault.TheVariants as list_text
+use Rattle.match_text.specs.declared.faults.ReadFault.{ReadFault}
+use Rattle.match_text.specs.declared.faults.ReadFault.TheVariants as list_text
 use Rattle.cert_tree.specs.declared.faults.AssembleFault.{AssembleFault}
 use Rattle.cert_tree.specs.declared.faults.AssembleFault.TheVariants as assemblies
 use Rattle.cert_tree.specs.declared.faults.CertTextFault.{CertTextFault}
@@ -24,10 +24,11 @@ use Rattle.symmetry_orbits.specs.declared.expansions.ExpandFault.TheVariants as 
 use Rattle.match_crew.specs.declared.faults.SolveFault.{SolveFault}
 use Rattle.match_crew.specs.declared.faults.SolveFault.TheVariants as solves
 use Rattle.match_runs.specs.declared.faults.RunFault.{RunFault}
-use Rattle.match_runs.specs.declared.faults.RunFault.TheVariants.{Read, TooLong, Puzzle, List as Listing, Certificate}
+use Rattle.match_runs.specs.declared.faults.RunFault.TheVariants.{Read, TooLong, Puzzle, List as Listing, Certificate, NoArrangement, Arrangement}
 use Rattle.match_runs.specs.declared.faults.RunFault.TheVariants.{Solve, Expand, Tiles, Write, Memory}
 use Rattle.match_text.specs.Spelling.{line_text}
 use Rattle.match_report.specs.Line.{label}
+use Rattle.match_report.specs.AnswerText.{arrangement_fault_words}
 
 -- ---- want of memory, wherever it was met
 
@@ -37,7 +38,7 @@ run_of_puzzle (puzzle_text.Board fault) = Puzzle (puzzle_text.Board fault)
 run_of_puzzle (puzzle_text.Puzzle fault) = Puzzle (puzzle_text.Puzzle fault)
 run_of_puzzle puzzle_text.Memory = Memory
 
-abbrev pub run_of_list : ListTextFault → RunFault
+abbrev pub run_of_list : ReadFault → RunFault
 run_of_list (list_text.Text fault) = Listing (list_text.Text fault)
 run_of_list list_text.Memory = Memory
 
@@ -104,7 +105,7 @@ puzzle_text_fault_words (puzzle_text.Board fault) = codes "puzzle:" ∷ codes "b
 puzzle_text_fault_words (puzzle_text.Puzzle fault) = puzzle_fault_words fault
 puzzle_text_fault_words puzzle_text.Memory = memory_words
 
-unfoldable pub list_text_fault_words : ListTextFault → List (List ℕ)
+unfoldable pub list_text_fault_words : ReadFault → List (List ℕ)
 list_text_fault_words (list_text.Text fault) = text_fault_words documents.List fault
 list_text_fault_words list_text.Memory = memory_words
 
@@ -132,6 +133,10 @@ fault_line (TooLong document) = line_text (codes "too" ∷ codes "long" ∷ docu
 fault_line (Puzzle fault) = line_text (puzzle_text_fault_words fault)
 fault_line (Listing fault) = line_text (list_text_fault_words fault)
 fault_line (Certificate fault) = line_text (cert_text_fault_words fault)
+fault_line (NoArrangement number) =
+    line_text (codes "list:" ∷ codes "no" ∷ codes "arrangement" ∷ decimal number ∷ [])
+fault_line (Arrangement number fault) =
+    line_text (codes "list:" ∷ codes "arrangement" ∷ label (decimal number) ∷ arrangement_fault_words fault)
 fault_line (Solve fault) = line_text (solve_fault_words fault)
 fault_line Expand = line_text (codes "too" ∷ codes "many" ∷ codes "expanded" ∷ [])
 fault_line Tiles = line_text (codes "too" ∷ codes "many" ∷ codes "tiles" ∷ [])

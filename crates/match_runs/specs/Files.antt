@@ -1,9 +1,10 @@
 -- Files by their names.
-use Rattle.std.specs.Prelude.{◌≡◌, ℕ, List, Option, Some, None}
+use Rattle.std.specs.Prelude.{◌≡◌, ◌≢◌, ◌++◌, ℕ, Bool, true, false, List, Option, Some, None, codes}
 use Rattle.std.specs.String.{string_bytes}
 use Rattle.std.specs.Io.KnownBytes.{Appends}
 use Rattle.match_runs.specs.Documents.{Texts}
 use Rattle.match_runs.specs.declared.streams.sinks.Sink.{Ghosts as SinkMembers}
+use Rattle.match_runs.specs.declared.parts.Parts.{Parts}
 use Rattle.command_words.specs.declared.orders.Files.{Files}
 
 -- where it is known what a file holds, all of that is left
@@ -20,6 +21,31 @@ HoldsText (Some bytes) text = bytes ≡ text
 abbrev pub TakesWhole : {W : Type 0} → SinkMembers W → (IsMade : W → Type 0) → List ℕ → Type 0
 TakesWhole {W} sink IsMade text =
     (made after : W) × IsMade made × Appends (sink.written made) (sink.written after) text
+
+-- the name of the file that is made beside the file of this name
+abbrev pub part_name : (name : List ℕ) → List ℕ
+part_name name = name ++ codes ".part"
+
+-- The file of the name took the text; where what stands there is kept until then, one beside it took the text, and was
+-- put under the name.
+abbrev pub Receives : (keep : Bool) → (takes puts : List ℕ → List ℕ → Type 0) → (name text : List ℕ) → Type 0
+Receives false takes puts name text = takes name text
+Receives true takes puts name text = takes (part_name name) text × puts (part_name name) name
+
+-- These are the names of what is made beside a list and a certificate.
+pub record AreBeside (files : Files) (parts : Parts) : Type 0 where
+  pub list : string_bytes parts.list ≡ part_name (string_bytes files.list)
+  pub certificate : string_bytes parts.certificate ≡ part_name (string_bytes files.certificate)
+
+-- The three files have three names.
+pub record HaveDifferentNames (files : Files) : Type 0 where
+  pub list : string_bytes files.puzzle ≢ string_bytes files.list
+  pub certificate : string_bytes files.puzzle ≢ string_bytes files.certificate
+  pub both : string_bytes files.list ≢ string_bytes files.certificate
+
+-- What two files hold are texts of which this is so.
+abbrev pub BothHold : (puzzle list : Option (List ℕ)) → (List ℕ → List ℕ → Type 0) → Type 0
+BothHold puzzle list Are = (text listed : List ℕ) × HoldsText puzzle text × HoldsText list listed × Are text listed
 
 -- The three files hold texts of which this is so.
 abbrev pub FilesHold : (List ℕ → Option (List ℕ)) → Files → (Texts → Type 0) → Type 0

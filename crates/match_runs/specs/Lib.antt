@@ -6,6 +6,7 @@ pub mod Exits
 pub mod FaultText
 pub mod Runs
 pub mod Describing
+pub mod Listed
 pub mod Solving
 pub mod Tiles
 pub mod Files

@@ -10,7 +10,7 @@ use Rattle.match_text.specs.Lists.{list_of}
 use Rattle.match_text.specs.ListSpelling.{IsListWithin, list_spelling}
 use Rattle.match_text.specs.declared.ranges.TheConstants.{FIRST}
 use Rattle.match_text.specs.declared.faults.PuzzleTextFault.TheVariants as puzzles
-use Rattle.match_text.specs.declared.faults.ListTextFault.TheVariants as lists
+use Rattle.match_text.specs.declared.faults.ReadFault.TheVariants as lists
 use Rattle.cert_tree.specs.Certificate.{piece_number}
 use Rattle.cert_tree.specs.Assembly.{Assembles, IsAssembly}
 use Rattle.cert_tree.specs.CertificateText.{Said, certificate_of}

@@ -9,6 +9,7 @@ ghost use Rattle.match_runs.specs.Sources.{AreShort, ReadToEnds, apart, texts_of
 use crate::exits::Status;
 use crate::faults::{Document, RunFault};
 use crate::printed::{Printed, answer_to};
+use crate::progress::CheckWatch;
 use crate::questions::read_question;
 use crate::streams::documents::{Documents, cut_joined};
 use crate::streams::readings::{read_documents, read_whole};
@@ -50,8 +51,54 @@ pub fn run_check<P: Source, L: Source, C: Source, W: Sink, R: Threads + Sync>(
     ensures fault { IfErr result (IsOfRun checked) }
     ensures untouched { IfErr result (λ fault. fault ≢ RunFault.Write → writer.new ≡ writer.old) }
 {
+    run_check_watched(
+        rt,
+        alloc,
+        puzzle,
+        list,
+        certificate,
+        workers,
+        forks,
+        &Open,
+        writer,
+    )
+}
+
+/// The same, of which the watch is told while it runs.
+pub fn run_check_watched<
+    P: Source,
+    L: Source,
+    C: Source,
+    W: Sink,
+    R: Threads + Sync,
+    G: CheckWatch + Sync,
+>(
+    rt: &R,
+    alloc: Global,
+    puzzle: &mut P,
+    list: &mut L,
+    certificate: &mut C,
+    workers: Workers,
+    forks: Forks,
+    watch: &G,
+    writer: &mut W,
+) -> Result<Status, RunFault>
+
+    // What was written is the answer's line on the texts that came, or a front of it where that failed; a fault of a
+    // document is what they come to; and reading fails only where a source failed, or gave more than is read.
+    ensures run { RunsOver (apart (reading_of P.Source puzzle.old puzzle.new) (reading_of L.Source list.old list.new)
+        (reading_of C.Source certificate.old certificate.new))
+        checked (writing_of W.Sink writer.old writer.new) result }
+    // Where the status is Complete, the symmetries of the certificate reach every arrangement of
+    // the puzzle from the list.
+    ensures complete { IfOk result (λ status. status ≡ Status.Complete
+        → ReadToEnds (apart (reading_of P.Source puzzle.old puzzle.new) (reading_of L.Source list.old list.new)
+        (reading_of C.Source certificate.old certificate.new)) SpellCompleteList) }
+    ensures fault { IfErr result (IsOfRun checked) }
+    ensures untouched { IfErr result (λ fault. fault ≢ RunFault.Write → writer.new ≡ writer.old) }
+{
     let read = read_documents(alloc, puzzle, list, certificate)?;
-    write_answer_to(rt, alloc, &read.lend(), workers, forks, writer)
+    write_answer_to(rt, alloc, &read.lend(), workers, forks, watch, writer)
 }
 
 /// Reads a puzzle, a list and a certificate, joined, to the end, and writes the answer to them and nothing else. The
@@ -79,16 +126,25 @@ pub fn run_joined<S: Source, W: Sink, R: Threads + Sync>(
     ensures untouched { IfErr result (λ fault. fault ≢ RunFault.Write → writer.new ≡ writer.old) }
 {
     let input = read_whole(alloc, reader, MOST_BYTES, Document::Input)?;
-    write_answer_to(rt, alloc, &cut_joined(&input), workers, forks, writer)
+    write_answer_to(
+        rt,
+        alloc,
+        &cut_joined(&input),
+        workers,
+        forks,
+        &Open,
+        writer,
+    )
 }
 
 // Writes the answer to the documents, and nothing else.
-fn write_answer_to<W: Sink, R: Threads + Sync>(
+fn write_answer_to<W: Sink, R: Threads + Sync, G: CheckWatch + Sync>(
     rt: &R,
     alloc: Global,
     documents: &Documents<'_>,
     workers: Workers,
     forks: Forks,
+    watch: &G,
     writer: &mut W,
 ) -> Result<Status, RunFault>
     requires { AreShort (texts_of documents.now) }
@@ -98,17 +154,18 @@ fn write_answer_to<W: Sink, R: Threads + Sync>(
     ensures fault { IfErr result (IsOfRequest checked) }
     ensures untouched { IfErr result (λ fault. fault ≢ RunFault.Write → writer.new ≡ writer.old) }
 {
-    let answer = answer_of(rt, alloc, documents, workers, forks)?;
+    let answer = answer_of(rt, alloc, documents, workers, forks, watch)?;
     answer.write(writer)
 }
 
 // The line of the answer to the documents.
-fn answer_of<R: Threads + Sync>(
+fn answer_of<R: Threads + Sync, G: CheckWatch + Sync>(
     rt: &R,
     alloc: Global,
     documents: &Documents<'_>,
     workers: Workers,
     forks: Forks,
+    watch: &G,
 ) -> Result<Printed, RunFault>
     requires { AreShort (texts_of documents.now) }
     ensures gives { IfOk result (λ printed.
@@ -119,6 +176,7 @@ fn answer_of<R: Threads + Sync>(
 {
     let owned = read_question(alloc, documents)?;
     let question = owned.question();
+    watch.begins(question.lemmas().len() as usize);
     let answer = check_with(
         rt,
         alloc,
@@ -127,7 +185,7 @@ fn answer_of<R: Threads + Sync>(
         question.certificate(),
         workers.get() as u8,
         forks.get() as u8,
-        &Open,
+        watch,
     )?;
     answer_to(alloc, answer, question.listed().len() as u32)
 }

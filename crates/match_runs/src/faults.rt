@@ -6,6 +6,7 @@ ghost use Rattle.match_report.specs.Line.{label};
 ghost use Rattle.match_runs.specs.FaultText.{document_word, kind_word, board_fault_word, memory_words, fault_line};
 ghost use Rattle.match_runs.specs.FaultText.{text_fault_words, puzzle_fault_words, puzzle_text_fault_words};
 ghost use Rattle.match_runs.specs.FaultText.{list_text_fault_words, assemble_fault_words, cert_text_fault_words};
+ghost use Rattle.match_report.specs.AnswerText.{arrangement_fault_words};
 ghost use Rattle.match_runs.specs.declared.faults.RunFault.TheVariants as run_fault;
 ghost use Rattle.match_runs.specs.FaultText.{run_of_puzzle, run_of_list, run_of_certificate};
 ghost use Rattle.match_runs.specs.FaultText.{run_of_expand, run_of_solve, run_of_tiles, solve_fault_words};
@@ -13,8 +14,8 @@ ghost use Rattle.match_runs.specs.FaultText.{run_of_expand, run_of_solve, run_of
 use cert_tree::{AssembleFault, CertTextFault};
 use match_board::{BoardFault, TilesFault};
 use match_crew::SolveFault;
-use match_puzzle::PuzzleFault;
-use match_report::{ExpandFault, Line};
+use match_puzzle::{ArrangementFault, PuzzleFault};
+use match_report::{ExpandFault, Line, put_arrangement_fault};
 use match_text::{ListTextFault, PuzzleTextFault, TextFault, TextKind};
 use std::alloc::{AllocError, Global};
 
@@ -38,6 +39,10 @@ pub enum RunFault {
     Puzzle(PuzzleTextFault),
     List(ListTextFault),
     Certificate(CertTextFault),
+    /// The list has no arrangement of this number.
+    NoArrangement(u32),
+    /// The listed arrangement of this number is none of the puzzle's.
+    Arrangement(u32, ArrangementFault),
     /// The puzzle was not solved.
     Solve(SolveFault),
     /// More arrangements are reached than are listed.
@@ -318,6 +323,44 @@ fn solve_fault_line(alloc: Global, fault: &SolveFault) -> Result<Vec<u8>, AllocE
     }
 }
 
+// A line of three words and a number.
+#[tactic(auto, using(match_report::proofs::LineLemmas::line_laws))]
+fn numbered_line(
+    alloc: Global,
+    first: &[u8],
+    second: &[u8],
+    third: &[u8],
+    number: u32,
+) -> Result<Vec<u8>, AllocError>
+    ensures { IfOk result (λ text. text.items
+        ≡ line_text (first.now ∷ second.now ∷ third.now ∷ decimal number ∷ [])) }
+{
+    let mut line = Line::new(alloc, first)?;
+    line.word(second)?;
+    line.word(third)?;
+    line.number(number)?;
+    line.end()
+}
+
+// A line of two words, the number of an arrangement, and what is wrong with it.
+#[tactic(auto, using(match_report::proofs::LineLemmas::line_laws))]
+fn arrangement_line(
+    alloc: Global,
+    first: &[u8],
+    second: &[u8],
+    number: u32,
+    fault: &ArrangementFault,
+) -> Result<Vec<u8>, AllocError>
+    ensures { IfOk result (λ text. text.items
+        ≡ line_text (first.now ∷ second.now ∷ label (decimal number) ∷ arrangement_fault_words fault.now)) }
+{
+    let mut line = Line::new(alloc, first)?;
+    line.word(second)?;
+    line.label(number)?;
+    put_arrangement_fault(&mut line, fault)?;
+    line.end()
+}
+
 /// The line that says why a run stopped.
 #[tactic(auto, unfolding(crate::specs::FaultText::fault_line))]
 pub fn fault_text(alloc: Global, fault: &RunFault) -> Result<Vec<u8>, AllocError>
@@ -333,6 +376,12 @@ pub fn fault_text(alloc: Global, fault: &RunFault) -> Result<Vec<u8>, AllocError
         RunFault::Puzzle(fault) => puzzle_text_fault_line(alloc, fault),
         RunFault::List(fault) => list_text_fault_line(alloc, fault),
         RunFault::Certificate(fault) => cert_text_fault_line(alloc, fault),
+        RunFault::NoArrangement(number) => {
+            numbered_line(alloc, b"list:", b"no", b"arrangement", *number)
+        }
+        RunFault::Arrangement(number, fault) => {
+            arrangement_line(alloc, b"list:", b"arrangement", *number, fault)
+        }
         RunFault::Solve(fault) => solve_fault_line(alloc, fault),
         RunFault::Expand => words_line(alloc, b"too", b"many", b"expanded"),
         RunFault::Tiles => words_line(alloc, b"too", b"many", b"tiles"),

@@ -1,13 +1,14 @@
 //! Files by their names.
 
-ghost use Rattle.std.specs.Prelude.{◌≡◌, ◌≢◌, ◌↔◌, ℕ, List, Option, None, false, IfOk, IfErr, IsTrue};
-ghost use Rattle.match_runs.specs.Files.{LeavesAll};
+ghost use Rattle.std.specs.Prelude.{◌≡◌, ◌≢◌, ◌↔◌, ℕ, List, Option, None, false, IfOk, IfErr, IsTrue, OnOk};
+ghost use Rattle.std.specs.String.{string_bytes};
+ghost use Rattle.match_runs.specs.Files.{LeavesAll, TakesWhole, part_name};
 
 use crate::faults::{Document, RunFault};
 use crate::streams::sinks::Sink;
 use crate::streams::sources::{Failed, Source};
 use crate::streams::systems::{Input, Output};
-use std::alloc::Global;
+use std::alloc::{AllocError, Global};
 use std::fs::{self, File};
 use std::rt::Files;
 
@@ -21,6 +22,8 @@ pub trait FileSystem {
     ghost holds: { Self → List ℕ → Option (List ℕ) };
     // which writers are as the file of a name is just made
     ghost makes: { Self → List ℕ → Self.Writer → Type 0 };
+    // that the file of the first name was put under the second
+    ghost puts: { Self → List ℕ → List ℕ → Type 0 };
 
     /// The file of this name, opened, with nothing read of it.
     fn open(&self, name: &str) -> Result<Self::Reader, Failed>
@@ -33,6 +36,21 @@ pub trait FileSystem {
         ensures made { IfOk result (makes self.now name.now) }
         ensures unwritten { IfOk result
             (λ writer. (Self.Writer.idle writer ≡ false) × (Self.Writer.errors writer ≡ 0)) };
+
+    /// The same, where nothing stands under the name.
+    fn make_new(&self, name: &str) -> Result<Self::Writer, Failed>
+        ensures made { IfOk result (makes self.now name.now) }
+        ensures unwritten { IfOk result
+            (λ writer. (Self.Writer.idle writer ≡ false) × (Self.Writer.errors writer ≡ 0)) };
+
+    /// Puts the file of the first name, which took a text whole since it was made, under the second name, in place of
+    /// what stands there.
+    fn put(&self, from: &str, to: &str) -> Result<(), Failed>
+        requires { (text : List ℕ) × TakesWhole Self.Writer.Sink (makes self.now from.now) text }
+        ensures { OnOk result (puts self.now from.now to.now) };
+
+    /// Removes the file of this name, if it can.
+    fn remove(&self, name: &str);
 
     /// Whether both names lead to one file that is there, as far as it can be told.
     fn lead_to_one(&self, alloc: Global, first: &str, second: &str) -> bool;
@@ -60,6 +78,8 @@ impl<R: Files> FileSystem for System<'_, R> {
 
     ghost makes = { λ _ _ _. Unit {0} };
 
+    ghost puts = { λ _ _ _. Unit {0} };
+
     fn open(&self, name: &str) -> Result<Input<R::File>, Failed> {
         match fs::open(self.runtime, name) {
             Ok(file) => Ok(Input::new(file)),
@@ -72,6 +92,24 @@ impl<R: Files> FileSystem for System<'_, R> {
             Ok(file) => Ok(Output::new(file)),
             Err(_) => Err(Failed),
         }
+    }
+
+    fn make_new(&self, name: &str) -> Result<Output<R::File>, Failed> {
+        match File::create_new(self.runtime, name) {
+            Ok(file) => Ok(Output::new(file)),
+            Err(_) => Err(Failed),
+        }
+    }
+
+    fn put(&self, from: &str, to: &str) -> Result<(), Failed> {
+        match self.runtime.rename(from, to) {
+            Ok(()) => Ok(()),
+            Err(_) => Err(Failed),
+        }
+    }
+
+    fn remove(&self, name: &str) {
+        let _ = self.runtime.remove_file(name);
     }
 
     // By what the names come to when each link on the way is followed; two links to one file that have no target in
@@ -113,6 +151,40 @@ pub fn make<S: FileSystem>(system: &S, name: &str) -> Result<S::Writer, RunFault
         Ok(file) => Ok(file),
         Err(_) => Err(RunFault::Write),
     }
+}
+
+/// The same, where nothing stands under its name. `Write` where something does, too.
+pub fn make_new<S: FileSystem>(system: &S, name: &str) -> Result<S::Writer, RunFault>
+    ensures made { IfOk result (S.makes system.now name.now) }
+    ensures unwritten { IfOk result (λ writer. (S.Writer.idle writer ≡ false) × (S.Writer.errors writer ≡ 0)) }
+    ensures fault { IfErr result (λ fault. fault ≡ RunFault.Write) }
+{
+    match system.make_new(name) {
+        Ok(file) => Ok(file),
+        Err(_) => Err(RunFault::Write),
+    }
+}
+
+/// Puts the file of the first name, which took a text whole since it was made, under the second name, in place of what
+/// stands there. `Write` where that fails.
+pub fn put<S: FileSystem>(system: &S, from: &str, to: &str) -> Result<(), RunFault>
+    requires { (text : List ℕ) × TakesWhole S.Writer.Sink (S.makes system.now from.now) text }
+    ensures put { OnOk result (S.puts system.now from.now to.now) }
+    ensures fault { IfErr result (λ fault. fault ≡ RunFault.Write) }
+{
+    match system.put(from, to) {
+        Ok(()) => Ok(()),
+        Err(_) => Err(RunFault::Write),
+    }
+}
+
+/// The name of the file that is made beside the file of this name, until it is put there.
+pub fn part_of(alloc: Global, name: &str) -> Result<String, AllocError>
+    ensures { IfOk result (λ part. string_bytes part ≡ part_name name.now) }
+{
+    let mut part = String::from_str(alloc, name)?;
+    part.push_str(".part")?;
+    Ok(part)
 }
 
 /// Whether the three files have different names.

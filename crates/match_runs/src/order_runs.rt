@@ -1,40 +1,52 @@
 //! Runs of orders: over which files each runs, and the exit status.
 
-ghost use Rattle.std.specs.Prelude.{◌≡◌, ◌≢◌, Err, IfOk, IfErr};
+ghost use Rattle.std.specs.Prelude.{◌≡◌, ◌≢◌, Err, IfOk, IfErr, IsTrue, true, false};
 ghost use Rattle.std.specs.String.{string_bytes};
 ghost use Rattle.match_runs.specs.Describing.{IsOfDescribing};
-ghost use Rattle.match_runs.specs.Files.{FilesHold, LeavesAll, TakesWhole};
+ghost use Rattle.match_runs.specs.Files.{FilesHold, HaveDifferentNames, LeavesAll, Receives, TakesWhole};
 ghost use Rattle.match_runs.specs.Moves.{WritesWhole, reading_of, writing_of};
-ghost use Rattle.match_runs.specs.OrderRuns.{EndsBy, IsDescribed, IsOfOrder, OrderGives, OrderShows, OrderStops};
-ghost use Rattle.match_runs.specs.OrderRuns.{PuzzleHolds, Solves, StopsDescribing, StopsListing, StopsSolving};
+ghost use Rattle.match_runs.specs.OrderRuns.{EndsBy, IsDescribed, IsDrawn, IsOfOrder, IsOfShowing, IsShown};
+ghost use Rattle.match_runs.specs.OrderRuns.{OrderGives, OrderShows, OrderStops, PuzzleHolds, Solves};
+ghost use Rattle.match_runs.specs.OrderRuns.{StopsDescribing, StopsDrawing, StopsListing, StopsShowing, StopsSolving};
+ghost use Rattle.match_runs.specs.Listed.{IsOfDrawing};
 ghost use Rattle.match_runs.specs.Runs.{ComesTo, IsOfRun, RunsOver, SpellCompleteList, checked, printed};
 ghost use Rattle.match_runs.specs.Solving.{IsOfSolving};
 ghost use Rattle.match_runs.specs.Sources.{ReadToEnds, together};
 ghost use Rattle.match_runs.specs.Tiles.{IsOfTiles, TilesGive};
 
-use crate::check_runs::{run_check, run_joined};
+use crate::check_runs::{run_check_watched, run_joined};
 use crate::description_runs::{Description, run_description};
 use crate::exits::Exit;
 use crate::faults::{Document, RunFault};
 use crate::files::{FileSystem, have_different_names, make, open};
+use crate::listed_runs::run_listed;
+use crate::parts::Parts;
 use crate::printing_runs::{Printing, run_printing};
-use crate::solve_runs::run_solve;
+use crate::progress::{CheckProgress, CheckWatch, SolveProgress, SolveWatch};
+use crate::solve_runs::{SearchPlan, run_solve_watched};
 use crate::streams::sinks::Sink;
 use crate::streams::sources::Source;
 use crate::tile_runs::run_tiles;
-use command_words::{Colours, Depth, Files, Forks, Fuel, Order, Sides, Workers};
+use command_words::{Colours, Files, Forks, Listed, Order, Sides, Workers};
 use std::alloc::Global;
 use std::random::RandomSource;
 use std::sync::Wait;
 use std::thread::Threads;
+use std::time::Clock;
 
 /// Does what is ordered, and says how the program ends where no fault came: `Done`, or `Refused` where a list is not
 /// shown to be complete.
 ///
 /// The files of an order are all opened before one is read: the puzzle's, the list's, the certificate's. `Read` of
 /// the first that can't be opened. A solve opens the puzzle's and makes the other two; where two of the three names
-/// are the same, or one can't be made, `Write`.
-pub fn run_order<S: FileSystem, I: Source, W: Sink, R: Threads + Wait + Sync + RandomSource>(
+/// are the same, or one can't be made, `Write`. Where it is to keep what stands there until all is written, it makes two
+/// beside them, and puts these there then, the list first; after a fault it removes them.
+pub fn run_order<
+    S: FileSystem,
+    I: Source,
+    W: Sink,
+    R: Threads + Wait + Sync + RandomSource + Clock + Eprint,
+>(
     rt: &R,
     alloc: Global,
     order: &Order,
@@ -43,7 +55,7 @@ pub fn run_order<S: FileSystem, I: Source, W: Sink, R: Threads + Wait + Sync + R
     output: &mut W,
 ) -> Result<Exit, RunFault>
     ensures given { IfOk result (OrderGives (S.holds system.now)
-        (λ name. TakesWhole S.Writer.Sink (S.makes system.now name))
+        (λ name. TakesWhole S.Writer.Sink (S.makes system.now name)) (S.puts system.now)
         (reading_of I.Source input.old input.new) (writing_of W.Sink output.old output.new) order.now) }
     ensures fault { IfErr result (IsOfOrder order.now) }
     // A fault of what was read is what that comes to, and where writing failed, a front of the answer went out.
@@ -60,19 +72,33 @@ pub fn run_order<S: FileSystem, I: Source, W: Sink, R: Threads + Wait + Sync + R
             files,
             workers,
             forks,
-        } => check(rt, alloc, files, *workers, *forks, system, output),
+            progress,
+        } => {
+            let watch = CheckProgress::new(rt, *progress);
+            check(rt, alloc, files, *workers, *forks, &watch, system, output)
+        }
         Order::Solve {
             files,
             depth,
             fuel,
             workers,
-        } => solve(rt, alloc, files, *depth, *fuel, *workers, system, output),
+            keep,
+            progress,
+        } => {
+            let search = SearchPlan {
+                depth: *depth,
+                fuel: *fuel,
+                workers: *workers,
+            };
+            let watch = SolveProgress::new(rt, *progress);
+            solve(rt, alloc, files, search, *keep, &watch, system, output)
+        }
         Order::Explain(files) => {
             print_all(rt, alloc, files, Printing::Explanation, system, output)
         }
         Order::Expand(files) => print_all(rt, alloc, files, Printing::All, system, output),
         Order::Count(files) => print_all(rt, alloc, files, Printing::Count, system, output),
-        Order::Show(puzzle) => describe(alloc, puzzle, Description::Board, system, output),
+        Order::Show { puzzle, listed } => show(alloc, puzzle, listed, system, output),
         Order::Symmetries(puzzle) => {
             describe(alloc, puzzle, Description::Symmetries, system, output)
         }
@@ -124,12 +150,13 @@ fn open_all<S: FileSystem>(system: &S, files: &Files) -> Result<Opened<S::Reader
     })
 }
 
-fn check<S: FileSystem, W: Sink, R: Threads + Sync>(
+fn check<S: FileSystem, W: Sink, R: Threads + Sync, T: CheckWatch + Sync>(
     rt: &R,
     alloc: Global,
     files: &Files,
     workers: Workers,
     forks: Forks,
+    watch: &T,
     system: &S,
     output: &mut W,
 ) -> Result<Exit, RunFault>
@@ -143,7 +170,7 @@ fn check<S: FileSystem, W: Sink, R: Threads + Sync>(
     ensures untouched { IfErr result (λ fault. fault ≢ RunFault.Write → output.new ≡ output.old) }
 {
     let mut opened = open_all(system, files)?;
-    let status = run_check(
+    let status = run_check_watched(
         rt,
         alloc,
         &mut opened.puzzle,
@@ -151,29 +178,55 @@ fn check<S: FileSystem, W: Sink, R: Threads + Sync>(
         &mut opened.certificate,
         workers,
         forks,
+        watch,
         output,
     )?;
     Ok(Exit::of_status(status))
 }
 
-// Opens the puzzle's file and makes the others before anything is read. A file that is another of them is not made.
-fn solve<S: FileSystem, W: Sink, R: Threads + Wait + Sync>(
+fn solve<S: FileSystem, W: Sink, R: Threads + Wait + Sync, T: SolveWatch + Sync>(
     rt: &R,
     alloc: Global,
     files: &Files,
-    depth: Depth,
-    fuel: Fuel,
-    workers: Workers,
+    search: SearchPlan,
+    keep: bool,
+    watch: &T,
     system: &S,
     output: &mut W,
 ) -> Result<Exit, RunFault>
-    ensures given { IfOk result (λ exit. (exit ≡ Exit.Done)
+    ensures given { IfOk result (λ exit. (exit ≡ Exit.Done) × HaveDifferentNames files.now
         × PuzzleHolds (S.holds system.now (string_bytes files.now.puzzle))
-        (Solves (λ name. TakesWhole S.Writer.Sink (S.makes system.now name))
-        (writing_of W.Sink output.old output.new) files.now workers)) }
+        (Solves (Receives keep (λ name. TakesWhole S.Writer.Sink (S.makes system.now name)) (S.puts system.now))
+        (writing_of W.Sink output.old output.new) files.now search.workers)) }
     ensures fault { IfErr result IsOfSolving }
-    ensures stops { IfErr result (StopsSolving (writing_of W.Sink output.old output.new)
-        (S.holds system.now (string_bytes files.now.puzzle)) workers) }
+    ensures stops { IfErr result (StopsSolving keep (writing_of W.Sink output.old output.new)
+        (S.holds system.now (string_bytes files.now.puzzle)) search.workers) }
+    ensures untouched { IfErr result (λ fault. fault ≢ RunFault.Write → output.new ≡ output.old) }
+{
+    if keep {
+        solve_beside(rt, alloc, files, search, watch, system, output)
+    } else {
+        solve_in_place(rt, alloc, files, search, watch, system, output)
+    }
+}
+
+// Opens the puzzle's file and makes the others before anything is read. A file that is another of them is not made.
+fn solve_in_place<S: FileSystem, W: Sink, R: Threads + Wait + Sync, T: SolveWatch + Sync>(
+    rt: &R,
+    alloc: Global,
+    files: &Files,
+    search: SearchPlan,
+    watch: &T,
+    system: &S,
+    output: &mut W,
+) -> Result<Exit, RunFault>
+    ensures given { IfOk result (λ exit. (exit ≡ Exit.Done) × HaveDifferentNames files.now
+        × PuzzleHolds (S.holds system.now (string_bytes files.now.puzzle))
+        (Solves (Receives false (λ name. TakesWhole S.Writer.Sink (S.makes system.now name)) (S.puts system.now))
+        (writing_of W.Sink output.old output.new) files.now search.workers)) }
+    ensures fault { IfErr result IsOfSolving }
+    ensures stops { IfErr result (StopsSolving false (writing_of W.Sink output.old output.new)
+        (S.holds system.now (string_bytes files.now.puzzle)) search.workers) }
     ensures untouched { IfErr result (λ fault. fault ≢ RunFault.Write → output.new ≡ output.old) }
 {
     let mut puzzle = open(system, &files.puzzle, Document::Puzzle)?;
@@ -186,13 +239,12 @@ fn solve<S: FileSystem, W: Sink, R: Threads + Wait + Sync>(
         return Err(RunFault::Write);
     }
     let mut certificate = make(system, &files.certificate)?;
-    run_solve(
+    run_solve_watched(
         rt,
         alloc,
         &mut puzzle,
-        depth,
-        fuel,
-        workers,
+        search,
+        watch,
         &mut list,
         &mut certificate,
         output,
@@ -200,8 +252,53 @@ fn solve<S: FileSystem, W: Sink, R: Threads + Wait + Sync>(
     Ok(Exit::Done)
 }
 
+// The same, but what stands under the names of the list and of the certificate is kept until both are written.
+fn solve_beside<S: FileSystem, W: Sink, R: Threads + Wait + Sync, T: SolveWatch + Sync>(
+    rt: &R,
+    alloc: Global,
+    files: &Files,
+    search: SearchPlan,
+    watch: &T,
+    system: &S,
+    output: &mut W,
+) -> Result<Exit, RunFault>
+    ensures given { IfOk result (λ exit. (exit ≡ Exit.Done) × HaveDifferentNames files.now
+        × PuzzleHolds (S.holds system.now (string_bytes files.now.puzzle))
+        (Solves (Receives true (λ name. TakesWhole S.Writer.Sink (S.makes system.now name)) (S.puts system.now))
+        (writing_of W.Sink output.old output.new) files.now search.workers)) }
+    ensures fault { IfErr result IsOfSolving }
+    ensures stops { IfErr result (StopsSolving true (writing_of W.Sink output.old output.new)
+        (S.holds system.now (string_bytes files.now.puzzle)) search.workers) }
+    ensures untouched { IfErr result (λ fault. fault ≢ RunFault.Write → output.new ≡ output.old) }
+{
+    let mut puzzle = open(system, &files.puzzle, Document::Puzzle)?;
+    if !are_apart(alloc, files, system) {
+        return Err(RunFault::Write);
+    }
+    let parts = Parts::of(alloc, files)?;
+    let (mut list, mut certificate) = parts.make(system)?;
+    let solved = run_solve_watched(
+        rt,
+        alloc,
+        &mut puzzle,
+        search,
+        watch,
+        &mut list,
+        &mut certificate,
+        output,
+    );
+    if let Err(fault) = solved {
+        parts.remove(system);
+        return Err(fault);
+    }
+    parts.put(files, system)?;
+    Ok(Exit::Done)
+}
+
 // Whether the three files have different names, and as far as it can be told are three.
-fn are_apart<S: FileSystem>(alloc: Global, files: &Files, system: &S) -> bool {
+fn are_apart<S: FileSystem>(alloc: Global, files: &Files, system: &S) -> bool
+    ensures { IsTrue result → HaveDifferentNames files.now }
+{
     let Files {
         puzzle,
         list,
@@ -258,6 +355,49 @@ fn describe<S: FileSystem, W: Sink>(
 {
     let mut puzzle = open(system, name, Document::Puzzle)?;
     run_description(alloc, &mut puzzle, description, output)?;
+    Ok(Exit::Done)
+}
+
+// The board of the puzzle in the file of this name, or the arrangement that is listed.
+fn show<S: FileSystem, W: Sink>(
+    alloc: Global,
+    name: &str,
+    listed: &Option<Listed>,
+    system: &S,
+    output: &mut W,
+) -> Result<Exit, RunFault>
+    ensures given { IfOk result (λ exit. (exit ≡ Exit.Done)
+        × IsShown (S.holds system.now) name.now listed.now (writing_of W.Sink output.old output.new)) }
+    ensures fault { IfErr result (IsOfShowing listed.now) }
+    ensures stops { IfErr result (StopsShowing (writing_of W.Sink output.old output.new) (S.holds system.now) name.now
+        listed.now) }
+    ensures untouched { IfErr result (λ fault. fault ≢ RunFault.Write → output.new ≡ output.old) }
+{
+    match listed {
+        None => describe(alloc, name, Description::Board, system, output),
+        Some(listed) => draw(alloc, name, listed, system, output),
+    }
+}
+
+// Draws the listed arrangement of the number, of the list in its file.
+fn draw<S: FileSystem, W: Sink>(
+    alloc: Global,
+    name: &str,
+    listed: &Listed,
+    system: &S,
+    output: &mut W,
+) -> Result<Exit, RunFault>
+    ensures given { IfOk result (λ exit. (exit ≡ Exit.Done)
+        × IsDrawn (S.holds system.now name.now) (S.holds system.now (string_bytes listed.now.list)) listed.now.number
+        (writing_of W.Sink output.old output.new)) }
+    ensures fault { IfErr result IsOfDrawing }
+    ensures stops { IfErr result (StopsDrawing (writing_of W.Sink output.old output.new) (S.holds system.now name.now)
+        (S.holds system.now (string_bytes listed.now.list)) listed.now.number) }
+    ensures untouched { IfErr result (λ fault. fault ≢ RunFault.Write → output.new ≡ output.old) }
+{
+    let mut puzzle = open(system, name, Document::Puzzle)?;
+    let mut list = open(system, &listed.list, Document::List)?;
+    run_listed(alloc, &mut puzzle, &mut list, listed.number.get(), output)?;
     Ok(Exit::Done)
 }
 

@@ -11,19 +11,30 @@ ghost use Rattle.match_runs.specs.Solving.{IsOfMaking, IsOfPuzzle, IsOfSolving, 
 ghost use Rattle.match_runs.specs.Sources.{PuzzleReadToEnd, StopsReadingPuzzle};
 
 use crate::faults::{Document, RunFault};
+use crate::progress::SolveWatch;
 use crate::streams::readings::read_whole;
 use crate::streams::sinks::{Sink, write_text};
 use crate::streams::sources::Source;
 use cert_tree::{Certificate, write_certificate};
 use command_words::{Depth, Fuel, Workers};
 use match_board::limits::{MOST_BYTES, MOST_WORKERS};
-use match_crew::{Solved, solve_with};
+use match_crew::{Solved, Unwatched, solve_watched};
 use match_puzzle::{Arrangement, Puzzle};
 use match_report::{Taken, write_board, write_tally};
 use match_text::{put_number_line, read_puzzle, write_list};
 use std::alloc::{AllocError, Global};
 use std::sync::Wait;
 use std::thread::Threads;
+
+/// By what a puzzle is searched.
+#[derive(Clone, Copy, PartialEq, Eq, Debug)]
+pub struct SearchPlan {
+    /// Of how many levels of branches lemmas are made before the search begins.
+    pub depth: Depth,
+    /// How many branch nodes a lemma may have.
+    pub fuel: Fuel,
+    pub workers: Workers,
+}
 
 /// Reads a puzzle to its end, searches for all its arrangements, and writes their list, then a certificate of them,
 /// and then a report: how many were found, by how many lemmas, who took which lemma, and the first arrangement as it
@@ -64,8 +75,62 @@ pub fn run_solve<R: Threads + Wait + Sync, P: Source, L: Sink, C: Sink, W: Sink>
         (λ text. (made : Products) × SolveGives workers text made × StopsWriting (writing_of L.Sink list.old list.new)
         (writing_of C.Sink certificate.old certificate.new) (writing_of W.Sink writer.old writer.new) made) }
 {
+    run_solve_watched(
+        rt,
+        alloc,
+        puzzle,
+        SearchPlan {
+            depth,
+            fuel,
+            workers,
+        },
+        &Unwatched,
+        list,
+        certificate,
+        writer,
+    )
+}
+
+/// The same, of which the watch is told while it runs.
+pub fn run_solve_watched<
+    R: Threads + Wait + Sync,
+    P: Source,
+    L: Sink,
+    C: Sink,
+    W: Sink,
+    T: SolveWatch + Sync,
+>(
+    rt: &R,
+    alloc: Global,
+    puzzle: &mut P,
+    search: SearchPlan,
+    watch: &T,
+    list: &mut L,
+    certificate: &mut C,
+    writer: &mut W,
+) -> Result<(), RunFault>
+
+    // What was written is made of the text that came.
+    ensures ok { OnOk result (PuzzleReadToEnd (reading_of P.Source puzzle.old puzzle.new)
+        (λ text. (made : Products) × SolveGives search.workers text made × WritesAll (writing_of L.Sink list.old list.new)
+        (writing_of C.Sink certificate.old certificate.new) (writing_of W.Sink writer.old writer.new) made)) }
+    // A fault of the puzzle or of solving it is what the text comes to.
+    ensures puzzle { IfErr result (λ fault. IsOfPuzzle fault
+        → PuzzleReadToEnd (reading_of P.Source puzzle.old puzzle.new) (λ text. SolveFails text fault)) }
+    ensures fault { IfErr result IsOfSolving }
+    ensures untouched { IfErr result (λ fault. fault ≢ RunFault.Write
+        → (list.new ≡ list.old) × (certificate.new ≡ certificate.old) × (writer.new ≡ writer.old)) }
+    // Reading fails only where the source answered an error, or more bytes came than are read. Want of memory hides
+    // neither.
+    ensures reading { IfErr result (StopsReadingPuzzle (reading_of P.Source puzzle.old puzzle.new)) }
+    // Writing fails only where a sink answered an error, or took nothing; then a front of its text went out.
+    ensures write { IsErrOf result RunFault.Write → PuzzleReadToEnd (reading_of P.Source puzzle.old puzzle.new)
+        (λ text. (made : Products) × SolveGives search.workers text made × StopsWriting (writing_of L.Sink list.old list.new)
+        (writing_of C.Sink certificate.old certificate.new) (writing_of W.Sink writer.old writer.new) made) }
+{
     let text = read_whole(alloc, puzzle, MOST_BYTES, Document::Puzzle)?;
-    let made = make_texts(rt, alloc, &text, depth, fuel, workers)?;
+    let made = make_texts(rt, alloc, &text, search, watch)?;
+    watch.made(made.list.len(), made.certificate.len());
     write_texts(&made, list, certificate, writer)
 }
 
@@ -78,16 +143,15 @@ pub(crate) struct Made {
 }
 
 // What is made of a puzzle's text.
-fn make_texts<R: Threads + Wait + Sync>(
+fn make_texts<R: Threads + Wait + Sync, T: SolveWatch + Sync>(
     rt: &R,
     alloc: Global,
     text: &[u8],
-    depth: Depth,
-    fuel: Fuel,
-    workers: Workers,
+    search: SearchPlan,
+    watch: &T,
 ) -> Result<Made, RunFault>
     requires text { length text.now ≤ MOST_BYTES }
-    ensures made { IfOk result (λ made. SolveGives workers text.now (products_of made)) }
+    ensures made { IfOk result (λ made. SolveGives search.workers text.now (products_of made)) }
     ensures fault { IfErr result (SolveFails text.now) }
     ensures kind { IfErr result IsOfMaking }
 {
@@ -96,13 +160,14 @@ fn make_texts<R: Threads + Wait + Sync>(
         list: listed,
         certificate,
         tally,
-    } = solve_with(
+    } = solve_watched(
         rt,
         alloc,
         &puzzle,
-        depth.get() as u8,
-        fuel.get(),
-        workers.get() as u8,
+        search.depth.get() as u8,
+        search.fuel.get(),
+        search.workers.get() as u8,
+        watch,
     )?;
     let shares = shares(alloc, tally)?;
     Ok(Made {

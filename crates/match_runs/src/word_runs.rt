@@ -13,6 +13,7 @@ ghost use Rattle.match_runs.specs.WordRuns.{CarriesOut, Explains, Tells, TellsFa
 use crate::exits::Exit;
 use crate::faults::{RunFault, fault_text};
 use crate::files::FileSystem;
+use crate::hints::tell_hint;
 use crate::order_runs::run_order;
 use crate::streams::sinks::{Sink, write_whole};
 use crate::streams::sources::Source;
@@ -21,9 +22,11 @@ use std::alloc::Global;
 use std::random::RandomSource;
 use std::sync::Wait;
 use std::thread::Threads;
+use std::time::Clock;
 
 /// Does what the words after the program's name order, and says how the program ends. A fault's line goes to `errors`, and
-/// nothing else but what is wrong with words.
+/// nothing else but what is wrong with words; how far a check or a solve is, and what a text's line has to be
+/// that is to be explained, is told by `rt`.
 ///
 /// Help and the version go to the output. All is done then; where they can't be written, it ends as `Write` does.
 pub fn run_words<
@@ -31,7 +34,7 @@ pub fn run_words<
     I: Source,
     W: Sink,
     E: Sink,
-    R: Threads + Wait + Sync + RandomSource,
+    R: Threads + Wait + Sync + RandomSource + Clock + Eprint,
 >(
     rt: &R,
     alloc: Global,
@@ -43,7 +46,7 @@ pub fn run_words<
 ) -> Exit
     ensures { WordsGive (map string_bytes words.now)
         (λ order. CarriesOut
-        (OrderGives (S.holds system.now) (λ name. TakesWhole S.Writer.Sink (S.makes system.now name))
+        (OrderGives (S.holds system.now) (λ name. TakesWhole S.Writer.Sink (S.makes system.now name)) (S.puts system.now)
         (reading_of I.Source input.old input.new) (writing_of W.Sink output.old output.new) order)
         (λ fault. IsOfOrder order fault × OrderStops (S.holds system.now) (reading_of I.Source input.old input.new)
         (writing_of W.Sink output.old output.new) order fault)
@@ -58,7 +61,13 @@ pub fn run_words<
 }
 
 // Does what is ordered, and tells of a fault.
-fn carry_out<S: FileSystem, I: Source, W: Sink, E: Sink, R: Threads + Wait + Sync + RandomSource>(
+fn carry_out<
+    S: FileSystem,
+    I: Source,
+    W: Sink,
+    E: Sink,
+    R: Threads + Wait + Sync + RandomSource + Clock + Eprint,
+>(
     rt: &R,
     alloc: Global,
     order: &Order,
@@ -68,7 +77,7 @@ fn carry_out<S: FileSystem, I: Source, W: Sink, E: Sink, R: Threads + Wait + Syn
     errors: &mut E,
 ) -> Exit
     ensures { CarriesOut
-        (OrderGives (S.holds system.now) (λ name. TakesWhole S.Writer.Sink (S.makes system.now name))
+        (OrderGives (S.holds system.now) (λ name. TakesWhole S.Writer.Sink (S.makes system.now name)) (S.puts system.now)
         (reading_of I.Source input.old input.new) (writing_of W.Sink output.old output.new) order.now)
         (λ fault. IsOfOrder order.now fault × OrderStops (S.holds system.now) (reading_of I.Source input.old input.new)
         (writing_of W.Sink output.old output.new) order.now fault)
@@ -76,7 +85,11 @@ fn carry_out<S: FileSystem, I: Source, W: Sink, E: Sink, R: Threads + Wait + Syn
 {
     match run_order(rt, alloc, order, system, input, output) {
         Ok(exit) => exit,
-        Err(fault) => stopped(alloc, &fault, errors),
+        Err(fault) => {
+            let exit = stopped(alloc, &fault, errors);
+            tell_hint(rt, alloc, order, &fault, system);
+            exit
+        }
     }
 }
 

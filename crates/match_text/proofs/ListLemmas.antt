@@ -8,16 +8,16 @@ use Rattle.std.proofs.lemmas.List.{append-nil}
 use Rattle.std.proofs.lemmas.List.Concat.{flat_map_single}
 use Rattle.match_puzzle.specs.declared.placements.Placement.{Placement}
 use Rattle.match_text.specs.declared.faults.TextKind.TheVariants.{Ends}
-use Rattle.match_text.specs.declared.faults.ListTextFault.{ListTextFault}
+use Rattle.match_text.specs.declared.faults.ReadFault.{ReadFault}
 use Rattle.match_text.specs.Bytes.{line_ends}
 use Rattle.match_text.specs.Laws.{ReadsSpellingsAlone, ReadsEachSpelling, EndsWhereCut}
 use Rattle.match_text.specs.Words.{placement_in}
-use Rattle.match_text.specs.Place.{Place, Read, ◌>>=◌, give, fail, some_entries, times, opening, counted, closing, start}
+use Rattle.match_text.specs.Place.{Place, Read, ◌>>=◌, give, fail, Says, some_entries, times, opening, counted, closing, start}
 use Rattle.match_text.specs.declared.faults.TextFault.{TextFault}
 use Rattle.match_text.specs.declared.ranges.Ranges.{Ranges}
 use Rattle.match_text.specs.declared.ranges.TheConstants.{FIRST, SECOND}
 use Rattle.match_text.specs.Ranges.{ranges_of, AreRanges}
-use Rattle.match_text.specs.Lists.{ListSaid, arrangement_line, list_text, list_said, rows_of, list_of, ListGives}
+use Rattle.match_text.specs.Lists.{ListSaid, arrangement_line, list_text, list_said, rows_of, list_of}
 use Rattle.match_text.specs.Spelling.{text_of, placement_word, first_words, count_words, end_lines}
 use Rattle.match_text.specs.ListSpelling.{arrangement_words, list_head, list_lines, list_spelling, said_spelling, IsPlacementWithin, IsRowWithin, IsListWithin, IsSpelledIn, IsSaidWithin}
 use Rattle.match_text.proofs.CutLemmas.{CutsShort, LeavesNothing, place, bind_ok, ok_is, cuts_bind, cuts_give, cuts_some_entries, cuts_line, cuts_times, cuts_opening, cuts_counted, cuts_closing, leaves_closing, leaves_after}
@@ -189,21 +189,21 @@ list_unspelled rows not text e = let found = rows_found text rows e in not (spel
 
 -- ---- what a call returned
 
-pub found_of : (text : List ℕ) (result : Result (Vec (List Placement)) ListTextFault) → ListGives result (list_of text) → IfOk result (λ rows. (version : ℕ) × IsSpelledIn version rows.items × (text ≡ list_spelling version rows.items))
+pub found_of : (text : List ℕ) (result : Result (Vec (List Placement)) ReadFault) → Says (λ rows. rows.items) result (list_of text) → IfOk result (λ rows. (version : ℕ) × IsSpelledIn version rows.items × (text ≡ list_spelling version rows.items))
 found_of text (Ok rows) e = rows_found text rows.items e
 found_of text (Err f) e = tt
 
-pub within_of : (text : List ℕ) (result : Result (Vec (List Placement)) ListTextFault) → ListGives result (list_of text) → IfOk result (λ rows. IsListWithin SECOND rows.items)
+pub within_of : (text : List ℕ) (result : Result (Vec (List Placement)) ReadFault) → Says (λ rows. rows.items) result (list_of text) → IfOk result (λ rows. IsListWithin SECOND rows.items)
 within_of text (Ok rows) e = let found = rows_found text rows.items e in spelled_second found.0 rows.items found.1
 within_of text (Err f) e = tt
 
-pub only_of : (text : List ℕ) (result : Result (Vec (List Placement)) ListTextFault) → ListGives result (list_of text) → (version : ℕ) (rows : List (List Placement)) → IsSpelledIn version rows → text ≡ list_spelling version rows → ListGives result (Ok rows)
-only_of text result gives version rows fits e = subst (λ outcome. ListGives result outcome) (ap list_of e ∙ rows_only version rows fits) gives
+pub only_of : (text : List ℕ) (result : Result (Vec (List Placement)) ReadFault) → Says (λ rows. rows.items) result (list_of text) → (version : ℕ) (rows : List (List Placement)) → IsSpelledIn version rows → text ≡ list_spelling version rows → Says (λ rows. rows.items) result (Ok rows)
+only_of text result gives version rows fits e = subst (λ outcome. Says (λ rows. rows.items) result outcome) (ap list_of e ∙ rows_only version rows fits) gives
 
-pub cut_of : (text : List ℕ) (result : Result (Vec (List Placement)) ListTextFault) → ListGives result (list_of text) → (version : ℕ) (rows : List (List Placement)) (k : ℕ) → IsSpelledIn version rows → k < length (list_spelling version rows)
-    → text ≡ take k (list_spelling version rows) → ListGives result (fail (line_ends text + 1) Ends)
+pub cut_of : (text : List ℕ) (result : Result (Vec (List Placement)) ReadFault) → Says (λ rows. rows.items) result (list_of text) → (version : ℕ) (rows : List (List Placement)) (k : ℕ) → IsSpelledIn version rows → k < length (list_spelling version rows)
+    → text ≡ take k (list_spelling version rows) → Says (λ rows. rows.items) result (fail (line_ends text + 1) Ends)
 cut_of text result gives version rows k fits lt e =
-    subst (λ outcome. ListGives result outcome) (ap list_of e ∙ rows_short version rows k fits lt ∙ ap (λ t. fail (line_ends t + 1) Ends) (sym e)) gives
+    subst (λ outcome. Says (λ rows. rows.items) result outcome) (ap list_of e ∙ rows_short version rows k fits lt ∙ ap (λ t. fail (line_ends t + 1) Ends) (sym e)) gives
 
 -- ---- writing
 

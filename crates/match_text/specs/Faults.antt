@@ -5,8 +5,6 @@ use Rattle.match_text.specs.declared.faults.ReadFault.{ReadFault}
 use Rattle.match_text.specs.declared.faults.ReadFault.TheVariants as read
 use Rattle.match_text.specs.declared.faults.PuzzleTextFault.{PuzzleTextFault}
 use Rattle.match_text.specs.declared.faults.PuzzleTextFault.TheVariants as puzzle_text
-use Rattle.match_text.specs.declared.faults.ListTextFault.{ListTextFault}
-use Rattle.match_text.specs.declared.faults.ListTextFault.TheVariants as list_text
 
 -- a fault of a puzzle's text
 abbrev pub of_puzzle_text : ReadFault → PuzzleTextFault
@@ -17,8 +15,3 @@ of_puzzle_text read.Memory = puzzle_text.Memory
 abbrev pub of_puzzle : PuzzleFault → PuzzleTextFault
 of_puzzle puzzle.Memory = puzzle_text.Memory
 of_puzzle fault = puzzle_text.Puzzle fault
-
--- a fault of a list's text
-abbrev pub of_list_text : ReadFault → ListTextFault
-of_list_text (read.Text fault) = list_text.Text fault
-of_list_text read.Memory = list_text.Memory

@@ -1,11 +1,8 @@
 -- The text of a list of arrangements.
-use Rattle.std.specs.Prelude.{◌≡◌, ℕ, List, Result, Ok, Err, codes}
+use Rattle.std.specs.Prelude.{ℕ, List, Result, Ok, Err, codes}
 use Rattle.match_board.specs.declared.limits.TheConstants.{MOST_ARRANGEMENTS}
-use Rattle.std.specs.Global.{Vec}
 use Rattle.match_puzzle.specs.declared.placements.Placement.{Placement}
 use Rattle.match_text.specs.declared.faults.TextFault.{TextFault}
-use Rattle.match_text.specs.declared.faults.ListTextFault.{ListTextFault}
-use Rattle.match_text.specs.declared.faults.ListTextFault.TheVariants as faults
 use Rattle.match_text.specs.declared.lists.ListText as code
 use Rattle.match_text.specs.declared.ranges.Ranges.{Ranges}
 use Rattle.match_text.specs.Ranges.{ranges_of}
@@ -46,9 +43,3 @@ list_of text = rows_of (list_said text)
 -- what was read, without where it lies in memory
 abbrev pub said_of : code.ListText → ListSaid
 said_of t = record { version = t.version; rows = t.rows.items }
-
--- What a call returned is this outcome. Of want of memory nothing is said.
-abbrev pub ListGives : Result (Vec (List Placement)) ListTextFault → Result (List (List Placement)) TextFault → Type 0
-ListGives (Ok rows) outcome = outcome ≡ Ok rows.items
-ListGives (Err (faults.Text fault)) outcome = outcome ≡ Err fault
-ListGives (Err faults.Memory) outcome = Unit {0}

@@ -3,7 +3,7 @@
 ghost use Rattle.std.specs.Prelude.{◌≡◌};
 ghost use Rattle.match_text.specs.declared.faults.ReadFault.TheVariants.{Memory, Text};
 ghost use Rattle.match_text.specs.declared.faults.PuzzleTextFault.TheVariants as puzzle_text;
-ghost use Rattle.match_text.specs.Faults.{of_puzzle_text, of_puzzle, of_list_text};
+ghost use Rattle.match_text.specs.Faults.{of_puzzle_text, of_puzzle};
 
 use match_board::BoardFault;
 use match_puzzle::PuzzleFault;
@@ -77,6 +77,9 @@ impl<T: Drop> From<AllocFailed<T>> for ReadFault {
     }
 }
 
+/// Why there is no list of a text.
+pub type ListTextFault = ReadFault;
+
 /// Why there is no puzzle of a text, in the order in which it is looked for.
 #[derive(Clone, Copy, PartialEq, Eq, Debug, Error)]
 pub enum PuzzleTextFault {
@@ -88,15 +91,6 @@ pub enum PuzzleTextFault {
     /// There is no such puzzle; there is such a board.
     #[error("{0}")]
     Puzzle(PuzzleFault),
-    #[error("out of memory")]
-    Memory,
-}
-
-/// Why there is no list of a text.
-#[derive(Clone, Copy, PartialEq, Eq, Debug, Error)]
-pub enum ListTextFault {
-    #[error("{0}")]
-    Text(TextFault),
     #[error("out of memory")]
     Memory,
 }
@@ -127,17 +121,6 @@ impl From<PuzzleFault> for PuzzleTextFault {
         match fault {
             PuzzleFault::Memory => PuzzleTextFault::Memory,
             fault => PuzzleTextFault::Puzzle(fault),
-        }
-    }
-}
-
-impl From<ReadFault> for ListTextFault {
-    ghost from_gives = { λ fault e. e ≡ of_list_text fault };
-
-    fn from(fault: ReadFault) -> ListTextFault {
-        match fault {
-            ReadFault::Text(fault) => ListTextFault::Text(fault),
-            ReadFault::Memory => ListTextFault::Memory,
         }
     }
 }

@@ -4,12 +4,12 @@ ghost use Rattle.std.specs.Prelude.{◌≡◌, ◌+◌, ◌<◌, ◌^◌, ℕ, L
 ghost use Rattle.match_text.specs.Ranges.{AreRanges};
 ghost use Rattle.match_text.specs.declared.ranges.TheConstants.{SECOND};
 ghost use Rattle.match_text.specs.Words.{placement_in};
-ghost use Rattle.match_text.specs.Place.{Reads, entries, some_entries, times, fail};
+ghost use Rattle.match_text.specs.Place.{Reads, Says, entries, some_entries, times, fail};
 ghost use Rattle.match_puzzle.specs.declared.placements.Placement.{Placement as PlacementOf};
 ghost use Rattle.match_text.specs.Bytes.{line_ends};
 ghost use Rattle.match_text.specs.declared.faults.TextKind.TheVariants as kinds;
 ghost use Rattle.match_text.specs.ListSpelling.{list_spelling, IsListWithin, IsSpelledIn};
-ghost use Rattle.match_text.specs.Lists.{arrangement_line, list_text, list_of, list_said, said_of, ListGives};
+ghost use Rattle.match_text.specs.Lists.{arrangement_line, list_text, list_of, list_said, said_of};
 
 use crate::faults::{ListTextFault, ReadFault};
 use crate::ranges::{Ranges, ranges_of};
@@ -107,9 +107,9 @@ fn whole(alloc: Global, scan: &mut Scan) -> Result<ListText, ReadFault>
 }
 
 #[tactic(auto, unfolding(crate::specs::Lists::list_of, crate::specs::Lists::list_said))]
-fn read_text(alloc: Global, text: &[u8]) -> Result<Vec<Arrangement>, ListTextFault>
+fn read_text(alloc: Global, text: &[u8]) -> Result<Vec<Arrangement>, ReadFault>
     requires { length text.now + 1 < 2 ^ 32 }
-    ensures { ListGives result (list_of text.now) }
+    ensures { Says (λ rows. rows.items) result (list_of text.now) }
 {
     let mut scan = Scan::new(text);
     let said = whole(alloc, &mut scan)?;
@@ -120,7 +120,7 @@ fn read_text(alloc: Global, text: &[u8]) -> Result<Vec<Arrangement>, ListTextFau
 pub fn read_list(alloc: Global, text: &[u8]) -> Result<Vec<Arrangement>, ListTextFault>
     requires { length text.now + 1 < 2 ^ 32 }
     // Which list, and which fault.
-    ensures exact { ListGives result (list_of text.now) }
+    ensures exact { Says (λ rows. rows.items) result (list_of text.now) }
     // What is read is spelled so.
     ensures found { IfOk result (λ rows. (version : ℕ) × IsSpelledIn version rows.items
         × (text.now ≡ list_spelling version rows.items)) }
@@ -128,11 +128,11 @@ pub fn read_list(alloc: Global, text: &[u8]) -> Result<Vec<Arrangement>, ListTex
     ensures within { IfOk result (λ rows. IsListWithin SECOND rows.items) }
     // What is spelled so is read.
     ensures only { (version : ℕ) (rows : List (List PlacementOf)) → IsSpelledIn version rows
-        → text.now ≡ list_spelling version rows → ListGives result (Ok rows) }
+        → text.now ≡ list_spelling version rows → Says (λ rows. rows.items) result (Ok rows) }
     // A spelling that is cut short ends at its last line.
     ensures cut { (version : ℕ) (rows : List (List PlacementOf)) (k : ℕ) → IsSpelledIn version rows
         → k < length (list_spelling version rows) → text.now ≡ take k (list_spelling version rows)
-        → ListGives result (fail (line_ends text.now + 1) kinds.Ends) }
+        → Says (λ rows. rows.items) result (fail (line_ends text.now + 1) kinds.Ends) }
 {
     read_text(alloc, text)
 }

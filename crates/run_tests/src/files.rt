@@ -38,6 +38,8 @@ impl<'a> FileSystem for HeldFiles<'a> {
 
     ghost makes = { λ _ _ _. Unit {0} };
 
+    ghost puts = { λ _ _ _. Unit {0} };
+
     fn open(&self, name: &str) -> Result<Fake<'a>, Failed> {
         Ok(Fake::new(self.alloc, self.held(name), 7, usize::MAX))
     }
@@ -45,6 +47,16 @@ impl<'a> FileSystem for HeldFiles<'a> {
     fn make(&self, _name: &str) -> Result<Fake<'a>, Failed> {
         Ok(Fake::new(self.alloc, b"", 5, usize::MAX))
     }
+
+    fn make_new(&self, name: &str) -> Result<Fake<'a>, Failed> {
+        self.make(name)
+    }
+
+    fn put(&self, _from: &str, _to: &str) -> Result<(), Failed> {
+        Ok(())
+    }
+
+    fn remove(&self, _name: &str) {}
 
     fn lead_to_one(&self, _alloc: Global, _first: &str, _second: &str) -> bool {
         false

@@ -14,13 +14,14 @@ use std::random::RandomSource;
 use std::sync::Wait;
 use std::test::Fail;
 use std::thread::Threads;
+use std::time::Clock;
 
 // Both tiles fit the first cell, so that it isn't dead.
 const DEAD_TWINS: &[u8] = b"certificate 1\nsymmetries 0\nlemmas 1\nlemma 0 prefix tree d 0\nend\n";
 
 // How a check of three files ends that hold these texts. What `run_order` shows is said of the texts here: where it is
 // done, they spell a list that is complete.
-fn exit_of<R: Threads + Wait + Sync + RandomSource>(
+fn exit_of<R: Threads + Wait + Sync + RandomSource + Clock + Eprint>(
     rt: &R,
     alloc: Global,
     puzzle: &[u8],
@@ -50,6 +51,7 @@ fn exit_of<R: Threads + Wait + Sync + RandomSource>(
         },
         workers: Workers::new(2),
         forks: Forks::new(1),
+        progress: false,
     };
     let mut input = Fake::new(alloc, b"", 7, usize::MAX);
     let mut output = Fake::new(alloc, b"", 5, usize::MAX);

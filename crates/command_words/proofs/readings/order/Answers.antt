@@ -7,8 +7,8 @@ use Rattle.std.specs.Str.{bytes_eq}
 use Rattle.command_words.specs.Commands.{whole_app}
 use Rattle.command_words.specs.Orders.{IsOrder, IsOrderOf}
 use Rattle.command_words.specs.declared.orders.Order.{Order}
-use Rattle.command_words.specs.declared.orders.Order.TheVariants.{Explain, Expand, Count, Show, Symmetries}
-use Rattle.command_words.proofs.ProgramLemmas.{HasNeeded, IsEntered, command_at, command_named, has_number, differs, has_files, has_text, needed_at, none_is_some, only_memory, orders, parse_enters, parse_has, parse_refuses, rule_at}
+use Rattle.command_words.specs.declared.orders.Order.TheVariants.{Explain, Expand, Count, Symmetries}
+use Rattle.command_words.proofs.ProgramLemmas.{HasNeeded, IsEntered, command_at, command_named, has_flag, has_number, differs, has_files, has_text, needed_at, none_is_some, only_memory, orders, parse_enters, parse_has, parse_refuses, rule_at}
 use Rattle.command_words.proofs.readings.order.Goals.{In-Some}
 use Rattle.command_words.proofs.readings.order.Goals as goal
 
@@ -52,6 +52,9 @@ check-requires-clause-workers c = has_number (command_at (codes "check")) (rows_
 pub check-requires-clause-forks : goal.check-requires-clause-forks
 check-requires-clause-forks c = has_number (command_at (codes "check")) (rows_of (found_of c.in-Some.matches.now)) (rule_at (command_at (codes "check")) 4) 0 6 (needed (goal.at.check-requires-clause-forks c).In-Some (codes "check") (search rules) refl) refl refl refl
 
+pub check-requires-clause-progress : goal.check-requires-clause-progress
+check-requires-clause-progress c = has_flag (command_at (codes "check")) (rows_of (found_of c.in-Some.matches.now)) (rule_at (command_at (codes "check")) 5) (needed (goal.at.check-requires-clause-progress c).In-Some (codes "check") (search rules) refl) refl refl refl
+
 pub solve-requires-clause-files : goal.solve-requires-clause-files
 solve-requires-clause-files c = has_files (command_at (codes "solve")) (rows_of (found_of c.in-Some.matches.now)) (needed (goal.at.solve-requires-clause-files c).In-Some (codes "solve") (search rules) refl) refl refl refl
 
@@ -64,6 +67,12 @@ solve-requires-clause-fuel c = has_number (command_at (codes "solve")) (rows_of 
 pub solve-requires-clause-workers : goal.solve-requires-clause-workers
 solve-requires-clause-workers c = has_number (command_at (codes "solve")) (rows_of (found_of c.in-Some.matches.now)) (rule_at (command_at (codes "solve")) 5) 1 64 (needed (goal.at.solve-requires-clause-workers c).In-Some (codes "solve") (search rules) refl) refl refl refl
 
+pub solve-requires-clause-keep : goal.solve-requires-clause-keep
+solve-requires-clause-keep c = has_flag (command_at (codes "solve")) (rows_of (found_of c.in-Some.matches.now)) (rule_at (command_at (codes "solve")) 6) (needed (goal.at.solve-requires-clause-keep c).In-Some (codes "solve") (search rules) refl) refl refl refl
+
+pub solve-requires-clause-progress : goal.solve-requires-clause-progress
+solve-requires-clause-progress c = has_flag (command_at (codes "solve")) (rows_of (found_of c.in-Some.matches.now)) (rule_at (command_at (codes "solve")) 7) (needed (goal.at.solve-requires-clause-progress c).In-Some (codes "solve") (search rules) refl) refl refl refl
+
 pub files-requires : goal.files-requires
 files-requires c = has_files (command_at (codes "explain")) (rows_of (found_of c.in-Some.matches.now)) (needed (goal.at.files-requires c).In-Some (codes "explain") (search rules) refl) refl refl refl
 
@@ -73,11 +82,14 @@ files-requires-in-expand c = has_files (command_at (codes "expand")) (rows_of (f
 pub files-requires-in-count : goal.files-requires-in-count
 files-requires-in-count c = has_files (command_at (codes "count")) (rows_of (found_of c.in-Some.matches.now)) (needed (goal.at.files-requires-in-count c).In-Some (codes "count") (search rules) refl) refl refl refl
 
-pub text-requires : goal.text-requires
-text-requires c = has_text (command_at (codes "show")) (rows_of (found_of c.in-Some.matches.now)) (codes "PUZZLE") (needed (goal.at.text-requires c).In-Some (codes "show") (search rules) refl) refl
+pub show-requires-clause-puzzle : goal.show-requires-clause-puzzle
+show-requires-clause-puzzle c = has_text (command_at (codes "show")) (rows_of (found_of c.in-Some.matches.now)) (codes "PUZZLE") (needed (goal.at.show-requires-clause-puzzle c).In-Some (codes "show") (search rules) refl) refl
 
-pub text-requires-in-symmetries : goal.text-requires-in-symmetries
-text-requires-in-symmetries c = has_text (command_at (codes "symmetries")) (rows_of (found_of c.in-Some.matches.now)) (codes "PUZZLE") (needed (goal.at.text-requires-in-symmetries c).In-Some (codes "symmetries") (search rules) refl) refl
+pub show-requires-clause-number : goal.show-requires-clause-number
+show-requires-clause-number c = has_number (command_at (codes "show")) (rows_of (found_of c.in-Some.matches.now)) (rule_at (command_at (codes "show")) 2) 0 999999 (needed (goal.at.show-requires-clause-number c).In-Some (codes "show") (search rules) refl) refl refl refl
+
+pub text-requires : goal.text-requires
+text-requires c = has_text (command_at (codes "symmetries")) (rows_of (found_of c.in-Some.matches.now)) (codes "PUZZLE") (needed (goal.at.text-requires c).In-Some (codes "symmetries") (search rules) refl) refl
 
 pub tiles-requires-clause-sides : goal.tiles-requires-clause-sides
 tiles-requires-clause-sides c = has_number (command_at (codes "tiles")) (rows_of (found_of c.in-Some.matches.now)) (rule_at (command_at (codes "tiles")) 0) 3 4 (needed (goal.at.tiles-requires-clause-sides c).In-Some (codes "tiles") (search rules) refl) refl refl refl
@@ -101,7 +113,7 @@ pub returns-in-count-clause-order : goal.returns-in-count-clause-order
 returns-in-count-clause-order c = ordered (goal.at.returns-in-count-clause-order c).In-Some (codes "count") (Count c.in_ok-files-in-count.field-0) (search rules) (refl, c.in_ok-files-in-count.ensures)
 
 pub returns-in-show-clause-order : goal.returns-in-show-clause-order
-returns-in-show-clause-order c = ordered (goal.at.returns-in-show-clause-order c).In-Some (codes "show") (Show c.in_ok-text-in-show.field-0) (search rules) (refl, c.in_ok-text-in-show.ensures)
+returns-in-show-clause-order c = ordered (goal.at.returns-in-show-clause-order c).In-Some (codes "show") c.in_ok-show-in-show.field-0 (search rules) c.in_ok-show-in-show.ensures
 
 pub returns-in-symmetries-clause-order : goal.returns-in-symmetries-clause-order
 returns-in-symmetries-clause-order c = ordered (goal.at.returns-in-symmetries-clause-order c).In-Some (codes "symmetries") (Symmetries c.in_ok-text-in-symmetries.field-0) (search rules) (refl, c.in_ok-text-in-symmetries.ensures)

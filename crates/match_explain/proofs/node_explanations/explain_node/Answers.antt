@@ -3,11 +3,12 @@ use Rattle.match_puzzle.specs.PrefixFaults.{IsPrefixFault}
 use Rattle.match_puzzle.specs.Puzzle.{Task}
 use Rattle.cert_tree.specs.Certificate.{Piece, flat_piece}
 use Rattle.cert_tree.specs.Heads.{first}
+use Rattle.cert_tree.specs.Tree.{Forest}
 use Rattle.cert_check.specs.Derivation.{start_of}
 use Rattle.cert_check.specs.Setting.{setting_at}
 use Rattle.cert_check.specs.declared.faults.Fault.TheVariants as faults
 use Rattle.match_show.specs.Drawing.{IsDrawing}
-use Rattle.match_explain.specs.Explanation.{NamesWhatFits}
+use Rattle.match_explain.specs.Explanation.{MarksNode, NamesWhatFits}
 use Rattle.match_explain.specs.Scene.{IsPath, LeadsTo}
 use Rattle.match_explain.proofs.NodeLemmas.{four_parts, has_fault, leads_to_fault}
 use Rattle.match_explain.proofs.node_explanations.explain_node.Goals as goal
@@ -63,6 +64,7 @@ returns c =
       fitting = fitting;
       names = subst (λ (p : Task). NamesWhatFits p scene.partial.placed (first scene.trees) c.args.fault.now.fault c.in_ok-fitting.fitting.items) puzzle c.in_ok-fitting.ensures;
       mark = c.cell.result;
+      marks = subst (λ (trees : Forest). MarksNode (first trees) c.cell.result) c.head.ensures.1 (c.cell.ensures c.head.ensures.0);
       drawing = drawing;
       drawn = subst (λ (p : Task). IsDrawing (record { puzzle = p; placed = scene.partial.placed }) c.cell.result c.in_ok-drawing.drawing.items) puzzle c.in_ok-drawing.ensures;
       closing = closing;

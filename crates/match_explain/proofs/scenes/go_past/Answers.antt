@@ -7,8 +7,8 @@ pub overflow_add-left : goal.overflow_add-left
 overflow_add-left c =
     let l = c.loop-left in
     let next = c.next-head in
-    let e : l.left - 1 + c.children_of.result ≡ l.left - 1 + arity next.result = ap (λ n. l.left - 1 + n) c.children_of.ensures in
-    let h = (skips l.left (l.left - 1 + c.children_of.result) l.trees next.new.self next.result c.loop-left-test.true l.invariant.counted next.ensures.first next.ensures.children e).1 in
+    let e : l.left - 1 + c.children.result ≡ l.left - 1 + arity next.result = ap (λ n. l.left - 1 + n) c.children.ensures in
+    let h = (skips l.left (l.left - 1 + c.children.result) l.trees next.new.self next.result c.loop-left-test.true l.invariant.counted next.ensures.first next.ensures.children e).1 in
     let few = next.ensures.few in
     omega arith
 
@@ -19,6 +19,6 @@ pub loop-left-preserved : goal.loop-left-preserved
 loop-left-preserved c =
     let l = c.loop-left in
     let next = c.next-head in
-    let e : l.left - 1 + c.children_of.result ≡ l.left - 1 + arity next.result = ap (λ n. l.left - 1 + n) c.children_of.ensures in
-    let h = skips l.left (l.left - 1 + c.children_of.result) l.trees next.new.self next.result c.loop-left-test.true l.invariant.counted next.ensures.first next.ensures.children e in
+    let e : l.left - 1 + c.children.result ≡ l.left - 1 + arity next.result = ap (λ n. l.left - 1 + n) c.children.ensures in
+    let h = skips l.left (l.left - 1 + c.children.result) l.trees next.new.self next.result c.loop-left-test.true l.invariant.counted next.ensures.first next.ensures.children e in
     record { past = h.0 ∙ l.invariant.past; counted = h.1 }

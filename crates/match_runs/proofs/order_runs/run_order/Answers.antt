@@ -1,7 +1,7 @@
 use Rattle.std.proofs.Common.{◌≡◌, ℕ, List, IfOk, IfErr, subst}
 use Rattle.match_runs.specs.Moves.{writing_of}
-use Rattle.match_runs.specs.OrderRuns.{IsDescribed, StopsDescribing}
-use Rattle.match_runs.specs.declared.description_runs.Description.TheVariants.{Board, Symmetries}
+use Rattle.match_runs.specs.OrderRuns.{IsDescribed, IsShown, StopsDescribing, StopsShowing}
+use Rattle.match_runs.specs.declared.description_runs.Description.TheVariants.{Symmetries}
 use Rattle.match_runs.specs.declared.exits.Exit.TheVariants.{Done}
 use Rattle.match_runs.proofs.OrderLemmas.{nothing_shown}
 use Rattle.match_runs.proofs.order_runs.run_order.Goals as goal
@@ -38,18 +38,19 @@ returns-in-Count g c =
 
 pub returns-in-Show : goal.returns-in-Show
 returns-in-Show g c =
-    let call = c.describe in
+    let call = c.show in
     let does = call.ensures in
     let name = c.deref.ensures in
+    let listed = c.in-Show.listed in
     let holds = g.S.FileSystem.holds c.args.system.now in
     let output = writing_of g.W.Sink c.args.output.now call.new.output in
-    let given = subst (λ (n : List ℕ). IfOk call.result (λ exit. (exit ≡ Done) × IsDescribed (holds n) Board output)) name does.given in
-    let stops = subst (λ (n : List ℕ). IfErr call.result (StopsDescribing output (holds n) Board)) name does.stops in
+    let given = subst (λ (n : List ℕ). IfOk call.result (λ exit. (exit ≡ Done) × IsShown holds n listed output)) name does.given in
+    let stops = subst (λ (n : List ℕ). IfErr call.result (StopsShowing output holds n listed)) name does.stops in
     rw c.in-Show.is (record { given = given; fault = does.fault; stops = stops; untouched = does.untouched; shown = nothing_shown call.result })
 
 pub returns-in-Symmetries : goal.returns-in-Symmetries
 returns-in-Symmetries g c =
-    let call = c.describe-in-Symmetries in
+    let call = c.describe in
     let does = call.ensures in
     let name = c.deref-in-Symmetries.ensures in
     let holds = g.S.FileSystem.holds c.args.system.now in

@@ -6,4 +6,4 @@ returns-in-Ok g c = inl (c.in-Ok.ensures.given, refl)
 
 pub returns-in-Err : goal.returns-in-Err
 returns-in-Err g c =
-    inr (c.in-Err.fault, (c.in-Err.ensures.fault, c.in-Err.ensures.stops), c.stopped.ensures.exit, c.stopped.ensures.told, c.in-Err.ensures.untouched)
+    inr (c.in-Err.fault, (c.in-Err.ensures.fault, c.in-Err.ensures.stops), c.stopped-exit.ensures.exit, c.stopped-exit.ensures.told, c.in-Err.ensures.untouched)

@@ -6,7 +6,7 @@ use Rattle.match_runs.specs.Runs.{ComesTo, SpellCompleteList, checked}
 use Rattle.match_runs.specs.Sources.{apart, owned_texts}
 use Rattle.match_runs.specs.declared.exits.Status.TheVariants as status
 use Rattle.match_runs.proofs.SourceLemmas.{complete_over, over, reading_kind, run_kinds, stopped_reading}
-use Rattle.match_runs.proofs.check_runs.run_check.Goals as goal
+use Rattle.match_runs.proofs.check_runs.run_check_watched.Goals as goal
 
 pub returns-in_err-read-clause-run : goal.returns-in_err-read-clause-run
 returns-in_err-read-clause-run g c =

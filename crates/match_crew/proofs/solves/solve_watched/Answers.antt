@@ -1,7 +1,7 @@
 use Rattle.std.proofs.Common.{rules, ◌≡◌, ◌∙◌, ℕ, ap, sym, subst, length, vec_len, arith, Vec, Global}
 use Rattle.match_crew.specs.Solving.{IsTally}
 use Rattle.match_crew.specs.declared.searches.Searched.{Searched}
-use Rattle.match_crew.proofs.solves.solve_with.Goals as goal
+use Rattle.match_crew.proofs.solves.solve_watched.Goals as goal
 
 pub certificate_of-requires-clause-lines : goal.certificate_of-requires-clause-lines
 certificate_of-requires-clause-lines g c = omega (arith, c.in_ok-lines.ensures.few, c.in_ok-lines.lines.ok.0)
