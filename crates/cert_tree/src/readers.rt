@@ -28,7 +28,7 @@ use crate::tree_readers::tree;
 use match_board::limits::{LAST_LEMMA, LAST_SIDE, MOST_LEMMAS, MOST_SYMMETRIES};
 use match_puzzle::Pair;
 use match_text::{Ranges, ReadFault, SECOND, Scan, TextFault, TextKind, ranges_of};
-use puzzle_symmetry::{ColourImages, Images, SymmetryLine};
+use puzzle_symmetry::{Images, SymmetryLine};
 use std::alloc::Global;
 
 fn mirrored_word(word: &[u8]) -> Result<bool, TextKind>
@@ -62,7 +62,7 @@ fn symmetry(alloc: Global, scan: &mut Scan, ranges: &Ranges) -> Result<SymmetryL
     scan.word(b"cells")?;
     let cells = Images::new(cell_images(alloc, scan, ranges)?);
     scan.word(b"colours")?;
-    let colours = ColourImages::new(colour_images(alloc, scan)?);
+    let colours = Images::new(colour_images(alloc, scan)?);
     scan.word(b"tiles")?;
     let tiles = Images::new(tile_images(alloc, scan, ranges)?);
     scan.end_of_line()?;

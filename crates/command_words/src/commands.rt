@@ -70,7 +70,7 @@ makes further lemmas of its branches. Where the fuel runs out all the same, it s
 nothing is written, so that both files are empty, or with --keep as they were. Then give more fuel, \
 up to 1000000, or a greater depth, up to 3, or take a smaller puzzle. Where it says too many \
 arrangements, a greater depth may help too: of those that are images of each other it lists fewer. \
-Where it says too many options, only a smaller puzzle helps.
+Where it says too many options, which show tells before, only a smaller puzzle helps.
 
 Exit status:
   0  the list and the certificate are written
@@ -119,7 +119,8 @@ Example:
 
 const SHOWN: &str = "\
 Draws the board with the numbers of its cells and the colours that the border asks for, and says \
-how many cells, tiles and colours there are, and where each colour stands.
+how many cells, tiles and colours there are, where each colour stands, and how large the puzzle is for \
+solve: how many options it has, each a tile at a cell as the border allows, and how many items these have.
 
 With a list it draws arrangement N of it in place of that. Where the list has no such arrangement, or \
 it is none of the puzzle's, that is said on standard error.

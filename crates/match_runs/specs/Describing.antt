@@ -1,12 +1,14 @@
 -- What is written of a puzzle that is described.
-use Rattle.std.specs.Prelude.{◌≡◌, ◌≤◌, ◌++◌, ℕ, List, All, None, Ok, Err, length}
-use Rattle.match_board.specs.declared.limits.TheConstants.{MOST_SYMMETRIES}
+use Rattle.std.specs.Prelude.{◌≡◌, ◌≤◌, ◌++◌, ◌⊎◌, ℕ, List, [], ◌∷◌, All, None, Ok, Err, codes, decimal, length}
+use Rattle.match_board.specs.declared.limits.TheConstants.{MOST_ENTRIES, MOST_SYMMETRIES}
 use Rattle.match_puzzle.specs.Puzzle.{Task}
 use Rattle.match_puzzle.specs.Prefix.{empty_prefix}
 use Rattle.match_text.specs.Puzzles.{PuzzleReads}
 use Rattle.match_text.specs.declared.faults.PuzzleTextFault.TheVariants as puzzles
 use Rattle.match_show.specs.Drawing.{IsDrawing}
-use Rattle.match_show.specs.Facts.{IsFacts}
+use Rattle.match_show.specs.Facts.{IsFacts, number_line}
+use Rattle.match_text.specs.Spelling.{line_text}
+use Rattle.xcc_form.specs.Options.{Compiled, HasTooManyEntries, IsCompiled, entries_of}
 use Rattle.puzzle_symmetry.specs.Symmetry.{IsSymmetry}
 use Rattle.puzzle_symmetry.specs.declared.lines.SymmetryLine.{SymmetryLine}
 use Rattle.cert_tree.specs.CertificateSpelling.{symmetries_spelling}
@@ -16,13 +18,27 @@ use Rattle.match_runs.specs.declared.faults.Document.TheVariants as documents
 use Rattle.match_runs.specs.declared.faults.RunFault.{RunFault}
 use Rattle.match_runs.specs.declared.faults.RunFault.TheVariants as runs
 
+-- how many options there are, and how many items these have, of so many that a solve takes
+abbrev pub options_text : (options items : ℕ) → List ℕ
+options_text options items =
+    number_line (codes "options") options
+    ++ line_text (codes "items" ∷ decimal items ∷ codes "of" ∷ decimal MOST_ENTRIES ∷ [])
+
+-- The text says how many options the puzzle has and how many items these have, or that they have too many for a solve.
+abbrev pub CountsOptions : Task → (text : List ℕ) → Type 0
+CountsOptions puzzle text =
+    ((x : Compiled) × (x.puzzle ≡ puzzle) × IsCompiled x × (text ≡ options_text (length x.options) (entries_of x)))
+    ⊎ (HasTooManyEntries puzzle × (text ≡ line_text (codes "too" ∷ codes "many" ∷ codes "options" ∷ [])))
+
 -- The text is the empty board of the puzzle, drawn, and then facts of it.
 pub record IsBoardText (puzzle : Task) (text : List ℕ) : Type 0 where
   pub drawing : List ℕ
   pub drawn : IsDrawing (record { puzzle = puzzle; placed = empty_prefix puzzle }) None drawing
   pub facts : List ℕ
   pub told : IsFacts puzzle facts
-  pub parts : text ≡ drawing ++ facts
+  pub options : List ℕ
+  pub counted : CountsOptions puzzle options
+  pub parts : text ≡ drawing ++ (facts ++ options)
 
 -- The text has lines of symmetries of the puzzle, at most so many as a certificate may have, as a certificate has them.
 pub record IsSymmetriesText (puzzle : Task) (text : List ℕ) : Type 0 where

@@ -1,24 +1,27 @@
 //! Runs that describe a puzzle.
 
-ghost use Rattle.std.specs.Prelude.{◌≡◌, ◌≢◌, ◌≤◌, IfErr, IfOk, IsErrOf, OnOk, length};
+ghost use Rattle.std.specs.Prelude.{◌≡◌, ◌≢◌, ◌≤◌, ◌∷◌, [], IfErr, IfOk, IsErrOf, OnOk, decimal, length};
 ghost use Rattle.match_puzzle.specs.Puzzle.{IsPuzzle};
-ghost use Rattle.match_runs.specs.Describing.{Describes, IsBoardText, IsOfDescribing, IsOfReadText, IsSymmetriesText};
-ghost use Rattle.match_runs.specs.Describing.{SpellsNoPuzzle};
+ghost use Rattle.match_runs.specs.Describing.{CountsOptions, Describes, IsBoardText, IsOfDescribing, IsOfReadText};
+ghost use Rattle.match_runs.specs.Describing.{IsSymmetriesText, SpellsNoPuzzle, options_text};
+ghost use Rattle.match_text.specs.Spelling.{line_text};
 ghost use Rattle.match_runs.specs.Moves.{WritesFront, WritesWhole, reading_of, writing_of};
 ghost use Rattle.match_runs.specs.Solving.{IsOfPuzzle};
 ghost use Rattle.match_runs.specs.Sources.{PuzzleReadToEnd, StopsReadingPuzzle};
 
-use crate::faults::{Document, RunFault};
+use crate::faults::{Document, RunFault, words_line};
 use crate::streams::readings::read_whole;
 use crate::streams::sinks::{Sink, write_text};
 use crate::streams::sources::Source;
 use cert_tree::write_symmetries;
-use match_board::limits::MOST_BYTES;
+use match_board::limits::{MOST_BYTES, MOST_ENTRIES};
 use match_puzzle::{Partial, Puzzle};
+use match_report::Line;
 use match_show::{write_drawing, write_facts};
 use match_symmetry::suggest;
-use match_text::read_puzzle;
+use match_text::{put_number_line, read_puzzle};
 use std::alloc::{AllocError, Global};
+use xcc_form::{CompileFault, compile};
 
 /// What is written of a puzzle.
 #[derive(Clone, Copy, PartialEq, Eq, Debug)]
@@ -83,8 +86,50 @@ fn board_text(alloc: Global, puzzle: &Puzzle) -> Result<Vec<u8>, AllocError>
     let partial = Partial::new(alloc, puzzle)?;
     let mut text = write_drawing(alloc, &partial, None)?;
     let facts = write_facts(alloc, puzzle)?;
+    let options = write_options(alloc, puzzle)?;
     text.extend_from_slice(&facts)?;
+    text.extend_from_slice(&options)?;
     Ok(text)
+}
+
+// How many options the puzzle has, and how many items these have, or that they are too many for a solve.
+fn write_options(alloc: Global, puzzle: &Puzzle) -> Result<Vec<u8>, AllocError>
+    ensures { IfOk result (λ text. CountsOptions puzzle.now text.items) }
+{
+    match compile(alloc, puzzle) {
+        Ok(xcc) => option_lines(alloc, xcc.options(), xcc.entries()),
+        Err(CompileFault::TooMany) => words_line(alloc, b"too", b"many", b"options"),
+        Err(CompileFault::Memory) => Err(AllocError),
+    }
+}
+
+fn option_lines(alloc: Global, options: u32, items: u32) -> Result<Vec<u8>, AllocError>
+    ensures { IfOk result (λ text. text.items ≡ options_text options items) }
+{
+    let mut text = Vec::new(alloc);
+    put_number_line(&mut text, b"options", options)?;
+    let items = ratio_line(alloc, b"items", items, b"of", MOST_ENTRIES as u32)?;
+    text.extend_from_slice(&items)?;
+    Ok(text)
+}
+
+// A line of a word and a number, twice.
+#[tactic(auto, using(match_report::proofs::LineLemmas::line_laws))]
+fn ratio_line(
+    alloc: Global,
+    first: &[u8],
+    number: u32,
+    second: &[u8],
+    other: u32,
+) -> Result<Vec<u8>, AllocError>
+    ensures { IfOk result (λ text. text.items
+        ≡ line_text (first.now ∷ decimal number ∷ second.now ∷ decimal other ∷ [])) }
+{
+    let mut line = Line::new(alloc, first)?;
+    line.number(number)?;
+    line.word(second)?;
+    line.number(other)?;
+    line.end()
 }
 
 // The lines of symmetries of the puzzle.

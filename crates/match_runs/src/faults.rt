@@ -185,7 +185,7 @@ fn two_words_line(alloc: Global, first: &[u8], second: &[u8]) -> Result<Vec<u8>,
 
 // A line of three words.
 #[tactic(auto, using(match_report::proofs::LineLemmas::line_laws))]
-fn words_line(
+pub(crate) fn words_line(
     alloc: Global,
     first: &[u8],
     second: &[u8],

@@ -3,7 +3,7 @@
 use check_crew::{Gate, Open};
 use match_board::limits::MOST_BYTES;
 use match_crew::{Unwatched, Watch};
-use std::sync::atomic::{AtomicU64, Ordering};
+use std::sync::atomic::{AtomicBool, AtomicU64, Ordering};
 use std::time::{Clock, Instant};
 
 /// Told of a check while it runs. No answer depends on it.
@@ -101,6 +101,9 @@ impl<R: Clock + Eprint> CheckWatch for CheckProgress<'_, R> {
     }
 }
 
+// A node of a certificate has at least so many bytes: a letter and a digit, each behind a space.
+const LEAST_NODE_LEN: u64 = 4;
+
 /// Tells how far a solve is: how many children of branches were looked at, how many lemmas are done and how many wait
 /// for a worker, and how many arrangements were found.
 #[derive(Drop)]
@@ -110,6 +113,8 @@ pub struct SolveProgress<'a, R: Clock + Eprint> {
     lemmas: AtomicU64,
     waiting: AtomicU64,
     found: AtomicU64,
+    // whether it was told that the certificate is too long to be checked
+    is_too_long: AtomicBool,
 }
 
 impl<'a, R: Clock + Eprint> SolveProgress<'a, R> {
@@ -121,7 +126,15 @@ impl<'a, R: Clock + Eprint> SolveProgress<'a, R> {
             lemmas: AtomicU64::new(0),
             waiting: AtomicU64::new(0),
             found: AtomicU64::new(0),
+            is_too_long: AtomicBool::new(false),
         }
+    }
+
+    // How many nodes the certificate has by now: each child that was looked at, and the root of each lemma.
+    fn nodes(&self) -> u64 {
+        let children = self.children.load(Ordering::Relaxed);
+        let lemmas = self.lemmas.load(Ordering::Relaxed);
+        children.saturating_add(lemmas)
     }
 
     // Tells how far it is after so many seconds.
@@ -136,9 +149,18 @@ impl<'a, R: Clock + Eprint> SolveProgress<'a, R> {
         );
     }
 
+    // Tells once that the certificate is too long, as soon as its nodes say so.
+    fn tell_of_length(&self) {
+        let is_too_long = self.nodes() > u64::from(MOST_BYTES) / LEAST_NODE_LEN;
+        if is_too_long && !self.is_too_long.swap(true, Ordering::Relaxed) {
+            let _ = eprintln!(self.turns.rt; "solve: the certificate is longer than check reads");
+        }
+    }
+
     fn tell_in_turn(&self) {
         if let Some(seconds) = self.turns.take() {
             self.tell(seconds);
+            self.tell_of_length();
         }
     }
 }
@@ -173,8 +195,9 @@ impl<R: Clock + Eprint> SolveWatch for SolveProgress<'_, R> {
             return;
         };
         self.tell(seconds);
+        let nodes = self.nodes();
         let _ = eprintln!(self.turns.rt;
-            "solve: a list of {list} bytes, a certificate of {certificate} bytes"
+            "solve: a list of {list} bytes, a certificate of {nodes} nodes and {certificate} bytes"
         );
         if list > MOST_BYTES as usize || certificate > MOST_BYTES as usize {
             let _ = eprintln!(self.turns.rt; "solve: that is more than check reads");

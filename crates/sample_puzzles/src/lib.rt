@@ -7,7 +7,7 @@ ghost use Rattle.std.specs.Prelude.{◌≡◌, ◌<◌, ◌^◌, IfOk, length, v
 
 use match_puzzle::{Arrangement, Puzzle};
 use match_text::{ListTextFault, PuzzleTextFault, read_list, read_puzzle};
-use puzzle_symmetry::{ColourImages, Images, SymmetryLine};
+use puzzle_symmetry::{Images, SymmetryLine};
 use std::alloc::{AllocError, Global};
 
 /// Two by two squares that are not turned, with 5 all round. They have one arrangement.
@@ -66,7 +66,7 @@ pub fn exchange_of_twins(alloc: Global) -> Result<Vec<SymmetryLine>, AllocError>
         shift: 0,
         mirrored: false,
         cells: Images::new(Vec::from_array(alloc, [0, 1])?),
-        colours: ColourImages::new(Vec::from_array(alloc, [0, 1])?),
+        colours: Images::new(Vec::from_array(alloc, [0, 1])?),
         tiles: Images::new(Vec::from_array(alloc, [1, 0])?),
     };
     let mut lines = Vec::new(alloc);
