@@ -85,8 +85,9 @@ fn walk_options<R: Chooses, C: Cites>(
         × AreTreesOf (selection_of path.old) progress.old progress.new (forest_of c.nodes.items)
         × AreBranchesOf (R.picks rule.now) (C.answers cites.new) progress.new.found.items (selection_of path.old) item (forest_of c.nodes.items))) }
 {
-    let mut nodes = Vec::new(alloc);
-    let mut next = path.links().next_option(item, None);
+    let links = path.links();
+    let mut nodes = Vec::with_capacity(alloc, links.size(item) as usize)?;
+    let mut next = links.next_option(item, None);
     while let Some(option) = next {
         path.choose(option)?;
         match child(alloc, path, rule, cites, progress)? {

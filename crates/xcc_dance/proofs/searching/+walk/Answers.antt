@@ -122,15 +122,15 @@ walk-returns-in-None-clause-tree g t c =
 pub walk_options-loop-next-init : goal.walk_options-loop-next-init
 walk_options-loop-next-init g t c =
     let s = selection_of c.args.path.now in
-    let same = c.links.ensures.same in
+    let same = c.links-links.ensures.same in
     let next = subst (λ (v : LinkState). MatchOption c.next_option-next.result (IsLast (cover_of v.compiled) v.chosen c.args.item None) (IsNext (cover_of v.compiled) v.chosen c.args.item None)) same c.next_option-next.ensures in
     record {
       path = refl;
       next = next_open s s c.args.item None c.next_option-next.result refl next;
-      children = ([], open_first (cover_of s.compiled) s.chosen c.args.item c.next_option-next.result next, subst (λ ns. AreChildren (g.R.Chooses.picks c.args.rule.now) (g.C.Cites.answers c.args.cites.now) c.args.progress.now.found.items s [] (forest_of ns)) (sym c.new-nodes.ensures.items) tt);
+      children = ([], open_first (cover_of s.compiled) s.chosen c.args.item c.next_option-next.result next, subst (λ ns. AreChildren (g.R.Chooses.picks c.args.rule.now) (g.C.Cites.answers c.args.cites.now) c.args.progress.now.found.items s [] (forest_of ns)) (sym c.in_ok-nodes.ensures.items) tt);
       moved = g.met.C.Cites.stays c.args.cites.now;
       goes_on = record { fuel = omega arith; more = omega arith; kept = λ n a at. at; found = λ a h. inl h };
-      trees = no_trees s c.args.progress.now c.new-nodes.result.items c.new-nodes.ensures.items;
+      trees = no_trees s c.args.progress.now _ c.in_ok-nodes.ensures.items;
     }
 
 pub walk_options-child-requires : goal.walk_options-child-requires
@@ -144,7 +144,7 @@ walk_options-child-requires g t c =
     let found = c.loop-next.progress.found.items in
     let old = subst (λ o. AreBranchesBefore picks answers found s c.args.item o (forest_of c.loop-next.nodes.items)) c.in-Some.is i.children in
     let long = children_count picks answers found s old.0 (forest_of c.loop-next.nodes.items) old.2 in
-    let most = room_for_one s c.links.ensures.right c.in-Some.option c.args.item old.0 open_option old.1 in
+    let most = room_for_one s c.links-links.ensures.right c.in-Some.option c.args.item old.0 open_option old.1 in
     let few = i.trees.few in
     let counts = count-forest_of c.loop-next.nodes.items in
     let room = c.requires.room in
@@ -171,7 +171,7 @@ walk_options-loop-next-preserved g t c =
     let back = c.undo.ensures ∙ ap taken_back tree.0 ∙ c.in_ok-choose.ensures.before ∙ i.path in
     let open_option = subst (λ o. MatchOption o (Unit {0}) (IsOpenAt (cover_of s.compiled) s.chosen c.args.item)) c.in-Some.is i.next in
     let old = subst (λ o. AreBranchesBefore picks answers found s c.args.item o (forest_of c.loop-next.nodes.items)) c.in-Some.is i.children in
-    let here = c.links-in-Some.ensures.same ∙ back in
+    let here = c.links.ensures.same ∙ back in
     let next = subst (λ (v : LinkState). MatchOption c.next_option-next-in-Some.result (IsLast (cover_of v.compiled) v.chosen c.args.item (Some c.in-Some.option)) (IsNext (cover_of v.compiled) v.chosen c.args.item (Some c.in-Some.option))) here c.next_option-next-in-Some.ensures in
     let items = c.in_ok-push-in-Some-2.ensures.items in
     let with = chosen ∙ ap (λ v. with_option (selection_of v) c.in-Some.option) i.path in
@@ -188,7 +188,7 @@ walk_options-loop-next-preserved g t c =
       );
       moved = g.met.C.Cites.goes_on c.args.cites.now c.loop-next.cites c.child.new.cites i.moved w.moved;
       goes_on = goes_further s (selection_of c.choose.new.self) c.in-Some.option c.args.progress.now c.loop-next.progress c.child.new.progress with i.goes_on w.goes_on;
-      trees = one_more_tree s c.links.ensures.right c.in-Some.option (selection_of c.choose.new.self) c.args.progress.now c.loop-next.progress c.child.new.progress c.loop-next.nodes.items c.push.new.self.items c.in-Some-2.child open_option.open_option with items i.trees w.goes_on tree.1;
+      trees = one_more_tree s c.links-links.ensures.right c.in-Some.option (selection_of c.choose.new.self) c.args.progress.now c.loop-next.progress c.child.new.progress c.loop-next.nodes.items c.push.new.self.items c.in-Some-2.child open_option.open_option with items i.trees w.goes_on tree.1;
     }
 
 pub walk_options-returns-clause-trees : goal.walk_options-returns-clause-trees
