@@ -93,7 +93,7 @@ def try_all(names):
                 os.rename(folder, os.path.join(copy, "crates", name, "must-fail"))
         ran = subprocess.Popen(["rt", "ci", *names], cwd=copy, stdout=subprocess.PIPE, text=True, errors="replace")
         for line in ran.stdout:
-            if re.match(r"must-fail |rt: .*(NOT PROVED|trying)|\d+ passed", line):
+            if re.match(r"rt: (must-fail |.*(NOT PROVED|trying))|\d+ passed", line):
                 print(line, end="", flush=True)
         return ran.wait()
 
