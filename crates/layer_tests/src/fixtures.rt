@@ -16,6 +16,10 @@ pub const SIX_TRIANGLES: &[u8] =
 pub const MATED_PAIR: &[u8] =
     b"match 2\nboard rect 2 1\nturns no\nborder free\nmates 1 0\ntiles 2\ntile 2022\ntile 2321\nend\n";
 
+/// A puzzle on three squares of four, the corner at the top and at the left with its two neighbours.
+pub const CORNER_SHAPE: &[u8] =
+    b"match 2\nboard shape 2 2\nrow ##\nrow #.\nturns no\nborder one 0\nmates\ntiles 3\ntile 0120\ntile 0001\ntile 2000\nend\n";
+
 pub fn turned(tile: u16, turn: u8) -> Placement
     ensures { result ≡ record { tile = tile; turn = turn } }
 {

@@ -1,6 +1,6 @@
 //! Texts of puzzles and lists that are read, and written again.
 
-use crate::fixtures::{MATED_PAIR, SIX_TRIANGLES, puzzle_of};
+use crate::fixtures::{CORNER_SHAPE, MATED_PAIR, SIX_TRIANGLES, puzzle_of};
 use match_text::{list_laws, puzzle_laws, read_list, write_list, write_puzzle};
 use sample_puzzles::{
     SQUARE_OF_FOUR, SQUARE_OF_FOUR_LIST, TURNING_TRIANGLE, TURNING_TRIANGLE_LIST, TWIN_TILES,
@@ -16,10 +16,6 @@ const ONE_CELL: &[u8] =
 // A puzzle of version 2 in which each of the 36 colours has another as its mate.
 const EVERY_COLOUR_MATED: &[u8] =
     b"match 2\nboard rect 1 1\nturns yes\nborder one z\nmates z y x w v u t s r q p o n m l k j i h g f e d c b a 9 8 7 6 5 4 3 2 1 0\ntiles 1\ntile zzzz\nend\n";
-
-// A puzzle on three squares of four, the corner at the top and at the left with its two neighbours.
-const CORNER_SHAPE: &[u8] =
-    b"match 2\nboard shape 2 2\nrow ##\nrow #.\nturns no\nborder one 0\nmates\ntiles 3\ntile 0120\ntile 0001\ntile 2000\nend\n";
 
 // Rows of one to three placements.
 const UNEVEN_LIST: &[u8] = b"list 1\narrangements 3\n10.1 2.0\n3.3 4.2 50.0\n6.1\nend\n";
