@@ -3,7 +3,7 @@
 ghost use Rattle.std.specs.Prelude.{◌<◌, ◌^◌, All, IfOk, length};
 ghost use Rattle.cert_tree.specs.Tree.{tree_of, IsNarrow};
 
-use cert_tree::{Head, Lemma, Node, Pairs, assemble, assembly_laws};
+use cert_tree::{AssembleFault, Head, Lemma, Node, Pairs, assemble, assembly_laws};
 use std::alloc::{AllocError, Global};
 use std::test::Fail;
 
@@ -43,6 +43,17 @@ fn assembles_lemmas_by_number(rt: HostRuntime) -> Result<(), Fail> {
     for (number, place) in [(0, 1), (1, 2), (2, 0)] {
         let found = Head::Found(place);
         assert!(rt; lemmas.at(number).tree.trees().next() == found);
+    }
+    for (count, numbers, fault) in [
+        (3u8, [0, 1], AssembleFault::Missing(2)),
+        (2, [0, 0], AssembleFault::Double(0)),
+        (2, [0, 2], AssembleFault::Stranger(2)),
+    ] {
+        let pieces = pieces(alloc, &numbers)?;
+        match assemble(alloc, u32::from(count), Vec::new(alloc), pieces) {
+            Err(AssembleFault::Memory) => return Err(AllocError.into()),
+            outcome => assert!(rt; outcome.err() == Some(fault)),
+        }
     }
     assembly_laws();
     Ok(())

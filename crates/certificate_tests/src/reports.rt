@@ -1,6 +1,9 @@
-//! Tallies are printed. Which worker takes what is chance, where there are several.
+//! Boards and tallies are printed. Which worker takes what is chance, where there are several.
 
-use match_report::{Taken, write_tally};
+use crate::texts::puzzle_of;
+use match_puzzle::Placement;
+use match_report::{Taken, write_board, write_tally};
+use sample_puzzles::TURNING_TRIANGLE;
 use std::alloc::Global;
 use std::test::Fail;
 
@@ -17,7 +20,14 @@ fn tally(alloc: Global, shares: &[&[u32]]) -> Result<Vec<u8>, Fail> {
 }
 
 #[test]
-fn prints_who_took_what(rt: HostRuntime) -> Result<(), Fail> {
+fn prints_boards_and_who_took_what(rt: HostRuntime) -> Result<(), Fail> {
+    let puzzle = puzzle_of(rt.alloc(), TURNING_TRIANGLE)?;
+    let listed = [(2, 2), (1, 0), (0, 0), (3, 1)].map(|(tile, turn)| Placement { tile, turn });
+    let None = puzzle.arrangement_fault(&listed) else {
+        return Err(Fail::from("no arrangement"));
+    };
+    let board = write_board(rt.alloc(), &puzzle, &listed)?;
+    assert!(rt; board.as_slice() == b"0 2.2 020\n1 1.0 100\n2 0.0 123\n3 3.1 003\n".as_slice());
     let tallies: [(&[&[u32]], &[u8]); 3] = [
         (&[&[0, 2], &[]], b"worker 0 took 0 2\nworker 1 took\n"),
         (&[], b""),

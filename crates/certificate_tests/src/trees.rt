@@ -1,7 +1,9 @@
 //! Certificates are read and written.
 
 use crate::texts::{certificate_of, joined};
-use cert_tree::{certificate_laws, head_laws, lemma_laws, write_certificate};
+use cert_tree::{
+    certificate_laws, head_laws, lemma_laws, read_lemma, write_certificate, write_lemma,
+};
 use sample_puzzles::{TURNING_TRIANGLE_CERTIFICATE, TWIN_TILES_CERTIFICATE};
 use std::alloc::{AllocError, Global};
 use std::test::Fail;
@@ -71,6 +73,9 @@ fn writes_certificates_that_were_read(rt: HostRuntime) -> Result<(), Fail> {
         let text = deep(alloc, VERSION_2, branches)?;
         assert!(rt; written(alloc, &text)?.as_slice() == text.as_slice());
     }
+    let line = b"lemma 1 prefix tree c 0 2 s 0 i 0 0\n".as_slice();
+    let lemma = read_lemma(alloc, line)?;
+    assert!(rt; write_lemma(alloc, &lemma)?.as_slice() == line);
     certificate_laws();
     lemma_laws();
     head_laws();
