@@ -80,5 +80,49 @@ fn each_event_comes_again(rt: HostRuntime) -> Result<(), Fail> {
     assert!(rt; state.next() == 2);
     assert!(rt; state.posted() == [4, 9].as_slice());
     assert!(rt; state.done() == [4, 9].as_slice());
+    // two workers at one queue, which the second finds empty in the end
+    let mut state = State::new(rt.alloc(), 2, 1, 2)?;
+    let events = [
+        Event::Deal {
+            queue: 0,
+            number: 5,
+        },
+        Event::Deal {
+            queue: 0,
+            number: 7,
+        },
+        Event::Take {
+            worker: 1,
+            queue: 0,
+        },
+        Event::Take {
+            worker: 0,
+            queue: 0,
+        },
+        Event::Draw { worker: 0 },
+        Event::Post { worker: 1 },
+        Event::Finish { worker: 1 },
+    ];
+    for event in events.iter() {
+        state.step(event)?;
+    }
+    let empty = state.step(&Event::Take {
+        worker: 1,
+        queue: 0,
+    });
+    assert!(rt; empty == Err(StepFault::Empty));
+    for (numbers, wanted) in [
+        (state.dealt(), [5, 7].as_slice()),
+        (state.waiting(0), [].as_slice()),
+        (state.taken(0), [7].as_slice()),
+        (state.taken(1), [5].as_slice()),
+        (state.drawn(0), [0].as_slice()),
+        (state.posted(), [5].as_slice()),
+        (state.done(), [5].as_slice()),
+    ] {
+        assert!(rt; numbers == wanted, "{numbers:?} for {wanted:?}");
+    }
+    assert!(rt; (state.busy(0), state.busy(1)) == (Some(7), None));
+    assert!(rt; (state.next(), state.stopped(1)) == (1, false));
     Ok(())
 }

@@ -1,12 +1,57 @@
-//! The turning triangle, worked out by hand: its tree, how many are found, and what is cited.
+//! The turning triangle, worked out by hand: the sizes of its items, its tree, how many are found, and what is cited.
 
 use cert_tree::{Lemma, Node, Pairs, write_lemma};
 use match_puzzle::Pair;
 use sample_puzzles::turning_triangle;
 use std::alloc::{AllocError, Global};
 use std::test::Fail;
-use xcc_dance::{Cite, Cites, NoCites, Outcome, Search, SearchFault};
+use xcc_dance::{Cite, Cites, Links, NoCites, Outcome, Search, SearchFault};
 use xcc_form::compile;
+
+// The uncovered items, and how many open options each has.
+fn sizes(alloc: Global, links: &Links<'_>) -> Result<Vec<(u32, u32)>, AllocError> {
+    let mut sizes = Vec::new(alloc);
+    let mut next = links.next_item(None);
+    while let Some(item) = next {
+        sizes.push((item, links.size(item)))?;
+        next = links.next_item(Some(item));
+    }
+    Ok(sizes)
+}
+
+// The cells are the items 0 to 3, the tiles 4 to 7. The first option of cell 2 puts tile 0 there, which leaves each
+// other cell and tile one option.
+#[test]
+fn sizes_of_the_turning_triangle(rt: HostRuntime) -> Result<(), Fail> {
+    let alloc = rt.alloc();
+    let puzzle = turning_triangle(alloc)?;
+    let xcc = compile(alloc, &puzzle)?;
+    assert!(rt; xcc.primaries() == 8);
+    let mut links = Links::new(alloc, &xcc)?;
+    let first = [
+        (0, 3),
+        (1, 3),
+        (2, 12),
+        (3, 3),
+        (4, 3),
+        (5, 6),
+        (6, 6),
+        (7, 6),
+    ];
+    assert!(rt; sizes(alloc, &links)?.as_slice() == first.as_slice());
+    assert!(rt; links.branch_item() == Some(0));
+    let Some(option) = links.next_option(2, None) else {
+        return Err(Fail::new("no option of cell 2"));
+    };
+    links.choose(option)?;
+    assert!(rt; links.chosen() == [6].as_slice());
+    let chosen = [0, 1, 3, 5, 6, 7].map(|item| (item, 1));
+    assert!(rt; sizes(alloc, &links)?.as_slice() == chosen.as_slice());
+    links.undo();
+    assert!(rt; links.chosen().is_empty());
+    assert!(rt; sizes(alloc, &links)?.as_slice() == first.as_slice());
+    Ok(())
+}
 
 // The lemma with this tree, as a line.
 fn lemma_line(alloc: Global, tree: Node) -> Result<Vec<u8>, Fail> {
