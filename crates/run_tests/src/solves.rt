@@ -53,15 +53,16 @@ fn is_written(outcome: Result<Status, RunFault>, writer: &Fake<'_>, text: &[u8])
     }
 }
 
-// Whether a check does so, of these documents.
+// Whether a check does so, of these documents, over readers and a writer that move at most so many bytes a call.
 fn checks<R: Threads + Sync>(
     rt: &R,
     alloc: Global,
     documents: &Documents<'_>,
+    most: usize,
     line: &[u8],
 ) -> bool {
-    let mut writer = Fake::new(alloc, b"", 5, usize::MAX);
-    let outcome = check_over(rt, alloc, documents, 7, NEVER, &mut writer);
+    let mut writer = Fake::new(alloc, b"", most, usize::MAX);
+    let outcome = check_over(rt, alloc, documents, most, NEVER, &mut writer);
     is_written(outcome, &writer, line)
 }
 
@@ -105,7 +106,7 @@ fn solves<R: Threads + Wait + Sync>(rt: &R, alloc: Global) -> bool {
         certificate: certificate.written(),
     };
     match outcome {
-        Ok(()) => checks(rt, alloc, &written, b"complete 1\n") && !writer.written().is_empty(),
+        Ok(()) => checks(rt, alloc, &written, 7, b"complete 1\n") && !writer.written().is_empty(),
         Err(RunFault::Write) => [list.errors(), certificate.errors(), writer.errors()].contains(&1),
         Err(fault) => {
             fault == RunFault::Memory
@@ -121,7 +122,9 @@ fn solves<R: Threads + Wait + Sync>(rt: &R, alloc: Global) -> bool {
 #[test]
 fn nothing_written(rt: HostRuntime) {
     for documents in [SQUARE, TWINS, TRIANGLE] {
-        assert!(rt; checks(&rt, rt.alloc(), &documents, b"complete 1\n"));
+        for most in [1, 5, 7] {
+            assert!(rt; checks(&rt, rt.alloc(), &documents, most, b"complete 1\n"));
+        }
     }
     assert!(rt; expands(&rt, rt.alloc()));
     assert!(rt; solves(&rt, rt.alloc()));

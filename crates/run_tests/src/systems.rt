@@ -36,23 +36,27 @@ fn reads_what_the_system_tells(rt: HostRuntime) {
     assert!(rt; SystemLimits::read(&rt).allow_stack(1));
 }
 
-// Gives one byte again and again.
-struct Repeated(u8);
+// Gives ones, but for a two at one place.
+#[derive(Drop)]
+struct TwoAt(usize);
 
-impl RandomSource for Repeated {
+impl RandomSource for TwoAt {
     fn fill_bytes(&self, buf: &mut [u8]) -> io::Result<()> {
-        for byte in buf {
-            *byte = self.0;
+        for (place, byte) in buf.iter_mut().enumerate() {
+            *byte = if place == self.0 { 2 } else { 1 };
         }
         Ok(())
     }
 }
 
+// Each byte of the secret counts.
 #[test]
 fn hashes_otherwise_by_another_secret(rt: HostRuntime) {
-    let once = RandomFold::new(&Repeated(1)).hash_one(5u32);
-    let again = RandomFold::new(&Repeated(1)).hash_one(5u32);
-    let other = RandomFold::new(&Repeated(2)).hash_one(5u32);
+    let once = RandomFold::new(&TwoAt(8)).hash_one(5u32);
+    let again = RandomFold::new(&TwoAt(8)).hash_one(5u32);
     assert!(rt; once == again);
-    assert!(rt; once != other);
+    for place in 0..8 {
+        let other = RandomFold::new(&TwoAt(place)).hash_one(5u32);
+        assert!(rt; once != other, "{place}");
+    }
 }
