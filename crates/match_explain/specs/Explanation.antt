@@ -1,5 +1,5 @@
 -- Why a certificate is refused at a node of a tree.
-use Rattle.std.specs.Prelude.{◌≡◌, ◌++◌, ℕ, List, [], ◌∷◌, Option, MatchOption, Some, None, codes, map, slice_get}
+use Rattle.std.specs.Prelude.{◌≡◌, ◌++◌, ℕ, List, [], ◌∷◌, Option, MatchOption, Some, None, codes, decimal, map, slice_get}
 use Rattle.match_puzzle.specs.Puzzle.{Task}
 use Rattle.match_puzzle.specs.Prefix.{Prefix}
 use Rattle.match_puzzle.specs.Fitting.{AreFitting}
@@ -47,8 +47,22 @@ MarksNode (found number) mark = Unit {0}
 MarksNode (same lemma) mark = mark ≡ None
 MarksNode (image lemma symmetry) mark = mark ≡ None
 
+-- what a certificate that is refused leaves open
+abbrev pub closing_text : List ℕ
+closing_text = codes "This does not say that the list is incomplete." ++ 10 ∷ []
+
+-- The line of words names the lemma by its number. Which place it names, how it calls the node, and its sentence on
+-- the fault are not said here.
+pub record NamesLemma (number : ℕ) (words : List ℕ) : Type 0 where
+  pub line : ℕ
+  pub word : ℕ
+  pub node : List ℕ
+  pub sentence : List ℕ
+  pub parts : words ≡ codes "certificate line " ++ (decimal line ++ (codes ", word " ++ (decimal word
+      ++ (codes ", lemma " ++ (decimal number ++ (codes ": " ++ (node ++ (codes ": " ++ (sentence ++ 10 ∷ [])))))))))
+
 -- The text tells of the node that the fault's path leads to: in words, by the pairs that fit, and by the board, drawn as
--- it is there.
+-- it is there. Then it says what stays open, and no more.
 pub record TellsOfNode (question : Question) (number : ℕ) (fault : TreeFault) (text : List ℕ) : Type 0 where
   pub lemma : Piece
   pub is : slice_get question.lemmas number ≡ Some lemma
@@ -57,14 +71,14 @@ pub record TellsOfNode (question : Question) (number : ℕ) (fault : TreeFault) 
   pub leads : LeadsTo question.puzzle lemma.tree (start_of question.puzzle lemma) fault.path node placed
   pub has : IsNodeFault (setting_at question number) node placed fault.fault
   pub words : List ℕ
+  pub told : NamesLemma number words
   pub fitting : List ℕ
   pub names : NamesWhatFits question.puzzle placed node fault.fault fitting
   pub mark : Option ℕ
   pub marks : MarksNode node mark
   pub drawing : List ℕ
   pub drawn : IsDrawing (record { puzzle = question.puzzle; placed = placed }) mark drawing
-  pub closing : List ℕ
-  pub parts : text ≡ words ++ (fitting ++ (drawing ++ closing))
+  pub parts : text ≡ words ++ (fitting ++ (drawing ++ closing_text))
 
 -- What a text that explains a fault has to tell. The words are not said here.
 abbrev pub IsExplanation : Question → Fault → (text : List ℕ) → Type 0

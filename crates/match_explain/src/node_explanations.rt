@@ -12,7 +12,7 @@ ghost use Rattle.cert_check.specs.Setting.{Setting};
 ghost use Rattle.cert_check.specs.TreeFaults.{IsNodeFault};
 ghost use Rattle.cert_check.specs.declared.faults.Answer.TheVariants.{Refused};
 ghost use Rattle.cert_check.specs.declared.faults.Fault.TheVariants as faults;
-ghost use Rattle.match_explain.specs.Explanation.{NamesFitting, NamesWhatFits, TellsOfNode, miscounted_item};
+ghost use Rattle.match_explain.specs.Explanation.{NamesFitting, NamesLemma, NamesWhatFits, TellsOfNode, miscounted_item};
 
 use crate::explanations::CLOSING;
 use crate::node_sentences::Node;
@@ -53,16 +53,30 @@ pub(crate) fn explain_node(
         .saturating_add(5);
     let sentence = node.sentence(alloc, fault.fault)?;
     let words = node.words(alloc)?;
-    let told = format!(in alloc;
-        "certificate line {line}, word {word}, lemma {number}: {words}: {sentence}\n"
-    )?;
+    let mut text = words_line(alloc, line, word, number, words.as_str(), sentence.as_str())?;
     let fitting = write_what_fits(alloc, &scene, fault.fault)?;
     let drawing = write_drawing(alloc, &scene.partial, node.cell())?;
-    let mut text = Vec::from(told);
     text.extend_from_slice(&fitting)?;
     text.extend_from_slice(&drawing)?;
     text.extend_from_slice(CLOSING.as_bytes())?;
     Ok(text)
+}
+
+// The line of words: where the node stands, of which lemma, what it is, and what is wrong with it.
+fn words_line(
+    alloc: Global,
+    line: u32,
+    word: usize,
+    lemma: u32,
+    node: &str,
+    sentence: &str,
+) -> Result<Vec<u8>, AllocError>
+    ensures { IfOk result (λ words. NamesLemma lemma words.items) }
+{
+    let words = format!(in alloc;
+        "certificate line {line}, word {word}, lemma {lemma}: {node}: {sentence}\n"
+    )?;
+    Ok(Vec::from(words))
 }
 
 // The line of the pairs that fit at a node which says wrongly how many do; nothing of another fault.

@@ -8,7 +8,7 @@ use Rattle.cert_check.specs.Derivation.{start_of}
 use Rattle.cert_check.specs.Setting.{setting_at}
 use Rattle.cert_check.specs.declared.faults.Fault.TheVariants as faults
 use Rattle.match_show.specs.Drawing.{IsDrawing}
-use Rattle.match_explain.specs.Explanation.{MarksNode, NamesWhatFits}
+use Rattle.match_explain.specs.Explanation.{MarksNode, NamesWhatFits, closing_text}
 use Rattle.match_explain.specs.Scene.{IsPath, LeadsTo}
 use Rattle.match_explain.proofs.NodeLemmas.{four_parts, has_fault, leads_to_fault}
 use Rattle.match_explain.proofs.node_explanations.explain_node.Goals as goal
@@ -47,12 +47,11 @@ returns c =
     let at = subst (λ (ls : List Piece). slice_get ls c.args.number ≡ Some lemma) c.lemmas.ensures.lemmas c.at-lemma.ensures in
     let leads : LeadsTo question.puzzle lemma.tree (start_of question.puzzle lemma) c.args.fault.now.path (first scene.trees) scene.partial.placed = rw (← c.steps.ensures, ← c.puzzle-2.ensures) c.in_ok-scene.ensures.leads in
     let puzzle : scene.partial.puzzle ≡ question.puzzle = c.in_ok-scene.ensures.puzzle ∙ c.puzzle-2.ensures in
-    let words = c.from-text.result.items in
+    let words = c.in_ok-text.text.items in
     let fitting = c.in_ok-fitting.fitting.items in
     let drawing = c.in_ok-drawing.drawing.items in
-    let closing = c.as_bytes.result.now in
-    let written : c.extend_from_slice-3.new.self.items ≡ ((words ++ fitting) ++ drawing) ++ closing =
-    rw (c.in_ok-extend_from_slice-3.ensures.items, c.in_ok-extend_from_slice-2.ensures.items, c.in_ok-extend_from_slice.ensures.items, c.deref.ensures.value, c.deref-2.ensures.value) refl in
+    let written : c.extend_from_slice-3.new.self.items ≡ ((words ++ fitting) ++ drawing) ++ closing_text =
+    rw (c.in_ok-extend_from_slice-3.ensures.items, c.in_ok-extend_from_slice-2.ensures.items, c.in_ok-extend_from_slice.ensures.items, c.deref.ensures.value, c.deref-2.ensures.value, c.as_bytes.ensures.value) refl in
     record {
       lemma = lemma;
       is = at;
@@ -61,12 +60,12 @@ returns c =
       leads = leads;
       has = has_fault question c.args.number c.args.fault.now lemma (first scene.trees) scene.partial.placed at c.requires.occurs leads;
       words = words;
+      told = c.in_ok-text.ensures;
       fitting = fitting;
       names = subst (λ (p : Task). NamesWhatFits p scene.partial.placed (first scene.trees) c.args.fault.now.fault c.in_ok-fitting.fitting.items) puzzle c.in_ok-fitting.ensures;
       mark = c.cell.result;
       marks = subst (λ (trees : Forest). MarksNode (first trees) c.cell.result) c.head.ensures.1 (c.cell.ensures c.head.ensures.0);
       drawing = drawing;
       drawn = subst (λ (p : Task). IsDrawing (record { puzzle = p; placed = scene.partial.placed }) c.cell.result c.in_ok-drawing.drawing.items) puzzle c.in_ok-drawing.ensures;
-      closing = closing;
-      parts = written ∙ four_parts words fitting drawing closing;
+      parts = written ∙ four_parts words fitting drawing closing_text;
     }
