@@ -1,25 +1,44 @@
 -- Symmetries of a puzzle have a spelling.
-use Rattle.std.proofs.Common.{◌<◌, ℕ, suc, List, [], ◌∷◌, All, length, arith}
+use Rattle.std.proofs.Common.{◌<◌, ℕ, suc, List, [], ◌∷◌, All, length, arith, subst}
 use Rattle.std.specs.Prelude.{slice_index}
 use Rattle.std.specs.List.{AllByRecursion}
 use Rattle.std.proofs.lemmas.List.Elements.{recursion_from_All}
+use Rattle.match_board.specs.Board.{cell_count}
 use Rattle.match_puzzle.specs.Puzzle.{IsPuzzle, Task}
-use Rattle.puzzle_symmetry.specs.Symmetry.{IsSymmetry}
+use Rattle.match_puzzle.proofs.Words.{few_sides}
+use Rattle.match_text.specs.declared.ranges.TheConstants.{SECOND}
+use Rattle.match_symmetry.specs.Suggestions.{HasLeastShift}
+use Rattle.puzzle_symmetry.specs.Symmetry.{IsPermutation, IsSymmetry}
 use Rattle.puzzle_symmetry.specs.declared.lines.SymmetryLine.{SymmetryLine}
 use Rattle.puzzle_symmetry.proofs.FaultLemmas.{few_colours}
-use Rattle.cert_tree.specs.CertificateSpelling.{AreColourImagesWithin}
+use Rattle.cert_tree.specs.CertificateSpelling.{AreColourImagesWithin, AreImagesWithin, IsSymmetryWithin}
 use Rattle.cert_tree.proofs.WiderLemmas.{each_within}
 
-each_below : (images : List ℕ) (most : ℕ) → ((i : ℕ) → i < length images → slice_index images i < most) → AllByRecursion (λ n. n < most) images
-each_below [] most below = tt
-each_below (image ∷ images) most below = (below 0 (omega arith), each_below images most (λ i lt. below (suc i) (omega (arith, lt))))
+each_at : (P : ℕ → Type 0) (images : List ℕ) → ((i : ℕ) → i < length images → P (slice_index images i)) → AllByRecursion P images
+each_at P [] at = tt
+each_at P (image ∷ images) at = (at 0 (omega arith), each_at P images (λ i lt. at (suc i) (omega (arith, lt))))
 
-colours_within : (p : Task) → IsPuzzle p → (g : SymmetryLine) → IsSymmetry p g → AreColourImagesWithin g.colours
-colours_within p puzzle g symmetry =
-    let few = few_colours p puzzle symmetry.counted in
-    let long = symmetry.colours.long in
-    (omega (arith, long, few), each_below g.colours _ (λ i lt. let below = symmetry.colours.below i (omega (arith, lt, long)) in omega (arith, below, few)))
+module _ (p : Task) (puzzle : IsPuzzle p) where
+  images_within : (images : List ℕ) → IsPermutation (cell_count p.board) images → AreImagesWithin SECOND images
+  images_within images is =
+      let most = puzzle.board.most in
+      (omega (arith, is.long, most), each_at _ images (λ i lt. let below = is.below i (omega (arith, lt, is.long)) in omega (arith, below, most)))
 
--- the colours of each line are within the limits of a text
-pub lines_within : (p : Task) → IsPuzzle p → (lines : List SymmetryLine) → All (IsSymmetry p) lines → AllByRecursion (λ (g : SymmetryLine). AreColourImagesWithin g.colours) lines
-lines_within p puzzle lines symmetries = each_within (IsSymmetry p) (λ g. AreColourImagesWithin g.colours) (colours_within p puzzle) lines (recursion_from_All (IsSymmetry p) lines symmetries)
+  symmetry_within : (g : SymmetryLine) → IsSymmetry p g → HasLeastShift p g → IsSymmetryWithin SECOND g
+  symmetry_within g symmetry least =
+      let few = few_colours p puzzle symmetry.counted in
+      let long = symmetry.colours.long in
+      record {
+        shift = omega (arith, least, few_sides p.board);
+        cells = images_within g.cells symmetry.cells;
+        colours = (omega (arith, long, few), each_at _ g.colours (λ i lt. let below = symmetry.colours.below i (omega (arith, lt, long)) in omega (arith, below, few)));
+        tiles = images_within g.tiles (subst (λ n. IsPermutation n g.tiles) puzzle.tiles symmetry.tiles);
+      }
+
+  -- each line is within the limits of version 2
+  pub lines_within : (lines : List SymmetryLine) → All (IsSymmetry p) lines → All (HasLeastShift p) lines → All (IsSymmetryWithin SECOND) lines
+  lines_within lines symmetries shifts = λ k d lt. symmetry_within _ (symmetries k d lt) (shifts k d lt)
+
+-- and so its colours
+pub colours_within : (lines : List SymmetryLine) → All (IsSymmetryWithin SECOND) lines → AllByRecursion (λ (g : SymmetryLine). AreColourImagesWithin g.colours) lines
+colours_within lines within = each_within (IsSymmetryWithin SECOND) (λ g. AreColourImagesWithin g.colours) (λ g is. is.colours) lines (recursion_from_All (IsSymmetryWithin SECOND) lines within)

@@ -5,13 +5,14 @@ use Rattle.match_puzzle.specs.Puzzle.{Task}
 use Rattle.match_puzzle.specs.Prefix.{empty_prefix}
 use Rattle.match_text.specs.Puzzles.{PuzzleReads}
 use Rattle.match_text.specs.declared.faults.PuzzleTextFault.TheVariants as puzzles
+use Rattle.match_text.specs.declared.ranges.TheConstants.{SECOND}
 use Rattle.match_show.specs.Drawing.{IsDrawing}
 use Rattle.match_show.specs.Facts.{IsFacts, number_line}
 use Rattle.match_text.specs.Spelling.{line_text}
 use Rattle.xcc_form.specs.Options.{Compiled, HasTooManyEntries, IsCompiled, entries_of}
 use Rattle.puzzle_symmetry.specs.Symmetry.{IsSymmetry}
 use Rattle.puzzle_symmetry.specs.declared.lines.SymmetryLine.{SymmetryLine}
-use Rattle.cert_tree.specs.CertificateSpelling.{symmetries_spelling}
+use Rattle.cert_tree.specs.CertificateSpelling.{symmetries_spelling, IsSymmetryWithin}
 use Rattle.match_runs.specs.declared.description_runs.Description.{Description}
 use Rattle.match_runs.specs.declared.description_runs.Description.TheVariants as descriptions
 use Rattle.match_runs.specs.declared.faults.Document.TheVariants as documents
@@ -40,10 +41,12 @@ pub record IsBoardText (puzzle : Task) (text : List ℕ) : Type 0 where
   pub counted : CountsOptions puzzle options
   pub parts : text ≡ drawing ++ (facts ++ options)
 
--- The text has lines of symmetries of the puzzle, at most so many as a certificate may have, as a certificate has them.
+-- The text has lines of symmetries of the puzzle, as a certificate of version 2 has them: at most so many as there may
+-- be, each within its limits, and spelled as there.
 pub record IsSymmetriesText (puzzle : Task) (text : List ℕ) : Type 0 where
   pub lines : List SymmetryLine
   pub symmetries : All (IsSymmetry puzzle) lines
+  pub within : All (IsSymmetryWithin SECOND) lines
   pub few : length lines ≤ MOST_SYMMETRIES
   pub spelled : text ≡ symmetries_spelling lines
 
