@@ -6,6 +6,7 @@ pub mod RoomLemmas
 pub mod BackLemmas
 pub mod GrowingLemmas
 pub mod PlacingLemmas
+pub mod OpenFittingLemmas
 pub mod WithinLemmas
 pub mod SearchTreeLemmas
 pub mod WalkLemmas

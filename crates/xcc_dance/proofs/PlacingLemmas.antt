@@ -133,7 +133,7 @@ module _ (x : Compiled) (is : IsCompiled x) where
 
   module _ (pairs : List Pair) (fit : FitInTurn x.puzzle pairs) where
     -- a pair stands once it is placed
-    stands_after : (n j : ℕ) (z : Pair) → n ≤ length pairs → j < n → slice_get pairs j ≡ Some z → Has (prefix_of x.puzzle (take n pairs)) z.cell z.placement
+    pub stands_after : (n j : ℕ) (z : Pair) → n ≤ length pairs → j < n → slice_get pairs j ≡ Some z → Has (prefix_of x.puzzle (take n pairs)) z.cell z.placement
     stands_after zero j z le lt at = absurd (omega (arith, lt))
     stands_after (suc n) j z le lt at =
         let y = read_in pairs n (omega (arith, le)) in

@@ -2,6 +2,7 @@ pub mod Clashes
 pub mod Chosen
 pub mod Placing
 pub mod Found
+pub mod FittingOptions
 pub mod Progress
 pub mod SearchTree
 pub mod Unfinished

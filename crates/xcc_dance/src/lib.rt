@@ -14,6 +14,9 @@ mod searching;
 pub use chooses::{Chooses, FewestOptions, LeastLeft};
 pub use cites::{Cite, Cites, NoCites};
 pub use faults::SearchFault;
-pub use laws::whole_selections_are_solutions;
+pub use laws::{
+    branch_items_have_the_fewest, open_options_are_listed, open_options_are_those_that_fit,
+    options_stand_as_pairs, uncovered_items_are_open, whole_selections_are_solutions,
+};
 pub use links::{Links, links_with_nothing_chosen_are_one};
 pub use searches::{Outcome, Search, links_of_ready_searches_are_one};
