@@ -2,7 +2,7 @@
 use Rattle.std.proofs.Common.{◌≡◌, ◌≢◌, ◌<◌, ◌≤◌, ◌+◌, ◌++◌, ◌∷◌, ◌&&◌, [], ℕ, zero, suc, true, false, eqb, List, Option, Some, None, length, length-append, slice_get, take, arith, refl, ap, inl, inr, sym, ◌∙◌, subst, ⊎_elim, add-one}
 use Rattle.std.proofs.lemmas.Bool.Decides.{eqb_tells}
 use Rattle.std.proofs.lemmas.Option.{slice_get_within}
-use Rattle.std.proofs.lemmas.List.{length-replicate}
+use Rattle.std.proofs.lemmas.List.{length-replicate, length-take}
 use Rattle.std.proofs.lemmas.Bool.{false≢true, eq-eqb}
 use Rattle.match_board.specs.Board.{Meets}
 use Rattle.match_board.proofs.Places.{Meets-turned}
@@ -201,6 +201,12 @@ pairs_pushed x chosen pairs option y w of = record {
       (λ new'. subst (λ q. IsPairOf x o q) (sym new'.1) (subst (λ n. IsPairOf x n y) (sym new.1) w))
       (pushed_at pairs y place z at'))
       (pushed_at chosen option place o at);
+}
+
+pub pairs_less : (x : Compiled) (n : ℕ) (chosen : List ℕ) (pairs : List Pair) → ArePairsOf x chosen pairs → ArePairsOf x (take n chosen) (take n pairs)
+pairs_less x n chosen pairs of = record {
+  long = let long = of.long in omega (arith, long, length-take n chosen, length-take n pairs);
+  each = λ place o z at at'. of.each place o z (taken_at chosen n place o at).1 (taken_at pairs n place z at').1;
 }
 
 -- what is found from the options of a prefix extends it

@@ -1,5 +1,5 @@
 -- Chosen options of a compiled puzzle, and what to branch on.
-use Rattle.std.specs.Prelude.{◌≡◌, ◌⊎◌, ◌<◌, ◌≤◌, ◌++◌, ◌∷◌, [], ℕ, List, Option, IfSome, Contains, length}
+use Rattle.std.specs.Prelude.{◌≡◌, ◌⊎◌, ◌<◌, ◌≤◌, ◌-◌, ◌++◌, ◌∷◌, [], ℕ, zero, suc, List, Option, IfSome, Contains, length, take}
 use Rattle.match_board.specs.Listing.{IsListing}
 use Rattle.xcc_form.specs.ExactCover.{Cover, HasPrimary}
 use Rattle.xcc_form.specs.Options.{Compiled, IsCompiled, cover_of}
@@ -18,6 +18,19 @@ pub record IsSelection (x : Compiled) (chosen : List ℕ) : Type 0 where
 -- one option more, the last
 abbrev pub with_option : Selection → (option : ℕ) → Selection
 with_option s option = record { compiled = s.compiled; chosen = s.chosen ++ option ∷ [] }
+
+-- all but the last
+abbrev pub without_last : Selection → Selection
+without_last s = record { compiled = s.compiled; chosen = take (length s.chosen - 1) s.chosen }
+
+-- the state before the last so many choices, of which each is taken back by the same step
+abbrev pub before_last : {S : Type 0} → (taken_back : S → S) → (choices : ℕ) → S → S
+before_last taken_back zero s = s
+before_last taken_back (suc choices) s = before_last taken_back choices (taken_back s)
+
+-- the state before all choices
+abbrev pub before_any : {S : Type 0} → (selection : S → Selection) → (taken_back : S → S) → S → S
+before_any selection taken_back s = before_last taken_back (length (selection s).chosen) s
 
 -- A chosen option has the item.
 abbrev pub IsCovered : Cover → (chosen : List ℕ) → (item : ℕ) → Type 0

@@ -1,5 +1,5 @@
 -- Link arrays with options chosen, and how they stood before the last choice.
-use Rattle.std.specs.Prelude.{◌-◌, ℕ, zero, suc, List, length, take, drop}
+use Rattle.std.specs.Prelude.{◌-◌, ℕ, List, length, take, drop}
 use Rattle.xcc_form.specs.Options.{Compiled, IsCompiled}
 use Rattle.xcc_dance.specs.declared.links.tables.Entry.{Entry}
 use Rattle.xcc_dance.specs.declared.links.tables.NodeTable.{NodeTable}
@@ -53,15 +53,6 @@ taken_back s = record {
   trail = take (last_mark s) s.trail;
   marks = take (length s.chosen - 1) s.marks;
 }
-
--- the state before the last so many choices
-abbrev pub before_last : (choices : ℕ) → LinkState → LinkState
-before_last zero s = s
-before_last (suc choices) s = before_last choices (taken_back s)
-
--- the state before all choices
-abbrev pub before_any : LinkState → LinkState
-before_any s = before_last (length s.chosen) s
 
 -- The nodes are those of the compiled puzzle, and the arrays are right for what is chosen, as they were before each
 -- choice.

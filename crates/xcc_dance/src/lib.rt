@@ -6,6 +6,7 @@ mod cites;
 mod faults;
 mod laws;
 mod links;
+mod open_options;
 mod paths;
 mod progress;
 mod searches;
@@ -19,4 +20,5 @@ pub use laws::{
     options_stand_as_pairs, uncovered_items_are_open, whole_selections_are_solutions,
 };
 pub use links::{Links, links_with_nothing_chosen_are_one};
+pub use open_options::{OpenOptions, left_by};
 pub use searches::{Outcome, Search, links_of_ready_searches_are_one};

@@ -1,9 +1,7 @@
 //! Chosen options, and link arrays that tell which options still go with them.
 
-ghost use Rattle.std.specs.Prelude.{◌≡◌, ◌<◌, ◌≤◌, ◌*◌, ℕ, [], IfOk, IfSome, OnErr, MatchOption, length};
-ghost use Rattle.match_board.specs.Board.{cell_count};
-ghost use Rattle.xcc_form.specs.Options.{IsCompiled, cover_of};
-ghost use Rattle.xcc_form.specs.Correspondence.{IsPairOf, IsSolutionOf};
+ghost use Rattle.std.specs.Prelude.{◌≡◌, ◌<◌, [], IfOk, IfSome, OnErr, MatchOption, length};
+ghost use Rattle.xcc_form.specs.Options.{cover_of};
 ghost use Rattle.xcc_dance.specs.Clashes.{IsOpen, IsOpenAt};
 ghost use Rattle.xcc_dance.specs.Chosen.{IsSelection, IsUncovered, AreAllCovered, with_option};
 ghost use Rattle.xcc_dance.specs.Chosen.{HasSize, IsToBranchOn, IsNextItem, IsLastItem, IsNext, IsLast};
@@ -14,12 +12,10 @@ mod committing;
 mod tables;
 
 use arrays::LinkArrays;
-use match_board::limits::MOST_CELLS;
-use match_puzzle::{Arrangement, Pair};
 use std::alloc::{AllocError, Global};
 use std::marker::Model;
 use tables::NodeTable;
-use xcc_form::{FormFault, Xcc};
+use xcc_form::Xcc;
 
 /// Options chosen of a compiled puzzle, no two of which clash: they share no primary item, and give no secondary item
 /// two colours. The other options are in linked lists by item: dancing links with colours (Knuth, TAOCP 4B, 7.2.2.1,
@@ -70,6 +66,13 @@ impl<'a> Links<'a> {
             marks,
             chosen,
         })
+    }
+
+    /// The compiled puzzle.
+    pub fn xcc(&self) -> &'a Xcc<'a>
+        ensures { result.now ≡ self.now.compiled }
+    {
+        self.xcc
     }
 
     /// The chosen options, in the order of choosing.
@@ -187,61 +190,6 @@ impl<'a> Links<'a> {
         self.chosen.pop();
         if let Some(mark) = self.marks.pop() {
             self.arrays.show_back(&self.table, mark);
-        }
-    }
-
-    /// How much is left by an open option: one, and the fewest open options that an uncovered item has where it is
-    /// chosen too.
-    ///
-    /// An error where memory is refused.
-    pub fn left_by(&mut self, option: u32) -> Result<u32, AllocError>
-        requires { IsOpen (cover_of self.old.compiled) self.old.chosen option }
-        ensures { self.new ≡ self.old }
-    {
-        self.choose(option)?;
-        let fewest = match self.branch_item() {
-            None => 0,
-            Some(item) => self.size(item),
-        };
-        self.undo();
-        Ok(fewest.saturating_add(1))
-    }
-
-    // How many cells there are, which are the first items.
-    pub(crate) fn cells(&self) -> u16
-        ensures count { result ≡ cell_count self.now.compiled.puzzle.board }
-        ensures most { result ≤ MOST_CELLS }
-        ensures few { (item : ℕ) → item < (cover_of self.now.compiled).primaries → item < 2 * result }
-    {
-        self.xcc.cells()
-    }
-
-    // How many options there are, chosen or not.
-    pub(crate) fn options(&self) -> u32
-        ensures count { result ≡ length self.now.compiled.options }
-        ensures compiled { IsCompiled self.now.compiled }
-    {
-        self.xcc.options()
-    }
-
-    // The cell and the placement of an option.
-    pub(crate) fn pair(&self, option: u32) -> Pair
-        requires { option < length self.now.compiled.options }
-        ensures { IsPairOf self.now.compiled option result }
-    {
-        self.xcc.pair(option)
-    }
-
-    // The arrangement of the chosen options, which cover all primary items.
-    pub(crate) fn arrangement(&self, alloc: Global) -> Result<Arrangement, AllocError>
-        requires { AreAllCovered (cover_of self.now.compiled) self.now.chosen }
-        ensures { IfOk result (λ a. IsSolutionOf self.now.compiled a self.now.chosen) }
-    {
-        match self.xcc.arrangement_of(alloc, self.chosen()) {
-            Ok(arrangement) => Ok(arrangement),
-            // whole selections are solutions
-            Err(FormFault::NotASolution) => unreachable!(),
-            Err(FormFault::Memory) => Err(AllocError),
         }
     }
 }

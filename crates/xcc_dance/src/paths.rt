@@ -1,107 +1,117 @@
 //! The way from the root of a search to a node: the options that are chosen on it, and their pairs.
 
-ghost use Rattle.std.specs.Prelude.{◌≡◌, ◌<◌, [], IfOk, IfSome, MatchOption, OnErr, length};
+ghost use Rattle.std.specs.Prelude.{◌≡◌, ◌<◌, ◌≤◌, ◌*◌, ℕ, [], IfOk, IfSome, MatchOption, OnErr, length};
+ghost use Rattle.match_board.specs.Board.{cell_count};
 ghost use Rattle.xcc_form.specs.Options.{IsCompiled, IsOptionPair, cover_of};
-ghost use Rattle.xcc_form.specs.Correspondence.{IsPairOf};
+ghost use Rattle.xcc_form.specs.Correspondence.{IsPairOf, IsSolutionOf};
 ghost use Rattle.xcc_dance.specs.Clashes.{IsOpen};
-ghost use Rattle.xcc_dance.specs.Chosen.{IsSelection, IsUncovered, AreAllCovered, with_option};
-ghost use Rattle.xcc_dance.specs.LinkStates.{selection_of, taken_back, before_any};
+ghost use Rattle.xcc_dance.specs.Chosen.{IsSelection, IsUncovered, AreAllCovered, with_option, before_any};
 ghost use Rattle.xcc_dance.specs.Placing.{ArePairsOf, FitInTurn};
 
 use crate::chooses::Chooses;
-use crate::links::Links;
-use match_puzzle::Pair;
+use crate::open_options::OpenOptions;
+use match_board::limits::MOST_CELLS;
+use match_puzzle::{Arrangement, Pair};
 use std::alloc::{AllocError, Global};
 use std::marker::Model;
-use xcc_form::Xcc;
+use xcc_form::FormFault;
 
-// Chosen options with their pairs, in the order of choosing. It is seen as the link arrays.
+// Chosen options with their pairs, in the order of choosing. It is seen as the engine that keeps the options.
 #[derive(Drop)]
-pub(crate) struct SearchPath<'a> {
-    links: Links<'a>,
+pub(crate) struct SearchPath<E: OpenOptions + Drop> {
+    engine: E,
     pairs: Vec<Pair>,
 }
 
-impl<'a> Model for SearchPath<'a> {
-    ghost use Rattle.xcc_dance.specs.LinkStates.{LinkState};
+impl<E: OpenOptions + Drop> Model for SearchPath<E> {
     ghost use Rattle.xcc_dance.specs.Placing.{ArePairsOf};
 
-    ghost Value = { LinkState };
+    ghost Value = { E };
 
-    ghost view = { λ p. p.links };
+    ghost view = { λ p. p.engine };
 
-    ghost invariant = { λ p. ArePairsOf p.links.compiled p.links.chosen p.pairs.items };
+    ghost invariant = { λ p. let s = E.selection p.engine in ArePairsOf s.compiled s.chosen p.pairs.items };
 }
 
-impl<'a> SearchPath<'a> {
+impl<E: OpenOptions + Drop> SearchPath<E> {
     // Nothing is chosen yet.
-    pub(crate) fn new(alloc: Global, xcc: &'a Xcc<'a>) -> Result<SearchPath<'a>, AllocError>
-        ensures { IfOk result (λ p. selection_of p ≡ record { compiled = xcc.now; chosen = [] }) }
+    pub(crate) fn new(alloc: Global, engine: E) -> Result<SearchPath<E>, AllocError>
+        requires { (E.selection engine).chosen ≡ [] }
+        ensures { IfOk result (λ p. p ≡ engine) }
     {
-        let links = Links::new(alloc, xcc)?;
-        let pairs = Vec::with_capacity(alloc, usize::from(links.cells()))?;
-        Ok(SearchPath { links, pairs })
+        let pairs = Vec::with_capacity(alloc, usize::from(engine.xcc().cells()))?;
+        Ok(SearchPath { engine, pairs })
     }
 
     // What is chosen, and what is open beside it.
-    pub(crate) fn links(&self) -> &Links<'a>
+    pub(crate) fn engine(&self) -> &E
         ensures same { result.now ≡ self.now }
-        ensures right { IsSelection self.now.compiled self.now.chosen }
+        ensures right { let s = E.selection self.now in IsSelection s.compiled s.chosen }
     {
-        let _right = self.links.chosen();
-        &self.links
+        let _right = self.engine.chosen();
+        &self.engine
+    }
+
+    // How many cells there are, which are the first items.
+    pub(crate) fn cells(&self) -> u16
+        ensures count { result ≡ cell_count (E.selection self.now).compiled.puzzle.board }
+        ensures most { result ≤ MOST_CELLS }
+        ensures few { (item : ℕ) → item < (cover_of (E.selection self.now).compiled).primaries → item < 2 * result }
+    {
+        self.engine.xcc().cells()
     }
 
     // The pairs of the chosen options.
     pub(crate) fn pairs(&self) -> &[Pair]
-        ensures pairs { ArePairsOf self.now.compiled self.now.chosen result.now }
-        ensures fit { FitInTurn self.now.compiled.puzzle result.now }
+        ensures pairs { let s = E.selection self.now in ArePairsOf s.compiled s.chosen result.now }
+        ensures fit { FitInTurn (E.selection self.now).compiled.puzzle result.now }
     {
-        let _right = self.links.chosen();
+        let _right = self.engine.chosen();
         &self.pairs
     }
 
     // The item to branch on, by a rule.
     pub(crate) fn choose_item<R: Chooses>(&mut self, rule: &R) -> Result<Option<u32>, AllocError>
         ensures same { self.new ≡ self.old }
-        ensures uncovered { IfOk result (λ o. MatchOption o
-            (AreAllCovered (cover_of self.old.compiled) self.old.chosen)
-            (IsUncovered (cover_of self.old.compiled) self.old.chosen)) }
-        ensures picked { IfOk result (λ o. IfSome o (R.picks rule.now (selection_of self.old))) }
+        ensures uncovered { let s = E.selection self.old in IfOk result (λ o. MatchOption o
+            (AreAllCovered (cover_of s.compiled) s.chosen)
+            (IsUncovered (cover_of s.compiled) s.chosen)) }
+        ensures picked { IfOk result (λ o. IfSome o (R.picks rule.now (E.selection self.old))) }
     {
-        rule.choose_item(&mut self.links)
+        rule.choose_item(&mut self.engine)
     }
 
     // Chooses an open option. Where memory is refused, nothing changes.
     pub(crate) fn choose(&mut self, option: u32) -> Result<(), AllocError>
-        requires { IsOpen (cover_of self.old.compiled) self.old.chosen option }
-        ensures chosen { IfOk result (λ _. selection_of self.new ≡ with_option (selection_of self.old) option) }
-        ensures before { IfOk result (λ _. taken_back self.new ≡ self.old) }
-        ensures room { IfOk result (λ _. length self.old.chosen < length self.old.compiled.options) }
+        requires { let s = E.selection self.old in IsOpen (cover_of s.compiled) s.chosen option }
+        ensures chosen { IfOk result (λ _. E.selection self.new ≡ with_option (E.selection self.old) option) }
+        ensures before { IfOk result (λ _. E.taken_back self.new ≡ self.old) }
+        ensures room { IfOk result
+            (λ _. length (E.selection self.old).chosen < length (E.selection self.old).compiled.options) }
         ensures refused { OnErr result (self.new ≡ self.old) }
     {
         self.pairs.reserve(1)?;
-        self.links.choose(option)?;
-        self.pairs.push_reserved(self.links.pair(option));
+        self.engine.choose(option)?;
+        self.pairs.push_reserved(self.engine.xcc().pair(option));
         Ok(())
     }
 
     // Takes back the option that was chosen last. There is one.
     pub(crate) fn undo(&mut self)
-        requires { 0 < length self.old.chosen }
-        ensures { self.new ≡ taken_back self.old }
+        requires { 0 < length (E.selection self.old).chosen }
+        ensures { self.new ≡ E.taken_back self.old }
     {
-        self.links.undo();
+        self.engine.undo();
         self.pairs.pop();
     }
 
     // Chooses the options of these pairs, where nothing is chosen.
     pub(crate) fn choose_all(&mut self, pairs: &[Pair]) -> Result<(), AllocError>
-        requires empty { self.old.chosen ≡ [] }
-        requires fit { FitInTurn self.old.compiled.puzzle pairs.now }
-        ensures compiled { self.new.compiled ≡ self.old.compiled }
-        ensures pairs { IfOk result (λ _. ArePairsOf self.new.compiled self.new.chosen pairs.now) }
-        ensures before { IfOk result (λ _. before_any self.new ≡ self.old) }
+        requires empty { (E.selection self.old).chosen ≡ [] }
+        requires fit { FitInTurn (E.selection self.old).compiled.puzzle pairs.now }
+        ensures compiled { (E.selection self.new).compiled ≡ (E.selection self.old).compiled }
+        ensures pairs { let s = E.selection self.new in IfOk result (λ _. ArePairsOf s.compiled s.chosen pairs.now) }
+        ensures before { IfOk result (λ _. before_any E.selection E.taken_back self.new ≡ self.old) }
     {
         for pair in pairs {
             let option = self.option_of(*pair);
@@ -112,21 +122,40 @@ impl<'a> SearchPath<'a> {
 
     // Takes back all options.
     pub(crate) fn undo_all(&mut self)
-        ensures { self.new ≡ before_any self.old }
+        ensures { self.new ≡ before_any E.selection E.taken_back self.old }
     {
         while !self.pairs.is_empty() {
             self.undo();
         }
     }
 
+    // The arrangement of the chosen options, which cover all primary items.
+    pub(crate) fn arrangement(&self, alloc: Global) -> Result<Arrangement, AllocError>
+        requires { let s = E.selection self.now in AreAllCovered (cover_of s.compiled) s.chosen }
+        ensures { let s = E.selection self.now in IfOk result (λ a. IsSolutionOf s.compiled a s.chosen) }
+    {
+        match self
+            .engine
+            .xcc()
+            .arrangement_of(alloc, self.engine.chosen())
+        {
+            Ok(arrangement) => Ok(arrangement),
+            // whole selections are solutions
+            Err(FormFault::NotASolution) => unreachable!(),
+            Err(FormFault::Memory) => Err(AllocError),
+        }
+    }
+
     // The option of a pair that is legal and shows what the border asks.
     fn option_of(&self, pair: Pair) -> u32
-        requires { IsOptionPair self.now.compiled.puzzle pair }
-        ensures pair { IsPairOf self.now.compiled result pair }
-        ensures compiled { IsCompiled self.now.compiled }
+        requires { IsOptionPair (E.selection self.now).compiled.puzzle pair }
+        ensures pair { IsPairOf (E.selection self.now).compiled result pair }
+        ensures compiled { IsCompiled (E.selection self.now).compiled }
     {
-        for option in 0..self.links.options() {
-            if self.links.pair(option) == pair {
+        let _right = self.engine.chosen();
+        let xcc = self.engine.xcc();
+        for option in 0..xcc.options() {
+            if xcc.pair(option) == pair {
                 return option;
             }
         }

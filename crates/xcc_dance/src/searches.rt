@@ -10,7 +10,7 @@ ghost use Rattle.xcc_dance.specs.SearchTree.{picks_fewest};
 use crate::chooses::{Chooses, FewestOptions};
 use crate::cites::Cites;
 use crate::faults::SearchFault;
-use crate::links::links_with_nothing_chosen_are_one;
+use crate::links::{Links, links_with_nothing_chosen_are_one};
 use crate::paths::SearchPath;
 use crate::progress::Progress;
 use crate::searching::walk;
@@ -38,7 +38,7 @@ pub enum Outcome {
 #[derive(Drop)]
 pub struct Search<'a> {
     alloc: Global,
-    path: SearchPath<'a>,
+    path: SearchPath<Links<'a>>,
     branches: u32,
     failed: bool,
 }
@@ -64,7 +64,7 @@ impl<'a> Search<'a> {
     {
         Ok(Search {
             alloc,
-            path: SearchPath::new(alloc, xcc)?,
+            path: SearchPath::new(alloc, Links::new(alloc, xcc)?)?,
             branches: 0,
             failed: false,
         })
@@ -160,5 +160,5 @@ pub fn links_of_ready_searches_are_one(first: &Search<'_>, second: &Search<'_>)
     requires second { second.now.failed ≡ false }
     ensures { second.now.links ≡ first.now.links }
 {
-    links_with_nothing_chosen_are_one(first.path.links(), second.path.links());
+    links_with_nothing_chosen_are_one(first.path.engine(), second.path.engine());
 }

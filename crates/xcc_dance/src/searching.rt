@@ -5,7 +5,6 @@ ghost use Rattle.match_puzzle.specs.declared.placements.Pair.{Pair};
 ghost use Rattle.xcc_form.specs.Options.{cover_of};
 ghost use Rattle.cert_tree.specs.Tree.{tree_of, forest_of};
 ghost use Rattle.xcc_dance.specs.Chosen.{IsUncovered};
-ghost use Rattle.xcc_dance.specs.LinkStates.{selection_of};
 ghost use Rattle.xcc_dance.specs.Placing.{FitInTurn};
 ghost use Rattle.xcc_dance.specs.Found.{IsDeadAt, IsBranchOn, IsCitation};
 ghost use Rattle.xcc_dance.specs.Progress.{GoesOn, IsTreeOf, AreTreesOf};
@@ -14,6 +13,7 @@ ghost use Rattle.xcc_dance.specs.Unfinished.{IsNotCited, IsUnfinished, AreUnfini
 
 use crate::chooses::Chooses;
 use crate::cites::{Cite, Cites};
+use crate::open_options::OpenOptions;
 use crate::paths::SearchPath;
 use crate::progress::Progress;
 use cert_tree::{Children, Node};
@@ -22,33 +22,32 @@ use std::alloc::{AllocError, Global};
 
 // The tree of what is chosen, or none where the fuel does not do. Then the choices are as before.
 #[cycle(walk)]
-pub(crate) fn walk<R: Chooses, C: Cites>(
+pub(crate) fn walk<E: OpenOptions + Drop, R: Chooses, C: Cites>(
     alloc: Global,
-    path: &mut SearchPath<'_>,
+    path: &mut SearchPath<E>,
     rule: &R,
     cites: &mut C,
     progress: &mut Progress,
 ) -> Result<Option<Node>, AllocError>
-    requires takes { (pairs : List Pair) → FitInTurn path.old.compiled.puzzle pairs → C.takes cites.old pairs }
+    requires takes { (pairs : List Pair) → FitInTurn (E.selection path.old).compiled.puzzle pairs → C.takes cites.old pairs }
     requires room { length progress.old.found.items + MOST_CHILDREN * progress.old.fuel + 1 < 2 ^ 32 }
-    ensures compiled { path.new.compiled ≡ path.old.compiled }
+    ensures compiled { (E.selection path.new).compiled ≡ (E.selection path.old).compiled }
     ensures moved { C.moves cites.old cites.new }
-    ensures goes_on { GoesOn (selection_of path.old) progress.old progress.new }
+    ensures goes_on { GoesOn (E.selection path.old) progress.old progress.new }
     ensures tree { IfOk result (λ o. MatchOption o
         ((progress.new.fuel ≡ 0)
-        × IsUnfinished (R.picks rule.now) (C.answers cites.new) progress.new.found.items (selection_of path.old)
+        × IsUnfinished (R.picks rule.now) (C.answers cites.new) progress.new.found.items (E.selection path.old)
         progress.old.fuel)
-        (λ t. (path.new ≡ path.old) × IsTreeOf (selection_of path.old) progress.old progress.new (tree_of t)
-        × IsSearchTree (R.picks rule.now) (C.answers cites.new) progress.new.found.items (selection_of path.old) (tree_of t))) }
+        (λ t. (path.new ≡ path.old) × IsTreeOf (E.selection path.old) progress.old progress.new (tree_of t)
+        × IsSearchTree (R.picks rule.now) (C.answers cites.new) progress.new.found.items (E.selection path.old) (tree_of t))) }
 {
     let Some(item) = path.choose_item(rule)? else {
         let number = progress.found.len() as u32;
-        progress.found.push(path.links().arrangement(alloc)?)?;
+        progress.found.push(path.arrangement(alloc)?)?;
         return Ok(Some(Node::Found(number)));
     };
-    let links = path.links();
-    let cells = links.cells();
-    if links.size(item) == 0 {
+    let cells = path.cells();
+    if path.engine().size(item) == 0 {
         return Ok(Some(dead_node(cells, item)));
     }
     if progress.fuel == 0 {
@@ -63,31 +62,31 @@ pub(crate) fn walk<R: Chooses, C: Cites>(
 
 // The trees of what is chosen with each open option of an item, in their order.
 #[cycle(walk)]
-fn walk_options<R: Chooses, C: Cites>(
+fn walk_options<E: OpenOptions + Drop, R: Chooses, C: Cites>(
     alloc: Global,
-    path: &mut SearchPath<'_>,
+    path: &mut SearchPath<E>,
     item: u32,
     rule: &R,
     cites: &mut C,
     progress: &mut Progress,
 ) -> Result<Option<Children>, AllocError>
-    requires uncovered { IsUncovered (cover_of path.old.compiled) path.old.chosen item }
-    requires takes { (pairs : List Pair) → FitInTurn path.old.compiled.puzzle pairs → C.takes cites.old pairs }
+    requires uncovered { let s = E.selection path.old in IsUncovered (cover_of s.compiled) s.chosen item }
+    requires takes { (pairs : List Pair) → FitInTurn (E.selection path.old).compiled.puzzle pairs → C.takes cites.old pairs }
     requires room { length progress.old.found.items + MOST_CHILDREN * progress.old.fuel + MOST_CHILDREN < 2 ^ 32 }
-    ensures compiled { path.new.compiled ≡ path.old.compiled }
+    ensures compiled { (E.selection path.new).compiled ≡ (E.selection path.old).compiled }
     ensures moved { C.moves cites.old cites.new }
-    ensures goes_on { GoesOn (selection_of path.old) progress.old progress.new }
+    ensures goes_on { GoesOn (E.selection path.old) progress.old progress.new }
     ensures trees { IfOk result (λ o. MatchOption o
         ((progress.new.fuel ≡ 0)
-        × AreUnfinished (R.picks rule.now) (C.answers cites.new) progress.new.found.items (selection_of path.old)
+        × AreUnfinished (R.picks rule.now) (C.answers cites.new) progress.new.found.items (E.selection path.old)
         item progress.old.fuel)
         (λ c. (path.new ≡ path.old)
-        × AreTreesOf (selection_of path.old) progress.old progress.new (forest_of c.nodes.items)
-        × AreBranchesOf (R.picks rule.now) (C.answers cites.new) progress.new.found.items (selection_of path.old) item (forest_of c.nodes.items))) }
+        × AreTreesOf (E.selection path.old) progress.old progress.new (forest_of c.nodes.items)
+        × AreBranchesOf (R.picks rule.now) (C.answers cites.new) progress.new.found.items (E.selection path.old) item (forest_of c.nodes.items))) }
 {
-    let links = path.links();
-    let mut nodes = Vec::with_capacity(alloc, links.size(item) as usize)?;
-    let mut next = links.next_option(item, None);
+    let engine = path.engine();
+    let mut nodes = Vec::with_capacity(alloc, engine.size(item) as usize)?;
+    let mut next = engine.next_option(item, None);
     while let Some(option) = next {
         path.choose(option)?;
         match child(alloc, path, rule, cites, progress)? {
@@ -95,31 +94,31 @@ fn walk_options<R: Chooses, C: Cites>(
             Some(child) => nodes.push(child)?,
         }
         path.undo();
-        next = path.links().next_option(item, Some(option));
+        next = path.engine().next_option(item, Some(option));
     }
     Ok(Some(Children::new(nodes)))
 }
 
 // What stands for the choices as a child: what is cited, or else their tree.
 #[cycle(walk)]
-fn child<R: Chooses, C: Cites>(
+fn child<E: OpenOptions + Drop, R: Chooses, C: Cites>(
     alloc: Global,
-    path: &mut SearchPath<'_>,
+    path: &mut SearchPath<E>,
     rule: &R,
     cites: &mut C,
     progress: &mut Progress,
 ) -> Result<Option<Node>, AllocError>
-    requires takes { (pairs : List Pair) → FitInTurn path.old.compiled.puzzle pairs → C.takes cites.old pairs }
+    requires takes { (pairs : List Pair) → FitInTurn (E.selection path.old).compiled.puzzle pairs → C.takes cites.old pairs }
     requires room { length progress.old.found.items + MOST_CHILDREN * progress.old.fuel + 1 < 2 ^ 32 }
-    ensures compiled { path.new.compiled ≡ path.old.compiled }
+    ensures compiled { (E.selection path.new).compiled ≡ (E.selection path.old).compiled }
     ensures moved { C.moves cites.old cites.new }
-    ensures goes_on { GoesOn (selection_of path.old) progress.old progress.new }
+    ensures goes_on { GoesOn (E.selection path.old) progress.old progress.new }
     ensures tree { IfOk result (λ o. MatchOption o
-        ((progress.new.fuel ≡ 0) × IsNotCited (C.answers cites.new) (selection_of path.old)
-        × IsUnfinished (R.picks rule.now) (C.answers cites.new) progress.new.found.items (selection_of path.old)
+        ((progress.new.fuel ≡ 0) × IsNotCited (C.answers cites.new) (E.selection path.old)
+        × IsUnfinished (R.picks rule.now) (C.answers cites.new) progress.new.found.items (E.selection path.old)
         progress.old.fuel)
-        (λ t. (path.new ≡ path.old) × IsTreeOf (selection_of path.old) progress.old progress.new (tree_of t)
-        × IsChild (R.picks rule.now) (C.answers cites.new) progress.new.found.items (selection_of path.old) (tree_of t))) }
+        (λ t. (path.new ≡ path.old) × IsTreeOf (E.selection path.old) progress.old progress.new (tree_of t)
+        × IsChild (R.picks rule.now) (C.answers cites.new) progress.new.found.items (E.selection path.old) (tree_of t))) }
 {
     match cites.cite(path.pairs())? {
         Some(cite) => Ok(Some(citation(cite))),

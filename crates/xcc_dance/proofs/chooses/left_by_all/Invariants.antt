@@ -5,10 +5,10 @@ use Rattle.xcc_dance.proofs.GrowingLemmas.{left_after}
 use Rattle.xcc_dance.proofs.chooses.left_by_all.Given as goal
 
 abbrev pub invariant-loop-next : goal.invariant-loop-next
-invariant-loop-next l = record {
-  same : l.links ≡ l.initial.links;
-  next : IfSome l.next (IsOpenAt (cover_of l.initial.links.compiled) l.initial.links.chosen l.item);
+invariant-loop-next g l = record {
+  same : l.engine ≡ l.initial.engine;
+  next : IfSome l.next (IsOpenAt (cover_of (g.E.OpenOptions.selection l.initial.engine).compiled) (g.E.OpenOptions.selection l.initial.engine).chosen l.item);
 }
 
 abbrev pub decreases-loop-next : goal.decreases-loop-next
-decreases-loop-next l = left_after (length (cover_of l.initial.links.compiled).options) l.next
+decreases-loop-next g l = left_after (length (cover_of (g.E.OpenOptions.selection l.initial.engine).compiled).options) l.next

@@ -2,34 +2,34 @@ use Rattle.std.proofs.Common.{◌≡◌, ◌+◌, ◌-◌, ◌*◌, MatchOption,
 use Rattle.xcc_form.specs.Options.{cover_of}
 use Rattle.cert_tree.specs.Tree.{forest_of}
 use Rattle.xcc_dance.specs.Clashes.{IsOpenAt}
-use Rattle.xcc_dance.specs.LinkStates.{LinkState, selection_of}
+use Rattle.xcc_dance.specs.Chosen.{Selection}
 use Rattle.xcc_dance.specs.Progress.{GoesOn, AreTreesOf}
 use Rattle.xcc_dance.proofs.SearchTreeLemmas.{AreBranchesBefore}
 use Rattle.xcc_dance.proofs.GrowingLemmas.{left_after}
 use Rattle.xcc_dance.proofs.searching.+walk.Given as goal
 
 -- how many options are not chosen
-abbrev left_of : LinkState → ℕ
+abbrev left_of : Selection → ℕ
 left_of s = length s.compiled.options - length s.chosen
 
 abbrev pub decreases-walk : goal.decreases-walk
-decreases-walk g l = 3 * left_of l.path.now + 1
+decreases-walk g l = 3 * left_of (g.E.OpenOptions.selection l.path.now) + 1
 
 abbrev pub decreases-child : goal.decreases-child
-decreases-child g l = 3 * left_of l.path.now + 2
+decreases-child g l = 3 * left_of (g.E.OpenOptions.selection l.path.now) + 2
 
 abbrev pub decreases-walk_options : goal.decreases-walk_options
-decreases-walk_options g l = 3 * left_of l.path.now
+decreases-walk_options g l = 3 * left_of (g.E.OpenOptions.selection l.path.now)
 
 abbrev pub invariant-walk_options-loop-next : goal.invariant-walk_options-loop-next
 invariant-walk_options-loop-next g l = record {
   path : l.path ≡ l.initial.path;
-  next : MatchOption l.next (Unit {0}) (IsOpenAt (cover_of l.initial.path.compiled) l.initial.path.chosen l.item);
-  children : AreBranchesBefore (g.R.Chooses.picks l.rule) (g.C.Cites.answers l.cites) l.progress.found.items (selection_of l.initial.path) l.item l.next (forest_of l.nodes.items);
+  next : MatchOption l.next (Unit {0}) (IsOpenAt (cover_of (g.E.OpenOptions.selection l.initial.path).compiled) (g.E.OpenOptions.selection l.initial.path).chosen l.item);
+  children : AreBranchesBefore (g.R.Chooses.picks l.rule) (g.C.Cites.answers l.cites) l.progress.found.items (g.E.OpenOptions.selection l.initial.path) l.item l.next (forest_of l.nodes.items);
   moved : g.C.Cites.moves l.initial.cites l.cites;
-  goes_on : GoesOn (selection_of l.initial.path) l.initial.progress l.progress;
-  trees : AreTreesOf (selection_of l.initial.path) l.initial.progress l.progress (forest_of l.nodes.items);
+  goes_on : GoesOn (g.E.OpenOptions.selection l.initial.path) l.initial.progress l.progress;
+  trees : AreTreesOf (g.E.OpenOptions.selection l.initial.path) l.initial.progress l.progress (forest_of l.nodes.items);
 }
 
 abbrev pub decreases-walk_options-loop-next : goal.decreases-walk_options-loop-next
-decreases-walk_options-loop-next g l = left_after (length l.initial.path.compiled.options) l.next
+decreases-walk_options-loop-next g l = left_after (length (g.E.OpenOptions.selection l.initial.path).compiled.options) l.next

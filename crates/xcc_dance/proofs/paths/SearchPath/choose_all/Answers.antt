@@ -13,25 +13,25 @@ abbrev no_pair : Pair
 no_pair = record { cell = 0; placement = record { tile = 0; turn = 0 } }
 
 pub option_of-option-requires : goal.option_of-option-requires
-option_of-option-requires c =
+option_of-option-requires g c =
     let place = c.loop-pair.pair-index in
     let pairs = c.args.pairs.now in
     subst (λ (x : Compiled). IsOptionPair x.puzzle (get_or pairs place no_pair)) (sym c.loop-pair.invariant.compiled)
-    (option_pair_at c.args.self.now.compiled.puzzle pairs c.requires.fit place (get_or pairs place no_pair) (read_pair pairs place no_pair c.loop-pair-test.true))
+    (option_pair_at (g.E.OpenOptions.selection c.args.self.now).compiled.puzzle pairs c.requires.fit place (get_or pairs place no_pair) (read_pair pairs place no_pair c.loop-pair-test.true))
 
 pub choose-requires : goal.choose-requires
-choose-requires c =
+choose-requires g c =
     let place = c.loop-pair.pair-index in
-    let x = c.loop-pair.self.compiled in
+    let s = g.E.OpenOptions.selection c.loop-pair.self in
     let pairs = c.args.pairs.now in
     let fit = subst (λ (x : Compiled). FitInTurn x.puzzle pairs) (sym c.loop-pair.invariant.compiled) c.requires.fit in
     let found = c.option_of-option.ensures in
-    next_is_open x found.compiled pairs fit c.loop-pair.self.chosen place c.option_of-option.result (get_or pairs place no_pair) c.loop-pair.invariant.pairs (read_pair pairs place no_pair c.loop-pair-test.true) found.pair
+    next_is_open s.compiled found.compiled pairs fit s.chosen place c.option_of-option.result (get_or pairs place no_pair) c.loop-pair.invariant.pairs (read_pair pairs place no_pair c.loop-pair-test.true) found.pair
 
 pub loop-pair-preserved : goal.loop-pair-preserved
-loop-pair-preserved c =
+loop-pair-preserved g c =
     let place = c.loop-pair.pair-index in
-    let s = c.loop-pair.self in
+    let s = g.E.OpenOptions.selection c.loop-pair.self in
     let pairs = c.args.pairs.now in
     let chosen = c.in_ok-choose.ensures.chosen in
     let y = get_or pairs place no_pair in
@@ -40,5 +40,5 @@ loop-pair-preserved c =
       compiled = ap (λ (v : Selection). v.compiled) chosen ∙ c.loop-pair.invariant.compiled;
       pairs = subst (λ (v : Selection). ArePairsOf v.compiled v.chosen (take (place + 1) pairs)) (sym chosen)
           (subst (ArePairsOf s.compiled (s.chosen ++ c.option_of-option.result ∷ [])) (sym (taken_more pairs place y (read_pair pairs place no_pair c.loop-pair-test.true))) pushed);
-      before = one_back s c.choose.new.self c.option_of-option.result chosen c.in_ok-choose.ensures.before ∙ c.loop-pair.invariant.before;
+      before = one_back _ g.E.OpenOptions.selection g.E.OpenOptions.taken_back c.loop-pair.self c.choose.new.self c.option_of-option.result chosen c.in_ok-choose.ensures.before ∙ c.loop-pair.invariant.before;
     }

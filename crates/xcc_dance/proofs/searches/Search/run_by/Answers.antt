@@ -4,7 +4,8 @@ use Rattle.match_board.proofs.Listings.{contains_none}
 use Rattle.cert_tree.specs.Tree.{tree_of}
 use Rattle.cert_tree.specs.declared.nodes.Node.{Node}
 use Rattle.xcc_form.specs.Options.{Compiled}
-use Rattle.xcc_dance.specs.LinkStates.{LinkState, selection_of, before_any}
+use Rattle.xcc_dance.specs.Chosen.{before_any}
+use Rattle.xcc_dance.specs.LinkStates.{LinkState, selection_of, taken_back}
 use Rattle.xcc_dance.specs.Placing.{FitInTurn, IsArrangementWith}
 use Rattle.xcc_dance.specs.Progress.{IsTreeOf, levels_below}
 use Rattle.xcc_dance.specs.Outcome.{SearchState}
@@ -31,7 +32,7 @@ returns-clause-outcome g c =
     let answers = g.C.Cites.answers c.walk-walked.new.cites in
     let tree = subst (λ o. MatchOption o ((after.fuel ≡ 0) × IsUnfinished picks answers after.found.items (selection_of s) c.args.fuel) (λ (n : Node). (c.walk-walked.new.path ≡ s) × IsTreeOf (selection_of s) (record { fuel = c.args.fuel; found = c.new-found.result }) after (tree_of n) × IsSearchTree picks answers after.found.items (selection_of s) (tree_of n))) c.in-Some.is w.tree in
     let t = tree.1 in
-    let back : c.undo_all.new.self ≡ c.self.inside.path = c.undo_all.ensures ∙ ap before_any tree.0 ∙ c.in_ok-choose_all.ensures.before in
+    let back : c.undo_all.new.self ≡ c.self.inside.path = c.undo_all.ensures ∙ ap (before_any selection_of taken_back) tree.0 ∙ c.in_ok-choose_all.ensures.before in
     let links : c.undo_all.new.self ≡ c.args.self.now.links = back ∙ ap (λ (v : SearchState). v.links) c.self.view_is in
     let compiled : c.undo_all.new.self.compiled ≡ s.compiled = ap (λ (v : LinkState). v.compiled) back ∙ sym c.choose_all.ensures.compiled in
     let spent = t.spent in (

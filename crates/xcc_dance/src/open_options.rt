@@ -1,0 +1,137 @@
+//! What a search asks of its engine, which keeps what is chosen and what is open.
+
+ghost use Rattle.std.specs.Prelude.{◌≡◌, ◌<◌, IfOk, IfSome, OnErr, MatchOption, length};
+ghost use Rattle.xcc_form.specs.Options.{cover_of};
+ghost use Rattle.xcc_dance.specs.Clashes.{IsOpen, IsOpenAt};
+ghost use Rattle.xcc_dance.specs.Chosen.{Selection, IsSelection, IsUncovered, AreAllCovered, with_option, without_last};
+ghost use Rattle.xcc_dance.specs.Chosen.{HasSize, IsToBranchOn, IsNextItem, IsLastItem, IsNext, IsLast};
+
+use crate::links::Links;
+use std::alloc::AllocError;
+use xcc_form::Xcc;
+
+/// An engine of a search: options chosen of a compiled puzzle, no two of which clash, and the open options beside them,
+/// however these are kept. `Links` keeps them in linked lists.
+///
+/// An option is open where it clashes with no chosen one. An item is covered where a chosen option has it.
+pub trait OpenOptions {
+    /// The compiled puzzle and the chosen options.
+    ghost selection: { Self → Selection };
+    /// All as it was before the last choice.
+    ghost taken_back: { Self → Self };
+
+    /// The compiled puzzle.
+    fn xcc(&self) -> &Xcc<'_>
+        ensures { result.now ≡ (selection self.now).compiled };
+
+    /// The chosen options, in the order of choosing.
+    fn chosen(&self) -> &[u32]
+        ensures value { result.now ≡ (selection self.now).chosen }
+        ensures right { IsSelection (selection self.now).compiled (selection self.now).chosen };
+
+    /// The item to branch on: of the uncovered primary items the one with the fewest open options, the least number
+    /// at a tie, so that a cell comes before a tile. `None` where each primary item is covered.
+    fn branch_item(&self) -> Option<u32>
+        ensures { let s = selection self.now in MatchOption result
+            (AreAllCovered (cover_of s.compiled) s.chosen)
+            (IsToBranchOn (cover_of s.compiled) s.chosen) };
+
+    /// The uncovered primary item that comes next after this one of them, by number, or the first of them.
+    fn next_item(&self, after: Option<u32>) -> Option<u32>
+        requires { let s = selection self.now in IfSome after (IsUncovered (cover_of s.compiled) s.chosen) }
+        ensures { let s = selection self.now in MatchOption result
+            (IsLastItem (cover_of s.compiled) s.chosen after)
+            (IsNextItem (cover_of s.compiled) s.chosen after) };
+
+    /// How many open options an item has that is primary and uncovered.
+    fn size(&self, item: u32) -> u32
+        requires { let s = selection self.now in IsUncovered (cover_of s.compiled) s.chosen item }
+        ensures { let s = selection self.now in HasSize (cover_of s.compiled) s.chosen item result };
+
+    /// The open option of an item that comes next after this one of them, by number, or the first of them. The item is
+    /// primary and uncovered.
+    fn next_option(&self, item: u32, after: Option<u32>) -> Option<u32>
+        requires item { let s = selection self.now in IsUncovered (cover_of s.compiled) s.chosen item }
+        requires after { let s = selection self.now in IfSome after (IsOpenAt (cover_of s.compiled) s.chosen item) }
+        ensures { let s = selection self.now in MatchOption result
+            (IsLast (cover_of s.compiled) s.chosen item after)
+            (IsNext (cover_of s.compiled) s.chosen item after) };
+
+    /// Chooses an open option.
+    ///
+    /// An error where memory is refused; then nothing changes.
+    fn choose(&mut self, option: u32) -> Result<(), AllocError>
+        requires { let s = selection self.old in IsOpen (cover_of s.compiled) s.chosen option }
+        ensures chosen { IfOk result (λ _. selection self.new ≡ with_option (selection self.old) option) }
+        ensures before { IfOk result (λ _. taken_back self.new ≡ self.old) }
+        ensures room { length (selection self.old).chosen < length (selection self.old).compiled.options }
+        ensures refused { OnErr result (self.new ≡ self.old) };
+
+    /// Takes back the option that was chosen last. There is one.
+    fn undo(&mut self)
+        requires { 0 < length (selection self.old).chosen }
+        ensures { self.new ≡ taken_back self.old };
+
+    /// Before the last choice all chosen options but the last were chosen.
+    ghost all_but_last: { (s : Self) → selection (taken_back s) ≡ without_last (selection s) };
+}
+
+impl<'a> OpenOptions for Links<'a> {
+    ghost use Rattle.std.specs.Prelude.{refl};
+    ghost use Rattle.xcc_dance.specs.LinkStates.{selection_of, taken_back as links_taken_back};
+
+    ghost selection = { selection_of };
+
+    ghost taken_back = { links_taken_back };
+
+    ghost all_but_last = { λ s. refl };
+
+    fn xcc(&self) -> &Xcc<'_> {
+        self.xcc()
+    }
+
+    fn chosen(&self) -> &[u32] {
+        self.chosen()
+    }
+
+    fn branch_item(&self) -> Option<u32> {
+        self.branch_item()
+    }
+
+    fn next_item(&self, after: Option<u32>) -> Option<u32> {
+        self.next_item(after)
+    }
+
+    fn size(&self, item: u32) -> u32 {
+        self.size(item)
+    }
+
+    fn next_option(&self, item: u32, after: Option<u32>) -> Option<u32> {
+        self.next_option(item, after)
+    }
+
+    fn choose(&mut self, option: u32) -> Result<(), AllocError> {
+        self.choose(option)
+    }
+
+    fn undo(&mut self) {
+        self.undo();
+    }
+}
+
+/// How much is left by an open option: one, and the fewest open options that an uncovered item has where it is chosen
+/// too.
+///
+/// An error where memory is refused.
+pub fn left_by<E: OpenOptions>(engine: &mut E, option: u32) -> Result<u32, AllocError>
+    requires { let s = E.selection engine.old in IsOpen (cover_of s.compiled) s.chosen option }
+    ensures { engine.new ≡ engine.old }
+{
+    engine.choose(option)?;
+    let fewest = match engine.branch_item() {
+        None => 0,
+        Some(item) => engine.size(item),
+    };
+    engine.undo();
+    Ok(fewest.saturating_add(1))
+}
