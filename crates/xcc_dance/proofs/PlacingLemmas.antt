@@ -1,15 +1,13 @@
 -- Options that go with each other, and pairs that fit in turn.
-use Rattle.std.proofs.Common.{◌≡◌, ◌≢◌, ◌<◌, ◌≤◌, ◌+◌, ◌++◌, ◌∷◌, ◌&&◌, [], ℕ, zero, suc, true, false, eqb, List, Option, Some, None, length, length-append, slice_get, take, arith, refl, ap, inl, inr, sym, ◌∙◌, subst, ⊎_elim, add-one}
+use Rattle.std.proofs.Common.{◌≡◌, ◌≢◌, ◌<◌, ◌≤◌, ◌+◌, ◌++◌, ◌∷◌, [], ℕ, zero, suc, List, Option, Some, None, length, length-append, slice_get, take, arith, refl, ap, inl, inr, sym, ◌∙◌, subst, ⊎_elim, add-one}
 use Rattle.std.proofs.lemmas.Bool.Decides.{eqb_tells}
 use Rattle.std.proofs.lemmas.Option.{slice_get_within}
 use Rattle.std.proofs.lemmas.List.{length-replicate, length-take}
-use Rattle.std.proofs.lemmas.Bool.{false≢true, eq-eqb}
 use Rattle.match_board.specs.Board.{Meets}
 use Rattle.match_board.proofs.Places.{Meets-turned}
 use Rattle.match_puzzle.specs.Puzzle.{Task, colour_of, GoTogether}
 use Rattle.match_puzzle.proofs.MateLemmas.{together_turned}
 use Rattle.match_puzzle.specs.Prefix.{Prefix, Has, IsFree, empty_prefix, with_pair}
-use Rattle.match_puzzle.specs.Equality.{is_same}
 use Rattle.match_puzzle.specs.declared.placements.Placement.{Placement}
 use Rattle.match_puzzle.specs.declared.placements.Pair.{Pair}
 use Rattle.match_puzzle.proofs.Prefixes.{inside, has_new, has_still}
@@ -180,10 +178,6 @@ option_pair_at p pairs fit place y at =
     let lt = slice_get_within (prefix_of p before) y.cell None good.free in
     let long = length-with_pairs before (empty_prefix p) ∙ length-replicate {A = Option Placement} (cell_count p.board) None in
     record { cell = omega (arith, lt, long); legal = good.legal; border = good.border }
-
--- pairs of which a test tells that they differ
-pub pair_differs : (y z : Pair) → (eqb y.cell z.cell && is_same y.placement z.placement) ≡ false → y ≢ z
-pair_differs y z other e = false≢true (sym other ∙ subst (λ (q : Pair). (eqb y.cell q.cell && is_same y.placement q.placement) ≡ true) e (ap (λ b. b && is_same y.placement y.placement) (eq-eqb y.cell y.cell refl) ∙ ap (λ b. b && eqb y.placement.turn y.placement.turn) (eq-eqb y.placement.tile y.placement.tile refl) ∙ eq-eqb y.placement.turn y.placement.turn refl))
 
 -- one option and its pair more, and one less
 pub pairs_pushed : (x : Compiled) (chosen : List ℕ) (pairs : List Pair) (option : ℕ) (y : Pair) → IsPairOf x option y → ArePairsOf x chosen pairs → ArePairsOf x (chosen ++ option ∷ []) (pairs ++ y ∷ [])

@@ -153,12 +153,10 @@ impl<E: OpenOptions + Drop> SearchPath<E> {
         ensures compiled { IsCompiled (E.selection self.now).compiled }
     {
         let _right = self.engine.chosen();
-        let xcc = self.engine.xcc();
-        for option in 0..xcc.options() {
-            if xcc.pair(option) == pair {
-                return option;
-            }
+        match self.engine.xcc().option_of(pair) {
+            Some(option) => option,
+            // each such pair has one
+            None => unreachable!(),
         }
-        unreachable!()
     }
 }

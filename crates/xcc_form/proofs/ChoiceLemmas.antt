@@ -1,5 +1,5 @@
 -- The options that a layout stands for.
-use Rattle.std.proofs.Common.{◌≡◌, ◌<◌, ◌≤◌, ◌+◌, ◌-◌, ◌*◌, ℕ, zero, suc, List, [], ◌∷◌, Some, length, length-drop, slice_get, get_or, map, drop, arith, refl, ap, sym, ◌∙◌, subst}
+use Rattle.std.proofs.Common.{◌≡◌, ◌<◌, ◌≤◌, ◌+◌, ◌-◌, ◌*◌, ℕ, zero, suc, List, Option, [], ◌∷◌, Some, length, length-drop, slice_get, get_or, map, drop, arith, refl, ap, sym, ◌∙◌, subst}
 use Rattle.std.proofs.lemmas.List.{length-take-le}
 use Rattle.std.proofs.lemmas.Option.{none-some}
 use Rattle.match_board.specs.Board.{cell_count}
@@ -84,8 +84,9 @@ module _ (p : Task) (shared : List SharedEdge) (pairs : List Pair) (starts : Lis
   abbrev pub kept_value : Compiled
   kept_value = record { puzzle = p; shared = shared; options = choices_from 0 pairs starts edges }
 
-  pub kept_compiled : IsKept p shared pairs starts edges → IsCompiled kept_value
-  kept_compiled k = compiled_is p shared pairs starts edges k.laid_out k.puzzle k.all_shared k.all_pairs
+  module _ (numbers : List (Option ℕ)) (k : IsKept p shared pairs starts edges numbers) where
+    pub kept_compiled : IsCompiled kept_value
+    kept_compiled = compiled_is p shared pairs starts edges k.laid_out k.puzzle k.all_shared k.all_pairs
 
-  pub kept_entries : IsKept p shared pairs starts edges → entries_of kept_value ≡ 2 * length pairs + length edges
-  kept_entries k = entries_are p shared pairs starts edges k.laid_out
+    pub kept_entries : entries_of kept_value ≡ 2 * length pairs + length edges
+    kept_entries = entries_are p shared pairs starts edges k.laid_out

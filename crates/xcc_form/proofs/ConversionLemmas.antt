@@ -25,7 +25,7 @@ use Rattle.xcc_form.proofs.WholeLemmas.{StandsIn, AreFound, solution_of_arrangem
 
 -- ---- the front of a list
 
-slice_get-take : {X : Type 0} (n : ℕ) (xs : List X) (i : ℕ) → i < n → slice_get (take n xs) i ≡ slice_get xs i
+pub slice_get-take : {X : Type 0} (n : ℕ) (xs : List X) (i : ℕ) → i < n → slice_get (take n xs) i ≡ slice_get xs i
 slice_get-take zero xs i lt = absurd (omega (arith, lt))
 slice_get-take (suc n) [] i lt = refl
 slice_get-take (suc n) (x ∷ xs) zero lt = refl

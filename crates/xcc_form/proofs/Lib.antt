@@ -6,6 +6,7 @@ pub mod LayoutLemmas
 pub mod PairsLemmas
 pub mod ChoiceLemmas
 pub mod OptionLemmas
+pub mod NumberLemmas
 pub mod FaultLemmas
 pub mod SolutionLemmas
 pub mod WholeLemmas

@@ -46,7 +46,7 @@ in_two a b item c = by_place c.0 c.1 c.2
     by_place (suc (suc i)) lt e = absurd (omega (arith, lt))
 
 -- a pair does not come before itself, nor before one that comes before it
-irreflexive : (x : Pair) → PairComesBefore x x → ⊥
+pub irreflexive : (x : Pair) → PairComesBefore x x → ⊥
 irreflexive x before = ⊎_elim (λ lt. omega (arith, lt)) (λ w. ⊎_elim (λ lt. omega (arith, lt)) (λ v. omega (arith, v.1)) w.1) before
 
 module _ (x : Compiled) (is : IsCompiled x) where

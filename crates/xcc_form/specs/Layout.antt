@@ -1,11 +1,13 @@
 -- How options lie in vectors: their pairs by number, and their edges one option after another.
-use Rattle.std.specs.Prelude.{◌≡◌, ◌<◌, ◌≤◌, ◌+◌, ◌*◌, ℕ, List, [], ◌∷◌, ◌++◌, Some, length, slice_get, slice_index}
+use Rattle.std.specs.Prelude.{◌≡◌, ◌<◌, ◌≤◌, ◌+◌, ◌*◌, ℕ, List, [], ◌∷◌, ◌++◌, Option, Some, length, slice_get, slice_index}
 use Rattle.std.specs.Prelude.{slice_range}
 use Rattle.match_board.specs.declared.limits.TheConstants.{MOST_CELLS, MOST_ENTRIES}
+use Rattle.match_board.specs.Board.{cell_count}
 use Rattle.match_board.specs.Listing.{IsListing}
 use Rattle.match_puzzle.specs.Puzzle.{Task, IsPuzzle}
 use Rattle.match_puzzle.specs.declared.placements.Pair.{Pair}
 use Rattle.xcc_form.specs.Options.{Choice, AreSharedEdges, AreShownEdges, IsOptionPair, PairComesBefore}
+use Rattle.xcc_form.specs.Numbers.{AreNumbered}
 use Rattle.xcc_form.specs.declared.edges.Edge.{Edge}
 use Rattle.xcc_form.specs.declared.edges.SharedEdge.{SharedEdge}
 
@@ -41,10 +43,11 @@ pub record AddsEdges (p : Task) (shared : List SharedEdge) (x : Pair) (old new :
 
 -- what is kept of a compiled puzzle
 pub record IsKept (p : Task) (shared : List SharedEdge) (pairs : List Pair) (starts : List ℕ)
-    (edges : List Edge) : Type 0 where
+    (edges : List Edge) (numbers : List (Option ℕ)) : Type 0 where
   pub puzzle : IsPuzzle p
   pub all_shared : AreSharedEdges p.board shared
   pub all_pairs : IsListing PairComesBefore (IsOptionPair p) pairs
   pub laid_out : AreLaidOut p shared pairs starts edges
   pub few : 2 * length pairs + length edges ≤ MOST_ENTRIES
   pub few_shared : length shared ≤ 4 * MOST_CELLS
+  pub numbered : AreNumbered (cell_count p.board) pairs numbers

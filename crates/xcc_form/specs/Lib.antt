@@ -2,4 +2,5 @@ pub mod ExactCover
 pub mod Options
 pub mod Correspondence
 pub mod Laws
+pub mod Numbers
 pub mod Layout

@@ -6,6 +6,7 @@ mod edges;
 mod faults;
 mod laws;
 mod lists;
+mod numbers;
 mod xccs;
 
 pub use edges::Edge;

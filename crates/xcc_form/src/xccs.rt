@@ -1,16 +1,17 @@
 //! Compiled puzzles.
 
-ghost use Rattle.std.specs.Prelude.{◌≡◌, ◌<◌, ◌≤◌, ◌*◌, ◌/◌, ℕ, IfOk, IsErrOf, Some, length, slice_get};
+ghost use Rattle.std.specs.Prelude.{◌≡◌, ◌<◌, ◌≤◌, ◌*◌, ◌/◌, ℕ, IfOk, IsErrOf, MatchOption, Some, length, slice_get};
 ghost use Rattle.match_board.specs.Board.{cell_count};
 ghost use Rattle.match_puzzle.specs.Puzzle.{IsPuzzle};
-ghost use Rattle.xcc_form.specs.Options.{IsCompiled, HasTooManyEntries, Choice, entries_of, primary_count};
+ghost use Rattle.xcc_form.specs.Options.{IsCompiled, IsOptionPair, HasTooManyEntries, Choice, entries_of, primary_count};
 ghost use Rattle.xcc_form.specs.Correspondence.{IsPairOf};
 
 use crate::edges::{Edge, SharedEdge, shared_edges};
 use crate::faults::CompileFault;
 use crate::lists::OptionLists;
+use crate::numbers::{number_of, option_numbers};
 use match_board::limits::{MOST_CELLS, MOST_ENTRIES};
-use match_puzzle::{Pair, Puzzle};
+use match_puzzle::{Pair, Placement, Puzzle};
 use std::alloc::Global;
 use std::marker::Model;
 
@@ -26,6 +27,7 @@ pub struct Xcc<'a> {
     puzzle: &'a Puzzle,
     shared: Vec<SharedEdge>,
     options: OptionLists,
+    numbers: Vec<Option<u32>>,
 }
 
 impl<'a> Model for Xcc<'a> {
@@ -41,13 +43,13 @@ impl<'a> Model for Xcc<'a> {
     } };
 
     ghost invariant = { λ x. IsKept x.puzzle.now x.shared.items
-        x.options.pairs.items x.options.starts.items x.options.edges.items };
+        x.options.pairs.items x.options.starts.items x.options.edges.items x.numbers.items };
 }
 
 /// The puzzle as an exact cover with colours.
 ///
 /// `TooMany` where the options have over 200,000 items together, and `Memory` where a vector cannot grow before that
-/// is known.
+/// is known, or memory for the table of options is refused.
 pub fn compile(alloc: Global, puzzle: &Puzzle) -> Result<Xcc<'_>, CompileFault>
     ensures puzzle { IfOk result (λ x. x.puzzle ≡ puzzle.now) }
     ensures compiled { IfOk result IsCompiled }
@@ -59,10 +61,12 @@ pub fn compile(alloc: Global, puzzle: &Puzzle) -> Result<Xcc<'_>, CompileFault>
     if 2 * options.pairs.len() + options.edges.len() > MOST_ENTRIES {
         return Err(CompileFault::TooMany);
     }
+    let numbers = option_numbers(alloc, puzzle, &options.pairs)?;
     Ok(Xcc {
         puzzle,
         shared,
         options,
+        numbers,
     })
 }
 
@@ -122,6 +126,18 @@ impl<'a> Xcc<'a> {
         ensures { IsPairOf self.now option result }
     {
         self.options.pairs[option as usize]
+    }
+
+    /// The option of a pair. There is one where the placement is legal, and shows at the cell what the border asks.
+    pub fn option_of(&self, pair: Pair) -> Option<u32>
+        ensures { MatchOption result (IsOptionPair self.now.puzzle pair → ⊥) (λ option. IsPairOf self.now option pair) }
+    {
+        let cells = self.cells();
+        let Placement { tile, turn } = pair.placement;
+        if pair.cell >= cells || tile >= cells || turn >= 4 {
+            return None;
+        }
+        self.numbers[number_of(cells, pair)]
     }
 
     /// The secondary items of an option with their colours, by item.

@@ -7,4 +7,4 @@ pub returns-clause-compiled : goal.returns-clause-compiled
 returns-clause-compiled c =
     let x = c.self.inside in
     let kept = x.options in
-    subst IsCompiled c.self.view_is (kept_compiled x.puzzle.now x.shared.items kept.pairs.items kept.starts.items kept.edges.items c.self.invariant)
+    subst IsCompiled c.self.view_is (kept_compiled x.puzzle.now x.shared.items kept.pairs.items kept.starts.items kept.edges.items x.numbers.items c.self.invariant)

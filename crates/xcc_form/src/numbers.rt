@@ -1,0 +1,42 @@
+//! The options of a puzzle by cell, tile and turn.
+
+ghost use Rattle.std.specs.Prelude.{◌≡◌, ◌<◌, ◌≤◌, ◌*◌, IfOk, length};
+ghost use Rattle.match_board.specs.Board.{cell_count};
+ghost use Rattle.match_board.specs.Listing.{IsListing};
+ghost use Rattle.match_puzzle.specs.Puzzle.{IsPuzzle};
+ghost use Rattle.xcc_form.specs.Options.{IsOptionPair, PairComesBefore};
+ghost use Rattle.xcc_form.specs.Numbers.{AreNumbered, pair_number};
+
+use match_board::limits::MOST_ENTRIES;
+use match_puzzle::{Pair, Puzzle};
+use std::alloc::{AllocError, Global};
+
+/// The number of a pair of so many cells and as many tiles, of which each has four turns at most.
+pub(crate) fn number_of(cells: u16, pair: Pair) -> usize
+    ensures { result ≡ pair_number cells pair }
+{
+    let placement = pair.placement;
+    4 * (usize::from(cells) * usize::from(pair.cell) + usize::from(placement.tile))
+        + usize::from(placement.turn)
+}
+
+/// The options of the puzzle by the numbers of their pairs.
+pub(crate) fn option_numbers(
+    alloc: Global,
+    puzzle: &Puzzle,
+    pairs: &[Pair],
+) -> Result<Vec<Option<u32>>, AllocError>
+    requires puzzle { IsPuzzle puzzle.now }
+    requires pairs { IsListing PairComesBefore (IsOptionPair puzzle.now) pairs.now }
+    requires few { length pairs.now ≤ MOST_ENTRIES }
+    ensures { IfOk result (λ v. AreNumbered (cell_count puzzle.now.board) pairs.now v.items) }
+{
+    let cells = puzzle.board().cells();
+    let mut numbers = vec![in alloc; None; 4 * usize::from(cells) * usize::from(cells)]?;
+    let mut option: u32 = 0;
+    for pair in pairs {
+        numbers[number_of(cells, *pair)] = Some(option);
+        option += 1;
+    }
+    Ok(numbers)
+}
