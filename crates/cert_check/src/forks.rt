@@ -4,17 +4,21 @@ ghost use Rattle.std.specs.Prelude.{◌≡◌, ◌≢◌, ◌<◌, ◌≤◌, �
 ghost use Rattle.std.specs.Fn.{FnReturnsAt};
 ghost use Rattle.std.specs.Thread.{IsSync};
 ghost use Rattle.match_puzzle.specs.Fitting.{AreFitting, IsItem};
+ghost use Rattle.match_puzzle.specs.PrefixFaults.{IsPairList};
 ghost use Rattle.match_puzzle.specs.declared.placements.Pair.{Pair};
+ghost use Rattle.cert_tree.specs.Certificate.{flat_piece};
 ghost use Rattle.cert_tree.specs.Tree.{branch, count, none};
 ghost use Rattle.cert_tree.specs.Heads.{first, front, past};
+ghost use Rattle.cert_check.specs.Derivation.{start_of};
 ghost use Rattle.cert_check.specs.Setting.{question_of, motion_of, BeginWithPrefixes};
 ghost use Rattle.cert_check.specs.Walk.{Tells, TellsOfLemma, IsPart, TellsOfPart};
 
 use crate::faults::TreeFault;
+use crate::gates::{Gate, Open};
 use crate::node_faults::branch_fault;
 use crate::settings::Setting;
 use crate::walks::{at_top, walk};
-use cert_tree::{Certificate, Head, Trees};
+use cert_tree::{Certificate, FlatLemma, Head, Trees};
 use match_board::limits::MOST_FORKS;
 use match_puzzle::{Arrangement, FittingPairs, Item, Partial, Puzzle};
 use puzzle_symmetry::Symmetry;
@@ -44,23 +48,47 @@ pub fn forked_tree_fault<R: Threads + Sync>(
     ensures { IfOk result (TellsOfLemma (question_of puzzle.now listed.now certificate.now) lemma) }
 {
     let setting = Setting::new(puzzle, listed, symmetries, certificate, lemma);
-    let lemma = certificate.lemmas().at(lemma as usize);
-    let mut partial = Partial::of(alloc, puzzle, lemma.prefix)?;
-    forked_walk(
+    let forker = Forker {
         rt,
-        alloc,
-        &setting,
-        forks,
-        &lemma.tree.trees(),
-        &mut partial,
-    )
+        gate: &Open,
+        lemma,
+    };
+    let lemma = certificate.lemmas().at(lemma as usize);
+    forker.lemma_fault(alloc, &setting, &lemma, forks)
+}
+
+// Who walks a lemma's tree: by which threads, and who is told of the halves that are walked at once.
+#[derive(Clone, Copy)]
+pub(crate) struct Forker<'a, R: Threads + Sync, G: Gate + Sync> {
+    pub rt: &'a R,
+    pub gate: &'a G,
+    pub lemma: u32,
+}
+
+impl<'a, R: Threads + Sync, G: Gate + Sync> Forker<'a, R, G> {
+    // The first fault of the lemma's tree, or none where it holds. In the first so many levels halves are walked at once.
+    pub(crate) fn lemma_fault(
+        &self,
+        alloc: Global,
+        setting: &Setting<'_>,
+        lemma: &FlatLemma<'_>,
+        forks: u8,
+    ) -> Result<Option<TreeFault>, AllocError>
+        requires { IsPairList setting.now.puzzle lemma.now.prefix.now }
+        ensures { IfOk result
+            (Tells setting.now lemma.now.tree (start_of setting.now.puzzle (flat_piece lemma.now))) }
+    {
+        let mut partial = Partial::of(alloc, setting.puzzle(), lemma.prefix)?;
+        let trees = lemma.tree.trees();
+        forked_walk(self, alloc, setting, forks, &trees, &mut partial)
+    }
 }
 
 // The first fault of the first tree at what is placed, in preorder, or none where it holds; what is placed is then as
 // before. In the first so many levels halves are walked at once.
 #[cycle(forking)]
-fn forked_walk<R: Threads + Sync>(
-    rt: &R,
+fn forked_walk<R: Threads + Sync, G: Gate + Sync>(
+    forker: &Forker<'_, R, G>,
     alloc: Global,
     setting: &Setting<'_>,
     forks: u8,
@@ -80,11 +108,15 @@ fn forked_walk<R: Threads + Sync>(
     match below.next() {
         Head::Cell { cell, children } => {
             let item = Item::Cell(cell);
-            forked_branch(rt, alloc, setting, fewer, item, children, &below, partial)
+            forked_branch(
+                forker, alloc, setting, fewer, item, children, &below, partial,
+            )
         }
         Head::Tile { tile, children } => {
             let item = Item::Tile(tile);
-            forked_branch(rt, alloc, setting, fewer, item, children, &below, partial)
+            forked_branch(
+                forker, alloc, setting, fewer, item, children, &below, partial,
+            )
         }
         _ => plain_walk(alloc, setting, trees, partial),
     }
@@ -110,8 +142,8 @@ fn plain_walk(
 
 // The same of a branch, whose children are the first so many trees.
 #[cycle(forking)]
-fn forked_branch<R: Threads + Sync>(
-    rt: &R,
+fn forked_branch<R: Threads + Sync, G: Gate + Sync>(
+    forker: &Forker<'_, R, G>,
     alloc: Global,
     setting: &Setting<'_>,
     forks: u8,
@@ -138,7 +170,7 @@ fn forked_branch<R: Threads + Sync>(
         trees: &*trees,
         partial: &*partial,
     };
-    walk_halves(rt, alloc, forks, &all)
+    walk_halves(forker, alloc, forks, &all)
 }
 
 // Some children of a branch, from one number up to another, and what they are walked on.
@@ -155,8 +187,8 @@ struct Part<'a> {
 
 // The same of some children, the halves of which are walked at once where there are several.
 #[cycle(forking)]
-fn walk_halves<R: Threads + Sync>(
-    rt: &R,
+fn walk_halves<R: Threads + Sync, G: Gate + Sync>(
+    forker: &Forker<'_, R, G>,
     alloc: Global,
     forks: u8,
     part: &Part<'_>,
@@ -166,7 +198,7 @@ fn walk_halves<R: Threads + Sync>(
 {
     let count = part.end - part.start;
     if count == 1 {
-        return walk_part(rt, alloc, forks, part);
+        return walk_part(forker, alloc, forks, part);
     }
     let middle = part.start + count / 2;
     let left = Part {
@@ -178,13 +210,16 @@ fn walk_halves<R: Threads + Sync>(
         ..*part
     };
     let (left, right) = at_once(
-        rt,
+        forker.rt,
         &left,
         &right,
         &|half: &Part<'_>| -> Result<Option<TreeFault>, AllocError>
-            requires { IsSync R.row × IsPart half.now }
+            requires { IsSync R.row × IsSync G.row × IsPart half.now }
             ensures { IfOk result (TellsOfPart half.now) }
-        { walk_part(rt, alloc, forks, half) },
+        {
+            forker.gate.enter_half(forker.lemma, half.start);
+            walk_part(forker, alloc, forks, half)
+        },
     )?;
     Ok(left.or(right))
 }
@@ -216,8 +251,8 @@ fn at_once<P: Sync, F: Fn(&P) -> Result<Option<TreeFault>, AllocError> + Sync, R
 
 // The same of some children, one after the other on a copy of what is placed.
 #[cycle(forking)]
-fn walk_part<R: Threads + Sync>(
-    rt: &R,
+fn walk_part<R: Threads + Sync, G: Gate + Sync>(
+    forker: &Forker<'_, R, G>,
     alloc: Global,
     forks: u8,
     part: &Part<'_>,
@@ -233,7 +268,7 @@ fn walk_part<R: Threads + Sync>(
             unreachable!();
         };
         own.place(pair.cell, pair.placement);
-        let fault = forked_walk(rt, alloc, part.setting, forks, &rest, &mut own)?;
+        let fault = forked_walk(forker, alloc, part.setting, forks, &rest, &mut own)?;
         if let Some(fault) = fault {
             return Ok(Some(fault.below(number as u16)?));
         }

@@ -2,7 +2,7 @@
 
 use crate::checks::lemma_fault;
 use crate::faults::{Answer, Fault, TreeFault};
-use crate::forks::forked_tree_fault;
+use crate::forks::Forker;
 use crate::gates::Gate;
 use crate::questions::Question;
 use crate::settings::Setting;
@@ -109,29 +109,22 @@ impl<'a> Prepared<'a> {
     /// The first fault of the tree of the lemma with this number, in preorder, or none where it holds.
     ///
     /// In the first `forks` levels, at most 6, the halves of a branch's children are walked at once, as
-    /// [`forked_tree_fault`](crate::forked_tree_fault) does. An `Err` comes where memory is refused.
-    pub fn forked_tree_fault<R: Threads + Sync>(
+    /// [`forked_tree_fault`](crate::forked_tree_fault) does, and the gate is told of each. An `Err` comes where memory is
+    /// refused.
+    pub fn forked_tree_fault<R: Threads + Sync, G: Gate + Sync>(
         &self,
         rt: &R,
         alloc: Global,
         lemma: u32,
         forks: u8,
+        gate: &G,
     ) -> Result<Option<TreeFault>, AllocError>
         requires lemma { lemma < length self.now.lemmas }
         requires forks { forks ≤ MOST_FORKS }
         ensures { IfOk result (TellsOfLemma self.now lemma) }
     {
-        let question = &self.question;
-        forked_tree_fault(
-            rt,
-            alloc,
-            question.puzzle(),
-            question.listed(),
-            &self.symmetries,
-            question.certificate(),
-            lemma,
-            forks,
-        )
+        let forker = Forker { rt, gate, lemma };
+        forker.lemma_fault(alloc, &self.setting(lemma), &self.lemma(lemma), forks)
     }
 
     /// The first lemma whose tree has a fault, with its first fault in preorder, or none where all hold. The gate is

@@ -1,12 +1,14 @@
 //! The check of a certificate by a crew.
 
 ghost use Rattle.std.specs.Prelude.{◌<◌, ◌≤◌, ◌^◌, IfOk, OnErr, length};
+ghost use Rattle.std.specs.Thread.{IsSync};
 ghost use Rattle.match_board.specs.declared.limits.TheConstants.{MOST_WORKERS, MOST_FORKS};
 ghost use Rattle.cert_check.specs.Setting.{question_of};
 ghost use Rattle.cert_check.specs.Walk.{TellsOfTrees};
 ghost use Rattle.cert_check.specs.Answer.{AreArrangements, IsAnswer, IsSound, IsCovering};
+ghost use Rattle.check_crew.specs.Jobs.{IsJob, IsFinding};
 
-use crate::jobs::{Walks, first_found};
+use crate::jobs::{Walks, first_found, walk_tree};
 use crate::lists::list_fault;
 use cert_check::{Answer, Gate, Prepared, Question, TreeFault};
 use cert_tree::Certificate;
@@ -28,14 +30,13 @@ fn trees_fault<R: Threads + Sync, G: Gate + Sync>(
     requires forks { forks ≤ MOST_FORKS }
     ensures { IfOk result (TellsOfTrees prepared.now) }
 {
-    let walks = Walks {
-        rt,
-        alloc,
-        prepared,
-        forks,
-        gate,
-    };
     let count = prepared.question().lemmas().len() as u32;
+    let walks = Walks {
+        walk: &|number: u32| -> Result<Option<Box<TreeFault>>, AllocError>
+            requires { IsSync R.row × IsSync G.row × IsJob prepared.now forks number }
+            ensures { IfOk result (IsFinding prepared.entry.now number) }
+        { walk_tree(rt, alloc, prepared, forks, gate, number) },
+    };
     let crew = run_crew(rt, alloc, &walks, count, workers)?;
     first_found(alloc, crew.results())
 }

@@ -1,7 +1,6 @@
 //! A job for each lemma.
 
-ghost use Rattle.std.specs.Prelude.{◌≡◌, ◌≤◌, ◌<◌, ◌^◌, IfOk, length};
-ghost use Rattle.std.specs.Thread.{IsSync};
+ghost use Rattle.std.specs.Prelude.{◌≡◌, ◌≤◌, ◌<◌, ◌^◌, IfOk, Ok, length};
 ghost use Rattle.check_crew.specs.Jobs.{IsJob, IsFinding, IsFirstFound};
 
 use cert_check::{Gate, Path, Prepared, TreeFault};
@@ -12,35 +11,45 @@ use steal_crew::Work;
 // A tree of fewer nodes is walked by one thread, which is done before others would have started.
 const LEAST_FORKED: usize = 10_000;
 
-// What the trees of a question's lemmas are walked by.
+// The trees of a question's lemmas, each walked by a call: so what a walk sends to a thread rests on bounds of the
+// function that makes the closure.
 #[derive(Drop)]
-pub(crate) struct Walks<'a, T: Threads + Sync, G: Gate + Sync> {
-    pub rt: &'a T,
-    pub alloc: Global,
-    pub prepared: &'a Prepared<'a>,
-    pub forks: u8,
-    pub gate: &'a G,
+pub(crate) struct Walks<'a, F: Fn(u32) -> Result<Option<Box<TreeFault>>, AllocError> + Sync> {
+    pub walk: &'a F,
 }
 
-// Most trees hold, and there may be a million: so a fault has a place of its own.
-impl<'a, T: Threads + Sync, G: Gate + Sync> Work for Walks<'a, T, G> {
+impl<'a, F: Fn(u32) -> Result<Option<Box<TreeFault>>, AllocError> + Sync> Work for Walks<'a, F> {
     type R = Option<Box<TreeFault>>;
 
-    ghost accepts = { λ w n. IsSync T.row × IsJob w.prepared.now w.forks n };
+    ghost accepts = { λ w n. F.pre w.walk.now n };
 
-    ghost gives = { λ w n r. IsFinding w.prepared.now n r };
+    ghost gives = { λ w n r. F.post w.walk.now n (Ok r) };
 
     fn one(&self, number: u32) -> Result<Option<Box<TreeFault>>, AllocError> {
-        self.gate.enter(number);
-        let forks = forks_of(self.prepared, number, self.forks);
-        let found = self
-            .prepared
-            .forked_tree_fault(self.rt, self.alloc, number, forks)?;
-        let Some(fault) = found else {
-            return Ok(None);
-        };
-        Ok(Some(Box::new(self.alloc, fault)?))
+        (self.walk)(number)
     }
+}
+
+// The first fault of the lemma's tree, or none where it holds; the gate is told before. Most trees hold, and there may be
+// a million: so a fault has a place of its own.
+pub(crate) fn walk_tree<R: Threads + Sync, G: Gate + Sync>(
+    rt: &R,
+    alloc: Global,
+    prepared: &Prepared<'_>,
+    forks: u8,
+    gate: &G,
+    number: u32,
+) -> Result<Option<Box<TreeFault>>, AllocError>
+    requires { IsJob prepared.now forks number }
+    ensures { IfOk result (IsFinding prepared.now number) }
+{
+    gate.enter(number);
+    let forks = forks_of(prepared, number, forks);
+    let found = prepared.forked_tree_fault(rt, alloc, number, forks, gate)?;
+    let Some(fault) = found else {
+        return Ok(None);
+    };
+    Ok(Some(Box::new(alloc, fault)?))
 }
 
 // In how many levels, of at most `forks`, the halves of a branch of the lemma's tree are walked at once.

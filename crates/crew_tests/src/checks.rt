@@ -1,6 +1,5 @@
 ghost use Rattle.std.specs.Prelude.{◌≤◌};
 
-use crate::meetings::Meeting;
 use cert_check::Answer;
 use cert_tree::read_certificate;
 use match_board::limits::MOST_WORKERS;
@@ -8,8 +7,9 @@ use match_crew::{Gate, check_with};
 use sample_puzzles::{turning_triangle, turning_triangle_list};
 use std::alloc::Global;
 use std::sync::Wait;
-use std::sync::atomic::{AtomicBool, Ordering};
+use std::sync::atomic::{AtomicBool, AtomicU32, Ordering};
 use std::test::Fail;
+use std::thread;
 use std::thread::Threads;
 
 // Eight lemmas of the turning triangle, of which the last is the root's.
@@ -24,18 +24,17 @@ const EIGHT_LEMMAS: &[u8] = b"certificate 1\nsymmetries 1\n\
     lemma 6 prefix 2:0.0 tree s 4\n\
     lemma 7 prefix tree t 0 3 s 6 i 5 0 s 5\nend\n";
 
-// Which of the eight lemmas it was told of. Where lemmas 0 and 1 are to look for each other, and 4 and 5, whether each
-// came.
+// Which of the eight lemmas it was told of. As many come at once as there are workers, and go on together.
 #[derive(Drop)]
 struct Watch {
     told: [AtomicBool; 8],
-    are_to_meet: bool,
-    meetings: [Meeting; 2],
-    met: [AtomicBool; 4],
+    workers: u8,
+    came: AtomicU32,
+    missed: AtomicBool,
 }
 
 impl Watch {
-    fn new(are_to_meet: bool) -> Watch {
+    fn new(workers: u8) -> Watch {
         Watch {
             told: [
                 AtomicBool::new(false),
@@ -47,15 +46,24 @@ impl Watch {
                 AtomicBool::new(false),
                 AtomicBool::new(false),
             ],
-            are_to_meet,
-            meetings: [Meeting::new(), Meeting::new()],
-            met: [
-                AtomicBool::new(false),
-                AtomicBool::new(false),
-                AtomicBool::new(false),
-                AtomicBool::new(false),
-            ],
+            workers,
+            came: AtomicU32::new(0),
+            missed: AtomicBool::new(false),
         }
+    }
+
+    // Waits until each worker came as often as this one. Whether they did.
+    fn meets_all(&self) -> bool {
+        let workers = u64::from(self.workers.max(1));
+        let before = u64::from(self.came.fetch_add(1, Ordering::SeqCst));
+        let all = before - before % workers + workers;
+        for _ in 0..10_000_000u32 {
+            if u64::from(self.came.load(Ordering::SeqCst)) >= all {
+                return true;
+            }
+            thread::yield_now();
+        }
+        false
     }
 }
 
@@ -65,16 +73,13 @@ impl Gate for Watch {
             return;
         }
         self.told[lemma as usize].store(true, Ordering::SeqCst);
-        let (meeting, place) = ((lemma / 4) as usize, (lemma % 4) as usize);
-        if self.are_to_meet && place < 2 {
-            let has_met = self.meetings[meeting].meets(place == 0);
-            self.met[2 * meeting + place].store(has_met, Ordering::SeqCst);
+        if !self.meets_all() {
+            self.missed.store(true, Ordering::SeqCst);
         }
     }
 }
 
-// Whether a check by so many workers ends well and tells of each lemma. Two are at lemmas 0 and 1 at once, and later at
-// 4 and 5: number n is dealt to worker n mod 2.
+// Whether a check by so many workers, who are all at lemmas at once, ends well and tells of each lemma.
 fn tells_of_each<R: Threads + Wait + Sync>(rt: &R, alloc: Global, workers: u8) -> Result<bool, Fail>
     requires { (1 ≤ workers) × (workers ≤ MOST_WORKERS) }
 {
@@ -84,11 +89,10 @@ fn tells_of_each<R: Threads + Wait + Sync>(rt: &R, alloc: Global, workers: u8) -
         return Err(Fail::new("another list"));
     }
     let certificate = read_certificate(alloc, EIGHT_LEMMAS)?;
-    let watch = Watch::new(workers == 2);
+    let watch = Watch::new(workers);
     let answer = check_with(rt, alloc, &puzzle, &list, &certificate, workers, 0, &watch)?;
-    let met = watch.met.iter().all(|met| met.load(Ordering::SeqCst));
-    if met != watch.are_to_meet {
-        return Err(Fail::new("no other thread came"));
+    if watch.missed.load(Ordering::SeqCst) {
+        return Err(Fail::new("another thread did not come"));
     }
     let told = watch.told.iter().all(|told| told.load(Ordering::SeqCst));
     Ok(matches!(answer, Answer::Complete) && told)
@@ -96,7 +100,7 @@ fn tells_of_each<R: Threads + Wait + Sync>(rt: &R, alloc: Global, workers: u8) -
 
 #[test]
 fn tells_of_each_lemma(rt: HostRuntime) -> Result<(), Fail> {
-    for workers in [1, 2] {
+    for workers in [1, 2, 8] {
         assert!(rt; tells_of_each(&rt, rt.alloc(), workers)?, "by {workers}");
     }
     Ok(())

@@ -8,6 +8,8 @@ mod crews;
 #[cfg(test)]
 mod desks;
 #[cfg(test)]
+mod forks;
+#[cfg(test)]
 mod joins;
 #[cfg(test)]
 mod live_crews;
