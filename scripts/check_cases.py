@@ -28,12 +28,14 @@ DOCUMENTS = ("puzzle", "list", "certificate")
 WORKERS, FORKS, DEPTHS = (1, 2, 7, 64), (0, 3, 6), (0, 1, 2, 3)
 # The seconds that one run of the program may take.
 LONGEST = 300
+# The bytes of the longest path that the system takes, and of a name in it.
+LONGEST_PATH, LONGEST_NAME = 4096, 250
 
 # What a table of a case may have, by what it is.
 TEXTS = {"like", "change", *DOCUMENTS}
 CHECKED = {"answer", "fault", "joined", "rows", "explanations", "explanation", "expansion", "arrangements", "cut"}
 STREAMED = {f"{stream}{end}" for stream in ("stdout", "stderr") for end in ("", "_begins", "_has")}
-ORDERED = {"words", "beside", "stdin", "status", "files", "files_have", "left", "stdout_lines", *STREAMED}
+ORDERED = {"words", "beside", "deep", "stdin", "status", "files", "files_have", "left", "stdout_lines", *STREAMED}
 SOLVED = {"solve"}
 WANTED = {"answer", "fault", "rows", "explanations", "expansion", "arrangements", "words", "solve"}
 
@@ -168,6 +170,16 @@ class Trial:
     def paths(self):
         return [self.path(it) for it in DOCUMENTS]
 
+    def go_deep(self, documents):
+        """Goes on in a folder whose path is longer than the system takes, with the documents there by their names."""
+        os.chdir(self.folder)
+        for _ in range(1 + LONGEST_PATH // LONGEST_NAME):
+            os.mkdir("d" * LONGEST_NAME)
+            os.chdir("d" * LONGEST_NAME)
+        self.folder = ""
+        for document, text in documents.items():
+            self.put(document, text)
+
     def contents(self, document):
         try:
             with open(self.path(document), "rb") as file:
@@ -278,10 +290,15 @@ def count(trial, way, expanded):
 def order(trial, case):
     """The words of a case, with what it wants of their run."""
     keys, way = case.keys, " ".join(case.keys["words"])
-    known = {it.upper(): trial.path(it) for it in DOCUMENTS}
+    if keys.get("deep"):
+        trial.go_deep(case.documents)
     for name, text in keys.get("beside", {}).items():
         trial.put(name, text_of(text))
-    known.update({f"./{it.upper()}": os.path.join(trial.folder, ".", it) for it in DOCUMENTS})
+    known = {it.upper(): it for it in DOCUMENTS}
+    known.update({f"{it}.part": f"{name}.part" for it, name in known.items()})
+    known = {it: trial.path(name) for it, name in known.items()} | {
+        f"./{it}": os.path.join(trial.folder, ".", name) for it, name in known.items()
+    }
     if "FOLDER" in keys["words"]:
         known["FOLDER"] = trial.path("folder")
         os.mkdir(known["FOLDER"])
@@ -305,7 +322,7 @@ def order(trial, case):
         if text_of(text) not in trial.contents(document):
             trial.differs(way, f"the file {document}, a part of it", text_of(text), trial.contents(document))
     if "left" in keys:
-        left = " ".join(sorted(os.listdir(trial.folder)))
+        left = " ".join(sorted(os.listdir(trial.folder or ".")))
         trial.wants(way, "the files that are left", " ".join(keys["left"]).encode(), left.encode())
 
 
@@ -423,6 +440,7 @@ HOW = {"case": run_case, "example": run_example, "cut": run_cut}
 def tried(work):
     """The runs of one case, with how they differ from what is wanted."""
     program, kind, case = work
+    here = os.getcwd()
     with tempfile.TemporaryDirectory() as folder:
         trial = Trial(program, folder, case.documents)
         try:
@@ -431,6 +449,7 @@ def tried(work):
             trial.differences.append(f"{slow}\n")
         except OSError as error:
             trial.differences.append(f"it can't be run: {error}\n")
+        os.chdir(here)
         return case.name, trial.runs, trial.differences
 
 

@@ -1,5 +1,6 @@
 -- Files by their names.
 use Rattle.std.specs.Prelude.{◌≡◌, ◌≢◌, ◌++◌, ℕ, Bool, true, false, List, Option, Some, None, codes}
+use Rattle.std.specs.Bool.{OnTrue}
 use Rattle.std.specs.String.{string_bytes}
 use Rattle.std.specs.Io.KnownBytes.{Appends}
 use Rattle.match_runs.specs.Documents.{Texts}
@@ -37,11 +38,29 @@ pub record AreBeside (files : Files) (parts : Parts) : Type 0 where
   pub list : string_bytes parts.list ≡ part_name (string_bytes files.list)
   pub certificate : string_bytes parts.certificate ≡ part_name (string_bytes files.certificate)
 
+-- None of the three files has this name.
+pub record HasOtherName (files : Files) (name : List ℕ) : Type 0 where
+  pub puzzle : string_bytes files.puzzle ≢ name
+  pub list : string_bytes files.list ≢ name
+  pub certificate : string_bytes files.certificate ≢ name
+
+-- What is made beside the list and the certificate has names that none of the three files has.
+pub record HaveOtherNames (files : Files) (parts : Parts) : Type 0 where
+  pub list : HasOtherName files (string_bytes parts.list)
+  pub certificate : HasOtherName files (string_bytes parts.certificate)
+
 -- The three files have three names.
 pub record HaveDifferentNames (files : Files) : Type 0 where
   pub list : string_bytes files.puzzle ≢ string_bytes files.list
   pub certificate : string_bytes files.puzzle ≢ string_bytes files.certificate
   pub both : string_bytes files.list ≢ string_bytes files.certificate
+
+-- All files of a solve have different names: the three, and where what stands there is kept, the two that are made
+-- beside them.
+pub record AreApart (keep : Bool) (files : Files) : Type 0 where
+  pub three : HaveDifferentNames files
+  pub list_part : OnTrue keep (HasOtherName files (part_name (string_bytes files.list)))
+  pub certificate_part : OnTrue keep (HasOtherName files (part_name (string_bytes files.certificate)))
 
 -- What two files hold are texts of which this is so.
 abbrev pub BothHold : (puzzle list : Option (List ℕ)) → (List ℕ → List ℕ → Type 0) → Type 0

@@ -11,7 +11,7 @@ use Rattle.match_board.specs.declared.limits.TheConstants.{MOST_CLASSES}
 use Rattle.match_board.specs.Turns.{HasMoreLeastWords}
 use Rattle.match_runs.specs.Describing.{Describes, IsOfDescribing, SpellsNoPuzzle}
 use Rattle.match_runs.specs.Exits.{status_exit}
-use Rattle.match_runs.specs.Files.{BothHold, FilesHold, HaveDifferentNames, HoldsText, Receives}
+use Rattle.match_runs.specs.Files.{AreApart, BothHold, FilesHold, HoldsText, Receives}
 use Rattle.match_runs.specs.Listed.{DrawsListed, IsOfDrawing, IsOfListed, SpellNoListed}
 use Rattle.match_runs.specs.Moves.{Reading, Writing, WritesFront, WritesWhole}
 use Rattle.match_runs.specs.Runs.{ComesTo, IsOfRun, Request, RunsOver, SpellCompleteList, checked, printed}
@@ -67,7 +67,7 @@ OrderGives holds takes puts input output Joined exit = EndsBy (ReadToEnds (toget
 OrderGives holds takes puts input output (Check files workers forks progress) exit =
     EndsBy (FilesHold holds files) checked output exit
 OrderGives holds takes puts input output (Solve files depth fuel workers keep progress) exit =
-    (exit ≡ exits.Done) × HaveDifferentNames files
+    (exit ≡ exits.Done) × AreApart keep files
     × PuzzleHolds (holds (string_bytes files.puzzle)) (Solves (Receives keep takes puts) output files workers)
 OrderGives holds takes puts input output (Expand files) exit =
     EndsBy (FilesHold holds files) (printed printings.All) output exit

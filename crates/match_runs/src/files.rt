@@ -10,6 +10,8 @@ use crate::streams::sources::{Failed, Source};
 use crate::streams::systems::{Input, Output};
 use std::alloc::{AllocError, Global};
 use std::fs::{self, File};
+use std::io::{self, ErrorKind};
+use std::path::PathBuf;
 use std::rt::Files;
 
 /// Where files are opened and made by their names.
@@ -52,8 +54,8 @@ pub trait FileSystem {
     /// Removes the file of this name, if it can.
     fn remove(&self, name: &str);
 
-    /// Whether both names lead to one file that is there, as far as it can be told.
-    fn lead_to_one(&self, alloc: Global, first: &str, second: &str) -> bool;
+    /// Whether both names lead to one file that is there, or it can't be told that they don't.
+    fn may_lead_to_one(&self, alloc: Global, first: &str, second: &str) -> bool;
 }
 
 /// The files of the system. What they hold is not told.
@@ -113,14 +115,22 @@ impl<R: Files> FileSystem for System<'_, R> {
     }
 
     // By what the names come to when each link on the way is followed; two links to one file that have no target in
-    // their text, hard links, are not told.
-    fn lead_to_one(&self, alloc: Global, first: &str, second: &str) -> bool {
+    // their text, hard links, are not told. A name that leads to no file, as a pipe's, leads to no other's.
+    fn may_lead_to_one(&self, alloc: Global, first: &str, second: &str) -> bool {
         let first = self.runtime.canonicalize(alloc, first);
         let second = self.runtime.canonicalize(alloc, second);
         match (first, second) {
             (Ok(first), Ok(second)) => first == second,
-            _ => false,
+            (first, second) => !leads_nowhere(&first) && !leads_nowhere(&second),
         }
+    }
+}
+
+// Whether what was followed is a name that leads to no file.
+fn leads_nowhere(followed: &io::Result<PathBuf>) -> bool {
+    match followed {
+        Ok(_) => false,
+        Err(error) => error.kind() == ErrorKind::NotFound,
     }
 }
 

@@ -1,5 +1,5 @@
-//! The runs of the program: checks, solves, expansions and lists of tiles, from bytes to bytes; the words that order
-//! them; and what is told of faults.
+//! The runs of the program, from bytes to bytes: checks, explanations, expansions, counts, solves, boards, symmetries and
+//! lists of tiles; the words that order them; and what is told of faults.
 #![tactic(auto)]
 
 mod check_runs;

@@ -3,7 +3,7 @@
 ghost use Rattle.std.specs.Prelude.{◌≡◌, ◌≢◌, Err, IfOk, IfErr, IsTrue, true, false};
 ghost use Rattle.std.specs.String.{string_bytes};
 ghost use Rattle.match_runs.specs.Describing.{IsOfDescribing};
-ghost use Rattle.match_runs.specs.Files.{FilesHold, HaveDifferentNames, LeavesAll, Receives, TakesWhole};
+ghost use Rattle.match_runs.specs.Files.{AreApart, FilesHold, HaveDifferentNames, LeavesAll, Receives, TakesWhole};
 ghost use Rattle.match_runs.specs.Moves.{WritesWhole, reading_of, writing_of};
 ghost use Rattle.match_runs.specs.OrderRuns.{EndsBy, IsDescribed, IsDrawn, IsOfOrder, IsOfShowing, IsShown};
 ghost use Rattle.match_runs.specs.OrderRuns.{OrderGives, OrderShows, OrderStops, PuzzleHolds, Solves};
@@ -194,7 +194,7 @@ fn solve<S: FileSystem, W: Sink, R: Threads + Wait + Sync, T: SolveWatch + Sync>
     system: &S,
     output: &mut W,
 ) -> Result<Exit, RunFault>
-    ensures given { IfOk result (λ exit. (exit ≡ Exit.Done) × HaveDifferentNames files.now
+    ensures given { IfOk result (λ exit. (exit ≡ Exit.Done) × AreApart keep files.now
         × PuzzleHolds (S.holds system.now (string_bytes files.now.puzzle))
         (Solves (Receives keep (λ name. TakesWhole S.Writer.Sink (S.makes system.now name)) (S.puts system.now))
         (writing_of W.Sink output.old output.new) files.now search.workers)) }
@@ -220,7 +220,7 @@ fn solve_in_place<S: FileSystem, W: Sink, R: Threads + Wait + Sync, T: SolveWatc
     system: &S,
     output: &mut W,
 ) -> Result<Exit, RunFault>
-    ensures given { IfOk result (λ exit. (exit ≡ Exit.Done) × HaveDifferentNames files.now
+    ensures given { IfOk result (λ exit. (exit ≡ Exit.Done) × AreApart false files.now
         × PuzzleHolds (S.holds system.now (string_bytes files.now.puzzle))
         (Solves (Receives false (λ name. TakesWhole S.Writer.Sink (S.makes system.now name)) (S.puts system.now))
         (writing_of W.Sink output.old output.new) files.now search.workers)) }
@@ -262,7 +262,7 @@ fn solve_beside<S: FileSystem, W: Sink, R: Threads + Wait + Sync, T: SolveWatch 
     system: &S,
     output: &mut W,
 ) -> Result<Exit, RunFault>
-    ensures given { IfOk result (λ exit. (exit ≡ Exit.Done) × HaveDifferentNames files.now
+    ensures given { IfOk result (λ exit. (exit ≡ Exit.Done) × AreApart true files.now
         × PuzzleHolds (S.holds system.now (string_bytes files.now.puzzle))
         (Solves (Receives true (λ name. TakesWhole S.Writer.Sink (S.makes system.now name)) (S.puts system.now))
         (writing_of W.Sink output.old output.new) files.now search.workers)) }
@@ -272,11 +272,15 @@ fn solve_beside<S: FileSystem, W: Sink, R: Threads + Wait + Sync, T: SolveWatch 
     ensures untouched { IfErr result (λ fault. fault ≢ RunFault.Write → output.new ≡ output.old) }
 {
     let mut puzzle = open(system, &files.puzzle, Document::Puzzle)?;
-    if !are_apart(alloc, files, system) {
+    let parts = Parts::of(alloc, files)?;
+    if !are_apart(alloc, files, system) || !parts.have_other_names(files) {
         return Err(RunFault::Write);
     }
-    let parts = Parts::of(alloc, files)?;
     let (mut list, mut certificate) = parts.make(system)?;
+    if parts.are_in_the_way(alloc, files, system) {
+        parts.remove(system);
+        return Err(RunFault::Write);
+    }
     let solved = run_solve_watched(
         rt,
         alloc,
@@ -305,9 +309,9 @@ fn are_apart<S: FileSystem>(alloc: Global, files: &Files, system: &S) -> bool
         certificate,
     } = files;
     have_different_names(puzzle, list, certificate)
-        && !system.lead_to_one(alloc, puzzle, list)
-        && !system.lead_to_one(alloc, puzzle, certificate)
-        && !system.lead_to_one(alloc, list, certificate)
+        && !system.may_lead_to_one(alloc, puzzle, list)
+        && !system.may_lead_to_one(alloc, puzzle, certificate)
+        && !system.may_lead_to_one(alloc, list, certificate)
 }
 
 // As a check, and prints all arrangements, or how many they are, or why the list is refused.

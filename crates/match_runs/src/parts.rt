@@ -1,8 +1,8 @@
 //! A list and a certificate that are made beside their names, until both are written.
 
-ghost use Rattle.std.specs.Prelude.{◌≡◌, false, IfOk, IfErr, List, ℕ, OnOk};
+ghost use Rattle.std.specs.Prelude.{◌≡◌, false, IfOk, IfErr, IsTrue, List, ℕ, OnOk};
 ghost use Rattle.std.specs.String.{string_bytes};
-ghost use Rattle.match_runs.specs.Files.{AreBeside, TakesWhole};
+ghost use Rattle.match_runs.specs.Files.{AreBeside, HasOtherName, HaveOtherNames, TakesWhole};
 
 use crate::faults::RunFault;
 use crate::files::{FileSystem, make_new, part_of, put};
@@ -27,6 +27,13 @@ impl Parts {
         })
     }
 
+    // Whether neither has the name of one of the three files.
+    pub(crate) fn have_other_names(&self, files: &Files) -> bool
+        ensures { IsTrue result → HaveOtherNames files.now self.now }
+    {
+        has_other_name(files, &self.list) && has_other_name(files, &self.certificate)
+    }
+
     // Makes both, or none of them.
     pub(crate) fn make<S: FileSystem>(&self, system: &S) -> Result<(S::Writer, S::Writer), RunFault>
         ensures list { IfOk result (λ made. S.makes system.now (string_bytes self.now.list) made.0) }
@@ -43,6 +50,18 @@ impl Parts {
                 Err(fault)
             }
         }
+    }
+
+    // Whether the name of the list leads to what is made beside the certificate's, or the other way. What was no file
+    // may lead there once both are made.
+    pub(crate) fn are_in_the_way<S: FileSystem>(
+        &self,
+        alloc: Global,
+        files: &Files,
+        system: &S,
+    ) -> bool {
+        system.may_lead_to_one(alloc, &files.list, &self.certificate)
+            || system.may_lead_to_one(alloc, &files.certificate, &self.list)
     }
 
     pub(crate) fn remove<S: FileSystem>(&self, system: &S) {
@@ -67,4 +86,13 @@ impl Parts {
         }
         put(system, &self.certificate, &files.certificate)
     }
+}
+
+// Whether none of the three files has this name.
+fn has_other_name(files: &Files, name: &str) -> bool
+    ensures { IsTrue result → HasOtherName files.now name.now }
+{
+    files.puzzle.as_str() != name
+        && files.list.as_str() != name
+        && files.certificate.as_str() != name
 }

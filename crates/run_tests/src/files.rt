@@ -58,7 +58,7 @@ impl<'a> FileSystem for HeldFiles<'a> {
 
     fn remove(&self, _name: &str) {}
 
-    fn lead_to_one(&self, _alloc: Global, _first: &str, _second: &str) -> bool {
+    fn may_lead_to_one(&self, _alloc: Global, _first: &str, _second: &str) -> bool {
         false
     }
 }
