@@ -56,8 +56,11 @@ def row_of(program, name, options):
 
 
 def main(program, *wanted):
-    program, failed = os.path.abspath(program), 0
-    for name, options, *counts in page_rows():
+    program, failed, rows = os.path.abspath(program), 0, page_rows()
+    strange = sorted(set(wanted) - {name for name, *_ in rows})
+    if strange or not os.access(program, os.X_OK):
+        sys.exit(f"gallery: there is no {f'puzzle {strange[0]}' if strange else f'program {program}'}")
+    for name, options, *counts in rows:
         if wanted and name not in wanted:
             continue
         row, found = row_of(program, name, options)

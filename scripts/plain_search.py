@@ -223,11 +223,18 @@ class ItemSearch(Search):
 
 def main(words):
     kind = ItemSearch if words[:1] == ["--items"] else Search
-    puzzle_name, list_name, certificate_name, *numbers = words[1:] if kind is ItemSearch else words
+    words = words[1:] if kind is ItemSearch else words
+    if "--help" in words or not 3 <= len(words) <= 5 or not all(it.isdecimal() for it in words[3:]):
+        sys.exit(__doc__)
+    puzzle_name, list_name, certificate_name, *numbers = words
     depth = int(numbers[0]) if numbers else 0
     most = int(numbers[1]) if len(numbers) > 1 else sys.maxsize
-    with open(puzzle_name) as file:
-        search = kind(read_puzzle(file.read()), depth, most)
+    try:
+        with open(puzzle_name) as file:
+            text = file.read()
+    except OSError as error:
+        sys.exit(f"plain_search: {puzzle_name}: {error.strerror}")
+    search = kind(read_puzzle(text), depth, most)
     sys.setrecursionlimit(10_000)
     search.run()
     with open(list_name, "w") as file:
