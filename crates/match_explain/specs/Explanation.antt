@@ -1,5 +1,6 @@
 -- Why a certificate is refused at a node of a tree.
-use Rattle.std.specs.Prelude.{◌≡◌, ◌++◌, ℕ, List, [], ◌∷◌, Option, MatchOption, Some, None, codes, decimal, map, slice_get}
+use Rattle.std.specs.Prelude.{◌≡◌, ◌++◌, ℕ, List, [], ◌∷◌, Option, Some, None, MatchOption}
+use Rattle.std.specs.Prelude.{codes, decimal, map, slice_get}
 use Rattle.match_puzzle.specs.Puzzle.{Task}
 use Rattle.match_puzzle.specs.Prefix.{Prefix}
 use Rattle.match_puzzle.specs.Fitting.{AreFitting}
@@ -61,8 +62,8 @@ pub record NamesLemma (number : ℕ) (words : List ℕ) : Type 0 where
   pub parts : words ≡ codes "certificate line " ++ (decimal line ++ (codes ", word " ++ (decimal word
       ++ (codes ", lemma " ++ (decimal number ++ (codes ": " ++ (node ++ (codes ": " ++ (sentence ++ 10 ∷ [])))))))))
 
--- The text tells of the node that the fault's path leads to: in words, by the pairs that fit, and by the board, drawn as
--- it is there. Then it says what stays open, and no more.
+-- The text tells of the node that the fault's path leads to: in words, by the pairs that fit, and by the board, drawn
+-- as it is there. Then it says what stays open, and no more.
 pub record TellsOfNode (question : Question) (number : ℕ) (fault : TreeFault) (text : List ℕ) : Type 0 where
   pub lemma : Piece
   pub is : slice_get question.lemmas number ≡ Some lemma
@@ -80,7 +81,7 @@ pub record TellsOfNode (question : Question) (number : ℕ) (fault : TreeFault) 
   pub drawn : IsDrawing (record { puzzle = question.puzzle; placed = placed }) mark drawing
   pub parts : text ≡ words ++ (fitting ++ (drawing ++ closing_text))
 
--- What a text that explains a fault has to tell. The words are not said here.
+-- What a text that explains a fault has to tell. Of a fault that is no node's, nothing is said here.
 abbrev pub IsExplanation : Question → Fault → (text : List ℕ) → Type 0
 IsExplanation question (faults.List number fault) text = Unit {0}
 IsExplanation question (faults.Repeated number) text = Unit {0}

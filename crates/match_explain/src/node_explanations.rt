@@ -12,7 +12,8 @@ ghost use Rattle.cert_check.specs.Setting.{Setting};
 ghost use Rattle.cert_check.specs.TreeFaults.{IsNodeFault};
 ghost use Rattle.cert_check.specs.declared.faults.Answer.TheVariants.{Refused};
 ghost use Rattle.cert_check.specs.declared.faults.Fault.TheVariants as faults;
-ghost use Rattle.match_explain.specs.Explanation.{NamesFitting, NamesLemma, NamesWhatFits, TellsOfNode, miscounted_item};
+ghost use Rattle.match_explain.specs.Explanation.{NamesFitting, NamesLemma, NamesWhatFits, TellsOfNode};
+ghost use Rattle.match_explain.specs.Explanation.{miscounted_item};
 
 use crate::explanations::CLOSING;
 use crate::node_sentences::Node;

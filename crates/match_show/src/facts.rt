@@ -25,6 +25,7 @@ pub fn write_facts(alloc: Global, puzzle: &Puzzle) -> Result<Vec<u8>, AllocError
     let board = puzzle.board();
     let colours = puzzle.colours();
     put_number_line(&mut text, b"cells", u32::from(board.cells()))?;
+    // a puzzle has as many tiles as cells
     put_number_line(&mut text, b"tiles", u32::from(board.cells()))?;
     put_number_line(&mut text, b"colours", u32::from(colours))?;
     put_colour_lines(&mut text, puzzle, board.border_len(), colours)?;

@@ -1,4 +1,4 @@
-// Why a search gives no outcome.
+//! Why a search gives no outcome.
 
 ghost use Rattle.std.specs.Prelude.{◌≡◌};
 ghost use Rattle.xcc_dance.specs.declared.faults.SearchFault.TheVariants as search_faults;

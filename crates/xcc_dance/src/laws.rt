@@ -1,4 +1,4 @@
-// What follows for every selection.
+//! What follows for every selection.
 
 ghost use Rattle.std.specs.Prelude.{ℕ, List};
 ghost use Rattle.match_puzzle.specs.declared.placements.Pair.{Pair};

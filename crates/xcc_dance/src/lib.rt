@@ -1,4 +1,4 @@
-//! Chosen options of a compiled puzzle, and the options that still go with them.
+//! The search for solutions of a compiled puzzle, over linked lists of the options that still go with the chosen ones.
 #![tactic(auto)]
 
 mod chooses;
