@@ -92,7 +92,7 @@ fn tells_of_each<R: Threads + Wait + Sync>(rt: &R, alloc: Global, workers: u8) -
     let watch = Watch::new(workers);
     let answer = check_with(rt, alloc, &puzzle, &list, &certificate, workers, 0, &watch)?;
     if watch.missed.load(Ordering::SeqCst) {
-        return Err(Fail::new("another thread did not come"));
+        return Err(Fail::new("no other thread came"));
     }
     let told = watch.told.iter().all(|told| told.load(Ordering::SeqCst));
     Ok(matches!(answer, Answer::Complete) && told)

@@ -59,7 +59,9 @@ fn two_halves_of_a_tree_at_once(rt: HostRuntime) -> Result<(), Fail> {
         &halves,
     )?;
     assert!(rt; matches!(answer, Answer::Complete));
-    assert!(rt; halves.met.load(Ordering::SeqCst) == 2);
+    if halves.met.load(Ordering::SeqCst) != 2 {
+        return Err(Fail::new("no other thread came"));
+    }
     Ok(())
 }
 
