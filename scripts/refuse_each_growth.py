@@ -9,9 +9,10 @@ some are refused, as is said then. With --rest all requests after the Nth are re
 and tests are run; `program` is the program.
 
 A test has to pass, or to end with want of memory as its error: it hands on what its calls answer. A test of threads that
-meet may also end because no other thread came: without memory for a thread its work is done on another. The program has to write what it writes with ample
-memory, or nothing but `out of memory` on standard error, with status 2. The script ends with 0 where that is so of each
-run, and names those of which it isn't. It needs a C compiler (cc, or what CC names) and the C library glibc.
+meet may also end because no other thread came: without memory for a thread its work is done on another. The program has to
+write what it writes with ample memory, or nothing but `out of memory` on standard error, with status 2; a solve may say
+`cannot write` there, which couldn't tell its names apart. The script ends with 0 where that is so of each run, and names
+those of which it isn't. It needs a C compiler (cc, or what CC names) and the C library glibc.
 """
 import argparse
 import collections
@@ -28,6 +29,8 @@ TOP = os.path.dirname(HERE)
 EXAMPLES = os.path.join(TOP, "examples")
 EACH, FURTHER = 2000, 500
 REFUSED = (2, "", "out of memory\n")
+# what a solve says that can't tell two names apart, for want of memory too
+UNTOLD = (2, "", "cannot write\n")
 ENDED = re.compile(r"error: (\w+\()*(Memory|AllocError|AllocFailed \{ \.\. \})\)*")
 ALONE = "no other thread came"
 AS_EVER = "as with ample memory"
@@ -104,6 +107,8 @@ class Command(Subject):
 
 class Solve(Command):
     def outcome(self, refuser, run, ample):
+        if run[:3] == UNTOLD and not any(run.made):
+            return "names not told apart"
         return super().outcome(refuser, run, ample) or (AS_EVER if self.checks(refuser, run) else None)
 
     def checks(self, refuser, run):
