@@ -5,7 +5,9 @@ use match_puzzle::Pair;
 use sample_puzzles::turning_triangle;
 use std::alloc::{AllocError, Global};
 use std::test::Fail;
-use xcc_dance::{Cite, Cites, Links, NoCites, Outcome, Search, SearchFault};
+use xcc_dance::{
+    Cite, Cites, Links, NoCites, OpenOptions, OpenSets, Outcome, Search, SearchFault, SearchOver,
+};
 use xcc_form::compile;
 
 // The uncovered items, and how many open options each has.
@@ -76,12 +78,12 @@ fn told(alloc: Global, outcome: Outcome) -> Result<(usize, Vec<u8>), Fail> {
 }
 
 // Whether it runs no more.
-fn has_failed(search: &mut Search<'_>) -> bool {
+fn has_failed<E: OpenOptions + Drop>(search: &mut SearchOver<E>) -> bool {
     matches!(search.run(&[], 10, &mut NoCites), Err(SearchFault::Failed))
 }
 
 // What a run comes to. Where memory is refused, each further run is to fail.
-fn outcome(search: &mut Search<'_>, fuel: u32) -> Result<Outcome, Fail> {
+fn outcome<E: OpenOptions + Drop>(search: &mut SearchOver<E>, fuel: u32) -> Result<Outcome, Fail> {
     match search.run(&[], fuel.min(1_000_000), &mut NoCites) {
         Ok(outcome) => Ok(outcome),
         Err(SearchFault::Memory) if has_failed(search) && has_failed(search) => Err(
@@ -90,6 +92,10 @@ fn outcome(search: &mut Search<'_>, fuel: u32) -> Result<Outcome, Fail> {
         Err(_) => Err(Fail::new("runs after it failed")),
     }
 }
+
+// Its whole tree.
+const WHOLE_TREE: &[u8; 92] =
+    b"lemma 0 prefix tree c 0 3 c 2 1 c 1 1 c 3 1 f 0 c 2 1 c 1 1 c 3 1 f 1 c 2 1 c 1 1 c 3 1 f 2\n";
 
 #[test]
 fn searches_the_turning_triangle(rt: HostRuntime) -> Result<(), Fail> {
@@ -103,16 +109,18 @@ fn searches_the_turning_triangle(rt: HostRuntime) -> Result<(), Fail> {
         let (found, line) = told(alloc, outcome(&mut search, 10)?)?;
         assert!(rt; search.branches() == 10);
         assert!(rt; found == 3);
-        assert!(rt;
-            line.as_slice()
-                == b"lemma 0 prefix tree c 0 3 c 2 1 c 1 1 c 3 1 f 0 c 2 1 c 1 1 c 3 1 f 1 c 2 1 c 1 1 c 3 1 f 2\n".as_slice()
-        );
+        assert!(rt; line.as_slice() == WHOLE_TREE.as_slice());
     }
     // with one branch node too few it gives up, and then it fails
     assert!(rt; matches!(outcome(&mut search, 9)?, Outcome::GaveUp));
     assert!(rt; search.branches() == 9);
     assert!(rt; has_failed(&mut search));
     assert!(rt; search.branches() == 9);
+    // the other engine comes to the same
+    let mut by_sets = SearchOver::over(alloc, OpenSets::new(alloc, &xcc)?)?;
+    let (found, line) = told(alloc, outcome(&mut by_sets, 10)?)?;
+    assert!(rt; found == 3);
+    assert!(rt; line.as_slice() == WHOLE_TREE.as_slice());
     Ok(())
 }
 

@@ -20,7 +20,7 @@ use std::alloc::AllocError;
 use std::sync::Wait;
 use std::sync::atomic::{AtomicBool, Ordering};
 use steal_crew::{Hand, LiveWork};
-use xcc_dance::{Cites, Outcome, Search, SearchFault};
+use xcc_dance::{Cites, OpenSets, Outcome, SearchFault, SearchOver};
 use xcc_form::Xcc;
 
 // What an open branch came to.
@@ -68,7 +68,8 @@ impl<'a, T: Wait, W: Watch> Searches<'a, T, W> {
         if !fit_in_turn(shared.alloc, self.xcc.puzzle(), pairs)? {
             return Ok(None);
         }
-        let mut search = Search::new(shared.alloc, self.xcc)?;
+        let engine = OpenSets::new(shared.alloc, self.xcc)?;
+        let mut search = SearchOver::over(shared.alloc, engine)?;
         match search.run_by(pairs, shared.fuel.min(MOST_FUEL), &shared.item_rule, cites) {
             Ok(Outcome::Done { tree, found }) => Ok(Some(Finished { tree, found })),
             Ok(Outcome::GaveUp) => Ok(None),

@@ -1,5 +1,6 @@
 -- What fits at a cell.
 use Rattle.std.proofs.Common.{◌≡◌, ◌<◌, ◌≤◌, ◌+◌, ◌*◌, ◌/◌, ◌%◌, ◌∷◌, [], ◌↔◌, ℕ, zero, suc, List, Contains, Option, Some, None, IfSome, unwrap_or, length, map, get_or, IsTrue, eqb, eq-eqb, ◌^◌, bit_and, arith, refl, sym, ap, ◌∙◌, subst, inl, inr, ⊎_elim}
+use Rattle.match_board.proofs.OptionLemmas.{none_some}
 use Rattle.match_board.specs.declared.limits.TheConstants.{MOST_COLOURS}
 use Rattle.std.specs.Int.{bit_at}
 use Rattle.std.proofs.lemmas.Nat.Bits.{shr_and_one}
@@ -21,9 +22,6 @@ use Rattle.match_puzzle.specs.declared.items.Item.{Item}
 use Rattle.match_puzzle.specs.declared.items.Item.TheVariants.{Cell, Tile}
 use Rattle.match_puzzle.proofs.Prefixes.{inside, free_or_has}
 use Rattle.match_puzzle.proofs.ArrangementLemmas.{side_in_range}
-
-none_some : {X : Type 0} {x : X} → None ≡ Some x → ⊥
-none_some e = cc
 
 -- ---- what is asked of a side
 

@@ -47,7 +47,7 @@ used_or_unused (y ∷ q) tile = ⊎_elim (λ w. inl (suc w.0, w.1, w.2, w.3)) (�
         elsewhere ne zero x has same = ne (ap (λ (y : Placement). y.tile) (twice has) ∙ same)
         elsewhere ne (suc cell) x has same = none cell x has same
 
-not_both : (q : Prefix) (tile : ℕ) → IsUsed q tile → IsUnused q tile → ⊥
+pub not_both : (q : Prefix) (tile : ℕ) → IsUsed q tile → IsUnused q tile → ⊥
 not_both q tile used unused = unused used.0 used.1 used.2 used.3
 
 -- A tile is placed where none of its placements is free.

@@ -61,7 +61,7 @@ only_places (suc digits) first number place c =
     (in_front ◌<◌ (λ x y p q. omega (arith, p, q)) first (places_of_ones digits (first + 1) (number / 2)) place (subst (λ xs. Contains xs place) (places_odd digits first number odd) c)))
     (even_or_odd number)
 
-behind : {X : Type 0} (x : X) (xs : List X) (y : X) → Contains xs y → Contains (x ∷ xs) y
+pub behind : {X : Type 0} (x : X) (xs : List X) (y : X) → Contains xs y → Contains (x ∷ xs) y
 behind x xs y c = (suc c.0, omega (arith, c.1), c.2)
 
 pub all_places : (digits first number digit : ℕ) → digit < digits → bit_at number digit ≡ 1 → Contains (places_of_ones digits first number) (first + digit)
@@ -397,7 +397,7 @@ module _ (words : List ℕ) (small : AreWords words) (group : ℕ) (in_range : g
 
 -- ---- the least number
 
-rising_asymmetric : IsAsymmetric ◌<◌
+pub rising_asymmetric : IsAsymmetric ◌<◌
 rising_asymmetric x y p q = omega (arith, p, q)
 
 -- A word's lowest one, where the words before have none, is taken off.
@@ -497,30 +497,34 @@ written_words words end place word end' is in_range fits more most past = record
     there : (i : ℕ) → i ≢ place → get_or (set words place word) i 0 ≡ get_or words i 0
     there i ne = get_or-set_other words place i word 0 ne
 
--- the words that sets have in common, up to the end of the first
-module _ (a b c d e f : List ℕ) (end i : ℕ) (is : AreWordsOfSet a end) (long : length f ≡ WORDS) (all : end ≤ i)
-    (done : (k : ℕ) → k < i → get_or f k 0 ≡ and_all (get_or a k 0) (get_or b k 0) (get_or c k 0) (get_or d k 0) (get_or e k 0)) (rest : (k : ℕ) → i ≤ k → get_or f k 0 ≡ 0) where
-  pub in_common : (k : ℕ) → get_or f k 0 ≡ and_all (get_or a k 0) (get_or b k 0) (get_or c k 0) (get_or d k 0) (get_or e k 0)
-  in_common k =
-      ⊎_elim
-      (λ lt. done k lt)
-      (λ le.
-      let none = is.past k (omega (arith, le, all)) in
-      let empty = rest k le in
-      let few = and_all_le (get_or a k 0) (get_or b k 0) (get_or c k 0) (get_or d k 0) (get_or e k 0) in
-      omega (arith, none, empty, few))
-      (lt_or_le k i)
+-- words that are made of those of a set, up to its end
+pub record AreMade (word : ℕ → ℕ) (end : ℕ) (words : List ℕ) : Type 0 where
+  pub each : (k : ℕ) → get_or words k 0 ≡ word k
+  pub of_set : AreWordsOfSet words end
 
-  few_in_common : (k : ℕ) → get_or f k 0 ≤ get_or a k 0
-  few_in_common k = let at = in_common k in let few = and_all_le (get_or a k 0) (get_or b k 0) (get_or c k 0) (get_or d k 0) (get_or e k 0) in omega (arith, at, few)
-
-  pub common_words : AreWordsOfSet f end
-  common_words = record {
+-- They have no ones but where the set has, and none are left behind.
+pub are_made : (word : ℕ → ℕ) (end : ℕ) (first words : List ℕ) (i : ℕ) → AreWordsOfSet first end → ((k : ℕ) → word k ≤ get_or first k 0) → length words ≡ WORDS → end ≤ i →
+    ((k : ℕ) → k < i → get_or words k 0 ≡ word k) → ((k : ℕ) → i ≤ k → get_or words k 0 ≤ get_or first k 0) → AreMade word end words
+are_made word end first words i is few long all done rest = record {
+  each = each;
+  of_set = record {
     long = long;
-    small = λ k. let few = few_in_common k in let old = is.small k in omega (arith, few, old);
+    small = λ k. let at = each k in let least = few k in let old = is.small k in omega (arith, at, least, old);
     most = is.most;
-    past = λ k le. let few = few_in_common k in let none = is.past k le in omega (arith, few, none);
-  }
+    past = λ k le. let at = each k in let least = few k in let none = is.past k le in omega (arith, at, least, none);
+  };
+}
+  where
+    each : (k : ℕ) → get_or words k 0 ≡ word k
+    each k =
+        ⊎_elim
+        (λ lt. done k lt)
+        (λ le.
+        let none = is.past k (omega (arith, le, all)) in
+        let left = rest k le in
+        let least = few k in
+        omega (arith, none, left, least))
+        (lt_or_le k i)
 
 joined_zeros : (words : List ℕ) → ((i : ℕ) → get_or words i 0 ≡ 0) → joined words ≡ 0
 unfolding joined

@@ -1,5 +1,6 @@
 -- What is looked up.
 use Rattle.std.proofs.Common.{◌≡◌, ◌≢◌, ◌⊎◌, ◌<◌, ◌≤◌, ◌+◌, ◌++◌, ◌∷◌, [], ◌↔◌, ℕ, zero, suc, Bool, List, Option, Some, None, MatchBool, IfSome, Contains, All, length, map, get_or, set, slice_get, arith, refl, ap, sym, ◌∙◌, subst, inl, inr, ⊎_elim}
+use Rattle.match_board.proofs.OptionLemmas.{none_some}
 use Rattle.match_board.specs.declared.limits.TheConstants.{MOST_COLOURS}
 use Rattle.std.proofs.lemmas.List.{length-map}
 use Rattle.match_board.specs.Board.{cell_count, side_count, Meets, IsBorderPair, IsBorderOrder}
@@ -20,9 +21,6 @@ use Rattle.match_board.specs.Listing.{IsListing, ComesBefore, HoldsBefore}
 use Rattle.match_board.proofs.Listings.{After, in_front, first_before, listing_rest, same_listing, contains_none, comes_before_asymmetric, comes_before_trans, lt_or_le}
 use Rattle.match_board.proofs.BorderLemmas.{border_next, inner_next, border_row, border_none}
 use Rattle.match_puzzle.proofs.Prefixes.{inside}
-
-none_some : {X : Type 0} {x : X} → None ≡ Some x → ⊥
-none_some e = cc
 
 same_pair : {a b c d : ℕ} → ◌≡◌ {A = Option (ℕ × ℕ)} (Some (a, b)) (Some (c, d)) → (a ≡ c) × (b ≡ d)
 same_pair e = (ap (λ (n : ℕ × ℕ). n.0) (inside e), ap (λ (n : ℕ × ℕ). n.1) (inside e))

@@ -1,6 +1,6 @@
 -- The words of a puzzle's tiles.
 use Rattle.std.proofs.lemmas.List.{length-map}
-use Rattle.std.proofs.Common.{◌≡◌, ◌<◌, ◌≤◌, ℕ, List, [], length, map, get_or, arith, ap, sym, ◌∙◌, subst, ◌↔◌, IsTrue, MatchBool, Bool, true, false, ltb, lt-ltb, None, Some, slice_get, refl, zero, suc, ◌∷◌}
+use Rattle.std.proofs.Common.{◌≡◌, ◌<◌, ◌≤◌, ℕ, List, [], length, map, get_or, arith, ap, sym, ◌∙◌, subst, ◌↔◌, IsTrue, MatchBool, Bool, true, false, ltb, lt-ltb, Some, slice_get, refl, zero, suc, ◌∷◌}
 use Rattle.std.proofs.lemmas.Bool.{ltb-true}
 use borrow.Author.Tests.{ltb-true}
 use Rattle.std.proofs.lemmas.List.{get_or-map, length-map}
@@ -56,9 +56,6 @@ pub inside_words : (words : List (List ℕ)) (ts : List Tile) (i : ℕ) (t : Til
 inside_words words ts i t e lt is =
     let long : i < length ts = omega (arith, ap length e, length-map ts word) in
     sym (word_at ts i t long is) ∙ ap (λ (ws : List (List ℕ)). get_or ws i []) e
-
-pub none_some : {X : Type 0} {x : X} → None ≡ Some x → ⊥
-none_some e = cc
 
 -- a legal turn is below the number of sides
 pub legal_below : (p : Task) (x : Placement) → IsPuzzle p → IsLegal p x → x.turn < side_count p.board

@@ -1,5 +1,5 @@
 -- What fits a prefix.
-use Rattle.std.specs.Prelude.{◌≡◌, ◌⊎◌, ◌<◌, ◌/◌, ◌%◌, ℕ, List, length}
+use Rattle.std.specs.Prelude.{◌≡◌, ◌⊎◌, ◌<◌, ◌≤◌, ◌+◌, ◌/◌, ◌%◌, ℕ, List, Option, IfSome, length}
 use Rattle.match_board.specs.Board.{cell_count, Meets}
 use Rattle.match_board.specs.Listing.{IsListing, ByKey}
 use Rattle.match_puzzle.specs.Puzzle.{Task, colour_of, mate_of, GoTogether, IsLegal, HasRule}
@@ -79,3 +79,35 @@ AreAsAsked p q cell side numbers =
 abbrev pub numbered_pair : Item → ℕ → Pair
 numbered_pair (Cell cell) n = record { cell = cell; placement = turned_tile (n / 4) (n % 4) }
 numbered_pair (Tile tile) n = record { cell = n / 4; placement = turned_tile tile (n % 4) }
+
+-- The item has this number, where there are so many cells: tiles follow the cells.
+abbrev pub IsNumberOf : (cells : ℕ) → (number : ℕ) → Item → Type 0
+IsNumberOf cells number (Cell cell) = (number ≡ cell) × (cell < cells)
+IsNumberOf cells number (Tile tile) = number ≡ cells + tile
+
+-- Where items stand in order, cells by number and then tiles by number, the one isn't after the other.
+abbrev pub IsNotAfter : Item → Item → Type 0
+IsNotAfter (Cell cell) (Cell other) = cell ≤ other
+IsNotAfter (Cell cell) (Tile other) = Unit {0}
+IsNotAfter (Tile tile) (Cell other) = ⊥
+IsNotAfter (Tile tile) (Tile other) = tile ≤ other
+
+-- Of the open items it has the fewest pairs that fit, and of those with so many it is the first.
+pub record HasFewestFitting (p : Task) (q : Prefix) (item : Item) : Type 0 where
+  pub is_open : IsOpen p q item
+  pub fewest : (other : Item) (xs ys : List Pair) → IsOpen p q other → AreFitting p q item xs → AreFitting p q other ys
+      → (length xs < length ys) ⊎ ((length xs ≡ length ys) × IsNotAfter item other)
+
+-- The pair comes after that one in the item's order; where none is named, each does.
+abbrev pub ComesAfterPair : Item → (after : Option Pair) → Pair → Type 0
+ComesAfterPair item after x = IfSome after (λ before. ByKey (item_key item) before x)
+
+-- the first pair after that one that fits and settles the item
+pub record IsNextFitting (p : Task) (q : Prefix) (item : Item) (after : Option Pair) (x : Pair) : Type 0 where
+  pub fits : FitsItem p q item x
+  pub after_it : ComesAfterPair item after x
+  pub first : (y : Pair) → FitsItem p q item y → ComesAfterPair item after y → (x ≡ y) ⊎ ByKey (item_key item) x y
+
+-- No pair that fits and settles the item comes after that one.
+abbrev pub IsLastFitting : Task → Prefix → Item → (after : Option Pair) → Type 0
+IsLastFitting p q item after = (y : Pair) → FitsItem p q item y → ComesAfterPair item after y → ⊥

@@ -12,3 +12,6 @@ pub mod Partials
 pub mod Equality
 pub mod NumberSets
 pub mod PlacementSets
+pub mod Placing
+pub mod FitRows
+pub mod FitSizes

@@ -98,7 +98,7 @@ impl<'a> Partial<'a> {
     }
 
     // The placements that show what is asked on the side of the cell, by number; all where there is no such side.
-    fn as_asked(&self, cell: u16, side: u8) -> &FixedSet
+    pub(crate) fn as_asked(&self, cell: u16, side: u8) -> &FixedSet
         requires cell { cell < cell_count self.now.puzzle.board }
         requires side { side < 4 }
         ensures { AreAsAsked self.now.puzzle self.now.placed cell side result.now }

@@ -3,8 +3,12 @@
 
 mod arrangement_faults;
 mod arrangements;
+mod behind;
 mod borders;
 mod faults;
+mod fit_counts;
+mod fit_rows;
+mod fit_sizes;
 mod fitting;
 mod fitting_pairs;
 mod items;
@@ -14,6 +18,7 @@ mod number_sets;
 mod partials;
 mod placement_sets;
 mod placements;
+mod placing;
 mod prefix_faults;
 mod puzzles;
 mod tables;
@@ -21,6 +26,7 @@ mod tables;
 pub use arrangements::Arrangement;
 pub use borders::{Border, BorderRules};
 pub use faults::{ArrangementFault, PrefixFault, PuzzleFault};
+pub use fit_counts::FitCounts;
 pub use fitting_pairs::FittingPairs;
 pub use items::Item;
 pub use laws::{colours_go_together, second_form_is_alike};

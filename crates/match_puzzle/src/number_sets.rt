@@ -1,10 +1,12 @@
 //! Sets of numbers below `NUMBERS`, as bits.
 
 ghost use Rattle.std.specs.Prelude.{◌≡◌, ◌≢◌, ◌⊎◌, ◌↔◌, ◌<◌, ◌≤◌, ◌/◌, ◌%◌, ◌*◌, ◌+◌, ℕ, [], ◌∷◌, Contains};
-ghost use Rattle.std.specs.Prelude.{MatchOption, length};
+ghost use Rattle.std.specs.Prelude.{IfSome, MatchOption, length};
 ghost use Rattle.std.specs.Int.{bit_at};
 ghost use Rattle.match_board.specs.Listing.{IsListing};
+ghost use Rattle.match_board.specs.First.{IsLeast};
 ghost use Rattle.match_puzzle.specs.NumberSets.{IsGroup};
+ghost use Rattle.match_puzzle.specs.FitSizes.{count_of_tile};
 
 use match_board::limits::MOST_TILES;
 use std::marker::Model;
@@ -155,6 +157,80 @@ impl NumberSet {
                     & fourth.words[i];
             }
         }
+    }
+
+    /// Makes this the numbers that are in both sets.
+    pub(crate) fn put_both(&mut self, first: &NumberSet, second: &NumberSet)
+        ensures { IsListing ◌<◌ (λ n. Contains first.now n × Contains second.now n) self.new }
+    {
+        self.words = [0; WORDS];
+        self.end = first.end;
+        for i in 0..first.end {
+            self.words[i] = first.words[i] & second.words[i];
+        }
+    }
+
+    /// Makes this the numbers that are in the first and the last set, and not in the second.
+    pub(crate) fn put_without(&mut self, first: &NumberSet, without: &FixedSet, last: &NumberSet)
+        ensures { IsListing ◌<◌ (λ n. Contains first.now n × (Contains without.now n → ⊥)
+            × Contains last.now n) self.new }
+    {
+        self.words = [0; WORDS];
+        self.end = first.end;
+        for i in 0..first.end {
+            self.words[i] = first.words[i] & !without.words[i] & last.words[i];
+        }
+    }
+
+    /// Takes all numbers off that are not in the other set.
+    pub(crate) fn keep(&mut self, kept: &FixedSet)
+        ensures { IsListing ◌<◌ (λ n. Contains self.old n × Contains kept.now n) self.new }
+    {
+        for i in 0..self.end {
+            self.words[i] &= kept.words[i];
+        }
+    }
+
+    /// The least number from this one on that is in both sets.
+    pub(crate) fn next_in_both(&self, other: &NumberSet, from: u16) -> Option<u16>
+        requires { from ≤ NUMBERS }
+        ensures few { IfSome result (λ n. n < NUMBERS) }
+        ensures least { MatchOption result
+            ((n : ℕ) → Contains self.now n → Contains other.now n → from ≤ n → ⊥)
+            (IsLeast (λ n. Contains self.now n × Contains other.now n × (from ≤ n))) }
+    {
+        let first = usize::from(from / WORD_BITS);
+        let mut mask = u64::MAX << (from % WORD_BITS);
+        for i in first..self.end {
+            let word = self.words[i] & other.words[i] & mask;
+            if word != 0 {
+                return Some(WORD_BITS * i as u16 + word.trailing_zeros() as u16);
+            }
+            mask = u64::MAX;
+        }
+        None
+    }
+
+    /// The least number from this one on.
+    pub(crate) fn next(&self, from: u16) -> Option<u16>
+        requires { from ≤ NUMBERS }
+        ensures few { IfSome result (λ n. n < NUMBERS) }
+        ensures least { MatchOption result
+            ((n : ℕ) → Contains self.now n → from ≤ n → ⊥)
+            (IsLeast (λ n. Contains self.now n × (from ≤ n))) }
+    {
+        self.next_in_both(self, from)
+    }
+
+    /// How many numbers of the group there are.
+    pub(crate) fn group_len(&self, group: u16) -> u8
+        requires { group < GROUPS }
+        ensures count { result ≡ count_of_tile self.now group }
+        ensures few { result ≤ 4 }
+    {
+        let word = self.words[usize::from(group / WORD_GROUPS)];
+        let digits = (word >> (4 * (group % WORD_GROUPS)) & 15) as u8;
+        digits.count_ones() as u8
     }
 
     /// Which numbers of the group are in this set and in each of four others: the first by the lowest bit.

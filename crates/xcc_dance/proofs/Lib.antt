@@ -7,6 +7,8 @@ pub mod BackLemmas
 pub mod GrowingLemmas
 pub mod PlacingLemmas
 pub mod OpenFittingLemmas
+pub mod OpenSetLemmas
+pub mod EngineLemmas
 pub mod WithinLemmas
 pub mod SearchTreeLemmas
 pub mod WalkLemmas

@@ -1,12 +1,12 @@
 -- Open options are those whose pairs fit.
-use Rattle.std.proofs.Common.{◌≡◌, ◌<◌, ◌≤◌, ◌+◌, ◌-◌, ◌++◌, ◌∷◌, [], ℕ, zero, suc, List, Option, Some, None, Contains, length, length-append, slice_get, get_or, take, arith, refl, ap, inl, inr, sym, ◌∙◌, subst, ⊎_elim}
+use Rattle.std.proofs.Common.{◌≡◌, ◌<◌, ◌+◌, ◌++◌, ◌∷◌, [], ℕ, zero, suc, List, Option, Some, None, Contains, length, slice_get, get_or, arith, refl, ap, inl, inr, sym, ◌∙◌, subst, ⊎_elim}
 use Rattle.std.proofs.Math.Seq.{take-append_seam, take-length}
-use Rattle.std.proofs.lemmas.List.{take-append-le, get_or_push, length-replicate}
-use Rattle.std.proofs.lemmas.Option.{slice_get_within, slice_get-get_or, get_or_from_slice_get, none-some}
+use Rattle.std.proofs.lemmas.List.{length-replicate}
+use Rattle.std.proofs.lemmas.Option.{slice_get_within, get_or_from_slice_get, none-some}
 use Rattle.match_board.specs.Board.{Meets, cell_count}
 use Rattle.match_board.specs.Listing.{ByKey}
 use Rattle.match_board.proofs.Places.{Meets-turned}
-use Rattle.match_board.proofs.Listings.{comes_before_asymmetric, lt_or_le}
+use Rattle.match_board.proofs.Listings.{comes_before_asymmetric}
 use Rattle.match_puzzle.specs.Puzzle.{Task, colour_of}
 use Rattle.match_puzzle.specs.Prefix.{Prefix, Has, IsFree, empty_prefix}
 use Rattle.match_puzzle.specs.Fitting.{Fits, FitsItem, AreFitting, Settles, item_key, tile_turn}
@@ -15,44 +15,28 @@ use Rattle.match_puzzle.specs.declared.items.Item.{Item}
 use Rattle.match_puzzle.specs.declared.items.Item.TheVariants.{Cell, Tile}
 use Rattle.match_puzzle.specs.declared.placements.Placement.{Placement}
 use Rattle.match_puzzle.specs.declared.placements.Pair.{Pair}
-use Rattle.match_puzzle.proofs.Kept.{has_none}
+use Rattle.match_puzzle.proofs.Kept.{has_none, used_or_unused}
 use Rattle.match_puzzle.proofs.MateLemmas.{together_turned}
+use Rattle.match_puzzle.proofs.ItemLemmas.{item_of, not_after, at_most}
+use Rattle.match_puzzle.proofs.PlacedPairLemmas.{fit_pushed, at_end}
 use Rattle.match_puzzle.proofs.PairLemmas.{has_of_pairs, free_of_pairs, free_in_empty, length-with_pairs}
-use Rattle.match_puzzle.proofs.Prefixes.{inside}
+use Rattle.match_puzzle.proofs.Prefixes.{inside, free_or_has}
 use Rattle.xcc_form.specs.ExactCover.{HasPrimary}
 use Rattle.xcc_form.specs.Options.{Compiled, IsCompiled, IsOptionPair, PairComesBefore, cover_of}
 use Rattle.xcc_form.specs.Correspondence.{IsPairOf}
 use Rattle.xcc_form.proofs.OptionLemmas.{contains_at, place_of, read_in, option_pair, option_for, pairs_rise, one_option, one_pair, pair_at, many_options}
 use Rattle.xcc_form.proofs.PairsLemmas.{in_first, in_rest}
 use Rattle.xcc_dance.specs.Clashes.{IsPartialSolution, IsOpen, IsOpenAt}
-use Rattle.xcc_dance.specs.Chosen.{AreOpenAt, HasSize, IsUncovered}
-use Rattle.xcc_dance.specs.Found.{IsNumberOf}
-use Rattle.xcc_dance.specs.Placing.{prefix_of, FitInTurn, ArePairsOf}
-use Rattle.xcc_dance.specs.FittingOptions.{AreOpenWhereFitting, AreOpenWhereSettling, AreOpenWhereListed, AreOpenInOrder, AreFittingInOrder, AreAsManyAsFitting, AreUncoveredWhereOpen, AreBranchedOnWhereFewest, StandAsPairs, IsNotAfter, AreFittingAt}
+use Rattle.xcc_dance.specs.Chosen.{AreOpenAt, HasSize, IsUncovered, IsCovered}
+use Rattle.match_puzzle.specs.Fitting.{IsNumberOf}
+use Rattle.match_puzzle.specs.Placing.{prefix_of}
+use Rattle.xcc_dance.specs.Placing.{ArePairsOf}
+use Rattle.xcc_dance.specs.FittingOptions.{AreOpenWhereFitting, AreOpenWhereSettling, AreOpenWhereListed, AreOpenInOrder, AreFittingInOrder, AreAsManyAsFitting, AreUncoveredWhereOpen, AreBranchedOnWhereFewest, StandAsPairs, AreFittingAt}
 use Rattle.xcc_dance.proofs.ItemLemmas.{share_cell, share_tile, cell_has, tile_has, is_item}
-use Rattle.xcc_dance.proofs.PartialLemmas.{pushed_at}
 use Rattle.xcc_dance.proofs.PlacingLemmas.{match, fit_in_turn, stands_after, next_is_open, option_pair_at}
 use Rattle.xcc_dance.proofs.SizeLemmas.{size_same}
 
 -- ---- pairs, one after the other
-
--- one pair more that fits
-fit_pushed : (p : Task) (pairs : List Pair) (y : Pair) → FitInTurn p pairs → Fits p (prefix_of p pairs) y.cell y.placement → FitInTurn p (pairs ++ y ∷ [])
-fit_pushed p pairs y fit fits place z at =
-    ⊎_elim
-    (λ old.
-    let within = slice_get_within pairs place z old in
-    subst (λ ps. Fits p (prefix_of p ps) z.cell z.placement) (sym (take-append-le place pairs (y ∷ []) (omega (arith, within)))) (fit place z old))
-    (λ new.
-    subst (λ (q : Pair). Fits p (prefix_of p (take place (pairs ++ y ∷ []))) q.cell q.placement) (sym new.1)
-    (subst (λ ps. Fits p (prefix_of p ps) y.cell y.placement) (sym (ap (λ n. take n (pairs ++ y ∷ [])) new.0 ∙ take-append_seam pairs (y ∷ []))) fits))
-    (pushed_at pairs y place z at)
-
--- the last pair
-at_end : (pairs : List Pair) (y : Pair) → slice_get (pairs ++ y ∷ []) (length pairs) ≡ Some y
-at_end pairs y =
-    let long = length-append pairs (y ∷ []) in
-    slice_get-get_or (pairs ++ y ∷ []) (length pairs) y (omega (arith, long)) ∙ ap Some (get_or_push pairs y y (length pairs) refl)
 
 -- of two pairs only one comes before the other
 one_way : (y z : Pair) → PairComesBefore y z → PairComesBefore z y → ⊥
@@ -76,10 +60,6 @@ before_key (Tile tile) y z s t (inr (e, inr f)) = inr (e, f.1)
 
 -- ---- items and their numbers
 
--- the item with this number
-item_of : (cells number : ℕ) → (item : Item) × IsNumberOf cells number item
-item_of cells number = ⊎_elim (λ lt. (Cell number, (refl, lt))) (λ le. (Tile (number - cells), omega (arith, le))) (lt_or_le number cells)
-
 -- the number of an open item
 number_of : (p : Task) (pairs : List Pair) (item : Item) → items.IsOpen p (prefix_of p pairs) item → (number : ℕ) × IsNumberOf (cell_count p.board) number item
 number_of p pairs (Cell cell) free =
@@ -87,18 +67,6 @@ number_of p pairs (Cell cell) free =
     let long = length-with_pairs pairs (empty_prefix p) ∙ length-replicate {A = Option Placement} (cell_count p.board) None in
     (cell, (refl, omega (arith, lt, long)))
 number_of p pairs (Tile tile) unused = (cell_count p.board + tile, refl)
-
-not_after : (cells m n : ℕ) (item other : Item) → IsNumberOf cells m item → IsNumberOf cells n other → m ≤ n → IsNotAfter item other
-not_after cells m n (Cell c) (Cell d) is is' le = omega (arith, is.0, is'.0, le)
-not_after cells m n (Cell c) (Tile u) is is' le = tt
-not_after cells m n (Tile t) (Cell d) is is' le = omega (arith, is, is'.0, is'.1, le)
-not_after cells m n (Tile t) (Tile u) is is' le = omega (arith, is, is', le)
-
-at_most : (cells m n : ℕ) (item other : Item) → IsNumberOf cells m item → IsNumberOf cells n other → IsNotAfter item other → m ≤ n
-at_most cells m n (Cell c) (Cell d) is is' le = omega (arith, is.0, is'.0, le)
-at_most cells m n (Cell c) (Tile u) is is' le = omega (arith, is.0, is.1, is')
-at_most cells m n (Tile t) (Cell d) is is' le = absurd le
-at_most cells m n (Tile t) (Tile u) is is' le = omega (arith, is, is', le)
 
 module _ (x : Compiled) (is : IsCompiled x) where
   -- ---- options of pairs
@@ -203,6 +171,28 @@ module _ (x : Compiled) (is : IsCompiled x) where
           (has_of_pairs pairs (empty_prefix x.puzzle) cell z has),
     )
 
+    -- a settled item is covered
+    pub settled_covered : (item : Item) (number : ℕ) → IsNumberOf (cell_count x.puzzle.board) number item → items.IsItem x.puzzle item → (items.IsOpen x.puzzle (prefix_of x.puzzle pairs) item → ⊥) → IsCovered (cover_of x) chosen number
+    settled_covered (Cell cell) number n lt settled =
+        let long = length-with_pairs pairs (empty_prefix x.puzzle) ∙ length-replicate {A = Option Placement} (cell_count x.puzzle.board) None in
+        ⊎_elim
+        (λ free. absurd (settled free))
+        (λ w.
+        ⊎_elim
+        (λ u. let v = chosen_of u.place u.pair u.there in (v.0, v.1, settles_has (Cell cell) number v.0 u.pair n v.2 u.cell))
+        (λ none. absurd (has_none (cell_count x.puzzle.board) cell w.0 none))
+        (has_of_pairs pairs (empty_prefix x.puzzle) cell w.0 w.1))
+        (free_or_has (prefix_of x.puzzle pairs) cell (omega (arith, lt, long)))
+    settled_covered (Tile tile) number n lt settled =
+        ⊎_elim
+        (λ w.
+        ⊎_elim
+        (λ u. let v = chosen_of u.place u.pair u.there in (v.0, v.1, settles_has (Tile tile) number v.0 u.pair n v.2 (ap (λ (q : Placement). q.tile) u.placement ∙ w.3)))
+        (λ none. absurd (has_none (cell_count x.puzzle.board) w.0 w.1 none))
+        (has_of_pairs pairs (empty_prefix x.puzzle) w.0 w.1 w.2))
+        (λ unused. absurd (settled (lt, unused)))
+        (used_or_unused (prefix_of x.puzzle pairs) tile)
+
     -- ---- where the chosen options don't clash
 
     module _ (partial : IsPartialSolution (cover_of x) chosen) where
@@ -248,7 +238,7 @@ module _ (x : Compiled) (is : IsCompiled x) where
       uncovered_where_open number item n = (uncovered_open item number n, open_uncovered item number n)
 
       -- a pair that fits is an option's
-      fitting_option : (y : Pair) → Fits x.puzzle (prefix_of x.puzzle pairs) y.cell y.placement → IsOptionPair x.puzzle y
+      pub fitting_option : (y : Pair) → Fits x.puzzle (prefix_of x.puzzle pairs) y.cell y.placement → IsOptionPair x.puzzle y
       fitting_option y fits = option_pair_at x.puzzle (pairs ++ y ∷ []) (fit_pushed x.puzzle pairs y (fit_in_turn x is chosen pairs partial of) fits) (length pairs) y (at_end pairs y)
 
       pub open_where_settling : AreOpenWhereSettling x chosen pairs

@@ -1,18 +1,13 @@
 -- Partial solutions with one option more, and with fewer.
-use Rattle.std.proofs.Common.{◌≡◌, ◌⊎◌, ◌<◌, ◌++◌, ◌∷◌, [], ℕ, zero, suc, List, Some, length, slice_get, arith, inl, inr, sym, subst, ⊎_elim, refl}
+use Rattle.std.proofs.Common.{◌<◌, ◌++◌, ◌∷◌, [], ℕ, List, length, take, arith, sym, ◌∙◌, subst, ⊎_elim}
+use Rattle.std.proofs.lemmas.List.{get_or-take, length-take}
 use Rattle.std.proofs.lemmas.List.Elements.{Contains-push_cases}
-use Rattle.std.proofs.lemmas.Option.{slice_get_within, none-some}
-use Rattle.match_puzzle.proofs.Prefixes.{inside}
+use Rattle.std.proofs.lemmas.Option.{slice_get_within}
+use Rattle.match_puzzle.proofs.PairLemmas.{taken_at}
+use Rattle.match_puzzle.proofs.PlacedPairLemmas.{pushed_at}
 use Rattle.xcc_form.proofs.OptionLemmas.{contains_at}
 use Rattle.xcc_form.specs.ExactCover.{Cover}
 use Rattle.xcc_dance.specs.Clashes.{Clash, IsOpen, IsPartialSolution}
-
--- what stands at a place of a list with one more
-pub pushed_at : {X : Type 0} (xs : List X) (z : X) (i : ℕ) (x : X) → slice_get (xs ++ z ∷ []) i ≡ Some x → (slice_get xs i ≡ Some x) ⊎ ((i ≡ length xs) × (x ≡ z))
-pushed_at [] z zero x at = inr (refl, sym (inside at))
-pushed_at [] z (suc i) x at = absurd (none-some x at)
-pushed_at (y ∷ xs) z zero x at = inl at
-pushed_at (y ∷ xs) z (suc i) x at = ⊎_elim (λ e. inl e) (λ e. inr (omega (arith, e.0), e.1)) (pushed_at xs z i x at)
 
 module _ (x : Cover) (chosen : List ℕ) (partial : IsPartialSolution x chosen) where
   pub one_more : (option : ℕ) → IsOpen x chosen option → IsPartialSolution x (chosen ++ option ∷ [])
@@ -27,4 +22,13 @@ module _ (x : Cover) (chosen : List ℕ) (partial : IsPartialSolution x chosen) 
         (pushed_at chosen option place' p at'))
         (λ last. let within = ⊎_elim (λ there. let w = slice_get_within chosen place' p there in omega (arith, w, lt, last.0)) (λ end. omega (arith, end.0, lt, last.0)) (pushed_at chosen option place' p at') in absurd within)
         (pushed_at chosen option place o at);
+  }
+
+  pub fewer : (n : ℕ) → IsPartialSolution x (take n chosen)
+  fewer n = record {
+    real = λ o c.
+        let within = c.1 in
+        let long = length-take n chosen in
+        partial.real o (c.0, omega (arith, within, long), sym (get_or-take n chosen c.0 o (omega (arith, within, long))) ∙ c.2);
+    apart = λ place place' o p lt at at' clash. partial.apart place place' o p lt (taken_at chosen n place o at).1 (taken_at chosen n place' p at').1 clash;
   }

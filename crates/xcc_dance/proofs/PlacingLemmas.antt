@@ -11,6 +11,7 @@ use Rattle.match_puzzle.specs.Prefix.{Prefix, Has, IsFree, empty_prefix, with_pa
 use Rattle.match_puzzle.specs.declared.placements.Placement.{Placement}
 use Rattle.match_puzzle.specs.declared.placements.Pair.{Pair}
 use Rattle.match_puzzle.proofs.Prefixes.{inside, has_new, has_still}
+use Rattle.match_puzzle.proofs.PlacedPairLemmas.{pushed_at}
 use Rattle.match_puzzle.proofs.PairLemmas.{has_of_pairs, free_of_pairs, free_in_empty, length-with_pairs, taken_at, next_pair}
 use Rattle.match_puzzle.proofs.Kept.{has_none}
 use Rattle.match_board.specs.Board.{cell_count}
@@ -24,9 +25,9 @@ use Rattle.xcc_form.proofs.GivenLemmas.{given_alike, met}
 use Rattle.xcc_form.proofs.ShownLemmas.{shared_at}
 use Rattle.xcc_dance.specs.Clashes.{Clash, IsPartialSolution, IsOpen}
 use Rattle.xcc_dance.specs.Chosen.{Selection}
-use Rattle.xcc_dance.specs.Placing.{prefix_of, FitInTurn, ArePairsOf, IsArrangementWith}
+use Rattle.match_puzzle.specs.Placing.{prefix_of, FitInTurn}
+use Rattle.xcc_dance.specs.Placing.{ArePairsOf, IsArrangementWith}
 use Rattle.xcc_dance.specs.Found.{IsFoundFrom}
-use Rattle.xcc_dance.proofs.PartialLemmas.{pushed_at}
 use Rattle.xcc_dance.proofs.ItemLemmas.{share_cell, share_tile, shares}
 
 module _ (x : Compiled) (is : IsCompiled x) where

@@ -11,7 +11,8 @@ use Rattle.cert_tree.specs.declared.nodes.Node.{Node, Found}
 use Rattle.cert_tree.proofs.TreeLemmas.{tree_of-Found}
 use Rattle.xcc_dance.specs.Clashes.{IsOpenAt}
 use Rattle.xcc_dance.specs.Chosen.{Selection, AreOpenAt, HasSize, with_option}
-use Rattle.xcc_dance.specs.Found.{IsNumberOf, IsDeadAt, IsBranchOn, branch_total}
+use Rattle.match_puzzle.specs.Fitting.{IsNumberOf}
+use Rattle.xcc_dance.specs.Found.{IsDeadAt, IsBranchOn, branch_total}
 use Rattle.xcc_dance.specs.Progress.{AreKept}
 use Rattle.xcc_dance.specs.SearchTree.{Picks, Answers, IsAbout, IsSearchTree, AreChildren, IsChild, AreBranchesOf}
 use Rattle.xcc_dance.specs.Unfinished.{wanted, begun, IsNotCited, IsPartOfSearch, IsUnfinished, AreUnfinished}

@@ -7,7 +7,8 @@ use Rattle.match_text.specs.declared.ranges.TheConstants.{SECOND}
 use Rattle.cert_tree.specs.Tree.{Tree, Forest, branch, dead, found, same, image, none, more, count, tree_of, forest_of}
 use Rattle.cert_tree.specs.TreeSpelling.{IsItemWithin, IsTreeWithin, AreTreesWithin}
 use Rattle.cert_tree.specs.declared.nodes.Node.{Node}
-use Rattle.xcc_dance.specs.Found.{IsNumberOf, IsBranchOn}
+use Rattle.match_puzzle.specs.Fitting.{IsNumberOf}
+use Rattle.xcc_dance.specs.Found.{IsBranchOn}
 
 one_level : (levels : ℕ) (tree : Tree) → IsTreeWithin SECOND (suc levels) tree → IsTreeWithin SECOND (levels + 1) tree
 one_level levels tree h = subst (λ n. IsTreeWithin SECOND n tree) (sym (add-one levels)) h

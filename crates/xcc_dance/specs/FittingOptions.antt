@@ -1,20 +1,17 @@
 -- Open options, said of pairs: they are those whose pairs fit.
-use Rattle.std.specs.Prelude.{◌≡◌, ◌⊎◌, ◌<◌, ◌≤◌, ◌↔◌, ℕ, List, Contains, length}
+use Rattle.std.specs.Prelude.{◌≡◌, ◌<◌, ◌↔◌, ℕ, List, Contains, length}
 use Rattle.match_board.specs.Board.{cell_count}
 use Rattle.match_board.specs.Listing.{ByKey}
-use Rattle.match_puzzle.specs.Puzzle.{Task}
-use Rattle.match_puzzle.specs.Prefix.{Prefix}
-use Rattle.match_puzzle.specs.Fitting.{Fits, FitsItem, Settles, AreFitting, item_key}
+use Rattle.match_puzzle.specs.Fitting.{Fits, FitsItem, Settles, AreFitting, HasFewestFitting, IsNumberOf, item_key}
 use Rattle.match_puzzle.specs.Fitting as items
+use Rattle.match_puzzle.specs.Placing.{prefix_of}
 use Rattle.match_puzzle.specs.declared.items.Item.{Item}
-use Rattle.match_puzzle.specs.declared.items.Item.TheVariants.{Cell, Tile}
 use Rattle.match_puzzle.specs.declared.placements.Pair.{Pair}
 use Rattle.xcc_form.specs.Options.{Compiled, cover_of}
 use Rattle.xcc_form.specs.Correspondence.{IsPairOf}
 use Rattle.xcc_dance.specs.Clashes.{IsOpen, IsOpenAt}
 use Rattle.xcc_dance.specs.Chosen.{AreOpenAt, HasSize, IsUncovered, IsToBranchOn}
-use Rattle.xcc_dance.specs.Found.{IsNumberOf}
-use Rattle.xcc_dance.specs.Placing.{prefix_of, ArePairsOf}
+use Rattle.xcc_dance.specs.Placing.{ArePairsOf}
 
 -- An option is open just where its pair fits beside the pairs of the chosen ones.
 abbrev pub AreOpenWhereFitting : Compiled → (chosen : List ℕ) → (pairs : List Pair) → Type 0
@@ -71,19 +68,6 @@ abbrev pub AreUncoveredWhereOpen : Compiled → (chosen : List ℕ) → (pairs :
 AreUncoveredWhereOpen x chosen pairs =
     (number : ℕ) (item : Item) → IsNumberOf (cell_count x.puzzle.board) number item
     → IsUncovered (cover_of x) chosen number ↔ items.IsOpen x.puzzle (prefix_of x.puzzle pairs) item
-
--- Where items stand in order, cells by number and then tiles by number, the one isn't after the other.
-abbrev pub IsNotAfter : Item → Item → Type 0
-IsNotAfter (Cell cell) (Cell other) = cell ≤ other
-IsNotAfter (Cell cell) (Tile other) = Unit {0}
-IsNotAfter (Tile tile) (Cell other) = ⊥
-IsNotAfter (Tile tile) (Tile other) = tile ≤ other
-
--- Of the open items it has the fewest pairs that fit, and of those with so many it is the first.
-pub record HasFewestFitting (p : Task) (q : Prefix) (item : Item) : Type 0 where
-  pub is_open : items.IsOpen p q item
-  pub fewest : (other : Item) (xs ys : List Pair) → items.IsOpen p q other → AreFitting p q item xs
-      → AreFitting p q other ys → (length xs < length ys) ⊎ ((length xs ≡ length ys) × IsNotAfter item other)
 
 -- An item is to be branched on just where it has the fewest pairs that fit.
 abbrev pub AreBranchedOnWhereFewest : Compiled → (chosen : List ℕ) → (pairs : List Pair) → Type 0

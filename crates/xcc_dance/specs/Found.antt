@@ -1,8 +1,8 @@
 -- What a search finds, and its tree.
 use Rattle.std.specs.Prelude.{◌≡◌, ℕ, ◌+◌, ◌<◌, List, Contains}
 use Rattle.match_puzzle.specs.declared.placements.Placement.{Placement}
+use Rattle.match_puzzle.specs.Fitting.{IsNumberOf}
 use Rattle.match_puzzle.specs.declared.items.Item.{Item}
-use Rattle.match_puzzle.specs.declared.items.Item.TheVariants.{Cell, Tile}
 use Rattle.cert_tree.specs.Tree.{Tree, Forest, branch, dead, found, same, image, none, more}
 use Rattle.xcc_form.specs.Correspondence.{IsSolutionOf}
 use Rattle.xcc_dance.specs.Chosen.{Selection}
@@ -14,11 +14,6 @@ pub record IsFoundFrom (s : Selection) (a : List Placement) : Type 0 where
   pub solution : List ℕ
   pub is_solution : IsSolutionOf s.compiled a solution
   pub has_chosen : (option : ℕ) → Contains s.chosen option → Contains solution option
-
--- The item has this number, where there are so many cells: tiles follow the cells.
-abbrev pub IsNumberOf : (cells : ℕ) → (number : ℕ) → Item → Type 0
-IsNumberOf cells number (Cell cell) = (number ≡ cell) × (cell < cells)
-IsNumberOf cells number (Tile tile) = number ≡ cells + tile
 
 -- The tree is a dead end at the item with this number.
 abbrev pub IsDeadAt : (cells item : ℕ) → Tree → Type 0

@@ -7,7 +7,7 @@ use Rattle.match_text.specs.declared.ranges.TheConstants.{SECOND}
 use Rattle.cert_tree.specs.Tree.{Tree, tree_of}
 use Rattle.cert_tree.specs.TreeSpelling.{IsTreeWithin}
 use Rattle.xcc_form.specs.Options.{Compiled}
-use Rattle.xcc_dance.specs.LinkStates.{LinkState}
+use Rattle.xcc_dance.specs.Chosen.{Selection}
 use Rattle.xcc_dance.specs.Placing.{ArePairsOf, IsArrangementWith}
 use Rattle.xcc_dance.specs.Found.{branch_count, IsFoundBelow}
 use Rattle.xcc_dance.specs.SearchTree.{Picks, Answers, IsSearchTree}
@@ -22,9 +22,9 @@ abbrev pub IsCiteWithin : Cite → Type 0
 IsCiteWithin (Same lemma) = lemma < MOST_LEMMAS
 IsCiteWithin (Image lemma symmetry) = (lemma < MOST_LEMMAS) × (symmetry < MOST_SYMMETRIES)
 
--- a search: its link arrays, how many branch nodes its last run made, and whether it failed
-pub record SearchState : Type 0 where
-  pub links : LinkState
+-- a search: its engine, which keeps what is chosen, how many branch nodes its last run made, and whether it failed
+pub record SearchState (S : Type 0) : Type 0 where
+  pub engine : S
   pub branches : ℕ
   pub failed : Bool
 
@@ -37,13 +37,14 @@ pub record IsSearched (x : Compiled) (prefix : List Pair) (tree : Tree) (found :
   pub branch_nodes : branch_count tree ≡ branches
   pub within : length found ≤ MOST_ARRANGEMENTS → IsTreeWithin SECOND SECOND.most_levels tree
 
--- The outcome of a run, by what the search was before and is then: all was found, and each link and each size is what
--- it was; or just the fuel was spent, and the search failed.
-abbrev pub IsOutcome : (before after : SearchState) → List Pair → (fuel : ℕ) → Outcome → Type 0
-IsOutcome before after prefix fuel (Done tree found) =
-    IsSearched after.links.compiled prefix (tree_of tree) found.items after.branches × (after.links ≡ before.links)
-    × (after.failed ≡ false)
-IsOutcome before after prefix fuel GaveUp = (after.branches ≡ fuel) × (after.failed ≡ true)
+-- The outcome of a run, by what the search was before and is then: all was found, and the engine is what it was, with
+-- link arrays each link and each size; or just the fuel was spent, and the search failed.
+abbrev pub IsOutcome : {S : Type 0} → (selection : S → Selection) → (before after : SearchState S) → List Pair
+    → (fuel : ℕ) → Outcome → Type 0
+IsOutcome selection before after prefix fuel (Done tree found) =
+    IsSearched (selection after.engine).compiled prefix (tree_of tree) found.items after.branches
+    × (after.engine ≡ before.engine) × (after.failed ≡ false)
+IsOutcome selection before after prefix fuel GaveUp = (after.branches ≡ fuel) × (after.failed ≡ true)
 
 -- The tree that a run came to is that of a search from the options of the prefix. Where it gave up, such a search is
 -- unfinished after as many branch nodes as there was fuel.

@@ -1,22 +1,13 @@
--- Pairs that are placed one after the other, and the options that they are those of.
-use Rattle.std.specs.Prelude.{◌≡◌, ℕ, List, Some, Contains, length, slice_get, take}
+-- The pairs of options, and arrangements that have them.
+use Rattle.std.specs.Prelude.{◌≡◌, ℕ, List, Option, None, Some, Contains, length, slice_get}
 use Rattle.match_puzzle.specs.Puzzle.{Task}
 use Rattle.match_puzzle.specs.Arrangement.{IsArrangement, Stands}
-use Rattle.match_puzzle.specs.Prefix.{Prefix, empty_prefix, with_pairs}
-use Rattle.match_puzzle.specs.Fitting.{Fits}
+use Rattle.match_puzzle.specs.Placing.{Placing}
 use Rattle.match_puzzle.specs.declared.placements.Placement.{Placement}
 use Rattle.match_puzzle.specs.declared.placements.Pair.{Pair}
 use Rattle.xcc_form.specs.Options.{Compiled}
 use Rattle.xcc_form.specs.Correspondence.{IsPairOf}
-
--- the prefix that these pairs make
-abbrev pub prefix_of : Task → List Pair → Prefix
-prefix_of p pairs = with_pairs pairs (empty_prefix p)
-
--- Each pair fits those before it.
-abbrev pub FitInTurn : Task → List Pair → Type 0
-FitInTurn p pairs =
-    (place : ℕ) (x : Pair) → slice_get pairs place ≡ Some x → Fits p (prefix_of p (take place pairs)) x.cell x.placement
+use Rattle.xcc_dance.specs.Chosen.{IsSelection}
 
 -- The pairs are those of the options, one for each, in their order.
 pub record ArePairsOf (x : Compiled) (options : List ℕ) (pairs : List Pair) : Type 0 where
@@ -28,3 +19,16 @@ pub record ArePairsOf (x : Compiled) (options : List ℕ) (pairs : List Pair) : 
 pub record IsArrangementWith (p : Task) (pairs : List Pair) (a : List Placement) : Type 0 where
   pub arrangement : IsArrangement p a
   pub extends : (x : Pair) → Contains pairs x → Stands a x.cell x.placement
+
+-- The options are chosen of the compiled puzzle, and just their pairs are placed, in the same order.
+pub record IsPlacingOf (x : Compiled) (chosen : List ℕ) (placing : Placing) : Type 0 where
+  pub selection : IsSelection x chosen
+  pub puzzle : placing.puzzle ≡ x.puzzle
+  pub pairs : ArePairsOf x chosen placing.pairs
+
+-- The pair is that of the option, or neither is there.
+abbrev pub IsPairOfAny : Compiled → Option ℕ → Option Pair → Type 0
+IsPairOfAny x None None = Unit {0}
+IsPairOfAny x None (Some y) = ⊥
+IsPairOfAny x (Some option) None = ⊥
+IsPairOfAny x (Some option) (Some y) = IsPairOf x option y

@@ -9,7 +9,8 @@ use Rattle.xcc_form.specs.Options.{cover_of}
 use Rattle.xcc_form.specs.Correspondence.{IsSolutionOf}
 use Rattle.xcc_dance.specs.Chosen.{Selection, AreOpenAt, IsToBranchOn, with_option}
 use Rattle.xcc_dance.specs.Placing.{ArePairsOf}
-use Rattle.xcc_dance.specs.Found.{IsNumberOf, IsCitation}
+use Rattle.match_puzzle.specs.Fitting.{IsNumberOf}
+use Rattle.xcc_dance.specs.Found.{IsCitation}
 use Rattle.xcc_dance.specs.declared.cites.Cite.{Cite}
 
 -- what a rule may pick where these options are chosen, by its number

@@ -7,6 +7,7 @@ mod faults;
 mod laws;
 mod links;
 mod open_options;
+mod open_sets;
 mod paths;
 mod progress;
 mod searches;
@@ -21,4 +22,5 @@ pub use laws::{
 };
 pub use links::{Links, links_with_nothing_chosen_are_one};
 pub use open_options::{OpenOptions, left_by};
-pub use searches::{Outcome, Search, links_of_ready_searches_are_one};
+pub use open_sets::OpenSets;
+pub use searches::{Outcome, Search, SearchOver, links_of_ready_searches_are_one};

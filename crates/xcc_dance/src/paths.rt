@@ -6,7 +6,8 @@ ghost use Rattle.xcc_form.specs.Options.{IsCompiled, IsOptionPair, cover_of};
 ghost use Rattle.xcc_form.specs.Correspondence.{IsPairOf, IsSolutionOf};
 ghost use Rattle.xcc_dance.specs.Clashes.{IsOpen};
 ghost use Rattle.xcc_dance.specs.Chosen.{IsSelection, IsUncovered, AreAllCovered, with_option, before_any};
-ghost use Rattle.xcc_dance.specs.Placing.{ArePairsOf, FitInTurn};
+ghost use Rattle.match_puzzle.specs.Placing.{FitInTurn};
+ghost use Rattle.xcc_dance.specs.Placing.{ArePairsOf};
 
 use crate::chooses::Chooses;
 use crate::open_options::OpenOptions;

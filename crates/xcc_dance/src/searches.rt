@@ -3,7 +3,7 @@
 ghost use Rattle.std.specs.Prelude.{◌≡◌, ◌↔◌, ◌⊎◌, ◌≤◌, [], List, IfOk, IsErrOf, true, false};
 ghost use Rattle.match_puzzle.specs.declared.placements.Pair.{Pair as Placed};
 ghost use Rattle.xcc_dance.specs.LinkStates.{selection_of};
-ghost use Rattle.xcc_dance.specs.Placing.{FitInTurn};
+ghost use Rattle.match_puzzle.specs.Placing.{FitInTurn};
 ghost use Rattle.xcc_dance.specs.Outcome.{IsOutcome, IsSearchOf};
 ghost use Rattle.xcc_dance.specs.SearchTree.{picks_fewest};
 
@@ -11,6 +11,7 @@ use crate::chooses::{Chooses, FewestOptions};
 use crate::cites::Cites;
 use crate::faults::SearchFault;
 use crate::links::{Links, links_with_nothing_chosen_are_one};
+use crate::open_options::OpenOptions;
 use crate::paths::SearchPath;
 use crate::progress::Progress;
 use crate::searching::walk;
@@ -31,40 +32,55 @@ pub enum Outcome {
     GaveUp,
 }
 
-/// A search for all arrangements of a compiled puzzle, which it borrows.
+/// A search for all arrangements of a compiled puzzle, over an engine that keeps what is chosen and what is open.
 ///
 /// At each node it takes an uncovered item by a rule, and goes through its open options by number (Knuth, TAOCP 4B,
 /// 7.2.2.1). Where there is none, the node is a dead end.
 #[derive(Drop)]
-pub struct Search<'a> {
+pub struct SearchOver<E: OpenOptions + Drop> {
     alloc: Global,
-    path: SearchPath<Links<'a>>,
+    path: SearchPath<E>,
     branches: u32,
     failed: bool,
 }
 
-impl<'a> Model for Search<'a> {
+/// A search over linked lists.
+pub type Search<'a> = SearchOver<Links<'a>>;
+
+impl<E: OpenOptions + Drop> Model for SearchOver<E> {
     ghost use Rattle.std.specs.Prelude.{◌≡◌, [], false};
     ghost use Rattle.xcc_dance.specs.Outcome.{SearchState};
 
-    ghost Value = { SearchState };
+    ghost Value = { SearchState E };
 
-    ghost view = { λ s. record { links = s.path; branches = s.branches; failed = s.failed } };
+    ghost view = { λ s. record { engine = s.path; branches = s.branches; failed = s.failed } };
 
-    ghost invariant = { λ s. s.failed ≡ false → s.path.chosen ≡ [] };
+    ghost invariant = { λ s. s.failed ≡ false → (E.selection s.path).chosen ≡ [] };
 }
 
-impl<'a> Search<'a> {
+impl<'a> SearchOver<Links<'a>> {
     /// A search that did not run yet.
     ///
     /// An error where memory for as many options as there are cells is refused.
     pub fn new(alloc: Global, xcc: &'a Xcc<'a>) -> Result<Search<'a>, AllocError>
-        ensures empty { IfOk result (λ s. selection_of s.links ≡ record { compiled = xcc.now; chosen = [] }) }
+        ensures empty { IfOk result (λ s. selection_of s.engine ≡ record { compiled = xcc.now; chosen = [] }) }
         ensures ready { IfOk result (λ s. (s.branches ≡ 0) × (s.failed ≡ false)) }
     {
-        Ok(Search {
+        SearchOver::over(alloc, Links::new(alloc, xcc)?)
+    }
+}
+
+impl<E: OpenOptions + Drop> SearchOver<E> {
+    /// A search over this engine that did not run yet. Nothing is chosen.
+    ///
+    /// An error where memory for as many pairs as there are cells is refused.
+    pub fn over(alloc: Global, engine: E) -> Result<SearchOver<E>, AllocError>
+        requires { (E.selection engine).chosen ≡ [] }
+        ensures { IfOk result (λ s. s ≡ record { engine = engine; branches = 0; failed = false }) }
+    {
+        Ok(SearchOver {
             alloc,
-            path: SearchPath::new(alloc, Links::new(alloc, xcc)?)?,
+            path: SearchPath::new(alloc, engine)?,
             branches: 0,
             failed: false,
         })
@@ -80,8 +96,8 @@ impl<'a> Search<'a> {
     /// Finds the arrangements that extend the prefix, each pair of which fits those before it, with at most `fuel`
     /// branch nodes, which is at most 1,000,000. It branches on the uncovered item with the fewest open options, the
     /// least number at a tie. Before a child of a branch is searched, `cites` is asked what stands for it, with all
-    /// pairs that are placed there. After `Done` the search is ready for another run: each link and each size is what
-    /// it was.
+    /// pairs that are placed there. After `Done` the search is ready for another run: its engine is what it was, with
+    /// link arrays each link and each size.
     ///
     /// `GaveUp` after just `fuel` branch nodes, where another was needed. `Failed` where an earlier run gave up or ran
     /// out of memory; then nothing changes. `Memory` where memory is refused, also to `cites`.
@@ -91,14 +107,14 @@ impl<'a> Search<'a> {
         fuel: u32,
         cites: &mut C,
     ) -> Result<Outcome, SearchFault>
-        requires prefix { FitInTurn self.old.links.compiled.puzzle prefix.now }
+        requires prefix { FitInTurn (E.selection self.old.engine).compiled.puzzle prefix.now }
         requires fuel { fuel ≤ MOST_FUEL }
-        requires takes { (pairs : List Placed) → FitInTurn self.old.links.compiled.puzzle pairs
+        requires takes { (pairs : List Placed) → FitInTurn (E.selection self.old.engine).compiled.puzzle pairs
             → C.takes cites.old pairs }
-        ensures compiled { self.new.links.compiled ≡ self.old.links.compiled }
-        ensures outcome { IfOk result (IsOutcome self.old self.new prefix.now fuel) }
+        ensures compiled { (E.selection self.new.engine).compiled ≡ (E.selection self.old.engine).compiled }
+        ensures outcome { IfOk result (IsOutcome E.selection self.old self.new prefix.now fuel) }
         ensures tree { IfOk result
-            (IsSearchOf picks_fewest (C.answers cites.new) self.new.links.compiled prefix.now fuel) }
+            (IsSearchOf picks_fewest (C.answers cites.new) (E.selection self.new.engine).compiled prefix.now fuel) }
         ensures most { self.new.branches ≤ fuel ⊎ IsErrOf result SearchFault.Failed }
         ensures failed { IsErrOf result SearchFault.Failed ↔ (self.old.failed ≡ true) }
         ensures memory { IsErrOf result SearchFault.Memory → self.new.failed ≡ true }
@@ -116,14 +132,14 @@ impl<'a> Search<'a> {
         rule: &R,
         cites: &mut C,
     ) -> Result<Outcome, SearchFault>
-        requires prefix { FitInTurn self.old.links.compiled.puzzle prefix.now }
+        requires prefix { FitInTurn (E.selection self.old.engine).compiled.puzzle prefix.now }
         requires fuel { fuel ≤ MOST_FUEL }
-        requires takes { (pairs : List Placed) → FitInTurn self.old.links.compiled.puzzle pairs
+        requires takes { (pairs : List Placed) → FitInTurn (E.selection self.old.engine).compiled.puzzle pairs
             → C.takes cites.old pairs }
-        ensures compiled { self.new.links.compiled ≡ self.old.links.compiled }
-        ensures outcome { IfOk result (IsOutcome self.old self.new prefix.now fuel) }
+        ensures compiled { (E.selection self.new.engine).compiled ≡ (E.selection self.old.engine).compiled }
+        ensures outcome { IfOk result (IsOutcome E.selection self.old self.new prefix.now fuel) }
         ensures tree { IfOk result
-            (IsSearchOf (R.picks rule.now) (C.answers cites.new) self.new.links.compiled prefix.now fuel) }
+            (IsSearchOf (R.picks rule.now) (C.answers cites.new) (E.selection self.new.engine).compiled prefix.now fuel) }
         ensures most { self.new.branches ≤ fuel ⊎ IsErrOf result SearchFault.Failed }
         ensures failed { IsErrOf result SearchFault.Failed ↔ (self.old.failed ≡ true) }
         ensures memory { IsErrOf result SearchFault.Memory → self.new.failed ≡ true }
@@ -155,10 +171,10 @@ impl<'a> Search<'a> {
 /// Does nothing. Its promise is a law: two searches of one compiled puzzle have the same links, each link and each
 /// size, where neither failed. So one that is done has the links of a new one.
 pub fn links_of_ready_searches_are_one(first: &Search<'_>, second: &Search<'_>)
-    requires compiled { second.now.links.compiled ≡ first.now.links.compiled }
+    requires compiled { second.now.engine.compiled ≡ first.now.engine.compiled }
     requires first { first.now.failed ≡ false }
     requires second { second.now.failed ≡ false }
-    ensures { second.now.links ≡ first.now.links }
+    ensures { second.now.engine ≡ first.now.engine }
 {
     links_with_nothing_chosen_are_one(first.path.engine(), second.path.engine());
 }

@@ -5,7 +5,7 @@ ghost use Rattle.match_puzzle.specs.declared.placements.Pair.{Pair};
 ghost use Rattle.xcc_form.specs.Options.{cover_of};
 ghost use Rattle.cert_tree.specs.Tree.{tree_of, forest_of};
 ghost use Rattle.xcc_dance.specs.Chosen.{IsUncovered};
-ghost use Rattle.xcc_dance.specs.Placing.{FitInTurn};
+ghost use Rattle.match_puzzle.specs.Placing.{FitInTurn};
 ghost use Rattle.xcc_dance.specs.Found.{IsDeadAt, IsBranchOn, IsCitation};
 ghost use Rattle.xcc_dance.specs.Progress.{GoesOn, IsTreeOf, AreTreesOf};
 ghost use Rattle.xcc_dance.specs.SearchTree.{IsSearchTree, IsChild, AreBranchesOf};

@@ -10,7 +10,7 @@ use Rattle.cert_tree.specs.declared.nodes.Children.{Children}
 use Rattle.cert_tree.proofs.TreeLemmas.{count-forest_of}
 use Rattle.xcc_dance.specs.Clashes.{IsOpenAt}
 use Rattle.xcc_dance.specs.Chosen.{Selection, IsSelection, IsUncovered, AreAllCovered, HasSize, IsNext, IsLast, with_option}
-use Rattle.xcc_dance.specs.Placing.{FitInTurn}
+use Rattle.match_puzzle.specs.Placing.{FitInTurn}
 use Rattle.xcc_dance.specs.Progress.{IsTreeOf, AreTreesOf}
 use Rattle.xcc_dance.specs.SearchTree.{AreChildren, IsChild, AreBranchesOf}
 use Rattle.xcc_dance.specs.Unfinished.{IsNotCited, IsUnfinished, AreUnfinished}

@@ -1,0 +1,5 @@
+use Rattle.match_puzzle.proofs.LowerLemmas.{AreCellsLowered}
+use Rattle.match_puzzle.proofs.fit_sizes.lower_cells.Given as goal
+
+abbrev pub invariant-loop-cell : goal.invariant-loop-cell
+invariant-loop-cell l = AreCellsLowered l.rows l.tile l.cell l.initial.sizes.items l.sizes.items

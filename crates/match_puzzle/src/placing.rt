@@ -1,0 +1,113 @@
+//! A pair is placed: what fits no longer goes out of the rows and the counts.
+
+ghost use Rattle.std.specs.Prelude.{◌≡◌, ◌<◌, ◌≤◌, ◌+◌, ◌*◌, ℕ, List, [], Contains, length, slice_index, slice_index_or};
+ghost use Rattle.match_board.specs.Board.{side_count};
+ghost use Rattle.match_puzzle.specs.Puzzle.{colour_of, mate_of};
+ghost use Rattle.match_puzzle.specs.Prefix.{with_pair};
+ghost use Rattle.match_puzzle.specs.Fitting.{Fits};
+ghost use Rattle.match_puzzle.specs.FitRows.{AreRows, AreRowsBeside};
+ghost use Rattle.match_puzzle.specs.FitSizes.{AreSizes, AreSizesOf, AreCovered, FitsPair, FitsElsewhere, FitsBeside};
+ghost use Rattle.match_puzzle.specs.FitSizes.{count_of_tile};
+
+use crate::fit_sizes::{COVERED, STEP, lower_cells, lower_tiles};
+use crate::number_sets::NumberSet;
+use crate::partials::Partial;
+use crate::placements::Pair;
+use match_board::limits::MOST_COLOURS;
+
+/// Makes the rows and the counts what they are with one pair more, which fits and is not yet placed.
+pub(crate) fn take_out(
+    partial: &Partial<'_>,
+    pair: Pair,
+    rows: &mut Vec<NumberSet>,
+    sizes: &mut Vec<u32>,
+)
+    requires fits { Fits partial.now.puzzle partial.now.placed pair.cell pair.placement }
+    requires rows { AreRows partial.now.puzzle partial.now.placed rows.old.items }
+    requires sizes { AreSizes partial.now.puzzle partial.now.placed sizes.old.items }
+    ensures rows { AreRows partial.now.puzzle (with_pair partial.now.placed pair.cell pair.placement) rows.new.items }
+    ensures sizes { AreSizes partial.now.puzzle (with_pair partial.now.placed pair.cell pair.placement)
+        sizes.new.items }
+{
+    let cells = usize::from(partial.puzzle().board().cells());
+    take_out_cell(partial, pair, rows, sizes);
+    rows[usize::from(pair.cell)].clear();
+    // the other pairs of the tile
+    lower_cells(sizes, rows, pair.placement.tile);
+    take_out_beside(partial, pair, rows, sizes);
+    sizes[usize::from(pair.cell)] = COVERED;
+    sizes[cells + usize::from(pair.placement.tile)] = COVERED;
+}
+
+// Takes the other pairs of the cell out of the counts.
+fn take_out_cell(partial: &Partial<'_>, pair: Pair, rows: &[NumberSet], sizes: &mut Vec<u32>)
+    requires fits { Fits partial.now.puzzle partial.now.placed pair.cell pair.placement }
+    requires rows { AreRows partial.now.puzzle partial.now.placed rows.now }
+    requires sizes { AreSizes partial.now.puzzle partial.now.placed sizes.old.items }
+    ensures open_items { AreSizesOf partial.now.puzzle (with_pair partial.now.placed pair.cell pair.placement)
+        (FitsElsewhere partial.now.puzzle partial.now.placed pair) sizes.new.items }
+    ensures settled { AreCovered partial.now.puzzle partial.now.placed sizes.new.items }
+{
+    let cells = usize::from(partial.puzzle().board().cells());
+    let mut gone = NumberSet::new();
+    gone.put_both(&rows[usize::from(pair.cell)], partial.free());
+    gone.remove_group(pair.placement.tile);
+    lower_tiles(sizes, cells, gone);
+}
+
+// Takes those pairs out of the rows and the counts that stand beside the pair and don't go with it.
+fn take_out_beside(
+    partial: &Partial<'_>,
+    pair: Pair,
+    rows: &mut Vec<NumberSet>,
+    sizes: &mut Vec<u32>,
+)
+    requires fits { Fits partial.now.puzzle partial.now.placed pair.cell pair.placement }
+    requires rows { AreRowsBeside partial.now.puzzle partial.now.placed pair 0 rows.old.items }
+    requires open_items { AreSizesOf partial.now.puzzle (with_pair partial.now.placed pair.cell pair.placement)
+        (FitsBeside partial.now.puzzle partial.now.placed pair 0) sizes.old.items }
+    requires settled { AreCovered partial.now.puzzle partial.now.placed sizes.old.items }
+    ensures rows { AreRows partial.now.puzzle (with_pair partial.now.placed pair.cell pair.placement) rows.new.items }
+    ensures open_items { AreSizesOf partial.now.puzzle (with_pair partial.now.placed pair.cell pair.placement)
+        (FitsPair partial.now.puzzle (with_pair partial.now.placed pair.cell pair.placement)) sizes.new.items }
+    ensures settled { AreCovered partial.now.puzzle partial.now.placed sizes.new.items }
+{
+    let asked = partial.puzzle().asked_by(pair.placement);
+    for side in 0..partial.puzzle().board().sides() {
+        take_out_side(partial, pair, side, asked[usize::from(side)], rows, sizes);
+    }
+}
+
+// Of those pairs at the cell that the side meets, takes out what doesn't show there what the side asks.
+fn take_out_side(
+    partial: &Partial<'_>,
+    pair: Pair,
+    side: u8,
+    asked: u8,
+    rows: &mut Vec<NumberSet>,
+    sizes: &mut Vec<u32>,
+)
+    requires fits { Fits partial.now.puzzle partial.now.placed pair.cell pair.placement }
+    requires side { side < side_count partial.now.puzzle.board }
+    requires asked { asked ≡ mate_of partial.now.puzzle (colour_of partial.now.puzzle pair.placement side) }
+    requires few { asked < MOST_COLOURS }
+    requires rows { AreRowsBeside partial.now.puzzle partial.now.placed pair side rows.old.items }
+    requires open_items { AreSizesOf partial.now.puzzle (with_pair partial.now.placed pair.cell pair.placement)
+        (FitsBeside partial.now.puzzle partial.now.placed pair side) sizes.old.items }
+    requires settled { AreCovered partial.now.puzzle partial.now.placed sizes.old.items }
+    ensures rows { AreRowsBeside partial.now.puzzle partial.now.placed pair (side + 1) rows.new.items }
+    ensures open_items { AreSizesOf partial.now.puzzle (with_pair partial.now.placed pair.cell pair.placement)
+        (FitsBeside partial.now.puzzle partial.now.placed pair (side + 1)) sizes.new.items }
+    ensures settled { AreCovered partial.now.puzzle partial.now.placed sizes.new.items }
+{
+    let puzzle = partial.puzzle();
+    if let Some((cell, met)) = puzzle.meets(pair.cell, side) {
+        let kept = puzzle.showing(asked, met);
+        let mut gone = NumberSet::new();
+        gone.put_without(&rows[usize::from(cell)], kept, partial.free());
+        gone.remove_group(pair.placement.tile);
+        rows[usize::from(cell)].keep(kept);
+        sizes[usize::from(cell)] -= STEP * u32::from(gone.len());
+        lower_tiles(sizes, rows.len(), gone);
+    }
+}
