@@ -99,6 +99,9 @@ def try_all(names):
 
 
 def main(words):
+    if words in (["--help"], ["-h"]):
+        print(__doc__)
+        return 0
     names = crates() if words == ["--all"] else words
     strange = sorted(set(names) - set(crates()))
     if strange:
