@@ -9,7 +9,7 @@ use Rattle.match_puzzle.specs.Prefix.{Prefix, Has, IsFree, IsPrefix}
 use Rattle.match_puzzle.specs.declared.placements.Placement.{Placement}
 use Rattle.match_puzzle.specs.Fitting.{FitsItem, AreFitting, IsItem, IsOpen, IsNumberOf, HasFewestFitting, item_key}
 use Rattle.match_puzzle.specs.Placing.{Placing, FitInTurn, placed_by}
-use Rattle.match_puzzle.specs.FitSizes.{AreSizes, AreKept, item_place}
+use Rattle.match_puzzle.specs.FitSizes.{AreSizes, AreKeptBeside, item_place}
 use Rattle.match_puzzle.specs.declared.fit_sizes.TheConstants.{COVERED}
 use Rattle.match_puzzle.specs.declared.items.Item.{Item}
 use Rattle.match_puzzle.specs.declared.items.Item.TheVariants.{Cell, Tile}
@@ -130,7 +130,7 @@ abbrev pub placing_of : Task → List Pair → Placing
 placing_of p pairs = record { puzzle = p; pairs = pairs }
 
 -- what is kept, said of what contracts see
-module _ (p : Task) (pairs : List Pair) (q : Prefix) (rows : List (List ℕ)) (sizes saved : List ℕ) (kept : AreKept p pairs q rows sizes saved) (s : Placing) (same : placing_of p pairs ≡ s) where
+module _ (p : Task) (pairs : List Pair) (q : Prefix) (rows : List (List ℕ)) (sizes saved : List ℕ) (kept : AreKeptBeside p pairs q rows sizes saved) (s : Placing) (same : placing_of p pairs ≡ s) where
   pub kept_sizes : AreSizes s.puzzle (placed_by s) sizes
   kept_sizes = subst (λ v. AreSizes v.puzzle (placed_by v) sizes) same (subst (λ r. AreSizes p r sizes) kept.placed kept.sizes)
 

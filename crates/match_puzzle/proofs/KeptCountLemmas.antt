@@ -8,7 +8,7 @@ use Rattle.match_puzzle.specs.Prefix.{Prefix, Has, with_pair, without_cell, empt
 use Rattle.match_puzzle.specs.Fitting.{Fits}
 use Rattle.match_puzzle.specs.Placing.{prefix_of}
 use Rattle.match_puzzle.specs.FitRows.{AreRows, AreRowsElsewhere}
-use Rattle.match_puzzle.specs.FitSizes.{AreSizes, AreKept}
+use Rattle.match_puzzle.specs.FitSizes.{AreSizes, AreKeptBeside}
 use Rattle.match_puzzle.specs.declared.placements.Placement.{Placement}
 use Rattle.match_puzzle.specs.declared.placements.Pair.{Pair}
 use Rattle.match_puzzle.proofs.PairLemmas.{length-with_pairs}
@@ -16,8 +16,8 @@ use Rattle.match_puzzle.proofs.PlacedPairLemmas.{fit_pushed, fit_popped, last_fi
 use Rattle.match_puzzle.proofs.SavedLemmas.{saved_pushed, saved_before, sizes_before, last_long}
 use Rattle.match_puzzle.proofs.FitRowLemmas.{rows_lifted}
 
-pub kept_pushed : (p : Task) (pairs : List Pair) (y : Pair) (q : Prefix) (rows : List (List ℕ)) (sizes saved : List ℕ) → AreKept p pairs q rows sizes saved → Fits p q y.cell y.placement → (rows' : List (List ℕ)) (sizes' : List ℕ) → AreRows p (with_pair q y.cell y.placement) rows' → AreSizes p (with_pair q y.cell y.placement) sizes' →
-    AreKept p (pairs ++ y ∷ []) (with_pair q y.cell y.placement) rows' sizes' (saved ++ sizes)
+pub kept_pushed : (p : Task) (pairs : List Pair) (y : Pair) (q : Prefix) (rows : List (List ℕ)) (sizes saved : List ℕ) → AreKeptBeside p pairs q rows sizes saved → Fits p q y.cell y.placement → (rows' : List (List ℕ)) (sizes' : List ℕ) → AreRows p (with_pair q y.cell y.placement) rows' → AreSizes p (with_pair q y.cell y.placement) sizes' →
+    AreKeptBeside p (pairs ++ y ∷ []) (with_pair q y.cell y.placement) rows' sizes' (saved ++ sizes)
 kept_pushed p pairs y q rows sizes saved kept fits rows' sizes' are_rows are_sizes = record {
   puzzle = kept.puzzle;
   fit = fit_pushed p pairs y kept.fit (subst (λ r. Fits p r y.cell y.placement) kept.placed fits);
@@ -27,7 +27,7 @@ kept_pushed p pairs y q rows sizes saved kept fits rows' sizes' are_rows are_siz
   saved = saved_pushed p pairs y saved sizes kept.saved (subst (λ r. AreSizes p r sizes) kept.placed kept.sizes);
 }
 
-module _ (p : Task) (pairs : List Pair) (y : Pair) (q : Prefix) (rows : List (List ℕ)) (sizes saved : List ℕ) (kept : AreKept p (pairs ++ y ∷ []) q rows sizes saved) where
+module _ (p : Task) (pairs : List Pair) (y : Pair) (q : Prefix) (rows : List (List ℕ)) (sizes saved : List ℕ) (kept : AreKeptBeside p (pairs ++ y ∷ []) q rows sizes saved) where
   pub last_stands : Has q y.cell y.placement
   last_stands = subst (λ r. Has r y.cell y.placement) (sym kept.placed) (last_has p pairs y kept.fit)
 
@@ -48,7 +48,7 @@ module _ (p : Task) (pairs : List Pair) (y : Pair) (q : Prefix) (rows : List (Li
       subst (λ r. AreRowsElsewhere p r y.cell rows) (sym lifted)
       (rows_lifted p (prefix_of p pairs) y (last_fits p pairs y kept.fit).free rows (subst (λ r. AreRows p r rows) (kept.placed ∙ prefix_pushed p pairs y) kept.rows))
 
-  pub kept_popped : (at : ℕ) → at + length sizes ≡ length saved → (rows' : List (List ℕ)) → AreRows p (without_cell q y.cell) rows' → AreKept p pairs (without_cell q y.cell) rows' (drop at saved) (take at saved)
+  pub kept_popped : (at : ℕ) → at + length sizes ≡ length saved → (rows' : List (List ℕ)) → AreRows p (without_cell q y.cell) rows' → AreKeptBeside p pairs (without_cell q y.cell) rows' (drop at saved) (take at saved)
   kept_popped at e rows' are_rows =
       let long = kept.sizes.open_items.long in
       let place : at + 2 * cell_count p.board ≡ length saved = omega (arith, long, e) in

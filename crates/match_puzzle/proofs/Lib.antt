@@ -12,6 +12,7 @@ pub mod NumberSetLemmas
 pub mod PlacementSetLemmas
 pub mod FittingLemmas
 pub mod FitRowLemmas
+pub mod OpenRowLemmas
 pub mod BesideLemmas
 pub mod PairLemmas
 pub mod PrefixFaultLemmas
@@ -22,6 +23,7 @@ pub mod SavedLemmas
 pub mod CountedLemmas
 pub mod NewSizeLemmas
 pub mod SetPairLemmas
+pub mod TakenNumberLemmas
 pub mod TileCounts
 pub mod LowerLemmas
 pub mod NextFittingLemmas

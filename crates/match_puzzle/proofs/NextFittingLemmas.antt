@@ -1,8 +1,8 @@
 -- The next pair that fits and settles an item.
-use Rattle.std.proofs.Common.{◌≡◌, ◌≢◌, ◌⊎◌, ◌<◌, ◌≤◌, ◌+◌, ◌*◌, ◌/◌, ◌%◌, ◌^◌, ◌↔◌, ℕ, List, [], Contains, get_or, Option, Some, None, IfSome, MatchOption, bit_and, arith, refl, sym, ap, ◌∙◌, subst, inl, inr, ⊎_elim}
+use Rattle.std.proofs.Common.{◌≡◌, ◌≢◌, ◌⊎◌, ◌<◌, ◌≤◌, ◌+◌, ◌*◌, ◌/◌, ◌%◌, ◌^◌, ◌↔◌, ℕ, List, Contains, Option, Some, None, IfSome, MatchOption, bit_and, arith, refl, sym, ap, ◌∙◌, subst, inl, inr, ⊎_elim}
 use Rattle.std.specs.Int.{bit_at, trailing_zeros, w8}
 use Rattle.std.proofs.lemmas.Bool.Decides.{eqb_tells}
-use Rattle.std.proofs.lemmas.List.{get_or_default, length-replicate}
+use Rattle.std.proofs.lemmas.List.{length-replicate}
 use Rattle.std.proofs.lemmas.Nat.{and_le_l}
 use Rattle.std.proofs.lemmas.Nat.Bits.{bit_at_above, bit_at-zero, bit_at_ones, bit_at-trailing_zeros}
 use Rattle.std.proofs.lemmas.Option.{slice_get_within}
@@ -12,7 +12,7 @@ use Rattle.match_board.specs.Listing.{ComesBefore, ByKey}
 use Rattle.match_board.specs.declared.limits.TheConstants.{MOST_TILES}
 use Rattle.match_board.proofs.Listings.{lt_or_le}
 use Rattle.match_puzzle.specs.FitRows.{AreRows, IsRow}
-use Rattle.match_puzzle.specs.FitSizes.{AreKept}
+use Rattle.match_puzzle.specs.FitSizes.{AreKeptBeside}
 use Rattle.match_puzzle.specs.Fitting.{Fits, FitsItem, ComesAfterPair, IsLastFitting, IsNextFitting, cell_turn, item_key, numbered_pair, turned_tile}
 use Rattle.match_puzzle.specs.NumberSets.{IsGroup}
 use Rattle.match_puzzle.specs.PlacementSets.{AreFreeNumbers, numbered}
@@ -23,7 +23,8 @@ use Rattle.match_puzzle.specs.declared.items.Item.{Item}
 use Rattle.match_puzzle.specs.declared.items.Item.TheVariants.{Cell, Tile}
 use Rattle.match_puzzle.specs.declared.placements.Pair.{Pair}
 use Rattle.match_puzzle.specs.declared.placements.Placement.{Placement}
-use Rattle.match_puzzle.proofs.FittingLemmas.{each_of_four, fits_shown, numbered_at, same_pair, same_placement, shown_fits, small_turn}
+use Rattle.match_puzzle.proofs.FitRowLemmas.{in_row_fits}
+use Rattle.match_puzzle.proofs.FittingLemmas.{each_of_four, numbered_at, same_pair, same_placement, shown_fits, small_turn}
 use Rattle.match_puzzle.proofs.PairLemmas.{length-with_pairs}
 use Rattle.match_puzzle.proofs.SetPairLemmas.{one_in_both, both_are_one}
 
@@ -32,7 +33,7 @@ use Rattle.match_puzzle.proofs.SetPairLemmas.{one_in_both, both_are_one}
 abbrev pub placing_of : Task → List Pair → Placing
 placing_of p pairs = record { puzzle = p; pairs = pairs }
 
-module _ (p : Task) (pairs : List Pair) (q : Prefix) (rows : List (List ℕ)) (sizes saved : List ℕ) (kept : AreKept p pairs q rows sizes saved) (v : Placing) (same : placing_of p pairs ≡ v) where
+module _ (p : Task) (pairs : List Pair) (q : Prefix) (rows : List (List ℕ)) (sizes saved : List ℕ) (kept : AreKeptBeside p pairs q rows sizes saved) (v : Placing) (same : placing_of p pairs ≡ v) where
   pub puzzle_now : IsPuzzle v.puzzle
   puzzle_now = subst (λ (u : Placing). IsPuzzle u.puzzle) same kept.puzzle
 
@@ -41,12 +42,6 @@ module _ (p : Task) (pairs : List Pair) (q : Prefix) (rows : List (List ℕ)) (s
 
   pub free_now : (free : List ℕ) → AreFreeNumbers p q free → AreFreeNumbers v.puzzle (placed_by v) free
   free_now free is = subst (λ (u : Placing). AreFreeNumbers u.puzzle (placed_by u) free) same (subst (λ w. AreFreeNumbers p w free) kept.placed is)
-
--- the row that was read
-pub row_read : (p : Task) (q : Prefix) (rows : List (List ℕ)) (cell place : ℕ) (row : List ℕ) → AreRows p q rows → cell < cell_count p.board → place ≡ cell → row ≡ get_or rows place row → IsRow p q cell row
-row_read p q rows cell place row are lt at is =
-    let long = are.long in
-    subst (IsRow p q cell) (get_or_default rows cell [] row (omega (arith, lt, long)) ∙ sym (is ∙ ap (λ k. get_or rows k row) at)) (are.is cell lt)
 
 -- ---- cells and tiles of what fits
 
@@ -91,10 +86,6 @@ module _ (cell : ℕ) (y : Pair) (small_y : y.placement.turn < 4) where
       ⊎_elim (λ sooner. inl sooner) (λ not_sooner. inr (omega (arith, e, le, not_sooner, small_y), omega (arith, e, le, not_sooner, small_y))) (lt_or_le x.placement.tile y.placement.tile)
 
 module _ (p : Task) (q : Prefix) (cell : ℕ) (row : List ℕ) (is : IsRow p q cell row) where
-  -- what is in the row fits if its tile is free
-  row_fits : (n : ℕ) → Contains row n → IsUnused q (n / 4) → Fits p q cell (numbered n)
-  row_fits n c unused = let stands = is.only n c in fits_shown p q cell (numbered n) stands.free unused stands.legal (λ side lt. stands.shows side)
-
   row_has : (n : ℕ) → Fits p q cell (numbered n) → Contains row n
   row_has n fits = is.all n record { free = fits.free; legal = fits.legal; shows = shown_fits p q cell (numbered n) fits }
 
@@ -115,7 +106,7 @@ module _ (p : Task) (q : Prefix) (cell : ℕ) (row : List ℕ) (is : IsRow p q c
 
     pub next_at_cell : (n : ℕ) → IsLeast (λ m. Contains row m × Contains free m × (from ≤ m)) n → IsNextFitting p q (Cell cell) after (numbered_pair (Cell cell) n)
     next_at_cell n least = record {
-      fits = (refl, row_fits n least.holds.0 (are_free.only n least.holds.1).1);
+      fits = (refl, in_row_fits p q cell row is n least.holds.0 (are_free.only n least.holds.1).1);
       after_it = after_number cell (numbered_pair (Cell cell) n) (omega arith) after from behind (let le = least.holds.2 in omega (arith, le));
       first = λ y fits comes.
           let lt = small_turn p y.placement puzzle fits.1.legal in
@@ -179,7 +170,7 @@ module _ (p : Task) (q : Prefix) (puzzle : IsPuzzle p) (tile cell : ℕ) (unused
   turn_fits : (turn : ℕ) → turn < 4 → bit_at digits turn ≡ 1 → Fits p q cell (turned_tile tile turn)
   turn_fits turn lt one =
       subst (Fits p q cell) (numbered_at tile turn lt)
-      (row_fits p q cell row is (4 * tile + turn) ((group turn lt).0 one) (subst (IsUnused q) (let e : tile ≡ (4 * tile + turn) / 4 = omega (arith, lt) in e) unused))
+      (in_row_fits p q cell row is (4 * tile + turn) ((group turn lt).0 one) (subst (IsUnused q) (let e : tile ≡ (4 * tile + turn) / 4 = omega (arith, lt) in e) unused))
 
   fits_turn : (turn : ℕ) → turn < 4 → Fits p q cell (turned_tile tile turn) → bit_at digits turn ≡ 1
   fits_turn turn lt fits = (group turn lt).1 (row_has p q cell row is (4 * tile + turn) (subst (Fits p q cell) (sym (numbered_at tile turn lt)) fits))

@@ -1,6 +1,6 @@
 -- What goes out of rows and counts where a pair is placed.
 use Rattle.std.proofs.Common.{◌≡◌, ◌≢◌, ◌⊎◌, ◌<◌, ◌≤◌, ◌+◌, ◌*◌, ◌/◌, ℕ, List, [], Some, None, Contains, length, length-set, set, map, get_or, arith, refl, ap, sym, ◌∙◌, subst, inl, inr, ⊎_elim}
-use Rattle.std.proofs.lemmas.List.{length-map, get_or_default, get_or-set_same, get_or-set_other}
+use Rattle.std.proofs.lemmas.List.{length-map, get_or-set_same, get_or-set_other}
 use Rattle.std.proofs.lemmas.Option.{slice_get_within}
 use Rattle.std.proofs.lemmas.Bool.Decides.{eqb_tells}
 use Rattle.match_board.specs.Board.{cell_count}
@@ -9,7 +9,7 @@ use Rattle.match_puzzle.specs.Puzzle.{Task, IsPuzzle}
 use Rattle.match_puzzle.specs.Prefix.{Prefix, IsFree, IsUnused, IsPrefix, with_pair}
 use Rattle.match_puzzle.specs.PlacementSets.{AreFreeNumbers, numbered}
 use Rattle.match_puzzle.specs.Fitting.{Fits, Settles, IsItem, IsOpen, item_key, numbered_pair}
-use Rattle.match_puzzle.specs.FitRows.{StandsInRow, StandsBeside, IsRow, AreRows, AreRowsBeside}
+use Rattle.match_puzzle.specs.FitRows.{StandsBeside, IsRow, AreRows, AreRowsBeside}
 use Rattle.match_puzzle.specs.FitSizes.{AreSizes, AreSizesOf, AreCovered, FitsPair, FitsElsewhere, FitsBeside, count_of_tile, item_place}
 use Rattle.match_puzzle.specs.declared.fit_sizes.TheConstants.{STEP, COVERED}
 use Rattle.match_puzzle.specs.declared.items.Item.{Item}
@@ -18,7 +18,7 @@ use Rattle.match_puzzle.specs.declared.placements.Placement.{Placement}
 use Rattle.match_puzzle.specs.declared.placements.Pair.{Pair}
 use Rattle.match_puzzle.proofs.Prefixes.{inside, slice_get-set_other, has_placed, has_new, has_still}
 use Rattle.match_puzzle.proofs.FittingLemmas.{fits_shown, shown_fits, small_turn, numbered_at, same_pair}
-use Rattle.match_puzzle.proofs.SplitListings.{listing_as, listing_of_none, listing_mapped}
+use Rattle.match_puzzle.proofs.SplitListings.{listing_of_none, listing_mapped}
 use Rattle.match_puzzle.proofs.FitSizeLemmas.{AreGoneAt, enough_at_tile, sizes_without, covered_without, fewer_pairs, numbers_of_tile, some_of_tile}
 
 some_is_none : {X : Type 0} {x : X} → Some x ≡ None → ⊥
@@ -95,15 +95,11 @@ module _ (p : Task) (q : Prefix) (x : Pair) (fits : FitsPair p q x) where
       let h = are_free.only n (is_both.only n w.0).1 in
       ((h.0.tile, unused_still (n / 4) w.1 h.1), h.1)
 
-  module _ (puzzle : IsPuzzle p) (prefix : IsPrefix p q) (rows : List (List ℕ)) (are : AreRows p q rows) (place : ℕ) (row : List ℕ) (at : place ≡ x.cell) (read : row ≡ get_or rows place row)
+  module _ (puzzle : IsPuzzle p) (prefix : IsPrefix p q) (rows : List (List ℕ)) (are : AreRows p q rows) (row : List ℕ) (read : row ≡ get_or rows x.cell [])
       (free both gone : List ℕ) (are_free : AreFreeNumbers p q free) (is_both : IsListing ◌<◌ (λ n. Contains row n × Contains free n) both) (is_gone : IsListing ◌<◌ (λ n. Contains both n × (n / 4 ≢ x.placement.tile)) gone)
       (cells : ℕ) (cells_is : cells ≡ cell_count p.board) (old : List ℕ) (sizes : AreSizes p q old) where
     row_is : IsRow p q x.cell row
-    row_is =
-        let within = pair_cell_in prefix in
-        let long = are.long in
-        let same : get_or rows x.cell [] ≡ row = get_or_default rows x.cell [] row (omega (arith, within, long)) ∙ ap (λ k. get_or rows k row) (sym at) ∙ sym read in
-        subst (IsRow p q x.cell) same (are.is x.cell within)
+    row_is = subst (IsRow p q x.cell) (sym read) (are.is x.cell (pair_cell_in prefix))
 
     gone_is : AreGoneAt p Placed x.cell (FitsPair p q) (FitsElsewhere p q x) gone
     gone_is = gone_of_cell row free both gone puzzle row_is are_free is_both is_gone
@@ -224,24 +220,6 @@ module _ (p : Task) (q : Prefix) (x : Pair) (fits : FitsPair p q x) where
         others (cell_count p.board + tile) (let long = are.long in omega (arith, long)) ∙ covered (Tile tile) within settled
 
   -- ---- the pair itself
-
-  -- the rows with none at the cell
-  pub rows_beside : (rows : List (List ℕ)) → AreRows p q rows → x.cell < length rows → AreRowsBeside p q x 0 (set rows x.cell [])
-  rows_beside rows are within = record { long = length-set rows x.cell [] ∙ are.long; is = is }
-    where
-      is : (cell : ℕ) → cell < cell_count p.board → IsListing ◌<◌ (StandsBeside p q x 0 cell) (get_or (set rows x.cell []) cell [])
-      is cell lt =
-          ⊎_elim
-          (λ e.
-          subst (IsListing ◌<◌ (StandsBeside p q x 0 cell)) (sym (ap (λ c. get_or (set rows x.cell []) c []) e.1 ∙ get_or-set_same rows x.cell [] [] within))
-          (listing_of_none ◌<◌ (StandsBeside p q x 0 cell) (λ n h. (free_before cell h.free).0 e.1)))
-          (λ ne.
-          subst (IsListing ◌<◌ (StandsBeside p q x 0 cell)) (sym (get_or-set_other rows x.cell cell [] [] ne.1))
-          (listing_as ◌<◌ (StandsInRow p q cell) (StandsBeside p q x 0 cell) (get_or rows cell [])
-          (λ n h. record { free = free_still cell ne.1 h.free; legal = h.legal; shows = h.shows; beside = λ side met lt'. absurd (omega (arith, lt')) })
-          (λ n h. record { free = (free_before cell h.free).1; legal = h.legal; shows = h.shows })
-          (are.is cell lt)))
-          (eqb_tells cell x.cell)
 
   -- the table where cell and tile of the pair are covered
   module _ (sizes : List ℕ) (open_items : AreSizesOf p Placed (FitsPair p Placed) sizes) (settled : AreCovered p q sizes) (cell_in : x.cell < cell_count p.board) (tile_in : x.placement.tile < cell_count p.board) where

@@ -1,5 +1,5 @@
 -- What sets of numbers have together, and the next number that they have together.
-use Rattle.std.proofs.Common.{◌≡◌, ◌≢◌, ◌<◌, ◌≤◌, ◌+◌, ◌-◌, ◌*◌, ◌/◌, ◌%◌, ◌^◌, ℕ, List, Contains, Option, Some, None, MatchOption, get_or, min, bit_and, arith, ap, sym, ◌∙◌, ⊎_elim}
+use Rattle.std.proofs.Common.{◌≡◌, ◌≢◌, ◌<◌, ◌≤◌, ◌+◌, ◌-◌, ◌*◌, ◌/◌, ◌%◌, ◌^◌, ℕ, List, Contains, get_or, min, bit_and, arith, ap, sym, ◌∙◌, ⊎_elim}
 use Rattle.std.specs.Int.{bit_at, bit_not, trailing_zeros, w64}
 use Rattle.std.proofs.lemmas.Bool.Decides.{eqb_tells}
 use Rattle.std.proofs.lemmas.Nat.{and_le_l}
@@ -215,14 +215,3 @@ module _ (a b : List ℕ) (end : ℕ) (is_a : AreWordsOfSet a end) (small_b : Ar
 
       pub next_found : IsLeast (λ n. Contains (members a) n × Contains (members b) n × (from ≤ n)) (64 * i + trailing_zeros w64 MaskedWord)
       next_found = least_next (trailing_zeros w64 MaskedWord) lowest_masked.0 lowest_masked.1 lowest_masked.2
-
--- ---- the next number in one set
-
--- what is in a set and in itself
-pub next_of_one : (numbers : List ℕ) (from : ℕ) (r : Option ℕ) → MatchOption r ((n : ℕ) → Contains numbers n → Contains numbers n → from ≤ n → ⊥) (IsLeast (λ n. Contains numbers n × Contains numbers n × (from ≤ n))) →
-    MatchOption r ((n : ℕ) → Contains numbers n → from ≤ n → ⊥) (IsLeast (λ n. Contains numbers n × (from ≤ n)))
-next_of_one numbers from None none = λ n c le. none n c c le
-next_of_one numbers from (Some n) is = record {
-  holds = (is.holds.0, is.holds.2);
-  least = λ m h. is.least m (h.0, h.0, h.1);
-}

@@ -13,10 +13,10 @@ use Rattle.match_puzzle.proofs.NumberSetLemmas.{behind, rising_asymmetric}
 abbrev pub one_if : Bool → ℕ
 one_if b = cond b 1 0
 
-one_if_same : (m n : ℕ) → m ≡ n → one_if (m == n) ≡ 1
+pub one_if_same : (m n : ℕ) → m ≡ n → one_if (m == n) ≡ 1
 one_if_same m n e = ⊎_elim (λ same. ap one_if same.0) (λ other. absurd (other.1 e)) (eqb_tells m n)
 
-none_if_other : (m n : ℕ) → m ≢ n → one_if (m == n) ≡ 0
+pub none_if_other : (m n : ℕ) → m ≢ n → one_if (m == n) ≡ 0
 none_if_other m n ne = ⊎_elim (λ same. absurd (ne same.1)) (λ other. ap one_if other.0) (eqb_tells m n)
 
 -- ---- none

@@ -1,5 +1,6 @@
 -- What shows at each cell what is asked there, by number: four turns to a tile.
-use Rattle.std.specs.Prelude.{◌≡◌, ◌<◌, ℕ, List, [], length, slice_index_or}
+use Rattle.std.specs.Prelude.{◌≡◌, ◌<◌, ◌≤◌, ℕ, List, [], Contains, length, slice_index_or}
+use Rattle.match_board.specs.declared.limits.TheConstants.{MOST_CELLS}
 use Rattle.match_board.specs.Board.{cell_count, Meets}
 use Rattle.match_board.specs.Listing.{IsListing}
 use Rattle.match_puzzle.specs.Puzzle.{Task, IsLegal, colour_of, mate_of}
@@ -47,3 +48,9 @@ pub record AreRowsElsewhere (p : Task) (q : Prefix) (cell : ℕ) (rows : List (L
   pub long : length rows ≡ cell_count p.board
   pub is : (other : ℕ) → other < cell_count p.board → (other ≡ cell → ⊥) → IsNotMet p cell other
       → IsRow p q other (slice_index_or rows other [])
+
+-- rows of cells, those of all cells but these empty
+pub record AreOpenRows (rows : List (List ℕ)) (cells : List ℕ) : Type 0 where
+  pub most : length rows ≤ MOST_CELLS
+  pub within : (cell : ℕ) → Contains cells cell → cell < length rows
+  pub others : (cell : ℕ) → (Contains cells cell → ⊥) → slice_index_or rows cell [] ≡ []

@@ -68,7 +68,7 @@ pub record AreSaved (p : Task) (pairs : List Pair) (saved : List ℕ) : Type 0 w
       → AreSizes p (prefix_of p (take count pairs)) table
 
 -- what holds of pairs that are placed, and of what is kept beside them
-pub record AreKept (p : Task) (pairs : List Pair) (q : Prefix) (row_table : List (List ℕ))
+pub record AreKeptBeside (p : Task) (pairs : List Pair) (q : Prefix) (row_table : List (List ℕ))
     (size_table saved_tables : List ℕ) : Type 0 where
   pub puzzle : IsPuzzle p
   pub fit : FitInTurn p pairs

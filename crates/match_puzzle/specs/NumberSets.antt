@@ -1,6 +1,6 @@
 -- Sets of numbers, as the binary digits of words.
-use Rattle.std.specs.Prelude.{◌≡◌, ◌<◌, ◌≤◌, ◌+◌, ◌*◌, ◌/◌, ◌%◌, ◌^◌, ℕ, zero, suc, List, [], ◌∷◌, ◌==◌, if◌then◌else◌}
-use Rattle.std.specs.Prelude.{Contains, length, slice_index}
+use Rattle.std.specs.Prelude.{◌≡◌, ◌<◌, ◌≤◌, ◌+◌, ◌*◌, ◌/◌, ◌%◌, ◌^◌, ℕ, zero, suc, List, [], ◌∷◌, ◌++◌, ◌==◌}
+use Rattle.std.specs.Prelude.{if◌then◌else◌, Contains, length, slice_index, replicate, drop}
 use Rattle.std.specs.Int.{bit_at}
 use Rattle.match_puzzle.specs.declared.number_sets.TheConstants.{WORDS, WORD_BITS, NUMBERS}
 
@@ -26,6 +26,16 @@ pub record AreWordsOfSet (words : List ℕ) (end : ℕ) : Type 0 where
   pub small : (i : ℕ) → slice_index words i < 2 ^ WORD_BITS
   pub most : end ≤ WORDS
   pub past : (i : ℕ) → end ≤ i → slice_index words i ≡ 0
+
+-- the words of a set where those before the place have no ones left, and this one is left at it
+abbrev pub words_from : List ℕ → (place word : ℕ) → List ℕ
+words_from words place word = replicate place 0 ++ word ∷ drop (place + 1) words
+
+-- what holds of the words of a set whose numbers are taken one after the other
+pub record AreWordsFrom (words : List ℕ) (end place word : ℕ) : Type 0 where
+  pub set : AreWordsOfSet words end
+  pub small : word < 2 ^ WORD_BITS
+  pub in_range : place < WORDS
 
 -- Numbers come in groups of four, group k from 4 * k on. The digits of a number below 16 say which of a group are in a
 -- set.

@@ -7,16 +7,16 @@ ghost use Rattle.match_puzzle.specs.Prefix.{IsPrefix, empty_prefix};
 ghost use Rattle.match_puzzle.specs.Fitting.{Fits, FitsItem, AreFitting, IsItem, IsOpen};
 ghost use Rattle.match_puzzle.specs.Fitting.{HasFewestFitting, IsNextFitting, IsLastFitting};
 ghost use Rattle.match_puzzle.specs.Placing.{FitInTurn, placed_by, with_next, without_last};
+ghost use Rattle.match_puzzle.specs.FitRows.{AreRows};
 ghost use Rattle.match_puzzle.specs.FitSizes.{AreSizes, item_place};
 ghost use Rattle.match_puzzle.specs.declared.items.Item.{Item as PuzzleItem};
 ghost use Rattle.match_puzzle.specs.declared.items.Item.TheVariants as items;
 ghost use Rattle.match_puzzle.specs.declared.placements.Pair.{Pair as Placed};
 
 use crate::behind::{EACH_TURN, number_behind, place_behind};
-use crate::fit_rows::{new_rows, put_rows_beside};
+use crate::fit_rows::FitRows;
 use crate::fit_sizes::{COVERED, STEP, least_size};
 use crate::items::Item;
-use crate::number_sets::NumberSet;
 use crate::partials::Partial;
 use crate::placements::{Pair, Placement};
 use crate::placing::take_out;
@@ -27,15 +27,15 @@ use std::marker::Model;
 /// Pairs of a puzzle, each of which fits those before it, and beside them what still fits: for each cell and each tile
 /// it keeps how many pairs do. It borrows the puzzle.
 ///
-/// To place a pair costs a few words for each cell and each side, and a step for each pair that fits no longer; to lift
-/// it costs less. It takes 16 bytes for each pair that was placed and each cell.
+/// To place a pair costs a few words for each open cell and each side, and a step for each pair that fits no longer; to
+/// lift it costs less. It takes 8 bytes for each pair that was placed and each cell, and up to 16 while it grows.
 #[derive(Drop)]
 pub struct FitCounts<'a> {
     partial: Partial<'a>,
     // in the order of placing
     pairs: Vec<Pair>,
     // for each cell what shows there what is asked
-    rows: Vec<NumberSet>,
+    rows: FitRows,
     // how many pairs fit and settle each item
     sizes: Vec<u32>,
     // the same as it was before each pair that is placed
@@ -44,25 +44,25 @@ pub struct FitCounts<'a> {
 
 impl<'a> Model for FitCounts<'a> {
     ghost use Rattle.match_puzzle.specs.Placing.{Placing};
-    ghost use Rattle.match_puzzle.specs.FitSizes.{AreKept};
+    ghost use Rattle.match_puzzle.specs.FitSizes.{AreKeptBeside};
 
     ghost Value = { Placing };
 
     ghost view = { λ f. record { puzzle = f.partial.puzzle; pairs = f.pairs.items } };
 
-    ghost invariant = { λ f. AreKept f.partial.puzzle f.pairs.items f.partial.placed f.rows.items f.sizes.items
+    ghost invariant = { λ f. AreKeptBeside f.partial.puzzle f.pairs.items f.partial.placed f.rows f.sizes.items
         f.saved.items };
 }
 
 impl<'a> FitCounts<'a> {
-    /// Nothing is placed yet. It costs a look at each tile at each cell.
+    /// Nothing is placed yet. It costs a look at each tile at each cell. An error comes where memory is refused.
     pub fn new(alloc: Global, puzzle: &'a Puzzle) -> Result<FitCounts<'a>, AllocError>
         ensures empty { IfOk result (λ f. f ≡ record { puzzle = puzzle.now; pairs = [] }) }
         ensures puzzle { IsPuzzle puzzle.now }
     {
         let partial = Partial::new(alloc, puzzle)?;
-        let rows = new_rows(alloc, &partial)?;
-        let sizes = new_sizes(alloc, &partial)?;
+        let rows = FitRows::new(alloc, &partial)?;
+        let sizes = new_sizes(alloc, &partial, &rows)?;
         Ok(FitCounts {
             partial,
             pairs: Vec::new(alloc),
@@ -161,7 +161,7 @@ impl<'a> FitCounts<'a> {
             self.sizes.copy_from_slice(&self.saved[before..]);
             self.saved.truncate(before);
             self.partial.lift(pair.cell);
-            put_rows_beside(&self.partial, pair.cell, &mut self.rows);
+            self.rows.put_beside(&self.partial, pair.cell);
         }
     }
 
@@ -191,7 +191,7 @@ impl<'a> FitCounts<'a> {
             (IsLastFitting self.now.puzzle (placed_by self.now) (items.Cell cell) after)
             (IsNextFitting self.now.puzzle (placed_by self.now) (items.Cell cell) after) }
     {
-        let row = &self.rows[usize::from(cell)];
+        let row = self.rows.at(cell);
         let number = row.next_in_both(self.partial.free(), number_behind(after))?;
         let placement = Placement {
             tile: number / 4,
@@ -211,7 +211,7 @@ impl<'a> FitCounts<'a> {
         let cells = self.rows.len() as u16;
         let (first, mut turns) = place_behind(after);
         for cell in first..cells {
-            let fitting = self.rows[usize::from(cell)].group(tile) & turns;
+            let fitting = self.rows.at(cell).group(tile) & turns;
             if fitting != 0 {
                 let turn = fitting.trailing_zeros() as u8;
                 let placement = Placement { tile, turn };
@@ -224,15 +224,30 @@ impl<'a> FitCounts<'a> {
 }
 
 // The table where nothing is placed.
-fn new_sizes(alloc: Global, partial: &Partial<'_>) -> Result<Vec<u32>, AllocError>
-    requires { partial.now.placed ≡ empty_prefix partial.now.puzzle }
+fn new_sizes(alloc: Global, partial: &Partial<'_>, rows: &FitRows) -> Result<Vec<u32>, AllocError>
+    requires empty { partial.now.placed ≡ empty_prefix partial.now.puzzle }
+    requires rows { AreRows partial.now.puzzle partial.now.placed rows.now }
     ensures { IfOk result (λ v. AreSizes partial.now.puzzle partial.now.placed v.items) }
 {
     let cells = partial.puzzle().board().cells();
     let mut sizes = Vec::with_capacity(alloc, 2 * usize::from(cells))?;
     for place in 0..2 * u32::from(cells) {
-        let count = partial.count(Item::numbered(cells, place));
+        let count = count_in(partial, rows, Item::numbered(cells, place));
         sizes.push(STEP * u32::from(count) + place)?;
     }
     Ok(sizes)
+}
+
+// How many pairs fit and settle the item, where nothing is placed: as many as the rows have.
+fn count_in(partial: &Partial<'_>, rows: &FitRows, item: Item) -> u16
+    requires item { IsItem partial.now.puzzle item }
+    requires empty { partial.now.placed ≡ empty_prefix partial.now.puzzle }
+    requires rows { AreRows partial.now.puzzle partial.now.placed rows.now }
+    requires puzzle { IsPuzzle partial.now.puzzle }
+    ensures { (xs : List Placed) × AreFitting partial.now.puzzle partial.now.placed item xs × (length xs ≡ result) }
+{
+    match item {
+        Item::Cell(cell) => rows.at(cell).len(),
+        Item::Tile(tile) => rows.places_of(tile).len(),
+    }
 }

@@ -6,6 +6,7 @@
 ghost use Rattle.std.specs.Prelude.{◌≡◌, ◌⊎◌, ◌<◌, ◌≤◌, ◌+◌, ◌*◌, ℕ, [], Contains, length, slice_index, slice_index_or};
 ghost use Rattle.match_puzzle.specs.FitSizes.{count_of_tile};
 
+use crate::fit_rows::FitRows;
 use crate::number_sets::NumberSet;
 use match_board::limits::MOST_CELLS;
 
@@ -19,26 +20,24 @@ pub(crate) const COVERED: u32 = u32::MAX;
 const _: () = prove!(2 * MOST_CELLS < 1024 - 1);
 
 /// Counts one pair less of its tile for each of these numbers, four to a tile. The tiles stand behind so many cells.
-pub(crate) fn lower_tiles(sizes: &mut Vec<u32>, cells: usize, numbers: NumberSet)
+pub(crate) fn lower_tiles(sizes: &mut Vec<u32>, cells: usize, numbers: &NumberSet)
     requires long { length sizes.old.items ≡ 2 * cells }
-    requires below { (n : ℕ) → Contains numbers n → n < 4 * cells }
+    requires below { (n : ℕ) → Contains numbers.now n → n < 4 * cells }
     requires enough { (tile : ℕ) → tile < cells
-        → STEP * count_of_tile numbers tile ≤ slice_index sizes.old.items (cells + tile) }
+        → STEP * count_of_tile numbers.now tile ≤ slice_index sizes.old.items (cells + tile) }
     ensures long { length sizes.new.items ≡ length sizes.old.items }
     ensures tiles { (tile : ℕ) → tile < cells → slice_index sizes.new.items (cells + tile)
-        + STEP * count_of_tile numbers tile ≡ slice_index sizes.old.items (cells + tile) }
+        + STEP * count_of_tile numbers.now tile ≡ slice_index sizes.old.items (cells + tile) }
     ensures cells { (cell : ℕ) → cell < cells → slice_index sizes.new.items cell ≡ slice_index sizes.old.items cell }
 {
-    let mut from = 0;
-    while let Some(number) = numbers.next(4 * from) {
-        let tile = number / 4;
-        sizes[cells + usize::from(tile)] -= STEP * u32::from(numbers.group_len(tile));
-        from = tile + 1;
+    let mut left = numbers.members();
+    while let Some(number) = left.take_first() {
+        sizes[cells + usize::from(number / 4)] -= STEP;
     }
 }
 
 /// Counts less at each cell, for each placement of the tile in its row.
-pub(crate) fn lower_cells(sizes: &mut Vec<u32>, rows: &[NumberSet], tile: u16)
+pub(crate) fn lower_cells(sizes: &mut Vec<u32>, rows: &FitRows, tile: u16)
     requires long { length sizes.old.items ≡ 2 * length rows.now }
     requires tile { tile < length rows.now }
     requires most { length rows.now ≤ MOST_CELLS }
@@ -50,8 +49,10 @@ pub(crate) fn lower_cells(sizes: &mut Vec<u32>, rows: &[NumberSet], tile: u16)
     ensures tiles { (place : ℕ) → length rows.now ≤ place
         → slice_index sizes.new.items place ≡ slice_index sizes.old.items place }
 {
-    for (cell, row) in rows.iter().enumerate() {
-        sizes[cell] -= STEP * u32::from(row.group_len(tile));
+    let mut left = rows.open_cells();
+    while let Some(cell) = left.take_first() {
+        let count = rows.at(cell).group_len(tile);
+        sizes[usize::from(cell)] -= STEP * u32::from(count);
     }
 }
 

@@ -68,6 +68,48 @@ impl Model for FixedSet {
     ghost invariant = { λ s. AreWordsOfSet s.words WORDS };
 }
 
+/// The numbers of a set that were not yet taken, from the least on.
+#[derive(Drop)]
+pub(crate) struct Members<'a> {
+    words: &'a [u64; WORDS],
+    end: usize,
+    // What is left of the word at this place; nothing is left of those before it.
+    place: usize,
+    word: u64,
+}
+
+impl<'a> Model for Members<'a> {
+    ghost use Rattle.std.specs.Prelude.{ℕ, List};
+
+    ghost Value = { List ℕ };
+
+    ghost use Rattle.match_puzzle.specs.NumberSets.{members, words_from, AreWordsFrom};
+
+    ghost view = { λ m. members (words_from m.words.now m.place m.word) };
+
+    ghost invariant = { λ m. AreWordsFrom m.words.now m.end m.place m.word };
+}
+
+impl<'a> Members<'a> {
+    /// Takes the least number. Those that are left are greater.
+    #[inline]
+    pub(crate) fn take_first(&mut self) -> Option<u16>
+        ensures taken { MatchOption result ((self.old ≡ []) × (self.new ≡ [])) (λ n. self.old ≡ n ∷ self.new) }
+        ensures least { IfSome result (λ n. (other : ℕ) → Contains self.new other → n < other) }
+    {
+        while self.word == 0 {
+            if self.place + 1 >= self.end {
+                return None;
+            }
+            self.place += 1;
+            self.word = self.words[self.place];
+        }
+        let digit = self.word.trailing_zeros();
+        self.word &= !(1 << digit);
+        Some(WORD_BITS * self.place as u16 + digit as u16)
+    }
+}
+
 impl NumberSet {
     /// No number.
     pub(crate) fn new() -> NumberSet
@@ -108,6 +150,19 @@ impl NumberSet {
         count
     }
 
+    /// Its numbers, to be taken one after the other.
+    #[inline]
+    pub(crate) fn members(&self) -> Members<'_>
+        ensures { result ≡ self.now }
+    {
+        Members {
+            words: &self.words,
+            end: self.end,
+            place: 0,
+            word: self.words[0],
+        }
+    }
+
     /// Takes the least number off.
     pub(crate) fn take_first(&mut self) -> Option<u16>
         ensures { MatchOption result ((self.old ≡ []) × (self.new ≡ [])) (λ n. self.old ≡ n ∷ self.new) }
@@ -121,6 +176,24 @@ impl NumberSet {
             }
         }
         None
+    }
+
+    /// Puts the number in.
+    pub(crate) fn put(&mut self, number: u16)
+        requires { number < NUMBERS }
+        ensures { IsListing ◌<◌ (λ n. Contains self.old n ⊎ (n ≡ number)) self.new }
+    {
+        let place = usize::from(number / WORD_BITS);
+        self.words[place] |= 1 << (number % WORD_BITS);
+        self.end = self.end.max(place + 1);
+    }
+
+    /// Takes the number off.
+    pub(crate) fn remove(&mut self, number: u16)
+        requires { number < NUMBERS }
+        ensures { IsListing ◌<◌ (λ n. Contains self.old n × (n ≢ number)) self.new }
+    {
+        self.words[usize::from(number / WORD_BITS)] &= !(1 << (number % WORD_BITS));
     }
 
     /// Takes all numbers off.
@@ -209,17 +282,6 @@ impl NumberSet {
             mask = u64::MAX;
         }
         None
-    }
-
-    /// The least number from this one on.
-    pub(crate) fn next(&self, from: u16) -> Option<u16>
-        requires { from ≤ NUMBERS }
-        ensures few { IfSome result (λ n. n < NUMBERS) }
-        ensures least { MatchOption result
-            ((n : ℕ) → Contains self.now n → from ≤ n → ⊥)
-            (IsLeast (λ n. Contains self.now n × (from ≤ n))) }
-    {
-        self.next_in_both(self, from)
     }
 
     /// How many numbers of the group there are.

@@ -9,6 +9,7 @@ ghost use Rattle.match_puzzle.specs.FitRows.{AreRows, AreRowsBeside};
 ghost use Rattle.match_puzzle.specs.FitSizes.{AreSizes, AreSizesOf, AreCovered, FitsPair, FitsElsewhere, FitsBeside};
 ghost use Rattle.match_puzzle.specs.FitSizes.{count_of_tile};
 
+use crate::fit_rows::FitRows;
 use crate::fit_sizes::{COVERED, STEP, lower_cells, lower_tiles};
 use crate::number_sets::NumberSet;
 use crate::partials::Partial;
@@ -16,22 +17,17 @@ use crate::placements::Pair;
 use match_board::limits::MOST_COLOURS;
 
 /// Makes the rows and the counts what they are with one pair more, which fits and is not yet placed.
-pub(crate) fn take_out(
-    partial: &Partial<'_>,
-    pair: Pair,
-    rows: &mut Vec<NumberSet>,
-    sizes: &mut Vec<u32>,
-)
+pub(crate) fn take_out(partial: &Partial<'_>, pair: Pair, rows: &mut FitRows, sizes: &mut Vec<u32>)
     requires fits { Fits partial.now.puzzle partial.now.placed pair.cell pair.placement }
-    requires rows { AreRows partial.now.puzzle partial.now.placed rows.old.items }
+    requires rows { AreRows partial.now.puzzle partial.now.placed rows.old }
     requires sizes { AreSizes partial.now.puzzle partial.now.placed sizes.old.items }
-    ensures rows { AreRows partial.now.puzzle (with_pair partial.now.placed pair.cell pair.placement) rows.new.items }
+    ensures rows { AreRows partial.now.puzzle (with_pair partial.now.placed pair.cell pair.placement) rows.new }
     ensures sizes { AreSizes partial.now.puzzle (with_pair partial.now.placed pair.cell pair.placement)
         sizes.new.items }
 {
     let cells = usize::from(partial.puzzle().board().cells());
     take_out_cell(partial, pair, rows, sizes);
-    rows[usize::from(pair.cell)].clear();
+    rows.clear(pair.cell);
     // the other pairs of the tile
     lower_cells(sizes, rows, pair.placement.tile);
     take_out_beside(partial, pair, rows, sizes);
@@ -40,7 +36,7 @@ pub(crate) fn take_out(
 }
 
 // Takes the other pairs of the cell out of the counts.
-fn take_out_cell(partial: &Partial<'_>, pair: Pair, rows: &[NumberSet], sizes: &mut Vec<u32>)
+fn take_out_cell(partial: &Partial<'_>, pair: Pair, rows: &FitRows, sizes: &mut Vec<u32>)
     requires fits { Fits partial.now.puzzle partial.now.placed pair.cell pair.placement }
     requires rows { AreRows partial.now.puzzle partial.now.placed rows.now }
     requires sizes { AreSizes partial.now.puzzle partial.now.placed sizes.old.items }
@@ -50,24 +46,19 @@ fn take_out_cell(partial: &Partial<'_>, pair: Pair, rows: &[NumberSet], sizes: &
 {
     let cells = usize::from(partial.puzzle().board().cells());
     let mut gone = NumberSet::new();
-    gone.put_both(&rows[usize::from(pair.cell)], partial.free());
+    gone.put_both(rows.at(pair.cell), partial.free());
     gone.remove_group(pair.placement.tile);
-    lower_tiles(sizes, cells, gone);
+    lower_tiles(sizes, cells, &gone);
 }
 
 // Takes those pairs out of the rows and the counts that stand beside the pair and don't go with it.
-fn take_out_beside(
-    partial: &Partial<'_>,
-    pair: Pair,
-    rows: &mut Vec<NumberSet>,
-    sizes: &mut Vec<u32>,
-)
+fn take_out_beside(partial: &Partial<'_>, pair: Pair, rows: &mut FitRows, sizes: &mut Vec<u32>)
     requires fits { Fits partial.now.puzzle partial.now.placed pair.cell pair.placement }
-    requires rows { AreRowsBeside partial.now.puzzle partial.now.placed pair 0 rows.old.items }
+    requires rows { AreRowsBeside partial.now.puzzle partial.now.placed pair 0 rows.old }
     requires open_items { AreSizesOf partial.now.puzzle (with_pair partial.now.placed pair.cell pair.placement)
         (FitsBeside partial.now.puzzle partial.now.placed pair 0) sizes.old.items }
     requires settled { AreCovered partial.now.puzzle partial.now.placed sizes.old.items }
-    ensures rows { AreRows partial.now.puzzle (with_pair partial.now.placed pair.cell pair.placement) rows.new.items }
+    ensures rows { AreRows partial.now.puzzle (with_pair partial.now.placed pair.cell pair.placement) rows.new }
     ensures open_items { AreSizesOf partial.now.puzzle (with_pair partial.now.placed pair.cell pair.placement)
         (FitsPair partial.now.puzzle (with_pair partial.now.placed pair.cell pair.placement)) sizes.new.items }
     ensures settled { AreCovered partial.now.puzzle partial.now.placed sizes.new.items }
@@ -84,18 +75,18 @@ fn take_out_side(
     pair: Pair,
     side: u8,
     asked: u8,
-    rows: &mut Vec<NumberSet>,
+    rows: &mut FitRows,
     sizes: &mut Vec<u32>,
 )
     requires fits { Fits partial.now.puzzle partial.now.placed pair.cell pair.placement }
     requires side { side < side_count partial.now.puzzle.board }
     requires asked { asked ≡ mate_of partial.now.puzzle (colour_of partial.now.puzzle pair.placement side) }
     requires few { asked < MOST_COLOURS }
-    requires rows { AreRowsBeside partial.now.puzzle partial.now.placed pair side rows.old.items }
+    requires rows { AreRowsBeside partial.now.puzzle partial.now.placed pair side rows.old }
     requires open_items { AreSizesOf partial.now.puzzle (with_pair partial.now.placed pair.cell pair.placement)
         (FitsBeside partial.now.puzzle partial.now.placed pair side) sizes.old.items }
     requires settled { AreCovered partial.now.puzzle partial.now.placed sizes.old.items }
-    ensures rows { AreRowsBeside partial.now.puzzle partial.now.placed pair (side + 1) rows.new.items }
+    ensures rows { AreRowsBeside partial.now.puzzle partial.now.placed pair (side + 1) rows.new }
     ensures open_items { AreSizesOf partial.now.puzzle (with_pair partial.now.placed pair.cell pair.placement)
         (FitsBeside partial.now.puzzle partial.now.placed pair (side + 1)) sizes.new.items }
     ensures settled { AreCovered partial.now.puzzle partial.now.placed sizes.new.items }
@@ -104,10 +95,10 @@ fn take_out_side(
     if let Some((cell, met)) = puzzle.meets(pair.cell, side) {
         let kept = puzzle.showing(asked, met);
         let mut gone = NumberSet::new();
-        gone.put_without(&rows[usize::from(cell)], kept, partial.free());
+        gone.put_without(rows.at(cell), kept, partial.free());
         gone.remove_group(pair.placement.tile);
-        rows[usize::from(cell)].keep(kept);
+        rows.keep(cell, kept);
         sizes[usize::from(cell)] -= STEP * u32::from(gone.len());
-        lower_tiles(sizes, rows.len(), gone);
+        lower_tiles(sizes, rows.len(), &gone);
     }
 }

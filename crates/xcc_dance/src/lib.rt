@@ -1,4 +1,5 @@
-//! The search for solutions of a compiled puzzle, over linked lists of the options that still go with the chosen ones.
+//! The search for solutions of a compiled puzzle, over an engine that keeps which options still go with the chosen ones:
+//! as linked lists, or as counts of what fits.
 #![tactic(auto)]
 
 mod chooses;

@@ -11,7 +11,7 @@ use std::alloc::AllocError;
 use xcc_form::Xcc;
 
 /// An engine of a search: options chosen of a compiled puzzle, no two of which clash, and the open options beside them,
-/// however these are kept. `Links` keeps them in linked lists.
+/// however these are kept: `Links` has linked lists, `OpenSets` counts what fits.
 ///
 /// An option is open where it clashes with no chosen one. An item is covered where a chosen option has it.
 pub trait OpenOptions {

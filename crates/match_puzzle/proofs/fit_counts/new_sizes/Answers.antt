@@ -19,7 +19,7 @@ loop-place-preserved c =
     let place = c.loop-place.place in
     let entry = 1024 * c.from-in-loop-place.result + place in
     let items = c.in_ok-push.ensures.items in
-    let w = c.count-count.ensures in
+    let w = c.count_in-count.ensures in
     let many = w.2 in
     let same = c.from-in-loop-place.ensures in
     let long = inv.long in
@@ -37,4 +37,4 @@ returns c =
     let long = inv.long in
     let cells = cells_are (goal.at.returns c).After-cells-cells in
     let end : c.loop-place.place ≡ 2 * cell_count p.board = omega (arith, cells, c.loop-place-test.false, c.loop-place.auto) in
-    all_entries p q c.loop-place.sizes.items c.puzzle.ensures.puzzle c.requires (long ∙ end) (subst (AreEntriesBelow p q c.loop-place.sizes.items) end inv.entries)
+    all_entries p q c.loop-place.sizes.items c.puzzle.ensures.puzzle c.requires.empty (long ∙ end) (subst (AreEntriesBelow p q c.loop-place.sizes.items) end inv.entries)

@@ -19,7 +19,7 @@ at_end c =
 pub returns-clause-rows : goal.returns-clause-rows
 returns-clause-rows c =
     let w = c.args.partial.now in
-    rows_last w.puzzle w.placed c.args.pair c.requires.fits.free c.loop-side.rows.items (subst (λ k. AreRowsBeside w.puzzle w.placed c.args.pair k c.loop-side.rows.items) (at_end (goal.at.returns-clause-rows c).After-loop-side) c.loop-side.invariant.rows)
+    rows_last w.puzzle w.placed c.args.pair c.requires.fits.free c.loop-side.rows (subst (λ k. AreRowsBeside w.puzzle w.placed c.args.pair k c.loop-side.rows) (at_end (goal.at.returns-clause-rows c).After-loop-side) c.loop-side.invariant.rows)
 
 pub returns-clause-open_items : goal.returns-clause-open_items
 returns-clause-open_items c =

@@ -14,20 +14,20 @@ lower_tiles-requires c =
     let long = c.requires.sizes.open_items.long in
     record {
       long = omega (arith, long, cells_is there);
-      below = cell_below c.args.partial.now.puzzle c.args.partial.now.placed c.args.pair c.requires.fits c.puzzle.ensures.puzzle c.puzzle.ensures.prefix c.args.rows.now c.requires.rows c.from.result c.index-rows-from.result c.from.ensures c.index-rows-from.is
+      below = cell_below c.args.partial.now.puzzle c.args.partial.now.placed c.args.pair c.requires.fits c.puzzle.ensures.puzzle c.puzzle.ensures.prefix c.args.rows.now c.requires.rows c.at.result.now c.at.ensures
           c.free.result.now c.put_both.new.self c.remove_group.new.self c.free.ensures c.put_both.ensures c.remove_group.ensures c.from-cells.result (cells_is there) c.args.sizes.now.items c.requires.sizes;
-      enough = cell_enough c.args.partial.now.puzzle c.args.partial.now.placed c.args.pair c.requires.fits c.puzzle.ensures.puzzle c.puzzle.ensures.prefix c.args.rows.now c.requires.rows c.from.result c.index-rows-from.result c.from.ensures c.index-rows-from.is
+      enough = cell_enough c.args.partial.now.puzzle c.args.partial.now.placed c.args.pair c.requires.fits c.puzzle.ensures.puzzle c.puzzle.ensures.prefix c.args.rows.now c.requires.rows c.at.result.now c.at.ensures
           c.free.result.now c.put_both.new.self c.remove_group.new.self c.free.ensures c.put_both.ensures c.remove_group.ensures c.from-cells.result (cells_is there) c.args.sizes.now.items c.requires.sizes;
     }
 
 pub returns-clause-open_items : goal.returns-clause-open_items
 returns-clause-open_items c =
-    cell_sizes c.args.partial.now.puzzle c.args.partial.now.placed c.args.pair c.requires.fits c.puzzle.ensures.puzzle c.puzzle.ensures.prefix c.args.rows.now c.requires.rows c.from.result c.index-rows-from.result c.from.ensures c.index-rows-from.is
+    cell_sizes c.args.partial.now.puzzle c.args.partial.now.placed c.args.pair c.requires.fits c.puzzle.ensures.puzzle c.puzzle.ensures.prefix c.args.rows.now c.requires.rows c.at.result.now c.at.ensures
     c.free.result.now c.put_both.new.self c.remove_group.new.self c.free.ensures c.put_both.ensures c.remove_group.ensures c.from-cells.result (cells_is (goal.at.returns-clause-open_items c).After-remove_group) c.args.sizes.now.items c.requires.sizes
     c.lower_tiles.new.sizes.items c.lower_tiles.ensures.long c.lower_tiles.ensures.tiles c.lower_tiles.ensures.cells
 
 pub returns-clause-settled : goal.returns-clause-settled
 returns-clause-settled c =
-    cell_covered c.args.partial.now.puzzle c.args.partial.now.placed c.args.pair c.requires.fits c.puzzle.ensures.puzzle c.puzzle.ensures.prefix c.args.rows.now c.requires.rows c.from.result c.index-rows-from.result c.from.ensures c.index-rows-from.is
+    cell_covered c.args.partial.now.puzzle c.args.partial.now.placed c.args.pair c.requires.fits c.puzzle.ensures.puzzle c.puzzle.ensures.prefix c.args.rows.now c.requires.rows c.at.result.now c.at.ensures
     c.free.result.now c.put_both.new.self c.remove_group.new.self c.free.ensures c.put_both.ensures c.remove_group.ensures c.from-cells.result (cells_is (goal.at.returns-clause-settled c).After-remove_group) c.args.sizes.now.items c.requires.sizes
     c.lower_tiles.new.sizes.items c.lower_tiles.ensures.long c.lower_tiles.ensures.tiles c.lower_tiles.ensures.cells

@@ -1,5 +1,4 @@
-use Rattle.std.proofs.Common.{◌≡◌, ◌<◌, ◌+◌, ◌-◌, ◌*◌, ◌∙◌, ℕ, List, [], Contains, length, get_or, arith, refl, sym, ap, subst}
-use Rattle.std.proofs.lemmas.List.{get_or_default}
+use Rattle.std.proofs.Common.{◌≡◌, ◌<◌, ◌+◌, ◌-◌, ◌*◌, ◌∙◌, length, length-set, get_or, arith, refl, sym, ap, subst}
 use Rattle.match_board.specs.Board.{cell_count}
 use Rattle.match_board.specs.Listing.{IsListing}
 use Rattle.match_board.proofs.Places.{StandsAt-in_range}
@@ -7,28 +6,25 @@ use Rattle.match_board.proofs.OptionLemmas.{none_some}
 use Rattle.match_puzzle.specs.Puzzle.{Task}
 use Rattle.match_puzzle.specs.Prefix.{with_pair}
 use Rattle.match_puzzle.specs.PlacementSets.{AreShowing}
-use Rattle.match_puzzle.specs.FitRows.{StandsBeside}
+use Rattle.match_puzzle.specs.FitRows.{StandsBeside, AreRowsBeside}
 use Rattle.match_puzzle.specs.FitSizes.{FitsBeside}
 use Rattle.match_puzzle.specs.declared.fit_sizes.TheConstants.{STEP}
 use Rattle.match_puzzle.proofs.TableLemmas.{met_is}
 use Rattle.match_puzzle.proofs.FitRowLemmas.{rows_met, rows_border}
+use Rattle.match_puzzle.proofs.OpenRowLemmas.{entry_read}
 use Rattle.match_puzzle.proofs.BesideLemmas.{AreGone, beside_less, beside_more, side_below, side_enough_cell, side_enough_tile, side_sizes, side_covered, sizes_as}
 use Rattle.match_puzzle.proofs.placing.take_out_side.Goals as goal
-use Rattle.match_puzzle.proofs.placing.take_out_side.Goals.{In-Some, After-remove_group, After-index_mut-in-Some, After-len-in-Some}
-
--- what was read at a place, whatever is read past the end
-entry_read : {X : Type 0} (xs : List X) (place at : ℕ) (past read : X) → at < length xs → place ≡ at → read ≡ get_or xs place read → get_or xs at past ≡ read
-entry_read xs place at past read lt same is = get_or_default xs at past read lt ∙ ap (λ k. get_or xs k read) (sym same) ∙ sym is
+use Rattle.match_puzzle.proofs.placing.take_out_side.Goals.{In-Some, After-remove_group, After-index_mut, After-len-in-Some}
 
 cell_in : (c : In-Some) → c.in-Some.cell < cell_count c.args.partial.now.puzzle.board
 cell_in c = StandsAt-in_range (rw c.puzzle-puzzle.ensures.same at c.in-Some.ensures.found).there
 
-are_gone : (c : After-remove_group) → AreGone c.args.partial.now.puzzle c.args.partial.now.placed c.args.pair c.args.side c.in-Some.cell c.in-Some.met c.args.asked c.showing-kept.result.now c.index.result.now c.free.result.now c.put_without.new.self c.remove_group.new.self
+are_gone : (c : After-remove_group) → AreGone c.args.partial.now.puzzle c.args.partial.now.placed c.args.pair c.args.side c.in-Some.cell c.in-Some.met c.args.asked c.showing-kept.result.now c.at.result.now c.free.result.now c.put_without.new.self c.remove_group.new.self
 are_gone c =
     let w = c.args.partial.now in
     let same = c.puzzle-puzzle.ensures.same in
     let inside = c.in-Some in
-    let rows = c.args.rows.now.items in
+    let rows = c.args.rows.now in
     let lt = StandsAt-in_range (rw same at inside.ensures.found).there in
     let long = c.requires.rows.long in
     record {
@@ -39,7 +35,7 @@ are_gone c =
       mate = c.requires.asked;
       few = c.requires.few;
       showing = subst (λ (t : Task). AreShowing t.words c.args.asked inside.met c.showing-kept.result.now) same c.showing-kept.ensures;
-      in_row = subst (IsListing ◌<◌ (StandsBeside w.puzzle w.placed c.args.pair c.args.side inside.cell)) (entry_read rows c.from.result inside.cell [] c.index.result.now (omega (arith, lt, long)) c.from.ensures c.index.ensures)
+      in_row = subst (IsListing ◌<◌ (StandsBeside w.puzzle w.placed c.args.pair c.args.side inside.cell)) (sym c.at.ensures)
           (c.requires.rows.is inside.cell lt);
       are_free = c.free.ensures;
       are_without = c.put_without.ensures;
@@ -47,40 +43,40 @@ are_gone c =
     }
 
 -- the entry of the cell, before it is lowered
-size_read : (c : After-index_mut-in-Some) → get_or c.args.sizes.now.items c.in-Some.cell 0 ≡ c.index_mut-in-Some.result.now
+size_read : (c : After-index_mut) → get_or c.args.sizes.now.items c.in-Some.cell 0 ≡ c.index_mut.result.now
 size_read c =
     let meets = (rw c.puzzle-puzzle.ensures.same at c.in-Some.ensures.found) in
     let lt = StandsAt-in_range meets.there in
     let long = c.requires.open_items.long in
-    entry_read c.args.sizes.now.items c.from-in-Some-3.result c.in-Some.cell 0 c.index_mut-in-Some.result.now (omega (arith, lt, long)) c.from-in-Some-3.ensures c.index_mut-in-Some.ensures.value
+    entry_read c.args.sizes.now.items c.from-in-Some.result c.in-Some.cell 0 c.index_mut.result.now (omega (arith, lt, long)) c.from-in-Some.ensures c.index_mut.ensures.value
 
 cells_is : (c : After-len-in-Some) → c.len-in-Some.result ≡ cell_count c.args.partial.now.puzzle.board
-cells_is c = let long = c.requires.rows.long in omega (arith, long, c.len-in-Some.ensures, c.args.rows.now.ok.0)
+cells_is c = let kept = c.keep.ensures in c.len-in-Some.ensures ∙ ap length kept.2 ∙ length-set c.args.rows.now c.in-Some.cell kept.0 ∙ c.requires.rows.long
 
-pub index-requires : goal.index-requires
-index-requires c =
-    let lt = cell_in (goal.at.index-requires c).In-Some in
+pub at-requires : goal.at-requires
+at-requires c =
+    let lt = cell_in (goal.at.at-requires c).In-Some in
     let long = c.requires.rows.long in
-    omega (arith, lt, long, c.from.ensures, c.args.rows.now.ok.0)
+    omega (arith, lt, long)
+
+pub keep-requires : goal.keep-requires
+keep-requires c =
+    let lt = cell_in (goal.at.keep-requires c).In-Some in
+    let long = c.requires.rows.long in
+    omega (arith, lt, long)
 
 pub index_mut-requires : goal.index_mut-requires
 index_mut-requires c =
     let lt = cell_in (goal.at.index_mut-requires c).In-Some in
-    let long = c.requires.rows.long in
-    omega (arith, lt, long, c.from-in-Some.ensures, c.args.rows.now.ok.0)
-
-pub index_mut-requires-in-Some : goal.index_mut-requires-in-Some
-index_mut-requires-in-Some c =
-    let lt = cell_in (goal.at.index_mut-requires-in-Some c).In-Some in
     let long = c.requires.open_items.long in
-    omega (arith, lt, long, c.from-in-Some-3.ensures, c.args.sizes.now.ok.0)
+    omega (arith, lt, long, c.from-in-Some.ensures, c.args.sizes.now.ok.0)
 
 pub overflow_sub-index_mut : goal.overflow_sub-index_mut
 overflow_sub-index_mut c =
     let at = goal.at.overflow_sub-index_mut c in
     let enough = side_enough_cell _ _ _ _ _ _ _ _ _ _ _ _ (are_gone at.After-remove_group) (cell_count c.args.partial.now.puzzle.board) refl c.args.sizes.now.items c.requires.open_items in
-    let read = size_read at.After-index_mut-in-Some in
-    omega (arith, enough, read, c.from-in-Some-2.ensures, c.len.ensures.count)
+    let read = size_read at.After-index_mut in
+    omega (arith, enough, read, c.from.ensures, c.len.ensures.count)
 
 pub lower_tiles-requires-clause-below : goal.lower_tiles-requires-clause-below
 lower_tiles-requires-clause-below c =
@@ -90,8 +86,8 @@ lower_tiles-requires-clause-below c =
 pub lower_tiles-requires-clause-enough : goal.lower_tiles-requires-clause-enough
 lower_tiles-requires-clause-enough c =
     let at = goal.at.lower_tiles-requires-clause-enough c in
-    rw c.from-in-Some-3.ensures (side_enough_tile _ _ _ _ _ _ _ _ _ _ _ _ (are_gone at.After-remove_group) c.len-in-Some.result (cells_is at.After-len-in-Some) c.args.sizes.now.items c.requires.open_items
-    (c.index_mut-in-Some.result.now - 1024 * c.from-in-Some-2.result))
+    rw c.from-in-Some.ensures (side_enough_tile _ _ _ _ _ _ _ _ _ _ _ _ (are_gone at.After-remove_group) c.len-in-Some.result (cells_is at.After-len-in-Some) c.args.sizes.now.items c.requires.open_items
+    (c.index_mut.result.now - 1024 * c.from.result))
 
 pub returns-in-Some : goal.returns-in-Some
 returns-in-Some c =
@@ -100,23 +96,21 @@ returns-in-Some c =
     let gone = are_gone at.After-remove_group in
     let cell = c.in-Some.cell in
     let cells = cells_is at.After-len-in-Some in
-    let rows = c.args.rows.now.items in
-    let cell_within = StandsAt-in_range gone.meets.there in
-    let long = c.requires.rows.long in
-    let row_read = entry_read rows c.from-in-Some.result cell [] c.index_mut.result.now (omega (arith, cell_within, long)) c.from-in-Some.ensures c.index_mut.ensures.value in
+    let rows = c.args.rows.now in
+    let kept = c.keep.ensures in
     let old = c.args.sizes.now.items in
-    let place = c.from-in-Some-3.ensures in
-    let entry = c.index_mut-in-Some.result.now - 1024 * c.from-in-Some-2.result in
+    let place = c.from-in-Some.ensures in
+    let entry = c.index_mut.result.now - 1024 * c.from.result in
     let enough = side_enough_cell _ _ _ _ _ _ _ _ _ _ _ _ gone c.len-in-Some.result cells old c.requires.open_items in
-    let read = size_read at.After-index_mut-in-Some in
-    let lowered : entry + STEP * length c.remove_group.new.self ≡ get_or old cell 0 = omega (arith, enough, read, c.from-in-Some-2.ensures, c.len.ensures.count) in
+    let read = size_read at.After-index_mut in
+    let lowered : entry + STEP * length c.remove_group.new.self ≡ get_or old cell 0 = omega (arith, enough, read, c.from.ensures, c.len.ensures.count) in
     let new = c.lower_tiles.new.sizes.items in
     let new_long = rw place at c.lower_tiles.ensures.long in
     let tiles = rw place at c.lower_tiles.ensures.tiles in
     let others = rw place at c.lower_tiles.ensures.cells in
     record {
-      rows = rw c.from-in-Some.ensures (rows_met w.puzzle w.placed c.args.pair c.args.side cell c.in-Some.met c.args.asked c.showing-kept.result.now c.keep.new.self rows gone.puzzle gone.meets gone.one gone.mate gone.few gone.showing
-          (subst (λ (r : List ℕ). IsListing ◌<◌ (λ n. Contains r n × Contains c.showing-kept.result.now n) c.keep.new.self) (sym row_read) c.keep.ensures) c.requires.rows);
+      rows = subst (AreRowsBeside w.puzzle w.placed c.args.pair (c.args.side + 1)) (sym kept.2)
+          (rows_met w.puzzle w.placed c.args.pair c.args.side cell c.in-Some.met c.args.asked c.showing-kept.result.now kept.0 rows gone.puzzle gone.meets gone.one gone.mate gone.few gone.showing kept.1 c.requires.rows);
       open_items = side_sizes _ _ _ _ _ _ _ _ _ _ _ _ gone c.len-in-Some.result cells old c.requires.open_items entry lowered new new_long tiles others c.puzzle-puzzle.ensures.prefix.cells;
       settled = side_covered _ _ _ _ _ _ _ _ _ _ _ _ gone c.len-in-Some.result cells old c.requires.open_items entry lowered new new_long tiles others c.requires.settled;
     }
@@ -125,7 +119,7 @@ pub returns-in_default-clause-rows : goal.returns-in_default-clause-rows
 returns-in_default-clause-rows c =
     let w = c.args.partial.now in
     let none = rw c.puzzle-puzzle.ensures.same at c.in_default.ensures.only in
-    rows_border w.puzzle w.placed c.args.pair c.args.side c.args.rows.now.items (λ cell met meets. none_some (none cell met meets)) c.requires.rows
+    rows_border w.puzzle w.placed c.args.pair c.args.side c.args.rows.now (λ cell met meets. none_some (none cell met meets)) c.requires.rows
 
 pub returns-in_default-clause-open_items : goal.returns-in_default-clause-open_items
 returns-in_default-clause-open_items c =

@@ -10,7 +10,7 @@ use Rattle.match_puzzle.proofs.fit_counts.FitCounts.is_open.Goals as goal
 use Rattle.match_puzzle.proofs.fit_counts.FitCounts.is_open.Goals.{After-place_of}
 
 are_sizes : (c : After-place_of) → AreSizes c.args.self.now.puzzle (placed_by c.args.self.now) c.self.inside.sizes.items
-are_sizes c = kept_sizes c.self.inside.partial.puzzle c.self.inside.pairs.items c.self.inside.partial.placed c.self.inside.rows.items c.self.inside.sizes.items c.self.inside.saved.items c.self.invariant c.args.self.now c.self.view_is
+are_sizes c = kept_sizes c.self.inside.partial.puzzle c.self.inside.pairs.items c.self.inside.partial.placed c.self.inside.rows c.self.inside.sizes.items c.self.inside.saved.items c.self.invariant c.args.self.now c.self.view_is
 
 within : (c : After-place_of) → c.place_of.result < length c.self.inside.sizes.items
 within c =

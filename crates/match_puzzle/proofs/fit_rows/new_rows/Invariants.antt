@@ -1,9 +1,0 @@
-use Rattle.std.proofs.Common.{◌≡◌, ◌<◌, ℕ, [], length, slice_index_or}
-use Rattle.match_puzzle.specs.FitRows.{IsRow}
-use Rattle.match_puzzle.proofs.fit_rows.new_rows.Given as goal
-
-abbrev pub invariant-loop-cell : goal.invariant-loop-cell
-invariant-loop-cell l = record {
-  long : length l.rows.items ≡ l.cell;
-  is : (k : ℕ) → k < l.cell → IsRow l.partial.puzzle l.partial.placed k (slice_index_or l.rows.items k []);
-}
