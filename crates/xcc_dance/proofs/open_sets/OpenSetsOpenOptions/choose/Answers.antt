@@ -7,7 +7,7 @@ use Rattle.xcc_dance.specs.Chosen.{Selection}
 use Rattle.xcc_dance.specs.Placing.{IsPlacingOf}
 use Rattle.xcc_dance.proofs.OpenSetLemmas.{open_fits_placing, placing_pushed}
 use Rattle.xcc_dance.proofs.RoomLemmas.{room}
-use Rattle.xcc_dance.proofs.open_sets.OpenSets.choose.Goals as goal
+use Rattle.xcc_dance.proofs.open_sets.OpenSetsOpenOptions.choose.Goals as goal
 
 pub returns-in_err-reserve-clause-room : goal.returns-in_err-reserve-clause-room
 returns-in_err-reserve-clause-room c = let is = subst (λ (s : Selection). IsPlacingOf s.compiled s.chosen c.self.inside.counts) c.self.view_is c.self.invariant in room c.args.self.now.compiled c.args.self.now.chosen c.args.option is.selection c.requires

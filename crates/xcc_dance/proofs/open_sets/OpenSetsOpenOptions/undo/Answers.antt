@@ -2,7 +2,7 @@ use Rattle.std.proofs.Common.{◌≡◌, ◌-◌, length, take, arith, ap, sym, 
 use Rattle.match_puzzle.specs.Placing.{Placing, without_last}
 use Rattle.xcc_dance.specs.Placing.{IsPlacingOf}
 use Rattle.xcc_dance.proofs.OpenSetLemmas.{placing_popped}
-use Rattle.xcc_dance.proofs.open_sets.OpenSets.undo.Goals as goal
+use Rattle.xcc_dance.proofs.open_sets.OpenSetsOpenOptions.undo.Goals as goal
 
 pub invariant_of-self : goal.invariant_of-self
 invariant_of-self c =

@@ -5,7 +5,7 @@ use Rattle.xcc_form.specs.Options.{cover_of}
 use Rattle.xcc_dance.specs.Chosen.{Selection, AreAllCovered, IsToBranchOn}
 use Rattle.xcc_dance.specs.Placing.{IsPlacingOf}
 use Rattle.xcc_dance.proofs.OpenSetLemmas.{all_covered, fewest_branches, open_numbered}
-use Rattle.xcc_dance.proofs.open_sets.OpenSets.branch_item.Goals as goal
+use Rattle.xcc_dance.proofs.open_sets.OpenSetsOpenOptions.branch_item.Goals as goal
 
 pub returns-in_err-item : goal.returns-in_err-item
 returns-in_err-item c =

@@ -6,7 +6,7 @@ use Rattle.xcc_form.specs.Correspondence.{IsPairOf}
 use Rattle.xcc_dance.specs.Chosen.{Selection, IsNext, IsLast}
 use Rattle.xcc_dance.specs.Placing.{IsPlacingOf}
 use Rattle.xcc_dance.proofs.OpenSetLemmas.{uncovered_opens, pair_before, last_by_pairs, next_of_option}
-use Rattle.xcc_dance.proofs.open_sets.OpenSets.next_option.Goals as goal
+use Rattle.xcc_dance.proofs.open_sets.OpenSetsOpenOptions.next_option.Goals as goal
 
 pub next-requires-clause-item : goal.next-requires-clause-item
 next-requires-clause-item c =

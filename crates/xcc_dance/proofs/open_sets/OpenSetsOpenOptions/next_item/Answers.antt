@@ -6,7 +6,7 @@ use Rattle.xcc_form.specs.Options.{cover_of}
 use Rattle.xcc_dance.specs.Chosen.{Selection, IsUncovered}
 use Rattle.xcc_dance.specs.Placing.{IsPlacingOf}
 use Rattle.xcc_dance.proofs.OpenSetLemmas.{open_uncovers, uncovered_opens, behind_from}
-use Rattle.xcc_dance.proofs.open_sets.OpenSets.next_item.Goals as goal
+use Rattle.xcc_dance.proofs.open_sets.OpenSetsOpenOptions.next_item.Goals as goal
 
 pub returns-then-is_open : goal.returns-then-is_open
 returns-then-is_open c =

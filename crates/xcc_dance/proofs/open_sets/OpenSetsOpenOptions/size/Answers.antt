@@ -4,7 +4,7 @@ use Rattle.match_puzzle.specs.Fitting.{IsNumberOf}
 use Rattle.xcc_dance.specs.Chosen.{Selection}
 use Rattle.xcc_dance.specs.Placing.{IsPlacingOf}
 use Rattle.xcc_dance.proofs.OpenSetLemmas.{uncovered_opens, sized_by}
-use Rattle.xcc_dance.proofs.open_sets.OpenSets.size.Goals as goal
+use Rattle.xcc_dance.proofs.open_sets.OpenSetsOpenOptions.size.Goals as goal
 
 pub count-requires : goal.count-requires
 count-requires c =
