@@ -83,13 +83,13 @@ fn cut_lines<'a>(
     let mut left = count;
     while left > 0 {
         let begin = scan.copy();
-        let count = skip_part(scan, left, size);
+        let lines = skip_part(scan, left, size);
         parts.push(LemmaPart {
             version,
             scan: begin,
-            count,
+            count: lines,
         })?;
-        left -= count;
+        left -= lines;
     }
     Ok(parts)
 }
