@@ -115,25 +115,25 @@ unfolding parts_say
 none_cut read = with_front-nil read
 
 -- what the text says is what its parts say and the end
-pub cut_is : (text : List ℕ) (p : Place) (cut : CutCertificate) → certificate_text (start text) ≡ lemmas_then_end cut.beginning.version cut.beginning.symmetries.items cut.beginning.count p
-    → left_at cut.end (parts_say cut.parts.items) ≡ times cut.beginning.count (lemma_by cut.beginning.version) p → IsCutOf text cut
-unfolding certificate_of cut_says
-cut_is text p cut begins says =
-    ap value_of begins ∙ ap (λ read. value_of (go_on read (λ pieces. closing_then pieces))) (sym says) ∙ by_parts (parts_say cut.parts.items)
-  where
-    abbrev said : List Piece → Said
-    said pieces = record { version = cut.beginning.version; symmetries = cut.beginning.symmetries.items; pieces = pieces }
+module _ (cut : CutCertificate) where
+  abbrev said : List Piece → Said
+  said pieces = record { version = cut.beginning.version; symmetries = cut.beginning.symmetries.items; pieces = pieces }
 
-    abbrev closing_then : List Piece → Read Said
-    closing_then pieces q = go_on (closing q) (λ _. give (said pieces))
+  abbrev closing_then : List Piece → Read Said
+  closing_then pieces q = go_on (closing q) (λ _. give (said pieces))
 
-    by_end : (pieces : List Piece) (end : Result (Unit {0} × Place) TextFault) → value_of (go_on end (λ _. give (said pieces))) ≡ (value_of end >>= λ _. Ok (said pieces))
-    by_end pieces (Ok z) = refl
-    by_end pieces (Err e) = refl
+  by_end : (pieces : List Piece) (end : Result (Unit {0} × Place) TextFault) → value_of (go_on end (λ _. give (said pieces))) ≡ (value_of end >>= λ _. Ok (said pieces))
+  by_end pieces (Ok z) = refl
+  by_end pieces (Err e) = refl
 
-    by_parts : (says : Result (List Piece) TextFault) → value_of (go_on (left_at cut.end says) closing_then) ≡ (says >>= λ pieces. value_of (closing cut.end) >>= λ _. Ok (said pieces))
-    by_parts (Ok pieces) = by_end pieces (closing cut.end)
-    by_parts (Err e) = refl
+  by_parts : (says : Result (List Piece) TextFault) → value_of (go_on (left_at cut.end says) closing_then) ≡ (says >>= λ pieces. value_of (closing cut.end) >>= λ _. Ok (said pieces))
+  by_parts (Ok pieces) = by_end pieces (closing cut.end)
+  by_parts (Err e) = refl
+
+  pub cut_is : (text : List ℕ) (p : Place) → certificate_text (start text) ≡ lemmas_then_end cut.beginning.version cut.beginning.symmetries.items cut.beginning.count p
+      → left_at cut.end (parts_say cut.parts.items) ≡ times cut.beginning.count (lemma_by cut.beginning.version) p → IsCutOf text cut
+  unfolding certificate_of cut_says
+  cut_is text p begins says = ap value_of begins ∙ ap (λ read. value_of (go_on read closing_then)) (sym says) ∙ by_parts (parts_say cut.parts.items)
 
 -- a fault before the lemmas is the text's
 pub fault_before : (text : List ℕ) (fault : ReadFault) → Fails fault (certificate_text (start text)) → Fails fault (certificate_of text)

@@ -117,16 +117,18 @@ module _ (pairs more_pairs : List Pair) (heads more_heads : List Head) where
   moved_spans (other ∷ others) are span (suc k, lt, is) = moved_spans others (λ x at. are x (suc at.0, omega (arith, at.1), at.2)) span (k, omega (arith, lt), is)
 
   -- the places of those that are moved are numbers of a machine
-  pub can_move : (others : List LemmaSpan) → AreSpans more_pairs more_heads others → length pairs + length more_pairs < 2 ^ 64 → length heads + length more_heads < 2 ^ 64 → All (CanMove (length pairs) (length heads)) others
-  can_move [] are few_pairs few_heads k d lt = absurd (omega (arith, lt))
-  can_move (span ∷ others) are few_pairs few_heads zero d lt =
+  pub can_move : (before_pairs before_heads : ℕ) (others : List LemmaSpan) → AreSpans more_pairs more_heads others → before_pairs + length more_pairs < 2 ^ 64 → before_heads + length more_heads < 2 ^ 64
+      → All (CanMove before_pairs before_heads) others
+  can_move before_pairs before_heads [] are few_pairs few_heads k d lt = absurd (omega (arith, lt))
+  can_move before_pairs before_heads (span ∷ others) are few_pairs few_heads zero d lt =
       let is = are span (0, omega arith, refl) in
       let some_pairs = is.some_pairs in
       let within_pairs = is.within_pairs in
       let some_heads = is.some_heads in
       let within_heads = is.within_heads in
       record { pairs_start = omega arith; pairs_end = omega arith; heads_start = omega arith; heads_end = omega arith }
-  can_move (span ∷ others) are few_pairs few_heads (suc k) d lt = can_move others (λ x at. are x (suc at.0, omega (arith, at.1), at.2)) few_pairs few_heads k d (omega (arith, lt))
+  can_move before_pairs before_heads (span ∷ others) are few_pairs few_heads (suc k) d lt =
+      can_move before_pairs before_heads others (λ x at. are x (suc at.0, omega (arith, at.1), at.2)) few_pairs few_heads k d (omega (arith, lt))
 
   pub joined_spans : (spans others : List LemmaSpan) → AreSpans pairs heads spans → AreSpans more_pairs more_heads others → AreSpans (pairs ++ more_pairs) (heads ++ more_heads) (spans ++ map moved others)
   joined_spans spans others are more_are span at =
@@ -141,6 +143,27 @@ module _ (pairs more_pairs : List Pair) (heads more_heads : List Head) where
       map-append (piece_in (pairs ++ more_pairs) (heads ++ more_heads)) spans (map moved others)
       ∙ ap (λ pieces. pieces ++ map (piece_in (pairs ++ more_pairs) (heads ++ more_heads)) (map moved others)) (same_pieces pairs (pairs ++ more_pairs) heads (heads ++ more_heads) (is_behind pairs (pairs ++ more_pairs) more_pairs refl) (is_behind heads (heads ++ more_heads) more_heads refl) spans are)
       ∙ ap (λ pieces. map (piece_in pairs heads) spans ++ pieces) (moved_pieces others)
+
+-- these lemmas and those, where they lie in one piece of memory
+module _ (pairs more_pairs pairs' : List Pair) (heads more_heads heads' : List Head) (before_pairs before_heads : ℕ) (spans others spans' : List LemmaSpan)
+    (at_pairs : before_pairs ≡ length pairs) (at_heads : before_heads ≡ length heads) (pairs_are : pairs' ≡ pairs ++ more_pairs) (heads_are : heads' ≡ heads ++ more_heads) (spans_are : spans' ≡ spans ++ map (moved_by before_pairs before_heads) others)
+    (are : AreSpans pairs heads spans) (more_are : AreSpans more_pairs more_heads others) where
+  moved_are : spans' ≡ spans ++ map (moved_by (length pairs) (length heads)) others
+  moved_are = spans_are ∙ ap (λ n. spans ++ map (moved_by n before_heads) others) at_pairs ∙ ap (λ n. spans ++ map (moved_by (length pairs) n) others) at_heads
+
+  pub with_spans : AreSpans pairs' heads' spans'
+  with_spans =
+      subst (λ (ps : List Pair). AreSpans ps heads' spans') (sym pairs_are)
+      (subst (λ (hs : List Head). AreSpans (pairs ++ more_pairs) hs spans') (sym heads_are)
+      (subst (λ (ss : List LemmaSpan). AreSpans (pairs ++ more_pairs) (heads ++ more_heads) ss) (sym moved_are)
+      (joined_spans pairs more_pairs heads more_heads spans others are more_are)))
+
+  pub with_pieces : map (piece_in pairs' heads') spans' ≡ map (piece_in pairs heads) spans ++ map (piece_in more_pairs more_heads) others
+  with_pieces =
+      ap (λ (ps : List Pair). map (piece_in ps heads') spans') pairs_are
+      ∙ ap (λ (hs : List Head). map (piece_in (pairs ++ more_pairs) hs) spans') heads_are
+      ∙ ap (map (piece_in (pairs ++ more_pairs) (heads ++ more_heads))) moved_are
+      ∙ joined_pieces pairs more_pairs heads more_heads spans others are
 
 -- ---- a lemma that was put behind the others
 
