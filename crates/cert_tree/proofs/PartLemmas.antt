@@ -47,16 +47,16 @@ module _ {X : Type 0} where
   one_first x (Err e) rest = refl
 
   module _ (r : Read X) where
+    first_then : (n k : ℕ) (first : Result (X × Place) TextFault) → ((q : Place) → times (n + k) r q ≡ then_at (times n r q) (times k r))
+        → go_on first (λ x q. go_on (times (n + k) r q) (λ xs. give (x ∷ xs))) ≡ then_at (go_on first (λ x q. go_on (times n r q) (λ xs. give (x ∷ xs)))) (times k r)
+    first_then n k (Ok (x, q)) split = ap (λ read. go_on read (λ xs. give (x ∷ xs))) (split q) ∙ one_first x (times n r q) (times k r)
+    first_then n k (Err e) split = refl
+
     -- so many, and then others
     times_split : (n k : ℕ) (p : Place) → times (n + k) r p ≡ then_at (times n r p) (times k r)
     unfolding times
     times_split zero k p = let none : 0 + k ≡ k = omega arith in ap (λ j. times j r p) none ∙ sym (with_front-nil (times k r p))
-    times_split (suc n) k p = let more : suc n + k ≡ suc (n + k) = omega arith in ap (λ j. times j r p) more ∙ by_first (r p)
-      where
-        by_first : (first : Result (X × Place) TextFault)
-            → go_on first (λ x q. go_on (times (n + k) r q) (λ xs. give (x ∷ xs))) ≡ then_at (go_on first (λ x q. go_on (times n r q) (λ xs. give (x ∷ xs)))) (times k r)
-        by_first (Ok (x, q)) = ap (λ read. go_on read (λ xs. give (x ∷ xs))) (times_split n k q) ∙ one_first x (times n r q) (times k r)
-        by_first (Err e) = refl
+    times_split (suc n) k p = let more : suc n + k ≡ suc (n + k) = omega arith in ap (λ j. times j r p) more ∙ first_then n k (r p) (λ q. times_split n k q)
 
 -- ---- a text that is cut into parts
 
@@ -78,20 +78,20 @@ in_front : (pieces : List Piece) (says : Result (List Piece) TextFault) (rest : 
 in_front pieces (Ok others) rest = sym (with_front-twice pieces others rest)
 in_front pieces (Err e) rest = refl
 
+last_part : (says : Result (List Piece) TextFault) (rest : Result (List Piece × Place) TextFault) → followed (says >>= λ pieces. Ok (pieces ++ [])) rest ≡ with_front [] (followed says rest)
+last_part (Ok pieces) rest = ap (λ ps. with_front ps rest) (append-nil pieces) ∙ sym (with_front-nil (with_front pieces rest))
+last_part (Err e) rest = refl
+
+first_part : (says longer others : Result (List Piece) TextFault) (rest more : Result (List Piece × Place) TextFault) → followed longer rest ≡ followed others more
+    → followed (says >>= λ pieces. longer >>= λ os. Ok (pieces ++ os)) rest ≡ followed (says >>= λ pieces. others >>= λ os. Ok (pieces ++ os)) more
+first_part (Ok pieces) longer others rest more same = in_front pieces longer rest ∙ ap (with_front pieces) same ∙ sym (in_front pieces others more)
+first_part (Err e) longer others rest more same = refl
+
 -- a part more
 part_more : (parts : List LemmaPart) (part : LemmaPart) (rest : Result (List Piece × Place) TextFault) → followed (parts_say (parts ++ part ∷ [])) rest ≡ followed (parts_say parts) (followed (part_says part) rest)
 unfolding parts_say
-part_more [] part rest = by_part (part_says part)
-  where
-    by_part : (says : Result (List Piece) TextFault) → followed (says >>= λ pieces. Ok (pieces ++ [])) rest ≡ with_front [] (followed says rest)
-    by_part (Ok pieces) = ap (λ ps. with_front ps rest) (append-nil pieces) ∙ sym (with_front-nil (with_front pieces rest))
-    by_part (Err e) = refl
-part_more (first ∷ parts) part rest = by_first (part_says first)
-  where
-    by_first : (says : Result (List Piece) TextFault)
-        → followed (says >>= λ pieces. parts_say (parts ++ part ∷ []) >>= λ others. Ok (pieces ++ others)) rest ≡ followed (says >>= λ pieces. parts_say parts >>= λ others. Ok (pieces ++ others)) (followed (part_says part) rest)
-    by_first (Ok pieces) = in_front pieces (parts_say (parts ++ part ∷ [])) rest ∙ ap (with_front pieces) (part_more parts part rest) ∙ sym (in_front pieces (parts_say parts) (followed (part_says part) rest))
-    by_first (Err e) = refl
+part_more [] part rest = last_part (part_says part) rest
+part_more (first ∷ parts) part rest = first_part (part_says first) (parts_say (parts ++ part ∷ [])) (parts_say parts) rest (followed (part_says part) rest) (part_more parts part rest)
 
 -- the lines of a part are cut off
 pub cut_off : (parts : List LemmaPart) (part : LemmaPart) (left rest : ℕ) (m : Place) (total : Result (List Piece × Place) TextFault) → left ≡ part.count + rest → ((q : Place) → skip_lines part.count part.scan ≡ Ok (tt, q) → q ≡ m)
