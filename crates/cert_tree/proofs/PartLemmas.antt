@@ -16,7 +16,7 @@ use Rattle.cert_tree.specs.declared.parts.LemmaPart.{LemmaPart}
 use Rattle.cert_tree.specs.declared.readers.Beginning.{Beginning}
 use Rattle.cert_tree.specs.Certificate.{Piece}
 use Rattle.cert_tree.specs.CertificateText.{Said, certificate_of, certificate_text, lemma_line, lemmas_then_end}
-use Rattle.cert_tree.specs.Parts.{◌>>=◌, AreRead, IsCutOf, cut_says, left_at, part_says, parts_say}
+use Rattle.cert_tree.specs.Parts.{◌>>=◌, AreRead, IsCutOf, IsReadAt, cut_says, left_at, part_says, parts_say}
 use Rattle.cert_tree.proofs.SkipLemmas.{lemmas_read}
 use Rattle.cert_tree.proofs.SpanLemmas.{from_place}
 
@@ -154,7 +154,7 @@ module _ (parts : List LemmaPart) (n : ℕ) (part : LemmaPart) (all : List Piece
   this_first = ap (λ ps. onto all (parts_say ps)) (sym (from_place parts n part at)) ∙ so_far
 
   -- a part more
-  pub joined_more : (pieces : List Piece) → part_says part ≡ Ok pieces → onto (all ++ pieces) (parts_say (drop (n + 1) parts)) ≡ parts_say parts
+  joined_more : (pieces : List Piece) → part_says part ≡ Ok pieces → onto (all ++ pieces) (parts_say (drop (n + 1) parts)) ≡ parts_say parts
   joined_more pieces says =
       sym (by_others (parts_say (drop (n + 1) parts))) ∙ ap (λ r. onto all (r >>= λ ps. parts_say (drop (n + 1) parts) >>= λ others. Ok (ps ++ others))) (sym says) ∙ this_first
     where
@@ -163,10 +163,29 @@ module _ (parts : List LemmaPart) (n : ℕ) (part : LemmaPart) (all : List Piece
       by_others (Err e) = refl
 
   -- a part with a fault
-  pub joined_fault : (fault : ReadFault) → Fails fault (part_says part) → Fails fault (parts_say parts)
+  joined_fault : (fault : ReadFault) → Fails fault (part_says part) → Fails fault (parts_say parts)
   joined_fault faults.Memory fails = tt
   joined_fault (faults.Text f) fails =
       sym this_first ∙ ap (λ r. onto all (r >>= λ ps. parts_say (drop (n + 1) parts) >>= λ others. Ok (ps ++ others))) fails
+
+part_at : (parts : List LemmaPart) (n : ℕ) → n < length parts → (part : LemmaPart) × (slice_get parts n ≡ Some part)
+part_at [] n lt = absurd (omega (arith, lt))
+part_at (part ∷ parts) zero lt = (part, refl)
+part_at (part ∷ parts) (suc n) lt = part_at parts n (omega (arith, lt))
+
+module _ (parts : List LemmaPart) (read : List (Result (List Piece) ReadFault)) (are : AreRead parts read) (n : ℕ) (one : Result (List Piece) ReadFault) (within : n < length read) (is : one ≡ get_or read n one)
+    (all : List Piece) (so_far : onto all (parts_say (drop n parts)) ≡ parts_say parts) where
+  it : (part : LemmaPart) × (slice_get parts n ≡ Some part)
+  it = let many = are.many in part_at parts n (omega arith)
+
+  says : Says (λ pieces. pieces) one (part_says it.0)
+  says = subst (λ o. IsReadAt parts n o) (sym is) (are.each n one within) it.0 it.1
+
+  pub read_more : (pieces : List Piece) → one ≡ Ok pieces → onto (all ++ pieces) (parts_say (drop (n + 1) parts)) ≡ parts_say parts
+  read_more pieces ok = joined_more parts n it.0 all it.1 so_far pieces (subst (λ o. Says (λ ps. ps) o (part_says it.0)) ok says)
+
+  pub read_fault : (fault : ReadFault) → one ≡ Err fault → Fails fault (parts_say parts)
+  read_fault fault err = joined_fault parts n it.0 all it.1 so_far fault (subst (λ o. Says (λ ps. ps) o (part_says it.0)) err says)
 
 -- no part yet
 pub joined_none : (parts : List LemmaPart) → onto [] (parts_say (drop 0 parts)) ≡ parts_say parts

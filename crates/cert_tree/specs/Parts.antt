@@ -1,5 +1,5 @@
 -- A certificate's text whose lemma lines are cut into parts, each read by itself.
-use Rattle.std.specs.Prelude.{◌≡◌, ℕ, List, [], ◌∷◌, ◌++◌, Result, Ok, Err, Some, length, slice_get}
+use Rattle.std.specs.Prelude.{◌≡◌, ◌<◌, ℕ, List, [], ◌∷◌, ◌++◌, Result, Ok, Err, Some, length, slice_get, slice_index_or}
 use Rattle.match_text.specs.declared.faults.TextFault.{TextFault}
 use Rattle.match_text.specs.declared.faults.ReadFault.{ReadFault}
 use Rattle.match_text.specs.Ranges.{ranges_of}
@@ -46,7 +46,7 @@ IsReadAt parts n one = (part : LemmaPart) → slice_get parts n ≡ Some part �
 -- These were read of the parts, each of the one at its place.
 pub record AreRead (parts : List LemmaPart) (read : List (Result (List Piece) ReadFault)) : Type 0 where
   pub many : length read ≡ length parts
-  pub each : (n : ℕ) (one : Result (List Piece) ReadFault) → slice_get read n ≡ Some one → IsReadAt parts n one
+  pub each : (n : ℕ) (d : Result (List Piece) ReadFault) → n < length read → IsReadAt parts n (slice_index_or read n d)
 
 -- what was read, and where reading goes on
 abbrev pub left_at : {X : Type 0} → Place → Result X TextFault → Result (X × Place) TextFault
