@@ -150,7 +150,7 @@ impl<'a> CutCertificate<'a> {
         read: Vec<Result<Lemmas, ReadFault>>,
     ) -> Result<CertificateLines, ReadFault>
         requires { AreRead self.parts.items read.items }
-        ensures { Says said_of result (cut_says self) }
+        ensures { Says said_of result (cut_says self.entry) }
     {
         let CutCertificate {
             beginning,
@@ -175,7 +175,7 @@ impl<'a> CutCertificate<'a> {
     ) -> Result<Certificate, CertTextFault>
         requires cut { (text : List ℕ) × IsCutOf text self }
         requires read { AreRead self.parts.items read.items }
-        ensures { CertificateGives result (cut_says self) }
+        ensures { CertificateGives result (cut_says self.entry) }
     {
         let lines = self.lines(alloc, read)?;
         made(alloc, lines)
