@@ -6,8 +6,9 @@ use Rattle.puzzle_symmetry.specs.declared.lines.SymmetryLine.{SymmetryLine}
 use Rattle.match_text.specs.declared.faults.TextFault.{TextFault}
 use Rattle.match_text.specs.declared.faults.ReadFault.{ReadFault}
 use Rattle.match_text.specs.declared.faults.ReadFault.TheVariants as faults
+use Rattle.match_text.specs.declared.ranges.Ranges.{Ranges}
 use Rattle.match_text.specs.Ranges.{ranges_of}
-use Rattle.match_text.specs.Place.{Place, Read, Fails, Says, closing, give, go_on, skip_lines, start, times, value_of}
+use Rattle.match_text.specs.Place.{Place, Read, Fails, Reads, Says, closing, give, go_on, skip_lines, start, times, value_of}
 use Rattle.match_text.proofs.CutLemmas.{ok_is}
 use Rattle.match_text.proofs.LoopLemmas.{with_front, with_front-nil}
 use Rattle.match_text.proofs.RangesLemmas.{are_ranges}
@@ -140,6 +141,20 @@ pub fault_before : (text : List ℕ) (fault : ReadFault) → Fails fault (certif
 unfolding certificate_of
 fault_before text faults.Memory fails = tt
 fault_before text (faults.Text f) fails = ap value_of fails
+
+-- what a call that reads a part returned
+pub part_read : (part : LemmaPart) (ranges : Ranges) (scan after : Place) (result : Result (List Piece) ReadFault) → ranges ≡ ranges_of part.version → scan ≡ part.scan
+    → Reads (λ pieces. pieces) result after (times part.count (lemma_line ranges) scan) → Says (λ pieces. pieces) result (part_says part)
+unfolding part_says
+part_read part ranges scan after result same_ranges same_scan reads =
+    value_read result (times part.count (lemma_by part.version) part.scan)
+    (subst (λ (p : Place). Reads (λ pieces. pieces) result after (times part.count (lemma_by part.version) p)) same_scan
+    (subst (λ (rs : Ranges). Reads (λ pieces. pieces) result after (times part.count (lemma_line rs) scan)) same_ranges reads))
+  where
+    value_read : (result : Result (List Piece) ReadFault) (read : Result (List Piece × Place) TextFault) → Reads (λ pieces. pieces) result after read → Says (λ pieces. pieces) result (value_of read)
+    value_read (Ok pieces) read is = ap value_of is
+    value_read (Err faults.Memory) read is = tt
+    value_read (Err (faults.Text f)) read is = ap value_of is
 
 -- ---- what was read of the parts is joined
 
