@@ -47,7 +47,7 @@ of-requires c =
     let others = c.apart-other_pairs.result in
     let m = moved c in
     with_spans lemmas.0.items others.0.items c.extend_from_slice.new.self.items lemmas.1.items others.1.items c.extend_from_slice-2.new.self.items c.len-pairs_before.result c.len-heads_before.result lemmas.2.items others.2.items c.put_moved.new.spans.items
-        m.0 m.1 m.2 m.3 m.4 c.apart-pairs.ensures.spans c.apart-other_pairs.ensures.spans
+    m.0 m.1 m.2 m.3 m.4 c.apart-pairs.ensures.spans c.apart-other_pairs.ensures.spans
 
 pub returns : goal.returns
 returns c =
