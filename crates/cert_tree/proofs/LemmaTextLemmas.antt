@@ -272,7 +272,7 @@ module _ (ranges : Ranges) (are : AreRanges ranges) where
     clean_forest room none fits = tt
     clean_forest room (more tree trees) fits = clean_both (tree_words tree) (forest_words trees) (clean_tree room tree fits.0) (clean_forest room trees fits.1)
 
-  clean_lemma : (piece : Piece) → IsLemmaWithin ranges piece → are_clean (lemma_words piece) ≡ true
+  pub clean_lemma : (piece : Piece) → IsLemmaWithin ranges piece → are_clean (lemma_words piece) ≡ true
   clean_lemma piece fits =
       let pairs = clean_both (map pair_word piece.prefix) (codes "tree" ∷ tree_words piece.tree) (clean_each pair_word (IsPairWithin ranges) clean_pair piece.prefix fits.pairs) (refl, clean_tree ranges.most_levels piece.tree fits.tree) in
       clean_line (codes "lemma") (decimal piece.number ∷ codes "prefix" ∷ (map pair_word piece.prefix ++ (codes "tree" ∷ tree_words piece.tree))) refl (clean_number piece.number fits.number, (refl, pairs))

@@ -11,6 +11,8 @@ pub mod FieldLemmas
 pub mod TreeTextLemmas
 pub mod LemmaTextLemmas
 pub mod CertificateTextLemmas
+pub mod SkipLemmas
+pub mod PartLemmas
 pub mod WiderLemmas
 pub mod ReadingLemmas
 pub mod ConversionLemmas

@@ -1,9 +1,9 @@
 -- Lemmas that lie among others, and stay where they are while more are put behind them.
-use Rattle.std.proofs.Common.{◌≡◌, ◌≤◌, ◌-◌, ◌++◌, ◌∷◌, ◌+◌, ℕ, zero, suc, List, [], Some, Contains, get_or, slice_get, length, take, drop, map, refl, sym, ap, subst, ◌∙◌, arith, ⊎_elim}
+use Rattle.std.proofs.Common.{◌≡◌, ◌≤◌, ◌<◌, ◌^◌, ◌-◌, ◌++◌, ◌∷◌, ◌+◌, ℕ, zero, suc, List, [], Some, Contains, get_or, slice_get, length, take, drop, map, refl, sym, ap, subst, ◌∙◌, arith, ⊎_elim}
 use Rattle.std.specs.List.{slice_range}
 use Rattle.std.proofs.lemmas.List.{take-append-le, drop-append-le, length-append, length-drop, map-append, take_rest}
-use Rattle.std.proofs.lemmas.List.Elements.{Contains-push_cases}
-use Rattle.std.proofs.Math.Seq.{drop-append_seam}
+use Rattle.std.proofs.lemmas.List.Elements.{Contains-append_cases, Contains-push_cases}
+use Rattle.std.proofs.Math.Seq.{drop-append-add, drop-append_seam}
 use Rattle.match_puzzle.specs.declared.placements.Pair.{Pair}
 use Rattle.cert_tree.specs.declared.heads.Head.{Head}
 use Rattle.cert_tree.specs.declared.flat_lemmas.LemmaSpan.{LemmaSpan}
@@ -13,7 +13,7 @@ use Rattle.match_puzzle.proofs.Prefixes.{inside}
 use Rattle.cert_tree.specs.declared.certificates.Lemma.{Lemma}
 use Rattle.cert_tree.specs.Tree.{Tree, tree_of, IsNarrow}
 use Rattle.cert_tree.specs.Certificate.{Piece, piece_of}
-use Rattle.cert_tree.specs.Spans.{piece_in, IsSpan, AreSpans}
+use Rattle.cert_tree.specs.Spans.{piece_in, IsSpan, AreSpans, CanMove, moved_by}
 use Rattle.cert_tree.proofs.HeadLemmas.{of_tree}
 
 -- ---- what stands behind other things
@@ -51,7 +51,7 @@ module _ (pairs pairs' : List Pair) (heads heads' : List Head) (more_pairs : IsB
       let tree = same_part heads heads' span.heads_start span.heads_end more_heads is.some_heads is.within_heads in
       rw (prefix, tree) refl
 
-  still_span : (span : LemmaSpan) → IsSpan pairs heads span → IsSpan pairs' heads' span
+  pub still_span : (span : LemmaSpan) → IsSpan pairs heads span → IsSpan pairs' heads' span
   still_span span is = record {
     some_pairs = is.some_pairs;
     within_pairs = let more = length_behind pairs pairs' more_pairs in let old = is.within_pairs in omega (arith, more, old);
@@ -60,7 +60,7 @@ module _ (pairs pairs' : List Pair) (heads heads' : List Head) (more_pairs : IsB
     tree = subst AreOfTree (sym (same_part heads heads' span.heads_start span.heads_end more_heads is.some_heads is.within_heads)) is.tree;
   }
 
-  same_pieces : (spans : List LemmaSpan) → AreSpans pairs heads spans → map (piece_in pairs' heads') spans ≡ map (piece_in pairs heads) spans
+  pub same_pieces : (spans : List LemmaSpan) → AreSpans pairs heads spans → map (piece_in pairs' heads') spans ≡ map (piece_in pairs heads) spans
   same_pieces [] are = refl
   same_pieces (span ∷ spans) are =
       let one = same_piece span (are span (0, omega arith, refl)) in
@@ -80,6 +80,90 @@ module _ (pairs pairs' : List Pair) (heads heads' : List Head) (more_pairs : IsB
     more_pieces =
         ap (map (piece_in pairs' heads')) pushed ∙ map-append (piece_in pairs' heads') spans (span ∷ [])
         ∙ ap (λ pieces. pieces ++ piece_in pairs' heads' span ∷ []) (same_pieces spans are)
+
+-- ---- lemmas that are put behind others
+
+-- a part of those behind
+moved_part : {X : Type 0} (old more : List X) (start end : ℕ) → slice_range (old ++ more) (length old + start) (length old + end) ≡ slice_range more start end
+moved_part old more start end =
+    let same : (length old + end) - (length old + start) ≡ end - start = omega arith in
+    ap (λ n. take n (drop (length old + start) (old ++ more))) same ∙ ap (take (end - start)) (drop-append-add old more start)
+
+module _ (pairs more_pairs : List Pair) (heads more_heads : List Head) where
+  abbrev moved : LemmaSpan → LemmaSpan
+  moved span = moved_by (length pairs) (length heads) span
+
+  moved_piece : (span : LemmaSpan) → piece_in (pairs ++ more_pairs) (heads ++ more_heads) (moved span) ≡ piece_in more_pairs more_heads span
+  moved_piece span = rw (moved_part pairs more_pairs span.pairs_start span.pairs_end, moved_part heads more_heads span.heads_start span.heads_end) refl
+
+  moved_span : (span : LemmaSpan) → IsSpan more_pairs more_heads span → IsSpan (pairs ++ more_pairs) (heads ++ more_heads) (moved span)
+  moved_span span is = record {
+    some_pairs = let some = is.some_pairs in omega arith;
+    within_pairs = let within = is.within_pairs in let long = length-append pairs more_pairs in omega arith;
+    some_heads = let some = is.some_heads in omega arith;
+    within_heads = let within = is.within_heads in let long = length-append heads more_heads in omega arith;
+    tree = subst AreOfTree (sym (moved_part heads more_heads span.heads_start span.heads_end)) is.tree;
+  }
+
+  moved_pieces : (others : List LemmaSpan) → map (piece_in (pairs ++ more_pairs) (heads ++ more_heads)) (map moved others) ≡ map (piece_in more_pairs more_heads) others
+  moved_pieces [] = refl
+  moved_pieces (span ∷ others) =
+      ap (λ piece. piece ∷ map (piece_in (pairs ++ more_pairs) (heads ++ more_heads)) (map moved others)) (moved_piece span)
+      ∙ ap (λ pieces. piece_in more_pairs more_heads span ∷ pieces) (moved_pieces others)
+
+  moved_spans : (others : List LemmaSpan) → AreSpans more_pairs more_heads others → AreSpans (pairs ++ more_pairs) (heads ++ more_heads) (map moved others)
+  moved_spans [] are span at = absurd (omega (arith, at.1))
+  moved_spans (other ∷ others) are span (zero, lt, is) = subst (IsSpan (pairs ++ more_pairs) (heads ++ more_heads)) is (moved_span other (are other (0, omega arith, refl)))
+  moved_spans (other ∷ others) are span (suc k, lt, is) = moved_spans others (λ x at. are x (suc at.0, omega (arith, at.1), at.2)) span (k, omega (arith, lt), is)
+
+  -- the places of those that are moved are numbers of a machine
+  pub can_move : (before_pairs before_heads : ℕ) (others : List LemmaSpan) → AreSpans more_pairs more_heads others → before_pairs + length more_pairs < 2 ^ 64 → before_heads + length more_heads < 2 ^ 64
+      → All (CanMove before_pairs before_heads) others
+  can_move before_pairs before_heads [] are few_pairs few_heads k d lt = absurd (omega (arith, lt))
+  can_move before_pairs before_heads (span ∷ others) are few_pairs few_heads zero d lt =
+      let is = are span (0, omega arith, refl) in
+      let some_pairs = is.some_pairs in
+      let within_pairs = is.within_pairs in
+      let some_heads = is.some_heads in
+      let within_heads = is.within_heads in
+      record { pairs_start = omega arith; pairs_end = omega arith; heads_start = omega arith; heads_end = omega arith }
+  can_move before_pairs before_heads (span ∷ others) are few_pairs few_heads (suc k) d lt =
+      can_move before_pairs before_heads others (λ x at. are x (suc at.0, omega (arith, at.1), at.2)) few_pairs few_heads k d (omega (arith, lt))
+
+  pub joined_spans : (spans others : List LemmaSpan) → AreSpans pairs heads spans → AreSpans more_pairs more_heads others → AreSpans (pairs ++ more_pairs) (heads ++ more_heads) (spans ++ map moved others)
+  joined_spans spans others are more_are span at =
+      ⊎_elim
+      (λ old. still_span pairs (pairs ++ more_pairs) heads (heads ++ more_heads) (is_behind pairs (pairs ++ more_pairs) more_pairs refl) (is_behind heads (heads ++ more_heads) more_heads refl) span (are span old))
+      (λ new. moved_spans others more_are span new)
+      (Contains-append_cases spans (map moved others) span at)
+
+  pub joined_pieces : (spans others : List LemmaSpan) → AreSpans pairs heads spans
+      → map (piece_in (pairs ++ more_pairs) (heads ++ more_heads)) (spans ++ map moved others) ≡ map (piece_in pairs heads) spans ++ map (piece_in more_pairs more_heads) others
+  joined_pieces spans others are =
+      map-append (piece_in (pairs ++ more_pairs) (heads ++ more_heads)) spans (map moved others)
+      ∙ ap (λ pieces. pieces ++ map (piece_in (pairs ++ more_pairs) (heads ++ more_heads)) (map moved others)) (same_pieces pairs (pairs ++ more_pairs) heads (heads ++ more_heads) (is_behind pairs (pairs ++ more_pairs) more_pairs refl) (is_behind heads (heads ++ more_heads) more_heads refl) spans are)
+      ∙ ap (λ pieces. map (piece_in pairs heads) spans ++ pieces) (moved_pieces others)
+
+-- these lemmas and those, where they lie in one piece of memory
+module _ (pairs more_pairs pairs' : List Pair) (heads more_heads heads' : List Head) (before_pairs before_heads : ℕ) (spans others spans' : List LemmaSpan)
+    (at_pairs : before_pairs ≡ length pairs) (at_heads : before_heads ≡ length heads) (pairs_are : pairs' ≡ pairs ++ more_pairs) (heads_are : heads' ≡ heads ++ more_heads) (spans_are : spans' ≡ spans ++ map (moved_by before_pairs before_heads) others)
+    (are : AreSpans pairs heads spans) (more_are : AreSpans more_pairs more_heads others) where
+  moved_are : spans' ≡ spans ++ map (moved_by (length pairs) (length heads)) others
+  moved_are = spans_are ∙ ap (λ n. spans ++ map (moved_by n before_heads) others) at_pairs ∙ ap (λ n. spans ++ map (moved_by (length pairs) n) others) at_heads
+
+  pub with_spans : AreSpans pairs' heads' spans'
+  with_spans =
+      subst (λ (ps : List Pair). AreSpans ps heads' spans') (sym pairs_are)
+      (subst (λ (hs : List Head). AreSpans (pairs ++ more_pairs) hs spans') (sym heads_are)
+      (subst (λ (ss : List LemmaSpan). AreSpans (pairs ++ more_pairs) (heads ++ more_heads) ss) (sym moved_are)
+      (joined_spans pairs more_pairs heads more_heads spans others are more_are)))
+
+  pub with_pieces : map (piece_in pairs' heads') spans' ≡ map (piece_in pairs heads) spans ++ map (piece_in more_pairs more_heads) others
+  with_pieces =
+      ap (λ (ps : List Pair). map (piece_in ps heads') spans') pairs_are
+      ∙ ap (λ (hs : List Head). map (piece_in (pairs ++ more_pairs) hs) spans') heads_are
+      ∙ ap (map (piece_in (pairs ++ more_pairs) (heads ++ more_heads))) moved_are
+      ∙ joined_pieces pairs more_pairs heads more_heads spans others are
 
 -- ---- a lemma that was put behind the others
 

@@ -72,15 +72,20 @@ pub record Said : Type 0 where
   pub symmetries : List SymmetryLine
   pub pieces : List Piece
 
+-- so many lemmas and the end, behind what stands before them
+abbrev pub lemmas_then_end : ℕ → List SymmetryLine → ℕ → Read Said
+lemmas_then_end version symmetries count = do
+  pieces ← times count (lemma_line (ranges_of version))
+  _ ← closing
+  give (record { version = version; symmetries = symmetries; pieces = pieces })
+
 unfoldable pub certificate_text : Read Said
 certificate_text = do
   version ← opening (codes "certificate")
   many ← counted (codes "symmetries") 0 MOST_SYMMETRIES
   symmetries ← times many (symmetry_line (ranges_of version))
   count ← counted (codes "lemmas") 0 MOST_LEMMAS
-  pieces ← times count (lemma_line (ranges_of version))
-  _ ← closing
-  give (record { version = version; symmetries = symmetries; pieces = pieces })
+  lemmas_then_end version symmetries count
 
 -- What a text says, or its first fault. The lemmas may make no certificate.
 unfoldable pub certificate_of : List ℕ → Result Said TextFault

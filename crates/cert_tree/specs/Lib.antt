@@ -16,6 +16,7 @@ pub mod TreeSpelling
 pub mod CertificateSpelling
 pub mod HeadSpelling
 pub mod Lines
+pub mod Parts
 pub mod Writing
 pub mod Laws
 pub mod HeadLaws

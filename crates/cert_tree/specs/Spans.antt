@@ -1,5 +1,5 @@
 -- Lemmas that lie among the pairs and the heads of all lemmas.
-use Rattle.std.specs.Prelude.{◌≤◌, ℕ, List, Contains, length}
+use Rattle.std.specs.Prelude.{◌+◌, ◌≤◌, ◌<◌, ◌^◌, ℕ, List, Contains, length}
 use Rattle.std.specs.List.{slice_range}
 use Rattle.match_puzzle.specs.declared.placements.Pair.{Pair}
 use Rattle.cert_tree.specs.declared.heads.Head.{Head}
@@ -28,3 +28,20 @@ pub record IsSpan (pairs : List Pair) (heads : List Head) (span : LemmaSpan) : T
 
 abbrev pub AreSpans : List Pair → List Head → List LemmaSpan → Type 0
 AreSpans pairs heads spans = (span : LemmaSpan) → Contains spans span → IsSpan pairs heads span
+
+-- the same, so many pairs and heads further on
+abbrev pub moved_by : (pairs heads : ℕ) → LemmaSpan → LemmaSpan
+moved_by pairs heads span = record {
+  number = span.number;
+  pairs_start = pairs + span.pairs_start;
+  pairs_end = pairs + span.pairs_end;
+  heads_start = heads + span.heads_start;
+  heads_end = heads + span.heads_end;
+}
+
+-- Its places can be named so much further on.
+pub record CanMove (pairs heads : ℕ) (span : LemmaSpan) : Type 0 where
+  pub pairs_start : pairs + span.pairs_start < 2 ^ 64
+  pub pairs_end : pairs + span.pairs_end < 2 ^ 64
+  pub heads_start : heads + span.heads_start < 2 ^ 64
+  pub heads_end : heads + span.heads_end < 2 ^ 64

@@ -2,6 +2,7 @@
 
 ghost use Rattle.std.specs.Prelude.{◌≡◌};
 ghost use Rattle.cert_tree.specs.declared.faults.AssembleFault.TheVariants as assemble;
+ghost use Rattle.cert_tree.specs.declared.faults.CertTextFault.TheVariants as texts;
 ghost use Rattle.cert_tree.specs.Faults.{of_certificate_text, of_assembly};
 
 use match_text::{ReadFault, TextFault};
@@ -53,6 +54,14 @@ pub enum CertTextFault {
     Assemble(AssembleFault),
     #[error("out of memory")]
     Memory,
+}
+
+impl From<AllocError> for CertTextFault {
+    ghost from_gives = { λ _ e. e ≡ texts.Memory };
+
+    fn from(_error: AllocError) -> CertTextFault {
+        CertTextFault::Memory
+    }
 }
 
 impl From<ReadFault> for CertTextFault {

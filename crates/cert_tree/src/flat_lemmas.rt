@@ -1,8 +1,12 @@
 //! Lemmas that lie in a few pieces of memory.
 
+ghost use Rattle.std.specs.Prelude.{◌≡◌, ◌++◌, All, OnOk, map};
+ghost use Rattle.cert_tree.specs.Spans.{CanMove, moved_by};
+
 use crate::flat_trees::FlatTree;
 use crate::heads::Head;
 use match_puzzle::Pair;
+use std::alloc::AllocError;
 use std::marker::Model;
 
 /// Where a lemma lies among the pairs and the heads of all lemmas.
@@ -55,7 +59,7 @@ impl Model for Lemmas {
 }
 
 impl Lemmas {
-    ghost use Rattle.std.specs.Prelude.{◌≡◌, ◌<◌, Some, length, map, slice_get};
+    ghost use Rattle.std.specs.Prelude.{◌≡◌, ◌<◌, ◌++◌, IfOk, Some, length, map, slice_get};
     ghost use Rattle.cert_tree.specs.Certificate.{flat_piece};
     ghost use Rattle.cert_tree.specs.Spans.{piece_in, AreSpans};
 
@@ -77,6 +81,20 @@ impl Lemmas {
         ensures lemmas { self ≡ map (piece_in result.0.items result.1.items) result.2.items }
     {
         (self.pairs, self.heads, self.spans)
+    }
+
+    // These lemmas, and then those.
+    pub(crate) fn with(self, others: Lemmas) -> Result<Lemmas, AllocError>
+        ensures { IfOk result (λ all. all ≡ self ++ others) }
+    {
+        let (mut pairs, mut heads, mut spans) = self.apart();
+        let (other_pairs, other_heads, other_spans) = others.apart();
+        let pairs_before = pairs.len();
+        let heads_before = heads.len();
+        pairs.extend_from_slice(&other_pairs)?;
+        heads.extend_from_slice(&other_heads)?;
+        put_moved(&mut spans, &other_spans, pairs_before, heads_before)?;
+        Ok(Lemmas::of(pairs, heads, spans))
     }
 
     /// How many there are.
@@ -116,7 +134,7 @@ impl<'a> FlatLemma<'a> {
 impl LemmaSpan {
     ghost use Rattle.std.specs.Prelude.{◌≡◌, ◌≤◌, length, drop};
     ghost use Rattle.cert_tree.specs.Heads.{trees_in, first, AreOfTree};
-    ghost use Rattle.cert_tree.specs.Spans.{piece_in, IsSpan};
+    ghost use Rattle.cert_tree.specs.Spans.{CanMove, moved_by, piece_in, IsSpan};
 
     // Where a lemma lies whose pairs and heads are those from here on.
     pub(crate) fn of_last(
@@ -144,4 +162,34 @@ impl LemmaSpan {
             heads_end: heads.len(),
         }
     }
+
+    // The same, so many pairs and heads further on.
+    fn moved(self, pairs: usize, heads: usize) -> LemmaSpan
+        requires { CanMove pairs heads self }
+        ensures { result ≡ moved_by pairs heads self }
+    {
+        LemmaSpan {
+            number: self.number,
+            pairs_start: pairs + self.pairs_start,
+            pairs_end: pairs + self.pairs_end,
+            heads_start: heads + self.heads_start,
+            heads_end: heads + self.heads_end,
+        }
+    }
+}
+
+// Behind these the others, each so many pairs and heads further on.
+fn put_moved(
+    spans: &mut Vec<LemmaSpan>,
+    others: &[LemmaSpan],
+    pairs: usize,
+    heads: usize,
+) -> Result<(), AllocError>
+    requires { All (CanMove pairs heads) others.now }
+    ensures { OnOk result (spans.new.items ≡ spans.old.items ++ map (moved_by pairs heads) others.now) }
+{
+    for span in others {
+        spans.push(span.moved(pairs, heads))?;
+    }
+    Ok(())
 }

@@ -4,14 +4,14 @@ ghost use Rattle.std.specs.Prelude.{◌≡◌, ◌+◌, ◌<◌, ◌≤◌, ◌^
 ghost use Rattle.std.specs.Prelude.{length, take, drop};
 ghost use Rattle.match_text.specs.Ranges.{IsVersion, AreRanges};
 ghost use Rattle.match_text.specs.Words.{Judges};
-ghost use Rattle.match_text.specs.Place.{Gives, Reads, Says, fail, times, word_by};
+ghost use Rattle.match_text.specs.Place.{Fails, Gives, Reads, Says, fail, times, word_by};
 ghost use Rattle.cert_tree.specs.Certificate.{Piece, piece_of};
 ghost use Rattle.cert_tree.specs.Spans.{piece_in, IsSpan};
 ghost use Rattle.match_text.specs.declared.faults.TextKind.TheVariants as kinds;
 ghost use Rattle.match_text.specs.Bytes.{line_ends};
 ghost use Rattle.cert_tree.specs.Lines.{said_of};
 ghost use Rattle.cert_tree.specs.CertificateText.{Said, mirrored_in, symmetry_line, lemma_line, lemma_text, lemma_of};
-ghost use Rattle.cert_tree.specs.CertificateText.{certificate_text, certificate_of, Makes};
+ghost use Rattle.cert_tree.specs.CertificateText.{certificate_text, certificate_of, lemmas_then_end, Makes};
 ghost use Rattle.cert_tree.specs.CertificateText.{CertificateGives};
 ghost use Rattle.cert_tree.specs.Writing.{said_by};
 ghost use Rattle.cert_tree.specs.CertificateSpelling.{lemma_spelling, certificate_spelling, IsLemmaWithin};
@@ -119,7 +119,13 @@ fn lemma(
     Ok(LemmaSpan::of_last(number, pairs, pairs_start, heads, heads_start))
 }
 
-fn lemmas(alloc: Global, scan: &mut Scan, ranges: &Ranges, count: u32) -> Result<Lemmas, ReadFault>
+// So many lemmas, in the order of their lines.
+pub(crate) fn read_lemmas(
+    alloc: Global,
+    scan: &mut Scan,
+    ranges: &Ranges,
+    count: u32,
+) -> Result<Lemmas, ReadFault>
     requires { AreRanges ranges.now }
     ensures { Reads (λ lemmas. lemmas) result scan.new (times count (lemma_line ranges.now) scan.old) }
 {
@@ -176,24 +182,49 @@ pub fn read_lemma(alloc: Global, text: &[u8]) -> Result<Lemma, LemmaTextFault>
     read_lemma_text(alloc, text)
 }
 
-// What a certificate's text says: its version, its symmetries, and its lemmas in the order of their lines.
+// What a certificate's text says before its lemmas, and how many of these there are.
 #[derive(Drop)]
-struct CertificateLines {
-    version: u8,
-    symmetries: Vec<SymmetryLine>,
-    lemmas: Lemmas,
+pub(crate) struct Beginning {
+    pub(crate) version: u8,
+    pub(crate) symmetries: Vec<SymmetryLine>,
+    pub(crate) count: u32,
 }
 
 #[tactic(auto, unfolding(crate::specs::CertificateText::certificate_text))]
+pub(crate) fn read_beginning(alloc: Global, scan: &mut Scan) -> Result<Beginning, ReadFault>
+    ensures begins { IfOk result
+        (λ it. certificate_text scan.old ≡ lemmas_then_end it.version it.symmetries.items it.count scan.new) }
+    ensures few { IfOk result (λ it. it.count ≤ MOST_LEMMAS) }
+    ensures fault { IfErr result (λ fault. Fails fault (certificate_text scan.old)) }
+{
+    let version = scan.opening(b"certificate")?;
+    let many = scan.counted(b"symmetries", 0, u32::from(MOST_SYMMETRIES))?;
+    let symmetries = symmetries(alloc, scan, &ranges_of(version), many)?;
+    let count = scan.counted(b"lemmas", 0, MOST_LEMMAS)?;
+    Ok(Beginning {
+        version,
+        symmetries,
+        count,
+    })
+}
+
+// What a certificate's text says: its version, its symmetries, and its lemmas in the order of their lines.
+#[derive(Drop)]
+pub(crate) struct CertificateLines {
+    pub(crate) version: u8,
+    pub(crate) symmetries: Vec<SymmetryLine>,
+    pub(crate) lemmas: Lemmas,
+}
+
 fn whole(alloc: Global, scan: &mut Scan) -> Result<CertificateLines, ReadFault>
     ensures { Reads said_of result scan.new (certificate_text scan.old) }
 {
-    let version = scan.opening(b"certificate")?;
-    let ranges = ranges_of(version);
-    let many = scan.counted(b"symmetries", 0, u32::from(MOST_SYMMETRIES))?;
-    let symmetries = symmetries(alloc, scan, &ranges, many)?;
-    let count = scan.counted(b"lemmas", 0, MOST_LEMMAS)?;
-    let lemmas = lemmas(alloc, scan, &ranges, count)?;
+    let Beginning {
+        version,
+        symmetries,
+        count,
+    } = read_beginning(alloc, scan)?;
+    let lemmas = read_lemmas(alloc, scan, &ranges_of(version), count)?;
     scan.closing()?;
     Ok(CertificateLines {
         version,
@@ -212,7 +243,7 @@ fn read_lines(alloc: Global, text: &[u8]) -> Result<CertificateLines, ReadFault>
 }
 
 // The certificate of these lines.
-fn made(alloc: Global, lines: CertificateLines) -> Result<Certificate, CertTextFault>
+pub(crate) fn made(alloc: Global, lines: CertificateLines) -> Result<Certificate, CertTextFault>
     requires { IsCertificateWithin (said_of lines) }
     ensures { Makes (said_of lines) result }
 {

@@ -1,2 +1,3 @@
 pub mod FindingLemmas
 pub mod PlaceLemmas
+pub mod ReadingLemmas

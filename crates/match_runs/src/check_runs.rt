@@ -10,7 +10,7 @@ use crate::exits::Status;
 use crate::faults::{Document, RunFault};
 use crate::printed::{Printed, answer_to};
 use crate::progress::CheckWatch;
-use crate::questions::read_question;
+use crate::questions::read_question_with;
 use crate::streams::documents::{Documents, cut_joined};
 use crate::streams::readings::{read_documents, read_whole};
 use crate::streams::sinks::Sink;
@@ -174,7 +174,8 @@ fn answer_of<R: Threads + Sync, G: CheckWatch + Sync>(
         printed.status ≡ Status.Complete → SpellCompleteList (texts_of documents.now)) }
     ensures fails { IfErr result (Fails checked (texts_of documents.now)) }
 {
-    let owned = read_question(alloc, documents)?;
+    let workers = workers.get() as u8;
+    let owned = read_question_with(rt, alloc, documents, workers)?;
     let question = owned.question();
     watch.begins(question.lemmas().len() as usize);
     let answer = check_with(
@@ -183,7 +184,7 @@ fn answer_of<R: Threads + Sync, G: CheckWatch + Sync>(
         question.puzzle(),
         question.listed(),
         question.certificate(),
-        workers.get() as u8,
+        workers,
         forks.get() as u8,
         watch,
     )?;

@@ -1,18 +1,24 @@
 //! What documents ask.
 
-ghost use Rattle.std.specs.Prelude.{◌≢◌, Err, IfOk, IfErr};
+ghost use Rattle.std.specs.Prelude.{◌≡◌, ◌≢◌, ◌≤◌, Err, IfOk, IfErr, Ok, length};
+ghost use Rattle.match_board.specs.declared.limits.TheConstants.{MOST_ARRANGEMENTS, MOST_WORKERS};
 ghost use Rattle.match_puzzle.specs.Puzzle.{IsPuzzle};
+ghost use Rattle.match_text.specs.Lists.{list_of};
+ghost use Rattle.match_text.specs.Puzzles.{PuzzleReads};
+ghost use Rattle.cert_tree.specs.CertificateText.{CertificateGives, certificate_of};
 ghost use Rattle.match_runs.specs.Runs.{RunGives, Spells};
 ghost use Rattle.match_runs.specs.Sources.{AreShort, texts_of};
 
 use crate::faults::RunFault;
 use crate::streams::documents::Documents;
 use cert_check::Question;
-use cert_tree::{Certificate, read_certificate};
+use cert_tree::{CertTextFault, Certificate, read_certificate};
+use check_crew::read_certificate_with;
 use match_puzzle::{Arrangement, Puzzle};
 use match_text::{read_list, read_puzzle};
 use std::alloc::Global;
 use std::marker::Model;
+use std::thread::Threads;
 
 /// A question and what it is about: the puzzle, the list, of at most 1,000,000 arrangements, and the certificate.
 #[derive(Drop)]
@@ -50,6 +56,29 @@ impl OwnedQuestion {
     }
 }
 
+// The question, where the certificate was read, or else the fault of that.
+fn with_certificate(
+    _documents: &Documents<'_>,
+    puzzle: Puzzle,
+    listed: Vec<Arrangement>,
+    certificate: Result<Certificate, CertTextFault>,
+) -> Result<OwnedQuestion, RunFault>
+    requires puzzle { PuzzleReads (texts_of _documents.now).puzzle (Ok puzzle) }
+    requires listed { list_of (texts_of _documents.now).list ≡ Ok listed.items }
+    requires few { length listed.items ≤ MOST_ARRANGEMENTS }
+    requires certificate { CertificateGives certificate (certificate_of (texts_of _documents.now).certificate) }
+    ensures question { IfOk result (Spells (texts_of _documents.now)) }
+    ensures puzzle { IfOk result (λ q. IsPuzzle q.puzzle) }
+    ensures fault { IfErr result (λ fault. fault ≢ RunFault.Memory → RunGives (texts_of _documents.now) (Err fault)) }
+{
+    let certificate = certificate?;
+    Ok(OwnedQuestion {
+        puzzle,
+        listed,
+        certificate,
+    })
+}
+
 /// The question that the documents spell, or their first fault, in the order of the documents;
 /// `Memory` only where that is refused.
 pub fn read_question(alloc: Global, documents: &Documents<'_>) -> Result<OwnedQuestion, RunFault>
@@ -60,10 +89,25 @@ pub fn read_question(alloc: Global, documents: &Documents<'_>) -> Result<OwnedQu
 {
     let puzzle = read_puzzle(alloc, documents.puzzle)?;
     let listed = read_list(alloc, documents.list)?;
-    let certificate = read_certificate(alloc, documents.certificate)?;
-    Ok(OwnedQuestion {
-        puzzle,
-        listed,
-        certificate,
-    })
+    let certificate = read_certificate(alloc, documents.certificate);
+    with_certificate(documents, puzzle, listed, certificate)
+}
+
+/// The same, of which the certificate is read by so many workers.
+pub fn read_question_with<R: Threads + Sync>(
+    rt: &R,
+    alloc: Global,
+    documents: &Documents<'_>,
+    workers: u8,
+) -> Result<OwnedQuestion, RunFault>
+    requires short { AreShort (texts_of documents.now) }
+    requires workers { (1 ≤ workers) × (workers ≤ MOST_WORKERS) }
+    ensures question { IfOk result (Spells (texts_of documents.now)) }
+    ensures puzzle { IfOk result (λ q. IsPuzzle q.puzzle) }
+    ensures fault { IfErr result (λ fault. fault ≢ RunFault.Memory → RunGives (texts_of documents.now) (Err fault)) }
+{
+    let puzzle = read_puzzle(alloc, documents.puzzle)?;
+    let listed = read_list(alloc, documents.list)?;
+    let certificate = read_certificate_with(rt, alloc, documents.certificate, workers);
+    with_certificate(documents, puzzle, listed, certificate)
 }

@@ -68,6 +68,23 @@ end_from p (word ∷ others) = fail p.line Word
 unfoldable pub end_of_line : Read (Unit {0})
 end_of_line p = end_from p p.words
 
+-- the rest of the line, whatever it says
+abbrev pub skip_words : Read (Unit {0})
+skip_words p = Ok (tt, record { line = p.line; words = []; ahead = p.ahead })
+
+-- the next line, whatever it says
+unfoldable pub skip_line : Read (Unit {0})
+skip_line = do
+  _ ← next_line
+  skip_words
+
+-- the same of so many lines
+unfoldable pub skip_lines : ℕ → Read (Unit {0})
+skip_lines zero = give tt
+skip_lines (suc n) = do
+  _ ← skip_line
+  skip_lines n
+
 -- nothing after the line
 abbrev pub text_end_from : Place → List ℕ → Result (Unit {0} × Place) TextFault
 text_end_from p [] = Ok (tt, p)

@@ -9,7 +9,7 @@ ghost use Rattle.match_text.specs.Ranges.{IsVersion, AreRanges};
 ghost use Rattle.match_text.specs.Words.{fixed_in, version_in, number_in, colour_in, rule_in, tile_in, placement_in};
 ghost use Rattle.match_text.specs.Words.{pair_in};
 ghost use Rattle.match_text.specs.Place.{Place, start, first_word, other_words, without_word, judged, Gives, next_line};
-ghost use Rattle.match_text.specs.Place.{end_of_line, end_of_text, some_word, word_by, opening, counted, closing};
+ghost use Rattle.match_text.specs.Place.{end_of_line, end_of_text, skip_line, some_word, word_by, opening, counted, closing};
 
 use crate::faults::{TextFault, TextKind};
 use crate::ranges::Ranges;
@@ -59,6 +59,17 @@ impl<'a> Scan<'a> {
         }
     }
 
+    /// The same place, to be read from apart from this one. It takes no memory.
+    pub fn copy(&self) -> Scan<'a>
+        ensures { result ≡ self.now }
+    {
+        Scan {
+            line: self.line,
+            rest: self.rest,
+            ahead: self.ahead,
+        }
+    }
+
     /// A fault on the line that is read.
     #[inline]
     pub fn fault(&self, kind: TextKind) -> TextFault
@@ -92,6 +103,17 @@ impl<'a> Scan<'a> {
         self.line += 1;
         self.rest = Some(line);
         self.ahead = ahead;
+        Ok(())
+    }
+
+    /// Goes past the next line, whatever it says. Ends, where no LF is ahead.
+    #[tactic(auto, unfolding(crate::specs::Place::skip_line))]
+    pub fn skip_line(&mut self) -> Result<(), TextFault>
+        ensures gives { Gives (λ _. tt) result self.new (skip_line self.old) }
+        ensures err { OnErr result (self.new ≡ self.old) }
+    {
+        self.next_line()?;
+        self.rest = None;
         Ok(())
     }
 

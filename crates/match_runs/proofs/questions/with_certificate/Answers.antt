@@ -14,7 +14,7 @@ use Rattle.match_runs.specs.Documents.{Texts}
 use Rattle.match_runs.specs.Runs.{RunGives}
 use Rattle.match_runs.specs.Sources.{texts_of}
 use Rattle.match_runs.proofs.RunLemmas.{text_fails, lemmas_fail, certificate_said}
-use Rattle.match_runs.proofs.questions.read_question.Goals as goal
+use Rattle.match_runs.proofs.questions.with_certificate.Goals as goal
 
 certificate_fails : (ts : Texts) (e : CertTextFault) (fault : RunFault) (p : Task) (listed : List (List Placement)) → PuzzleReads ts.puzzle (Ok p) → list_of ts.list ≡ Ok listed → CertificateGives (Err e) (certificate_of ts.certificate) → fault ≡ run_of_certificate e → fault ≢ runs.Memory → RunGives ts (Err fault)
 certificate_fails ts (certificates.Text f) fault p listed reads lists gives is ne = subst (λ x. RunGives ts (Err x)) (sym is) (p, listed, reads, lists, text_fails f (certificate_of ts.certificate) gives)
@@ -23,16 +23,17 @@ certificate_fails ts certificates.Memory fault p listed reads lists gives is ne 
 
 pub returns-in_err-certificate-clause-fault : goal.returns-in_err-certificate-clause-fault
 returns-in_err-certificate-clause-fault c =
-    let r = err_from_is_err_and c.from_residual-in_err-certificate.result c.from_residual-in_err-certificate.ensures.1 in
-    let d = c.args.documents.now in
-    rw (r.1) (λ ne. certificate_fails (texts_of d) c.in_err-certificate.field-0.0 r.0 c.in_ok-puzzle.puzzle _ c.in_ok-puzzle.ensures.exact c.in_ok-listed.ensures.exact c.in_err-certificate.ensures.exact r.2 ne)
+    let r = err_from_is_err_and c.from_residual.result c.from_residual.ensures.1 in
+    let gives = subst (λ x. CertificateGives x (certificate_of (texts_of c.args._documents.now).certificate)) c.in_err-certificate.is c.requires.certificate in
+    rw (r.1) (λ ne. certificate_fails (texts_of c.args._documents.now) c.in_err-certificate.field-0.0 r.0 c.args.puzzle _ c.requires.puzzle c.requires.listed gives r.2 ne)
 
 pub returns-clause-question : goal.returns-clause-question
 returns-clause-question c =
-    let made = certificate_said c.in_ok-certificate.certificate (certificate_of (texts_of c.args.documents.now).certificate) c.in_ok-certificate.ensures.exact in
+    let gives = subst (λ x. CertificateGives x (certificate_of (texts_of c.args._documents.now).certificate)) c.in_ok-certificate.is c.requires.certificate in
+    let made = certificate_said c.in_ok-certificate.certificate (certificate_of (texts_of c.args._documents.now).certificate) gives in
     record {
-      puzzle_read = c.in_ok-puzzle.ensures.exact;
-      list_read = c.in_ok-listed.ensures.exact;
+      puzzle_read = c.requires.puzzle;
+      list_read = c.requires.listed;
       said = made.0;
       certificate_read = made.1;
       symmetries = made.2.0;

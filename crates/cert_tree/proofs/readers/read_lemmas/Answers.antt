@@ -5,7 +5,7 @@ use Rattle.match_text.proofs.LoopLemmas.{times_goes_on, times_fail, times_done}
 use Rattle.cert_tree.specs.CertificateText.{lemma_line}
 use Rattle.cert_tree.specs.Spans.{piece_in}
 use Rattle.cert_tree.proofs.SpanLemmas.{more_spans, more_pieces}
-use Rattle.cert_tree.proofs.readers.lemmas.Goals as goal
+use Rattle.cert_tree.proofs.readers.read_lemmas.Goals as goal
 
 pub returns-in_err-span : goal.returns-in_err-span
 returns-in_err-span c =

@@ -3,7 +3,7 @@ use Rattle.match_text.specs.Place.{times}
 use Rattle.match_text.proofs.LoopLemmas.{with_front}
 use Rattle.cert_tree.specs.Spans.{piece_in, AreSpans}
 use Rattle.cert_tree.specs.CertificateText.{lemma_line}
-use Rattle.cert_tree.proofs.readers.lemmas.Given as goal
+use Rattle.cert_tree.proofs.readers.read_lemmas.Given as goal
 
 -- These lemmas were read.
 abbrev pub invariant-loop : goal.invariant-loop
