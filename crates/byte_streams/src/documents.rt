@@ -81,7 +81,7 @@ impl OwnedDocuments {
     /// The documents, lent. Of an input that has them joined that takes time in the length of the first two.
     pub fn lend(&self) -> Documents<'_>
         ensures texts { texts_of result ≡ self.now }
-        ensures short { AreShort self.now }
+        ensures short { AreShort (texts_of result) }
     {
         match &self.parts {
             Parts::Apart {
