@@ -44,6 +44,10 @@ StopsReading sources (inputs.Read of) = StopsAt sources (FailsToRead MOST_BYTES)
 StopsReading sources (inputs.TooLong of) = StopsAt sources (ReadsPast MOST_BYTES) of
 StopsReading sources inputs.Memory = AreFaultless sources
 
+-- none: nothing is read
+abbrev pub no_source : Origin (Unit {0})
+no_source = record { Gave = λ nothing. Unit {0}; Stopped = StopsReading [] }
+
 abbrev pub one_source : Document → Reading → Origin (List ℕ)
 one_source document source = record {
   Gave = Gives MOST_BYTES source;

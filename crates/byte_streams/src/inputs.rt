@@ -1,8 +1,8 @@
-//! Where texts come from: one source or several, which are read to their ends.
+//! Where texts come from: no source, one or several, which are read to their ends.
 
 ghost use Rattle.std.specs.Prelude.{◌≡◌, IfOk, IfErr, OnOk};
 ghost use Rattle.byte_streams.specs.Moves.{reading_of};
-ghost use Rattle.byte_streams.specs.Origins.{Origin, joined_source, one_source, three_sources, two_sources};
+ghost use Rattle.byte_streams.specs.Origins.{Origin, joined_source, no_source, one_source, three_sources, two_sources};
 
 use crate::documents::{OwnedDocuments, TwoTexts};
 use crate::faults::{Document, InputFault};
@@ -28,6 +28,22 @@ pub trait Inputs {
         ensures gave { IfOk result (λ texts. (reads self.old self.new).Gave texts) }
         ensures faultless { OnOk result ((reads self.old self.new).Stopped InputFault.Memory) }
         ensures stopped { IfErr result (λ fault. (reads self.old self.new).Stopped fault) };
+}
+
+/// Nothing to be read.
+#[derive(Drop)]
+pub struct NoSource;
+
+impl Inputs for NoSource {
+    type Texts = ();
+
+    ghost same = { λ _ _. Unit {0} };
+
+    ghost reads = { λ _ _. no_source };
+
+    fn read_all(&mut self, _alloc: Global) -> Result<(), InputFault> {
+        Ok(())
+    }
 }
 
 /// The source of a document.

@@ -18,7 +18,7 @@ pub use documents::{Documents, OwnedDocuments, TwoTexts, cut_joined};
 pub use fakes::Fake;
 pub use faults::{Document, InputFault};
 pub use files::{FileSystem, System};
-pub use inputs::{Inputs, JoinedSource, OneSource, ThreeSources, TwoSources};
+pub use inputs::{Inputs, JoinedSource, NoSource, OneSource, ThreeSources, TwoSources};
 pub use outputs::{OneSink, Outputs, Products, ThreeSinks};
 pub use readings::{read_text, read_whole};
 pub use sinks::Sink;
