@@ -1,0 +1,28 @@
+//! Bytes that come from sources and go to sinks, texts that are read and written whole, and files by their names.
+#![tactic(auto)]
+
+mod documents;
+mod fakes;
+mod faults;
+mod files;
+mod inputs;
+mod outputs;
+mod readings;
+mod sinks;
+mod sources;
+mod systems;
+mod texts;
+mod writings;
+
+pub use documents::{Documents, OwnedDocuments, TwoTexts, cut_joined};
+pub use fakes::Fake;
+pub use faults::{Document, InputFault};
+pub use files::{FileSystem, System};
+pub use inputs::{Inputs, JoinedSource, NoSource, OneSource, ThreeSources, TwoSources};
+pub use outputs::{OneSink, Outputs, Products, ThreeSinks};
+pub use readings::{read_text, read_whole};
+pub use sinks::Sink;
+pub use sources::{Failed, Source};
+pub use systems::{Input, Output};
+pub use texts::{MadeText, Text};
+pub use writings::write_whole;

@@ -1,0 +1,131 @@
+//! Readers and writers of the system, as sources and sinks.
+
+ghost use Rattle.std.specs.Prelude.{◌≡◌, ◌≤◌, ◌<◌, false, IfSome, IfNone, length, take};
+ghost use Rattle.std.specs.Io.KnownBytes.{Appends, Consumes, IsAtEnd, Keeps};
+
+use crate::sinks::Sink;
+use crate::sources::{Failed, Source};
+use std::io::{ErrorKind, Read, Write};
+
+// How often an interrupted call is tried in all.
+const MOST_TRIES: u32 = 1000;
+
+/// A reader with a count of its errors, up to `u64::MAX` of them. It tells what is left where the reader does.
+///
+/// An interrupted read is tried again, up to 1000 times in all.
+#[derive(Drop)]
+pub struct Input<R: Read> {
+    reader: R,
+    ended: bool,
+    errors: u64,
+}
+
+impl<R: Read> Input<R> {
+    /// A source over this reader.
+    pub fn new(reader: R) -> Input<R>
+        ensures reader { result.reader ≡ reader }
+        ensures not_ended { result.ended ≡ false }
+        ensures errors { result.errors ≡ 0 }
+    {
+        Input {
+            reader,
+            ended: false,
+            errors: 0,
+        }
+    }
+}
+
+// A read that is tried again while it is interrupted; none where it fails.
+fn count_read<R: Read>(reader: &mut R, buffer: &mut [u8]) -> Option<usize>
+    ensures count { IfSome result (λ n. n ≤ length buffer.new) }
+    ensures bytes { IfSome result (λ n.
+        Consumes (R.remaining reader.old) (R.remaining reader.new) (take n buffer.new)) }
+    ensures end { IfSome result (λ n. n ≡ 0 → 0 < length buffer.old → IsAtEnd (R.remaining reader.new)) }
+    ensures kept { IfNone result (Keeps (R.remaining reader.old) (R.remaining reader.new)) }
+{
+    for _ in 0..MOST_TRIES {
+        match reader.read(buffer) {
+            Ok(count) => return Some(count),
+            Err(error) if error.kind() == ErrorKind::Interrupted => {}
+            Err(_) => return None,
+        }
+    }
+    None
+}
+
+impl<R: Read> Source for Input<R> {
+    ghost left = { λ s. R.remaining s.reader };
+
+    ghost ended = { λ s. s.ended };
+
+    ghost errors = { λ s. s.errors };
+
+    fn read(&mut self, buffer: &mut [u8]) -> Result<usize, Failed> {
+        let Some(count) = count_read(&mut self.reader, buffer) else {
+            self.ended = false;
+            self.errors = self.errors.saturating_add(1);
+            return Err(Failed);
+        };
+        self.ended = count == 0;
+        Ok(count)
+    }
+}
+
+/// A writer with a count of its errors, up to `u64::MAX` of them. It tells its bytes where the writer does.
+///
+/// An interrupted write is tried again, up to 1000 times in all.
+#[derive(Drop)]
+pub struct Output<W: Write> {
+    writer: W,
+    idle: bool,
+    errors: u64,
+}
+
+impl<W: Write> Output<W> {
+    /// A sink over this writer.
+    pub fn new(writer: W) -> Output<W>
+        ensures writer { result.writer ≡ writer }
+        ensures not_idle { result.idle ≡ false }
+        ensures errors { result.errors ≡ 0 }
+    {
+        Output {
+            writer,
+            idle: false,
+            errors: 0,
+        }
+    }
+}
+
+// A write that is tried again while it is interrupted; none where it fails.
+fn count_write<W: Write>(writer: &mut W, bytes: &[u8]) -> Option<usize>
+    ensures count { IfSome result (λ n. n ≤ length bytes.now) }
+    ensures bytes { IfSome result (λ n. Appends (W.contents writer.old) (W.contents writer.new) (take n bytes.now)) }
+    ensures kept { IfNone result (Keeps (W.contents writer.old) (W.contents writer.new)) }
+{
+    for _ in 0..MOST_TRIES {
+        match writer.write(bytes) {
+            Ok(count) => return Some(count),
+            Err(error) if error.kind() == ErrorKind::Interrupted => {}
+            Err(_) => return None,
+        }
+    }
+    None
+}
+
+impl<W: Write> Sink for Output<W> {
+    ghost written = { λ s. W.contents s.writer };
+
+    ghost idle = { λ s. s.idle };
+
+    ghost errors = { λ s. s.errors };
+
+    fn write(&mut self, bytes: &[u8]) -> Result<usize, Failed> {
+        let Some(count) = count_write(&mut self.writer, bytes) else {
+            self.idle = false;
+            self.errors = self.errors.saturating_add(1);
+            return Err(Failed);
+        };
+        self.idle = count == 0 && !bytes.is_empty();
+        Ok(count)
+    }
+}
