@@ -2,11 +2,12 @@
 
 ghost use Rattle.std.specs.Prelude.{◌≢◌, Err, IfOk, IfErr};
 ghost use Rattle.match_puzzle.specs.Puzzle.{IsPuzzle};
+ghost use Rattle.byte_streams.specs.Documents.{AreShort};
+ghost use Rattle.byte_streams.specs.LentTexts.{texts_of};
 ghost use Rattle.match_runs.specs.Runs.{RunGives, Spells};
-ghost use Rattle.match_runs.specs.Sources.{AreShort, texts_of};
 
 use crate::faults::RunFault;
-use crate::streams::documents::Documents;
+use byte_streams::Documents;
 use cert_check::Question;
 use cert_tree::{Certificate, read_certificate};
 use match_puzzle::{Arrangement, Puzzle};
