@@ -1,5 +1,3 @@
-pub mod CutLemmas
-pub mod StreamLemmas
 pub mod SourceLemmas
 pub mod OrderLemmas
 pub mod RepetitionLemmas

@@ -2,11 +2,11 @@
 use Rattle.std.proofs.Common.{◌≡◌, ◌∙◌, ◌++◌, ℕ, Bool, List, Option, Some, None, Result, Ok, Err, IfOk, inl, inr, refl, ap, subst}
 use Rattle.std.proofs.lemmas.List.{append-nil}
 use Rattle.std.specs.Io.KnownBytes.{Consumes, IsAtEnd}
+use Rattle.byte_streams.specs.Moves.{Writing}
+use Rattle.byte_streams.specs.Streams.{GivesWhole}
 use Rattle.match_runs.specs.Files.{HoldsText, LeavesAll}
-use Rattle.match_runs.specs.Moves.{Writing}
 use Rattle.match_runs.specs.OrderRuns.{StopsReporting}
 use Rattle.match_runs.specs.Solving.{Products, SolveGives, StopsWriting}
-use Rattle.match_runs.specs.Streams.{GivesWhole}
 use Rattle.match_runs.specs.declared.faults.RunFault.{RunFault}
 use Rattle.match_runs.specs.Exits.{status_exit}
 use Rattle.match_runs.specs.declared.exits.Exit.{Exit}

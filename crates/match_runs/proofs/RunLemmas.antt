@@ -31,6 +31,9 @@ use Rattle.cert_check.specs.declared.faults.Fault.TheVariants as checks
 use Rattle.symmetry_orbits.specs.Closure.{AddsEach}
 use Rattle.symmetry_orbits.proofs.ClosureLemmas.{each_only}
 use Rattle.symmetry_orbits.proofs.ExpansionLemmas.{has_what_is_reached}
+use Rattle.byte_streams.specs.Documents.{first_of, second_of, third_of, texts_in}
+use Rattle.byte_streams.specs.LentTexts.{texts_of}
+use Rattle.byte_streams.specs.declared.documents.Documents.{Documents}
 use Rattle.match_runs.proofs.RepetitionLemmas.{more_are_reached}
 use Rattle.match_report.specs.AnswerText.{HasLine, HasWords}
 use Rattle.symmetry_orbits.specs.declared.expansions.ExpandFault.{ExpandFault}
@@ -38,10 +41,7 @@ use Rattle.symmetry_orbits.specs.declared.expansions.ExpandFault.TheVariants as 
 use Rattle.symmetry_orbits.specs.Expansion.{AreMoreReached, AreOf, IsExpansion, HasWhatIsReached}
 use Rattle.match_runs.specs.declared.faults.RunFault.TheVariants as runs
 use Rattle.match_runs.specs.FaultText.{run_of_expand}
-use Rattle.match_runs.specs.Documents.{first_of, second_of, third_of, texts_in}
 use Rattle.match_runs.specs.Runs.{AreAllInOrder}
-use Rattle.match_runs.specs.Sources.{texts_of}
-use Rattle.match_runs.specs.declared.streams.documents.Documents.{Documents}
 
 -- where a certificate is given, the text says what it is made of
 pub certificate_said : (c : Contents) (outcome : Result Said TextFault) → CertificateGives (Ok c) outcome → (said : Said) × (outcome ≡ Ok said) × Makes said (Ok c)

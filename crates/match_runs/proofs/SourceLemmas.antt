@@ -3,15 +3,15 @@ use Rattle.std.proofs.Common.{◌≡◌, ◌≢◌, List, ℕ, Result, Ok, Err, 
 use Rattle.std.specs.Io.KnownBytes.{Appends}
 use Rattle.cert_check.specs.declared.faults.Answer.{Answer}
 use Rattle.cert_check.specs.declared.faults.Answer.TheVariants as answers
-use Rattle.match_runs.specs.Documents.{Texts}
+use Rattle.byte_streams.specs.Documents.{Texts}
+use Rattle.byte_streams.specs.Moves.{FrontOf, Writing}
+use Rattle.byte_streams.specs.declared.faults.Document.{Document}
 use Rattle.match_runs.specs.Exits.{status_of}
-use Rattle.match_runs.specs.Moves.{FrontOf, Writing}
 use Rattle.match_runs.specs.Runs.{AskTooMuch, ComesOfTexts, ComesTo, Fails, Gives, IsOfRequest, IsOfRun, IsPrinted, Request}
 use Rattle.match_runs.specs.Runs.{RunGives, RunsOver, SpellCompleteList, checked, printed}
 use Rattle.match_runs.specs.Sources.{CameWhole, IsOfReading, ReadToEnds, ReadWithoutFault, Sources, StopsReading}
 use Rattle.match_runs.specs.declared.exits.Status.{Status}
 use Rattle.match_runs.specs.declared.exits.Status.TheVariants as status
-use Rattle.match_runs.specs.declared.faults.Document.{Document}
 use Rattle.match_runs.specs.declared.faults.RunFault.{RunFault}
 use Rattle.match_runs.specs.declared.faults.RunFault.TheVariants as runs
 

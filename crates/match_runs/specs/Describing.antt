@@ -13,9 +13,9 @@ use Rattle.xcc_form.specs.Options.{Compiled, HasTooManyEntries, IsCompiled, entr
 use Rattle.puzzle_symmetry.specs.Symmetry.{IsSymmetry}
 use Rattle.puzzle_symmetry.specs.declared.lines.SymmetryLine.{SymmetryLine}
 use Rattle.cert_tree.specs.CertificateSpelling.{symmetries_spelling, IsSymmetryWithin}
+use Rattle.byte_streams.specs.declared.faults.Document.TheVariants as documents
 use Rattle.match_runs.specs.declared.description_runs.Description.{Description}
 use Rattle.match_runs.specs.declared.description_runs.Description.TheVariants as descriptions
-use Rattle.match_runs.specs.declared.faults.Document.TheVariants as documents
 use Rattle.match_runs.specs.declared.faults.RunFault.{RunFault}
 use Rattle.match_runs.specs.declared.faults.RunFault.TheVariants as runs
 

@@ -9,8 +9,6 @@ use Rattle.match_puzzle.specs.declared.faults.PuzzleFault.TheVariants as puzzles
 use Rattle.match_text.specs.declared.faults.TextKind.{TextKind}
 use Rattle.match_text.specs.declared.faults.TextKind.TheVariants as kinds
 use Rattle.match_text.specs.declared.faults.TextFault.{TextFault}
-use Rattle.match_runs.specs.declared.faults.Document.{Document}
-use Rattle.match_runs.specs.declared.faults.Document.TheVariants as documents
 use Rattle.match_text.specs.declared.faults.PuzzleTextFault.{PuzzleTextFault}
 use Rattle.match_text.specs.declared.faults.PuzzleTextFault.TheVariants as puzzle_text
 use Rattle.match_text.specs.declared.faults.ReadFault.{ReadFault}
@@ -23,6 +21,10 @@ use Rattle.symmetry_orbits.specs.declared.expansions.ExpandFault.{ExpandFault}
 use Rattle.symmetry_orbits.specs.declared.expansions.ExpandFault.TheVariants as expansions
 use Rattle.match_crew.specs.declared.faults.SolveFault.{SolveFault}
 use Rattle.match_crew.specs.declared.faults.SolveFault.TheVariants as solves
+use Rattle.byte_streams.specs.declared.faults.Document.{Document}
+use Rattle.byte_streams.specs.declared.faults.Document.TheVariants as documents
+use Rattle.byte_streams.specs.declared.faults.InputFault.{InputFault}
+use Rattle.byte_streams.specs.declared.faults.InputFault.TheVariants as inputs
 use Rattle.match_runs.specs.declared.faults.RunFault.{RunFault}
 use Rattle.match_runs.specs.declared.faults.RunFault.TheVariants.{Read, TooLong, Puzzle, List as Listing, Certificate, NoArrangement, Arrangement}
 use Rattle.match_runs.specs.declared.faults.RunFault.TheVariants.{Solve, Expand, Tiles, Write, Memory}
@@ -30,7 +32,12 @@ use Rattle.match_text.specs.Spelling.{line_text}
 use Rattle.match_report.specs.Line.{label}
 use Rattle.match_report.specs.AnswerText.{arrangement_fault_words}
 
--- ---- want of memory, wherever it was met
+-- ---- faults of parts, and want of memory, wherever it was met
+
+abbrev pub run_of_input : InputFault → RunFault
+run_of_input (inputs.Read document) = Read document
+run_of_input (inputs.TooLong document) = TooLong document
+run_of_input inputs.Memory = Memory
 
 abbrev pub run_of_puzzle : PuzzleTextFault → RunFault
 run_of_puzzle (puzzle_text.Text fault) = Puzzle (puzzle_text.Text fault)

@@ -3,8 +3,8 @@ use Rattle.std.specs.Prelude.{◌≡◌, ◌≢◌, ◌++◌, ℕ, Bool, true, f
 use Rattle.std.specs.Bool.{OnTrue}
 use Rattle.std.specs.String.{string_bytes}
 use Rattle.std.specs.Io.KnownBytes.{Appends}
-use Rattle.match_runs.specs.Documents.{Texts}
-use Rattle.match_runs.specs.declared.streams.sinks.Sink.{Ghosts as SinkMembers}
+use Rattle.byte_streams.specs.Documents.{Texts}
+use Rattle.byte_streams.specs.declared.sinks.Sink.{Ghosts as SinkMembers}
 use Rattle.match_runs.specs.declared.parts.Parts.{Parts}
 use Rattle.command_words.specs.declared.orders.Files.{Files}
 

@@ -1,6 +1,3 @@
-pub mod Streams
-pub mod Moves
-pub mod Documents
 pub mod Sources
 pub mod Exits
 pub mod FaultText
@@ -12,3 +9,4 @@ pub mod Tiles
 pub mod Files
 pub mod OrderRuns
 pub mod WordRuns
+pub mod Writings

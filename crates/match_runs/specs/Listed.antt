@@ -9,10 +9,10 @@ use Rattle.match_show.specs.Arrangement.{IsDrawnArrangement}
 use Rattle.match_text.specs.Lists.{list_of}
 use Rattle.match_text.specs.Puzzles.{PuzzleReads}
 use Rattle.match_text.specs.declared.faults.ReadFault.TheVariants as lists
+use Rattle.byte_streams.specs.Moves.{FailsToRead, Reading, ReadsAtMost, ReadsPast, ReadsToEnd, ReadsWhole}
+use Rattle.byte_streams.specs.declared.faults.Document.{Document}
+use Rattle.byte_streams.specs.declared.faults.Document.TheVariants as documents
 use Rattle.match_runs.specs.Describing.{IsOfReadText, SpellsNoPuzzle}
-use Rattle.match_runs.specs.Moves.{FailsToRead, Reading, ReadsAtMost, ReadsPast, ReadsToEnd, ReadsWhole}
-use Rattle.match_runs.specs.declared.faults.Document.{Document}
-use Rattle.match_runs.specs.declared.faults.Document.TheVariants as documents
 use Rattle.match_runs.specs.declared.faults.RunFault.{RunFault}
 use Rattle.match_runs.specs.declared.faults.RunFault.TheVariants as runs
 

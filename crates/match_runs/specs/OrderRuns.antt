@@ -6,14 +6,15 @@ use Rattle.command_words.specs.declared.orders.Files.{Files}
 use Rattle.command_words.specs.declared.orders.Listed.{Listed}
 use Rattle.command_words.specs.declared.orders.Order.{Order}
 use Rattle.command_words.specs.declared.orders.Order.TheVariants.{Joined, Check, Explain, Solve, Expand, Count, Show, Symmetries, Tiles}
-use Rattle.match_runs.specs.Documents.{Texts}
 use Rattle.match_board.specs.declared.limits.TheConstants.{MOST_CLASSES}
 use Rattle.match_board.specs.Turns.{HasMoreLeastWords}
+use Rattle.byte_streams.specs.Documents.{Texts}
+use Rattle.byte_streams.specs.Moves.{Reading, Writing}
 use Rattle.match_runs.specs.Describing.{Describes, IsOfDescribing, SpellsNoPuzzle}
 use Rattle.match_runs.specs.Exits.{status_exit}
 use Rattle.match_runs.specs.Files.{AreApart, BothHold, FilesHold, HoldsText, Receives}
 use Rattle.match_runs.specs.Listed.{DrawsListed, IsOfDrawing, IsOfListed, SpellNoListed}
-use Rattle.match_runs.specs.Moves.{Reading, Writing, WritesFront, WritesWhole}
+use Rattle.match_runs.specs.Writings.{WritesFront, WritesWhole}
 use Rattle.match_runs.specs.Runs.{ComesTo, IsOfRun, Request, RunsOver, SpellCompleteList, checked, printed}
 use Rattle.match_runs.specs.Solving.{IsOfPuzzle, IsOfSolving, IsUnwritten, Products, SolveFails, SolveGives}
 use Rattle.match_runs.specs.Sources.{ReadToEnds, together}

@@ -26,11 +26,12 @@ use Rattle.symmetry_orbits.specs.Expansion.{IsExpansion, AreMoreReached}
 use Rattle.symmetry_orbits.specs.Orbits.{AreMoreListedOrInOrbit, HasArrangements, IsCount}
 use Rattle.symmetry_orbits.specs.declared.numbers.Count.{Count}
 use Rattle.match_text.specs.Spelling.{count_words, text_of}
+use Rattle.byte_streams.specs.Documents.{Texts}
+use Rattle.byte_streams.specs.Moves.{Writing}
 use Rattle.match_runs.specs.declared.printing_runs.Printing.{Printing}
 use Rattle.match_runs.specs.declared.printing_runs.Printing.TheVariants as printings
-use Rattle.match_runs.specs.Documents.{Texts}
 use Rattle.match_runs.specs.Exits.{status_of}
-use Rattle.match_runs.specs.Moves.{Writing, WritesFront, WritesWhole}
+use Rattle.match_runs.specs.Writings.{WritesFront, WritesWhole}
 use Rattle.match_runs.specs.Sources.{Sources, ReadToEnds, StopsReading}
 use Rattle.match_runs.specs.declared.faults.RunFault.{RunFault}
 use Rattle.match_runs.specs.declared.faults.RunFault.TheVariants as runs

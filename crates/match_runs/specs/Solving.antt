@@ -13,9 +13,9 @@ use Rattle.match_report.specs.TallyText.{tally_text}
 use Rattle.xcc_form.specs.Options.{HasTooManyEntries}
 use Rattle.match_crew.specs.Solving.{IsSolvedBy}
 use Rattle.match_crew.specs.declared.faults.SolveFault.TheVariants as solves
+use Rattle.byte_streams.specs.Moves.{FrontOf, Writing}
 use Rattle.match_runs.specs.Runs.{IsListText, number_line}
 use Rattle.match_runs.specs.Describing.{IsOfDescribing, IsOfReadText, SpellsNoPuzzle}
-use Rattle.match_runs.specs.Moves.{FrontOf, Writing}
 use Rattle.match_runs.specs.declared.faults.RunFault.{RunFault}
 use Rattle.match_runs.specs.declared.faults.RunFault.TheVariants as runs
 use Rattle.match_runs.specs.declared.solve_runs.Made.{Made}

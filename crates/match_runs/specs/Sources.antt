@@ -1,36 +1,12 @@
 -- What documents are read from.
-use Rattle.std.specs.Prelude.{◌≡◌, ◌+◌, ◌<◌, ◌^◌, ℕ, List, length}
+use Rattle.std.specs.Prelude.{◌≡◌, ℕ, List}
 use Rattle.match_board.specs.declared.limits.TheConstants.{MOST_BYTES}
-use Rattle.match_runs.specs.Documents.{Texts, texts_in}
-use Rattle.match_runs.specs.Moves.{FailsToRead, Reading, ReadsAtMost, ReadsPast, ReadsToEnd, ReadsWhole}
-use Rattle.match_runs.specs.declared.streams.documents.Documents.{Documents}
-use Rattle.match_runs.specs.declared.streams.documents.OwnedDocuments.{OwnedDocuments}
-use Rattle.match_runs.specs.declared.faults.Document.{Document}
-use Rattle.match_runs.specs.declared.faults.Document.TheVariants as documents
+use Rattle.byte_streams.specs.Documents.{Texts, texts_in}
+use Rattle.byte_streams.specs.Moves.{FailsToRead, Reading, ReadsAtMost, ReadsPast, ReadsToEnd, ReadsWhole}
+use Rattle.byte_streams.specs.declared.faults.Document.{Document}
+use Rattle.byte_streams.specs.declared.faults.Document.TheVariants as documents
 use Rattle.match_runs.specs.declared.faults.RunFault.{RunFault}
 use Rattle.match_runs.specs.declared.faults.RunFault.TheVariants as runs
-
--- ---- texts of a puzzle, a list and a certificate
-
--- the texts behind references
-abbrev pub texts_of : Documents → Texts
-texts_of documents = record {
-  puzzle = documents.puzzle.now;
-  list = documents.list.now;
-  certificate = documents.certificate.now;
-}
-
--- the texts that were read
-abbrev pub owned_texts : OwnedDocuments → Texts
-owned_texts read = record {
-  puzzle = read.puzzle.items;
-  list = read.list.items;
-  certificate = read.certificate.items;
-}
-
--- The texts are shorter together than a number of 32 bits says.
-abbrev pub AreShort : Texts → Type 0
-AreShort texts = length texts.puzzle + length texts.list + length texts.certificate + 1 < 2 ^ 32
 
 -- ---- where they come from
 

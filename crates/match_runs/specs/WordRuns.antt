@@ -8,9 +8,9 @@ use Rattle.command_words.specs.Commands.{whole_app}
 use Rattle.command_words.specs.Orders.{IsOrder}
 use Rattle.command_words.specs.declared.orders.Order.{Order}
 use Rattle.match_text.specs.Spelling.{line_text}
+use Rattle.byte_streams.specs.Moves.{FrontOf, Writing}
 use Rattle.match_runs.specs.Exits.{fault_exit}
 use Rattle.match_runs.specs.FaultText.{fault_line, memory_words}
-use Rattle.match_runs.specs.Moves.{FrontOf, Writing}
 use Rattle.match_runs.specs.declared.exits.Exit.{Exit}
 use Rattle.match_runs.specs.declared.exits.Exit.TheVariants.{Done, Failed}
 use Rattle.match_runs.specs.declared.faults.RunFault.{RunFault}

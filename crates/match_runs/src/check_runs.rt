@@ -1,20 +1,20 @@
 //! Runs of the checker.
 
 ghost use Rattle.std.specs.Prelude.{◌≡◌, ◌≢◌, IfOk, IfErr};
-ghost use Rattle.match_runs.specs.Moves.{reading_of, writing_of};
+ghost use Rattle.byte_streams.specs.Moves.{reading_of, writing_of};
+ghost use Rattle.byte_streams.specs.Documents.{AreShort};
+ghost use Rattle.byte_streams.specs.LentTexts.{texts_of};
 ghost use Rattle.match_runs.specs.Runs.{ComesTo, Fails, Gives, IsOfRequest, IsOfRun, RunsOver};
 ghost use Rattle.match_runs.specs.Runs.{SpellCompleteList, checked};
-ghost use Rattle.match_runs.specs.Sources.{AreShort, ReadToEnds, apart, texts_of, together};
+ghost use Rattle.match_runs.specs.Sources.{ReadToEnds, apart, together};
 
 use crate::exits::Status;
-use crate::faults::{Document, RunFault};
+use crate::faults::RunFault;
 use crate::printed::{Printed, answer_to};
 use crate::progress::CheckWatch;
 use crate::questions::read_question_with;
-use crate::streams::documents::{Documents, cut_joined};
-use crate::streams::readings::{read_documents, read_whole};
-use crate::streams::sinks::Sink;
-use crate::streams::sources::Source;
+use crate::readings::{read_documents, read_whole};
+use byte_streams::{Document, Documents, Sink, Source, cut_joined};
 use command_words::{Forks, Workers};
 use match_board::limits::MOST_BYTES;
 use match_crew::{Open, check_with};

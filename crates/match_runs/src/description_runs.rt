@@ -2,17 +2,18 @@
 
 ghost use Rattle.std.specs.Prelude.{◌≡◌, ◌≢◌, ◌≤◌, ◌∷◌, [], IfErr, IfOk, IsErrOf, OnOk, decimal, length};
 ghost use Rattle.match_puzzle.specs.Puzzle.{IsPuzzle};
+ghost use Rattle.byte_streams.specs.Moves.{reading_of, writing_of};
 ghost use Rattle.match_runs.specs.Describing.{CountsOptions, Describes, IsBoardText, IsOfDescribing, IsOfReadText};
 ghost use Rattle.match_runs.specs.Describing.{IsSymmetriesText, SpellsNoPuzzle, options_text};
 ghost use Rattle.match_text.specs.Spelling.{line_text};
-ghost use Rattle.match_runs.specs.Moves.{WritesFront, WritesWhole, reading_of, writing_of};
+ghost use Rattle.match_runs.specs.Writings.{WritesFront, WritesWhole};
 ghost use Rattle.match_runs.specs.Solving.{IsOfPuzzle};
 ghost use Rattle.match_runs.specs.Sources.{PuzzleReadToEnd, StopsReadingPuzzle};
 
-use crate::faults::{Document, RunFault, words_line};
-use crate::streams::readings::read_whole;
-use crate::streams::sinks::{Sink, write_text};
-use crate::streams::sources::Source;
+use crate::faults::{RunFault, words_line};
+use crate::readings::read_whole;
+use crate::writings::write_text;
+use byte_streams::{Document, Sink, Source};
 use cert_tree::write_symmetries;
 use match_board::limits::{MOST_BYTES, MOST_ENTRIES};
 use match_puzzle::{Partial, Puzzle};

@@ -8,9 +8,10 @@ ghost use Rattle.match_runs.specs.FaultText.{text_fault_words, puzzle_fault_word
 ghost use Rattle.match_runs.specs.FaultText.{list_text_fault_words, assemble_fault_words, cert_text_fault_words};
 ghost use Rattle.match_report.specs.AnswerText.{arrangement_fault_words};
 ghost use Rattle.match_runs.specs.declared.faults.RunFault.TheVariants as run_fault;
-ghost use Rattle.match_runs.specs.FaultText.{run_of_puzzle, run_of_list, run_of_certificate};
+ghost use Rattle.match_runs.specs.FaultText.{run_of_input, run_of_puzzle, run_of_list, run_of_certificate};
 ghost use Rattle.match_runs.specs.FaultText.{run_of_expand, run_of_solve, run_of_tiles, solve_fault_words};
 
+use byte_streams::{Document, InputFault};
 use cert_tree::{AssembleFault, CertTextFault};
 use match_board::{BoardFault, TilesFault};
 use match_crew::SolveFault;
@@ -18,16 +19,6 @@ use match_puzzle::{ArrangementFault, PuzzleFault};
 use match_report::{ExpandFault, Line, put_arrangement_fault};
 use match_text::{ListTextFault, PuzzleTextFault, TextFault, TextKind};
 use std::alloc::{AllocError, Global};
-
-/// What a run reads.
-#[derive(Clone, Copy, PartialEq, Eq, Debug)]
-pub enum Document {
-    Puzzle,
-    List,
-    Certificate,
-    /// The three joined.
-    Input,
-}
 
 /// Why a run stopped.
 #[derive(Clone, Copy, PartialEq, Eq, Debug)]
@@ -52,6 +43,18 @@ pub enum RunFault {
     /// Writing failed, or nothing more was taken.
     Write,
     Memory,
+}
+
+impl From<InputFault> for RunFault {
+    ghost from_gives = { λ fault e. e ≡ run_of_input fault };
+
+    fn from(fault: InputFault) -> RunFault {
+        match fault {
+            InputFault::Read(document) => RunFault::Read(document),
+            InputFault::TooLong(document) => RunFault::TooLong(document),
+            InputFault::Memory => RunFault::Memory,
+        }
+    }
 }
 
 impl From<PuzzleTextFault> for RunFault {

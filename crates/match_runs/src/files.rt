@@ -4,10 +4,8 @@ ghost use Rattle.std.specs.Prelude.{◌≡◌, ◌≢◌, ◌↔◌, ℕ, List, 
 ghost use Rattle.std.specs.String.{string_bytes};
 ghost use Rattle.match_runs.specs.Files.{LeavesAll, TakesWhole, part_name};
 
-use crate::faults::{Document, RunFault};
-use crate::streams::sinks::Sink;
-use crate::streams::sources::{Failed, Source};
-use crate::streams::systems::{Input, Output};
+use crate::faults::RunFault;
+use byte_streams::{Document, Failed, Input, Output, Sink, Source};
 use std::alloc::{AllocError, Global};
 use std::fs::{self, File};
 use std::io::{self, ErrorKind};

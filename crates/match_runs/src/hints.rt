@@ -1,8 +1,9 @@
 //! What is told beside the fault of a text that is to be explained.
 
-use crate::faults::{Document, RunFault};
+use crate::faults::RunFault;
 use crate::files::{FileSystem, open};
-use crate::streams::readings::read_whole;
+use crate::readings::read_whole;
+use byte_streams::Document;
 use cert_tree::CertTextFault;
 use command_words::{Files, Order};
 use match_board::limits::MOST_BYTES;

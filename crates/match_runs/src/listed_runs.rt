@@ -1,14 +1,15 @@
 //! Runs that draw an arrangement of a list.
 
 ghost use Rattle.std.specs.Prelude.{◌≢◌, ◌≡◌, ◌≤◌, IfErr, IfOk, IsErrOf, OnOk, length};
+ghost use Rattle.byte_streams.specs.Moves.{reading_of, writing_of};
 ghost use Rattle.match_runs.specs.Listed.{BothReadToEnds, DrawsListed, IsOfDrawing, IsOfListed, IsOfReadListed};
 ghost use Rattle.match_runs.specs.Listed.{SpellNoListed, StopsReadingEither};
-ghost use Rattle.match_runs.specs.Moves.{WritesFront, WritesWhole, reading_of, writing_of};
+ghost use Rattle.match_runs.specs.Writings.{WritesFront, WritesWhole};
 
-use crate::faults::{Document, RunFault};
-use crate::streams::readings::read_whole;
-use crate::streams::sinks::{Sink, write_text};
-use crate::streams::sources::Source;
+use crate::faults::RunFault;
+use crate::readings::read_whole;
+use crate::writings::write_text;
+use byte_streams::{Document, Sink, Source};
 use match_board::limits::MOST_BYTES;
 use match_show::write_arrangement;
 use match_text::{read_list, read_puzzle};

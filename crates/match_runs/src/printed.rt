@@ -3,12 +3,13 @@
 ghost use Rattle.std.specs.Prelude.{◌≡◌, IfOk, IfErr, OnErr, OnOk};
 ghost use Rattle.std.specs.Io.KnownBytes.{Appends};
 ghost use Rattle.match_report.specs.AnswerText.{HasLine, answer_line};
+ghost use Rattle.byte_streams.specs.Moves.{FrontOf, writing_of};
 ghost use Rattle.match_runs.specs.Exits.{status_of};
-ghost use Rattle.match_runs.specs.Moves.{FrontOf, writing_of};
 
 use crate::exits::Status;
 use crate::faults::RunFault;
-use crate::streams::sinks::{Sink, write_text};
+use crate::writings::write_text;
+use byte_streams::Sink;
 use cert_check::Answer;
 use match_report::write_answer;
 use std::alloc::Global;

@@ -3,14 +3,15 @@
 ghost use Rattle.std.specs.Prelude.{◌≡◌, ◌≢◌, ◌≤◌, Err, IfOk, IfErr, Ok, length};
 ghost use Rattle.match_board.specs.declared.limits.TheConstants.{MOST_ARRANGEMENTS, MOST_WORKERS};
 ghost use Rattle.match_puzzle.specs.Puzzle.{IsPuzzle};
+ghost use Rattle.byte_streams.specs.Documents.{AreShort};
+ghost use Rattle.byte_streams.specs.LentTexts.{texts_of};
 ghost use Rattle.match_text.specs.Lists.{list_of};
 ghost use Rattle.match_text.specs.Puzzles.{PuzzleReads};
 ghost use Rattle.cert_tree.specs.CertificateText.{CertificateGives, certificate_of};
 ghost use Rattle.match_runs.specs.Runs.{RunGives, Spells};
-ghost use Rattle.match_runs.specs.Sources.{AreShort, texts_of};
 
 use crate::faults::RunFault;
-use crate::streams::documents::Documents;
+use byte_streams::Documents;
 use cert_check::Question;
 use cert_tree::{CertTextFault, Certificate, read_certificate};
 use check_crew::read_certificate_with;

@@ -4,17 +4,17 @@ ghost use Rattle.std.specs.Prelude.{◌≡◌, ◌≢◌, ◌≤◌, IfOk, OnOk,
 ghost use Rattle.match_text.specs.ListSpelling.{IsListWithin};
 ghost use Rattle.match_text.specs.declared.ranges.TheConstants.{SECOND};
 ghost use Rattle.cert_check.specs.Answer.{AreArrangements};
-ghost use Rattle.match_runs.specs.Moves.{reading_of, writing_of};
+ghost use Rattle.byte_streams.specs.Moves.{reading_of, writing_of};
 ghost use Rattle.match_runs.specs.Solving.{Products, SolveGives, StopsWriting, WritesAll};
 ghost use Rattle.match_runs.specs.Solving.{first_board, products_of, report_text, shares_of};
 ghost use Rattle.match_runs.specs.Solving.{IsOfMaking, IsOfPuzzle, IsOfSolving, SolveFails};
 ghost use Rattle.match_runs.specs.Sources.{PuzzleReadToEnd, StopsReadingPuzzle};
 
-use crate::faults::{Document, RunFault};
+use crate::faults::RunFault;
 use crate::progress::SolveWatch;
-use crate::streams::readings::read_whole;
-use crate::streams::sinks::{Sink, write_text};
-use crate::streams::sources::Source;
+use crate::readings::read_whole;
+use crate::writings::write_text;
+use byte_streams::{Document, Sink, Source};
 use cert_tree::{Certificate, write_certificate};
 use command_words::{Depth, Fuel, Workers};
 use match_board::limits::{MOST_BYTES, MOST_WORKERS};

@@ -2,11 +2,13 @@
 
 ghost use Rattle.std.specs.Prelude.{◌≡◌, ◌≢◌, OnOk, IfErr, IsErrOf};
 ghost use Rattle.match_board.specs.Turns.{HasMoreLeastWords};
-ghost use Rattle.match_runs.specs.Moves.{WritesFront, WritesWhole, writing_of};
+ghost use Rattle.byte_streams.specs.Moves.{writing_of};
+ghost use Rattle.match_runs.specs.Writings.{WritesFront, WritesWhole};
 ghost use Rattle.match_runs.specs.Tiles.{IsOfTiles, TilesGive};
 
 use crate::faults::RunFault;
-use crate::streams::sinks::{Sink, write_text};
+use crate::writings::write_text;
+use byte_streams::Sink;
 use command_words::{Colours, Sides};
 use match_board::all_tiles;
 use match_board::limits::MOST_CLASSES;

@@ -1,6 +1,7 @@
 //! Checks over readers and a writer that fail, or that move little at once, and of files whose texts are known.
 
-use crate::fakes::{Fake, with_memory};
+use crate::outcomes::with_memory;
+use byte_streams::Fake;
 use command_words::{Forks, Workers};
 use match_runs::{Document, Documents, RunFault, Status, run_check, run_joined};
 use sample_puzzles::{

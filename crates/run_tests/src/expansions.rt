@@ -1,7 +1,8 @@
 //! Expansions where the system has no random bytes.
 
 use crate::checks::{TRIANGLE, TWINS};
-use crate::fakes::{Fake, with_memory};
+use crate::outcomes::with_memory;
+use byte_streams::Fake;
 use match_runs::{Documents, RunFault, Status, run_expand};
 use sample_puzzles::ALL_OF_TURNING_TRIANGLE;
 use std::alloc::{AllocError, Global};

@@ -3,7 +3,7 @@
 ghost use Rattle.std.specs.Prelude.{◌≡◌, Some};
 ghost use Rattle.run_tests.specs.HeldFiles.{held_by};
 
-use crate::fakes::Fake;
+use byte_streams::Fake;
 use match_runs::{Failed, FileSystem};
 use std::alloc::Global;
 

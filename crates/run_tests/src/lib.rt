@@ -4,15 +4,17 @@
 #[cfg(test)]
 mod checks;
 #[cfg(test)]
-mod expansions;
+mod documents;
 #[cfg(test)]
-mod fakes;
+mod expansions;
 #[cfg(test)]
 mod faults;
 #[cfg(test)]
 mod files;
 #[cfg(test)]
 mod orders;
+#[cfg(test)]
+mod outcomes;
 #[cfg(test)]
 mod solves;
 #[cfg(test)]

@@ -4,8 +4,9 @@ ghost use Rattle.std.specs.Prelude.{◌≡◌, IfOk};
 ghost use Rattle.match_runs.specs.Runs.{SpellCompleteList};
 
 use crate::checks::TWINS;
-use crate::fakes::{Fake, with_memory};
 use crate::files::HeldFiles;
+use crate::outcomes::with_memory;
+use byte_streams::Fake;
 use command_words::{Files, Forks, Order, Workers};
 use match_crew::SolveFault;
 use match_runs::{Exit, RunFault, run_order};

@@ -1,7 +1,8 @@
 //! Solves whose readers and writers fail, and runs that may want memory.
 
 use crate::checks::{NEVER, SQUARE, TRIANGLE, TWINS, check_over};
-use crate::fakes::{Fake, with_memory};
+use crate::outcomes::with_memory;
+use byte_streams::Fake;
 use command_words::{Depth, Fuel, Workers};
 use match_runs::{Document, Documents, RunFault, Status, run_expand, run_solve};
 use sample_puzzles::ALL_OF_TURNING_TRIANGLE;

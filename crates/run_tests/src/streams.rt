@@ -1,6 +1,7 @@
 //! Reading whole and writing whole.
 
-use crate::fakes::{Fake, with_memory};
+use crate::outcomes::with_memory;
+use byte_streams::Fake;
 use match_runs::{
     Document, Failed, Input, Output, RunFault, Sink, Source, read_whole, write_whole,
 };

@@ -3,9 +3,9 @@ use Rattle.std.proofs.lemmas.Result.{err_from_is_err_and}
 use Rattle.cert_check.specs.Answer.{IsAnswer, IsCompleteList}
 use Rattle.cert_check.specs.Setting.{Question, question_of}
 use Rattle.cert_check.specs.declared.faults.Answer.TheVariants.{Complete}
+use Rattle.byte_streams.specs.LentTexts.{texts_of}
 use Rattle.match_runs.specs.Runs.{checked, outcome_of}
 use Rattle.match_runs.specs.declared.printed.Printed.{Printed}
-use Rattle.match_runs.specs.Sources.{texts_of}
 use Rattle.match_runs.proofs.RunLemmas.{both, has_line}
 use Rattle.match_runs.proofs.SourceLemmas.{answer_shows, documents_fail, memory_fails}
 use Rattle.match_runs.proofs.check_runs.answer_of.Goals.{In_ok-answer}

@@ -1,11 +1,12 @@
 use Rattle.std.proofs.Common.{◌≡◌, ◌∙◌, IfOk, ap, refl, rules, subst}
 use Rattle.std.proofs.lemmas.Result.{err_from_is_err_and}
-use Rattle.match_runs.specs.Documents.{Texts, first_of, second_of, third_of, texts_in}
-use Rattle.match_runs.specs.Moves.{reading_of, writing_of}
+use Rattle.byte_streams.specs.Documents.{Texts, first_of, second_of, third_of, texts_in}
+use Rattle.byte_streams.specs.Moves.{reading_of, writing_of}
+use Rattle.byte_streams.specs.LentTexts.{texts_of}
+use Rattle.byte_streams.specs.declared.faults.Document.TheVariants as documents
 use Rattle.match_runs.specs.Runs.{ComesTo, SpellCompleteList, checked}
-use Rattle.match_runs.specs.Sources.{StopsReading, texts_of, together}
+use Rattle.match_runs.specs.Sources.{StopsReading, together}
 use Rattle.match_runs.specs.declared.exits.Status.TheVariants as status
-use Rattle.match_runs.specs.declared.faults.Document.TheVariants as documents
 use Rattle.match_runs.proofs.RunLemmas.{same_texts}
 use Rattle.match_runs.proofs.SourceLemmas.{complete_over, over, reading_kind, run_kinds, stopped_reading}
 use Rattle.match_runs.proofs.check_runs.run_joined.Goals.{After-write_answer_to}

@@ -1,8 +1,8 @@
 use Rattle.std.proofs.Common.{◌≡◌}
 use Rattle.std.proofs.lemmas.Result.{err_from_is_err_and}
-use Rattle.match_runs.specs.Moves.{writing_of}
+use Rattle.byte_streams.specs.Moves.{writing_of}
+use Rattle.byte_streams.specs.LentTexts.{texts_of}
 use Rattle.match_runs.specs.Runs.{checked}
-use Rattle.match_runs.specs.Sources.{texts_of}
 use Rattle.match_runs.proofs.SourceLemmas.{failed, failed_kind, only_write, shown_of, write_kinds, written}
 use Rattle.match_runs.proofs.check_runs.write_answer_to.Goals as goal
 

@@ -1,5 +1,5 @@
 use Rattle.std.proofs.Common.{◌≡◌, ℕ, List, IfOk, IfErr, subst}
-use Rattle.match_runs.specs.Moves.{writing_of}
+use Rattle.byte_streams.specs.Moves.{writing_of}
 use Rattle.match_runs.specs.OrderRuns.{IsDescribed, IsShown, StopsDescribing, StopsShowing}
 use Rattle.match_runs.specs.declared.description_runs.Description.TheVariants.{Symmetries}
 use Rattle.match_runs.specs.declared.exits.Exit.TheVariants.{Done}

@@ -6,8 +6,8 @@ use Rattle.cert_check.specs.Answer.{IsAnswer, Occurs, fault_rank}
 use Rattle.cert_check.specs.Setting.{Question}
 use Rattle.cert_check.specs.declared.faults.Answer.{Answer}
 use Rattle.cert_check.specs.declared.faults.Answer.TheVariants.{Complete, Refused}
+use Rattle.byte_streams.specs.LentTexts.{texts_of}
 use Rattle.match_runs.specs.Runs.{Fails, Prints, Spells, printed}
-use Rattle.match_runs.specs.Sources.{texts_of}
 use Rattle.match_runs.proofs.RunLemmas.{both}
 use Rattle.match_runs.proofs.SourceLemmas.{documents_fail, memory_fails}
 use Rattle.match_runs.proofs.printing_runs.printing_of.Goals.{In-Err}

@@ -1,9 +1,9 @@
 use Rattle.std.proofs.Common.{subst}
 use Rattle.std.proofs.lemmas.Result.{err_from_is_err_and}
-use Rattle.match_runs.specs.Documents.{Texts}
-use Rattle.match_runs.specs.Moves.{reading_of, writing_of}
+use Rattle.byte_streams.specs.Documents.{Texts}
+use Rattle.byte_streams.specs.Moves.{reading_of, writing_of}
 use Rattle.match_runs.specs.Runs.{ComesTo, printed}
-use Rattle.match_runs.specs.Sources.{apart, owned_texts}
+use Rattle.match_runs.specs.Sources.{apart}
 use Rattle.match_runs.proofs.SourceLemmas.{over, reading_kind, run_kinds, stopped_reading}
 use Rattle.match_runs.proofs.printing_runs.run_printing.Goals as goal
 
@@ -24,8 +24,8 @@ returns-clause-run g c =
     let read = c.in_ok-read.ensures in
     let wrote = c.write_printing_of in
     let output = writing_of g.W.Sink c.args.writer.now wrote.new.writer in
-    let comes = subst (λ (texts : Texts). ComesTo (λ Holds. Holds texts) (printed c.args.printing) output wrote.result) c.lend.ensures wrote.ensures.run in
-    over sources (printed c.args.printing) output (owned_texts c.in_ok-read.read) wrote.result read.given read.within wrote.ensures.fault comes
+    let comes = subst (λ (texts : Texts). ComesTo (λ Holds. Holds texts) (printed c.args.printing) output wrote.result) c.lend.ensures.texts wrote.ensures.run in
+    over sources (printed c.args.printing) output c.in_ok-read.read wrote.result read.given read.within wrote.ensures.fault comes
 
 pub returns-clause-fault : goal.returns-clause-fault
 returns-clause-fault g c = run_kinds (printed c.args.printing) c.write_printing_of.result c.write_printing_of.ensures.fault

@@ -6,13 +6,13 @@ use Rattle.match_text.specs.Lists.{list_of}
 use Rattle.cert_tree.specs.CertificateText.{CertificateGives, certificate_of}
 use Rattle.cert_tree.specs.declared.faults.CertTextFault.{CertTextFault}
 use Rattle.cert_tree.specs.declared.faults.CertTextFault.TheVariants as certificates
+use Rattle.byte_streams.specs.Documents.{Texts}
+use Rattle.byte_streams.specs.LentTexts.{texts_of}
 use Rattle.match_runs.specs.declared.faults.RunFault.{RunFault}
 use Rattle.match_runs.specs.declared.faults.RunFault.TheVariants as runs
 use Rattle.match_runs.specs.FaultText.{run_of_certificate}
 use Rattle.match_text.specs.Puzzles.{PuzzleReads}
-use Rattle.match_runs.specs.Documents.{Texts}
 use Rattle.match_runs.specs.Runs.{RunGives}
-use Rattle.match_runs.specs.Sources.{texts_of}
 use Rattle.match_runs.proofs.RunLemmas.{text_fails, lemmas_fail, certificate_said}
 use Rattle.match_runs.proofs.questions.with_certificate.Goals as goal
 

@@ -4,7 +4,7 @@ use Rattle.std.proofs.lemmas.List.{length-map}
 use Rattle.match_board.specs.Tile.{word}
 use Rattle.match_board.specs.Turns.{AreLeastWords}
 use Rattle.match_text.specs.PuzzleSpelling.{tiles_spelling}
-use Rattle.match_runs.specs.Moves.{FrontOf, writing_of}
+use Rattle.byte_streams.specs.Moves.{FrontOf, writing_of}
 use Rattle.match_runs.proofs.tile_runs.run_tiles.Goals as goal
 
 pub returns-in_err-write_text-clause-write : goal.returns-in_err-write_text-clause-write

@@ -1,9 +1,0 @@
-use Rattle.std.proofs.Common.{List, ℕ, length}
-use Rattle.match_runs.proofs.CutLemmas.{Behind}
-use Rattle.match_runs.proofs.streams.documents.document_len.Given as goal
-
-abbrev pub invariant-loop-line : goal.invariant-loop-line
-invariant-loop-line l = (front : List ℕ) × Behind l.text front l.rest l.at
-
-abbrev pub decreases-loop-line : goal.decreases-loop-line
-decreases-loop-line l = length l.rest
