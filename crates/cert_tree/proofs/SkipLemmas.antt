@@ -1,12 +1,12 @@
 -- A line that is read is the one that is gone past, whatever it says.
-use Rattle.std.proofs.Common.{◌≡◌, ℕ, zero, suc, ◌+◌, ◌-◌, ◌<◌, List, [], ◌∷◌, ◌++◌, Option, Some, None, Result, Ok, Err, true, false, inl, inr, is_err, refl, sym, ap, subst, ◌∙◌, append_assoc, arith}
+use Rattle.std.proofs.Common.{◌≡◌, ℕ, zero, suc, ◌+◌, ◌-◌, ◌<◌, List, [], ◌∷◌, ◌++◌, Some, Result, Ok, Err, true, false, inl, inr, is_err, refl, sym, ap, subst, ◌∙◌, append_assoc, arith}
 use Rattle.std.specs.List.{join_with_byte}
 use Rattle.std.proofs.lemmas.List.{append-nil}
 use Rattle.match_text.specs.declared.faults.TextFault.{TextFault}
 use Rattle.match_text.specs.declared.ranges.Ranges.{Ranges}
 use Rattle.match_text.specs.Ranges.{AreRanges}
 use Rattle.match_text.specs.Bytes.{cut_at, line_ends, words_of}
-use Rattle.match_text.specs.Place.{Place, Read, ◌>>=◌, Gives, give, line_from, next_line, skip_line, skip_lines, times}
+use Rattle.match_text.specs.Place.{Place, Read, ◌>>=◌, Gives, give, next_line, skip_line, skip_lines, times}
 use Rattle.match_text.specs.Spelling.{line_text, text_of}
 use Rattle.match_text.proofs.CutLemmas.{CutsShort, bind_ok, cuts_next_line, ok_is, place, runs_out}
 use Rattle.match_text.proofs.WordLemmas.{are_clean}

@@ -6,7 +6,6 @@ use Rattle.match_text.specs.Ranges.{ranges_of}
 use Rattle.match_text.specs.Place.{Place, Says, closing, times, value_of}
 use Rattle.cert_tree.specs.declared.parts.CutCertificate.{CutCertificate}
 use Rattle.cert_tree.specs.declared.parts.LemmaPart.{LemmaPart}
-use Rattle.cert_tree.specs.declared.readers.Beginning.{Beginning}
 use Rattle.cert_tree.specs.Certificate.{Piece}
 use Rattle.cert_tree.specs.CertificateText.{Said, certificate_of, lemma_line}
 

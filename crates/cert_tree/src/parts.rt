@@ -2,7 +2,6 @@
 
 ghost use Rattle.std.specs.Prelude.{◌≡◌, ◌+◌, ◌<◌, ◌≤◌, ◌^◌, ℕ, List, Ok, IfOk, MatchResult, length};
 ghost use Rattle.match_text.specs.Ranges.{ranges_of};
-ghost use Rattle.match_text.specs.declared.ranges.Ranges.{Ranges as RangesOf};
 ghost use Rattle.match_text.specs.Place.{Place, Fails, Says, skip_lines, times};
 ghost use Rattle.cert_tree.specs.CertificateText.{CertificateGives, certificate_of, lemma_line};
 ghost use Rattle.cert_tree.specs.Lines.{said_of};

@@ -14,7 +14,7 @@ mod shared;
 mod solves;
 mod watches;
 
-pub use check_crew::{Gate, Open, check_with};
+pub use check_crew::{Gate, Open, check_with, read_certificate_with};
 pub use faults::SolveFault;
 pub use solves::{Solved, solve_watched, solve_with};
 pub use watches::{Unwatched, Watch};

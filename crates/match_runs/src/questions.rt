@@ -14,7 +14,7 @@ use crate::faults::RunFault;
 use byte_streams::Documents;
 use cert_check::Question;
 use cert_tree::{CertTextFault, Certificate, read_certificate};
-use check_crew::read_certificate_with;
+use match_crew::read_certificate_with;
 use match_puzzle::{Arrangement, Puzzle};
 use match_text::{read_list, read_puzzle};
 use std::alloc::Global;

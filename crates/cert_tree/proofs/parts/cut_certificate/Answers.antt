@@ -1,4 +1,4 @@
-use Rattle.std.proofs.Common.{◌≡◌, ◌∙◌, ap, subst, sym}
+use Rattle.std.proofs.Common.{◌∙◌, ap, subst, sym}
 use Rattle.std.proofs.lemmas.Result.{err_from_is_err_and}
 use Rattle.match_text.specs.Place.{Fails, Place}
 use Rattle.cert_tree.specs.declared.parts.CutCertificate.{CutCertificate}

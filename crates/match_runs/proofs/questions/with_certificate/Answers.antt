@@ -24,12 +24,12 @@ certificate_fails ts certificates.Memory fault p listed reads lists gives is ne 
 pub returns-in_err-certificate-clause-fault : goal.returns-in_err-certificate-clause-fault
 returns-in_err-certificate-clause-fault c =
     let r = err_from_is_err_and c.from_residual.result c.from_residual.ensures.1 in
-    let gives = subst (λ x. CertificateGives x (certificate_of (texts_of c.args._documents.now).certificate)) c.in_err-certificate.is c.requires.certificate in
+    let gives = subst (λ x. CertificateGives x (certificate_of (texts_of c.args._documents.now).certificate)) c.in_err-certificate.was c.requires.certificate in
     rw (r.1) (λ ne. certificate_fails (texts_of c.args._documents.now) c.in_err-certificate.field-0.0 r.0 c.args.puzzle _ c.requires.puzzle c.requires.listed gives r.2 ne)
 
 pub returns-clause-question : goal.returns-clause-question
 returns-clause-question c =
-    let gives = subst (λ x. CertificateGives x (certificate_of (texts_of c.args._documents.now).certificate)) c.in_ok-certificate.is c.requires.certificate in
+    let gives = subst (λ x. CertificateGives x (certificate_of (texts_of c.args._documents.now).certificate)) c.in_ok-certificate.was c.requires.certificate in
     let made = certificate_said c.in_ok-certificate.certificate (certificate_of (texts_of c.args._documents.now).certificate) gives in
     record {
       puzzle_read = c.requires.puzzle;

@@ -1,11 +1,11 @@
-use Rattle.std.proofs.Common.{◌≡◌, ◌∙◌, ◌+◌, ◌++◌, ◌<◌, ◌^◌, All, List, length, map, vec_len, ap, arith, subst, sym}
+use Rattle.std.proofs.Common.{◌≡◌, ◌∙◌, ◌+◌, ◌++◌, All, List, length, map, vec_len, ap, arith, subst, sym}
 use Rattle.match_puzzle.specs.declared.placements.Pair.{Pair}
 use Rattle.cert_tree.specs.declared.heads.Head.{Head}
 use Rattle.cert_tree.specs.declared.flat_lemmas.LemmaSpan.{LemmaSpan}
 use Rattle.cert_tree.specs.Certificate.{Piece}
 use Rattle.cert_tree.specs.Spans.{CanMove, moved_by, piece_in}
 use Rattle.cert_tree.proofs.SpanLemmas.{can_move, with_pieces, with_spans}
-use Rattle.cert_tree.proofs.flat_lemmas.Lemmas.with.Goals.{In_ok-extend_from_slice-2, In_ok-put_moved}
+use Rattle.cert_tree.proofs.flat_lemmas.Lemmas.with.Goals.{In_ok-put_moved}
 use Rattle.cert_tree.proofs.flat_lemmas.Lemmas.with.Goals as goal
 
 pub put_moved-requires : goal.put_moved-requires
