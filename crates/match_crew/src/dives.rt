@@ -73,7 +73,7 @@ impl Dives {
         engine: &mut E,
         pairs: &[Pair],
         citable: &Citable<'_>,
-        dives: u32,
+        dives: u64,
     ) -> Result<u64, AllocError>
         ensures { engine.new ≡ engine.old }
     {
@@ -96,7 +96,7 @@ impl Dives {
         &mut self,
         engine: &mut E,
         citable: &Citable<'_>,
-        dives: u32,
+        dives: u64,
     ) -> Result<u64, AllocError>
         ensures { engine.new ≡ engine.old }
     {
@@ -105,7 +105,7 @@ impl Dives {
             let nodes = self.dive(engine, citable, self.levels)?;
             sum = sum.saturating_add(nodes);
         }
-        Ok(sum / u64::from(dives).max(1))
+        Ok(sum / dives.max(1))
     }
 
     // One dive, of at most so many levels.

@@ -12,7 +12,7 @@ use std::alloc::AllocError;
 use xcc_dance::OpenSets;
 
 // How many dives tell whether another item is looked for.
-const FIRST_DIVES: u32 = 512;
+const FIRST_DIVES: u64 = 512;
 
 // With fewer nodes none is looked for.
 const FEW_NODES: u64 = 10_000;
@@ -20,18 +20,18 @@ const FEW_NODES: u64 = 10_000;
 // With more nodes than that so many times as many dives are made, up to the most.
 const NODES_OF_ONE_TIME: u64 = 1 << 20;
 
-const MOST_TIMES: u32 = 16;
+const MOST_TIMES: u64 = 16;
 
 // How many dives there are for each item at first.
-const ITEM_DIVES: u32 = 32;
+const ITEM_DIVES: u64 = 32;
 
 // For so few items whole plans are made, with so many dives for each.
 const FINALISTS: usize = 4;
 
-const PLAN_DIVES: u32 = 512;
+const PLAN_DIVES: u64 = 512;
 
 // How many dives there are for the best of them, and for the plan that it is to replace.
-const LAST_DIVES: u32 = 2_048;
+const LAST_DIVES: u64 = 2_048;
 
 // Halving so often leaves few of any items.
 const MOST_ROUNDS: u8 = 8;
@@ -50,7 +50,7 @@ struct Comparison<'a> {
     engine: OpenSets<'a>,
     dives: Dives,
     // how many times as many dives are made
-    times: u32,
+    times: u64,
 }
 
 impl<'a> Comparison<'a> {
@@ -62,8 +62,8 @@ impl<'a> Comparison<'a> {
     }
 
     // How many nodes the lemmas of a plan have together, by about so many dives.
-    fn guess(&mut self, plan: &Plan, dives: u32) -> Result<u64, AllocError> {
-        let lemmas = (plan.prefixes.len() as u32).max(1);
+    fn guess(&mut self, plan: &Plan, dives: u64) -> Result<u64, AllocError> {
+        let lemmas = (plan.prefixes.len() as u64).max(1);
         let each = (dives.saturating_mul(self.times) / lemmas).max(1);
         let mut nodes = self.guess_at_root(plan, each)?;
         let mut lemma: u32 = 0;
@@ -79,7 +79,7 @@ impl<'a> Comparison<'a> {
     }
 
     // How many nodes the lemma of the root has, with so many dives below each child that no other lemma stands for.
-    fn guess_at_root(&mut self, plan: &Plan, dives: u32) -> Result<u64, AllocError> {
+    fn guess_at_root(&mut self, plan: &Plan, dives: u64) -> Result<u64, AllocError> {
         let mut planner = self.planner;
         planner.item_rule = plan.item_rule;
         let citable = Citable::above(&plan.images, 0, &[]);
@@ -144,7 +144,7 @@ impl<'a> Comparison<'a> {
     }
 
     // The better half of these items, by plans of one level and about so many dives for each.
-    fn better_half(&mut self, items: &[u32], dives: u32) -> Result<Vec<u32>, AllocError> {
+    fn better_half(&mut self, items: &[u32], dives: u64) -> Result<Vec<u32>, AllocError> {
         let mut guesses = Vec::new(self.planner.alloc);
         for item in items {
             let plan = self.planner_by(*item).plan(1)?;
@@ -209,7 +209,7 @@ pub fn plan_by_dives(planner: Planner<'_>, depth: u8) -> Result<Plan, AllocError
     if nodes < FEW_NODES {
         return Ok(plan);
     }
-    comparison.times = (nodes / NODES_OF_ONE_TIME).clamp(1, u64::from(MOST_TIMES)) as u32;
+    comparison.times = (nodes / NODES_OF_ONE_TIME).max(1).min(MOST_TIMES);
     let items = comparison.other_items(item)?;
     let few = comparison.few_of(items)?;
     let Some(other) = comparison.best_plan(&few, depth)? else {
