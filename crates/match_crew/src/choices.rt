@@ -43,11 +43,7 @@ impl<'a, 'h, W: Watch> Choices<'a, 'h, W> {
         ensures { IfSome result IsCiteWithin }
     {
         let images = &self.shared.plan.images;
-        if self.holds {
-            images.cite_any(placed, self.number)
-        } else {
-            images.cite(placed, self.number)
-        }
+        images.cite_child(placed, self.number, self.holds)
     }
 
     // Gives the branch away, and answers what stands for it then.

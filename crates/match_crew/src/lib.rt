@@ -4,11 +4,13 @@
 
 mod branches;
 mod choices;
+mod dives;
 mod faults;
 mod images;
 mod items;
 mod orbits;
 mod plans;
+mod roots;
 mod searches;
 mod shared;
 mod solves;

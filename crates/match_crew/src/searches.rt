@@ -70,7 +70,12 @@ impl<'a, T: Wait, W: Watch> Searches<'a, T, W> {
         }
         let engine = OpenSets::new(shared.alloc, self.xcc)?;
         let mut search = SearchOver::over(shared.alloc, engine)?;
-        match search.run_by(pairs, shared.fuel.min(MOST_FUEL), &shared.item_rule, cites) {
+        match search.run_by(
+            pairs,
+            shared.fuel.min(MOST_FUEL),
+            &shared.plan.item_rule,
+            cites,
+        ) {
             Ok(Outcome::Done { tree, found }) => Ok(Some(Finished { tree, found })),
             Ok(Outcome::GaveUp) => Ok(None),
             // it did not run before

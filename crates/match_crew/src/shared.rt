@@ -1,6 +1,5 @@
 //! What all jobs share.
 
-use crate::items::ItemRule;
 use crate::plans::Plan;
 use std::alloc::Global;
 use std::sync::atomic::{AtomicU64, Ordering};
@@ -10,7 +9,6 @@ use std::sync::atomic::{AtomicU64, Ordering};
 pub struct Shared<'a> {
     pub alloc: Global,
     pub plan: &'a Plan,
-    pub item_rule: ItemRule,
     pub fuel: u32,
     pub workers: u8,
     // how many jobs were given away and not begun; nothing rests on it

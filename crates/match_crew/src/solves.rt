@@ -15,7 +15,8 @@ ghost use Rattle.match_crew.specs.Solving.{IsOutcomeOf, IsSearchedBy, IsSolvedBy
 use crate::branches::OpenBranch;
 use crate::faults::SolveFault;
 use crate::items::ItemRule;
-use crate::plans::Plan;
+use crate::plans::Planner;
+use crate::roots::plan_by_dives;
 use crate::searches::{Searched, Searches};
 use crate::shared::Shared;
 use crate::watches::{Unwatched, Watch};
@@ -250,12 +251,17 @@ pub fn solve_watched<R: Threads + Wait + Sync, W: Watch + Sync>(
     } else {
         ItemRule::least(alloc, &xcc, &symmetries)?
     };
-    let plan = Plan::new(alloc, &xcc, &symmetries, item_rule, depth)?;
+    let planner = Planner {
+        alloc,
+        xcc: &xcc,
+        symmetries: &symmetries,
+        item_rule,
+    };
+    let plan = plan_by_dives(planner, depth)?;
     let desk = Desk::new(alloc)?;
     let shared = Shared {
         alloc,
         plan: &plan,
-        item_rule,
         fuel,
         workers,
         waiting: AtomicU64::new(0),

@@ -1,0 +1,175 @@
+//! Guesses of how many nodes a search has, by dives (D. E. Knuth, Estimating the efficiency of backtrack programs,
+//! 1975). A dive goes from a node to a leaf, and takes a child at random at each node. Where all children had as much
+//! below them as the one that is taken, a node had one node more than it has children times as many as that child. The
+//! mean of many dives comes near to how many there are.
+
+ghost use Rattle.std.specs.Prelude.{◌≡◌, IfSome};
+ghost use Rattle.xcc_form.specs.Options.{cover_of};
+ghost use Rattle.xcc_dance.specs.Chosen.{IsUncovered};
+ghost use Rattle.xcc_dance.specs.Clashes.{IsOpen, IsOpenAt};
+
+use crate::images::PrefixImages;
+use crate::items::uncovered_item;
+use match_puzzle::Pair;
+use rand_core::{Rng, SeedableRng};
+use rand_xoshiro::Xoshiro256PlusPlus;
+use std::alloc::{AllocError, Global};
+use xcc_dance::OpenOptions;
+
+// What the random numbers begin with. It is always the same, so that a solve can be repeated.
+const SEED: u64 = 1975;
+
+// The lemmas that a search may cite: those numbered above its own.
+#[derive(Clone, Copy)]
+pub struct Citable<'a> {
+    images: &'a PrefixImages,
+    number: u32,
+    // whether the prefix of its own lemma holds an image of such a lemma, so that each node does
+    prefix_holds: bool,
+}
+
+impl<'a> Citable<'a> {
+    // Those above the lemma with this number and this prefix.
+    pub fn above(images: &'a PrefixImages, number: u32, prefix: &[Pair]) -> Citable<'a> {
+        Citable {
+            images,
+            number,
+            prefix_holds: images.cite_any(prefix, number).is_some(),
+        }
+    }
+
+    // Whether one stands for the child at which these pairs are placed.
+    fn has_one_for(&self, placed: &[Pair]) -> bool {
+        let cite = self
+            .images
+            .cite_child(placed, self.number, self.prefix_holds);
+        cite.is_some()
+    }
+}
+
+// What dives are made with.
+#[derive(Drop)]
+pub struct Dives {
+    random: Xoshiro256PlusPlus,
+    // what is placed, in the order of placing
+    placed: Vec<Pair>,
+    // the most levels that a tree has
+    levels: u16,
+}
+
+impl Dives {
+    // Dives for a puzzle of so many cells.
+    pub fn new(alloc: Global, cells: u16) -> Dives {
+        Dives {
+            random: Xoshiro256PlusPlus::seed_from_u64(SEED),
+            placed: Vec::new(alloc),
+            levels: cells,
+        }
+    }
+
+    // How many nodes there are below these pairs, by so many dives; none where one of them doesn't fit.
+    pub fn nodes_below<E: OpenOptions>(
+        &mut self,
+        engine: &mut E,
+        pairs: &[Pair],
+        citable: &Citable<'_>,
+        dives: u64,
+    ) -> Result<u64, AllocError>
+        ensures { engine.new ≡ engine.old }
+    {
+        let Some((pair, others)) = pairs.split_first() else {
+            return self.mean(engine, citable, dives);
+        };
+        let Some(option) = open_option(engine, *pair) else {
+            return Ok(0);
+        };
+        self.placed.push(*pair)?;
+        engine.choose(option)?;
+        let nodes = self.nodes_below(engine, others, citable, dives);
+        engine.undo();
+        self.placed.pop();
+        nodes
+    }
+
+    // The mean of so many dives from where the engine is.
+    fn mean<E: OpenOptions>(
+        &mut self,
+        engine: &mut E,
+        citable: &Citable<'_>,
+        dives: u64,
+    ) -> Result<u64, AllocError>
+        ensures { engine.new ≡ engine.old }
+    {
+        let mut sum: u64 = 0;
+        for _ in 0..dives {
+            let nodes = self.dive(engine, citable, self.levels)?;
+            sum = sum.saturating_add(nodes);
+        }
+        Ok(sum / dives.max(1))
+    }
+
+    // One dive, of at most so many levels.
+    fn dive<E: OpenOptions>(
+        &mut self,
+        engine: &mut E,
+        citable: &Citable<'_>,
+        levels: u16,
+    ) -> Result<u64, AllocError>
+        ensures { engine.new ≡ engine.old }
+    {
+        let Some(item) = engine.branch_item() else {
+            return Ok(1);
+        };
+        let children = engine.size(item);
+        if children == 0 || levels == 0 {
+            return Ok(1);
+        }
+        let Some(option) = option_behind(engine, item, self.random.next_u32() % children) else {
+            return Ok(1);
+        };
+        self.placed.push(engine.xcc().pair(option))?;
+        let below = if citable.has_one_for(&self.placed) {
+            1
+        } else {
+            engine.choose(option)?;
+            let nodes = self.dive(engine, citable, levels - 1);
+            engine.undo();
+            nodes?
+        };
+        self.placed.pop();
+        Ok(below.saturating_mul(u64::from(children)).saturating_add(1))
+    }
+}
+
+// The open option of an item that has so many before it, if there is one.
+fn option_behind<E: OpenOptions>(engine: &E, item: u32, before: u32) -> Option<u32>
+    requires { let s = E.selection engine.now in IsUncovered (cover_of s.compiled) s.chosen item }
+    ensures { let s = E.selection engine.now in IfSome result (IsOpenAt (cover_of s.compiled) s.chosen item) }
+{
+    let mut left = before;
+    let mut next = engine.next_option(item, None);
+    while let Some(option) = next {
+        if left == 0 {
+            return Some(option);
+        }
+        left -= 1;
+        next = engine.next_option(item, Some(option));
+    }
+    None
+}
+
+// The option of this pair, if it is open.
+fn open_option<E: OpenOptions>(engine: &E, pair: Pair) -> Option<u32>
+    ensures { let s = E.selection engine.now in IfSome result (IsOpen (cover_of s.compiled) s.chosen) }
+{
+    let item = uncovered_item(engine, u32::from(pair.cell))?;
+    let wanted = engine.xcc().option_of(pair)?;
+    let mut next = engine.next_option(item, None);
+    while let Some(option) = next {
+        if option == wanted {
+            return Some(option);
+        }
+        next = engine.next_option(item, Some(option));
+    }
+    None
+}
