@@ -9,7 +9,7 @@ use crate::items::ItemRule;
 use crate::plans::{Plan, Planner};
 use match_puzzle::Pair;
 use std::alloc::AllocError;
-use xcc_dance::OpenSets;
+use xcc_dance::{OpenOptions, OpenSets};
 
 // How many dives tell whether another item is looked for.
 const FIRST_DIVES: u64 = 512;
