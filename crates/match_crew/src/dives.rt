@@ -55,6 +55,9 @@ pub struct Dives {
     placed: Vec<Pair>,
     // the most levels that a tree has
     levels: u16,
+    // how many dives were made, and how many options were chosen on them; at first a guess
+    made: u64,
+    choices: u64,
 }
 
 impl Dives {
@@ -64,7 +67,16 @@ impl Dives {
             random: Xoshiro256PlusPlus::seed_from_u64(SEED),
             placed: Vec::new(alloc),
             levels: cells,
+            made: 1,
+            choices: u64::from(cells) / 2,
         }
+    }
+
+    // How many dives below each of so many lemmas go with about so many choices, by what the dives so far took.
+    pub fn each_of(&self, lemmas: u64, choices: u64) -> u64 {
+        let dives = choices.saturating_mul(self.made);
+        let for_one = self.choices.max(1).saturating_mul(lemmas.max(1));
+        (dives / for_one.max(1)).max(1)
     }
 
     // How many nodes there are below these pairs, by so many dives; none where one of them doesn't fit.
@@ -100,6 +112,7 @@ impl Dives {
     ) -> Result<u64, AllocError>
         ensures { engine.new ≡ engine.old }
     {
+        self.made = self.made.saturating_add(dives);
         let mut sum: u64 = 0;
         for _ in 0..dives {
             let nodes = self.dive(engine, citable, self.levels)?;
@@ -132,6 +145,7 @@ impl Dives {
             1
         } else {
             engine.choose(option)?;
+            self.choices = self.choices.saturating_add(1);
             let nodes = self.dive(engine, citable, levels - 1);
             engine.undo();
             nodes?

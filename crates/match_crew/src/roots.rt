@@ -6,40 +6,44 @@ ghost use Rattle.xcc_dance.specs.Chosen.{IsUncovered};
 use crate::dives::{Citable, Dives};
 use crate::images::image_of_pair;
 use crate::items::ItemRule;
+use crate::orbits::Orbits;
 use crate::plans::{Plan, Planner};
 use match_puzzle::Pair;
-use std::alloc::AllocError;
+use std::alloc::{AllocError, Global};
 use xcc_dance::{OpenOptions, OpenSets};
 
-// How many dives tell whether another item is looked for.
-const FIRST_DIVES: u64 = 512;
+// So many choices tell whether another item is looked for.
+const FIRST_CHOICES: u64 = 4_096;
 
 // With fewer nodes none is looked for.
 const FEW_NODES: u64 = 10_000;
 
-// With more nodes than that so many times as many dives are made, up to the most.
+// With more nodes than that so many times as many choices are made, up to the most.
 const NODES_OF_ONE_TIME: u64 = 1 << 20;
 
 const MOST_TIMES: u64 = 16;
 
-// How many dives there are for each item at first.
-const ITEM_DIVES: u64 = 32;
+// The most items that are compared.
+const MOST_ITEMS: usize = 24;
 
-// For so few items whole plans are made, with so many dives for each.
+// How many choices are made for each item at first.
+const ITEM_CHOICES: u64 = 256;
+
+// For so few items whole plans are made, with so many choices for each.
 const FINALISTS: usize = 4;
 
-const PLAN_DIVES: u64 = 512;
+const PLAN_CHOICES: u64 = 4_096;
 
-// How many dives there are for the best of them, and for the plan that it is to replace.
-const LAST_DIVES: u64 = 2_048;
+// How many choices are made for the best of them, and for the plan that it is to replace.
+const LAST_CHOICES: u64 = 16_384;
 
-// Halving so often leaves few of any items.
-const MOST_ROUNDS: u8 = 8;
+// Halving so often leaves few of the most items.
+const MOST_ROUNDS: u8 = 4;
 
-// An item, and how many nodes there are guessed to be where it is taken at the root.
+// An item, and what it is ranked by: less is better.
 #[derive(Clone, Copy)]
-struct ItemGuess {
-    nodes: u64,
+struct Ranked {
+    by: u64,
     item: u32,
 }
 
@@ -49,7 +53,7 @@ struct Comparison<'a> {
     planner: Planner<'a>,
     engine: OpenSets<'a>,
     dives: Dives,
-    // how many times as many dives are made
+    // how many times as many choices are made
     times: u64,
 }
 
@@ -61,10 +65,10 @@ impl<'a> Comparison<'a> {
         planner
     }
 
-    // How many nodes the lemmas of a plan have together, by about so many dives.
-    fn guess(&mut self, plan: &Plan, dives: u64) -> Result<u64, AllocError> {
-        let lemmas = (plan.prefixes.len() as u64).max(1);
-        let each = (dives.saturating_mul(self.times) / lemmas).max(1);
+    // How many nodes the lemmas of a plan have together, by dives with about so many choices.
+    fn guess(&mut self, plan: &Plan, choices: u64) -> Result<u64, AllocError> {
+        let choices = choices.saturating_mul(self.times);
+        let each = self.dives.each_of(plan.prefixes.len() as u64, choices);
         let mut nodes = self.guess_at_root(plan, each)?;
         let mut lemma: u32 = 0;
         for prefix in &plan.prefixes {
@@ -96,17 +100,35 @@ impl<'a> Comparison<'a> {
         Ok(nodes)
     }
 
-    // The items that may be taken in place of this one, and of those that symmetries take to each other the least.
-    fn other_items(&self, than: u32) -> Result<Vec<u32>, AllocError> {
-        let mut items = Vec::new(self.planner.alloc);
+    // The items that may be taken in place of this one, as many as are compared: those with the fewest options, where
+    // options that are images of each other count once. Of items that symmetries take to each other it is the least.
+    fn other_items(&self, than: u32, orbits: &mut Orbits) -> Result<Vec<u32>, AllocError> {
+        let mut ranked = Vec::new(self.planner.alloc);
         let mut next = self.engine.next_item(None);
         while let Some(item) = next {
             if item != than && self.is_least(item) {
-                items.push(item)?;
+                let by = self.orbits_of(item, orbits);
+                ranked.push(Ranked { by, item })?;
             }
             next = self.engine.next_item(Some(item));
         }
-        Ok(items)
+        best_of(self.planner.alloc, ranked, MOST_ITEMS)
+    }
+
+    // How many options an item has that are no images of each other.
+    fn orbits_of(&self, item: u32, orbits: &mut Orbits) -> u64
+        requires { IsUncovered (cover_of self.now.engine.compiled) self.now.engine.chosen item }
+    {
+        orbits.start();
+        let mut count: u64 = 0;
+        let mut next = self.engine.next_option(item, None);
+        while let Some(option) = next {
+            if orbits.meet(option) {
+                count = count.saturating_add(1);
+            }
+            next = self.engine.next_option(item, Some(option));
+        }
+        count
     }
 
     // Whether no symmetry takes the item to a lesser one. It looks where the first open option goes.
@@ -132,32 +154,26 @@ impl<'a> Comparison<'a> {
     // The few of these items for which plans of one level are guessed to have least.
     fn few_of(&mut self, items: Vec<u32>) -> Result<Vec<u32>, AllocError> {
         let mut few = items;
-        let mut dives = ITEM_DIVES;
+        let mut choices = ITEM_CHOICES;
         for _ in 0..MOST_ROUNDS {
             if few.len() <= FINALISTS {
                 return Ok(few);
             }
-            few = self.better_half(&few, dives)?;
-            dives = dives.saturating_mul(2);
+            few = self.better_half(&few, choices)?;
+            choices = choices.saturating_mul(2);
         }
         Ok(few)
     }
 
-    // The better half of these items, by plans of one level and about so many dives for each.
-    fn better_half(&mut self, items: &[u32], dives: u64) -> Result<Vec<u32>, AllocError> {
-        let mut guesses = Vec::new(self.planner.alloc);
+    // The better half of these items, by plans of one level and about so many choices for each.
+    fn better_half(&mut self, items: &[u32], choices: u64) -> Result<Vec<u32>, AllocError> {
+        let mut ranked = Vec::new(self.planner.alloc);
         for item in items {
             let plan = self.planner_by(*item).plan(1)?;
-            let nodes = self.guess(&plan, dives)?;
-            guesses.push(ItemGuess { nodes, item: *item })?;
+            let by = self.guess(&plan, choices)?;
+            ranked.push(Ranked { by, item: *item })?;
         }
-        guesses.sort_unstable_by_key(|guess| (guess.nodes, guess.item));
-        guesses.truncate((items.len() / 2).max(FINALISTS));
-        let mut better = Vec::new(self.planner.alloc);
-        for guess in &guesses {
-            better.push(guess.item)?;
-        }
-        Ok(better)
+        best_of(self.planner.alloc, ranked, (items.len() / 2).max(FINALISTS))
     }
 
     // The plan by the item of these whose plan is guessed to have least.
@@ -166,7 +182,7 @@ impl<'a> Comparison<'a> {
         let mut least = u64::MAX;
         for item in items {
             let plan = self.planner_by(*item).plan(depth)?;
-            let nodes = self.guess(&plan, PLAN_DIVES)?;
+            let nodes = self.guess(&plan, PLAN_CHOICES)?;
             if nodes < least {
                 least = nodes;
                 best = Some(plan);
@@ -177,10 +193,22 @@ impl<'a> Comparison<'a> {
 
     // Whether a plan is guessed to have less than two thirds of another's nodes.
     fn is_much_less(&mut self, plan: &Plan, than: &Plan) -> Result<bool, AllocError> {
-        let most = self.guess(than, LAST_DIVES)?;
-        let nodes = self.guess(plan, LAST_DIVES)?;
+        let most = self.guess(than, LAST_CHOICES)?;
+        let nodes = self.guess(plan, LAST_CHOICES)?;
         Ok(nodes.saturating_mul(3) < most.saturating_mul(2))
     }
+}
+
+// The best of these items, so many at most; of two that are as good the lesser one first.
+fn best_of(alloc: Global, ranked: Vec<Ranked>, most: usize) -> Result<Vec<u32>, AllocError> {
+    let mut ranked = ranked;
+    ranked.sort_unstable_by_key(|ranked| (ranked.by, ranked.item));
+    ranked.truncate(most);
+    let mut items = Vec::new(alloc);
+    for ranked in &ranked {
+        items.push(ranked.item)?;
+    }
+    Ok(items)
 }
 
 // Whether the image of a pair has a lesser cell, or else a lesser tile.
@@ -205,12 +233,13 @@ pub fn plan_by_dives(planner: Planner<'_>, depth: u8) -> Result<Plan, AllocError
         dives: Dives::new(planner.alloc, planner.xcc.cells()),
         times: 1,
     };
-    let nodes = comparison.guess(&plan, FIRST_DIVES)?;
+    let nodes = comparison.guess(&plan, FIRST_CHOICES)?;
     if nodes < FEW_NODES {
         return Ok(plan);
     }
     comparison.times = (nodes / NODES_OF_ONE_TIME).max(1).min(MOST_TIMES);
-    let items = comparison.other_items(item)?;
+    let mut orbits = Orbits::new(planner.alloc, planner.xcc, planner.symmetries)?;
+    let items = comparison.other_items(item, &mut orbits)?;
     let few = comparison.few_of(items)?;
     let Some(other) = comparison.best_plan(&few, depth)? else {
         return Ok(plan);
