@@ -1,5 +1,6 @@
 use Rattle.std.proofs.Common.{Err, List, ℕ, ap, inl, inr, refl, subst}
 use Rattle.std.proofs.lemmas.Result.{err_from_is_err_and}
+use Rattle.byte_streams.specs.Moves.{writing_of}
 use Rattle.match_runs.specs.Files.{LeavesAll}
 use Rattle.match_runs.specs.Solving.{IsOfPuzzle}
 use Rattle.match_runs.proofs.OrderLemmas.{holds_text, stops_reporting}
@@ -9,9 +10,13 @@ pub returns-in-Err-clause-stops : goal.returns-in-Err-clause-stops
 returns-in-Err-clause-stops g c =
     let failed = c.in-Err.ensures in
     let holds = g.S.FileSystem.holds c.args.system.now in
-    let leaves = subst (λ (name : List ℕ). LeavesAll (holds name) (g.S.Reader.Source.left c.in_ok-puzzle.puzzle)) c.deref.ensures c.in_ok-puzzle.ensures.left in (
+    let leaves = subst (λ (name : List ℕ). LeavesAll (holds name) (g.S.Reader.Source.left c.in_ok-puzzle.puzzle)) c.deref.ensures c.in_ok-puzzle.ensures.left in
+    let new = c.run_solve_watched-solved.new in
+    let list = writing_of g.S.Writer.Sink c.in_ok-list.list new.list in
+    let certificate = writing_of g.S.Writer.Sink c.in_ok-list.certificate new.certificate in
+    let output = writing_of g.W.Sink c.args.output.now new.writer in (
       (λ is. let t = failed.puzzle is in (t.0, holds_text _ _ _ _ _ leaves t.1, t.2)),
-      (λ is. let t = failed.write (ap Err is) in inl (stops_reporting _ _ _ _ _ t.0 t.2.0 (holds_text _ _ _ _ _ leaves t.1) t.2.1 t.2.2)),
+      (λ is. let t = failed.write (ap Err is) in inl (stops_reporting list certificate output _ _ t.0 t.2.0 (holds_text _ _ _ _ _ leaves t.1) t.2.1 t.2.2)),
     )
 
 pub put-requires-clause-certificate : goal.put-requires-clause-certificate
