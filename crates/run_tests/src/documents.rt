@@ -96,7 +96,11 @@ fn reads_other_documents(rt: HostRuntime) -> Result<(), Fail> {
 fn writes_three_texts_in_order(rt: HostRuntime) -> Result<(), Fail> {
     let alloc = rt.alloc();
     for (fails_after, is_done, fronts) in [
-        ([MAX, MAX, MAX], true, [b"list".as_slice(), b"shown", b"told"]),
+        (
+            [MAX, MAX, MAX],
+            true,
+            [b"list".as_slice(), b"shown", b"told"],
+        ),
         ([3, MAX, MAX], false, [b"lis".as_slice(), b"", b""]),
         ([MAX, 0, MAX], false, [b"list".as_slice(), b"", b""]),
         ([MAX, MAX, 2], false, [b"list".as_slice(), b"shown", b"to"]),
