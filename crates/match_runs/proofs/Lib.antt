@@ -1,7 +1,7 @@
-pub mod SourceLemmas
+mod DescribingLemmas
 pub mod OrderLemmas
 pub mod RepetitionLemmas
 pub mod RunLemmas
+pub mod RunningLemmas
 pub mod SolvingLemmas
 mod WordLemmas
-mod DescribingLemmas

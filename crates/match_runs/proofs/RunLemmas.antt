@@ -26,22 +26,24 @@ use Rattle.cert_check.specs.Answer.{AreSymmetries, IsAnswer, IsCompleteList}
 use Rattle.cert_check.proofs.CheckLemmas.{are_of_puzzle, lines_of}
 use Rattle.cert_check.proofs.ListLemmas.{contains_at, contains_none, mapped_at, place_of}
 use Rattle.cert_check.specs.declared.faults.Answer.{Answer}
-use Rattle.cert_check.specs.declared.faults.Answer.TheVariants.{Refused}
+use Rattle.cert_check.specs.declared.faults.Answer.TheVariants.{Complete, Refused}
 use Rattle.cert_check.specs.declared.faults.Fault.TheVariants as checks
 use Rattle.symmetry_orbits.specs.Closure.{AddsEach}
 use Rattle.symmetry_orbits.proofs.ClosureLemmas.{each_only}
 use Rattle.symmetry_orbits.proofs.ExpansionLemmas.{has_what_is_reached}
-use Rattle.byte_streams.specs.Documents.{first_of, second_of, third_of, texts_in}
-use Rattle.byte_streams.specs.LentTexts.{texts_of}
-use Rattle.byte_streams.specs.declared.documents.Documents.{Documents}
 use Rattle.match_runs.proofs.RepetitionLemmas.{more_are_reached}
 use Rattle.match_report.specs.AnswerText.{HasLine, HasWords}
 use Rattle.symmetry_orbits.specs.declared.expansions.ExpandFault.{ExpandFault}
 use Rattle.symmetry_orbits.specs.declared.expansions.ExpandFault.TheVariants as expansions
 use Rattle.symmetry_orbits.specs.Expansion.{AreMoreReached, AreOf, IsExpansion, HasWhatIsReached}
-use Rattle.match_runs.specs.declared.faults.RunFault.TheVariants as runs
 use Rattle.match_runs.specs.FaultText.{run_of_expand}
-use Rattle.match_runs.specs.Runs.{AreAllInOrder}
+use Rattle.byte_streams.specs.Documents.{Texts}
+use Rattle.match_runs.specs.Checking.{CheckFails, Spells}
+use Rattle.match_runs.specs.Printing.{AreAllInOrder, AreTooMany, CompleteFails, PrintingFails}
+use Rattle.match_runs.specs.Runs.{IsOfTexts}
+use Rattle.match_runs.specs.declared.faults.RunFault.{RunFault}
+use Rattle.match_runs.specs.declared.faults.RunFault.TheVariants as runs
+use Rattle.match_runs.specs.declared.printing_runs.Printing.{Printing}
 
 -- where a certificate is given, the text says what it is made of
 pub certificate_said : (c : Contents) (outcome : Result Said TextFault) → CertificateGives (Ok c) outcome → (said : Said) × (outcome ≡ Ok said) × Makes said (Ok c)
@@ -69,10 +71,32 @@ pub has_line : (question : Question) (answer : Answer) → IsPuzzle question.puz
 has_line question (Refused (checks.Symmetry number fault)) puzzle is = has_words question.puzzle is.occurs.0 puzzle fault is.occurs.2.occurs
 has_line question _ puzzle is = tt
 
--- what follows where two things hold of an Ok
-pub both : {T E : Type 0} {P Q R : T → Type 0} (result : Result T E) → ((x : T) → P x → Q x → R x) → IfOk result P → IfOk result Q → IfOk result R
-both (Ok x) follows p q = follows x p q
-both (Err e) follows p q = tt
+-- ---- faults
+
+-- a fault that a check has of documents is none of reading, and none of writing
+pub check_kind : (texts : Texts) (fault : RunFault) → CheckFails texts fault → IsOfTexts fault
+check_kind texts (runs.Read of) fails = fails
+check_kind texts (runs.TooLong of) fails = fails
+check_kind texts runs.Write fails = fails
+check_kind texts _ fails = tt
+
+-- and no more is one that comes of what is printed
+pub printing_kind : (printing : Printing) (texts : Texts) (fault : RunFault) → PrintingFails printing texts fault → IsOfTexts fault
+printing_kind printing texts (runs.Read of) fails = fails
+printing_kind printing texts (runs.TooLong of) fails = fails
+printing_kind printing texts runs.Write fails = fails
+printing_kind printing texts _ fails = tt
+
+-- what a check has of documents, more that is printed has of them
+pub printing_fails : (printing : Printing) (texts : Texts) (fault : RunFault) → CheckFails texts fault → PrintingFails printing texts fault
+printing_fails printing texts runs.Expand fails = absurd fails
+printing_fails printing texts _ fails = fails
+
+-- where the list that they spell is complete, a fault of what is printed of it is one of theirs
+pub complete_fails : (printing : Printing) (texts : Texts) (question : Question) → Spells texts question → IsAnswer question Complete → (fault : RunFault) → CompleteFails printing question fault → PrintingFails printing texts fault
+complete_fails printing texts question spelled shown runs.Expand fails = (question, spelled, shown, fails)
+complete_fails printing texts question spelled shown runs.Memory fails = tt
+complete_fails printing texts question spelled shown _ fails = absurd fails
 
 -- ---- lists of all arrangements
 
@@ -151,15 +175,8 @@ module _ (p : Task) (listed : List (List Placement)) (lines : List SymmetryLine)
       few = few;
     }
 
--- an expansion that is called too long is too long
-pub expand_fails : {T U : Type 0} {fault : ExpandFault} → IsErrOf {T = T} (Err (run_of_expand fault)) runs.Expand → IsErrOf {T = U} (Err fault) expansions.TooMany
-expand_fails {fault = expansions.TooMany} e = refl
-expand_fails {fault = expansions.Memory} e = absurd (other_fault e)
-  where
-    other_fault : {T : Type 0} → IsErrOf {T = T} (Err runs.Memory) runs.Expand → ⊥
-    other_fault h = cc
-
--- ---- texts in one input
-
-pub same_texts : (documents : Documents) (input : List ℕ) → documents.puzzle.now ≡ first_of input → documents.list.now ≡ second_of input → documents.certificate.now ≡ third_of input → texts_of documents ≡ texts_in input
-same_texts documents input puzzle list certificate = rw (puzzle, list, certificate) refl
+-- what a fault of an expansion says of what is to be printed
+pub expand_fails : {T : Type 0} (printing : Printing) (question : Question) (fault : ExpandFault)
+    → (IsErrOf {T = T} (Err fault) expansions.TooMany → AreTooMany printing question) → CompleteFails printing question (run_of_expand fault)
+expand_fails printing question expansions.TooMany too_many = too_many refl
+expand_fails printing question expansions.Memory too_many = tt

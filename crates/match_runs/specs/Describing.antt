@@ -13,7 +13,6 @@ use Rattle.xcc_form.specs.Options.{Compiled, HasTooManyEntries, IsCompiled, entr
 use Rattle.puzzle_symmetry.specs.Symmetry.{IsSymmetry}
 use Rattle.puzzle_symmetry.specs.declared.lines.SymmetryLine.{SymmetryLine}
 use Rattle.cert_tree.specs.CertificateSpelling.{symmetries_spelling, IsSymmetryWithin}
-use Rattle.byte_streams.specs.declared.faults.Document.TheVariants as documents
 use Rattle.match_runs.specs.declared.description_runs.Description.{Description}
 use Rattle.match_runs.specs.declared.description_runs.Description.TheVariants as descriptions
 use Rattle.match_runs.specs.declared.faults.RunFault.{RunFault}
@@ -56,25 +55,13 @@ DescribesPuzzle descriptions.Board puzzle printed = IsBoardText puzzle printed
 DescribesPuzzle descriptions.Symmetries puzzle printed = IsSymmetriesText puzzle printed
 
 -- What is printed of the puzzle that the text spells.
-abbrev pub Describes : Description → (text printed : List ℕ) → Type 0
-Describes description text printed =
+abbrev pub Describes : Description → (text printed : List ℕ) → (ends : Unit {0}) → Type 0
+Describes description text printed ends =
     (puzzle : Task) × PuzzleReads text (Ok puzzle) × DescribesPuzzle description puzzle printed
 
--- The text spells no puzzle, with this fault.
-abbrev pub SpellsNoPuzzle : (text : List ℕ) → RunFault → Type 0
-SpellsNoPuzzle text (runs.Puzzle puzzles.Memory) = ⊥
-SpellsNoPuzzle text (runs.Puzzle fault) = PuzzleReads text (Err fault)
-SpellsNoPuzzle text fault = Unit {0}
-
--- The fault is that a text spells no puzzle, or want of memory.
-abbrev pub IsOfReadText : RunFault → Type 0
-IsOfReadText (runs.Puzzle fault) = Unit {0}
-IsOfReadText runs.Memory = Unit {0}
-IsOfReadText fault = ⊥
-
--- The fault is one of describing a puzzle: of reading it, of what was read, or of writing.
-abbrev pub IsOfDescribing : RunFault → Type 0
-IsOfDescribing (runs.Read of) = of ≡ documents.Puzzle
-IsOfDescribing (runs.TooLong of) = of ≡ documents.Puzzle
-IsOfDescribing runs.Write = Unit {0}
-IsOfDescribing fault = IsOfReadText fault
+-- What a fault says of the text of a puzzle: it spells none, with this fault, or it is want of memory.
+abbrev pub PuzzleFails : (text : List ℕ) → RunFault → Type 0
+PuzzleFails text (runs.Puzzle puzzles.Memory) = ⊥
+PuzzleFails text (runs.Puzzle fault) = PuzzleReads text (Err fault)
+PuzzleFails text runs.Memory = Unit {0}
+PuzzleFails text fault = ⊥

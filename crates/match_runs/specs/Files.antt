@@ -3,7 +3,6 @@ use Rattle.std.specs.Prelude.{◌≡◌, ◌≢◌, ◌++◌, ℕ, Bool, true, f
 use Rattle.std.specs.Bool.{OnTrue}
 use Rattle.std.specs.String.{string_bytes}
 use Rattle.std.specs.Io.KnownBytes.{Appends}
-use Rattle.byte_streams.specs.Documents.{Texts}
 use Rattle.byte_streams.specs.declared.sinks.Sink.{Ghosts as SinkMembers}
 use Rattle.match_runs.specs.declared.parts.Parts.{Parts}
 use Rattle.command_words.specs.declared.orders.Files.{Files}
@@ -61,16 +60,3 @@ pub record AreApart (keep : Bool) (files : Files) : Type 0 where
   pub three : HaveDifferentNames files
   pub list_part : OnTrue keep (HasOtherName files (part_name (string_bytes files.list)))
   pub certificate_part : OnTrue keep (HasOtherName files (part_name (string_bytes files.certificate)))
-
--- What two files hold are texts of which this is so.
-abbrev pub BothHold : (puzzle list : Option (List ℕ)) → (List ℕ → List ℕ → Type 0) → Type 0
-BothHold puzzle list Are = (text listed : List ℕ) × HoldsText puzzle text × HoldsText list listed × Are text listed
-
--- The three files hold texts of which this is so.
-abbrev pub FilesHold : (List ℕ → Option (List ℕ)) → Files → (Texts → Type 0) → Type 0
-FilesHold holds files Is =
-    (texts : Texts)
-    × HoldsText (holds (string_bytes files.puzzle)) texts.puzzle
-    × HoldsText (holds (string_bytes files.list)) texts.list
-    × HoldsText (holds (string_bytes files.certificate)) texts.certificate
-    × Is texts

@@ -1,7 +1,7 @@
 -- What a list of tiles prints.
 use Rattle.std.specs.Prelude.{◌≡◌, ◌≤◌, ℕ, List, length}
 use Rattle.match_board.specs.declared.limits.TheConstants.{MOST_CLASSES}
-use Rattle.match_board.specs.Turns.{AreLeastWords}
+use Rattle.match_board.specs.Turns.{AreLeastWords, HasMoreLeastWords}
 use Rattle.match_text.specs.PuzzleSpelling.{tiles_spelling}
 use Rattle.match_runs.specs.declared.faults.RunFault.{RunFault}
 use Rattle.match_runs.specs.declared.faults.RunFault.TheVariants as runs
@@ -10,14 +10,13 @@ use Rattle.match_runs.specs.declared.faults.RunFault.TheVariants as runs
 abbrev pub AreTileWords : (sides colours : ℕ) → List (List ℕ) → Type 0
 AreTileWords sides colours words = AreLeastWords sides colours words × (length words ≤ MOST_CLASSES)
 
--- What a list of tiles prints.
-abbrev pub TilesGive : (sides colours : ℕ) → (text : List ℕ) → Type 0
-TilesGive sides colours text =
+-- What a list of tiles prints, of no text.
+abbrev pub TilesGive : (sides colours : ℕ) → (nothing : Unit {0}) → (text : List ℕ) → (ends : Unit {0}) → Type 0
+TilesGive sides colours nothing text ends =
     (words : List (List ℕ)) × AreTileWords sides colours words × (text ≡ tiles_spelling words)
 
--- The fault is one of listing tiles.
-abbrev pub IsOfTiles : RunFault → Type 0
-IsOfTiles runs.Tiles = Unit {0}
-IsOfTiles runs.Write = Unit {0}
-IsOfTiles runs.Memory = Unit {0}
-IsOfTiles fault = ⊥
+-- What a fault says of the tiles: there are more than are listed, or it is want of memory.
+abbrev pub TilesFail : (sides colours : ℕ) → (nothing : Unit {0}) → RunFault → Type 0
+TilesFail sides colours nothing runs.Tiles = HasMoreLeastWords sides colours MOST_CLASSES
+TilesFail sides colours nothing runs.Memory = Unit {0}
+TilesFail sides colours nothing fault = ⊥

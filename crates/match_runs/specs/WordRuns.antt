@@ -1,5 +1,5 @@
 -- What the words of a command line come to.
-use Rattle.std.specs.Prelude.{◌≡◌, ◌≢◌, ◌⊎◌, ℕ, List, true}
+use Rattle.std.specs.Prelude.{◌≡◌, ◌≢◌, ◌⊎◌, ℕ, List, Result, Ok, Err, true}
 use Rattle.std.specs.Io.KnownBytes.{Appends}
 use Rattle.clap.specs.Words.{IsAmong, Text, fault_of, takes}
 use Rattle.clap.specs.declared.error.kind.ErrorKind.{ErrorKind}
@@ -32,31 +32,29 @@ TellsOfText errors = TellsFault errors runs.Memory ⊎ TellsFault errors runs.Wr
 abbrev pub AsksForText : ErrorKind → Type 0
 AsksForText kind = (kind ≡ DisplayHelp) ⊎ (kind ≡ DisplayVersion)
 
--- What was ordered was done, and nothing was told; or a fault stopped it, which was told.
-abbrev pub CarriesOut : (Gives : Exit → Type 0) (Stops : RunFault → Type 0) (errors : Writing) (Untold Unwritten : Type 0)
-    → Exit → Type 0
-CarriesOut Gives Stops errors Untold Unwritten exit =
-    (Gives exit × Untold)
-    ⊎ ((fault : RunFault) × Stops fault × (exit ≡ fault_exit fault) × TellsFault errors fault
-    × (fault ≢ runs.Write → Unwritten))
+-- What was ordered was done, and nothing told; or it came to a fault, which was told.
+abbrev pub CarriesOut : (Run : Result Exit RunFault → Type 0) → (errors : Writing) → Exit → Type 0
+CarriesOut Run errors exit =
+    (Run (Ok exit) × errors.Untouched)
+    ⊎ ((fault : RunFault) × Run (Err fault) × (exit ≡ fault_exit fault) × TellsFault errors fault)
 
 -- Memory was refused to the words, and that was told.
-abbrev pub WantsMemory : (errors : Writing) (Unwritten : Type 0) → Exit → Type 0
-WantsMemory errors Unwritten exit = (exit ≡ Failed) × TellsFault errors runs.Memory × Unwritten
+abbrev pub WantsMemory : (output errors : Writing) → Exit → Type 0
+WantsMemory output errors exit = (exit ≡ Failed) × TellsFault errors runs.Memory × output.Untouched
 
 -- Words that `clap` refuses for a reason of this kind: where help or the version was asked for, all is done and nothing
 -- told, or it was told why that text wasn't written; else nothing was written.
-abbrev pub Explains : (errors : Writing) (Untold Unwritten : Type 0) → Exit → ErrorKind → Type 0
-Explains errors Untold Unwritten exit kind =
-    (AsksForText kind → ((exit ≡ Done) × Untold) ⊎ ((exit ≡ Failed) × TellsOfText errors))
-    × ((AsksForText kind → ⊥) → (exit ≡ Failed) × Unwritten)
+abbrev pub Explains : (output errors : Writing) → Exit → ErrorKind → Type 0
+Explains output errors exit kind =
+    (AsksForText kind → ((exit ≡ Done) × errors.Untouched) ⊎ ((exit ≡ Failed) × TellsOfText errors))
+    × ((AsksForText kind → ⊥) → (exit ≡ Failed) × output.Untouched)
 
--- The words are those of an order, of which this is so; or memory was refused while they were read; or `clap` doesn't
--- take them, for a reason of this kind.
-abbrev pub WordsGive : List Text → (IsOrdered : Order → Type 0) → (IsShort : Type 0) → (AreRefused : ErrorKind → Type 0)
+-- What words come to: they are those of an order, which was carried out; or memory was refused while they were read; or
+-- `clap` doesn't take them, for a reason of this kind.
+abbrev pub WordsGive : List Text → (Run : Order → Result Exit RunFault → Type 0) → (output errors : Writing) → Exit
     → Type 0
-WordsGive words IsOrdered IsShort AreRefused =
-    ((order : Order) × IsOrder words order × IsOrdered order)
-    ⊎ (IsShort
+WordsGive words Run output errors exit =
+    ((order : Order) × IsOrder words order × CarriesOut (Run order) errors exit)
+    ⊎ (WantsMemory output errors exit
     ⊎ ((takes whole_app words ≢ true)
-    × (kind : ErrorKind) × IsAmong kind (fault_of whole_app words) × AreRefused kind))
+    × (kind : ErrorKind) × IsAmong kind (fault_of whole_app words) × Explains output errors exit kind))

@@ -1,21 +1,21 @@
 //! Runs that describe a puzzle.
 
-ghost use Rattle.std.specs.Prelude.{◌≡◌, ◌≢◌, ◌≤◌, ◌∷◌, [], IfErr, IfOk, IsErrOf, OnOk, decimal, length};
+ghost use Rattle.std.specs.Prelude.{◌≡◌, ◌∷◌, [], IfOk, decimal};
 ghost use Rattle.match_puzzle.specs.Puzzle.{IsPuzzle};
-ghost use Rattle.byte_streams.specs.Moves.{reading_of, writing_of};
-ghost use Rattle.match_runs.specs.Describing.{CountsOptions, Describes, IsBoardText, IsOfDescribing, IsOfReadText};
-ghost use Rattle.match_runs.specs.Describing.{IsSymmetriesText, SpellsNoPuzzle, options_text};
 ghost use Rattle.match_text.specs.Spelling.{line_text};
-ghost use Rattle.match_runs.specs.Writings.{WritesFront, WritesWhole};
-ghost use Rattle.match_runs.specs.Solving.{IsOfPuzzle};
-ghost use Rattle.match_runs.specs.Sources.{PuzzleReadToEnd, StopsReadingPuzzle};
+ghost use Rattle.byte_streams.specs.Moves.{reading_of, writing_of};
+ghost use Rattle.byte_streams.specs.Origins.{one_source};
+ghost use Rattle.byte_streams.specs.Targets.{one_sink};
+ghost use Rattle.byte_streams.specs.declared.faults.Document.TheVariants as documents;
+ghost use Rattle.match_runs.specs.Describing.{CountsOptions, Describes, IsBoardText, IsSymmetriesText, PuzzleFails};
+ghost use Rattle.match_runs.specs.Describing.{options_text};
+ghost use Rattle.match_runs.specs.Runs.{MadeOf, Runs};
 
 use crate::faults::{RunFault, words_line};
-use crate::readings::read_whole;
-use crate::writings::write_text;
-use byte_streams::{Document, Sink, Source};
+use crate::running::run_by;
+use byte_streams::{Document, MadeText, OneSink, OneSource, Sink, Source, Text};
 use cert_tree::write_symmetries;
-use match_board::limits::{MOST_BYTES, MOST_ENTRIES};
+use match_board::limits::MOST_ENTRIES;
 use match_puzzle::{Partial, Puzzle};
 use match_report::Line;
 use match_show::{write_drawing, write_facts};
@@ -45,39 +45,33 @@ pub fn run_description<P: Source, W: Sink>(
     description: Description,
     writer: &mut W,
 ) -> Result<(), RunFault>
-    // What was written describes the puzzle that the text spells.
-    ensures ok { OnOk result (PuzzleReadToEnd (reading_of P.Source puzzle.old puzzle.new)
-        (λ text. WritesWhole (writing_of W.Sink writer.old writer.new) (Describes description text))) }
-    // A fault of the puzzle is what the text comes to.
-    ensures puzzle { IfErr result (λ fault. IsOfPuzzle fault
-        → PuzzleReadToEnd (reading_of P.Source puzzle.old puzzle.new) (λ text. SpellsNoPuzzle text fault)) }
-    ensures fault { IfErr result IsOfDescribing }
-    ensures untouched { IfErr result (λ fault. fault ≢ RunFault.Write → writer.new ≡ writer.old) }
-    // Reading fails only where the source answered an error, or more bytes came than are read. Want of memory hides
-    // neither.
-    ensures reading { IfErr result (StopsReadingPuzzle (reading_of P.Source puzzle.old puzzle.new)) }
-    // Writing fails only where the sink answered an error, or took nothing; then a front of it went out.
-    ensures write { IsErrOf result RunFault.Write → PuzzleReadToEnd (reading_of P.Source puzzle.old puzzle.new)
-        (λ text. WritesFront (writing_of W.Sink writer.old writer.new) (Describes description text)) }
+    ensures { Runs (one_source documents.Puzzle (reading_of P.Source puzzle.old puzzle.new)) (Describes description)
+        PuzzleFails (one_sink (writing_of W.Sink writer.old writer.new)) result }
 {
-    let text = read_whole(alloc, puzzle, MOST_BYTES, Document::Puzzle)?;
-    let printed = described(alloc, &text, description)?;
-    write_text(writer, &printed)
+    let mut inputs = OneSource {
+        source: puzzle,
+        document: Document::Puzzle,
+    };
+    let make = |text: &Text| -> Result<(MadeText, ()), RunFault>
+        ensures { MadeOf (Describes description) PuzzleFails text.now result }
+    { described(alloc, text, description) };
+    run_by(alloc, &mut inputs, make, &mut OneSink { sink: writer })
 }
 
 // What is written of the puzzle that the text spells.
-fn described(alloc: Global, text: &[u8], description: Description) -> Result<Vec<u8>, RunFault>
-    requires { length text.now ≤ MOST_BYTES }
-    ensures describes { IfOk result (λ printed. Describes description text.now printed.items) }
-    ensures puzzle { IfErr result (SpellsNoPuzzle text.now) }
-    ensures kind { IfErr result IsOfReadText }
+fn described(
+    alloc: Global,
+    text: &Text,
+    description: Description,
+) -> Result<(MadeText, ()), RunFault>
+    ensures { MadeOf (Describes description) PuzzleFails text.now result }
 {
-    let puzzle = read_puzzle(alloc, text)?;
+    let puzzle = read_puzzle(alloc, text.bytes())?;
     let printed = match description {
-        Description::Board => board_text(alloc, &puzzle),
-        Description::Symmetries => symmetries_text(alloc, &puzzle),
+        Description::Board => board_text(alloc, &puzzle)?,
+        Description::Symmetries => symmetries_text(alloc, &puzzle)?,
     };
-    Ok(printed?)
+    Ok((MadeText::new(printed), ()))
 }
 
 // The board of the puzzle, and facts of it.

@@ -11,7 +11,7 @@ ghost use Rattle.match_runs.specs.declared.faults.RunFault.TheVariants as run_fa
 ghost use Rattle.match_runs.specs.FaultText.{run_of_input, run_of_puzzle, run_of_list, run_of_certificate};
 ghost use Rattle.match_runs.specs.FaultText.{run_of_expand, run_of_solve, run_of_tiles, solve_fault_words};
 
-use byte_streams::{Document, InputFault};
+use byte_streams::{Document, Failed, InputFault};
 use cert_tree::{AssembleFault, CertTextFault};
 use match_board::{BoardFault, TilesFault};
 use match_crew::SolveFault;
@@ -54,6 +54,14 @@ impl From<InputFault> for RunFault {
             InputFault::TooLong(document) => RunFault::TooLong(document),
             InputFault::Memory => RunFault::Memory,
         }
+    }
+}
+
+impl From<Failed> for RunFault {
+    ghost from_gives = { λ _ e. e ≡ run_fault.Write };
+
+    fn from(_failed: Failed) -> RunFault {
+        RunFault::Write
     }
 }
 

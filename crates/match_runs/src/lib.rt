@@ -11,18 +11,17 @@ mod hints;
 mod listed_runs;
 mod order_runs;
 mod parts;
-mod printed;
 mod printing_runs;
 mod progress;
 mod questions;
 mod random_fold;
 mod readings;
 mod repetitions;
+mod running;
 mod solve_runs;
 mod system_limits;
 mod tile_runs;
 mod word_runs;
-mod writings;
 
 pub use byte_streams::{
     Document, Documents, Failed, Input, Output, Sink, Source, cut_joined, write_whole,

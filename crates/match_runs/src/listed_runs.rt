@@ -1,16 +1,14 @@
 //! Runs that draw an arrangement of a list.
 
-ghost use Rattle.std.specs.Prelude.{◌≢◌, ◌≡◌, ◌≤◌, IfErr, IfOk, IsErrOf, OnOk, length};
 ghost use Rattle.byte_streams.specs.Moves.{reading_of, writing_of};
-ghost use Rattle.match_runs.specs.Listed.{BothReadToEnds, DrawsListed, IsOfDrawing, IsOfListed, IsOfReadListed};
-ghost use Rattle.match_runs.specs.Listed.{SpellNoListed, StopsReadingEither};
-ghost use Rattle.match_runs.specs.Writings.{WritesFront, WritesWhole};
+ghost use Rattle.byte_streams.specs.Origins.{two_sources};
+ghost use Rattle.byte_streams.specs.Targets.{one_sink};
+ghost use Rattle.match_runs.specs.Listed.{DrawFails, DrawsListed};
+ghost use Rattle.match_runs.specs.Runs.{MadeOf, Runs};
 
 use crate::faults::RunFault;
-use crate::readings::read_whole;
-use crate::writings::write_text;
-use byte_streams::{Document, Sink, Source};
-use match_board::limits::MOST_BYTES;
+use crate::running::run_by;
+use byte_streams::{MadeText, OneSink, Sink, Source, TwoSources, TwoTexts};
 use match_show::write_arrangement;
 use match_text::{read_list, read_puzzle};
 use std::alloc::Global;
@@ -28,41 +26,26 @@ pub fn run_listed<P: Source, L: Source, W: Sink>(
     number: u32,
     writer: &mut W,
 ) -> Result<(), RunFault>
-    // What was written draws the arrangement that the texts spell.
-    ensures ok { OnOk result (BothReadToEnds (reading_of P.Source puzzle.old puzzle.new)
-        (reading_of L.Source list.old list.new)
-        (λ text listed. WritesWhole (writing_of W.Sink writer.old writer.new) (DrawsListed number text listed))) }
-    // A fault of the texts is what they come to.
-    ensures texts { IfErr result (λ fault. IsOfListed fault
-        → BothReadToEnds (reading_of P.Source puzzle.old puzzle.new) (reading_of L.Source list.old list.new)
-        (λ text listed. SpellNoListed number text listed fault)) }
-    ensures fault { IfErr result IsOfDrawing }
-    ensures untouched { IfErr result (λ fault. fault ≢ RunFault.Write → writer.new ≡ writer.old) }
-    // Reading fails only where a source answered an error, or more bytes came than are read. Want of memory hides
-    // neither.
-    ensures reading { IfErr result (StopsReadingEither (reading_of P.Source puzzle.old puzzle.new)
-        (reading_of L.Source list.old list.new)) }
-    // Writing fails only where the sink answered an error, or took nothing; then a front of it went out.
-    ensures write { IsErrOf result RunFault.Write → BothReadToEnds (reading_of P.Source puzzle.old puzzle.new)
-        (reading_of L.Source list.old list.new)
-        (λ text listed. WritesFront (writing_of W.Sink writer.old writer.new) (DrawsListed number text listed)) }
+    ensures { Runs (two_sources (reading_of P.Source puzzle.old puzzle.new) (reading_of L.Source list.old list.new))
+        (DrawsListed number) (DrawFails number) (one_sink (writing_of W.Sink writer.old writer.new)) result }
 {
-    let text = read_whole(alloc, puzzle, MOST_BYTES, Document::Puzzle)?;
-    let listed = read_whole(alloc, list, MOST_BYTES, Document::List)?;
-    let drawing = drawn(alloc, &text, &listed, number)?;
-    write_text(writer, &drawing)
+    let make = |texts: &TwoTexts| -> Result<(MadeText, ()), RunFault>
+        ensures { MadeOf (DrawsListed number) (DrawFails number) texts.now result }
+    { drawn(alloc, texts, number) };
+    run_by(
+        alloc,
+        &mut TwoSources { puzzle, list },
+        make,
+        &mut OneSink { sink: writer },
+    )
 }
 
 // The board with the listed arrangement of this number on it.
-fn drawn(alloc: Global, puzzle: &[u8], list: &[u8], number: u32) -> Result<Vec<u8>, RunFault>
-    requires puzzle { length puzzle.now ≤ MOST_BYTES }
-    requires list { length list.now ≤ MOST_BYTES }
-    ensures draws { IfOk result (λ drawing. DrawsListed number puzzle.now list.now drawing.items) }
-    ensures fault { IfErr result (SpellNoListed number puzzle.now list.now) }
-    ensures kind { IfErr result IsOfReadListed }
+fn drawn(alloc: Global, texts: &TwoTexts, number: u32) -> Result<(MadeText, ()), RunFault>
+    ensures { MadeOf (DrawsListed number) (DrawFails number) texts.now result }
 {
-    let puzzle = read_puzzle(alloc, puzzle)?;
-    let listed = read_list(alloc, list)?;
+    let puzzle = read_puzzle(alloc, texts.puzzle.bytes())?;
+    let listed = read_list(alloc, texts.list.bytes())?;
     let Some(arrangement) = listed.get(number as usize) else {
         return Err(RunFault::NoArrangement(number));
     };
@@ -71,5 +54,5 @@ fn drawn(alloc: Global, puzzle: &[u8], list: &[u8], number: u32) -> Result<Vec<u
         return Err(RunFault::Arrangement(number, fault));
     }
     let drawing = write_arrangement(alloc, &puzzle, placements)?;
-    Ok(drawing)
+    Ok((MadeText::new(drawing), ()))
 }

@@ -1,19 +1,13 @@
 //! Runs of orders: over which files each runs, and the exit status.
 
-ghost use Rattle.std.specs.Prelude.{◌≡◌, ◌≢◌, Err, IfOk, IfErr, IsTrue, true, false};
+ghost use Rattle.std.specs.Prelude.{◌≡◌, IfOk, IfErr, IsTrue, Some, true, false};
 ghost use Rattle.std.specs.String.{string_bytes};
 ghost use Rattle.byte_streams.specs.Moves.{reading_of, writing_of};
-ghost use Rattle.match_runs.specs.Describing.{IsOfDescribing};
-ghost use Rattle.match_runs.specs.Files.{AreApart, FilesHold, HaveDifferentNames, LeavesAll, Receives, TakesWhole};
-ghost use Rattle.match_runs.specs.Writings.{WritesWhole};
-ghost use Rattle.match_runs.specs.OrderRuns.{EndsBy, IsDescribed, IsDrawn, IsOfOrder, IsOfShowing, IsShown};
-ghost use Rattle.match_runs.specs.OrderRuns.{OrderGives, OrderShows, OrderStops, PuzzleHolds, Solves};
-ghost use Rattle.match_runs.specs.OrderRuns.{StopsDescribing, StopsDrawing, StopsListing, StopsShowing, StopsSolving};
-ghost use Rattle.match_runs.specs.Listed.{IsOfDrawing};
-ghost use Rattle.match_runs.specs.Runs.{ComesTo, IsOfRun, RunsOver, SpellCompleteList, checked, printed};
-ghost use Rattle.match_runs.specs.Solving.{IsOfSolving};
-ghost use Rattle.match_runs.specs.Sources.{ReadToEnds, together};
-ghost use Rattle.match_runs.specs.Tiles.{IsOfTiles, TilesGive};
+ghost use Rattle.byte_streams.specs.Origins.{joined_source};
+ghost use Rattle.match_runs.specs.Files.{HaveDifferentNames, LeavesAll};
+ghost use Rattle.match_runs.specs.Held.{IsOneOf, all_three, held_puzzle, held_three};
+ghost use Rattle.match_runs.specs.OrderRuns.{CheckOf, DescriptionOf, PrintingOf, RunOf, ShowOf, SolveOf, Take, TilesOf};
+ghost use Rattle.match_runs.specs.OrderRuns.{solved_files};
 
 use crate::check_runs::{run_check_watched, run_joined};
 use crate::description_runs::{Description, run_description};
@@ -22,7 +16,7 @@ use crate::faults::RunFault;
 use crate::files::{FileSystem, have_different_names, make, open};
 use crate::listed_runs::run_listed;
 use crate::parts::Parts;
-use crate::printing_runs::{Printing, run_printing};
+use crate::printing_runs::{Printing, run_hinted};
 use crate::progress::{CheckProgress, CheckWatch, SolveProgress, SolveWatch};
 use crate::solve_runs::{SearchPlan, run_solve_watched};
 use crate::tile_runs::run_tiles;
@@ -41,6 +35,9 @@ use std::time::Clock;
 /// the first that can't be opened. A solve opens the puzzle's and makes the other two; where two of the three names
 /// are the same, or one can't be made, `Write`. Where it is to keep what stands there until all is written, it makes two
 /// beside them, and puts these there then, the list first; after a fault it removes them.
+///
+/// Where texts are to be explained and one has a fault, a hint is left of what its line has to be, and what it is, or
+/// which numbers differ; memory for it may be refused.
 pub fn run_order<
     S: FileSystem,
     I: Source,
@@ -53,18 +50,10 @@ pub fn run_order<
     system: &S,
     input: &mut I,
     output: &mut W,
+    hint: &mut Option<String>,
 ) -> Result<Exit, RunFault>
-    ensures given { IfOk result (OrderGives (S.holds system.now)
-        (λ name. TakesWhole S.Writer.Sink (S.makes system.now name)) (S.puts system.now)
-        (reading_of I.Source input.old input.new) (writing_of W.Sink output.old output.new) order.now) }
-    ensures fault { IfErr result (IsOfOrder order.now) }
-    // A fault of what was read is what that comes to, and where writing failed, a front of the answer went out.
-    ensures stops { IfErr result (OrderStops (S.holds system.now) (reading_of I.Source input.old input.new)
-        (writing_of W.Sink output.old output.new) order.now) }
-    ensures untouched { IfErr result (λ fault. fault ≢ RunFault.Write → output.new ≡ output.old) }
-    // A check that is done says that the list is complete.
-    ensures shown { IfOk result (λ exit. exit ≡ Exit.Done
-        → OrderShows (S.holds system.now) (reading_of I.Source input.old input.new) order.now) }
+    ensures { RunOf S.FileSystem S.Writer.Sink system.now (reading_of I.Source input.old input.new)
+        (writing_of W.Sink output.old output.new) order.now result }
 {
     match order {
         Order::Joined => check_joined(rt, alloc, input, output),
@@ -94,10 +83,20 @@ pub fn run_order<
             solve(rt, alloc, files, search, *keep, &watch, system, output)
         }
         Order::Explain(files) => {
-            print_all(rt, alloc, files, Printing::Explanation, system, output)
+            print_all(
+                rt,
+                alloc,
+                files,
+                Printing::Explanation,
+                system,
+                output,
+                hint,
+            )
         }
-        Order::Expand(files) => print_all(rt, alloc, files, Printing::All, system, output),
-        Order::Count(files) => print_all(rt, alloc, files, Printing::Count, system, output),
+        Order::Expand(files) => { print_all(rt, alloc, files, Printing::All, system, output, hint) }
+        Order::Count(files) => {
+            print_all(rt, alloc, files, Printing::Count, system, output, hint)
+        }
         Order::Show { puzzle, listed } => show(alloc, puzzle, listed, system, output),
         Order::Symmetries(puzzle) => {
             describe(alloc, puzzle, Description::Symmetries, system, output)
@@ -112,14 +111,8 @@ fn check_joined<I: Source, W: Sink, R: Threads + Sync>(
     input: &mut I,
     output: &mut W,
 ) -> Result<Exit, RunFault>
-    ensures given { IfOk result (EndsBy (ReadToEnds (together (reading_of I.Source input.old input.new))) checked
-        (writing_of W.Sink output.old output.new)) }
-    ensures shown { IfOk result (λ exit. exit ≡ Exit.Done
-        → ReadToEnds (together (reading_of I.Source input.old input.new)) SpellCompleteList) }
-    ensures fault { IfErr result (IsOfRun checked) }
-    ensures stops { IfErr result (λ fault. RunsOver (together (reading_of I.Source input.old input.new)) checked
-        (writing_of W.Sink output.old output.new) (Err fault)) }
-    ensures untouched { IfErr result (λ fault. fault ≢ RunFault.Write → output.new ≡ output.old) }
+    ensures { CheckOf (joined_source (reading_of I.Source input.old input.new))
+        (writing_of W.Sink output.old output.new) result }
 {
     let status = run_joined(rt, alloc, input, Workers::new(1), Forks::new(0), output)?;
     Ok(Exit::of_status(status))
@@ -141,7 +134,8 @@ fn open_all<S: FileSystem>(system: &S, files: &Files) -> Result<Opened<S::Reader
         LeavesAll (S.holds system.now (string_bytes files.now.list)) (S.Reader.left opened.list)) }
     ensures certificate { IfOk result (λ opened.
         LeavesAll (S.holds system.now (string_bytes files.now.certificate)) (S.Reader.left opened.certificate)) }
-    ensures fault { IfErr result (λ fault. (document : Document) × (fault ≡ RunFault.Read document)) }
+    ensures fault { IfErr result (λ fault. (document : Document) × IsOneOf all_three document
+        × (fault ≡ RunFault.Read document)) }
 {
     Ok(Opened {
         puzzle: open(system, &files.puzzle, Document::Puzzle)?,
@@ -160,14 +154,7 @@ fn check<S: FileSystem, W: Sink, R: Threads + Sync, T: CheckWatch + Sync>(
     system: &S,
     output: &mut W,
 ) -> Result<Exit, RunFault>
-    ensures given { IfOk result (EndsBy (FilesHold (S.holds system.now) files.now) checked
-        (writing_of W.Sink output.old output.new)) }
-    ensures shown { IfOk result (λ exit. exit ≡ Exit.Done
-        → FilesHold (S.holds system.now) files.now SpellCompleteList) }
-    ensures fault { IfErr result (IsOfRun checked) }
-    ensures stops { IfErr result (λ fault. ComesTo (FilesHold (S.holds system.now) files.now) checked
-        (writing_of W.Sink output.old output.new) (Err fault)) }
-    ensures untouched { IfErr result (λ fault. fault ≢ RunFault.Write → output.new ≡ output.old) }
+    ensures { CheckOf (held_three (S.holds system.now) files.now) (writing_of W.Sink output.old output.new) result }
 {
     let mut opened = open_all(system, files)?;
     let status = run_check_watched(
@@ -194,14 +181,9 @@ fn solve<S: FileSystem, W: Sink, R: Threads + Wait + Sync, T: SolveWatch + Sync>
     system: &S,
     output: &mut W,
 ) -> Result<Exit, RunFault>
-    ensures given { IfOk result (λ exit. (exit ≡ Exit.Done) × AreApart keep files.now
-        × PuzzleHolds (S.holds system.now (string_bytes files.now.puzzle))
-        (Solves (Receives keep (λ name. TakesWhole S.Writer.Sink (S.makes system.now name)) (S.puts system.now))
-        (writing_of W.Sink output.old output.new) files.now search.workers)) }
-    ensures fault { IfErr result IsOfSolving }
-    ensures stops { IfErr result (StopsSolving keep (writing_of W.Sink output.old output.new)
-        (S.holds system.now (string_bytes files.now.puzzle)) search.workers) }
-    ensures untouched { IfErr result (λ fault. fault ≢ RunFault.Write → output.new ≡ output.old) }
+    ensures { SolveOf search.workers (held_puzzle (S.holds system.now (string_bytes files.now.puzzle)))
+        (solved_files keep (Take S.FileSystem S.Writer.Sink system.now) (S.puts system.now) files.now
+        (writing_of W.Sink output.old output.new)) result }
 {
     if keep {
         solve_beside(rt, alloc, files, search, watch, system, output)
@@ -220,14 +202,9 @@ fn solve_in_place<S: FileSystem, W: Sink, R: Threads + Wait + Sync, T: SolveWatc
     system: &S,
     output: &mut W,
 ) -> Result<Exit, RunFault>
-    ensures given { IfOk result (λ exit. (exit ≡ Exit.Done) × AreApart false files.now
-        × PuzzleHolds (S.holds system.now (string_bytes files.now.puzzle))
-        (Solves (Receives false (λ name. TakesWhole S.Writer.Sink (S.makes system.now name)) (S.puts system.now))
-        (writing_of W.Sink output.old output.new) files.now search.workers)) }
-    ensures fault { IfErr result IsOfSolving }
-    ensures stops { IfErr result (StopsSolving false (writing_of W.Sink output.old output.new)
-        (S.holds system.now (string_bytes files.now.puzzle)) search.workers) }
-    ensures untouched { IfErr result (λ fault. fault ≢ RunFault.Write → output.new ≡ output.old) }
+    ensures { SolveOf search.workers (held_puzzle (S.holds system.now (string_bytes files.now.puzzle)))
+        (solved_files false (Take S.FileSystem S.Writer.Sink system.now) (S.puts system.now) files.now
+        (writing_of W.Sink output.old output.new)) result }
 {
     let mut puzzle = open(system, &files.puzzle, Document::Puzzle)?;
     if !are_apart(alloc, files, system) {
@@ -262,14 +239,9 @@ fn solve_beside<S: FileSystem, W: Sink, R: Threads + Wait + Sync, T: SolveWatch 
     system: &S,
     output: &mut W,
 ) -> Result<Exit, RunFault>
-    ensures given { IfOk result (λ exit. (exit ≡ Exit.Done) × AreApart true files.now
-        × PuzzleHolds (S.holds system.now (string_bytes files.now.puzzle))
-        (Solves (Receives true (λ name. TakesWhole S.Writer.Sink (S.makes system.now name)) (S.puts system.now))
-        (writing_of W.Sink output.old output.new) files.now search.workers)) }
-    ensures fault { IfErr result IsOfSolving }
-    ensures stops { IfErr result (StopsSolving true (writing_of W.Sink output.old output.new)
-        (S.holds system.now (string_bytes files.now.puzzle)) search.workers) }
-    ensures untouched { IfErr result (λ fault. fault ≢ RunFault.Write → output.new ≡ output.old) }
+    ensures { SolveOf search.workers (held_puzzle (S.holds system.now (string_bytes files.now.puzzle)))
+        (solved_files true (Take S.FileSystem S.Writer.Sink system.now) (S.puts system.now) files.now
+        (writing_of W.Sink output.old output.new)) result }
 {
     let mut puzzle = open(system, &files.puzzle, Document::Puzzle)?;
     let parts = Parts::of(alloc, files)?;
@@ -322,16 +294,13 @@ fn print_all<S: FileSystem, W: Sink, R: RandomSource>(
     printing: Printing,
     system: &S,
     output: &mut W,
+    hint: &mut Option<String>,
 ) -> Result<Exit, RunFault>
-    ensures given { IfOk result (EndsBy (FilesHold (S.holds system.now) files.now) (printed printing)
-        (writing_of W.Sink output.old output.new)) }
-    ensures fault { IfErr result (IsOfRun (printed printing)) }
-    ensures stops { IfErr result (λ fault. ComesTo (FilesHold (S.holds system.now) files.now) (printed printing)
-        (writing_of W.Sink output.old output.new) (Err fault)) }
-    ensures untouched { IfErr result (λ fault. fault ≢ RunFault.Write → output.new ≡ output.old) }
+    ensures { PrintingOf printing (held_three (S.holds system.now) files.now)
+        (writing_of W.Sink output.old output.new) result }
 {
     let mut opened = open_all(system, files)?;
-    let status = run_printing(
+    let status = run_hinted(
         rt,
         alloc,
         &mut opened.puzzle,
@@ -339,6 +308,7 @@ fn print_all<S: FileSystem, W: Sink, R: RandomSource>(
         &mut opened.certificate,
         printing,
         output,
+        hint,
     )?;
     Ok(Exit::of_status(status))
 }
@@ -350,12 +320,8 @@ fn describe<S: FileSystem, W: Sink>(
     system: &S,
     output: &mut W,
 ) -> Result<Exit, RunFault>
-    ensures given { IfOk result (λ exit. (exit ≡ Exit.Done)
-        × IsDescribed (S.holds system.now name.now) description (writing_of W.Sink output.old output.new)) }
-    ensures fault { IfErr result IsOfDescribing }
-    ensures stops { IfErr result (StopsDescribing (writing_of W.Sink output.old output.new)
-        (S.holds system.now name.now) description) }
-    ensures untouched { IfErr result (λ fault. fault ≢ RunFault.Write → output.new ≡ output.old) }
+    ensures { DescriptionOf description (held_puzzle (S.holds system.now name.now))
+        (writing_of W.Sink output.old output.new) result }
 {
     let mut puzzle = open(system, name, Document::Puzzle)?;
     run_description(alloc, &mut puzzle, description, output)?;
@@ -370,12 +336,7 @@ fn show<S: FileSystem, W: Sink>(
     system: &S,
     output: &mut W,
 ) -> Result<Exit, RunFault>
-    ensures given { IfOk result (λ exit. (exit ≡ Exit.Done)
-        × IsShown (S.holds system.now) name.now listed.now (writing_of W.Sink output.old output.new)) }
-    ensures fault { IfErr result (IsOfShowing listed.now) }
-    ensures stops { IfErr result (StopsShowing (writing_of W.Sink output.old output.new) (S.holds system.now) name.now
-        listed.now) }
-    ensures untouched { IfErr result (λ fault. fault ≢ RunFault.Write → output.new ≡ output.old) }
+    ensures { ShowOf (S.holds system.now) name.now listed.now (writing_of W.Sink output.old output.new) result }
 {
     match listed {
         None => describe(alloc, name, Description::Board, system, output),
@@ -391,13 +352,7 @@ fn draw<S: FileSystem, W: Sink>(
     system: &S,
     output: &mut W,
 ) -> Result<Exit, RunFault>
-    ensures given { IfOk result (λ exit. (exit ≡ Exit.Done)
-        × IsDrawn (S.holds system.now name.now) (S.holds system.now (string_bytes listed.now.list)) listed.now.number
-        (writing_of W.Sink output.old output.new)) }
-    ensures fault { IfErr result IsOfDrawing }
-    ensures stops { IfErr result (StopsDrawing (writing_of W.Sink output.old output.new) (S.holds system.now name.now)
-        (S.holds system.now (string_bytes listed.now.list)) listed.now.number) }
-    ensures untouched { IfErr result (λ fault. fault ≢ RunFault.Write → output.new ≡ output.old) }
+    ensures { ShowOf (S.holds system.now) name.now (Some listed.now) (writing_of W.Sink output.old output.new) result }
 {
     let mut puzzle = open(system, name, Document::Puzzle)?;
     let mut list = open(system, &listed.list, Document::List)?;
@@ -411,11 +366,7 @@ fn list_tiles<W: Sink>(
     colours: Colours,
     output: &mut W,
 ) -> Result<Exit, RunFault>
-    ensures given { IfOk result (λ exit. (exit ≡ Exit.Done)
-        × WritesWhole (writing_of W.Sink output.old output.new) (TilesGive sides colours)) }
-    ensures fault { IfErr result IsOfTiles }
-    ensures stops { IfErr result (StopsListing (writing_of W.Sink output.old output.new) sides colours) }
-    ensures untouched { IfErr result (λ fault. fault ≢ RunFault.Write → output.new ≡ output.old) }
+    ensures { TilesOf sides colours (writing_of W.Sink output.old output.new) result }
 {
     run_tiles(alloc, sides, colours, output)?;
     Ok(Exit::Done)

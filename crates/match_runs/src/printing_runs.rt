@@ -1,27 +1,29 @@
 //! Runs that print all arrangements, or why a list is refused.
 
-ghost use Rattle.std.specs.Prelude.{◌≡◌, ◌≢◌, ◌⊎◌, ◌++◌, List, IfOk, IfErr, IsErrOf, OnOk, length};
+ghost use Rattle.std.specs.Prelude.{◌≡◌, ◌++◌, List, IfOk, IfErr, OnOk, length};
 ghost use Rattle.match_puzzle.specs.Puzzle.{IsPuzzle};
 ghost use Rattle.match_puzzle.specs.declared.placements.Placement.{Placement};
 ghost use Rattle.cert_check.specs.Answer.{IsAnswer, IsCompleteList};
-ghost use Rattle.cert_check.specs.declared.faults.Answer.TheVariants.{Refused};
+ghost use Rattle.cert_check.specs.declared.faults.Answer.TheVariants.{Complete, Refused};
 ghost use Rattle.match_report.specs.AnswerText.{answer_line};
-ghost use Rattle.byte_streams.specs.Moves.{reading_of, writing_of};
+ghost use Rattle.match_show.specs.Facts.{number_line};
 ghost use Rattle.byte_streams.specs.Documents.{AreShort};
 ghost use Rattle.byte_streams.specs.LentTexts.{texts_of};
-ghost use Rattle.match_runs.specs.Exits.{status_of};
-ghost use Rattle.match_runs.specs.Runs.{AreAllInOrder, AreTooMany, IsCountOf, IsListText, Prints, count_text, number_line};
-ghost use Rattle.match_runs.specs.Runs.{ComesTo, Fails, Gives, IsOfRequest, IsOfRun, RunsOver, printed};
-ghost use Rattle.match_runs.specs.Sources.{apart};
+ghost use Rattle.byte_streams.specs.Moves.{reading_of, writing_of};
+ghost use Rattle.byte_streams.specs.Origins.{three_sources};
+ghost use Rattle.byte_streams.specs.Targets.{one_sink};
+ghost use Rattle.match_runs.specs.Printing.{AreAllInOrder, CompleteFails, IsCountOf, IsListText, Prints, count_text};
+ghost use Rattle.match_runs.specs.Printing.{PrintingFails, PrintingGives};
+ghost use Rattle.match_runs.specs.Runs.{MadeOf, Runs};
 
 use crate::exits::Status;
 use crate::faults::RunFault;
-use crate::printed::{Printed, answer_to};
+use crate::hints::hint_of;
 use crate::questions::read_question;
 use crate::random_fold::RandomFold;
-use crate::readings::read_documents;
 use crate::repetitions::distinct_symmetries;
-use byte_streams::{Documents, Sink, Source};
+use crate::running::run_by;
+use byte_streams::{Documents, MadeText, OneSink, OwnedDocuments, Sink, Source, ThreeSources};
 use cert_check::{Answer, Fault, Open, Prepared, Question};
 use itoa::Buffer;
 use match_explain::write_explanation;
@@ -58,14 +60,9 @@ pub fn run_expand<P: Source, L: Source, C: Source, W: Sink, R: RandomSource>(
     certificate: &mut C,
     writer: &mut W,
 ) -> Result<Status, RunFault>
-    // What was written is what the texts that came ask for, or a front of it where that failed; a fault of a document,
-    // or that too much is asked, is what they come to; and reading fails only where a source failed, or gave more than
-    // is read.
-    ensures run { RunsOver (apart (reading_of P.Source puzzle.old puzzle.new) (reading_of L.Source list.old list.new)
-        (reading_of C.Source certificate.old certificate.new))
-        (printed Printing.All) (writing_of W.Sink writer.old writer.new) result }
-    ensures fault { IfErr result (IsOfRun (printed Printing.All)) }
-    ensures untouched { IfErr result (λ fault. fault ≢ RunFault.Write → writer.new ≡ writer.old) }
+    ensures { Runs (three_sources (reading_of P.Source puzzle.old puzzle.new) (reading_of L.Source list.old list.new)
+        (reading_of C.Source certificate.old certificate.new)) (PrintingGives Printing.All)
+        (PrintingFails Printing.All) (one_sink (writing_of W.Sink writer.old writer.new)) result }
 {
     run_printing(rt, alloc, puzzle, list, certificate, Printing::All, writer)
 }
@@ -84,63 +81,84 @@ pub fn run_printing<P: Source, L: Source, C: Source, W: Sink, R: RandomSource>(
     printing: Printing,
     writer: &mut W,
 ) -> Result<Status, RunFault>
-    // What was written is what the texts that came ask for, or a front of it where that failed; a fault of a document,
-    // or that too much is asked, is what they come to; and reading fails only where a source failed, or gave more than
-    // is read.
-    ensures run { RunsOver (apart (reading_of P.Source puzzle.old puzzle.new) (reading_of L.Source list.old list.new)
-        (reading_of C.Source certificate.old certificate.new))
-        (printed printing) (writing_of W.Sink writer.old writer.new) result }
-    ensures fault { IfErr result (IsOfRun (printed printing)) }
-    ensures untouched { IfErr result (λ fault. fault ≢ RunFault.Write → writer.new ≡ writer.old) }
+    ensures { Runs (three_sources (reading_of P.Source puzzle.old puzzle.new) (reading_of L.Source list.old list.new)
+        (reading_of C.Source certificate.old certificate.new)) (PrintingGives printing)
+        (PrintingFails printing) (one_sink (writing_of W.Sink writer.old writer.new)) result }
 {
-    let read = read_documents(alloc, puzzle, list, certificate)?;
-    write_printing_of(rt, alloc, &read.lend(), printing, writer)
+    run_hinted(
+        rt,
+        alloc,
+        puzzle,
+        list,
+        certificate,
+        printing,
+        writer,
+        &mut None,
+    )
 }
 
-// Writes what is printed for the documents, and nothing else.
-fn write_printing_of<W: Sink, R: RandomSource>(
+/// The same, and where texts are to be explained and one has a fault, a hint is left of what its line has to be, if
+/// memory isn't refused to it.
+pub(crate) fn run_hinted<P: Source, L: Source, C: Source, W: Sink, R: RandomSource>(
     rt: &R,
     alloc: Global,
-    documents: &Documents<'_>,
+    puzzle: &mut P,
+    list: &mut L,
+    certificate: &mut C,
     printing: Printing,
     writer: &mut W,
+    hint: &mut Option<String>,
 ) -> Result<Status, RunFault>
-    requires { AreShort (texts_of documents.now) }
-    ensures run { ComesTo (λ Holds. Holds (texts_of documents.now))
-        (printed printing) (writing_of W.Sink writer.old writer.new) result }
-    ensures fault { IfErr result (IsOfRequest (printed printing)) }
-    ensures untouched { IfErr result (λ fault. fault ≢ RunFault.Write → writer.new ≡ writer.old) }
+    ensures { Runs (three_sources (reading_of P.Source puzzle.old puzzle.new) (reading_of L.Source list.old list.new)
+        (reading_of C.Source certificate.old certificate.new)) (PrintingGives printing)
+        (PrintingFails printing) (one_sink (writing_of W.Sink writer.old writer.new)) result }
 {
-    let printed = printing_of(rt, alloc, documents, printing)?;
-    printed.write(writer)
+    let make = |texts: &OwnedDocuments| -> Result<(MadeText, Status), RunFault>
+        ensures { MadeOf (PrintingGives printing) (PrintingFails printing) texts.now result }
+    {
+        let documents = texts.lend();
+        let made = printing_of(rt, alloc, &documents, printing);
+        if let (Printing::Explanation, Err(fault)) = (printing, &made) {
+            *hint = hint_of(alloc, &documents, fault);
+        }
+        made
+    };
+    let mut inputs = ThreeSources {
+        puzzle,
+        list,
+        certificate,
+    };
+    run_by(alloc, &mut inputs, make, &mut OneSink { sink: writer })
 }
 
-// What is printed for the documents.
+// What is printed of the documents.
 fn printing_of<R: RandomSource>(
     rt: &R,
     alloc: Global,
     documents: &Documents<'_>,
     printing: Printing,
-) -> Result<Printed, RunFault>
+) -> Result<(MadeText, Status), RunFault>
     requires { AreShort (texts_of documents.now) }
-    ensures gives { IfOk result (λ made.
-        Gives (printed printing) (texts_of documents.now) made.text.items made.status) }
-    ensures fails { IfErr result (Fails (printed printing) (texts_of documents.now)) }
+    ensures { MadeOf (PrintingGives printing) (PrintingFails printing) (texts_of documents.now) result }
 {
     let owned = read_question(alloc, documents)?;
     let question = owned.question();
     let prepared = match question.prepare(alloc, question.list_fault())? {
         Ok(prepared) => prepared,
-        Err(fault) => return refused_text(alloc, &question, fault, documents.certificate, printing),
+        Err(fault) => {
+            let text = refused_text(alloc, &question, fault, documents.certificate, printing)?;
+            return Ok((MadeText::new(text), Status::Refused));
+        }
     };
     let found = prepared.trees_fault(alloc, &Open)?;
     match prepared.answer(found) {
-        Answer::Complete => Ok(Printed {
-            text: complete_text(rt, alloc, prepared, printing)?,
-            status: Status::Complete,
-        }),
+        Answer::Complete => {
+            let text = complete_text(rt, alloc, prepared, printing)?;
+            Ok((MadeText::new(text), Status::Complete))
+        }
         Answer::Refused(fault) => {
-            refused_text(alloc, &question, fault, documents.certificate, printing)
+            let text = refused_text(alloc, &question, fault, documents.certificate, printing)?;
+            Ok((MadeText::new(text), Status::Refused))
         }
     }
 }
@@ -153,25 +171,22 @@ fn complete_text<R: RandomSource>(
     printing: Printing,
 ) -> Result<Vec<u8>, RunFault>
     requires { IsCompleteList prepared.puzzle prepared.symmetries prepared.listed }
-    ensures prints { IfOk result (λ text. Prints prepared.entry Answer.Complete printing text.items) }
-    ensures expand { IsErrOf result RunFault.Expand → AreTooMany printing prepared.entry }
-    ensures kind { IfErr result (λ fault. (fault ≡ RunFault.Expand) ⊎ (fault ≡ RunFault.Memory)) }
+    ensures prints { IfOk result (λ text. Prints prepared.entry Complete printing text.items) }
+    ensures fails { IfErr result (CompleteFails printing prepared.entry) }
 {
     match printing {
         Printing::All => all_text(rt, alloc, prepared),
         Printing::Count => counted_text(rt, alloc, &prepared),
-        Printing::Explanation => complete_line(alloc, &prepared),
+        Printing::Explanation => Ok(complete_line(alloc, &prepared)?),
     }
 }
 
 // The answer that a list is complete.
-fn complete_line(alloc: Global, prepared: &Prepared<'_>) -> Result<Vec<u8>, RunFault>
-    ensures line { IfOk result (λ text.
-        text.items ≡ answer_line Answer.Complete (length prepared.now.listed)) }
-    ensures kind { IfErr result (λ fault. fault ≡ RunFault.Memory) }
+fn complete_line(alloc: Global, prepared: &Prepared<'_>) -> Result<Vec<u8>, AllocError>
+    ensures { IfOk result (λ text. text.items ≡ answer_line Complete (length prepared.now.listed)) }
 {
     let listed = prepared.question().listed().len() as u32;
-    Ok(write_answer(alloc, &Answer::Complete, listed)?)
+    write_answer(alloc, &Answer::Complete, listed)
 }
 
 // What is printed where the list is refused for this fault.
@@ -181,21 +196,19 @@ fn refused_text(
     fault: Fault,
     certificate: &[u8],
     printing: Printing,
-) -> Result<Printed, RunFault>
+) -> Result<Vec<u8>, AllocError>
     requires puzzle { IsPuzzle question.now.puzzle }
     requires answer { IsAnswer question.now (Refused fault) }
-    ensures prints { IfOk result (λ made. Prints question.now (Refused fault) printing made.text.items) }
-    ensures status { IfOk result (λ made. made.status ≡ status_of (Refused fault)) }
-    ensures kind { IfErr result (λ fault. fault ≡ RunFault.Memory) }
+    ensures { IfOk result (λ text. Prints question.now (Refused fault) printing text.items) }
 {
     let listed = question.listed().len() as u32;
     match printing {
-        Printing::All | Printing::Count => answer_to(alloc, Answer::Refused(fault), listed),
+        Printing::All | Printing::Count => write_answer(alloc, &Answer::Refused(fault), listed),
         Printing::Explanation => {
             let why = write_explanation(alloc, question, &fault, certificate)?;
-            let mut printed = answer_to(alloc, Answer::Refused(fault), listed)?;
-            printed.text.extend_from_slice(&why)?;
-            Ok(printed)
+            let mut text = write_answer(alloc, &Answer::Refused(fault), listed)?;
+            text.extend_from_slice(&why)?;
+            Ok(text)
         }
     }
 }
@@ -209,8 +222,7 @@ fn counted_text<R: RandomSource>(
     requires { IsCompleteList prepared.now.puzzle prepared.now.symmetries prepared.now.listed }
     ensures count { IfOk result (λ text.
         (n : Count) × IsCountOf prepared.now n × (text.items ≡ count_text n)) }
-    ensures expand { IsErrOf result RunFault.Expand → AreTooMany Printing.Count prepared.now }
-    ensures kind { IfErr result (λ fault. (fault ≡ RunFault.Expand) ⊎ (fault ≡ RunFault.Memory)) }
+    ensures fails { IfErr result (CompleteFails Printing.Count prepared.now) }
 {
     let listed = prepared.question().listed();
     let counted = count(alloc, listed, prepared.symmetries(), RandomFold::new(rt))?;
@@ -250,8 +262,7 @@ fn all_text<R: RandomSource>(
     requires { IsCompleteList prepared.puzzle prepared.symmetries prepared.listed }
     ensures all { IfOk result (λ text. (all : List (List Placement)) × AreAllInOrder prepared.entry all
         × IsListText all text.items) }
-    ensures expand { IsErrOf result RunFault.Expand → AreTooMany Printing.All prepared.entry }
-    ensures kind { IfErr result (λ fault. (fault ≡ RunFault.Expand) ⊎ (fault ≡ RunFault.Memory)) }
+    ensures fails { IfErr result (CompleteFails Printing.All prepared.entry) }
 {
     let question = prepared.question();
     let listed = question.listed();

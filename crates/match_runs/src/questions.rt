@@ -1,6 +1,6 @@
 //! What documents ask.
 
-ghost use Rattle.std.specs.Prelude.{◌≡◌, ◌≢◌, ◌≤◌, Err, IfOk, IfErr, Ok, length};
+ghost use Rattle.std.specs.Prelude.{◌≡◌, ◌≤◌, IfOk, IfErr, Ok, length};
 ghost use Rattle.match_board.specs.declared.limits.TheConstants.{MOST_ARRANGEMENTS, MOST_WORKERS};
 ghost use Rattle.match_puzzle.specs.Puzzle.{IsPuzzle};
 ghost use Rattle.byte_streams.specs.Documents.{AreShort};
@@ -8,7 +8,7 @@ ghost use Rattle.byte_streams.specs.LentTexts.{texts_of};
 ghost use Rattle.match_text.specs.Lists.{list_of};
 ghost use Rattle.match_text.specs.Puzzles.{PuzzleReads};
 ghost use Rattle.cert_tree.specs.CertificateText.{CertificateGives, certificate_of};
-ghost use Rattle.match_runs.specs.Runs.{RunGives, Spells};
+ghost use Rattle.match_runs.specs.Checking.{CheckFails, Spells};
 
 use crate::faults::RunFault;
 use byte_streams::Documents;
@@ -70,7 +70,7 @@ fn with_certificate(
     requires certificate { CertificateGives certificate (certificate_of (texts_of _documents.now).certificate) }
     ensures question { IfOk result (Spells (texts_of _documents.now)) }
     ensures puzzle { IfOk result (λ q. IsPuzzle q.puzzle) }
-    ensures fault { IfErr result (λ fault. fault ≢ RunFault.Memory → RunGives (texts_of _documents.now) (Err fault)) }
+    ensures fault { IfErr result (CheckFails (texts_of _documents.now)) }
 {
     let certificate = certificate?;
     Ok(OwnedQuestion {
@@ -86,7 +86,7 @@ pub fn read_question(alloc: Global, documents: &Documents<'_>) -> Result<OwnedQu
     requires { AreShort (texts_of documents.now) }
     ensures question { IfOk result (Spells (texts_of documents.now)) }
     ensures puzzle { IfOk result (λ q. IsPuzzle q.puzzle) }
-    ensures fault { IfErr result (λ fault. fault ≢ RunFault.Memory → RunGives (texts_of documents.now) (Err fault)) }
+    ensures fault { IfErr result (CheckFails (texts_of documents.now)) }
 {
     let puzzle = read_puzzle(alloc, documents.puzzle)?;
     let listed = read_list(alloc, documents.list)?;
@@ -105,7 +105,7 @@ pub fn read_question_with<R: Threads + Sync>(
     requires workers { (1 ≤ workers) × (workers ≤ MOST_WORKERS) }
     ensures question { IfOk result (Spells (texts_of documents.now)) }
     ensures puzzle { IfOk result (λ q. IsPuzzle q.puzzle) }
-    ensures fault { IfErr result (λ fault. fault ≢ RunFault.Memory → RunGives (texts_of documents.now) (Err fault)) }
+    ensures fault { IfErr result (CheckFails (texts_of documents.now)) }
 {
     let puzzle = read_puzzle(alloc, documents.puzzle)?;
     let listed = read_list(alloc, documents.list)?;

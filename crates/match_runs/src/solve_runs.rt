@@ -1,23 +1,25 @@
 //! Runs of the solver.
 
-ghost use Rattle.std.specs.Prelude.{◌≡◌, ◌≢◌, ◌≤◌, IfOk, OnOk, OnErr, IfErr, IsErrOf, length};
+ghost use Rattle.std.specs.Prelude.{◌≡◌, ◌≤◌, IfOk, length};
 ghost use Rattle.match_text.specs.ListSpelling.{IsListWithin};
 ghost use Rattle.match_text.specs.declared.ranges.TheConstants.{SECOND};
 ghost use Rattle.cert_check.specs.Answer.{AreArrangements};
 ghost use Rattle.byte_streams.specs.Moves.{reading_of, writing_of};
-ghost use Rattle.match_runs.specs.Solving.{Products, SolveGives, StopsWriting, WritesAll};
-ghost use Rattle.match_runs.specs.Solving.{first_board, products_of, report_text, shares_of};
-ghost use Rattle.match_runs.specs.Solving.{IsOfMaking, IsOfPuzzle, IsOfSolving, SolveFails};
-ghost use Rattle.match_runs.specs.Sources.{PuzzleReadToEnd, StopsReadingPuzzle};
+ghost use Rattle.byte_streams.specs.Origins.{one_source};
+ghost use Rattle.byte_streams.specs.Targets.{three_sinks};
+ghost use Rattle.byte_streams.specs.declared.faults.Document.TheVariants as documents;
+ghost use Rattle.match_runs.specs.Runs.{MadeOf, Runs};
+ghost use Rattle.match_runs.specs.Solving.{SolveFails, SolveGives, first_board, report_text, shares_of};
 
 use crate::faults::RunFault;
 use crate::progress::SolveWatch;
-use crate::readings::read_whole;
-use crate::writings::write_text;
-use byte_streams::{Document, Sink, Source};
+use crate::running::run_by;
+use byte_streams::{
+    Document, Inputs, MadeText, OneSource, Outputs, Products, Sink, Source, Text, ThreeSinks,
+};
 use cert_tree::{Certificate, write_certificate};
 use command_words::{Depth, Fuel, Workers};
-use match_board::limits::{MOST_BYTES, MOST_WORKERS};
+use match_board::limits::MOST_WORKERS;
 use match_crew::{Solved, Unwatched, solve_watched};
 use match_puzzle::{Arrangement, Puzzle};
 use match_report::{Taken, write_board, write_tally};
@@ -56,24 +58,9 @@ pub fn run_solve<R: Threads + Wait + Sync, P: Source, L: Sink, C: Sink, W: Sink>
     certificate: &mut C,
     writer: &mut W,
 ) -> Result<(), RunFault>
-
-    // What was written is made of the text that came.
-    ensures ok { OnOk result (PuzzleReadToEnd (reading_of P.Source puzzle.old puzzle.new)
-        (λ text. (made : Products) × SolveGives workers text made × WritesAll (writing_of L.Sink list.old list.new)
-        (writing_of C.Sink certificate.old certificate.new) (writing_of W.Sink writer.old writer.new) made)) }
-    // A fault of the puzzle or of solving it is what the text comes to.
-    ensures puzzle { IfErr result (λ fault. IsOfPuzzle fault
-        → PuzzleReadToEnd (reading_of P.Source puzzle.old puzzle.new) (λ text. SolveFails text fault)) }
-    ensures fault { IfErr result IsOfSolving }
-    ensures untouched { IfErr result (λ fault. fault ≢ RunFault.Write
-        → (list.new ≡ list.old) × (certificate.new ≡ certificate.old) × (writer.new ≡ writer.old)) }
-    // Reading fails only where the source answered an error, or more bytes came than are read. Want of memory hides
-    // neither.
-    ensures reading { IfErr result (StopsReadingPuzzle (reading_of P.Source puzzle.old puzzle.new)) }
-    // Writing fails only where a sink answered an error, or took nothing; then a front of its text went out.
-    ensures write { IsErrOf result RunFault.Write → PuzzleReadToEnd (reading_of P.Source puzzle.old puzzle.new)
-        (λ text. (made : Products) × SolveGives workers text made × StopsWriting (writing_of L.Sink list.old list.new)
-        (writing_of C.Sink certificate.old certificate.new) (writing_of W.Sink writer.old writer.new) made) }
+    ensures { Runs (one_source documents.Puzzle (reading_of P.Source puzzle.old puzzle.new)) (SolveGives workers)
+        SolveFails (three_sinks (writing_of L.Sink list.old list.new)
+        (writing_of C.Sink certificate.old certificate.new) (writing_of W.Sink writer.old writer.new)) result }
 {
     run_solve_watched(
         rt,
@@ -109,53 +96,58 @@ pub fn run_solve_watched<
     certificate: &mut C,
     writer: &mut W,
 ) -> Result<(), RunFault>
-
-    // What was written is made of the text that came.
-    ensures ok { OnOk result (PuzzleReadToEnd (reading_of P.Source puzzle.old puzzle.new)
-        (λ text. (made : Products) × SolveGives search.workers text made × WritesAll (writing_of L.Sink list.old list.new)
-        (writing_of C.Sink certificate.old certificate.new) (writing_of W.Sink writer.old writer.new) made)) }
-    // A fault of the puzzle or of solving it is what the text comes to.
-    ensures puzzle { IfErr result (λ fault. IsOfPuzzle fault
-        → PuzzleReadToEnd (reading_of P.Source puzzle.old puzzle.new) (λ text. SolveFails text fault)) }
-    ensures fault { IfErr result IsOfSolving }
-    ensures untouched { IfErr result (λ fault. fault ≢ RunFault.Write
-        → (list.new ≡ list.old) × (certificate.new ≡ certificate.old) × (writer.new ≡ writer.old)) }
-    // Reading fails only where the source answered an error, or more bytes came than are read. Want of memory hides
-    // neither.
-    ensures reading { IfErr result (StopsReadingPuzzle (reading_of P.Source puzzle.old puzzle.new)) }
-    // Writing fails only where a sink answered an error, or took nothing; then a front of its text went out.
-    ensures write { IsErrOf result RunFault.Write → PuzzleReadToEnd (reading_of P.Source puzzle.old puzzle.new)
-        (λ text. (made : Products) × SolveGives search.workers text made × StopsWriting (writing_of L.Sink list.old list.new)
-        (writing_of C.Sink certificate.old certificate.new) (writing_of W.Sink writer.old writer.new) made) }
+    ensures { Runs (one_source documents.Puzzle (reading_of P.Source puzzle.old puzzle.new)) (SolveGives search.workers)
+        SolveFails (three_sinks (writing_of L.Sink list.old list.new)
+        (writing_of C.Sink certificate.old certificate.new) (writing_of W.Sink writer.old writer.new)) result }
 {
-    let text = read_whole(alloc, puzzle, MOST_BYTES, Document::Puzzle)?;
-    let made = make_texts(rt, alloc, &text, search, watch)?;
-    watch.made(made.list.len(), made.certificate.len());
-    write_texts(&made, list, certificate, writer)
+    let mut inputs = OneSource {
+        source: puzzle,
+        document: Document::Puzzle,
+    };
+    let mut outputs = ThreeSinks {
+        list,
+        certificate,
+        report: writer,
+    };
+    solve_over(rt, alloc, search, watch, &mut inputs, &mut outputs)
 }
 
-// The texts of a list, of a certificate and of the report on them.
-#[derive(Drop)]
-pub(crate) struct Made {
-    list: Vec<u8>,
-    certificate: Vec<u8>,
-    report: Vec<u8>,
+// The same, over whatever the puzzle comes from and the texts go to.
+fn solve_over<
+    R: Threads + Wait + Sync,
+    T: SolveWatch + Sync,
+    I: Inputs<Texts = Text>,
+    O: Outputs<Made = Products>,
+>(
+    rt: &R,
+    alloc: Global,
+    search: SearchPlan,
+    watch: &T,
+    inputs: &mut I,
+    outputs: &mut O,
+) -> Result<(), RunFault>
+    ensures inputs { I.same inputs.old inputs.new }
+    ensures outputs { O.same outputs.old outputs.new }
+    ensures run { Runs (I.reads inputs.old inputs.new) (SolveGives search.workers) SolveFails
+        (O.writes outputs.old outputs.new) result }
+{
+    let make = |text: &Text| -> Result<(Products, ()), RunFault>
+        ensures { MadeOf (SolveGives search.workers) SolveFails text.now result }
+    { make_products(rt, alloc, text, search, watch) };
+    run_by(alloc, inputs, make, outputs)
 }
 
 // What is made of a puzzle's text.
-fn make_texts<R: Threads + Wait + Sync, T: SolveWatch + Sync>(
+fn make_products<R: Threads + Wait + Sync, T: SolveWatch + Sync>(
     rt: &R,
     alloc: Global,
-    text: &[u8],
+    text: &Text,
     search: SearchPlan,
     watch: &T,
-) -> Result<Made, RunFault>
-    requires text { length text.now ≤ MOST_BYTES }
-    ensures made { IfOk result (λ made. SolveGives search.workers text.now (products_of made)) }
-    ensures fault { IfErr result (SolveFails text.now) }
-    ensures kind { IfErr result IsOfMaking }
+) -> Result<(Products, ()), RunFault>
+    ensures { MadeOf (SolveGives search.workers) SolveFails text.now result }
 {
-    let puzzle = read_puzzle(alloc, text)?;
+    let puzzle = read_puzzle(alloc, text.bytes())?;
     let Solved {
         list: listed,
         certificate,
@@ -170,11 +162,16 @@ fn make_texts<R: Threads + Wait + Sync, T: SolveWatch + Sync>(
         watch,
     )?;
     let shares = shares(alloc, tally)?;
-    Ok(Made {
-        list: write_list(alloc, &listed)?,
-        certificate: write_certificate(alloc, &certificate)?,
-        report: report_on(alloc, &puzzle, &listed, &certificate, &shares)?,
-    })
+    let list = write_list(alloc, &listed)?;
+    let text = write_certificate(alloc, &certificate)?;
+    let report = report_on(alloc, &puzzle, &listed, &certificate, &shares)?;
+    watch.made(list.len(), text.len());
+    let made = Products {
+        list: MadeText::new(list),
+        certificate: MadeText::new(text),
+        report: MadeText::new(report),
+    };
+    Ok((made, ()))
 }
 
 // The numbers that each worker took.
@@ -219,24 +216,4 @@ fn board_of_first(
         None => Ok(Vec::new(alloc)),
         Some(arrangement) => write_board(alloc, puzzle, arrangement.placements()),
     }
-}
-
-// Writes the list, then the certificate, then the report.
-fn write_texts<L: Sink, C: Sink, W: Sink>(
-    made: &Made,
-    list: &mut L,
-    certificate: &mut C,
-    writer: &mut W,
-) -> Result<(), RunFault>
-    ensures ok { OnOk result (WritesAll (writing_of L.Sink list.old list.new)
-        (writing_of C.Sink certificate.old certificate.new) (writing_of W.Sink writer.old writer.new)
-        (products_of made.now)) }
-    ensures write { OnErr result (StopsWriting (writing_of L.Sink list.old list.new)
-        (writing_of C.Sink certificate.old certificate.new) (writing_of W.Sink writer.old writer.new)
-        (products_of made.now)) }
-    ensures fault { IfErr result (λ fault. fault ≡ RunFault.Write) }
-{
-    write_text(list, &made.list)?;
-    write_text(certificate, &made.certificate)?;
-    write_text(writer, &made.report)
 }

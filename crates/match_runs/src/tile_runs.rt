@@ -1,17 +1,16 @@
 //! Lists of tiles.
 
-ghost use Rattle.std.specs.Prelude.{◌≡◌, ◌≢◌, OnOk, IfErr, IsErrOf};
-ghost use Rattle.match_board.specs.Turns.{HasMoreLeastWords};
 ghost use Rattle.byte_streams.specs.Moves.{writing_of};
-ghost use Rattle.match_runs.specs.Writings.{WritesFront, WritesWhole};
-ghost use Rattle.match_runs.specs.Tiles.{IsOfTiles, TilesGive};
+ghost use Rattle.byte_streams.specs.Origins.{no_source};
+ghost use Rattle.byte_streams.specs.Targets.{one_sink};
+ghost use Rattle.match_runs.specs.Runs.{MadeOf, Runs};
+ghost use Rattle.match_runs.specs.Tiles.{TilesFail, TilesGive};
 
 use crate::faults::RunFault;
-use crate::writings::write_text;
-use byte_streams::Sink;
+use crate::running::run_by;
+use byte_streams::{MadeText, NoSource, OneSink, Sink};
 use command_words::{Colours, Sides};
 use match_board::all_tiles;
-use match_board::limits::MOST_CLASSES;
 use match_text::write_tiles;
 use std::alloc::Global;
 
@@ -26,17 +25,20 @@ pub fn run_tiles<W: Sink>(
     colours: Colours,
     writer: &mut W,
 ) -> Result<(), RunFault>
-    ensures ok { OnOk result (WritesWhole (writing_of W.Sink writer.old writer.new) (TilesGive sides colours)) }
+    ensures { Runs no_source (TilesGive sides colours) (TilesFail sides colours)
+        (one_sink (writing_of W.Sink writer.old writer.new)) result }
+{
+    let make = |_nothing: &()| -> Result<(MadeText, ()), RunFault>
+        ensures { MadeOf (TilesGive sides colours) (TilesFail sides colours) _nothing.now result }
+    { tiles_text(alloc, sides, colours) };
+    run_by(alloc, &mut NoSource, make, &mut OneSink { sink: writer })
+}
 
-    ensures fault { IfErr result IsOfTiles }
-    ensures tiles { IsErrOf result RunFault.Tiles → HasMoreLeastWords sides colours MOST_CLASSES }
-    ensures untouched { IfErr result (λ fault. fault ≢ RunFault.Write → writer.new ≡ writer.old) }
-    // Writing fails only where the sink answered an error, or took nothing; then a front of the words went out.
-    ensures write { IsErrOf result RunFault.Write
-        → WritesFront (writing_of W.Sink writer.old writer.new) (TilesGive sides colours) }
+// The words of the tiles.
+fn tiles_text(alloc: Global, sides: Sides, colours: Colours) -> Result<(MadeText, ()), RunFault>
+    ensures { MadeOf (TilesGive sides colours) (TilesFail sides colours) tt result }
 {
     let tiles = all_tiles(alloc, sides.get() as u8, colours.get() as u8)?;
     let text = write_tiles(alloc, &tiles)?;
-    write_text(writer, &text)?;
-    Ok(())
+    Ok((MadeText::new(text), ()))
 }

@@ -5,15 +5,13 @@ ghost use Rattle.std.specs.String.{string_bytes};
 ghost use Rattle.clap.specs.Words.{kind_of};
 ghost use Rattle.clap.specs.declared.error.Error.{Error};
 ghost use Rattle.byte_streams.specs.Moves.{reading_of, writing_of};
-ghost use Rattle.match_runs.specs.Files.{TakesWhole};
 ghost use Rattle.match_runs.specs.Exits.{fault_exit};
-ghost use Rattle.match_runs.specs.OrderRuns.{IsOfOrder, OrderGives, OrderStops};
+ghost use Rattle.match_runs.specs.OrderRuns.{RunOf};
 ghost use Rattle.match_runs.specs.WordRuns.{CarriesOut, Explains, Tells, TellsFault, WantsMemory, WordsGive};
 
 use crate::exits::Exit;
 use crate::faults::{RunFault, fault_text};
 use crate::files::FileSystem;
-use crate::hints::tell_hint;
 use crate::order_runs::run_order;
 use byte_streams::{Sink, Source, write_whole};
 use command_words::{Order, WordsFault, order};
@@ -43,15 +41,9 @@ pub fn run_words<
     output: &mut W,
     errors: &mut E,
 ) -> Exit
-    ensures { WordsGive (map string_bytes words.now)
-        (λ order. CarriesOut
-        (OrderGives (S.holds system.now) (λ name. TakesWhole S.Writer.Sink (S.makes system.now name)) (S.puts system.now)
-        (reading_of I.Source input.old input.new) (writing_of W.Sink output.old output.new) order)
-        (λ fault. IsOfOrder order fault × OrderStops (S.holds system.now) (reading_of I.Source input.old input.new)
-        (writing_of W.Sink output.old output.new) order fault)
-        (writing_of E.Sink errors.old errors.new) (errors.new ≡ errors.old) (output.new ≡ output.old) result)
-        (WantsMemory (writing_of E.Sink errors.old errors.new) (output.new ≡ output.old) result)
-        (Explains (writing_of E.Sink errors.old errors.new) (errors.new ≡ errors.old) (output.new ≡ output.old) result) }
+    ensures { WordsGive (map string_bytes words.now) (RunOf S.FileSystem S.Writer.Sink system.now
+        (reading_of I.Source input.old input.new) (writing_of W.Sink output.old output.new))
+        (writing_of W.Sink output.old output.new) (writing_of E.Sink errors.old errors.new) result }
 {
     match order(alloc, words) {
         Ok(order) => carry_out(rt, alloc, &order, system, input, output, errors),
@@ -75,20 +67,24 @@ fn carry_out<
     output: &mut W,
     errors: &mut E,
 ) -> Exit
-    ensures { CarriesOut
-        (OrderGives (S.holds system.now) (λ name. TakesWhole S.Writer.Sink (S.makes system.now name)) (S.puts system.now)
-        (reading_of I.Source input.old input.new) (writing_of W.Sink output.old output.new) order.now)
-        (λ fault. IsOfOrder order.now fault × OrderStops (S.holds system.now) (reading_of I.Source input.old input.new)
-        (writing_of W.Sink output.old output.new) order.now fault)
-        (writing_of E.Sink errors.old errors.new) (errors.new ≡ errors.old) (output.new ≡ output.old) result }
+    ensures { CarriesOut (RunOf S.FileSystem S.Writer.Sink system.now (reading_of I.Source input.old input.new)
+        (writing_of W.Sink output.old output.new) order.now) (writing_of E.Sink errors.old errors.new) result }
 {
-    match run_order(rt, alloc, order, system, input, output) {
+    let mut hint = None;
+    match run_order(rt, alloc, order, system, input, output, &mut hint) {
         Ok(exit) => exit,
         Err(fault) => {
             let exit = stopped(alloc, &fault, errors);
-            tell_hint(rt, alloc, order, &fault, system);
+            tell_hint(rt, &hint);
             exit
         }
+    }
+}
+
+// Tells what was left to be told beside a fault.
+fn tell_hint<R: Eprint>(rt: &R, hint: &Option<String>) {
+    if let Some(hint) = hint {
+        let _ = rt.eprintln(hint);
     }
 }
 
@@ -100,9 +96,9 @@ fn refuse<W: Sink, E: Sink>(
     errors: &mut E,
 ) -> Exit
     ensures memory { fault.now ≡ WordsFault.Memory
-        → WantsMemory (writing_of E.Sink errors.old errors.new) (output.new ≡ output.old) result }
+        → WantsMemory (writing_of W.Sink output.old output.new) (writing_of E.Sink errors.old errors.new) result }
     ensures words { (error : Error) → fault.now ≡ WordsFault.Words error
-        → Explains (writing_of E.Sink errors.old errors.new) (errors.new ≡ errors.old) (output.new ≡ output.old) result
+        → Explains (writing_of W.Sink output.old output.new) (writing_of E.Sink errors.old errors.new) result
         (kind_of error) }
 {
     match fault {
@@ -148,7 +144,7 @@ fn explained<W: Sink, E: Sink>(
     output: &mut W,
     errors: &mut E,
 ) -> Exit
-    ensures { Explains (writing_of E.Sink errors.old errors.new) (errors.new ≡ errors.old) (output.new ≡ output.old) result
+    ensures { Explains (writing_of W.Sink output.old output.new) (writing_of E.Sink errors.old errors.new) result
         (kind_of error.now) }
 {
     let Ok(text) = format!(in alloc; "{error}") else {

@@ -1,7 +1,7 @@
 //! An order over files whose texts are known.
 
 ghost use Rattle.std.specs.Prelude.{◌≡◌, IfOk};
-ghost use Rattle.match_runs.specs.Runs.{SpellCompleteList};
+ghost use Rattle.match_runs.specs.Checking.{SpellCompleteList};
 
 use crate::checks::TWINS;
 use crate::files::HeldFiles;
@@ -20,8 +20,8 @@ use std::time::Clock;
 // Both tiles fit the first cell, so that it isn't dead.
 const DEAD_TWINS: &[u8] = b"certificate 1\nsymmetries 0\nlemmas 1\nlemma 0 prefix tree d 0\nend\n";
 
-// How a check of three files ends that hold these texts. What `run_order` shows is said of the texts here: where it is
-// done, they spell a list that is complete.
+// How a check of three files ends that hold these texts. What `run_order` says of the files is said of the texts here:
+// where it is done, they spell a list that is complete.
 fn exit_of<R: Threads + Wait + Sync + RandomSource + Clock + Eprint>(
     rt: &R,
     alloc: Global,
@@ -56,7 +56,15 @@ fn exit_of<R: Threads + Wait + Sync + RandomSource + Clock + Eprint>(
     };
     let mut input = Fake::new(alloc, b"", 7, usize::MAX);
     let mut output = Fake::new(alloc, b"", 5, usize::MAX);
-    run_order(rt, alloc, &order, &system, &mut input, &mut output)
+    run_order(
+        rt,
+        alloc,
+        &order,
+        &system,
+        &mut input,
+        &mut output,
+        &mut None,
+    )
 }
 
 #[test]

@@ -1,25 +1,18 @@
 use Rattle.std.proofs.Common.{◌≡◌, ◌∙◌, length, ap, subst}
 use Rattle.std.proofs.lemmas.Result.{err_from_is_err_and}
-use Rattle.cert_check.specs.Answer.{IsAnswer, IsCompleteList}
+use Rattle.cert_check.specs.Answer.{IsAnswer, IsSound}
 use Rattle.cert_check.specs.Setting.{Question, question_of}
-use Rattle.cert_check.specs.declared.faults.Answer.TheVariants.{Complete}
+use Rattle.match_report.specs.AnswerText.{answer_line}
 use Rattle.byte_streams.specs.LentTexts.{texts_of}
-use Rattle.match_runs.specs.Runs.{checked, outcome_of}
-use Rattle.match_runs.specs.declared.printed.Printed.{Printed}
-use Rattle.match_runs.proofs.RunLemmas.{both, has_line}
-use Rattle.match_runs.proofs.SourceLemmas.{answer_shows, documents_fail, memory_fails}
+use Rattle.match_runs.proofs.RunLemmas.{check_kind, has_line}
 use Rattle.match_runs.proofs.check_runs.answer_of.Goals.{In_ok-answer}
 use Rattle.match_runs.proofs.check_runs.answer_of.Goals as goal
 
-pub returns-in_err-owned-clause-fails : goal.returns-in_err-owned-clause-fails
-returns-in_err-owned-clause-fails g c =
+pub returns-in_err-owned : goal.returns-in_err-owned
+returns-in_err-owned g c =
     let w = err_from_is_err_and c.from_residual.result c.from_residual.ensures.1 in
-    rw (w.1, w.2) (documents_fail checked (texts_of c.args.documents.now) c.in_err-owned.field-0.0 c.in_err-owned.ensures.fault)
-
-pub returns-in_err-answer-clause-fails : goal.returns-in_err-answer-clause-fails
-returns-in_err-answer-clause-fails g c =
-    let w = err_from_is_err_and c.from_residual-in_err-answer.result c.from_residual-in_err-answer.ensures.1 in
-    rw (w.1, w.2) tt
+    let fails = c.in_err-owned.ensures.fault in
+    rw (w.1, w.2) (fails, check_kind (texts_of c.args.documents.now) c.in_err-owned.field-0.0 fails)
 
 -- the question that was answered is the one that the documents spell
 asked : (g : _) (c : In_ok-answer g) → question_of c.puzzle.result.now c.listed.result.now c.certificate.result.now ≡ c.in_ok-owned.owned
@@ -30,26 +23,23 @@ asked g c =
 answered : (g : _) (c : In_ok-answer g) → IsAnswer c.in_ok-owned.owned c.in_ok-answer.answer
 answered g c = subst (λ (q : Question). IsAnswer q c.in_ok-answer.answer) (asked g c) c.in_ok-answer.ensures.answer
 
-pub answer_to-requires : goal.answer_to-requires
-answer_to-requires g c =
-    let at = (goal.at.answer_to-requires g c).In_ok-answer in
+pub write_answer-requires : goal.write_answer-requires
+write_answer-requires g c =
+    let at = (goal.at.write_answer-requires g c).In_ok-answer in
     has_line c.in_ok-owned.owned c.in_ok-answer.answer c.in_ok-owned.ensures.puzzle (answered g at)
 
-pub returns-clause-gives : goal.returns-clause-gives
-returns-clause-gives g c =
-    let at = (goal.at.returns-clause-gives g c).In_ok-answer in
+pub returns : goal.returns
+returns g c =
+    let at = (goal.at.returns g c).In_ok-answer in
     let owned = c.in_ok-owned.owned in
-    let outcome = outcome_of c.in_ok-answer.answer (length c.listed-2.result.now) in
+    let answer = c.in_ok-answer.answer in
     let many : length c.listed-2.result.now ≡ length owned.listed = ap length (c.listed-2.ensures.listed ∙ ap (λ (q : Question). q.listed) c.question-question.ensures) in
-    both c.answer_to.result (λ printed text status. (outcome, (owned, c.in_ok-owned.ensures.question, answered g at, many), text, status))
-    c.answer_to.ensures.text c.answer_to.ensures.status
-
-pub returns-clause-complete : goal.returns-clause-complete
-returns-clause-complete g c =
-    let at = (goal.at.returns-clause-complete g c).In_ok-answer in
-    let owned = c.in_ok-owned.owned in
-    let complete = λ (is : c.in_ok-answer.answer ≡ Complete). subst (λ (q : Question). IsCompleteList q.puzzle q.symmetries q.listed) (asked g at) (c.in_ok-answer.ensures.complete is) in
-    answer_shows (λ (p : Printed). p.status) c.in_ok-answer.answer c.answer_to.result c.answer_to.ensures.status (λ is. (owned, c.in_ok-owned.ensures.question, complete is))
-
-pub returns-clause-fails : goal.returns-clause-fails
-returns-clause-fails g c = memory_fails checked (texts_of c.args.documents.now) c.answer_to.result c.answer_to.ensures.kind
+    record {
+      question = owned;
+      answer = answer;
+      spelled = c.in_ok-owned.ensures.question;
+      answered = answered g at;
+      sound = subst (λ (q : Question). IsSound q answer) (asked g at) c.in_ok-answer.ensures.complete;
+      is = c.new.ensures ∙ c.in_ok-line.ensures ∙ ap (answer_line answer) many;
+      ends = c.of_answer.ensures;
+    }

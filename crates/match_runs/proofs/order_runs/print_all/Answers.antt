@@ -1,15 +1,25 @@
+use Rattle.std.proofs.Common.{Ok, Err}
 use Rattle.std.proofs.lemmas.Result.{err_from_is_err_and}
-use Rattle.match_runs.proofs.OrderLemmas.{holds_text}
+use Rattle.byte_streams.specs.Moves.{reading_of, writing_of}
+use Rattle.match_runs.specs.Printing.{PrintingFails, PrintingGives}
+use Rattle.match_runs.proofs.OrderLemmas.{over_three, printing_complete}
 use Rattle.match_runs.proofs.order_runs.print_all.Goals as goal
 
-pub returns-clause-given : goal.returns-clause-given
-returns-clause-given g c =
-    let t = c.in_ok-status.ensures.run.0 in
-    let opened = c.in_ok-opened.ensures in
-    (c.in_ok-status.status, (t.0, holds_text _ _ _ _ _ opened.puzzle t.1.0, holds_text _ _ _ _ _ opened.list t.1.1, holds_text _ _ _ _ _ opened.certificate t.1.2, t.2), c.of_status.ensures)
-
-pub returns-in_err-status-clause-stops : goal.returns-in_err-status-clause-stops
-returns-in_err-status-clause-stops g c =
+pub returns-in_err-status : goal.returns-in_err-status
+returns-in_err-status g c =
     let w = err_from_is_err_and c.from_residual-in_err-status.result c.from_residual-in_err-status.ensures.1 in
     let opened = c.in_ok-opened.ensures in
-    rw (w.1, w.2) (λ comes. let t = c.in_err-status.ensures.run.0 comes in (t.0, holds_text _ _ _ _ _ opened.puzzle t.1.0, holds_text _ _ _ _ _ opened.list t.1.1, holds_text _ _ _ _ _ opened.certificate t.1.2, t.2))
+    let new = c.run_hinted.new in
+    let reading = reading_of g.S.Reader.Source in
+    rw (w.1, w.2) (over_three (writing_of g.W.Sink c.args.output.now new.writer) (PrintingGives c.args.printing) (PrintingFails c.args.printing) (printing_complete c.args.printing) (g.S.FileSystem.holds c.args.system.now) c.args.files.now
+    (reading c.in_ok-opened.opened.puzzle new.puzzle) (reading c.in_ok-opened.opened.list new.list) (reading c.in_ok-opened.opened.certificate new.certificate)
+    opened.puzzle opened.list opened.certificate (Err c.in_err-status.field-0.0) c.in_err-status.ensures)
+
+pub returns : goal.returns
+returns g c =
+    let opened = c.in_ok-opened.ensures in
+    let new = c.run_hinted.new in
+    let reading = reading_of g.S.Reader.Source in
+    rw c.of_status.ensures (over_three (writing_of g.W.Sink c.args.output.now new.writer) (PrintingGives c.args.printing) (PrintingFails c.args.printing) (printing_complete c.args.printing) (g.S.FileSystem.holds c.args.system.now) c.args.files.now
+    (reading c.in_ok-opened.opened.puzzle new.puzzle) (reading c.in_ok-opened.opened.list new.list) (reading c.in_ok-opened.opened.certificate new.certificate)
+    opened.puzzle opened.list opened.certificate (Ok c.in_ok-status.status) c.in_ok-status.ensures)

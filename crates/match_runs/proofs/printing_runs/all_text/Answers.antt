@@ -9,7 +9,8 @@ use Rattle.cert_check.specs.Answer.{IsCompleteList}
 use Rattle.cert_check.specs.Setting.{Question, motions_of}
 use Rattle.symmetry_orbits.specs.Closure.{AddsEach}
 use Rattle.symmetry_orbits.specs.Expansion.{AreMoreReached, IsExpansion, Takes}
-use Rattle.match_runs.specs.Runs.{AreAllInOrder, IsListText}
+use Rattle.match_runs.specs.Printing.{AreAllInOrder, IsListText}
+use Rattle.match_runs.specs.declared.printing_runs.Printing.TheVariants.{All}
 use Rattle.match_runs.proofs.RepetitionLemmas.{closure_all}
 use Rattle.match_runs.proofs.RunLemmas.{all_in_order, all_within, expand_fails, kept_are, kept_reach}
 use Rattle.match_runs.proofs.printing_runs.all_text.Goals.{After-deref}
@@ -38,17 +39,17 @@ expand-requires g c =
     let p = c.args.prepared.puzzle in
     (p, kept_are p c.listed-listed.result.now c.args.prepared.symmetries c.question-question.ensures.puzzle (complete g at) c.deref.result.now (kept g at))
 
-pub returns-in_err-all-clause-expand : goal.returns-in_err-all-clause-expand
-returns-in_err-all-clause-expand g c =
-    let at = (goal.at.returns-in_err-all-clause-expand g c).After-deref in
+pub returns-in_err-all-clause-fails : goal.returns-in_err-all-clause-fails
+returns-in_err-all-clause-fails g c =
+    let at = (goal.at.returns-in_err-all-clause-fails g c).After-deref in
     let p = c.args.prepared.puzzle in
     let lines = c.args.prepared.symmetries in
     let listed = c.listed-listed.result.now in
     let puzzle = c.question-question.ensures.puzzle in
     let are = kept_are p listed lines puzzle (complete g at) c.deref.result.now (kept g at) in
     let w = err_from_is_err_and c.from_residual.result c.from_residual.ensures.1 in
-    rw (w.1, w.2)
-    (λ e. subst (AreMoreReached MOST_ARRANGEMENTS p lines) (listed_is g at) (kept_reach p listed lines puzzle (complete g at) MOST_ARRANGEMENTS c.deref.result.now (kept g at) (c.in_err-all.ensures.too_many (expand_fails e) p are)))
+    rw (w.1, w.2) (expand_fails All c.args.prepared c.in_err-all.field-0.0
+    (λ e. subst (AreMoreReached MOST_ARRANGEMENTS p lines) (listed_is g at) (kept_reach p listed lines puzzle (complete g at) MOST_ARRANGEMENTS c.deref.result.now (kept g at) (c.in_err-all.ensures.too_many e p are))))
 
 pub write_list-requires : goal.write_list-requires
 write_list-requires g c =

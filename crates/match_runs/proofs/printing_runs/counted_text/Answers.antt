@@ -9,6 +9,7 @@ use Rattle.cert_check.specs.Setting.{Question, line_of, motions_of}
 use Rattle.cert_check.proofs.CheckLemmas.{lines_of}
 use Rattle.symmetry_orbits.specs.Expansion.{AreOf}
 use Rattle.symmetry_orbits.specs.Orbits.{AreMoreListedOrInOrbit, IsCount}
+use Rattle.match_runs.specs.declared.printing_runs.Printing.TheVariants.{Count}
 use Rattle.match_runs.proofs.RunLemmas.{all_are, expand_fails}
 use Rattle.match_runs.proofs.printing_runs.counted_text.Goals.{After-new}
 use Rattle.match_runs.proofs.printing_runs.counted_text.Goals as goal
@@ -41,16 +42,15 @@ count-requires g c =
     let at = (goal.at.count-requires g c).After-new in
     (c.args.prepared.now.puzzle, are g at)
 
-pub returns-in_err-counted-clause-expand : goal.returns-in_err-counted-clause-expand
-returns-in_err-counted-clause-expand g c =
-    let at = (goal.at.returns-in_err-counted-clause-expand g c).After-new in
+pub returns-in_err-counted-clause-fails : goal.returns-in_err-counted-clause-fails
+returns-in_err-counted-clause-fails g c =
+    let at = (goal.at.returns-in_err-counted-clause-fails g c).After-new in
     let q = c.args.prepared.now in
     let w = err_from_is_err_and c.from_residual.result c.from_residual.ensures.1 in
-    rw (w.1, w.2)
-    (λ e.
-    let more = c.in_err-counted.ensures.too_many (expand_fails e) q.puzzle (are g at) in
+    rw (w.1, w.2) (expand_fails Count q c.in_err-counted.field-0.0 (λ e.
+    let more = c.in_err-counted.ensures.too_many e q.puzzle (are g at) in
     subst (AreMoreListedOrInOrbit MOST_ARRANGEMENTS q.puzzle q.symmetries) (listed_is g at)
-    (subst (λ (lines : List SymmetryLine). AreMoreListedOrInOrbit MOST_ARRANGEMENTS q.puzzle lines c.listed-listed.result.now) (lines_are g at) more))
+    (subst (λ (lines : List SymmetryLine). AreMoreListedOrInOrbit MOST_ARRANGEMENTS q.puzzle lines c.listed-listed.result.now) (lines_are g at) more)))
 
 pub returns-clause-count : goal.returns-clause-count
 returns-clause-count g c =

@@ -1,6 +1,6 @@
 use Rattle.std.proofs.Common.{◌≡◌, ◌++◌, length, ap, ◌∙◌, codes}
 use Rattle.match_report.specs.TallyText.{tally_text}
-use Rattle.match_runs.specs.Runs.{number_line}
+use Rattle.match_show.specs.Facts.{number_line}
 use Rattle.match_runs.specs.Solving.{first_board}
 use Rattle.match_runs.proofs.SolvingLemmas.{four_parts}
 use Rattle.match_runs.proofs.solve_runs.report_on.Goals as goal

@@ -1,0 +1,90 @@
+-- What is printed of three documents beside the line of their answer.
+use Rattle.std.specs.Prelude.{◌≡◌, ◌≤◌, ◌↔◌, ◌++◌, ℕ, List, Contains, codes, length}
+use Rattle.match_board.specs.declared.limits.TheConstants.{MOST_ARRANGEMENTS}
+use Rattle.match_puzzle.specs.Arrangement.{IsArrangement}
+use Rattle.match_puzzle.specs.declared.placements.Placement.{Placement}
+use Rattle.match_text.specs.ListSpelling.{IsListWithin, list_spelling}
+use Rattle.match_text.specs.declared.ranges.TheConstants.{FIRST}
+use Rattle.cert_check.specs.Setting.{Question, motions_of}
+use Rattle.cert_check.specs.Answer.{AreDistinct, IsAnswer}
+use Rattle.cert_check.specs.declared.faults.Answer.{Answer}
+use Rattle.cert_check.specs.declared.faults.Answer.TheVariants.{Complete, Refused}
+use Rattle.match_report.specs.AnswerText.{answer_line}
+use Rattle.match_explain.specs.Explanation.{IsExplanation}
+use Rattle.match_show.specs.Facts.{number_line}
+use Rattle.symmetry_orbits.specs.Expansion.{IsExpansion, AreMoreReached}
+use Rattle.symmetry_orbits.specs.Orbits.{AreMoreListedOrInOrbit, HasArrangements, IsCount}
+use Rattle.symmetry_orbits.specs.declared.numbers.Count.{Count}
+use Rattle.byte_streams.specs.Documents.{Texts}
+use Rattle.match_runs.specs.Checking.{Answers, CheckFails, Spells}
+use Rattle.match_runs.specs.declared.exits.Status.{Status}
+use Rattle.match_runs.specs.declared.faults.RunFault.{RunFault}
+use Rattle.match_runs.specs.declared.faults.RunFault.TheVariants as runs
+use Rattle.match_runs.specs.declared.printing_runs.Printing.{Printing}
+use Rattle.match_runs.specs.declared.printing_runs.Printing.TheVariants as printings
+
+-- The text is the list's: of version 1 where that has the numbers for it, else of version 2.
+pub record IsListText (rows : List (List Placement)) (text : List ℕ) : Type 0 where
+  pub first : IsListWithin FIRST rows → text ≡ list_spelling 1 rows
+  pub second : (IsListWithin FIRST rows → ⊥) → text ≡ list_spelling 2 rows
+
+-- These are all arrangements of the puzzle, each once, in the order of the closure of the list, and they can be listed.
+pub record AreAllInOrder (question : Question) (all : List (List Placement)) : Type 0 where
+  pub expansion : IsExpansion (motions_of question) question.listed all
+  pub just : (a : List Placement) → Contains all a ↔ IsArrangement question.puzzle a
+  pub once : AreDistinct all
+  pub few : length all ≤ MOST_ARRANGEMENTS
+
+-- how many arrangements there are, and how many orbits
+abbrev pub count_text : Count → List ℕ
+count_text count =
+    number_line (codes "arrangements") count.arrangements ++ number_line (codes "orbits") count.orbits
+
+-- So many arrangements and orbits are reached from the list, and so many arrangements the puzzle has.
+abbrev pub IsCountOf : Question → Count → Type 0
+IsCountOf question count =
+    IsCount question.puzzle question.symmetries question.listed count
+    × HasArrangements question.puzzle count.arrangements
+
+-- What is printed of what was asked. Where it is complete: the list of all arrangements, or how many they are, or the
+-- answer. Where it is refused: the answer, and why, where that is to be explained.
+abbrev pub Prints : Question → Answer → Printing → List ℕ → Type 0
+Prints question Complete printings.All text =
+    (all : List (List Placement)) × AreAllInOrder question all × IsListText all text
+Prints question Complete printings.Count text =
+    (count : Count) × IsCountOf question count × (text ≡ count_text count)
+Prints question Complete printings.Explanation text = text ≡ answer_line Complete (length question.listed)
+Prints question (Refused fault) printings.All text = text ≡ answer_line (Refused fault) (length question.listed)
+Prints question (Refused fault) printings.Count text = text ≡ answer_line (Refused fault) (length question.listed)
+Prints question (Refused fault) printings.Explanation text =
+    (why : List ℕ) × IsExplanation question fault why
+    × (text ≡ answer_line (Refused fault) (length question.listed) ++ why)
+
+-- What is printed of three documents, and the status: what was asked of the answer.
+abbrev pub PrintingGives : Printing → Texts → (printed : List ℕ) → Status → Type 0
+PrintingGives printing texts printed status =
+    Answers texts (λ question answer. Prints question answer printing printed) status
+
+-- More arrangements are reached than can be listed; or to be counted, more are listed than can be, or in one orbit.
+abbrev pub AreTooMany : Printing → Question → Type 0
+AreTooMany printings.All question =
+    AreMoreReached MOST_ARRANGEMENTS question.puzzle question.symmetries question.listed
+AreTooMany printings.Count question =
+    AreMoreListedOrInOrbit MOST_ARRANGEMENTS question.puzzle question.symmetries question.listed
+AreTooMany printings.Explanation question = ⊥
+
+-- What a fault says of a question whose list is complete: too much is to be printed so, or it is want of memory.
+abbrev pub CompleteFails : Printing → Question → RunFault → Type 0
+CompleteFails printing question runs.Expand = AreTooMany printing question
+CompleteFails printing question runs.Memory = Unit {0}
+CompleteFails printing question fault = ⊥
+
+-- The list is complete, and what it reaches is too many to be printed so.
+abbrev pub SpellTooMany : Printing → Texts → Type 0
+SpellTooMany printing texts =
+    (question : Question) × Spells texts question × IsAnswer question Complete × AreTooMany printing question
+
+-- What a fault says of the documents: too much is to be printed of them, or they have it, or it is want of memory.
+abbrev pub PrintingFails : Printing → Texts → RunFault → Type 0
+PrintingFails printing texts runs.Expand = SpellTooMany printing texts
+PrintingFails printing texts fault = CheckFails texts fault
