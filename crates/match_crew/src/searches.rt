@@ -4,8 +4,7 @@ ghost use Rattle.std.specs.Prelude.{Contains, List, IfOk, IfSome};
 ghost use Rattle.match_puzzle.specs.declared.placements.Pair.{Pair as PlacedPair};
 ghost use Rattle.match_puzzle.specs.declared.placements.Placement.{Placement};
 ghost use Rattle.steal_crew.specs.LiveHands.{Gave};
-ghost use Rattle.match_puzzle.specs.Arrangement.{IsArrangement};
-ghost use Rattle.cert_check.specs.Answer.{AreArrangements};
+ghost use Rattle.match_puzzle.specs.Arrangement.{IsArrangement, AreArrangements};
 ghost use Rattle.match_crew.specs.Solving.{IsOutcomeOf};
 
 use crate::branches::{OpenBranch, fit_in_turn, prefix_of};

@@ -1,15 +1,15 @@
 //! Solving a puzzle.
 
-ghost use Rattle.std.specs.Prelude.{◌≡◌, ◌≢◌, ◌≤◌, ◌<◌, ◌+◌, ◌^◌, ◌++◌, ◌∷◌, [], All, IfOk, IfErr, IsErrOf, OnOk, length, vec_len};
+ghost use Rattle.std.specs.Prelude.{◌≡◌, ◌≢◌, ◌≤◌, ◌<◌, ◌+◌, ◌^◌, ◌++◌, ◌∷◌, [], All, IfOk, IfErr, IsErrOf, OnOk};
+ghost use Rattle.std.specs.Prelude.{length, vec_len};
 ghost use Rattle.match_board.specs.declared.limits.TheConstants.{MOST_DEPTH, MOST_FUEL, MOST_SYMMETRIES, MOST_WORKERS};
-ghost use Rattle.match_puzzle.specs.Arrangement.{IsArrangement};
+ghost use Rattle.match_puzzle.specs.Arrangement.{IsArrangement, AreArrangements};
 ghost use Rattle.match_puzzle.specs.declared.placements.Placement.{Placement};
 ghost use Rattle.puzzle_symmetry.specs.Symmetry.{IsSymmetry};
 ghost use Rattle.cert_tree.specs.CertificateSpelling.{IsCertificateWithin};
 ghost use Rattle.cert_tree.specs.Writing.{said_by};
 ghost use Rattle.piece_desk.specs.Desks.{IsOf};
 ghost use Rattle.xcc_form.specs.Options.{HasTooManyEntries};
-ghost use Rattle.cert_check.specs.Answer.{AreArrangements};
 ghost use Rattle.match_crew.specs.Solving.{IsOutcomeOf, IsSearchedBy, IsSolvedBy};
 
 use crate::branches::OpenBranch;

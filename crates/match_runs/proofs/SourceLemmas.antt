@@ -7,8 +7,7 @@ use Rattle.byte_streams.specs.Documents.{Texts}
 use Rattle.byte_streams.specs.Moves.{FrontOf, Writing}
 use Rattle.byte_streams.specs.declared.faults.Document.{Document}
 use Rattle.match_runs.specs.Exits.{status_of}
-use Rattle.match_runs.specs.Runs.{AskTooMuch, ComesOfTexts, ComesTo, Fails, Gives, IsOfRequest, IsOfRun, IsPrinted, Request}
-use Rattle.match_runs.specs.Runs.{RunGives, RunsOver, SpellCompleteList, checked, printed}
+use Rattle.match_runs.specs.Runs.{AskTooMuch, ComesOfTexts, ComesTo, Fails, Gives, IsOfRequest, IsOfRun, IsPrinted, Request, RunGives, RunsOver, SpellCompleteList, checked, printed}
 use Rattle.match_runs.specs.Sources.{CameWhole, IsOfReading, ReadToEnds, ReadWithoutFault, Sources, StopsReading}
 use Rattle.match_runs.specs.declared.exits.Status.{Status}
 use Rattle.match_runs.specs.declared.exits.Status.TheVariants as status

@@ -1,9 +1,9 @@
 -- What a run comes to.
-use Rattle.std.specs.Prelude.{◌≡◌, ◌≢◌, ◌≤◌, ◌↔◌, ◌++◌, ℕ, List, [], ◌∷◌, Contains, codes, length}
-use Rattle.std.specs.Prelude.{Result, Ok, Err, IfErr}
+use Rattle.std.specs.Prelude.{◌≡◌, ◌≢◌, ◌≤◌, ◌↔◌, ◌++◌, ℕ, List, [], ◌∷◌, Contains, codes, length, Result, Ok, Err}
+use Rattle.std.specs.Prelude.{IfErr}
 use Rattle.match_board.specs.declared.limits.TheConstants.{MOST_ARRANGEMENTS}
 use Rattle.match_puzzle.specs.Puzzle.{Task}
-use Rattle.match_puzzle.specs.Arrangement.{IsArrangement}
+use Rattle.match_puzzle.specs.Arrangement.{IsArrangement, AreDistinct, HasArrangements}
 use Rattle.match_puzzle.specs.declared.placements.Placement.{Placement}
 use Rattle.match_text.specs.Puzzles.{PuzzleReads}
 use Rattle.match_text.specs.Lists.{list_of}
@@ -17,13 +17,14 @@ use Rattle.cert_tree.specs.CertificateText.{Said, certificate_of}
 use Rattle.cert_tree.specs.declared.faults.AssembleFault.TheVariants as assemblies
 use Rattle.cert_tree.specs.declared.faults.CertTextFault.TheVariants as certificates
 use Rattle.cert_check.specs.Setting.{Question, motions_of}
-use Rattle.cert_check.specs.Answer.{AreDistinct, IsAnswer, IsCompleteList}
+use Rattle.puzzle_symmetry.specs.Complete.{IsCompleteList}
+use Rattle.cert_check.specs.Answer.{IsAnswer}
 use Rattle.cert_check.specs.declared.faults.Answer.{Answer}
 use Rattle.cert_check.specs.declared.faults.Answer.TheVariants.{Complete, Refused}
 use Rattle.match_report.specs.AnswerText.{answer_line}
 use Rattle.match_explain.specs.Explanation.{IsExplanation}
 use Rattle.symmetry_orbits.specs.Expansion.{IsExpansion, AreMoreReached}
-use Rattle.symmetry_orbits.specs.Orbits.{AreMoreListedOrInOrbit, HasArrangements, IsCount}
+use Rattle.symmetry_orbits.specs.Orbits.{AreMoreListedOrInOrbit, IsCount}
 use Rattle.symmetry_orbits.specs.declared.numbers.Count.{Count}
 use Rattle.match_text.specs.Spelling.{count_words, text_of}
 use Rattle.byte_streams.specs.Documents.{Texts}

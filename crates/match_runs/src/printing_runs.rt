@@ -3,15 +3,16 @@
 ghost use Rattle.std.specs.Prelude.{◌≡◌, ◌≢◌, ◌⊎◌, ◌++◌, List, IfOk, IfErr, IsErrOf, OnOk, length};
 ghost use Rattle.match_puzzle.specs.Puzzle.{IsPuzzle};
 ghost use Rattle.match_puzzle.specs.declared.placements.Placement.{Placement};
-ghost use Rattle.cert_check.specs.Answer.{IsAnswer, IsCompleteList};
+ghost use Rattle.puzzle_symmetry.specs.Complete.{IsCompleteList};
+ghost use Rattle.cert_check.specs.Answer.{IsAnswer};
 ghost use Rattle.cert_check.specs.declared.faults.Answer.TheVariants.{Refused};
 ghost use Rattle.match_report.specs.AnswerText.{answer_line};
 ghost use Rattle.byte_streams.specs.Moves.{reading_of, writing_of};
 ghost use Rattle.byte_streams.specs.Documents.{AreShort};
 ghost use Rattle.byte_streams.specs.LentTexts.{texts_of};
 ghost use Rattle.match_runs.specs.Exits.{status_of};
-ghost use Rattle.match_runs.specs.Runs.{AreAllInOrder, AreTooMany, IsCountOf, IsListText, Prints, count_text, number_line};
-ghost use Rattle.match_runs.specs.Runs.{ComesTo, Fails, Gives, IsOfRequest, IsOfRun, RunsOver, printed};
+ghost use Rattle.match_runs.specs.Runs.{AreAllInOrder, AreTooMany, IsCountOf, IsListText, Prints, count_text};
+ghost use Rattle.match_runs.specs.Runs.{number_line, ComesTo, Fails, Gives, IsOfRequest, IsOfRun, RunsOver, printed};
 ghost use Rattle.match_runs.specs.Sources.{apart};
 
 use crate::exits::Status;

@@ -3,11 +3,10 @@
 ghost use Rattle.std.specs.Prelude.{◌≡◌, ◌≢◌, ◌≤◌, IfOk, OnOk, OnErr, IfErr, IsErrOf, length};
 ghost use Rattle.match_text.specs.ListSpelling.{IsListWithin};
 ghost use Rattle.match_text.specs.declared.ranges.TheConstants.{SECOND};
-ghost use Rattle.cert_check.specs.Answer.{AreArrangements};
+ghost use Rattle.match_puzzle.specs.Arrangement.{AreArrangements};
 ghost use Rattle.byte_streams.specs.Moves.{reading_of, writing_of};
-ghost use Rattle.match_runs.specs.Solving.{Products, SolveGives, StopsWriting, WritesAll};
-ghost use Rattle.match_runs.specs.Solving.{first_board, products_of, report_text, shares_of};
-ghost use Rattle.match_runs.specs.Solving.{IsOfMaking, IsOfPuzzle, IsOfSolving, SolveFails};
+ghost use Rattle.match_runs.specs.Solving.{Products, SolveGives, StopsWriting, WritesAll, first_board, products_of};
+ghost use Rattle.match_runs.specs.Solving.{report_text, shares_of, IsOfMaking, IsOfPuzzle, IsOfSolving, SolveFails};
 ghost use Rattle.match_runs.specs.Sources.{PuzzleReadToEnd, StopsReadingPuzzle};
 
 use crate::faults::RunFault;

@@ -1,6 +1,7 @@
 use Rattle.std.proofs.Common.{◌≡◌, ◌∙◌, length, ap, subst}
 use Rattle.std.proofs.lemmas.Result.{err_from_is_err_and}
-use Rattle.cert_check.specs.Answer.{IsAnswer, IsCompleteList}
+use Rattle.puzzle_symmetry.specs.Complete.{IsCompleteList}
+use Rattle.cert_check.specs.Answer.{IsAnswer}
 use Rattle.cert_check.specs.Setting.{Question, question_of}
 use Rattle.cert_check.specs.declared.faults.Answer.TheVariants.{Complete}
 use Rattle.byte_streams.specs.LentTexts.{texts_of}

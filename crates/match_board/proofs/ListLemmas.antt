@@ -3,7 +3,7 @@ use Rattle.std.proofs.Common.{◌≡◌, ◌⊎◌, ◌<◌, ◌+◌, ◌++◌, 
 use Rattle.std.proofs.lemmas.List.{take_more}
 use Rattle.std.proofs.lemmas.Bool.Decides.{eqb_tells}
 use Rattle.std.proofs.lemmas.Option.{slice_get_within, get_or_from_slice_get}
-use Rattle.match_puzzle.proofs.Prefixes.{inside}
+use Rattle.match_board.proofs.OptionLemmas.{inside}
 
 pub none≢some : {X : Type 0} {x : X} → None ≡ Some x → ⊥
 none≢some e = cc
