@@ -4,7 +4,7 @@ use Rattle.match_text.specs.Spelling.{text_of, first_words, count_words, end_lin
 use Rattle.match_text.proofs.WritingLemmas.{text_of-append}
 use Rattle.cert_tree.specs.Certificate.{Contents, piece_number, IsNumbered}
 use Rattle.cert_tree.specs.CertificateText.{Makes}
-use Rattle.cert_tree.specs.CertificateSpelling.{symmetry_words, lemma_words, certificate_spelling}
+use Rattle.cert_tree.specs.CertificateSpelling.{symmetry_words, lemma_words, certificate_spelling, front_spelling, lemma_lines}
 use Rattle.cert_tree.specs.Writing.{said_by}
 use Rattle.cert_tree.proofs.NumberedLemmas.{numbered_assembly}
 
@@ -16,7 +16,7 @@ made_of_itself version c is = (refl, numbered_assembly piece_number c.lemmas is.
 
 -- the parts of a certificate's text, one behind the other
 pub certificate_parts : (version : ℕ) (c : Contents)
-    → certificate_spelling (said_by version c) ≡ ((((text_of (first_words (codes "certificate") version ∷ []) ++ text_of (count_words (codes "symmetries") (length c.symmetries) ∷ [])) ++ text_of (map symmetry_words c.symmetries)) ++ text_of (count_words (codes "lemmas") (length c.lemmas) ∷ [])) ++ text_of (map lemma_words c.lemmas)) ++ text_of end_lines
+    → certificate_spelling (said_by version c) ≡ (front_spelling (said_by version c) ++ lemma_lines c.lemmas) ++ text_of end_lines
 unfolding certificate_spelling
 certificate_parts version c =
     let first = first_words (codes "certificate") version ∷ [] in

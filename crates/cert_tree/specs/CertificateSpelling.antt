@@ -1,5 +1,5 @@
 -- The one spelling of a lemma, and of a certificate's symmetries and lemmas in their order.
-use Rattle.std.specs.Prelude.{◌≤◌, ◌<◌, ℕ, Bool, true, false, List, [], ◌∷◌, ◌++◌, length, map, codes, decimal}
+use Rattle.std.specs.Prelude.{◌≡◌, ◌≤◌, ◌<◌, ℕ, Bool, true, false, List, [], ◌∷◌, ◌++◌, length, map, take, codes, decimal}
 use Rattle.match_board.specs.declared.limits.TheConstants.{LAST_SIDE, MOST_COLOURS, MOST_SYMMETRIES, MOST_LEMMAS}
 use Rattle.match_board.specs.declared.limits.TheConstants.{LAST_LEMMA}
 use Rattle.std.specs.List.{AllByRecursion}
@@ -53,6 +53,23 @@ certificate_lines said =
 
 unfoldable pub certificate_spelling : Said → List ℕ
 certificate_spelling said = text_of (certificate_lines said)
+
+-- what stands before the lemmas
+abbrev pub front_spelling : Said → List ℕ
+front_spelling said =
+    ((text_of (first_words (codes "certificate") said.version ∷ [])
+    ++ text_of (count_words (codes "symmetries") (length said.symmetries) ∷ []))
+    ++ text_of (map symmetry_words said.symmetries))
+    ++ text_of (count_words (codes "lemmas") (length said.pieces) ∷ [])
+
+-- the lines of lemmas
+abbrev pub lemma_lines : List Piece → List ℕ
+lemma_lines pieces = text_of (map lemma_words pieces)
+
+-- These are the lines of the lemmas from the first number up to the last, which is left out: with them the lines before
+-- the first become those before the last.
+abbrev pub AreLinesBetween : List Piece → (first last : ℕ) → List ℕ → Type 0
+AreLinesBetween pieces first last text = lemma_lines (take last pieces) ≡ lemma_lines (take first pieces) ++ text
 
 -- ---- what has a spelling
 
