@@ -26,7 +26,7 @@ use Rattle.cert_check.specs.declared.symmetries.SymmetriesFault.{SymmetriesFault
 use Rattle.cert_check.specs.declared.symmetries.SymmetriesFault.TheVariants.{Line, Memory}
 use Rattle.cert_check.specs.Lines.{LineFails, LinesFail, TellsOfPrefixes}
 use Rattle.cert_check.specs.Walk.{Tells, TellsOfLemma, TellsOfTrees, TellsOfArrangements, TellsOfListing}
-use Rattle.match_board.proofs.ListLemmas.{mapped_at}
+use Rattle.puzzle_symmetry.proofs.MotionLemmas.{lines_of}
 use Rattle.cert_check.proofs.PrefixLemmas.{start_long}
 use Rattle.cert_check.proofs.FaultLemmas.{holds_not_fails}
 use Rattle.cert_check.proofs.AnswerLemmas.{arrangement_no_fault, prefix_no_fault, no_list, no_repeated, no_symmetry, no_prefix}

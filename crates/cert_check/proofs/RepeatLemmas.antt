@@ -20,6 +20,7 @@ use Rattle.std.proofs.lemmas.Option.{slice_get_within, slice_get_read, get_or_fr
 use Rattle.match_board.specs.First.{IsLeast}
 use Rattle.match_puzzle.specs.Equality.{is_same}
 use Rattle.match_puzzle.specs.declared.placements.Placement.{Placement}
+use Rattle.match_puzzle.proofs.FittingLemmas.{same_placement}
 use Rattle.match_puzzle.proofs.EqualityLemmas.{same_entry}
 use Rattle.match_puzzle.proofs.Prefixes.{inside}
 use Rattle.match_puzzle.specs.Arrangement.{AreDistinct}
