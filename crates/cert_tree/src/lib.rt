@@ -33,3 +33,4 @@ pub use spellings::{
     join_certificate, put_pair, write_certificate, write_lemma, write_lemma_lines, write_symmetries,
 };
 pub use turnings::assemble_turned;
+pub use within_limits::are_symmetries_within_limits;

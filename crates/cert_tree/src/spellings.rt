@@ -265,8 +265,8 @@ fn put_parts(text: &mut Vec<u8>, parts: &[Vec<u8>]) -> Result<(), AllocError>
     Ok(())
 }
 
-// The text of the certificate in this version, whose lemma lines are these, one part behind the other.
-fn joined_text(
+/// The text of the certificate in this version, of its lemma lines, which were written in parts.
+pub fn join_certificate(
     alloc: Global,
     version: u8,
     certificate: &Certificate,
@@ -275,6 +275,7 @@ fn joined_text(
     requires within { IsCertificateWithin (said_by version certificate.now) }
     requires lines { flat_map (λ part. part.items) parts.now ≡ lemma_lines certificate.now.lemmas }
     ensures spelling { IfOk result (λ text. text.items ≡ certificate_spelling (said_by version certificate.now)) }
+    // It reads back as an equal certificate.
     ensures reads { IfOk result (λ text. (certificate_of text.items ≡ Ok (said_by version certificate.now))
         × Makes (said_by version certificate.now) (Ok certificate.now)) }
 {
@@ -283,24 +284,4 @@ fn joined_text(
     put_parts(&mut text, parts)?;
     put_end(&mut text)?;
     Ok(text)
-}
-
-/// The text that [`write_certificate`] makes, of its lemma lines, which were written in parts.
-pub fn join_certificate(
-    alloc: Global,
-    certificate: &Certificate,
-    parts: &[Vec<u8>],
-) -> Result<Vec<u8>, AllocError>
-    requires within { IsCertificateWithin (said_by 2 certificate.now) }
-    requires lines { flat_map (λ part. part.items) parts.now ≡ lemma_lines certificate.now.lemmas }
-    ensures first { IsCertificateWithin (said_by 1 certificate.now)
-        → IfOk result (λ text. text.items ≡ certificate_spelling (said_by 1 certificate.now)) }
-    ensures second { (IsCertificateWithin (said_by 1 certificate.now) → ⊥)
-        → IfOk result (λ text. text.items ≡ certificate_spelling (said_by 2 certificate.now)) }
-    // It reads back as an equal certificate.
-    ensures reads { IfOk result (λ text. (version : ℕ)
-        × (certificate_of text.items ≡ Ok (said_by version certificate.now))
-        × Makes (said_by version certificate.now) (Ok certificate.now)) }
-{
-    joined_text(alloc, first_version(certificate), certificate, parts)
 }

@@ -1,13 +1,15 @@
 //! A certificate's text is written by a crew.
 
-ghost use Rattle.std.specs.Prelude.{◌≡◌, ◌+◌, ◌*◌, ◌<◌, ◌≤◌, ℕ, Ok, IfOk, length};
-ghost use Rattle.match_board.specs.declared.limits.TheConstants.{MOST_LEMMAS, MOST_WORKERS};
+ghost use Rattle.std.specs.Prelude.{◌≡◌, ◌≤◌, ℕ, Ok, IfOk, length};
+ghost use Rattle.match_board.specs.declared.limits.TheConstants.{MOST_WORKERS};
 ghost use Rattle.cert_tree.specs.CertificateSpelling.{certificate_spelling, IsCertificateWithin};
 ghost use Rattle.cert_tree.specs.CertificateText.{Makes, certificate_of};
 ghost use Rattle.cert_tree.specs.Writing.{said_by};
-ghost use Rattle.check_crew.specs.Writings.{AreLinesInParts, AreLinesOfPart};
+ghost use Rattle.check_crew.specs.LemmaParts.{AreCut, AreLines, AreOfParts};
 
-use cert_tree::{Certificate, Lemmas, join_certificate, write_certificate, write_lemma_lines};
+use crate::lemma_parts::LemmaParts;
+use crate::limits::within_limits_with;
+use cert_tree::{Certificate, join_certificate, write_certificate, write_lemma_lines};
 use std::alloc::{AllocError, Global};
 use std::thread::Threads;
 use steal_crew::{Work, run_crew};
@@ -15,66 +17,49 @@ use steal_crew::{Work, run_crew};
 // Fewer lemmas are written by one thread, which is mostly done before others would have started.
 const LEAST_SHARED: usize = 64;
 
-// More parts than workers, since trees are of very different sizes.
-const PARTS_FOR_EACH: usize = 16;
-
-// The lines of a certificate's lemmas, so many lemmas in each part but the last: a job for each part.
+// The lines of lemmas: a job for each part.
 #[derive(Drop)]
 struct Lines<'a> {
     alloc: Global,
-    lemmas: &'a Lemmas,
-    size: usize,
+    parts: LemmaParts<'a>,
 }
 
 impl<'a> Work for Lines<'a> {
-    ghost use Rattle.std.specs.Prelude.{◌*◌, ◌≤◌, length};
-    ghost use Rattle.check_crew.specs.Writings.{AreLinesOfPart};
+    ghost use Rattle.std.specs.Prelude.{◌+◌};
+    ghost use Rattle.check_crew.specs.LemmaParts.{AreLines, IsPart, part_start};
 
     type R = Vec<u8>;
 
-    ghost accepts = { λ w n. (n * w.size ≤ length w.lemmas.now) × (length w.lemmas.now ≤ MOST_LEMMAS)
-        × (w.size ≤ MOST_LEMMAS) };
+    ghost accepts = { λ w n. IsPart w.parts.lemmas.now w.parts.size n };
 
-    ghost gives = { λ w n text. AreLinesOfPart w.lemmas.now w.size n text.items };
+    ghost gives = { λ w n text. AreLines w.parts.lemmas.now (part_start w.parts.lemmas.now w.parts.size n)
+        (part_start w.parts.lemmas.now w.parts.size (n + 1)) text };
 
     fn one(&self, number: u32) -> Result<Vec<u8>, AllocError> {
-        let first = number as usize * self.size;
-        let last = (first + self.size).min(self.lemmas.len());
-        write_lemma_lines(self.alloc, self.lemmas, first, last)
+        let (first, last) = self.parts.bounds(number);
+        write_lemma_lines(self.alloc, self.parts.lemmas, first, last)
     }
 }
 
-// How many lemmas a part has, where so many workers write so many.
-fn part_size(lemmas: usize, workers: u8) -> usize
-    requires lemmas { lemmas ≤ MOST_LEMMAS }
-    requires workers { 1 ≤ workers }
-    ensures { (2 ≤ result) × (result ≤ MOST_LEMMAS) }
-{
-    lemmas / (usize::from(workers) * PARTS_FOR_EACH) + 2
-}
-
-// The lemma lines in parts, which have so many lemmas each, but for the last one.
+// The lines of each part.
 fn write_parts<R: Threads + Sync>(
     rt: &R,
     alloc: Global,
-    lemmas: &Lemmas,
-    size: usize,
+    parts: &LemmaParts<'_>,
     workers: u8,
 ) -> Result<Vec<Vec<u8>>, AllocError>
-    requires few { length lemmas.now ≤ MOST_LEMMAS }
-    requires size { (2 ≤ size) × (size ≤ MOST_LEMMAS) }
+    requires cut { AreCut parts.now.lemmas.now parts.now.size }
     requires workers { (1 ≤ workers) × (workers ≤ MOST_WORKERS) }
-    ensures { IfOk result (λ parts. AreLinesInParts lemmas.now size parts.items) }
+    ensures { IfOk result (λ lines.
+        AreOfParts (AreLines parts.now.lemmas.now) parts.now.lemmas.now parts.now.size lines.items) }
 {
-    let count = lemmas.len() / size + 1;
     let lines = Lines {
         alloc,
-        lemmas,
-        size,
+        parts: *parts,
     };
-    let crew = run_crew(rt, alloc, &lines, count as u32, workers)?;
-    let (parts, _) = crew.into_parts();
-    Ok(parts)
+    let crew = run_crew(rt, alloc, &lines, parts.count(), workers)?;
+    let (lines, _) = crew.into_parts();
+    Ok(lines)
 }
 
 /// What [`write_certificate`] writes, by 1 to 64 workers, whose number doesn't change it.
@@ -103,7 +88,8 @@ pub fn write_certificate_with<R: Threads + Sync>(
     if workers == 1 || lemmas.len() < LEAST_SHARED {
         return write_certificate(alloc, certificate);
     }
-    let size = part_size(lemmas.len(), workers);
-    let parts = write_parts(rt, alloc, lemmas, size, workers)?;
-    join_certificate(alloc, certificate, &parts)
+    let is_first = within_limits_with(rt, alloc, 1, certificate, workers)?;
+    let version = if is_first { 1 } else { 2 };
+    let lines = write_parts(rt, alloc, &LemmaParts::new(lemmas, workers), workers)?;
+    join_certificate(alloc, version, certificate, &lines)
 }

@@ -8,5 +8,5 @@ use Rattle.check_crew.proofs.writings.write_certificate_with.Goals as goal
 pub join_certificate-requires-clause-lines : goal.join_certificate-requires-clause-lines
 join_certificate-requires-clause-lines g c =
     ap (flat_map (λ (part : Vec ℕ Global). part.items)) c.deref.ensures.value
-    ∙ all_parts c.lemmas-lemmas.result.now c.part_size-size.result c.in_ok-parts.parts.items c.in_ok-parts.ensures
-    ∙ ap lemma_lines c.lemmas-lemmas.ensures.lemmas
+    ∙ all_parts c.new.result.lemmas.now c.new.result.size c.in_ok-lines.lines.items c.in_ok-lines.ensures
+    ∙ ap lemma_lines (c.new.ensures.lemmas ∙ c.lemmas-lemmas.ensures.lemmas)

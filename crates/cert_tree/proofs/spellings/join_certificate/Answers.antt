@@ -3,7 +3,7 @@ use Rattle.cert_tree.specs.CertificateText.{certificate_of}
 use Rattle.cert_tree.specs.Writing.{said_by}
 use Rattle.cert_tree.proofs.CertificateTextLemmas.{certificate_only}
 use Rattle.cert_tree.proofs.WholeLemmas.{made_of_itself, certificate_parts}
-use Rattle.cert_tree.proofs.spellings.joined_text.Goals as goal
+use Rattle.cert_tree.proofs.spellings.join_certificate.Goals as goal
 
 pub returns-clause-spelling : goal.returns-clause-spelling
 returns-clause-spelling c =
