@@ -210,7 +210,7 @@ impl NumberSet {
     /// Makes this the numbers that are in each of five sets.
     ///
     /// Each word is made at once, in its place, so that a set is written and not read again on the way; four go
-    /// together, up to the last one that is or was looked at, since loops that go to an end known beforehand are faster.
+    /// together, up to the last one that is or was looked at, since loops to an end known beforehand are faster.
     pub(crate) fn put_common(
         &mut self,
         all: &NumberSet,
