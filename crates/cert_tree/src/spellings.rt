@@ -189,11 +189,7 @@ pub fn write_lemma(alloc: Global, lemma: &Lemma) -> Result<Vec<u8>, AllocError>
 }
 
 // What stands before the lemmas of the certificate in this version.
-fn front_text(
-    alloc: Global,
-    version: u8,
-    certificate: &Certificate,
-) -> Result<Vec<u8>, AllocError>
+fn front_text(alloc: Global, version: u8, certificate: &Certificate) -> Result<Vec<u8>, AllocError>
     requires { IsCertificateWithin (said_by version certificate.now) }
     ensures { IfOk result (λ text. text.items ≡ front_spelling (said_by version certificate.now)) }
 {

@@ -37,9 +37,9 @@ pub all_parts : (pieces : List Piece) (size : ℕ) (parts : List (Vec ℕ Global
 all_parts pieces size parts are =
     let all : part_start pieces size (length parts) ≡ length pieces = omega (arith, are.enough) in
     sym (
-      ap lemma_lines (sym (take_all (length pieces) pieces (omega arith)) ∙ ap (λ k. take k pieces) (sym all))
-      ∙ first_parts pieces size parts are (length parts) (omega arith)
-      ∙ ap (flat_map (λ part. part.items)) (take_all (length parts) parts (omega arith))
+    ap lemma_lines (sym (take_all (length pieces) pieces (omega arith)) ∙ ap (λ k. take k pieces) (sym all))
+    ∙ first_parts pieces size parts are (length parts) (omega arith)
+    ∙ ap (flat_map (λ part. part.items)) (take_all (length parts) parts (omega arith))
     )
 
 -- ---- limits

@@ -17,6 +17,6 @@ returns-then-are_few_symmetries_within c =
     let lemmas_are = c.lemmas-lemmas.ensures.lemmas in
     let symmetries = subst (λ r. AreSymmetriesWithin r contents.symmetries) ranges_is (subst (AreSymmetriesWithin c.ranges_of-ranges.result) c.symmetries.ensures.symmetries c.if-are_few_symmetries_within.ensures) in
     let lemmas = subst (λ r. Tells r contents.lemmas (length contents.lemmas)) ranges_is
-        (subst (λ pieces. Tells c.ranges_of-ranges.result pieces (length pieces)) lemmas_are
-        (subst (Tells c.ranges_of-ranges.result c.lemmas-lemmas.result.now) c.len.ensures c.are_lemmas_within.ensures)) in
+    (subst (λ pieces. Tells c.ranges_of-ranges.result pieces (length pieces)) lemmas_are
+    (subst (Tells c.ranges_of-ranges.result c.lemmas-lemmas.result.now) c.len.ensures c.are_lemmas_within.ensures)) in
     whole_within version contents b c.requires c.lemmas-lemmas.ensures.numbered.few_lemmas symmetries lemmas
