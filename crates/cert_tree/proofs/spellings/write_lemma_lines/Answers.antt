@@ -1,4 +1,4 @@
-use Rattle.std.proofs.Common.{◌<◌, ◌++◌, length, take, map, append_assoc, ap, sym, ◌∙◌, arith}
+use Rattle.std.proofs.Common.{◌<◌, ◌++◌, length, take, append_assoc, ap, sym, ◌∙◌, arith}
 use Rattle.match_text.specs.Spelling.{line_text}
 use Rattle.match_text.proofs.WritingLemmas.{lines_more}
 use Rattle.cert_tree.specs.Certificate.{flat_piece}

@@ -1,7 +1,7 @@
 use Rattle.std.proofs.Common.{◌≡◌, ◌<◌, ◌≤◌, ◌+◌, ℕ, Some, slice_get, ◌∙◌, sym, ap, subst, arith, ⊎_elim}
 use Rattle.std.proofs.lemmas.Bool.Decides.{eqb_tells}
 use Rattle.match_board.proofs.OptionLemmas.{inside}
-use Rattle.cert_tree.specs.Certificate.{Piece, flat_piece}
+use Rattle.cert_tree.specs.Certificate.{Piece}
 use Rattle.cert_tree.specs.CertificateSpelling.{IsLemmaWithin}
 use Rattle.cert_tree.proofs.within_limits.are_lemmas_within.Goals as goal
 
