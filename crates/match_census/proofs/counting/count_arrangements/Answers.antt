@@ -1,4 +1,4 @@
-use Rattle.std.proofs.Common.{◌≤◌, MatchOption, subst}
+use Rattle.std.proofs.Common.{MatchOption, subst}
 use Rattle.match_puzzle.specs.Arrangement.{IsArrangement, HasArrangements}
 use Rattle.xcc_dance.specs.Chosen.{Selection}
 use Rattle.xcc_dance.specs.Found.{IsFoundFrom}
