@@ -1,0 +1,6 @@
+pub mod NumberLemmas
+pub mod ExtensionLemmas
+pub mod OneNumberLemmas
+pub mod BranchLemmas
+pub mod PickingLemmas
+pub mod TotalLemmas
