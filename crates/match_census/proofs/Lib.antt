@@ -4,3 +4,5 @@ pub mod OneNumberLemmas
 pub mod BranchLemmas
 pub mod PickingLemmas
 pub mod TotalLemmas
+pub mod PartLemmas
+pub mod ChunkLemmas

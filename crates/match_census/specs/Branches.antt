@@ -1,5 +1,5 @@
 -- Branches of a search, and how many arrangements they have together.
-use Rattle.std.specs.Prelude.{◌≡◌, ◌<◌, ◌+◌, ◌-◌, ◌*◌, ◌++◌, ℕ, zero, suc, List, [], ◌∷◌, Contains}
+use Rattle.std.specs.Prelude.{◌≡◌, ◌<◌, ◌+◌, ◌≤◌, ◌-◌, ◌*◌, ◌^◌, ◌++◌, ℕ, zero, suc, List, [], ◌∷◌, Option, None, Some, Contains, length, slice_get}
 use Rattle.match_puzzle.specs.Arrangement.{HasArrangements}
 use Rattle.xcc_form.specs.Options.{Compiled}
 use Rattle.xcc_dance.specs.Chosen.{Selection, IsSelection}
@@ -51,3 +51,14 @@ abbrev pub every : {X : Type 0} → (step passed : ℕ) → List X → List X
 every step passed [] = []
 every step zero (x ∷ xs) = x ∷ every step (step - 1) xs
 every step (suc passed) (x ∷ xs) = every step passed xs
+
+-- Each number is what a part of the branches has together, where they are dealt to as many parts as there are numbers.
+pub record AreParts (x : Compiled) (branches : List WeightedBranch) (numbers : List ℕ) : Type 0 where
+  pub some : 0 < length numbers
+  pub each : (part number : ℕ) → slice_get numbers part ≡ Some number
+      → HaveTogether x (every (length numbers) part branches) number
+
+-- So many arrangements the branches have together; none is told of 2^64 or more.
+abbrev pub IsTotal : Compiled → List WeightedBranch → Option ℕ → Type 0
+IsTotal x branches None = (total : ℕ) → HaveTogether x branches total → 2 ^ 64 ≤ total
+IsTotal x branches (Some total) = HaveTogether x branches total

@@ -3,10 +3,16 @@
 
 mod branches;
 mod counting;
+mod crews;
+mod laws;
+mod parts;
 mod splits;
 mod totals;
 
 pub use branches::Branch;
 pub use counting::{count_arrangements, count_below};
+pub use crews::count_with_crew;
+pub use laws::parts_make_the_whole;
+pub use parts::part_of;
 pub use splits::{MOST_BRANCHES, split};
 pub use totals::count_branches;
