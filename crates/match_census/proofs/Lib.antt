@@ -6,3 +6,4 @@ pub mod PickingLemmas
 pub mod TotalLemmas
 pub mod PartLemmas
 pub mod ChunkLemmas
+pub mod CarryingLemmas

@@ -46,7 +46,7 @@ abbrev pub AddsFor : Compiled → WeightedBranch → (before after : List Weight
 AddsFor x b before after =
     (more : List WeightedBranch) × (after ≡ before ++ more) × StandFor x more (b ∷ []) × AreSelections x more
 
--- those with these numbers, where they are numbered from 0 to the last and then from 0 again
+-- one of every so many, after some that are passed over
 abbrev pub every : {X : Type 0} → (step passed : ℕ) → List X → List X
 every step passed [] = []
 every step zero (x ∷ xs) = x ∷ every step (step - 1) xs

@@ -12,7 +12,7 @@ mod totals;
 pub use branches::Branch;
 pub use counting::{count_arrangements, count_below};
 pub use crews::count_with_crew;
-pub use laws::parts_make_the_whole;
+pub use laws::{parts_make_the_whole, symmetric_options_have_as_many};
 pub use parts::part_of;
 pub use splits::{MOST_BRANCHES, split};
 pub use totals::count_branches;
