@@ -1,7 +1,7 @@
 -- There is one answer.
 use Rattle.std.proofs.Common.{◌≡◌, ℕ, List, Some, slice_get, ap, sym, ◌∙◌, refl, arith, subst, ⊎_elim}
 use Rattle.match_puzzle.specs.Puzzle.{Task}
-use Rattle.match_puzzle.specs.Arrangement.{IsArrangement}
+use Rattle.match_puzzle.specs.Arrangement.{IsArrangement, AreArrangements, AreDistinct}
 use Rattle.match_puzzle.specs.ArrangementFaults.{ArrangementFails, arrangement_rank, IsArrangementFault}
 use Rattle.match_puzzle.specs.PrefixFaults.{IsPairList, PrefixFails, prefix_rank, IsPrefixFault}
 use Rattle.match_puzzle.specs.declared.placements.Placement.{Placement}
@@ -24,7 +24,8 @@ use Rattle.cert_tree.specs.Certificate.{Piece}
 use Rattle.cert_check.specs.Setting.{Question, BeginWithPrefixes, prefix_of, setting_at}
 use Rattle.cert_check.specs.TreeFaults.{FailsAt}
 use Rattle.cert_check.specs.Derivation.{start_of}
-use Rattle.cert_check.specs.Answer.{AreArrangements, AreDistinct, AreSymmetries, IsShown, Occurs, fault_rank, OneAnswer}
+use Rattle.puzzle_symmetry.specs.Complete.{AreSymmetries}
+use Rattle.cert_check.specs.Answer.{IsShown, Occurs, fault_rank, OneAnswer}
 use Rattle.match_puzzle.proofs.Prefixes.{inside}
 use Rattle.cert_check.proofs.PrefixLemmas.{start_long}
 use Rattle.cert_check.proofs.FaultLemmas.{SameRank, same_rank, holds_not_fails, one_failing}

@@ -4,7 +4,7 @@ use Rattle.std.proofs.lemmas.Bool.{cases_lt}
 use Rattle.match_board.specs.First.{Rank, AtMost, IsLeast, IsFirst}
 use Rattle.match_puzzle.specs.Puzzle.{Task}
 use Rattle.match_puzzle.specs.declared.placements.Pair.{Pair}
-use Rattle.puzzle_symmetry.specs.Motion.{Motion}
+use Rattle.puzzle_symmetry.specs.Motion.{Motion, line_of, motion_of, AreOfPuzzle}
 use Rattle.match_puzzle.specs.declared.placements.Placement.{Placement}
 use Rattle.match_puzzle.specs.declared.faults.ArrangementFault.{ArrangementFault}
 use Rattle.match_puzzle.specs.declared.faults.PrefixFault.{PrefixFault}
@@ -16,15 +16,17 @@ use Rattle.cert_tree.specs.Certificate.{Contents, Piece}
 use Rattle.cert_check.specs.declared.faults.TreeFault.{TreeFault}
 use Rattle.cert_check.specs.declared.faults.Fault.{Fault}
 use Rattle.cert_check.specs.declared.faults.Fault.TheVariants as faults
-use Rattle.cert_check.specs.Setting.{Question, Setting, question_of, prefix_of, line_of, motion_of, AreOfPuzzle, BeginWithPrefixes, setting_at, setting_of}
+use Rattle.cert_check.specs.Setting.{Question, Setting, question_of, prefix_of, BeginWithPrefixes, setting_at, setting_of}
 use Rattle.cert_check.specs.Derivation.{start_of, HasRoot}
-use Rattle.cert_check.specs.Answer.{AreArrangements, AreSymmetries, AreDistinct, RepeatsEarlier, IsPrepared, Occurs, fault_rank}
+use Rattle.match_puzzle.specs.Arrangement.{AreArrangements, AreDistinct}
+use Rattle.puzzle_symmetry.specs.Complete.{AreSymmetries}
+use Rattle.cert_check.specs.Answer.{RepeatsEarlier, IsPrepared, Occurs, fault_rank}
 use Rattle.cert_check.specs.Lists.{IsFirstBad}
 use Rattle.cert_check.specs.declared.symmetries.SymmetriesFault.{SymmetriesFault}
 use Rattle.cert_check.specs.declared.symmetries.SymmetriesFault.TheVariants.{Line, Memory}
 use Rattle.cert_check.specs.Lines.{LineFails, LinesFail, TellsOfPrefixes}
 use Rattle.cert_check.specs.Walk.{Tells, TellsOfLemma, TellsOfTrees, TellsOfArrangements, TellsOfListing}
-use Rattle.cert_check.proofs.ListLemmas.{mapped_at}
+use Rattle.puzzle_symmetry.proofs.MotionLemmas.{lines_of}
 use Rattle.cert_check.proofs.PrefixLemmas.{start_long}
 use Rattle.cert_check.proofs.FaultLemmas.{holds_not_fails}
 use Rattle.cert_check.proofs.AnswerLemmas.{arrangement_no_fault, prefix_no_fault, no_list, no_repeated, no_symmetry, no_prefix}
@@ -128,15 +130,6 @@ earlier_is : (lemmas : List Piece) (number : ℕ) → map prefix_of (take number
 earlier_is lemmas zero = refl
 earlier_is [] (suc number) = refl
 earlier_is (lemma ∷ lemmas) (suc number) = ap (λ rest. lemma.prefix ∷ rest) (earlier_is lemmas number)
-
--- the lines of the symmetries with these lines
-pub lines_of : (p : Task) (lines : List SymmetryLine) → map line_of (map (motion_of p) lines) ≡ lines
-lines_of p [] = refl
-lines_of p (g ∷ lines) = ap (λ gs. g ∷ gs) (lines_of p lines)
-
--- they are of the puzzle
-pub are_of_puzzle : (p : Task) (lines : List SymmetryLine) → AreOfPuzzle p (map (motion_of p) lines)
-are_of_puzzle p lines number m at = let from = mapped_at (motion_of p) lines number m at in ap (λ (n : Motion). n.puzzle) from.2
 
 -- what the tree of the lemma with this number may name
 pub setting_is : (p : Task) (listed : List (List Placement)) (certificate : Contents) (motions : List Motion) (number : ℕ) → motions ≡ map (motion_of p) certificate.symmetries →

@@ -20,7 +20,7 @@ use Rattle.cert_tree.specs.Tree.{Tree, Forest, branch, dead, found, same, image,
 use Rattle.cert_check.specs.NodeRules.{IsBranch, IsDead, IsListedAt, IsCited, IsCitedByImage, Holds, EachHolds}
 use Rattle.cert_check.specs.TreeFaults.{ItemFails, ImageFails, NodeFails, node_rank, IsNodeFault, FailsAt, EachFails}
 use Rattle.match_puzzle.proofs.Prefixes.{inside}
-use Rattle.cert_check.proofs.ListLemmas.{none≢some}
+use Rattle.match_board.proofs.ListLemmas.{none≢some}
 use Rattle.cert_check.proofs.PrefixLemmas.{none_free}
 
 -- ---- what comes first

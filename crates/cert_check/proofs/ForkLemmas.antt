@@ -17,7 +17,7 @@ use Rattle.cert_check.specs.Setting.{Setting}
 use Rattle.cert_check.specs.NodeRules.{IsBranch, Holds, EachHolds}
 use Rattle.cert_check.specs.TreeFaults.{FailsAt, EachFails}
 use Rattle.cert_check.specs.Walk.{Tells, HasChildren, ChildHolds, ChildFails, ChildrenHold, TellsOfChildren}
-use Rattle.cert_check.proofs.ListLemmas.{none≢some, contains_at}
+use Rattle.match_board.proofs.ListLemmas.{none≢some, contains_at}
 use Rattle.cert_check.proofs.FaultLemmas.{one_fitting}
 use Rattle.cert_check.proofs.WalkLemmas.{grown, shrunk, after_place, after_lift}
 

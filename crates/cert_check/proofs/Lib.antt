@@ -1,4 +1,3 @@
-pub mod ListLemmas
 pub mod PrefixLemmas
 pub mod Soundness
 pub mod FaultLemmas

@@ -15,7 +15,7 @@ use Rattle.puzzle_symmetry.specs.Images.{HasPairs}
 use Rattle.cert_tree.specs.Certificate.{Piece}
 use Rattle.cert_check.specs.Setting.{prefix_of}
 use Rattle.cert_check.specs.Derivation.{start_of, HasRoot}
-use Rattle.cert_check.proofs.ListLemmas.{none≢some}
+use Rattle.match_board.proofs.ListLemmas.{none≢some}
 
 length-with_pairs : (pairs : List Pair) (q : Prefix) → length (with_pairs pairs q) ≡ length q
 length-with_pairs [] q = refl

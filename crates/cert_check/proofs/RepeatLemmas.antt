@@ -21,11 +21,13 @@ use Rattle.match_board.specs.First.{IsLeast}
 use Rattle.match_puzzle.specs.Equality.{is_same}
 use Rattle.match_puzzle.specs.declared.placements.Placement.{Placement}
 use Rattle.match_puzzle.proofs.FittingLemmas.{same_placement}
+use Rattle.match_puzzle.proofs.EqualityLemmas.{same_entry}
 use Rattle.match_puzzle.proofs.Prefixes.{inside}
-use Rattle.cert_check.specs.Answer.{AreDistinct, RepeatsEarlier}
+use Rattle.match_puzzle.specs.Arrangement.{AreDistinct}
+use Rattle.cert_check.specs.Answer.{RepeatsEarlier}
 use Rattle.cert_check.specs.Repeats.{AreEqualAt, AreItsPlaces, key_of, placement_cmp, entry_cmp, keyed_cmp}
 use Rattle.cert_check.specs.declared.repeats.KeyedPlace.{KeyedPlace}
-use Rattle.cert_check.proofs.ListLemmas.{none≢some, contains_at, member_at, place_of, pushed_place}
+use Rattle.match_board.proofs.ListLemmas.{none≢some, contains_at, member_at, place_of, pushed_place}
 
 -- ---- the orders
 
@@ -58,16 +60,6 @@ entry_tie (Some a) (Some b) e = ap Some (list_tie a b e)
 
 abbrev pub first_place : KeyedPlace
 first_place = record { key = 0; place = 0 }
-
--- ---- equality, as a test sees it
-
-is_same-Decides : (x y : Placement) → Decides (is_same x y) (x ≡ y)
-is_same-Decides x y =
-    let both = Decides-and (x.tile == y.tile) (x.turn == y.turn) (Decides-eqb x.tile y.tile) (Decides-eqb x.turn y.turn) in
-    (λ e. let w = both.0 e in same_placement w.0 w.1, λ e. both.1 (ap (λ (z : Placement). z.tile) e, ap (λ (z : Placement). z.turn) e))
-
-pub same_entry : (a b : List Placement) → Decides (pointwise is_same a b) (a ≡ b)
-same_entry a b = slice_eq-Decides is_same-Decides a b (pointwise is_same a b) refl
 
 -- the entry that is read at a place
 pub entry_at : (listed : List (List Placement)) (n : ℕ) (a : List Placement) → n < length listed → a ≡ get_or listed n a → slice_get listed n ≡ Some a

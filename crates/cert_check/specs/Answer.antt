@@ -2,13 +2,13 @@
 use Rattle.std.specs.Prelude.{◌≡◌, ◌<◌, ℕ, List, Some, slice_get}
 use Rattle.match_board.specs.First.{Rank, IsFirst, rank_by, rank_by_two}
 use Rattle.match_puzzle.specs.Puzzle.{Task, IsPuzzle}
-use Rattle.match_puzzle.specs.Arrangement.{IsArrangement}
+use Rattle.match_puzzle.specs.Arrangement.{AreArrangements, AreDistinct}
 use Rattle.match_puzzle.specs.ArrangementFaults.{IsArrangementFault}
 use Rattle.match_puzzle.specs.PrefixFaults.{IsPrefixFault}
 use Rattle.match_puzzle.specs.declared.placements.Placement.{Placement}
-use Rattle.puzzle_symmetry.specs.Symmetry.{IsSymmetry}
 use Rattle.puzzle_symmetry.specs.SymmetryFaults.{IsSymmetryFault}
 use Rattle.puzzle_symmetry.specs.Reached.{IsReached}
+use Rattle.puzzle_symmetry.specs.Complete.{AreSymmetries, IsCompleteList}
 use Rattle.puzzle_symmetry.specs.Motion.{Motion}
 use Rattle.puzzle_symmetry.specs.declared.lines.SymmetryLine.{SymmetryLine}
 use Rattle.cert_check.specs.declared.faults.Fault.{Fault}
@@ -21,31 +21,11 @@ use Rattle.cert_check.specs.TreeFaults.{FailsAt}
 use Rattle.cert_check.specs.Covered.{IsCovered}
 use Rattle.cert_check.specs.Derivation.{start_of, HasRoot, TreesHold}
 
--- Each listed one is an arrangement of the puzzle.
-abbrev pub AreArrangements : Task → List (List Placement) → Type 0
-AreArrangements p listed = (number : ℕ) (a : List Placement) → slice_get listed number ≡ Some a → IsArrangement p a
-
--- Each line is a symmetry of the puzzle.
-abbrev pub AreSymmetries : Task → List SymmetryLine → Type 0
-AreSymmetries p symmetries = (number : ℕ) (g : SymmetryLine) → slice_get symmetries number ≡ Some g → IsSymmetry p g
-
 -- The one with this number equals an earlier one.
 abbrev pub RepeatsEarlier : List (List Placement) → ℕ → Type 0
 RepeatsEarlier listed number =
     (earlier : ℕ) × (a : List Placement) × (earlier < number) × (slice_get listed earlier ≡ Some a)
     × (slice_get listed number ≡ Some a)
-
--- No two places have the same.
-abbrev pub AreDistinct : {X : Type 0} → List X → Type 0
-AreDistinct {X} xs =
-    (place other : ℕ) (x : X) → slice_get xs place ≡ Some x → slice_get xs other ≡ Some x → place ≡ other
-
--- Different arrangements of the puzzle, from which symmetries of it reach all that there are.
-pub record IsCompleteList (p : Task) (lines : List SymmetryLine) (listed : List (List Placement)) : Type 0 where
-  pub distinct : AreDistinct listed
-  pub arrangements : AreArrangements p listed
-  pub symmetries : AreSymmetries p lines
-  pub reached : (a : List Placement) → IsArrangement p a → IsReached p lines listed a
 
 -- All is right but perhaps the trees: different arrangements of the puzzle, symmetries of it, and lemmas that begin with
 -- prefixes, the last with nothing placed.

@@ -1,5 +1,5 @@
 -- Repeated entries of a list.
-use Rattle.std.specs.Prelude.{◌≡◌, ◌<◌, ◌*◌, ◌%◌, ◌^◌, ◌==◌, ℕ, List, Some, Contains, bit_or, length, slice_get, take}
+use Rattle.std.specs.Prelude.{◌≡◌, ◌<◌, ◌+◌, ◌*◌, ◌%◌, ◌^◌, ◌==◌, ℕ, List, Some, Contains, length, slice_get}
 use Rattle.std.specs.Cmp.Lexicographic.{slice_cmp}
 use Rattle.std.specs.List.{IsDistinct, fold}
 use Rattle.std.specs.Option.{option_cmp}
@@ -7,6 +7,7 @@ use Rattle.std.specs.Ordering.{nat_cmp, on, then_cmp}
 use Rattle.std.specs.declared.cmp.Ordering.{Ordering}
 use Rattle.match_puzzle.specs.declared.placements.Placement.{Placement}
 use Rattle.cert_check.specs.declared.repeats.KeyedPlace.{KeyedPlace}
+use Rattle.cert_check.specs.declared.repeats.TheConstants.{SPREAD}
 
 -- The entries at the two places are equal.
 abbrev pub AreEqualAt : List (List Placement) → KeyedPlace → KeyedPlace → Type 0
@@ -19,13 +20,16 @@ pub record AreItsPlaces (listed : List (List Placement)) (places : List KeyedPla
   pub once : IsDistinct (λ x y. x.place == y.place) places
   pub alike : (x y : KeyedPlace) → Contains places x → Contains places y → AreEqualAt listed x y → x.key ≡ y.key
 
--- one placement more, in nine binary digits where it is one of a puzzle
-abbrev pub with_placement : ℕ → Placement → ℕ
-with_placement key x = bit_or (bit_or (key * 2 ^ 9 % 2 ^ 64) (x.tile * 2 ^ 2 % 2 ^ 64)) x.turn
+-- one number more
+abbrev pub with_number : (key n : ℕ) → ℕ
+with_number key n = (key * SPREAD % 2 ^ 64 + n) % 2 ^ 64
 
--- the first seven placements of an entry, as one number
+abbrev pub with_placement : ℕ → Placement → ℕ
+with_placement key x = with_number (with_number key x.tile) x.turn
+
+-- an entry as one number, which differs for most entries that do (Knuth, TAOCP 3, 6.4)
 unfoldable pub key_of : List Placement → ℕ
-key_of a = fold with_placement 0 (take 7 a)
+key_of a = fold with_placement 0 a
 
 -- by tile, then by turn
 abbrev pub placement_cmp : Placement → Placement → Ordering

@@ -5,7 +5,7 @@ use Rattle.match_puzzle.specs.PrefixFaults.{IsPairList}
 use Rattle.match_puzzle.specs.declared.placements.Placement.{Placement}
 use Rattle.match_puzzle.specs.declared.placements.Pair.{Pair}
 use Rattle.puzzle_symmetry.specs.declared.lines.SymmetryLine.{SymmetryLine}
-use Rattle.puzzle_symmetry.specs.Motion.{Motion}
+use Rattle.puzzle_symmetry.specs.Motion.{Motion, motion_of, line_of, AreOfPuzzle}
 use Rattle.cert_tree.specs.Certificate.{Contents, Piece}
 
 -- what is asked of the checker: whether these are all arrangements of the puzzle, by these symmetries and lemmas
@@ -53,17 +53,9 @@ setting_at question number = record {
   earlier = take number (map prefix_of question.lemmas);
 }
 
--- a line as a symmetry of the puzzle
-abbrev pub motion_of : Task → SymmetryLine → Motion
-motion_of p g = record { puzzle = p; line = g }
-
 -- the symmetries of a question's lines
 abbrev pub motions_of : Question → List Motion
 motions_of question = map (motion_of question.puzzle) question.symmetries
-
--- the line that a symmetry was made of
-abbrev pub line_of : Motion → SymmetryLine
-line_of m = m.line
 
 abbrev pub setting_of : Task → List (List Placement) → List Motion → List Piece → Setting
 setting_of puzzle listed motions earlier = record {
@@ -72,10 +64,6 @@ setting_of puzzle listed motions earlier = record {
   symmetries = map line_of motions;
   earlier = map prefix_of earlier;
 }
-
--- Each symmetry was made of this puzzle.
-abbrev pub AreOfPuzzle : Task → List Motion → Type 0
-AreOfPuzzle p motions = (number : ℕ) (m : Motion) → slice_get motions number ≡ Some m → m.puzzle ≡ p
 
 -- Each lemma begins with a prefix.
 abbrev pub BeginWithPrefixes : Task → List Piece → Type 0

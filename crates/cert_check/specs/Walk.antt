@@ -2,7 +2,7 @@
 use Rattle.std.specs.Prelude.{◌≡◌, ◌<◌, ◌≤◌, ◌^◌, ℕ, List, [], ◌∷◌, Option, Some, None, MatchOption, length, slice_get}
 use Rattle.match_board.specs.First.{IsLeast}
 use Rattle.match_puzzle.specs.Puzzle.{Task}
-use Rattle.match_puzzle.specs.Arrangement.{IsArrangement}
+use Rattle.match_puzzle.specs.Arrangement.{IsArrangement, AreArrangements, AreDistinct}
 use Rattle.match_puzzle.specs.ArrangementFaults.{IsArrangementFault}
 use Rattle.match_puzzle.specs.Prefix.{Prefix, Layout, with_pair}
 use Rattle.match_puzzle.specs.Fitting.{AreFitting, IsItem}
@@ -22,7 +22,7 @@ use Rattle.cert_check.specs.Setting.{Question, Setting, setting_at}
 use Rattle.cert_check.specs.NodeRules.{Holds}
 use Rattle.cert_check.specs.TreeFaults.{FailsAt}
 use Rattle.cert_check.specs.Derivation.{start_of}
-use Rattle.cert_check.specs.Answer.{AreArrangements, AreDistinct, RepeatsEarlier}
+use Rattle.cert_check.specs.Answer.{RepeatsEarlier}
 use Rattle.cert_check.specs.Lists.{IsFirstBad, TellsOfAll}
 
 -- What is said of a tree: that it holds, or its first fault.

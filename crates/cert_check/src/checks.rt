@@ -4,10 +4,12 @@ ghost use Rattle.std.specs.Prelude.{◌≡◌, ◌<◌, ◌^◌, ◌↔◌, IfOk
 ghost use Rattle.match_puzzle.specs.Prefix.{empty_prefix};
 ghost use Rattle.match_puzzle.specs.PrefixFaults.{IsPairList};
 ghost use Rattle.cert_tree.specs.Certificate.{flat_piece};
-ghost use Rattle.cert_check.specs.Setting.{Question, question_of, motion_of, BeginWithPrefixes, in_second_form};
+ghost use Rattle.puzzle_symmetry.specs.Motion.{motion_of};
+ghost use Rattle.cert_check.specs.Setting.{Question, question_of, BeginWithPrefixes, in_second_form};
 ghost use Rattle.cert_check.specs.Derivation.{start_of};
 ghost use Rattle.cert_check.specs.Walk.{Tells, TellsOfLemma};
-ghost use Rattle.cert_check.specs.Answer.{AreArrangements, IsAnswer, IsSound, IsCovering, OneAnswer};
+ghost use Rattle.match_puzzle.specs.Arrangement.{AreArrangements};
+ghost use Rattle.cert_check.specs.Answer.{IsAnswer, IsSound, IsCovering, OneAnswer};
 
 use crate::faults::{Answer, TreeFault};
 use crate::gates::Open;

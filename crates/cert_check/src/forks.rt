@@ -10,7 +10,8 @@ ghost use Rattle.cert_tree.specs.Certificate.{flat_piece};
 ghost use Rattle.cert_tree.specs.Tree.{branch, count, none};
 ghost use Rattle.cert_tree.specs.Heads.{first, front, past};
 ghost use Rattle.cert_check.specs.Derivation.{start_of};
-ghost use Rattle.cert_check.specs.Setting.{question_of, motion_of, BeginWithPrefixes};
+ghost use Rattle.puzzle_symmetry.specs.Motion.{motion_of};
+ghost use Rattle.cert_check.specs.Setting.{question_of, BeginWithPrefixes};
 ghost use Rattle.cert_check.specs.Walk.{Tells, TellsOfLemma, IsPart, TellsOfPart};
 
 use crate::faults::TreeFault;

@@ -2,7 +2,7 @@
 
 ghost use Rattle.std.specs.Prelude.{◌≡◌, ◌<◌, ◌^◌, IfOk, OnErr, length};
 ghost use Rattle.cert_check.specs.Walk.{TellsOfArrangements, TellsOfListing};
-ghost use Rattle.cert_check.specs.Answer.{AreArrangements};
+ghost use Rattle.match_puzzle.specs.Arrangement.{AreArrangements};
 
 use crate::faults::{Answer, Fault};
 use crate::gates::Gate;
@@ -47,7 +47,8 @@ impl<'a> Question<'a> {
     ghost use Rattle.match_board.specs.declared.limits.TheConstants.{MOST_LEMMAS};
     ghost use Rattle.cert_check.specs.Setting.{question_of};
     ghost use Rattle.cert_check.specs.Walk.{TellsOfArrangements};
-    ghost use Rattle.cert_check.specs.Answer.{AreArrangements, IsAnswer, IsSound, IsCovering, Occurs, fault_rank};
+    ghost use Rattle.match_puzzle.specs.Arrangement.{AreArrangements};
+    ghost use Rattle.cert_check.specs.Answer.{IsAnswer, IsSound, IsCovering, Occurs, fault_rank};
 
     /// Whether these are all arrangements of the puzzle, by this certificate.
     pub fn new(

@@ -3,14 +3,18 @@
 ghost use Rattle.std.specs.Prelude.{◌≡◌, ◌<◌, ◌^◌, ◌↔◌, IfOk, IsSorted, IsTrue, MatchOption, length, min, slice_get};
 ghost use Rattle.std.specs.Prelude.{option_copied};
 ghost use Rattle.match_board.specs.First.{IsLeast};
-ghost use Rattle.cert_check.specs.Answer.{AreDistinct, RepeatsEarlier};
-ghost use Rattle.cert_check.specs.Repeats.{AreEqualAt, AreItsPlaces, key_of, keyed_cmp};
+ghost use Rattle.match_puzzle.specs.Arrangement.{AreDistinct};
+ghost use Rattle.cert_check.specs.Answer.{RepeatsEarlier};
+ghost use Rattle.cert_check.specs.Repeats.{AreEqualAt, AreItsPlaces, key_of, keyed_cmp, with_number};
 
 use match_puzzle::{Arrangement, Placement};
 use std::alloc::{AllocError, Global};
 use std::cmp::Ordering;
 
-// Where an entry stands, and its first placements as one number.
+// An odd number whose products have digits that look like no order: 2^64 by the golden ratio.
+const SPREAD: u64 = 0x9E37_79B9_7F4A_7C15;
+
+// Where an entry stands, and the entry as one number.
 #[derive(Clone, Copy)]
 pub(crate) struct KeyedPlace {
     key: u64,
@@ -20,7 +24,7 @@ pub(crate) struct KeyedPlace {
 // The first one that equals an earlier one.
 //
 // A list that rises needs no memory, and others sixteen bytes an entry. There are O(n log n) comparisons of whole
-// entries whatever the list is, and fewer where the first placements tell entries apart.
+// entries whatever the list is, and hardly any where no list was looked for whose entries have the same numbers.
 pub(crate) fn first_repeated(
     alloc: Global,
     listed: &[Arrangement],
@@ -58,15 +62,21 @@ fn keyed_places(alloc: Global, listed: &[Arrangement]) -> Result<Vec<KeyedPlace>
     Ok(places)
 }
 
-// The first seven placements of the entry as one number, so that most entries are told apart without a look at them.
+// One number more.
+fn spread(key: u64, number: u64) -> u64
+    ensures { result ≡ with_number key number }
+{
+    key.wrapping_mul(SPREAD).wrapping_add(number)
+}
+
+// The entry as one number, so that most entries are told apart without a look at them.
 fn key(arrangement: &Arrangement) -> u64
     ensures { result ≡ key_of arrangement.now }
 {
-    let placements = arrangement.placements();
-    let front = &placements[..placements.len().min(7)];
-    let mut key = 0;
-    for placement in front {
-        key = key << 9 | u64::from(placement.tile) << 2 | u64::from(placement.turn);
+    let mut key: u64 = 0;
+    for placement in arrangement.placements() {
+        key = spread(key, u64::from(placement.tile));
+        key = spread(key, u64::from(placement.turn));
     }
     key
 }

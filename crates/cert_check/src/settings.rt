@@ -2,7 +2,8 @@
 
 ghost use Rattle.std.specs.Prelude.{◌≡◌, ◌<◌, ◌≤◌, IfSome, None, Some, length, map, slice_get};
 ghost use Rattle.match_puzzle.specs.PrefixFaults.{IsPairList};
-ghost use Rattle.cert_check.specs.Setting.{question_of, setting_at, motion_of, BeginWithPrefixes};
+ghost use Rattle.puzzle_symmetry.specs.Motion.{motion_of};
+ghost use Rattle.cert_check.specs.Setting.{question_of, setting_at, BeginWithPrefixes};
 
 use cert_tree::{Certificate, Lemmas};
 use match_puzzle::{Arrangement, Pair, Puzzle};

@@ -6,6 +6,7 @@ use Rattle.std.specs.List.{AllByRecursion}
 use Rattle.std.proofs.lemmas.List.{length-map}
 use Rattle.match_board.specs.First.{IsFirst}
 use Rattle.match_puzzle.proofs.Prefixes.{inside}
+use Rattle.match_board.proofs.ListLemmas.{all_by_place}
 use Rattle.match_text.specs.declared.faults.TextFault.{TextFault}
 use Rattle.match_text.specs.declared.faults.TextKind.TheVariants.{Ends}
 use Rattle.match_text.specs.declared.ranges.Ranges.{Ranges}
@@ -157,10 +158,6 @@ made_fault said Memory is = tt
 
 -- ---- what was assembled of what a text says can be written
 
-all_within : (Fits : Piece → Type 0) (pieces : List Piece) → ((n : ℕ) (piece : Piece) → slice_get pieces n ≡ Some piece → Fits piece) → AllByRecursion Fits pieces
-all_within Fits [] each = tt
-all_within Fits (piece ∷ pieces) each = (each 0 piece refl, all_within Fits pieces (λ n other at. each (suc n) other at))
-
 contained_within : (Fits : Piece → Type 0) (pieces : List Piece) → AllByRecursion Fits pieces → (piece : Piece) → Contains pieces piece → Fits piece
 contained_within Fits [] all piece at = absurd (omega (arith, at.1))
 contained_within Fits (x ∷ pieces) all piece (zero, at, is) = subst Fits is all.0
@@ -175,7 +172,7 @@ made_within said c fits made =
       few_symmetries = subst (λ gs. length gs ≤ MOST_SYMMETRIES) (sym made.0) fits.few_symmetries;
       symmetries = subst (AllByRecursion (IsSymmetryWithin ranges)) (sym made.0) fits.symmetries;
       few_pieces = omega (arith, made.1.many, fits.few_pieces);
-      pieces = all_within (IsLemmaWithin ranges) c.lemmas (λ n piece at. contained_within (IsLemmaWithin ranges) said.pieces fits.pieces piece (made.1.only n piece at).among);
+      pieces = all_by_place (IsLemmaWithin ranges) c.lemmas (λ n piece at. contained_within (IsLemmaWithin ranges) said.pieces fits.pieces piece (made.1.only n piece at).among);
     }
 
 -- and so in version 2

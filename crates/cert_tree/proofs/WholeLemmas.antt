@@ -1,10 +1,16 @@
--- A certificate as the lemmas of its own text.
-use Rattle.std.proofs.Common.{◌≡◌, ℕ, List, [], ◌∷◌, ◌++◌, length, map, Ok, refl, ap, ◌∙◌, append_assoc, codes}
+-- A certificate as the lemmas of its own text, and as a whole.
+use Rattle.std.proofs.Common.{◌≡◌, ◌≤◌, ℕ, Bool, true, false, List, [], ◌∷◌, ◌++◌, length, map, Ok, refl, ap, ◌∙◌, append_assoc, arith, codes}
+use Rattle.std.specs.Prelude.{MatchBool}
+use Rattle.match_board.specs.declared.limits.TheConstants.{MOST_LEMMAS}
+use Rattle.std.proofs.lemmas.Option.{slice_get_within}
+use Rattle.match_board.proofs.ListLemmas.{all_by_place, at_each_place}
+use Rattle.match_text.specs.Ranges.{IsVersion, ranges_of}
 use Rattle.match_text.specs.Spelling.{text_of, first_words, count_words, end_lines}
 use Rattle.match_text.proofs.WritingLemmas.{text_of-append}
 use Rattle.cert_tree.specs.Certificate.{Contents, piece_number, IsNumbered}
 use Rattle.cert_tree.specs.CertificateText.{Makes}
-use Rattle.cert_tree.specs.CertificateSpelling.{symmetry_words, lemma_words, certificate_spelling}
+use Rattle.cert_tree.specs.CertificateSpelling.{symmetry_words, lemma_words, certificate_spelling, front_spelling, lemma_lines}
+use Rattle.cert_tree.specs.CertificateSpelling.{AreSymmetriesWithin, AreWithinBetween, IsLemmaWithin, IsCertificateWithin}
 use Rattle.cert_tree.specs.Writing.{said_by}
 use Rattle.cert_tree.proofs.NumberedLemmas.{numbered_assembly}
 
@@ -16,7 +22,7 @@ made_of_itself version c is = (refl, numbered_assembly piece_number c.lemmas is.
 
 -- the parts of a certificate's text, one behind the other
 pub certificate_parts : (version : ℕ) (c : Contents)
-    → certificate_spelling (said_by version c) ≡ ((((text_of (first_words (codes "certificate") version ∷ []) ++ text_of (count_words (codes "symmetries") (length c.symmetries) ∷ [])) ++ text_of (map symmetry_words c.symmetries)) ++ text_of (count_words (codes "lemmas") (length c.lemmas) ∷ [])) ++ text_of (map lemma_words c.lemmas)) ++ text_of end_lines
+    → certificate_spelling (said_by version c) ≡ (front_spelling (said_by version c) ++ lemma_lines c.lemmas) ++ text_of end_lines
 unfolding certificate_spelling
 certificate_parts version c =
     let first = first_words (codes "certificate") version ∷ [] in
@@ -34,3 +40,19 @@ certificate_parts version c =
   where
     in_order : (a b d e f g : List ℕ) → a ++ (b ++ (d ++ (e ++ (f ++ g)))) ≡ ((((a ++ b) ++ d) ++ e) ++ f) ++ g
     in_order a b d e f g = simp append_assoc refl
+
+-- ---- limits
+
+-- a certificate has a spelling where its symmetries have one and all its lemmas
+pub whole_within : (version : ℕ) (c : Contents) (b : Bool) → IsVersion version → length c.lemmas ≤ MOST_LEMMAS → AreSymmetriesWithin (ranges_of version) c.symmetries
+    → MatchBool b (AreWithinBetween (ranges_of version) c.lemmas 0 (length c.lemmas)) (AreWithinBetween (ranges_of version) c.lemmas 0 (length c.lemmas) → ⊥)
+    → MatchBool b (IsCertificateWithin (said_by version c)) (IsCertificateWithin (said_by version c) → ⊥)
+whole_within version c true is few symmetries all = record {
+  version = is;
+  few_symmetries = symmetries.0;
+  symmetries = symmetries.1;
+  few_pieces = few;
+  pieces = all_by_place (IsLemmaWithin (ranges_of version)) c.lemmas
+      (λ number piece at. all number piece (omega arith) (slice_get_within c.lemmas number piece at) at);
+}
+whole_within version c false is few symmetries not = λ within. not (λ number piece from below at. at_each_place (IsLemmaWithin (ranges_of version)) c.lemmas within.pieces number piece at)

@@ -1,5 +1,6 @@
 -- The one spelling of a lemma, and of a certificate's symmetries and lemmas in their order.
-use Rattle.std.specs.Prelude.{◌≤◌, ◌<◌, ℕ, Bool, true, false, List, [], ◌∷◌, ◌++◌, length, map, codes, decimal}
+use Rattle.std.specs.Prelude.{◌≡◌, ◌≤◌, ◌<◌, ℕ, Bool, true, false, List, [], ◌∷◌, ◌++◌, Some, length, map, take, codes, decimal}
+use Rattle.std.specs.Prelude.{slice_get}
 use Rattle.match_board.specs.declared.limits.TheConstants.{LAST_SIDE, MOST_COLOURS, MOST_SYMMETRIES, MOST_LEMMAS}
 use Rattle.match_board.specs.declared.limits.TheConstants.{LAST_LEMMA}
 use Rattle.std.specs.List.{AllByRecursion}
@@ -54,6 +55,23 @@ certificate_lines said =
 unfoldable pub certificate_spelling : Said → List ℕ
 certificate_spelling said = text_of (certificate_lines said)
 
+-- what stands before the lemmas
+abbrev pub front_spelling : Said → List ℕ
+front_spelling said =
+    ((text_of (first_words (codes "certificate") said.version ∷ [])
+    ++ text_of (count_words (codes "symmetries") (length said.symmetries) ∷ []))
+    ++ text_of (map symmetry_words said.symmetries))
+    ++ text_of (count_words (codes "lemmas") (length said.pieces) ∷ [])
+
+-- the lines of lemmas
+abbrev pub lemma_lines : List Piece → List ℕ
+lemma_lines pieces = text_of (map lemma_words pieces)
+
+-- These are the lines of the lemmas from the first number up to the last, which is left out: with them the lines before
+-- the first become those before the last.
+abbrev pub AreLinesBetween : List Piece → (first last : ℕ) → List ℕ → Type 0
+AreLinesBetween pieces first last text = lemma_lines (take last pieces) ≡ lemma_lines (take first pieces) ++ text
+
 -- ---- what has a spelling
 
 -- images of cells, or of tiles, of which there are as many
@@ -81,6 +99,16 @@ pub record IsLemmaWithin (ranges : Ranges) (piece : Piece) : Type 0 where
   pub few_pairs : length piece.prefix ≤ ranges.most_cells
   pub pairs : AllByRecursion (IsPairWithin ranges) piece.prefix
   pub tree : IsTreeWithin ranges ranges.most_levels piece.tree
+
+-- Each lemma from the first number up to the last, which is left out, is in these ranges.
+abbrev pub AreWithinBetween : Ranges → List Piece → (first last : ℕ) → Type 0
+AreWithinBetween ranges pieces first last =
+    (number : ℕ) (piece : Piece) → first ≤ number → number < last → slice_get pieces number ≡ Some piece
+    → IsLemmaWithin ranges piece
+
+-- The symmetries are few enough for a text, and in these ranges.
+abbrev pub AreSymmetriesWithin : Ranges → List SymmetryLine → Type 0
+AreSymmetriesWithin ranges lines = (length lines ≤ MOST_SYMMETRIES) × AllByRecursion (IsSymmetryWithin ranges) lines
 
 -- The symmetries and lemmas are in the ranges of the version.
 pub record IsCertificateWithin (said : Said) : Type 0 where

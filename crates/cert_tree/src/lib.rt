@@ -29,5 +29,8 @@ pub use laws::{certificate_laws, head_laws, lemma_laws};
 pub use nodes::{Children, Node};
 pub use parts::{CutCertificate, LemmaPart, cut_certificate};
 pub use readers::{read_certificate, read_lemma};
-pub use spellings::{put_pair, write_certificate, write_lemma, write_symmetries};
+pub use spellings::{
+    join_certificate, put_pair, write_certificate, write_lemma, write_lemma_lines, write_symmetries,
+};
 pub use turnings::assemble_turned;
+pub use within_limits::are_symmetries_within_limits;

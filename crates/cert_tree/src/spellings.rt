@@ -9,6 +9,7 @@ ghost use Rattle.std.specs.List.{flat_map};
 ghost use Rattle.cert_tree.specs.CertificateText.{lemma_of, certificate_of, Makes};
 ghost use Rattle.cert_tree.specs.CertificateSpelling.{mirrored_word, symmetry_words, pair_word, lemma_words};
 ghost use Rattle.cert_tree.specs.CertificateSpelling.{lemma_spelling, certificate_spelling, symmetries_spelling};
+ghost use Rattle.cert_tree.specs.CertificateSpelling.{front_spelling, lemma_lines, AreLinesBetween};
 ghost use Rattle.cert_tree.specs.CertificateSpelling.{AreColourImagesWithin, IsLemmaWithin, IsCertificateWithin};
 ghost use Rattle.cert_tree.specs.Writing.{said_by};
 
@@ -100,7 +101,7 @@ fn put_lemma(text: &mut Vec<u8>, lemma: &FlatLemma<'_>) -> Result<(), AllocError
 }
 
 fn put_lemmas(text: &mut Vec<u8>, lemmas: &Lemmas) -> Result<(), AllocError>
-    ensures { OnOk result (text.new.items ≡ text.old.items ++ text_of (map lemma_words lemmas.now)) }
+    ensures { OnOk result (text.new.items ≡ text.old.items ++ lemma_lines lemmas.now) }
 {
     for number in 0..lemmas.len() {
         put_lemma(text, &lemmas.at(number))?;
@@ -187,6 +188,20 @@ pub fn write_lemma(alloc: Global, lemma: &Lemma) -> Result<Vec<u8>, AllocError>
     Ok(text)
 }
 
+// What stands before the lemmas of the certificate in this version.
+fn front_text(alloc: Global, version: u8, certificate: &Certificate) -> Result<Vec<u8>, AllocError>
+    requires { IsCertificateWithin (said_by version certificate.now) }
+    ensures { IfOk result (λ text. text.items ≡ front_spelling (said_by version certificate.now)) }
+{
+    let symmetries = certificate.symmetries();
+    let mut text = Vec::new(alloc);
+    put_number_line(&mut text, b"certificate", u32::from(version))?;
+    put_number_line(&mut text, b"symmetries", symmetries.len() as u32)?;
+    put_symmetries(&mut text, symmetries)?;
+    put_number_line(&mut text, b"lemmas", certificate.lemmas().len() as u32)?;
+    Ok(text)
+}
+
 // The text of the certificate in this version.
 fn certificate_text(
     alloc: Global,
@@ -198,14 +213,8 @@ fn certificate_text(
     ensures reads { IfOk result (λ text. (certificate_of text.items ≡ Ok (said_by version certificate.now))
         × Makes (said_by version certificate.now) (Ok certificate.now)) }
 {
-    let symmetries = certificate.symmetries();
-    let lemmas = certificate.lemmas();
-    let mut text = Vec::new(alloc);
-    put_number_line(&mut text, b"certificate", u32::from(version))?;
-    put_number_line(&mut text, b"symmetries", symmetries.len() as u32)?;
-    put_symmetries(&mut text, symmetries)?;
-    put_number_line(&mut text, b"lemmas", lemmas.len() as u32)?;
-    put_lemmas(&mut text, lemmas)?;
+    let mut text = front_text(alloc, version, certificate)?;
+    put_lemmas(&mut text, certificate.lemmas())?;
     put_end(&mut text)?;
     Ok(text)
 }
@@ -223,4 +232,52 @@ pub fn write_certificate(alloc: Global, certificate: &Certificate) -> Result<Vec
         × Makes (said_by version certificate.now) (Ok certificate.now)) }
 {
     certificate_text(alloc, first_version(certificate), certificate)
+}
+
+/// The lines of the certificate's lemmas from this number up to the other, which is left out.
+pub fn write_lemma_lines(
+    alloc: Global,
+    lemmas: &Lemmas,
+    first: usize,
+    last: usize,
+) -> Result<Vec<u8>, AllocError>
+    requires { (first ≤ last) × (last ≤ length lemmas.now) }
+    ensures { IfOk result (λ text. AreLinesBetween lemmas.now first last text.items) }
+{
+    let mut text = Vec::new(alloc);
+    for number in first..last {
+        put_lemma(&mut text, &lemmas.at(number))?;
+    }
+    Ok(text)
+}
+
+// Behind the text all parts, one behind the other.
+fn put_parts(text: &mut Vec<u8>, parts: &[Vec<u8>]) -> Result<(), AllocError>
+    ensures { OnOk result (text.new.items ≡ text.old.items ++ flat_map (λ part. part.items) parts.now) }
+{
+    for part in parts {
+        text.extend_from_slice(part)?;
+    }
+    Ok(())
+}
+
+/// The text of the certificate in this version, of its lemma lines, which were written in parts.
+pub fn join_certificate(
+    alloc: Global,
+    version: u8,
+    certificate: &Certificate,
+    parts: &[Vec<u8>],
+) -> Result<Vec<u8>, AllocError>
+    requires within { IsCertificateWithin (said_by version certificate.now) }
+    requires lines { flat_map (λ part. part.items) parts.now ≡ lemma_lines certificate.now.lemmas }
+    ensures spelling { IfOk result (λ text. text.items ≡ certificate_spelling (said_by version certificate.now)) }
+    // It reads back as an equal certificate.
+    ensures reads { IfOk result (λ text. (certificate_of text.items ≡ Ok (said_by version certificate.now))
+        × Makes (said_by version certificate.now) (Ok certificate.now)) }
+{
+    let _ = certificate.lemmas();
+    let mut text = front_text(alloc, version, certificate)?;
+    put_parts(&mut text, parts)?;
+    put_end(&mut text)?;
+    Ok(text)
 }

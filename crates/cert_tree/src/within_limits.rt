@@ -1,14 +1,15 @@
 //! Which lemmas and certificates are within the limits of a version of their texts.
 
-ghost use Rattle.std.specs.Prelude.{◌≡◌, ◌≢◌, ◌<◌, ◌≤◌, ℕ, List, Ok, IsTrue, MatchBool, map};
+ghost use Rattle.std.specs.Prelude.{◌≡◌, ◌≢◌, ◌<◌, ◌≤◌, ℕ, List, Ok, IsTrue, MatchBool, length, map};
 ghost use Rattle.std.specs.List.{AllByRecursion};
-ghost use Rattle.match_text.specs.Ranges.{IsVersion};
+ghost use Rattle.match_text.specs.Ranges.{IsVersion, ranges_of};
 ghost use Rattle.cert_tree.specs.Tree.{tree_of, forest_of, count, none};
 ghost use Rattle.cert_tree.specs.Certificate.{piece_of, flat_piece};
 ghost use Rattle.cert_tree.specs.Heads.{first, front, past};
 ghost use Rattle.cert_tree.specs.CertificateText.{lemma_of, certificate_of};
 ghost use Rattle.cert_tree.specs.TreeSpelling.{IsTreeWithin, AreTreesWithin, AreChildrenWithin};
 ghost use Rattle.cert_tree.specs.CertificateSpelling.{AreImagesWithin, AreColourImagesWithin, IsSymmetryWithin};
+ghost use Rattle.cert_tree.specs.CertificateSpelling.{AreSymmetriesWithin, AreWithinBetween};
 ghost use Rattle.cert_tree.specs.CertificateSpelling.{IsPairWithin, IsLemmaWithin, IsCertificateWithin};
 ghost use Rattle.cert_tree.specs.Writing.{said_by};
 
@@ -18,7 +19,7 @@ use crate::flat_trees::Trees;
 use crate::heads::Head;
 use crate::nodes::Node;
 use match_board::limits::{
-    LAST_ARRANGEMENT, LAST_LEMMA, LAST_SIDE, LAST_SYMMETRY, LAST_TURN, MOST_COLOURS, MOST_LEMMAS,
+    LAST_ARRANGEMENT, LAST_LEMMA, LAST_SIDE, LAST_SYMMETRY, LAST_TURN, MOST_COLOURS,
     MOST_SYMMETRIES,
 };
 use match_puzzle::Pair;
@@ -156,11 +157,12 @@ fn is_flat_lemma_within(ranges: &Ranges, lemma: &FlatLemma<'_>) -> bool
                 && is_first_within(ranges, &mut lemma.tree.trees(), ranges.most_levels)))
 }
 
-fn are_lemmas_within(ranges: &Ranges, lemmas: &Lemmas) -> bool
-    ensures { MatchBool result (AllByRecursion (IsLemmaWithin ranges.now) lemmas.now)
-        (AllByRecursion (IsLemmaWithin ranges.now) lemmas.now → ⊥) }
+fn are_lemmas_within(ranges: &Ranges, lemmas: &Lemmas, first: usize, last: usize) -> bool
+    requires { (first ≤ last) × (last ≤ length lemmas.now) }
+    ensures { MatchBool result (AreWithinBetween ranges.now lemmas.now first last)
+        (AreWithinBetween ranges.now lemmas.now first last → ⊥) }
 {
-    for number in 0..lemmas.len() {
+    for number in first..last {
         if !is_flat_lemma_within(ranges, &lemmas.at(number)) {
             return false;
         }
@@ -216,6 +218,13 @@ fn are_symmetries_within(ranges: &Ranges, lines: &[SymmetryLine]) -> bool
     true
 }
 
+fn are_few_symmetries_within(ranges: &Ranges, lines: &[SymmetryLine]) -> bool
+    ensures { MatchBool result (AreSymmetriesWithin ranges.now lines.now)
+        (AreSymmetriesWithin ranges.now lines.now → ⊥) }
+{
+    lines.len() <= usize::from(MOST_SYMMETRIES) && are_symmetries_within(ranges, lines)
+}
+
 // What is short is looked at first: the symmetries, and of each lemma its prefix.
 fn is_certificate_within(version: u8, certificate: &Certificate) -> bool
     requires { IsVersion version }
@@ -223,11 +232,9 @@ fn is_certificate_within(version: u8, certificate: &Certificate) -> bool
         (IsCertificateWithin (said_by version certificate.now) → ⊥) }
 {
     let ranges = ranges_of(version);
-    let symmetries = certificate.symmetries();
     let lemmas = certificate.lemmas();
-    symmetries.len() <= usize::from(MOST_SYMMETRIES)
-        && (are_symmetries_within(&ranges, symmetries)
-            && (lemmas.len() <= MOST_LEMMAS as usize && are_lemmas_within(&ranges, lemmas)))
+    are_few_symmetries_within(&ranges, certificate.symmetries())
+        && are_lemmas_within(&ranges, lemmas, 0, lemmas.len())
 }
 
 /// The first version in which the certificate has a spelling, told by one walk over it.
@@ -280,4 +287,29 @@ impl Certificate {
     {
         is_certificate_within(2, self)
     }
+}
+
+impl Lemmas {
+    ghost use Rattle.std.specs.Prelude.{◌≤◌, MatchBool, length};
+    ghost use Rattle.match_text.specs.Ranges.{IsVersion, ranges_of};
+    ghost use Rattle.cert_tree.specs.CertificateSpelling.{AreWithinBetween};
+
+    /// Whether each lemma from this number up to the other, which is left out, has a spelling in the version.
+    pub fn within_limits(&self, version: u8, first: usize, last: usize) -> bool
+        requires version { IsVersion version }
+        requires numbers { (first ≤ last) × (last ≤ length self.now) }
+        ensures { MatchBool result (AreWithinBetween (ranges_of version) self.now first last)
+            (AreWithinBetween (ranges_of version) self.now first last → ⊥) }
+    {
+        are_lemmas_within(&ranges_of(version), self, first, last)
+    }
+}
+
+/// Whether there are at most 1,024 symmetries, each of which has a spelling in the version.
+pub fn are_symmetries_within_limits(version: u8, lines: &[SymmetryLine]) -> bool
+    requires { IsVersion version }
+    ensures { MatchBool result (AreSymmetriesWithin (ranges_of version) lines.now)
+        (AreSymmetriesWithin (ranges_of version) lines.now → ⊥) }
+{
+    are_few_symmetries_within(&ranges_of(version), lines)
 }

@@ -1,3 +1,3 @@
 pub mod FindingLemmas
 pub mod PlaceLemmas
-pub mod ReadingLemmas
+pub mod WritingLemmas

@@ -5,7 +5,8 @@ ghost use Rattle.std.specs.Thread.{IsSync};
 ghost use Rattle.match_board.specs.declared.limits.TheConstants.{MOST_WORKERS, MOST_FORKS};
 ghost use Rattle.cert_check.specs.Setting.{question_of};
 ghost use Rattle.cert_check.specs.Walk.{TellsOfTrees};
-ghost use Rattle.cert_check.specs.Answer.{AreArrangements, IsAnswer, IsSound, IsCovering};
+ghost use Rattle.match_puzzle.specs.Arrangement.{AreArrangements};
+ghost use Rattle.cert_check.specs.Answer.{IsAnswer, IsSound, IsCovering};
 ghost use Rattle.check_crew.specs.Jobs.{IsJob, IsFinding};
 
 use crate::jobs::{Walks, first_found, walk_tree};

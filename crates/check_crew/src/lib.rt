@@ -1,11 +1,16 @@
-//! The reading and the check of a certificate by a crew of workers.
+//! The reading, the check and the writing of a certificate by a crew of workers.
 #![tactic(auto)]
 
 mod checks;
 mod jobs;
+mod lemma_parts;
+mod limits;
 mod lists;
 mod readings;
+mod writings;
 
 pub use cert_check::{Gate, Open};
 pub use checks::check_with;
+pub use limits::within_limits_with;
 pub use readings::read_certificate_with;
+pub use writings::write_certificate_with;

@@ -10,3 +10,4 @@ pub mod WordLemmas
 pub mod DigitLemmas
 pub mod ClassLemmas
 pub mod OptionLemmas
+pub mod ListLemmas

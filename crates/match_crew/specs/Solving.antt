@@ -9,7 +9,7 @@ use Rattle.match_text.specs.declared.ranges.TheConstants.{SECOND}
 use Rattle.cert_tree.specs.Certificate.{Contents}
 use Rattle.cert_tree.specs.CertificateSpelling.{IsCertificateWithin}
 use Rattle.cert_tree.specs.Writing.{said_by}
-use Rattle.cert_check.specs.Answer.{AreArrangements}
+use Rattle.match_puzzle.specs.Arrangement.{AreArrangements}
 use Rattle.steal_crew.specs.Counts.{total, times, once_below}
 use Rattle.piece_desk.specs.Desks.{IsOf}
 use Rattle.piece_desk.specs.declared.desks.Desk.{Desk}

@@ -1,5 +1,5 @@
-//! Arrangements of a puzzle, with a certificate, by a crew of workers that give open branches away; and the check of a
-//! certificate by a crew, which is that of `check_crew`.
+//! Arrangements of a puzzle, with a certificate, by a crew of workers that give open branches away; and the reading, the
+//! check and the writing of a certificate by a crew, which are those of `check_crew`.
 #![tactic(auto)]
 
 mod branches;
@@ -16,7 +16,7 @@ mod shared;
 mod solves;
 mod watches;
 
-pub use check_crew::{Gate, Open, check_with, read_certificate_with};
+pub use check_crew::{Gate, Open, check_with, read_certificate_with, write_certificate_with};
 pub use faults::SolveFault;
 pub use solves::{Solved, solve_watched, solve_with};
 pub use watches::{Unwatched, Watch};

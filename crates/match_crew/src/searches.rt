@@ -4,8 +4,7 @@ ghost use Rattle.std.specs.Prelude.{Contains, List, IfOk, IfSome};
 ghost use Rattle.match_puzzle.specs.declared.placements.Pair.{Pair as PlacedPair};
 ghost use Rattle.match_puzzle.specs.declared.placements.Placement.{Placement};
 ghost use Rattle.steal_crew.specs.LiveHands.{Gave};
-ghost use Rattle.match_puzzle.specs.Arrangement.{IsArrangement};
-ghost use Rattle.cert_check.specs.Answer.{AreArrangements};
+ghost use Rattle.match_puzzle.specs.Arrangement.{IsArrangement, AreArrangements};
 ghost use Rattle.match_crew.specs.Solving.{IsOutcomeOf};
 
 use crate::branches::{OpenBranch, fit_in_turn, prefix_of};
@@ -43,7 +42,7 @@ pub struct Searches<'a, T: Wait, W: Watch> {
     pub rt: &'a T,
     pub xcc: &'a Xcc<'a>,
     pub desk: &'a Desk,
-    pub shared: Shared<'a>,
+    pub shared: &'a Shared<'a>,
     pub watch: &'a W,
     // whether a job gave up or found too many
     pub is_over: AtomicBool,
@@ -64,7 +63,7 @@ impl<'a, T: Wait, W: Watch> Searches<'a, T, W> {
             (λ f. AreArrangements self.now.xcc.now.puzzle f.found.items)) }
         ensures moved { C.moves cites.old cites.new }
     {
-        let shared = &self.shared;
+        let shared = self.shared;
         if !fit_in_turn(shared.alloc, self.xcc.puzzle(), pairs)? {
             return Ok(None);
         }
@@ -104,7 +103,7 @@ impl<'a, T: Wait, W: Watch> Searches<'a, T, W> {
             tell_rest(self.watch, cites.looked);
             return finished;
         }
-        let shared = &self.shared;
+        let shared = self.shared;
         let mut choices = Choices {
             shared,
             watch: self.watch,

@@ -1,15 +1,15 @@
 //! Solving a puzzle.
 
-ghost use Rattle.std.specs.Prelude.{◌≡◌, ◌≢◌, ◌≤◌, ◌<◌, ◌+◌, ◌^◌, ◌++◌, ◌∷◌, [], All, IfOk, IfErr, IsErrOf, OnOk, length, vec_len};
+ghost use Rattle.std.specs.Prelude.{◌≡◌, ◌≢◌, ◌≤◌, ◌<◌, ◌+◌, ◌^◌, ◌++◌, ◌∷◌, [], All, IfOk, IfErr, IsErrOf, OnOk};
+ghost use Rattle.std.specs.Prelude.{length, vec_len};
 ghost use Rattle.match_board.specs.declared.limits.TheConstants.{MOST_DEPTH, MOST_FUEL, MOST_SYMMETRIES, MOST_WORKERS};
-ghost use Rattle.match_puzzle.specs.Arrangement.{IsArrangement};
+ghost use Rattle.match_puzzle.specs.Arrangement.{IsArrangement, AreArrangements};
 ghost use Rattle.match_puzzle.specs.declared.placements.Placement.{Placement};
 ghost use Rattle.puzzle_symmetry.specs.Symmetry.{IsSymmetry};
 ghost use Rattle.cert_tree.specs.CertificateSpelling.{IsCertificateWithin};
 ghost use Rattle.cert_tree.specs.Writing.{said_by};
 ghost use Rattle.piece_desk.specs.Desks.{IsOf};
 ghost use Rattle.xcc_form.specs.Options.{HasTooManyEntries};
-ghost use Rattle.cert_check.specs.Answer.{AreArrangements};
 ghost use Rattle.match_crew.specs.Solving.{IsOutcomeOf, IsSearchedBy, IsSolvedBy};
 
 use crate::branches::OpenBranch;
@@ -21,6 +21,7 @@ use crate::searches::{Searched, Searches};
 use crate::shared::Shared;
 use crate::watches::{Unwatched, Watch};
 use cert_tree::{AssembleFault, Certificate};
+use check_crew::within_limits_with;
 use match_board::limits::{MOST_ARRANGEMENTS, MOST_LEMMAS};
 use match_puzzle::{Arrangement, Puzzle};
 use match_symmetry::suggest;
@@ -78,11 +79,11 @@ fn search_all<R: Threads + Wait + Sync, W: Watch + Sync>(
     rt: &R,
     xcc: &Xcc<'_>,
     desk: &Desk,
-    shared: Shared<'_>,
+    shared: &Shared<'_>,
     watch: &W,
 ) -> Result<Crew<Searched>, AllocError>
-    requires { (1 ≤ shared.workers) × (shared.workers ≤ MOST_WORKERS) }
-    ensures { IfOk result (λ c. IsSearchedBy xcc.now.puzzle desk.now shared.entry.workers c.results.items c.tallies.items) }
+    requires { (1 ≤ shared.now.workers) × (shared.now.workers ≤ MOST_WORKERS) }
+    ensures { IfOk result (λ c. IsSearchedBy xcc.now.puzzle desk.now shared.now.workers c.results.items c.tallies.items) }
 {
     let (alloc, workers) = (shared.alloc, shared.workers);
     let searches = Searches {
@@ -175,29 +176,37 @@ fn collect(
 }
 
 // The certificate of what was posted, turned over: the root comes last.
-fn certificate_of(
-    alloc: Global,
+fn certificate_of<R: Threads + Sync>(
+    rt: &R,
+    shared: &Shared<'_>,
     desk: &Desk,
-    receipts: &[Receipt],
+    collected: &Collected,
     lines: Vec<SymmetryLine>,
-    count: u32,
-    first: &[u32],
 ) -> Result<Certificate, SolveFault>
-    requires receipts { All (λ receipt. IsOf desk.now receipt) receipts.now }
-    requires count { count ≤ MOST_LEMMAS }
-    requires many { length first.now ≡ count }
-    requires first { All (λ n. n ≤ MOST_ARRANGEMENTS) first.now }
+    requires workers { (1 ≤ shared.now.workers) × (shared.now.workers ≤ MOST_WORKERS) }
+    requires receipts { All (λ receipt. IsOf desk.now receipt) collected.now.receipts.items }
+    requires count { vec_len collected.now.first ≤ MOST_LEMMAS }
+    requires first { All (λ n. n ≤ MOST_ARRANGEMENTS) collected.now.first.items }
     requires lines { length lines.items < 2 ^ 32 }
     ensures within { IfOk result (λ c. IsCertificateWithin (said_by 2 c)) }
-    ensures many { IfOk result (λ c. length c.lemmas ≡ count) }
+    ensures many { IfOk result (λ c. length c.lemmas ≡ vec_len collected.now.first) }
     ensures fault { IfErr result (λ f. f ≢ SolveFault.TooMany) }
 {
-    match desk.gather(alloc, receipts, lines, count, first) {
-        Ok(certificate) if certificate.within_limits() => Ok(certificate),
-        Ok(_) => Err(SolveFault::Full),
-        Err(AssembleFault::Memory) => Err(SolveFault::Memory),
-        Err(_) => Err(SolveFault::GaveUp),
+    let Collected {
+        receipts,
+        first,
+        ..
+    } = collected;
+    let gathered = desk.gather(shared.alloc, receipts, lines, first.len() as u32, first);
+    let certificate = match gathered {
+        Ok(certificate) => certificate,
+        Err(AssembleFault::Memory) => return Err(SolveFault::Memory),
+        Err(_) => return Err(SolveFault::GaveUp),
+    };
+    if !within_limits_with(rt, shared.alloc, 2, &certificate, shared.workers)? {
+        return Err(SolveFault::Full);
     }
+    Ok(certificate)
 }
 
 /// Searches for all arrangements of the puzzle by 1 to 64 workers, each lemma by at most `fuel` branch nodes, 1 to
@@ -266,19 +275,14 @@ pub fn solve_watched<R: Threads + Wait + Sync, W: Watch + Sync>(
         workers,
         waiting: AtomicU64::new(0),
     };
-    let (results, tally) = search_all(rt, &xcc, &desk, shared, watch)?.into_parts();
-    let count = results.len() as u32;
-    let Collected {
-        receipts,
-        first,
-        listed,
-    } = collect(alloc, puzzle, &desk, results)?;
-    if !list_within_limits(&listed) {
+    let (results, tally) = search_all(rt, &xcc, &desk, &shared, watch)?.into_parts();
+    let collected = collect(alloc, puzzle, &desk, results)?;
+    if !list_within_limits(&collected.listed) {
         return Err(SolveFault::Full);
     }
-    let certificate = certificate_of(alloc, &desk, &receipts, lines, count, &first)?;
+    let certificate = certificate_of(rt, &shared, &desk, &collected, lines)?;
     Ok(Solved {
-        list: listed,
+        list: collected.listed,
         certificate,
         tally,
     })

@@ -174,12 +174,17 @@ module _ (p : Task) (q : Prefix) (x : Pair) (side : ℕ) where
   row_more : (cell : ℕ) (row : List ℕ) → ((met : ℕ) → Meets p.board x.cell side cell met → ⊥) → IsListing ◌<◌ (StandsBeside p q x side cell) row → IsListing ◌<◌ (StandsBeside p q x (side + 1) cell) row
   row_more cell row apart is = listing_as ◌<◌ (StandsBeside p q x side cell) (StandsBeside p q x (side + 1) cell) row (λ n s. beside_more cell n (λ met meets. absurd (apart met meets)) s) (λ n s. beside_less cell n s) is
 
-  -- A side that meets nothing changes no row.
-  pub rows_border : (rows : List (List ℕ)) → ((c k : ℕ) → Meets p.board x.cell side c k → ⊥) → AreRowsBeside p q x side rows → AreRowsBeside p q x (side + 1) rows
-  rows_border rows nothing are = record {
+  -- A side that meets nothing, or a cell that isn't free, changes no row.
+  pub rows_filled : (rows : List (List ℕ)) → ((c k : ℕ) → Meets p.board x.cell side c k → IsFree (with_pair q x.cell x.placement) c → ⊥) → AreRowsBeside p q x side rows → AreRowsBeside p q x (side + 1) rows
+  rows_filled rows filled are = record {
     long = are.long;
-    is = λ cell cell_in. row_more cell (get_or rows cell []) (λ met meets. nothing cell met meets) (are.is cell cell_in);
+    is = λ cell cell_in.
+        listing_as ◌<◌ (StandsBeside p q x side cell) (StandsBeside p q x (side + 1) cell) (get_or rows cell [])
+        (λ n s. beside_more cell n (λ met meets. absurd (filled cell met meets s.free)) s) (λ n s. beside_less cell n s) (are.is cell cell_in);
   }
+
+  pub rows_border : (rows : List (List ℕ)) → ((c k : ℕ) → Meets p.board x.cell side c k → ⊥) → AreRowsBeside p q x side rows → AreRowsBeside p q x (side + 1) rows
+  rows_border rows nothing are = rows_filled rows (λ c k meets free. nothing c k meets) are
 
   -- In the row of the cell that is met stays what shows the mate.
   pub rows_met : (cell met asked : ℕ) (kept row : List ℕ) (rows : List (List ℕ)) → IsPuzzle p → Meets p.board x.cell side cell met → ((c k : ℕ) → Meets p.board x.cell side c k → (c ≡ cell) × (k ≡ met)) → asked ≡ mate_of p (colour_of p x.placement side) → asked < MOST_COLOURS → AreShowing p.words asked met kept →

@@ -11,6 +11,7 @@ pub mod ArrangementLemmas
 pub mod NumberSetLemmas
 pub mod PlacementSetLemmas
 pub mod FittingLemmas
+pub mod EqualityLemmas
 pub mod FitRowLemmas
 pub mod OpenRowLemmas
 pub mod BesideLemmas

@@ -1,5 +1,6 @@
 -- What goes out of rows and counts where a pair is placed.
-use Rattle.std.proofs.Common.{◌≡◌, ◌≢◌, ◌⊎◌, ◌<◌, ◌≤◌, ◌+◌, ◌*◌, ◌/◌, ℕ, List, [], Some, None, Contains, length, length-set, set, map, get_or, arith, refl, ap, sym, ◌∙◌, subst, inl, inr, ⊎_elim}
+use Rattle.std.proofs.Common.{◌≡◌, ◌≢◌, ◌⊎◌, ◌<◌, ◌≤◌, ◌+◌, ◌*◌, ◌/◌, ℕ, true, List, [], Option, Some, None, Contains, length, length-set, set, map, get_or, slice_get, arith, refl, ap, sym, ◌∙◌, subst, inl, inr, ⊎_elim}
+use Rattle.std.specs.Option.{is_some}
 use Rattle.std.proofs.lemmas.List.{length-map, get_or-set_same, get_or-set_other}
 use Rattle.std.proofs.lemmas.Option.{slice_get_within}
 use Rattle.std.proofs.lemmas.Bool.Decides.{eqb_tells}
@@ -23,6 +24,11 @@ use Rattle.match_puzzle.proofs.FitSizeLemmas.{AreGoneAt, enough_at_tile, sizes_w
 
 some_is_none : {X : Type 0} {x : X} → Some x ≡ None → ⊥
 some_is_none e = cc
+
+-- where something stands isn't free
+pub filled_taken : (q : Prefix) (cell : ℕ) (standing : Option Placement) → slice_get q cell ≡ Some standing → is_some standing ≡ true → IsFree q cell → ⊥
+filled_taken q cell None at filled free = cc
+filled_taken q cell (Some x) at filled free = cc
 
 module _ (p : Task) (q : Prefix) (x : Pair) (fits : FitsPair p q x) where
   abbrev Placed : Prefix

@@ -1,5 +1,5 @@
 -- Arrangements of a puzzle: a placement for each cell.
-use Rattle.std.specs.Prelude.{◌≡◌, ◌<◌, ℕ, List, Some, length, slice_get}
+use Rattle.std.specs.Prelude.{◌≡◌, ◌<◌, ◌↔◌, ℕ, List, Some, Contains, length, slice_get}
 use Rattle.match_board.specs.Board.{cell_count, Meets}
 use Rattle.match_puzzle.specs.Puzzle.{Task, colour_of, GoTogether, IsLegal, HasRule}
 use Rattle.match_puzzle.specs.declared.placements.Placement.{Placement}
@@ -48,3 +48,19 @@ pub record IsArrangement (p : Task) (a : List Placement) : Type 0 where
   pub placed : AreAllPlaced p a
   pub border : ObeyBorder p a
   pub edges : MatchEdges p a
+
+-- Each listed one is an arrangement of the puzzle.
+abbrev pub AreArrangements : Task → List (List Placement) → Type 0
+AreArrangements p listed = (number : ℕ) (a : List Placement) → slice_get listed number ≡ Some a → IsArrangement p a
+
+-- No two places have the same.
+abbrev pub AreDistinct : {X : Type 0} → List X → Type 0
+AreDistinct {X} xs =
+    (place other : ℕ) (x : X) → slice_get xs place ≡ Some x → slice_get xs other ≡ Some x → place ≡ other
+
+-- The puzzle has so many arrangements: there is a list of them all, each once, and this is its length.
+pub record HasArrangements (p : Task) (count : ℕ) : Type 0 where
+  pub all : List (List Placement)
+  pub just : (a : List Placement) → Contains all a ↔ IsArrangement p a
+  pub once : AreDistinct all
+  pub counted : count ≡ length all

@@ -200,14 +200,17 @@ impl NumberSet {
     pub(crate) fn clear(&mut self)
         ensures { self.new ≡ [] }
     {
-        self.words = [0; WORDS];
-        self.end = 0;
+        // words of no numbers stay as they are
+        if self.end > 0 {
+            self.words = [0; WORDS];
+            self.end = 0;
+        }
     }
 
     /// Makes this the numbers that are in each of five sets.
     ///
     /// Each word is made at once, in its place, so that a set is written and not read again on the way; four go
-    /// together, up to the last one that is looked at, since loops that go to an end known beforehand are faster.
+    /// together, up to the last one that is or was looked at, since loops to an end known beforehand are faster.
     pub(crate) fn put_common(
         &mut self,
         all: &NumberSet,
@@ -219,9 +222,9 @@ impl NumberSet {
         ensures { IsListing ◌<◌ (λ n. Contains all.now n × Contains first.now n × Contains second.now n
             × Contains third.now n × Contains fourth.now n) self.new }
     {
-        self.words = [0; WORDS];
+        let end = self.end.max(all.end);
         self.end = all.end;
-        for block in 0..(all.end + 3) / 4 {
+        for block in 0..(end + 3) / 4 {
             for i in 4 * block..4 * block + 4 {
                 self.words[i] = all.words[i]
                     & first.words[i]

@@ -93,6 +93,10 @@ fn take_out_side(
 {
     let puzzle = partial.puzzle();
     if let Some((cell, met)) = puzzle.meets(pair.cell, side) {
+        // no pair fits at a cell that is filled
+        if partial.at(cell).is_some() {
+            return;
+        }
         let kept = puzzle.showing(asked, met);
         let mut gone = NumberSet::new();
         gone.put_without(rows.at(cell), kept, partial.free());

@@ -330,7 +330,7 @@ impl Puzzle {
         requires side { side < 4 }
         ensures { AreShowing self.now.words asked side result.now }
     {
-        &self.sets.showing[usize::from(4 * asked + side)]
+        &self.sets.showing[4 * usize::from(asked) + usize::from(side)]
     }
 
     // What the placement shows: the colour on each side, and something on a fourth that isn't there.

@@ -6,7 +6,7 @@ use Rattle.match_puzzle.specs.Puzzle.{Task, IsPuzzle}
 use Rattle.match_puzzle.specs.Arrangement.{IsArrangement}
 use Rattle.match_puzzle.specs.declared.placements.Placement.{Placement}
 use Rattle.match_puzzle.proofs.FittingLemmas.{small_turn}
-use Rattle.puzzle_symmetry.specs.Motion.{Motion}
+use Rattle.puzzle_symmetry.specs.Motion.{Motion, line_of, motion_of}
 use Rattle.puzzle_symmetry.specs.declared.lines.SymmetryLine.{SymmetryLine}
 use Rattle.puzzle_symmetry.specs.Symmetry.{IsSymmetry}
 use Rattle.puzzle_symmetry.specs.SymmetryFaults.{SymmetryFails}
@@ -21,10 +21,11 @@ use Rattle.cert_tree.specs.Certificate.{Contents, Piece}
 use Rattle.cert_tree.specs.CertificateText.{Said, Makes, CertificateGives}
 use Rattle.cert_tree.specs.declared.faults.AssembleFault.{AssembleFault}
 use Rattle.cert_tree.specs.declared.faults.CertTextFault.TheVariants.{Text, Assemble}
-use Rattle.cert_check.specs.Setting.{Question, line_of, motion_of}
-use Rattle.cert_check.specs.Answer.{AreSymmetries, IsAnswer, IsCompleteList}
-use Rattle.cert_check.proofs.CheckLemmas.{are_of_puzzle, lines_of}
-use Rattle.cert_check.proofs.ListLemmas.{contains_at, contains_none, mapped_at, place_of}
+use Rattle.cert_check.specs.Setting.{Question}
+use Rattle.puzzle_symmetry.specs.Complete.{AreSymmetries, IsCompleteList}
+use Rattle.cert_check.specs.Answer.{IsAnswer}
+use Rattle.puzzle_symmetry.proofs.MotionLemmas.{are_of_puzzle, lines_of}
+use Rattle.match_board.proofs.ListLemmas.{contains_at, contains_none, mapped_at, place_of}
 use Rattle.cert_check.specs.declared.faults.Answer.{Answer}
 use Rattle.cert_check.specs.declared.faults.Answer.TheVariants.{Complete, Refused}
 use Rattle.cert_check.specs.declared.faults.Fault.TheVariants as checks

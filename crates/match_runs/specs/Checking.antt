@@ -12,7 +12,8 @@ use Rattle.cert_tree.specs.CertificateText.{Said, certificate_of}
 use Rattle.cert_tree.specs.declared.faults.AssembleFault.TheVariants as assemblies
 use Rattle.cert_tree.specs.declared.faults.CertTextFault.TheVariants as certificates
 use Rattle.cert_check.specs.Setting.{Question}
-use Rattle.cert_check.specs.Answer.{IsAnswer, IsCompleteList, IsSound}
+use Rattle.puzzle_symmetry.specs.Complete.{IsCompleteList}
+use Rattle.cert_check.specs.Answer.{IsAnswer, IsSound}
 use Rattle.cert_check.specs.declared.faults.Answer.{Answer}
 use Rattle.match_report.specs.AnswerText.{answer_line}
 use Rattle.byte_streams.specs.Documents.{Texts}

@@ -1,19 +1,19 @@
 -- What is printed of three documents beside the line of their answer.
 use Rattle.std.specs.Prelude.{◌≡◌, ◌≤◌, ◌↔◌, ◌++◌, ℕ, List, Contains, codes, length}
 use Rattle.match_board.specs.declared.limits.TheConstants.{MOST_ARRANGEMENTS}
-use Rattle.match_puzzle.specs.Arrangement.{IsArrangement}
+use Rattle.match_puzzle.specs.Arrangement.{IsArrangement, AreDistinct, HasArrangements}
 use Rattle.match_puzzle.specs.declared.placements.Placement.{Placement}
 use Rattle.match_text.specs.ListSpelling.{IsListWithin, list_spelling}
 use Rattle.match_text.specs.declared.ranges.TheConstants.{FIRST}
 use Rattle.cert_check.specs.Setting.{Question, motions_of}
-use Rattle.cert_check.specs.Answer.{AreDistinct, IsAnswer}
+use Rattle.cert_check.specs.Answer.{IsAnswer}
 use Rattle.cert_check.specs.declared.faults.Answer.{Answer}
 use Rattle.cert_check.specs.declared.faults.Answer.TheVariants.{Complete, Refused}
 use Rattle.match_report.specs.AnswerText.{answer_line}
 use Rattle.match_explain.specs.Explanation.{IsExplanation}
 use Rattle.match_show.specs.Facts.{number_line}
 use Rattle.symmetry_orbits.specs.Expansion.{IsExpansion, AreMoreReached}
-use Rattle.symmetry_orbits.specs.Orbits.{AreMoreListedOrInOrbit, HasArrangements, IsCount}
+use Rattle.symmetry_orbits.specs.Orbits.{AreMoreListedOrInOrbit, IsCount}
 use Rattle.symmetry_orbits.specs.declared.numbers.Count.{Count}
 use Rattle.byte_streams.specs.Documents.{Texts}
 use Rattle.match_runs.specs.Checking.{Answers, CheckFails, Spells}

@@ -3,7 +3,8 @@
 ghost use Rattle.std.specs.Prelude.{◌≡◌, ◌++◌, List, IfOk, IfErr, OnOk, length};
 ghost use Rattle.match_puzzle.specs.Puzzle.{IsPuzzle};
 ghost use Rattle.match_puzzle.specs.declared.placements.Placement.{Placement};
-ghost use Rattle.cert_check.specs.Answer.{IsAnswer, IsCompleteList};
+ghost use Rattle.puzzle_symmetry.specs.Complete.{IsCompleteList};
+ghost use Rattle.cert_check.specs.Answer.{IsAnswer};
 ghost use Rattle.cert_check.specs.declared.faults.Answer.TheVariants.{Complete, Refused};
 ghost use Rattle.match_report.specs.AnswerText.{answer_line};
 ghost use Rattle.match_show.specs.Facts.{number_line};

@@ -3,7 +3,7 @@
 ghost use Rattle.std.specs.Prelude.{◌≡◌, ◌≤◌, IfOk, length};
 ghost use Rattle.match_text.specs.ListSpelling.{IsListWithin};
 ghost use Rattle.match_text.specs.declared.ranges.TheConstants.{SECOND};
-ghost use Rattle.cert_check.specs.Answer.{AreArrangements};
+ghost use Rattle.match_puzzle.specs.Arrangement.{AreArrangements};
 ghost use Rattle.byte_streams.specs.Moves.{reading_of, writing_of};
 ghost use Rattle.byte_streams.specs.Origins.{one_source};
 ghost use Rattle.byte_streams.specs.Targets.{three_sinks};
@@ -17,10 +17,10 @@ use crate::running::run_by;
 use byte_streams::{
     Document, Inputs, MadeText, OneSource, Outputs, Products, Sink, Source, Text, ThreeSinks,
 };
-use cert_tree::{Certificate, write_certificate};
+use cert_tree::Certificate;
 use command_words::{Depth, Fuel, Workers};
 use match_board::limits::MOST_WORKERS;
-use match_crew::{Solved, Unwatched, solve_watched};
+use match_crew::{Solved, Unwatched, solve_watched, write_certificate_with};
 use match_puzzle::{Arrangement, Puzzle};
 use match_report::{Taken, write_board, write_tally};
 use match_text::{put_number_line, read_puzzle, write_list};
@@ -163,7 +163,7 @@ fn make_products<R: Threads + Wait + Sync, T: SolveWatch + Sync>(
     )?;
     let shares = shares(alloc, tally)?;
     let list = write_list(alloc, &listed)?;
-    let text = write_certificate(alloc, &certificate)?;
+    let text = write_certificate_with(rt, alloc, &certificate, search.workers.get() as u8)?;
     let report = report_on(alloc, &puzzle, &listed, &certificate, &shares)?;
     watch.made(list.len(), text.len());
     let made = Products {

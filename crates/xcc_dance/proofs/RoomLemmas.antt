@@ -50,7 +50,7 @@ found_below n q (y ∷ xs) all e = by_test (eqb q y) refl (λ h. found_below n q
     by_test false t rest h = rest h
 
 -- different numbers below a bound are no more than so many
-few_different : (xs : List ℕ) (n : ℕ) → AreDifferent xs → ((i q : ℕ) → slice_get xs i ≡ Some q → q < n) → length xs ≤ n
+pub few_different : (xs : List ℕ) (n : ℕ) → AreDifferent xs → ((i q : ℕ) → slice_get xs i ≡ Some q → q < n) → length xs ≤ n
 few_different xs n apart below = length-le_from_distinct_below xs n (are_distinct xs apart) (λ q e. found_below n q xs below e)
 
 -- things at different places of a list with different keys below a bound are no more than so many

@@ -1,6 +1,6 @@
 use Rattle.std.proofs.Common.{OnErr, subst}
 use Rattle.cert_check.specs.Setting.{Question}
-use Rattle.cert_check.specs.Answer.{AreArrangements}
+use Rattle.match_puzzle.specs.Arrangement.{AreArrangements}
 use Rattle.cert_check.proofs.checks.check.Goals as goal
 
 pub returns-clause-memory : goal.returns-clause-memory

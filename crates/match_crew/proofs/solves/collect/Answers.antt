@@ -6,8 +6,8 @@ use Rattle.match_puzzle.specs.declared.placements.Placement.{Placement}
 use Rattle.match_board.specs.declared.limits.TheConstants.{MOST_ARRANGEMENTS}
 use Rattle.steal_crew.proofs.QueueRuleLemmas.{all_more}
 use Rattle.piece_desk.specs.Desks.{IsOf}
-use Rattle.cert_check.specs.Answer.{AreArrangements}
-use Rattle.cert_check.proofs.ListLemmas.{contains_at, place_of}
+use Rattle.match_puzzle.specs.Arrangement.{AreArrangements}
+use Rattle.match_board.proofs.ListLemmas.{contains_at, place_of}
 use Rattle.match_crew.specs.Solving.{IsOutcomeOf}
 use Rattle.match_crew.proofs.solves.collect.Goals as goal
 

@@ -1,7 +1,7 @@
 use Rattle.std.proofs.Common.{◌≡◌, ◌+◌, ◌≤◌, All, length, vec_len}
 use Rattle.match_board.specs.declared.limits.TheConstants.{MOST_ARRANGEMENTS}
 use Rattle.piece_desk.specs.Desks.{IsOf}
-use Rattle.cert_check.specs.Answer.{AreArrangements}
+use Rattle.match_puzzle.specs.Arrangement.{AreArrangements}
 use Rattle.match_crew.specs.Solving.{IsOutcomeOf}
 use Rattle.match_crew.proofs.solves.collect.Given as goal
 

@@ -13,10 +13,10 @@ returns-clause-solved g c =
     let results : c.into_parts-results.result.0 ≡ crew.results = ap (λ (p : Vec Searched Global × Vec (Vec ℕ Global) Global). p.0) c.into_parts-results.ensures in
     let tally : c.into_parts-results.result.1 ≡ crew.tallies = ap (λ (p : Vec Searched Global × Vec (Vec ℕ Global) Global). p.1) c.into_parts-results.ensures in
     let contents = c.in_ok-certificate.certificate in
-    let many : length contents.lemmas ≡ vec_len c.into_parts-results.result.0 = c.in_ok-certificate.ensures.many ∙ c.len-count.ensures in
+    let many : length contents.lemmas ≡ vec_len c.into_parts-results.result.0 = c.in_ok-certificate.ensures.many ∙ c.in_ok-collected.ensures.many in
     let count : length contents.lemmas ≡ length crew.results.items = many ∙ ap vec_len results ∙ crew.results.ok.0 in
     record {
-      arrangements = c.in_ok-receipts.ensures.listed;
+      arrangements = c.in_ok-collected.ensures.listed;
       list = search rules;
       certificate = c.in_ok-certificate.ensures.within;
       workers = ap (λ (t : Vec (Vec ℕ Global) Global). length t.items) tally ∙ searched.workers;

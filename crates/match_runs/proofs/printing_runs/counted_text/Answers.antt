@@ -2,11 +2,11 @@ use Rattle.std.proofs.Common.{◌≡◌, ◌∙◌, List, ap, map, sym, subst}
 use Rattle.std.proofs.lemmas.Result.{err_from_is_err_and}
 use Rattle.match_board.specs.declared.limits.TheConstants.{MOST_ARRANGEMENTS}
 use Rattle.match_puzzle.specs.declared.placements.Placement.{Placement}
-use Rattle.puzzle_symmetry.specs.Motion.{Motion}
+use Rattle.puzzle_symmetry.specs.Motion.{Motion, line_of}
 use Rattle.puzzle_symmetry.specs.declared.lines.SymmetryLine.{SymmetryLine}
-use Rattle.cert_check.specs.Answer.{IsCompleteList}
-use Rattle.cert_check.specs.Setting.{Question, line_of, motions_of}
-use Rattle.cert_check.proofs.CheckLemmas.{lines_of}
+use Rattle.puzzle_symmetry.specs.Complete.{IsCompleteList}
+use Rattle.cert_check.specs.Setting.{Question, motions_of}
+use Rattle.puzzle_symmetry.proofs.MotionLemmas.{lines_of}
 use Rattle.symmetry_orbits.specs.Expansion.{AreOf}
 use Rattle.symmetry_orbits.specs.Orbits.{AreMoreListedOrInOrbit, IsCount}
 use Rattle.match_runs.specs.declared.printing_runs.Printing.TheVariants.{Count}

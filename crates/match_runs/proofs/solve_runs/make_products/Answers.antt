@@ -2,7 +2,7 @@ use Rattle.std.proofs.Common.{List, ℕ, Ok, ap, length, subst, sym, ◌∙◌}
 use Rattle.std.proofs.lemmas.Result.{err_from_is_err_and}
 use Rattle.match_puzzle.specs.declared.placements.Placement.{Placement}
 use Rattle.match_text.specs.Puzzles.{PuzzleReads}
-use Rattle.cert_check.specs.Answer.{AreArrangements}
+use Rattle.match_puzzle.specs.Arrangement.{AreArrangements}
 use Rattle.match_crew.specs.Solving.{IsSolvedBy}
 use Rattle.match_runs.specs.Printing.{IsListText}
 use Rattle.match_runs.specs.Solving.{IsCertificateText, report_text}

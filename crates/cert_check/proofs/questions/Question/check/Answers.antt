@@ -1,7 +1,7 @@
 use Rattle.std.proofs.Common.{◌≡◌, ◌∙◌, IfOk, subst}
 use Rattle.std.proofs.lemmas.Result.{err_from_is_err_and}
 use Rattle.cert_check.specs.Setting.{Question}
-use Rattle.cert_check.specs.Answer.{AreArrangements}
+use Rattle.match_puzzle.specs.Arrangement.{AreArrangements}
 use Rattle.cert_check.proofs.questions.Question.check.Goals as goal
 
 pub returns-in_err-found-clause-memory : goal.returns-in_err-found-clause-memory

@@ -1,9 +1,12 @@
 use Rattle.std.proofs.Common.{◌∙◌, List, Some, MatchBool, ap, map, sym, subst}
 use Rattle.std.proofs.lemmas.Result.{err_from_is_err_and}
 use Rattle.cert_tree.specs.Certificate.{Piece}
-use Rattle.cert_check.specs.Setting.{Question, question_of, motion_of, BeginWithPrefixes}
+use Rattle.puzzle_symmetry.specs.Motion.{motion_of}
+use Rattle.cert_check.specs.Setting.{Question, question_of, BeginWithPrefixes}
 use Rattle.cert_check.specs.Derivation.{HasRoot}
-use Rattle.cert_check.specs.Answer.{AreArrangements, AreSymmetries, IsPrepared, IsPreparedWith, Occurs, fault_rank}
+use Rattle.match_puzzle.specs.Arrangement.{AreArrangements}
+use Rattle.puzzle_symmetry.specs.Complete.{AreSymmetries}
+use Rattle.cert_check.specs.Answer.{IsPrepared, IsPreparedWith, Occurs, fault_rank}
 use Rattle.cert_check.specs.Lines.{LinesFail, TellsOfPrefixes}
 use Rattle.cert_check.specs.Walk.{TellsOfArrangements, TellsOfListing}
 use Rattle.match_board.specs.First.{IsFirst}

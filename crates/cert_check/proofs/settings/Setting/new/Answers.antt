@@ -1,6 +1,8 @@
 use Rattle.std.proofs.Common.{◌∙◌, length, take, arith, ap, sym, subst}
-use Rattle.cert_check.specs.Setting.{AreOfPuzzle, BeginWithPrefixes, setting_of}
-use Rattle.cert_check.proofs.CheckLemmas.{are_of_puzzle, setting_is}
+use Rattle.puzzle_symmetry.specs.Motion.{AreOfPuzzle}
+use Rattle.cert_check.specs.Setting.{BeginWithPrefixes, setting_of}
+use Rattle.puzzle_symmetry.proofs.MotionLemmas.{are_of_puzzle}
+use Rattle.cert_check.proofs.CheckLemmas.{setting_is}
 use Rattle.cert_check.proofs.settings.Setting.new.Goals as goal
 
 pub invariant_of-result : goal.invariant_of-result

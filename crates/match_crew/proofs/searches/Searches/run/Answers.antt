@@ -5,7 +5,7 @@ use Rattle.xcc_form.specs.Options.{Compiled}
 use Rattle.xcc_dance.specs.Chosen.{Selection}
 use Rattle.xcc_dance.specs.Outcome.{IsOutcome, SearchState}
 use Rattle.match_puzzle.specs.Placing.{FitInTurn}
-use Rattle.cert_check.proofs.ListLemmas.{contains_at}
+use Rattle.match_board.proofs.ListLemmas.{contains_at}
 use Rattle.match_crew.proofs.searches.Searches.run.Goals as goal
 
 pub run_by-requires-clause-prefix : goal.run_by-requires-clause-prefix

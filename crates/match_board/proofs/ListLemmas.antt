@@ -1,9 +1,10 @@
 -- Lists by their places.
 use Rattle.std.proofs.Common.{◌≡◌, ◌⊎◌, ◌<◌, ◌+◌, ◌++◌, ℕ, zero, suc, List, [], ◌∷◌, Some, None, Contains, length, slice_get, get_or, take, map, refl, ap, sym, ◌∙◌, subst, arith, inl, inr, ⊎_elim}
+use Rattle.std.specs.List.{AllByRecursion}
 use Rattle.std.proofs.lemmas.List.{take_more}
 use Rattle.std.proofs.lemmas.Bool.Decides.{eqb_tells}
 use Rattle.std.proofs.lemmas.Option.{slice_get_within, get_or_from_slice_get}
-use Rattle.match_puzzle.proofs.Prefixes.{inside}
+use Rattle.match_board.proofs.OptionLemmas.{inside}
 
 pub none≢some : {X : Type 0} {x : X} → None ≡ Some x → ⊥
 none≢some e = cc
@@ -86,3 +87,14 @@ pub member_at : {X : Type 0} (xs : List X) (i : ℕ) → i < length xs → (x : 
 member_at [] i lt = absurd (omega (arith, lt))
 member_at (x ∷ xs) zero lt = (x, refl)
 member_at (x ∷ xs) (suc i) lt = member_at xs i (omega (arith, lt))
+
+-- what holds at each place holds of all
+pub all_by_place : {X : Type 0} (P : X → Type 0) (xs : List X) → ((i : ℕ) (x : X) → slice_get xs i ≡ Some x → P x) → AllByRecursion P xs
+all_by_place P [] each = tt
+all_by_place P (x ∷ xs) each = (each 0 x refl, all_by_place P xs (λ i y at. each (suc i) y at))
+
+-- and what holds of all holds at each place
+pub at_each_place : {X : Type 0} (P : X → Type 0) (xs : List X) → AllByRecursion P xs → (i : ℕ) (x : X) → slice_get xs i ≡ Some x → P x
+at_each_place P [] all i x at = absurd (none≢some at)
+at_each_place P (y ∷ xs) all zero x at = subst P (inside at) all.0
+at_each_place P (y ∷ xs) all (suc i) x at = at_each_place P xs all.1 i x at

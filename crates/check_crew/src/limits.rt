@@ -1,0 +1,96 @@
+//! Whether a certificate is within the limits of its text, told by a crew.
+
+ghost use Rattle.std.specs.Prelude.{◌≤◌, IfOk, MatchBool, length};
+ghost use Rattle.match_board.specs.declared.limits.TheConstants.{MOST_WORKERS};
+ghost use Rattle.match_text.specs.Ranges.{IsVersion};
+ghost use Rattle.cert_tree.specs.CertificateSpelling.{IsCertificateWithin};
+ghost use Rattle.cert_tree.specs.Writing.{said_by};
+ghost use Rattle.check_crew.specs.LemmaParts.{AreCut, AreOfParts, TellsOfLimits};
+
+use crate::lemma_parts::LemmaParts;
+use cert_tree::{Certificate, are_symmetries_within_limits};
+use std::alloc::{AllocError, Global};
+use std::thread::Threads;
+use steal_crew::{Work, run_crew};
+
+// Whether lemmas have spellings in the version: a job for each part.
+#[derive(Drop)]
+struct Limits<'a> {
+    version: u8,
+    parts: LemmaParts<'a>,
+}
+
+impl<'a> Work for Limits<'a> {
+    ghost use Rattle.std.specs.Prelude.{◌+◌};
+    ghost use Rattle.match_text.specs.Ranges.{IsVersion};
+    ghost use Rattle.check_crew.specs.LemmaParts.{TellsOfLimits, IsPart, part_start};
+
+    type R = bool;
+
+    ghost accepts = { λ w n. IsVersion w.version × IsPart w.parts.lemmas.now w.parts.size n };
+
+    ghost gives = { λ w n told. TellsOfLimits w.version w.parts.lemmas.now
+        (part_start w.parts.lemmas.now w.parts.size n) (part_start w.parts.lemmas.now w.parts.size (n + 1)) told };
+
+    fn one(&self, number: u32) -> Result<bool, AllocError> {
+        let (first, last) = self.parts.bounds(number);
+        Ok(self.parts.lemmas.within_limits(self.version, first, last))
+    }
+}
+
+// Whether each lemma has a spelling in the version.
+fn are_lemmas_within<R: Threads + Sync>(
+    rt: &R,
+    alloc: Global,
+    version: u8,
+    parts: &LemmaParts<'_>,
+    workers: u8,
+) -> Result<bool, AllocError>
+    requires version { IsVersion version }
+    requires cut { AreCut parts.now.lemmas.now parts.now.size }
+    requires workers { (1 ≤ workers) × (workers ≤ MOST_WORKERS) }
+    ensures { IfOk result (TellsOfLimits version parts.now.lemmas.now 0 (length parts.now.lemmas.now)) }
+{
+    let limits = Limits {
+        version,
+        parts: *parts,
+    };
+    let crew = run_crew(rt, alloc, &limits, parts.count(), workers)?;
+    let (told, _) = crew.into_parts();
+    Ok(are_all(parts, version, &told))
+}
+
+// Whether all parts are within the limits.
+fn are_all(_parts: &LemmaParts<'_>, _version: u8, told: &[bool]) -> bool
+    requires { AreOfParts (TellsOfLimits _version _parts.now.lemmas.now) _parts.now.lemmas.now _parts.now.size told.now }
+    ensures { TellsOfLimits _version _parts.now.lemmas.now 0 (length _parts.now.lemmas.now) result }
+{
+    for number in 0..told.len() {
+        if !told[number] {
+            return false;
+        }
+    }
+    true
+}
+
+/// Whether the certificate has a spelling in this version, told by 1 to 64 workers, whose number doesn't change it. It
+/// joins threads, one for each worker but the caller.
+pub fn within_limits_with<R: Threads + Sync>(
+    rt: &R,
+    alloc: Global,
+    version: u8,
+    certificate: &Certificate,
+    workers: u8,
+) -> Result<bool, AllocError>
+    requires version { IsVersion version }
+    requires workers { (1 ≤ workers) × (workers ≤ MOST_WORKERS) }
+    ensures { IfOk result (λ told. MatchBool told (IsCertificateWithin (said_by version certificate.now))
+        (IsCertificateWithin (said_by version certificate.now) → ⊥)) }
+{
+    if !are_symmetries_within_limits(version, certificate.symmetries()) {
+        return Ok(false);
+    }
+    let parts = LemmaParts::new(certificate.lemmas(), workers);
+    let lemmas = are_lemmas_within(rt, alloc, version, &parts, workers)?;
+    Ok(lemmas)
+}

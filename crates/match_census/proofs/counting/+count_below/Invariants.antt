@@ -1,0 +1,21 @@
+use Rattle.std.proofs.Common.{◌≡◌, ◌≤◌, ◌-◌, MatchOption, length}
+use Rattle.xcc_form.specs.Options.{cover_of}
+use Rattle.xcc_dance.specs.Clashes.{IsOpenAt}
+use Rattle.xcc_dance.proofs.GrowingLemmas.{left_after}
+use Rattle.match_census.specs.Numbers.{AreSoMany}
+use Rattle.match_census.proofs.ExtensionLemmas.{IsFoundBefore}
+use Rattle.match_census.proofs.counting.+count_below.Given as goal
+
+abbrev pub decreases-count_below : goal.decreases-count_below
+decreases-count_below g l = length (g.E.OpenOptions.selection l.engine.now).compiled.options - length (g.E.OpenOptions.selection l.engine.now).chosen
+
+abbrev pub invariant-loop-next : goal.invariant-loop-next
+invariant-loop-next g l = record {
+  same : l.engine ≡ l.initial.engine;
+  next : MatchOption l.next (Unit {0}) (IsOpenAt (cover_of (g.E.OpenOptions.selection l.initial.engine).compiled) (g.E.OpenOptions.selection l.initial.engine).chosen l.item);
+  counted : AreSoMany (IsFoundBefore (g.E.OpenOptions.selection l.initial.engine) l.item l.next) l.sum;
+  most : l.sum ≤ l.most;
+}
+
+abbrev pub decreases-loop-next : goal.decreases-loop-next
+decreases-loop-next g l = left_after (length (cover_of (g.E.OpenOptions.selection l.initial.engine).compiled).options) l.next

@@ -1,0 +1,6 @@
+use Rattle.std.proofs.Common.{◌*◌, take}
+use Rattle.match_census.specs.Branches.{HaveTogether}
+use Rattle.match_census.proofs.crews.sum_of.Given as goal
+
+abbrev pub invariant-loop-total : goal.invariant-loop-total
+invariant-loop-total l = HaveTogether l._xcc (take (l.total-index * l._size) l._branches) l.sum

@@ -1,0 +1,98 @@
+//! Branches counted by a crew.
+
+ghost use Rattle.std.specs.Prelude.{◌<◌, ◌≤◌, ◌*◌, ℕ, Option, IfOk, length, slice_index_or};
+ghost use Rattle.std.specs.Fork.{slice_chunk};
+ghost use Rattle.match_board.specs.declared.limits.TheConstants.{MOST_LEMMAS, MOST_WORKERS};
+ghost use Rattle.match_census.specs.Branches.{AreSelections, IsTotal};
+
+use crate::branches::Branch;
+use crate::totals::count_branches;
+use std::alloc::{AllocError, Global};
+use std::thread::Threads;
+use steal_crew::{Work, run_crew};
+use xcc_dance::OpenSets;
+use xcc_form::Xcc;
+
+// So many jobs for each worker, so that all end at about the same time.
+const JOBS_FOR_EACH: usize = 64;
+
+// At most so many branches a job. Each job has an engine of its own: to make one costs as much as to begin a branch or
+// two.
+const MOST_IN_JOB: usize = 64;
+
+// Branches, so many for each job but perhaps the last.
+#[derive(Drop)]
+struct Chunks<'a> {
+    alloc: Global,
+    xcc: &'a Xcc<'a>,
+    branches: &'a [Branch],
+    size: usize,
+}
+
+impl<'a> Work for Chunks<'a> {
+    type R = Option<u64>;
+
+    ghost use Rattle.std.specs.Prelude.{◌<◌, ◌*◌, length};
+    ghost use Rattle.std.specs.Fork.{slice_chunk};
+    ghost use Rattle.match_census.specs.Branches.{AreSelections, IsTotal};
+
+    ghost accepts = { λ w n. (n * w.size < length w.branches.now) × AreSelections w.xcc.now w.branches.now };
+
+    ghost gives = { λ w n r. IsTotal w.xcc.now (slice_chunk w.branches.now w.size n) r };
+
+    fn one(&self, number: u32) -> Result<Option<u64>, AllocError> {
+        let rest = &self.branches[number as usize * self.size..];
+        let chunk = &rest[..self.size.min(rest.len())];
+        let mut engine = OpenSets::new(self.alloc, self.xcc)?;
+        count_branches(&mut engine, chunk, u64::MAX)
+    }
+}
+
+/// How many arrangements these branches have together, each as often as it weighs, counted by 1 to 64 workers, whose
+/// number doesn't change it. `None` where they have 2^64 or more.
+///
+/// It joins threads, one for each worker but the caller. An error where memory is refused, to any of the workers.
+pub fn count_with_crew<R: Threads + Sync>(
+    rt: &R,
+    alloc: Global,
+    xcc: &Xcc<'_>,
+    branches: &[Branch],
+    workers: u8,
+) -> Result<Option<u64>, AllocError>
+    requires selections { AreSelections xcc.now branches.now }
+    requires few { length branches.now ≤ MOST_LEMMAS }
+    requires workers { (1 ≤ workers) × (workers ≤ MOST_WORKERS) }
+    ensures { IfOk result (IsTotal xcc.now branches.now) }
+{
+    let jobs = usize::from(workers) * JOBS_FOR_EACH;
+    let size = (branches.len() / jobs).max(1).min(MOST_IN_JOB);
+    let count = branches.len().div_ceil(size) as u32;
+    let work = Chunks {
+        alloc,
+        xcc,
+        branches,
+        size,
+    };
+    let crew = run_crew(rt, alloc, &work, count, workers)?;
+    Ok(sum_of(xcc, branches, size, crew.results()))
+}
+
+// The sum of what the chunks of so many branches have; none where it is 2^64 or more.
+fn sum_of(_xcc: &Xcc<'_>, _branches: &[Branch], _size: usize, totals: &[Option<u64>]) -> Option<u64>
+    requires all { length _branches.now ≤ length totals.now * _size }
+    requires each { (n : ℕ) (d : Option ℕ) → n < length totals.now
+        → IsTotal _xcc.now (slice_chunk _branches.now _size n) (slice_index_or totals.now n d) }
+    ensures { IsTotal _xcc.now _branches.now result }
+{
+    let mut sum: u64 = 0;
+    for total in totals {
+        let Some(total) = *total else {
+            return None;
+        };
+        let Some(more) = sum.checked_add(total) else {
+            return None;
+        };
+        sum = more;
+    }
+    Some(sum)
+}
