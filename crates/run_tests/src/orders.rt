@@ -56,7 +56,7 @@ fn exit_of<R: Threads + Wait + Sync + RandomSource + Clock + Eprint>(
     };
     let mut input = Fake::new(alloc, b"", 7, usize::MAX);
     let mut output = Fake::new(alloc, b"", 5, usize::MAX);
-    run_order(
+    let exit = run_order(
         rt,
         alloc,
         &order,
@@ -64,7 +64,8 @@ fn exit_of<R: Threads + Wait + Sync + RandomSource + Clock + Eprint>(
         &mut input,
         &mut output,
         &mut None,
-    )
+    )?;
+    Ok(exit)
 }
 
 #[test]
