@@ -1,3 +1,4 @@
+pub mod CutLemmas
 pub mod FindingLemmas
 pub mod PlaceLemmas
 pub mod WritingLemmas

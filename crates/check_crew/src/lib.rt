@@ -1,4 +1,4 @@
-//! The reading, the check and the writing of a certificate by a crew of workers.
+//! The reading, the check and the writing of a list and a certificate by a crew of workers.
 #![tactic(auto)]
 
 mod checks;
@@ -7,10 +7,12 @@ mod lemma_parts;
 mod limits;
 mod lists;
 mod readings;
+mod texts;
 mod writings;
 
 pub use cert_check::{Gate, Open};
 pub use checks::check_with;
 pub use limits::within_limits_with;
 pub use readings::read_certificate_with;
+pub use texts::{ReadTexts, WrittenTexts, read_texts_with, write_texts_with};
 pub use writings::write_certificate_with;

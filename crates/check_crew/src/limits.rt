@@ -8,29 +8,29 @@ ghost use Rattle.cert_tree.specs.Writing.{said_by};
 ghost use Rattle.check_crew.specs.LemmaParts.{AreCut, AreOfParts, TellsOfLimits};
 
 use crate::lemma_parts::LemmaParts;
-use cert_tree::{Certificate, are_symmetries_within_limits};
+use cert_tree::{Certificate, Lemmas, are_symmetries_within_limits};
 use std::alloc::{AllocError, Global};
 use std::thread::Threads;
 use steal_crew::{Work, run_crew};
 
 // Whether lemmas have spellings in the version: a job for each part.
 #[derive(Drop)]
-struct Limits<'a> {
+struct Limits<'a, 'p> {
     version: u8,
-    parts: LemmaParts<'a>,
+    parts: &'p LemmaParts<'a>,
 }
 
-impl<'a> Work for Limits<'a> {
+impl<'a, 'p> Work for Limits<'a, 'p> {
     ghost use Rattle.std.specs.Prelude.{◌+◌};
     ghost use Rattle.match_text.specs.Ranges.{IsVersion};
     ghost use Rattle.check_crew.specs.LemmaParts.{TellsOfLimits, IsPart, part_start};
 
     type R = bool;
 
-    ghost accepts = { λ w n. IsVersion w.version × IsPart w.parts.lemmas.now w.parts.size n };
+    ghost accepts = { λ w n. IsVersion w.version × IsPart w.parts.now.lemmas.now w.parts.now.starts.items n };
 
-    ghost gives = { λ w n told. TellsOfLimits w.version w.parts.lemmas.now
-        (part_start w.parts.lemmas.now w.parts.size n) (part_start w.parts.lemmas.now w.parts.size (n + 1)) told };
+    ghost gives = { λ w n told. TellsOfLimits w.version w.parts.now.lemmas.now
+        (part_start w.parts.now.starts.items n) (part_start w.parts.now.starts.items (n + 1)) told };
 
     fn one(&self, number: u32) -> Result<bool, AllocError> {
         let (first, last) = self.parts.bounds(number);
@@ -38,8 +38,8 @@ impl<'a> Work for Limits<'a> {
     }
 }
 
-// Whether each lemma has a spelling in the version.
-fn are_lemmas_within<R: Threads + Sync>(
+// Whether each lemma of the parts has a spelling in the version.
+fn are_parts_within<R: Threads + Sync>(
     rt: &R,
     alloc: Global,
     version: u8,
@@ -47,14 +47,11 @@ fn are_lemmas_within<R: Threads + Sync>(
     workers: u8,
 ) -> Result<bool, AllocError>
     requires version { IsVersion version }
-    requires cut { AreCut parts.now.lemmas.now parts.now.size }
+    requires cut { AreCut parts.now.lemmas.now parts.now.starts.items }
     requires workers { (1 ≤ workers) × (workers ≤ MOST_WORKERS) }
     ensures { IfOk result (TellsOfLimits version parts.now.lemmas.now 0 (length parts.now.lemmas.now)) }
 {
-    let limits = Limits {
-        version,
-        parts: *parts,
-    };
+    let limits = Limits { version, parts };
     let crew = run_crew(rt, alloc, &limits, parts.count(), workers)?;
     let (told, _) = crew.into_parts();
     Ok(are_all(parts, version, &told))
@@ -62,7 +59,8 @@ fn are_lemmas_within<R: Threads + Sync>(
 
 // Whether all parts are within the limits.
 fn are_all(_parts: &LemmaParts<'_>, _version: u8, told: &[bool]) -> bool
-    requires { AreOfParts (TellsOfLimits _version _parts.now.lemmas.now) _parts.now.lemmas.now _parts.now.size told.now }
+    requires cut { AreCut _parts.now.lemmas.now _parts.now.starts.items }
+    requires told { AreOfParts (TellsOfLimits _version _parts.now.lemmas.now) _parts.now.starts.items told.now }
     ensures { TellsOfLimits _version _parts.now.lemmas.now 0 (length _parts.now.lemmas.now) result }
 {
     for number in 0..told.len() {
@@ -73,8 +71,29 @@ fn are_all(_parts: &LemmaParts<'_>, _version: u8, told: &[bool]) -> bool
     true
 }
 
-/// Whether the certificate has a spelling in this version, told by 1 to 64 workers, whose number doesn't change it. It
-/// joins threads, one for each worker but the caller.
+// Whether each lemma has a spelling in the version.
+fn are_lemmas_within<R: Threads + Sync>(
+    rt: &R,
+    alloc: Global,
+    version: u8,
+    lemmas: &Lemmas,
+    workers: u8,
+) -> Result<bool, AllocError>
+    requires version { IsVersion version }
+    requires workers { (1 ≤ workers) × (workers ≤ MOST_WORKERS) }
+    ensures { IfOk result (TellsOfLimits version lemmas.now 0 (length lemmas.now)) }
+{
+    match LemmaParts::cut(alloc, lemmas, workers)? {
+        Some(parts) => are_parts_within(rt, alloc, version, &parts, workers),
+        None => Ok(lemmas.within_limits(version, 0, lemmas.len())),
+    }
+}
+
+/// Whether the certificate has a spelling in this version, told by 1 to 64 workers, whose number doesn't change it. The
+/// lemmas are cut into parts of about as many nodes each, and each part is a job of a crew.
+///
+/// It joins threads, one for each worker but the caller; with one worker, or with less than 131,072 nodes, it goes through
+/// them on the caller's thread, and takes no memory.
 pub fn within_limits_with<R: Threads + Sync>(
     rt: &R,
     alloc: Global,
@@ -90,7 +109,6 @@ pub fn within_limits_with<R: Threads + Sync>(
     if !are_symmetries_within_limits(version, certificate.symmetries()) {
         return Ok(false);
     }
-    let parts = LemmaParts::new(certificate.lemmas(), workers);
-    let lemmas = are_lemmas_within(rt, alloc, version, &parts, workers)?;
+    let lemmas = are_lemmas_within(rt, alloc, version, certificate.lemmas(), workers)?;
     Ok(lemmas)
 }

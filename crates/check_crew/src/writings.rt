@@ -14,26 +14,23 @@ use std::alloc::{AllocError, Global};
 use std::thread::Threads;
 use steal_crew::{Work, run_crew};
 
-// Fewer lemmas are written by one thread, which is mostly done before others would have started.
-const LEAST_SHARED: usize = 64;
-
 // The lines of lemmas: a job for each part.
 #[derive(Drop)]
-struct Lines<'a> {
+struct Lines<'a, 'p> {
     alloc: Global,
-    parts: LemmaParts<'a>,
+    parts: &'p LemmaParts<'a>,
 }
 
-impl<'a> Work for Lines<'a> {
+impl<'a, 'p> Work for Lines<'a, 'p> {
     ghost use Rattle.std.specs.Prelude.{◌+◌};
     ghost use Rattle.check_crew.specs.LemmaParts.{AreLines, IsPart, part_start};
 
     type R = Vec<u8>;
 
-    ghost accepts = { λ w n. IsPart w.parts.lemmas.now w.parts.size n };
+    ghost accepts = { λ w n. IsPart w.parts.now.lemmas.now w.parts.now.starts.items n };
 
-    ghost gives = { λ w n text. AreLines w.parts.lemmas.now (part_start w.parts.lemmas.now w.parts.size n)
-        (part_start w.parts.lemmas.now w.parts.size (n + 1)) text };
+    ghost gives = { λ w n text. AreLines w.parts.now.lemmas.now (part_start w.parts.now.starts.items n)
+        (part_start w.parts.now.starts.items (n + 1)) text };
 
     fn one(&self, number: u32) -> Result<Vec<u8>, AllocError> {
         let (first, last) = self.parts.bounds(number);
@@ -48,15 +45,12 @@ fn write_parts<R: Threads + Sync>(
     parts: &LemmaParts<'_>,
     workers: u8,
 ) -> Result<Vec<Vec<u8>>, AllocError>
-    requires cut { AreCut parts.now.lemmas.now parts.now.size }
+    requires cut { AreCut parts.now.lemmas.now parts.now.starts.items }
     requires workers { (1 ≤ workers) × (workers ≤ MOST_WORKERS) }
     ensures { IfOk result (λ lines.
-        AreOfParts (AreLines parts.now.lemmas.now) parts.now.lemmas.now parts.now.size lines.items) }
+        AreOfParts (AreLines parts.now.lemmas.now) parts.now.starts.items lines.items) }
 {
-    let lines = Lines {
-        alloc,
-        parts: *parts,
-    };
+    let lines = Lines { alloc, parts };
     let crew = run_crew(rt, alloc, &lines, parts.count(), workers)?;
     let (lines, _) = crew.into_parts();
     Ok(lines)
@@ -64,9 +58,9 @@ fn write_parts<R: Threads + Sync>(
 
 /// What [`write_certificate`] writes, by 1 to 64 workers, whose number doesn't change it.
 ///
-/// The lemma lines are written in parts, each a job of a crew, which are put together then: while that lasts, there are
-/// two copies of the text. A certificate of fewer than 64 lemmas is written on the caller's thread, and so is any by one
-/// worker. It joins threads, one for each worker but the caller.
+/// The lemmas are cut into parts of about as many nodes each, whose lines are each written by a job of a crew and are put
+/// together then: while that lasts, there are two copies of the text. A certificate of less than 131,072 nodes is
+/// written on the caller's thread, and so is any by one worker. It joins threads, one for each worker but the caller.
 pub fn write_certificate_with<R: Threads + Sync>(
     rt: &R,
     alloc: Global,
@@ -84,12 +78,11 @@ pub fn write_certificate_with<R: Threads + Sync>(
         × (certificate_of text.items ≡ Ok (said_by version certificate.now))
         × Makes (said_by version certificate.now) (Ok certificate.now)) }
 {
-    let lemmas = certificate.lemmas();
-    if workers == 1 || lemmas.len() < LEAST_SHARED {
+    let Some(parts) = LemmaParts::cut(alloc, certificate.lemmas(), workers)? else {
         return write_certificate(alloc, certificate);
-    }
+    };
     let is_first = within_limits_with(rt, alloc, 1, certificate, workers)?;
     let version = if is_first { 1 } else { 2 };
-    let lines = write_parts(rt, alloc, &LemmaParts::new(lemmas, workers), workers)?;
+    let lines = write_parts(rt, alloc, &parts, workers)?;
     join_certificate(alloc, version, certificate, &lines)
 }

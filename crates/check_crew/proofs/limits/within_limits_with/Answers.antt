@@ -1,4 +1,4 @@
-use Rattle.std.proofs.Common.{List, length, subst, ◌∙◌}
+use Rattle.std.proofs.Common.{List, length, subst}
 use Rattle.match_text.specs.Ranges.{ranges_of}
 use Rattle.cert_tree.specs.Certificate.{Piece}
 use Rattle.cert_tree.specs.CertificateSpelling.{AreSymmetriesWithin}
@@ -12,5 +12,5 @@ returns g c =
     let contents = c.args.certificate.now in
     let told = c.in_ok-lemmas.lemmas in
     let symmetries = subst (AreSymmetriesWithin (ranges_of version)) c.symmetries.ensures.symmetries c.if-not-are_symmetries_within_limits.ensures in
-    let lemmas = subst (λ (pieces : List Piece). TellsOfLimits version pieces 0 (length pieces) told) (c.new-parts.ensures.lemmas ∙ c.lemmas.ensures.lemmas) c.in_ok-lemmas.ensures in
+    let lemmas = subst (λ (pieces : List Piece). TellsOfLimits version pieces 0 (length pieces) told) c.lemmas.ensures.lemmas c.in_ok-lemmas.ensures in
     whole_within version contents told c.requires.version c.lemmas.ensures.numbered.few_lemmas symmetries lemmas

@@ -1,0 +1,6 @@
+use Rattle.std.proofs.Common.{subst}
+use Rattle.check_crew.specs.LemmaParts.{TellsOfLimits}
+use Rattle.check_crew.proofs.limits.are_lemmas_within.Goals as goal
+
+pub returns-in-None : goal.returns-in-None
+returns-in-None g c = subst (λ n. TellsOfLimits c.args.version c.args.lemmas.now 0 n c.within_limits.result) c.len.ensures c.within_limits.ensures

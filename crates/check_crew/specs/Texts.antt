@@ -1,0 +1,27 @@
+-- The texts of a list and of a certificate, read and written.
+use Rattle.std.specs.Prelude.{◌≡◌, ℕ, List, Result, Vec, IfOk}
+use Rattle.std.specs.declared.alloc.Global.{Global}
+use Rattle.match_puzzle.specs.declared.placements.Placement.{Placement}
+use Rattle.match_text.specs.ListSpelling.{IsListWithin, list_spelling}
+use Rattle.match_text.specs.Lists.{list_of}
+use Rattle.match_text.specs.Place.{Says}
+use Rattle.match_text.specs.declared.faults.ReadFault.{ReadFault}
+use Rattle.match_text.specs.declared.ranges.TheConstants.{FIRST, SECOND}
+use Rattle.cert_tree.specs.Certificate.{Contents}
+use Rattle.cert_tree.specs.CertificateSpelling.{certificate_spelling, IsCertificateWithin}
+use Rattle.cert_tree.specs.Writing.{said_by}
+
+-- What was read of a list's text: the list that it spells, which can be written, or its first fault.
+abbrev pub IsListRead : (text : List ℕ) → Result (Vec (List Placement) Global) ReadFault → Type 0
+IsListRead text read =
+    Says (λ rows. rows.items) read (list_of text) × IfOk read (λ rows. IsListWithin SECOND rows.items)
+
+-- The text is the list's: of version 1 where that has the numbers for it, else of version 2.
+pub record IsListText (listed : List (List Placement)) (text : List ℕ) : Type 0 where
+  pub first : IsListWithin FIRST listed → text ≡ list_spelling 1 listed
+  pub second : (IsListWithin FIRST listed → ⊥) → text ≡ list_spelling 2 listed
+
+-- The text is the certificate's: of version 1 where that has the numbers for it, else of version 2.
+pub record IsCertificateText (c : Contents) (text : List ℕ) : Type 0 where
+  pub first : IsCertificateWithin (said_by 1 c) → text ≡ certificate_spelling (said_by 1 c)
+  pub second : (IsCertificateWithin (said_by 1 c) → ⊥) → text ≡ certificate_spelling (said_by 2 c)
