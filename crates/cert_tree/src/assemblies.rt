@@ -11,7 +11,7 @@ ghost use Rattle.cert_tree.specs.Slots.{lesser_of, stranger_of, IsPut, IsTaken, 
 use crate::certificates::{Certificate, Lemma};
 use crate::conversions::flat_lemmas;
 use crate::faults::AssembleFault;
-use crate::flat_lemmas::{LemmaSpan, Lemmas};
+use crate::flat_lemmas::{FlatLemma, LemmaSpan, Lemmas};
 use match_board::limits::MOST_LEMMAS;
 use puzzle_symmetry::SymmetryLine;
 use std::alloc::{AllocError, Global};
@@ -36,7 +36,7 @@ fn stranger_so_far(count: u32, least: Option<u32>, number: u32) -> Option<u32>
     Some(lesser(least, number))
 }
 
-// What has a number: a lemma, in memory of its own, lent, or among the others.
+// What has a number: a lemma of nodes, one that lies flat, or where one lies among the others.
 pub(crate) trait Numbered {
     ghost numbered: { Self → ℕ };
 
@@ -60,8 +60,8 @@ impl Numbered for Lemma {
     }
 }
 
-impl Numbered for &Lemma {
-    ghost numbered = { λ lemma. lemma.now.number };
+impl<'a> Numbered for FlatLemma<'a> {
+    ghost numbered = { λ lemma. lemma.number };
 
     fn number(&self) -> u32 {
         self.number

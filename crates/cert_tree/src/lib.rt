@@ -12,6 +12,7 @@ mod flat_trees;
 mod heads;
 mod laws;
 mod nodes;
+mod packed_lemmas;
 mod parts;
 mod readers;
 mod spellings;
@@ -27,6 +28,7 @@ pub use flat_trees::{FlatTree, Trees};
 pub use heads::Head;
 pub use laws::{certificate_laws, head_laws, lemma_laws};
 pub use nodes::{Children, Node};
+pub use packed_lemmas::PackedLemma;
 pub use parts::{CutCertificate, LemmaPart, cut_certificate};
 pub use readers::{read_certificate, read_lemma};
 pub use spellings::{

@@ -2,20 +2,17 @@
 
 ghost use Rattle.std.specs.Prelude.{◌≡◌, ◌<◌, ◌≤◌, ◌^◌, ◌++◌, Ok, Err, All, IfOk, IfErr, IsErrOf, OnOk, length, map};
 ghost use Rattle.std.specs.Prelude.{reverse, take, drop};
-ghost use Rattle.cert_tree.specs.Tree.{tree_of};
-ghost use Rattle.cert_tree.specs.Certificate.{piece_of, lent_piece, piece_number};
+ghost use Rattle.cert_tree.specs.Certificate.{flat_piece, piece_number};
 ghost use Rattle.cert_tree.specs.CertificateSpelling.{IsLemmaWithin};
-ghost use Rattle.cert_tree.specs.Heads.{heads_of};
 ghost use Rattle.cert_tree.specs.Spans.{piece_in, IsSpan};
 ghost use Rattle.cert_tree.specs.Assembly.{HaveNoStranger};
 ghost use Rattle.cert_tree.specs.TurnedAssembly.{turned_number as number_of_turned, turned_piece, AssemblesTurned};
 ghost use Rattle.cert_tree.specs.Turning.{turned_head as head_of_turned, IsFoundUpTo};
 
 use crate::assemblies::{in_order, least_stranger};
-use crate::certificates::{Certificate, Lemma};
-use crate::conversions::put_node;
+use crate::certificates::Certificate;
 use crate::faults::AssembleFault;
-use crate::flat_lemmas::{LemmaSpan, Lemmas};
+use crate::flat_lemmas::{FlatLemma, LemmaSpan, Lemmas};
 use crate::heads::Head;
 use match_board::limits::{MOST_ARRANGEMENTS, MOST_LEMMAS};
 use match_puzzle::Pair;
@@ -71,21 +68,21 @@ fn put_turned(
     heads: &mut Vec<Head>,
     count: u32,
     first: &[u32],
-    lemma: &Lemma,
+    lemma: &FlatLemma<'_>,
 ) -> Result<LemmaSpan, AllocError>
     requires number { lemma.now.number < length first.now }
     requires first { All (λ n. n ≤ MOST_ARRANGEMENTS) first.now }
-    requires within { IsLemmaWithin SECOND (piece_of lemma.now) }
+    requires within { IsLemmaWithin SECOND (flat_piece lemma.now) }
     ensures span { IfOk result (IsSpan pairs.new.items heads.new.items) }
     ensures lemma { IfOk result
-        (λ span. piece_in pairs.new.items heads.new.items span ≡ turned_piece count first.now (piece_of lemma.now)) }
+        (λ span. piece_in pairs.new.items heads.new.items span ≡ turned_piece count first.now (flat_piece lemma.now)) }
     ensures pairs { OnOk result (pairs.new.items ≡ pairs.old.items ++ drop (length pairs.old.items) pairs.new.items) }
     ensures heads { OnOk result (heads.new.items ≡ heads.old.items ++ drop (length heads.old.items) heads.new.items) }
 {
     let pairs_start = pairs.len();
     let heads_start = heads.len();
-    pairs.extend_from_slice(lemma.prefix.as_slice())?;
-    put_node(heads, &lemma.tree)?;
+    pairs.extend_from_slice(lemma.prefix)?;
+    heads.extend_from_slice(lemma.tree.heads())?;
     turn_heads(heads, heads_start, count, first[lemma.number as usize]);
     let number = turned_number(count, lemma.number);
     Ok(LemmaSpan::of_last(number, pairs, pairs_start, heads, heads_start))
@@ -96,13 +93,13 @@ fn turned_lemmas(
     alloc: Global,
     count: u32,
     first: &[u32],
-    lemmas: &[&Lemma],
+    lemmas: &[FlatLemma<'_>],
 ) -> Result<Lemmas, AllocError>
-    requires numbers { All (λ lemma. lemma.now.number < length first.now) lemmas.now }
+    requires numbers { All (λ lemma. lemma.number < length first.now) lemmas.now }
     requires first { All (λ n. n ≤ MOST_ARRANGEMENTS) first.now }
-    requires within { All (λ lemma. IsLemmaWithin SECOND (lent_piece lemma)) lemmas.now }
+    requires within { All (λ lemma. IsLemmaWithin SECOND (flat_piece lemma)) lemmas.now }
     ensures { IfOk result
-        (λ turned. turned ≡ reverse (map (turned_piece count first.now) (map lent_piece lemmas.now))) }
+        (λ turned. turned ≡ reverse (map (turned_piece count first.now) (map flat_piece lemmas.now))) }
 {
     let mut pairs = Vec::new(alloc);
     let mut heads = Vec::new(alloc);
@@ -122,27 +119,27 @@ fn turned_lemmas(
 /// `Stranger`, `Double`, `Missing`; `Memory` only where memory is refused, and then no number is at or past the count.
 /// On an `Err` the symmetries are dropped.
 ///
-/// Each tree is laid out once, into 8 bytes a node, and is turned where it lies. The rest takes a step for each piece and
+/// Each tree is copied once, 8 bytes a node, and is turned where the copy lies. The rest takes a step for each piece and
 /// each number below the count.
 pub fn assemble_turned(
     alloc: Global,
     count: u32,
     first: &[u32],
     symmetries: Vec<SymmetryLine>,
-    pieces: Vec<&Lemma>,
+    pieces: Vec<FlatLemma<'_>>,
 ) -> Result<Certificate, AssembleFault>
     requires count { count ≤ MOST_LEMMAS }
     requires many { length first.now ≡ count }
     requires first { All (λ n. n ≤ MOST_ARRANGEMENTS) first.now }
     requires symmetries { length symmetries.items < 2 ^ 32 }
-    requires within { All (λ piece. IsLemmaWithin SECOND (lent_piece piece)) pieces.items }
+    requires within { All (λ piece. IsLemmaWithin SECOND (flat_piece piece)) pieces.items }
     ensures symmetries { IfOk result (λ certificate. certificate.symmetries ≡ symmetries.items) }
     ensures lemmas { IfOk result (λ certificate. AssemblesTurned count first.now
-        (map lent_piece pieces.entry.items) (Ok certificate.lemmas)) }
+        (map flat_piece pieces.entry.items) (Ok certificate.lemmas)) }
     ensures fault { IfErr result (λ fault. AssemblesTurned count first.now
-        (map lent_piece pieces.entry.items) (Err fault)) }
+        (map flat_piece pieces.entry.items) (Err fault)) }
     ensures memory { IsErrOf result AssembleFault.Memory
-        → HaveNoStranger piece_number count (map lent_piece pieces.entry.items) }
+        → HaveNoStranger piece_number count (map flat_piece pieces.entry.items) }
 {
     if let Some(stranger) = least_stranger(&pieces, count) {
         return Err(AssembleFault::Stranger(stranger));

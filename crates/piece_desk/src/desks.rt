@@ -2,14 +2,14 @@
 
 ghost use Rattle.std.specs.Prelude.{All, ◌≡◌, ◌<◌, ◌≤◌, ◌^◌, Ok, Err, IfOk, IfErr, IfSome, length, map};
 ghost use Rattle.std.specs.Iterator.{at_most};
-ghost use Rattle.cert_tree.specs.Certificate.{piece_of, lent_piece};
+ghost use Rattle.cert_tree.specs.Certificate.{flat_piece, lent_piece, piece_of};
 ghost use Rattle.cert_tree.specs.CertificateSpelling.{IsLemmaWithin};
 ghost use Rattle.cert_tree.specs.TurnedAssembly.{AssemblesTurned};
 ghost use Rattle.piece_desk.specs.Desks.{IsOf, lemma_of, posted_piece, places_left};
 
 use boxcar::tag::Tag;
 use boxcar::{Iter, Keeps, Pushed, Vec as Places};
-use cert_tree::{AssembleFault, Certificate, Lemma, assemble_turned};
+use cert_tree::{AssembleFault, Certificate, FlatLemma, Lemma, PackedLemma, assemble_turned};
 use match_board::limits::{MOST_ARRANGEMENTS, MOST_LEMMAS};
 use match_text::SECOND;
 use puzzle_symmetry::SymmetryLine;
@@ -100,15 +100,16 @@ impl Desk {
         }
     }
 
-    // The lemmas that the receipts stand for, in their order.
-    fn lent<'a>(&'a self, alloc: Global, receipts: &[Receipt]) -> Result<Vec<&'a Lemma>, AllocError>
+    // Lemmas that lie flat, equal to those that the receipts stand for, in their order.
+    fn packed(&self, alloc: Global, receipts: &[Receipt]) -> Result<Vec<PackedLemma>, AllocError>
         requires { All (λ receipt. IsOf self.now receipt) receipts.now }
-        ensures pieces { IfOk result (λ lemmas. map lent_piece lemmas.items ≡ map posted_piece receipts.now) }
-        ensures within { IfOk result (λ lemmas. All (λ lemma. IsLemmaWithin SECOND (lent_piece lemma)) lemmas.items) }
+        ensures pieces { IfOk result (λ lemmas. lemmas.items ≡ map posted_piece receipts.now) }
+        ensures within { IfOk result (λ lemmas. All (IsLemmaWithin SECOND) lemmas.items) }
     {
         let mut lemmas = Vec::with_capacity(alloc, receipts.len())?;
         for receipt in receipts {
-            lemmas.push(self.read(receipt))?;
+            let lemma = PackedLemma::of(alloc, self.read(receipt))?;
+            lemmas.push(lemma)?;
         }
         Ok(lemmas)
     }
@@ -121,8 +122,8 @@ impl Desk {
     /// `Stranger`, `Double`, `Missing`; `Memory` where memory is refused, perhaps before a number was looked at. On an
     /// `Err` the symmetries are dropped.
     ///
-    /// Each tree is copied once, in a step for each node. The rest takes a step for each receipt and each number below the
-    /// count.
+    /// Each tree is laid out flat, in a step for each node, and then copied. The rest takes a step for each receipt and
+    /// each number below the count.
     pub fn gather(
         &self,
         alloc: Global,
@@ -142,9 +143,23 @@ impl Desk {
         ensures fault { IfErr result (λ fault. AssemblesTurned count first.now
             (map posted_piece receipts.now) (Err fault)) }
     {
-        let lemmas = self.lent(alloc, receipts)?;
+        let packed = self.packed(alloc, receipts)?;
+        let lemmas = lend_all(alloc, &packed)?;
         assemble_turned(alloc, count, first, symmetries, lemmas)
     }
+}
+
+// The lemmas, lent, in their order.
+fn lend_all(alloc: Global, packed: &[PackedLemma]) -> Result<Vec<FlatLemma<'_>>, AllocError>
+    requires { All (IsLemmaWithin SECOND) packed.now }
+    ensures pieces { IfOk result (λ lemmas. map flat_piece lemmas.items ≡ packed.now) }
+    ensures within { IfOk result (λ lemmas. All (λ lemma. IsLemmaWithin SECOND (flat_piece lemma)) lemmas.items) }
+{
+    let mut lemmas = Vec::with_capacity(alloc, packed.len())?;
+    for lemma in packed {
+        lemmas.push(lemma.lend())?;
+    }
+    Ok(lemmas)
 }
 
 impl<'a> Iterator for Shown<'a> {

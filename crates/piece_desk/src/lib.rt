@@ -1,6 +1,8 @@
-//! A desk of finished lemmas, which threads share without a lock.
+//! Desks of finished lemmas, which threads share without a lock.
 #![tactic(auto)]
 
 mod desks;
+mod flat_desks;
 
 pub use desks::{Desk, Receipt, Shown};
+pub use flat_desks::{FlatDesk, FlatReceipt};

@@ -2,30 +2,29 @@ use Rattle.std.proofs.Common.{◌≡◌, ℕ, ◌++◌, List, length, drop, get_
 use Rattle.std.specs.Prelude.{All}
 use Rattle.match_board.specs.declared.limits.TheConstants.{MOST_ARRANGEMENTS}
 use Rattle.match_text.specs.declared.ranges.TheConstants.{SECOND}
-use Rattle.match_text.proofs.RangesLemmas.{second_are}
 use Rattle.match_puzzle.specs.declared.placements.Pair.{Pair}
 use Rattle.cert_tree.specs.declared.heads.Head.{Head}
-use Rattle.cert_tree.specs.Tree.{tree_of}
+use Rattle.cert_tree.specs.Tree.{Tree}
 use Rattle.cert_tree.specs.Heads.{heads_of}
 use Rattle.cert_tree.specs.Certificate.{Piece}
 use Rattle.cert_tree.specs.Spans.{piece_in}
 use Rattle.cert_tree.specs.TurnedAssembly.{turned_tree}
 use Rattle.cert_tree.specs.Turning.{IsFoundUpTo}
-use Rattle.cert_tree.proofs.TreeLimitLemmas.{narrow_within}
 use Rattle.cert_tree.proofs.TurningLemmas.{found_below, turned_behind}
 use Rattle.cert_tree.proofs.SpanLemmas.{behind_is, put_tree, put_piece}
 use Rattle.cert_tree.proofs.turnings.put_turned.Goals as goal
 use Rattle.cert_tree.proofs.turnings.put_turned.Goals.{After-deref-2}
 
-pub put_node-requires : goal.put_node-requires
-put_node-requires c = narrow_within SECOND second_are SECOND.most_levels (tree_of c.args.lemma.now.tree) c.requires.within.tree
+-- the heads of the tree went behind the others
+put_behind : (old new put : List Head) (tree : Tree) → new ≡ old ++ put → put ≡ heads_of tree → new ≡ old ++ heads_of tree
+put_behind old new put tree more are = more ∙ ap (λ hs. old ++ hs) are
 
 pub turn_heads-requires-clause-found : goal.turn_heads-requires-clause-found
 turn_heads-requires-clause-found c =
-    let tree = tree_of c.args.lemma.now.tree in
+    let tree = c.args.lemma.now.tree in
     let start : c.len-heads_start.result ≡ length c.args.heads.now.items = omega (arith, c.len-heads_start.ensures, c.args.heads.now.ok.0) in
-    let put : drop c.len-heads_start.result c.put_node.new.heads.items ≡ heads_of tree = ap (λ n. drop n c.put_node.new.heads.items) start
-    ∙ behind_is c.args.heads.now.items c.put_node.new.heads.items (heads_of tree) c.in_ok-put_node.ensures in
+    let put : drop c.len-heads_start.result c.extend_from_slice-2.new.self.items ≡ heads_of tree = ap (λ n. drop n c.extend_from_slice-2.new.self.items) start
+    ∙ behind_is c.args.heads.now.items c.extend_from_slice-2.new.self.items (heads_of tree) (put_behind c.args.heads.now.items c.extend_from_slice-2.new.self.items c.heads.result.now tree c.in_ok-extend_from_slice-2.ensures.items c.heads.ensures) in
     subst (λ (hs : List Head). All (IsFoundUpTo MOST_ARRANGEMENTS) hs) (sym put) (found_below SECOND SECOND.most_levels tree c.requires.within.tree)
 
 module _ (c : After-deref-2) where
@@ -35,24 +34,24 @@ module _ (c : After-deref-2) where
   start : c.len-heads_start.result ≡ length c.args.heads.now.items
   start = omega (arith, c.len-heads_start.ensures, c.args.heads.now.ok.0)
 
-  more : c.deref-2.result.now ≡ c.args.heads.now.items ++ heads_of (turned_tree c.args.count first (tree_of c.args.lemma.now.tree))
+  more : c.deref-2.result.now ≡ c.args.heads.now.items ++ heads_of (turned_tree c.args.count first c.args.lemma.now.tree)
   more =
       c.deref-2.ensures.value
-      ∙ turned_behind c.args.count first (tree_of c.args.lemma.now.tree) c.args.heads.now.items c.put_node.new.heads.items c.turn_heads.new.heads.items c.len-heads_start.result start c.in_ok-put_node.ensures c.turn_heads.ensures
+      ∙ turned_behind c.args.count first c.args.lemma.now.tree c.args.heads.now.items c.extend_from_slice-2.new.self.items c.turn_heads.new.heads.items c.len-heads_start.result start (put_behind c.args.heads.now.items c.extend_from_slice-2.new.self.items c.heads.result.now c.args.lemma.now.tree c.in_ok-extend_from_slice-2.ensures.items c.heads.ensures) c.turn_heads.ensures
 
 pub of_last-requires-clause-tree : goal.of_last-requires-clause-tree
 of_last-requires-clause-tree c =
-    put_tree (turned_tree c.args.count (first c) (tree_of c.args.lemma.now.tree)) c.args.heads.now.items c.deref-2.result.now c.len-heads_start.result (start c) (more c)
+    put_tree (turned_tree c.args.count (first c) c.args.lemma.now.tree) c.args.heads.now.items c.deref-2.result.now c.len-heads_start.result (start c) (more c)
 
 pub returns-clause-lemma : goal.returns-clause-lemma
 returns-clause-lemma c =
     let here = (goal.at.returns-clause-lemma c).After-deref-2 in
     let lemma = c.args.lemma.now in
     let pairs_start : c.len-pairs_start.result ≡ length c.args.pairs.now.items = omega (arith, c.len-pairs_start.ensures, c.args.pairs.now.ok.0) in
-    let more_pairs = c.deref.ensures.value ∙ c.in_ok-extend_from_slice.ensures.items ∙ ap (λ (xs : List Pair). c.args.pairs.now.items ++ xs) c.as_slice.ensures in
-    let tree_turned = turned_tree c.args.count (first here) (tree_of lemma.tree) in
+    let more_pairs = c.deref.ensures.value ∙ c.in_ok-extend_from_slice.ensures.items in
+    let tree_turned = turned_tree c.args.count (first here) lemma.tree in
     ap (λ (pairs : List Pair). piece_in pairs c.turn_heads.new.heads.items c.of_last.result) (sym c.deref.ensures.value)
     ∙ ap (λ (heads : List Head). piece_in c.deref.result.now heads c.of_last.result) (sym c.deref-2.ensures.value)
-    ∙ put_piece tree_turned c.args.heads.now.items c.deref-2.result.now c.len-heads_start.result (start here) (more here) c.turned_number-number.result lemma.prefix c.args.pairs.now.items c.deref.result.now c.len-pairs_start.result pairs_start more_pairs
+    ∙ put_piece tree_turned c.args.heads.now.items c.deref-2.result.now c.len-heads_start.result (start here) (more here) c.turned_number-number.result lemma.prefix.now c.args.pairs.now.items c.deref.result.now c.len-pairs_start.result pairs_start more_pairs
     (piece_in c.deref.result.now c.deref-2.result.now c.of_last.result) c.of_last.ensures.piece
-    ∙ ap (λ n. let p : Piece = record { number = n; prefix = lemma.prefix; tree = tree_turned } in p) c.turned_number-number.ensures
+    ∙ ap (λ n. let p : Piece = record { number = n; prefix = lemma.prefix.now; tree = tree_turned } in p) c.turned_number-number.ensures

@@ -1,5 +1,5 @@
 use Rattle.std.proofs.Common.{◌≡◌, map, take}
-use Rattle.cert_tree.specs.Certificate.{lent_piece}
+use Rattle.cert_tree.specs.Certificate.{flat_piece}
 use Rattle.cert_tree.specs.Spans.{piece_in, AreSpans}
 use Rattle.cert_tree.specs.TurnedAssembly.{turned_piece}
 use Rattle.cert_tree.proofs.turnings.turned_lemmas.Given as goal
@@ -8,5 +8,5 @@ use Rattle.cert_tree.proofs.turnings.turned_lemmas.Given as goal
 abbrev pub invariant-loop-lemma : goal.invariant-loop-lemma
 invariant-loop-lemma l = record {
   spans : AreSpans l.pairs.items l.heads.items l.spans.items;
-  lemmas : map (piece_in l.pairs.items l.heads.items) l.spans.items ≡ map (turned_piece l.count l.first) (map lent_piece (take l.lemma-index l.lemmas));
+  lemmas : map (piece_in l.pairs.items l.heads.items) l.spans.items ≡ map (turned_piece l.count l.first) (map flat_piece (take l.lemma-index l.lemmas));
 }

@@ -1,0 +1,82 @@
+//! Lemmas that lie flat, each in memory of its own.
+
+use crate::certificates::Lemma;
+use crate::conversions::put_node;
+use crate::flat_lemmas::FlatLemma;
+use crate::flat_trees::FlatTree;
+use crate::heads::Head;
+use match_puzzle::Pair;
+use std::alloc::{AllocError, Global};
+use std::marker::Model;
+
+/// A lemma that lies flat in memory of its own: 6 bytes for each pair and 8 for each node, and at most twice as many
+/// where room was taken for more.
+#[derive(Drop)]
+pub struct PackedLemma {
+    number: u32,
+    pairs: Vec<Pair>,
+    heads: Vec<Head>,
+}
+
+impl Model for PackedLemma {
+    ghost use Rattle.std.specs.Coded.{codes};
+    ghost use Rattle.cert_tree.specs.contracts.heads.Head as head;
+    ghost use Rattle.cert_tree.specs.HeadCode.{tree_code};
+    ghost use Rattle.cert_tree.specs.Certificate.{Piece};
+
+    ghost Value = { Piece };
+
+    ghost coded = { Prim.hlevel (codes, tree_code head.the_row.coded) };
+
+    ghost use Rattle.cert_tree.specs.Heads.{trees_in, first, AreOfTree};
+
+    ghost view = { λ l. record {
+      number = l.number;
+      prefix = l.pairs.items;
+      tree = first (trees_in l.heads.items);
+    } };
+
+    ghost invariant = { λ l. AreOfTree l.heads.items };
+}
+
+impl PackedLemma {
+    ghost use Rattle.std.specs.Prelude.{◌≡◌, IfOk};
+    ghost use Rattle.match_text.specs.declared.ranges.TheConstants.{SECOND};
+    ghost use Rattle.cert_tree.specs.Certificate.{flat_piece, piece_of};
+    ghost use Rattle.cert_tree.specs.CertificateSpelling.{IsLemmaWithin};
+    ghost use Rattle.cert_tree.specs.Heads.{trees_in, first, AreOfTree};
+
+    /// An equal lemma that lies flat, laid out by a loop over the nodes.
+    pub fn of(alloc: Global, lemma: &Lemma) -> Result<PackedLemma, AllocError>
+        requires { IsLemmaWithin SECOND (piece_of lemma.now) }
+        ensures { IfOk result (λ packed. packed ≡ piece_of lemma.now) }
+    {
+        let pairs = Vec::from_slice(alloc, lemma.prefix.as_slice())?;
+        let mut heads = Vec::new(alloc);
+        put_node(&mut heads, &lemma.tree)?;
+        Ok(PackedLemma::made(lemma.number, pairs, heads))
+    }
+
+    // The lemma with these pairs and these heads.
+    fn made(number: u32, pairs: Vec<Pair>, heads: Vec<Head>) -> PackedLemma
+        requires { AreOfTree heads.items }
+        ensures { result ≡ record { number = number; prefix = pairs.items; tree = first (trees_in heads.items) } }
+    {
+        PackedLemma {
+            number,
+            pairs,
+            heads,
+        }
+    }
+
+    /// The lemma as one of a certificate, whose pairs and heads stay where they lie.
+    pub fn lend(&self) -> FlatLemma<'_>
+        ensures { flat_piece result ≡ self.now }
+    {
+        FlatLemma {
+            number: self.number,
+            prefix: &self.pairs,
+            tree: FlatTree::of(&self.heads),
+        }
+    }
+}
