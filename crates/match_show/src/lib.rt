@@ -15,4 +15,5 @@ mod triangles;
 pub use arrangements::write_arrangement;
 pub use drawings::write_drawing;
 pub use facts::write_facts;
+pub use figures::{is_filled, row_length, rows as row_count};
 pub use laws::drawing_laws;

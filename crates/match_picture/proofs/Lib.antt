@@ -1,0 +1,3 @@
+mod JoinedLemmas
+mod TileLemmas
+mod PictureLemmas

@@ -1,0 +1,26 @@
+use Rattle.std.proofs.Common.{sym, subst}
+use Rattle.match_picture.specs.Joined.{Wraps}
+use Rattle.match_picture.specs.Pictures.{AreBandLines, ArePartLines, IsArrangementPicture}
+use Rattle.match_picture.proofs.PictureLemmas.{pictured}
+use Rattle.match_picture.proofs.pictures.draw_arrangement.Goals as goal
+
+pub returns : goal.returns
+returns c =
+    let p = c.args.puzzle.now in
+    let a = c.args.arrangement.now in
+    let canvas = c.in_ok-canvas.canvas in
+    let made = c.in_ok-canvas.ensures in
+    let sites = canvas.sites.items in
+    let begun = c.args.begun.items in
+    let banded = c.put_bands.new.text.items in
+    let tiled = c.put_tiles.new.text.items in
+    let bands =
+    subst (λ q. Wraps (AreBandLines q 40 40 sites) begun banded) made.puzzle
+    (subst (λ left. Wraps (AreBandLines canvas.puzzle.now left 40 sites) begun banded) made.left
+    (subst (λ top. Wraps (AreBandLines canvas.puzzle.now canvas.left top sites) begun banded) made.top c.in_ok-put_bands.ensures)) in
+    let parts =
+    subst (λ q. Wraps (ArePartLines q 40 40 sites a) banded tiled) made.puzzle
+    (subst (λ left. Wraps (ArePartLines canvas.puzzle.now left 40 sites a) banded tiled) made.left
+    (subst (λ top. Wraps (ArePartLines canvas.puzzle.now canvas.left top sites a) banded tiled) made.top c.in_ok-put_tiles.ensures)) in
+    subst (IsArrangementPicture p a) (sym c.in_ok-extend_from_slice.ensures.items)
+    (pictured p a sites begun banded tiled _ made.sites bands parts)

@@ -1,0 +1,18 @@
+use Rattle.std.proofs.Common.{◌+◌, ◌++◌, sym, subst, ap, ◌∙◌}
+use Rattle.std.proofs.lemmas.Option.{get_or_from_slice_get}
+use Rattle.match_picture.specs.Joined.{IsJoined}
+use Rattle.match_picture.specs.Pictures.{IsArrangementPicture, IsPictureAt}
+use Rattle.match_picture.proofs.JoinedLemmas.{joined_more}
+use Rattle.match_picture.proofs.sheets.thumbnails.Goals as goal
+
+pub loop-index-preserved : goal.loop-index-preserved
+loop-index-preserved c =
+    let p = c.args.puzzle.now in
+    let listed = c.args.arrangements.now in
+    let picture : IsPictureAt p listed c.loop-index.index c.in_ok-picture.picture.items =
+    λ a at.
+    let same = c.placements-placements.ensures ∙ c.index-arrangements-index.is ∙ get_or_from_slice_get listed c.loop-index.index a c.index-arrangements-index.result at in
+    subst (λ b. IsArrangementPicture p b c.in_ok-picture.picture.items) same c.in_ok-picture.ensures in
+    subst (IsJoined (IsPictureAt p listed) (c.loop-index.index + 1))
+    (sym (c.in_ok-extend_from_slice.ensures.items ∙ ap (λ t. c.loop-index.text.items ++ t) c.deref.ensures.value))
+    (joined_more _ c.loop-index.invariant picture)

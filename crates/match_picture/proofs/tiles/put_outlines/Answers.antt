@@ -1,0 +1,5 @@
+use Rattle.match_picture.proofs.JoinedLemmas.{wrapped_grows}
+use Rattle.match_picture.proofs.tiles.put_outlines.Goals as goal
+
+pub returns : goal.returns
+returns c = wrapped_grows c.in_ok-put_group.ensures

@@ -1,0 +1,50 @@
+-- Elements of a picture.
+use Rattle.std.specs.Prelude.{◌≡◌, ◌⊎◌, ◌+◌, ℕ, List, [], ◌∷◌, ◌++◌, codes, decimal, min, slice_index_or}
+use Rattle.match_board.specs.Board.{side_count}
+use Rattle.match_puzzle.specs.Puzzle.{Task, HasRule, colour_of, mate_of}
+use Rattle.match_puzzle.specs.declared.placements.Placement.{Placement}
+use Rattle.match_picture.specs.Joined.{IsJoined}
+use Rattle.match_picture.specs.Sites.{begin_of}
+use Rattle.match_picture.specs.declared.palette.TheConstants.{FILLS}
+use Rattle.match_picture.specs.declared.sites.Site.{Site}
+
+-- the fill of a colour: mates have that of the lesser
+abbrev pub fill_of : Task → (colour : ℕ) → List ℕ
+fill_of p colour = slice_index_or FILLS (min colour (mate_of p colour)) []
+
+-- how an element begins that has the fill of a colour and whose path begins at this point
+abbrev pub element_begin : Task → (colour x y : ℕ) → List ℕ
+element_begin p colour x y =
+    codes "<path fill=\"#" ++ fill_of p colour ++ codes "\" d=\"M" ++ decimal x ++ 32 ∷ decimal y
+
+-- an element that begins so
+pub record IsElement (p : Task) (colour x y : ℕ) (text : List ℕ) : Type 0 where
+  pub rest : List ℕ
+  pub begins : text ≡ element_begin p colour x y ++ rest
+
+-- an element with the fill of the colour, whose path begins where the side of the site does
+abbrev pub IsAtSide : Task → (left top : ℕ) → Site → (side colour : ℕ) → List ℕ → Type 0
+IsAtSide p left top site side colour text =
+    IsElement p colour (left + site.x + (begin_of site.form side).0) (top + site.y + (begin_of site.form side).1) text
+
+-- the part of a tile at a side: it has the fill of the colour that is shown there
+abbrev pub IsPart : Task → (left top : ℕ) → Site → Placement → (side : ℕ) → List ℕ → Type 0
+IsPart p left top site x side text = IsAtSide p left top site side (colour_of p x side) text
+
+-- the line with the parts of a tile, side by side
+pub record IsPartLine (p : Task) (left top : ℕ) (site : Site) (x : Placement) (text : List ℕ) : Type 0 where
+  pub parts : List ℕ
+  pub joined : IsJoined (IsPart p left top site x) (side_count p.board) parts
+  pub line : text ≡ parts ++ 10 ∷ []
+
+-- a band along a side of which the border asks for a colour: it has that colour's fill; nothing at the other sides
+abbrev pub IsBand : Task → (left top : ℕ) → Site → (cell side : ℕ) → List ℕ → Type 0
+IsBand p left top site cell side text =
+    ((colour : ℕ) × HasRule p cell side colour × IsAtSide p left top site side colour text)
+    ⊎ (((colour : ℕ) → HasRule p cell side colour → ⊥) × (text ≡ []))
+
+-- the line with the bands of a cell, side by side, or nothing where it has none
+pub record IsBandLine (p : Task) (left top : ℕ) (site : Site) (cell : ℕ) (text : List ℕ) : Type 0 where
+  pub bands : List ℕ
+  pub joined : IsJoined (IsBand p left top site cell) (side_count p.board) bands
+  pub line : ((bands ≡ []) × (text ≡ [])) ⊎ (text ≡ bands ++ 10 ∷ [])

@@ -1,0 +1,4 @@
+pub mod Joined
+pub mod Sites
+pub mod Elements
+pub mod Pictures

@@ -1,0 +1,79 @@
+-- Pictures of arrangements and puzzles.
+use Rattle.std.specs.Prelude.{◌≡◌, ◌++◌, ℕ, List, Some, length, slice_get}
+use Rattle.match_puzzle.specs.Puzzle.{Task}
+use Rattle.match_puzzle.specs.declared.placements.Placement.{Placement}
+use Rattle.match_picture.specs.Elements.{IsPartLine, IsBandLine}
+use Rattle.match_picture.specs.Joined.{IsJoined}
+use Rattle.match_picture.specs.Sites.{AreSites}
+use Rattle.match_picture.specs.declared.sites.Site.{Site}
+
+-- the line with the parts of the tile that comes at this place, so turned, at its site
+abbrev pub IsPartLineAt : Task → (left top : ℕ) → List Site → List Placement → (n : ℕ) → List ℕ → Type 0
+IsPartLineAt p left top sites xs n text =
+    (site : Site) (x : Placement) → slice_get sites n ≡ Some site → slice_get xs n ≡ Some x
+    → IsPartLine p left top site x text
+
+-- a line with the parts of each tile
+abbrev pub ArePartLines : Task → (left top : ℕ) → List Site → List Placement → List ℕ → Type 0
+ArePartLines p left top sites xs text = IsJoined (IsPartLineAt p left top sites xs) (length xs) text
+
+-- the line with the bands of the cell, at its site
+abbrev pub IsBandLineAt : Task → (left top : ℕ) → List Site → (cell : ℕ) → List ℕ → Type 0
+IsBandLineAt p left top sites cell text =
+    (site : Site) → slice_get sites cell ≡ Some site → IsBandLine p left top site cell text
+
+-- a line with the bands of each cell that has some
+abbrev pub AreBandLines : Task → (left top : ℕ) → List Site → List ℕ → Type 0
+AreBandLines p left top sites text = IsJoined (IsBandLineAt p left top sites) (length sites) text
+
+-- A picture of an arrangement: the board begins 40 right of and below its corner; bands where the border asks for a
+-- colour, and then a part for each side of each cell, in the order of cells and sides, with the colour that is shown there.
+pub record IsArrangementPicture (p : Task) (a : List Placement) (text : List ℕ) : Type 0 where
+  pub sites : List Site
+  pub are_sites : AreSites p.board sites
+  pub before : List ℕ
+  pub bands : List ℕ
+  pub are_bands : AreBandLines p 40 40 sites bands
+  pub between : List ℕ
+  pub parts : List ℕ
+  pub are_parts : ArePartLines p 40 40 sites a parts
+  pub after : List ℕ
+  pub written : text ≡ before ++ bands ++ between ++ parts ++ after
+
+-- each of so many tiles, in order, unturned
+pub record AreUnturned (count : ℕ) (xs : List Placement) : Type 0 where
+  pub many : length xs ≡ count
+  pub tiles : (tile : ℕ) (x : Placement) → slice_get xs tile ≡ Some x → (x.tile ≡ tile) × (x.turn ≡ 0)
+
+-- A picture of a puzzle: bands where the border asks for a colour, along the empty board, and then a part for each side
+-- of each tile, in order, unturned, with the colour that it has there.
+pub record IsPuzzlePicture (p : Task) (text : List ℕ) : Type 0 where
+  pub left : ℕ
+  pub sites : List Site
+  pub are_sites : AreSites p.board sites
+  pub before : List ℕ
+  pub bands : List ℕ
+  pub are_bands : AreBandLines p left 40 sites bands
+  pub between : List ℕ
+  pub tray_left : ℕ
+  pub tray_top : ℕ
+  pub tray : List Site
+  pub tiles : List Placement
+  pub room : length tray ≡ length tiles
+  pub are_tiles : AreUnturned (length p.words) tiles
+  pub parts : List ℕ
+  pub are_parts : ArePartLines p tray_left tray_top tray tiles parts
+  pub after : List ℕ
+  pub written : text ≡ before ++ bands ++ between ++ parts ++ after
+
+-- a picture of the arrangement that is listed at this place
+abbrev pub IsPictureAt : Task → List (List Placement) → (n : ℕ) → List ℕ → Type 0
+IsPictureAt p listed n text = (a : List Placement) → slice_get listed n ≡ Some a → IsArrangementPicture p a text
+
+-- A picture of each of these arrangements, in order, with something before them and behind them.
+pub record IsSheet (p : Task) (listed : List (List Placement)) (text : List ℕ) : Type 0 where
+  pub before : List ℕ
+  pub pictures : List ℕ
+  pub drawn : IsJoined (IsPictureAt p listed) (length listed) pictures
+  pub after : List ℕ
+  pub written : text ≡ before ++ pictures ++ after

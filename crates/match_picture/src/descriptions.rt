@@ -1,0 +1,67 @@
+//! What a picture says to who can't see it.
+
+ghost use Rattle.std.specs.Prelude.{◌<◌, All, length};
+
+use match_puzzle::{Placement, Puzzle};
+use match_text::character;
+use std::alloc::{AllocError, Global};
+
+/// Each tile with its colours.
+pub fn describe_tiles(alloc: Global, puzzle: &Puzzle) -> Result<String, AllocError> {
+    let mut text = String::new(alloc);
+    text.push_str("Its tiles:")?;
+    for tile in puzzle.tiles() {
+        text.push(' ')?;
+        for side in 0..tile.sides() {
+            text.push(char::from(character(tile.shows(0, side))))?;
+        }
+    }
+    Ok(text)
+}
+
+/// Each cell's tile with its turns and the colours that it shows.
+pub fn describe_arrangement(
+    alloc: Global,
+    puzzle: &Puzzle,
+    placements: &[Placement],
+) -> Result<String, AllocError>
+    requires { All (λ x. x.tile < length puzzle.now.words) placements.now }
+{
+    let mut text = String::new(alloc);
+    text.push_str("By cell the tile, its turns and its colours:")?;
+    let mut before = "";
+    for placement in placements {
+        let Placement { tile, turn } = *placement;
+        let word = word_shown(alloc, puzzle, *placement)?;
+        let described = format!(in alloc; "{before} {tile}.{turn} {word}")?;
+        text.push_str(&described)?;
+        before = ",";
+    }
+    Ok(text)
+}
+
+// The colours that the placed tile shows.
+fn word_shown(alloc: Global, puzzle: &Puzzle, placement: Placement) -> Result<String, AllocError>
+    requires { placement.tile < length puzzle.now.words }
+{
+    let mut word = String::new(alloc);
+    for side in 0..puzzle.board().sides() {
+        word.push(char::from(character(puzzle.colour(placement, side))))?;
+    }
+    Ok(word)
+}
+
+/// Each cell's tile with its turns, of one of several arrangements.
+pub fn describe_briefly(
+    alloc: Global,
+    number: u32,
+    placements: &[Placement],
+) -> Result<String, AllocError> {
+    let mut text = format!(in alloc; "{number}:")?;
+    for placement in placements {
+        let Placement { tile, turn } = *placement;
+        let described = format!(in alloc; " {tile}.{turn}")?;
+        text.push_str(&described)?;
+    }
+    Ok(text)
+}

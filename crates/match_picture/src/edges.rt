@@ -1,0 +1,53 @@
+//! Edges of colours.
+
+ghost use Rattle.std.specs.Prelude.{◌<◌};
+ghost use Rattle.match_board.specs.declared.limits.TheConstants.{MOST_COLOURS};
+
+use crate::forms::{Form, Next, knob_radius, side_of};
+use match_puzzle::Puzzle;
+use std::alloc::{AllocError, Global};
+
+/// How the edge of a colour runs: straight where the colour is its own mate; of two mates the lesser has a knob, and the
+/// greater a hollow for it.
+#[derive(Clone, Copy, PartialEq, Eq, Debug)]
+pub enum Edge {
+    Flat,
+    Knob,
+    Hollow,
+}
+
+/// The edge of the colour.
+pub fn edge_of(puzzle: &Puzzle, colour: u8) -> Edge
+    requires { colour < MOST_COLOURS }
+{
+    let mate = puzzle.mate(colour);
+    if colour == mate {
+        Edge::Flat
+    } else if colour < mate {
+        Edge::Knob
+    } else {
+        Edge::Hollow
+    }
+}
+
+/// The path along a side, from its beginning.
+pub fn edge_path(alloc: Global, form: Form, side: u8, edge: Edge) -> Result<String, AllocError> {
+    match edge {
+        Edge::Flat => {
+            let way = side_of(form, side).way.step();
+            format!(in alloc; "{way}")
+        }
+        Edge::Knob => curved_path(alloc, form, side, 1),
+        Edge::Hollow => curved_path(alloc, form, side, 0),
+    }
+}
+
+// The same with an arc over the neck, clockwise or not, as the flag says.
+fn curved_path(alloc: Global, form: Form, side: u8, sweep: u8) -> Result<String, AllocError> {
+    let side = side_of(form, side);
+    let radius = knob_radius(form);
+    let straight = side.straight.step();
+    let neck = side.neck.step();
+    let (x, y) = (Next { number: neck.x }, Next { number: neck.y });
+    format!(in alloc; "{straight}a{radius} {radius} 0 1 {sweep}{x}{y}{straight}")
+}

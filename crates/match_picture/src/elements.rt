@@ -1,0 +1,75 @@
+//! Elements of a picture.
+
+ghost use Rattle.std.specs.Prelude.{◌≡◌, ◌<◌, OnOk};
+ghost use Rattle.match_picture.specs.Elements.{fill_of};
+ghost use Rattle.match_picture.specs.Joined.{IsWrapped};
+ghost use Rattle.match_board.specs.declared.limits.TheConstants.{MOST_COLOURS};
+
+use crate::canvases::{Canvas, Point};
+use crate::edges::{Edge, edge_path};
+use crate::forms::{side_of, sides};
+use crate::palette::{fill, is_dark};
+use crate::sites::Site;
+use match_puzzle::Puzzle;
+use match_text::character;
+use std::alloc::{AllocError, Global};
+
+/// Writes the lines as a group with these attributes, or nothing where there are none.
+pub fn put_group(text: &mut Vec<u8>, attributes: &[u8], lines: &[u8]) -> Result<(), AllocError>
+    ensures { OnOk result (IsWrapped lines.now text.old.items text.new.items) }
+{
+    if lines.is_empty() {
+        return Ok(());
+    }
+    text.extend_from_slice(b"<g ")?;
+    text.extend_from_slice(attributes)?;
+    text.extend_from_slice(b">\n")?;
+    text.extend_from_slice(lines)?;
+    text.extend_from_slice(b"</g>\n")
+}
+
+/// The fill of the colour: mates have that of the lesser.
+pub fn fill_of(puzzle: &Puzzle, colour: u8) -> [u8; 3]
+    requires { colour < MOST_COLOURS }
+    ensures { result ≡ fill_of puzzle.now colour }
+{
+    fill(colour.min(puzzle.mate(colour)))
+}
+
+/// The sign of the colour, with its middle at the point.
+pub fn sign(alloc: Global, puzzle: &Puzzle, colour: u8, middle: Point) -> Result<String, AllocError>
+    requires { colour < MOST_COLOURS }
+{
+    let (x, y) = (middle.x, middle.y.saturating_add(5));
+    let sign = char::from(character(colour));
+    if is_dark(colour.min(puzzle.mate(colour))) {
+        format!(in alloc; "<text x=\"{x}\" y=\"{y}\" fill=\"#fff\">{sign}</text>")
+    } else {
+        format!(in alloc; "<text x=\"{x}\" y=\"{y}\">{sign}</text>")
+    }
+}
+
+/// The number, its base line so far below the point.
+pub fn number(alloc: Global, number: u32, at: Point, base: u8) -> Result<String, AllocError> {
+    let (x, y) = (at.x, at.y.saturating_add(u64::from(base)));
+    format!(in alloc; "<text x=\"{x}\" y=\"{y}\">{number}</text>")
+}
+
+/// The outline of a cell or a tile with these edges, side by side.
+pub fn outline(
+    alloc: Global,
+    canvas: &Canvas<'_>,
+    site: Site,
+    edges: [Edge; 4],
+) -> Result<Vec<u8>, AllocError> {
+    let begin = canvas.point(site, side_of(site.form, 0).begin);
+    let (x, y) = (begin.x, begin.y);
+    let start = format!(in alloc; "<path d=\"M{x} {y}")?;
+    let mut path = Vec::from_slice(alloc, start.as_bytes())?;
+    for side in 0..sides(site.form) {
+        let edge = edge_path(alloc, site.form, side, edges[usize::from(side)])?;
+        path.extend_from_slice(edge.as_bytes())?;
+    }
+    path.extend_from_slice(b"z\"/>")?;
+    Ok(path)
+}

@@ -1,0 +1,165 @@
+//! A puzzle or an arrangement as a picture.
+
+ghost use Rattle.std.specs.Prelude.{◌≡◌, ◌<◌, ◌≤◌, ◌^◌, List, All, IfOk, OnOk, length};
+ghost use Rattle.match_picture.specs.Joined.{Wraps};
+ghost use Rattle.match_picture.specs.Pictures.{AreBandLines, IsArrangementPicture, IsPuzzlePicture};
+ghost use Rattle.match_picture.specs.declared.sites.Site.{Site};
+ghost use Rattle.match_picture.specs.Sites.{AreSites};
+ghost use Rattle.match_puzzle.specs.Arrangement.{IsArrangement};
+
+use crate::bands::put_bands;
+use crate::canvases::{Canvas, MARGIN};
+use crate::cells::put_cells;
+use crate::descriptions::{describe_arrangement, describe_tiles};
+use crate::documents::{END, begin_picture, board_words};
+use crate::sites::{board_extent, sites_of};
+use crate::tiles::{Labels, put_tiles};
+use crate::trays::{Tray, tray_sites, unturned};
+use match_puzzle::{Placement, Puzzle};
+use std::alloc::{AllocError, Global};
+
+/// The arrangement with this number in its list as a picture; where they are wanted, with the number of each tile.
+pub fn write_arrangement_picture(
+    alloc: Global,
+    puzzle: &Puzzle,
+    arrangement: &[Placement],
+    number: u32,
+    numbers: bool,
+) -> Result<Vec<u8>, AllocError>
+    requires { IsArrangement puzzle.now arrangement.now }
+    ensures { IfOk result (λ text. IsArrangementPicture puzzle.now arrangement.now text.items) }
+{
+    let begun = begin_arrangement(alloc, puzzle, arrangement, number)?;
+    let labels = Labels {
+        outline: 2,
+        signs: true,
+        numbers,
+    };
+    let text = draw_arrangement(alloc, puzzle, begun, arrangement, labels)?;
+    Ok(text)
+}
+
+#[tactic(auto, using(crate::proofs::TileLemmas::have_tiles))]
+fn begin_arrangement(
+    alloc: Global,
+    puzzle: &Puzzle,
+    arrangement: &[Placement],
+    number: u32,
+) -> Result<Vec<u8>, AllocError>
+    requires { IsArrangement puzzle.now arrangement.now }
+{
+    let words = board_words(alloc, puzzle.board().figure())?;
+    let title = format!(in alloc; "Arrangement {number}: {words}")?;
+    let description = describe_arrangement(alloc, puzzle, arrangement)?;
+    let board = board_extent(puzzle.board().figure());
+    let (wide, high) = (board.wide + 2 * MARGIN, board.high + 2 * MARGIN);
+    begin_picture(
+        alloc,
+        u64::from(wide),
+        u64::from(high),
+        &title,
+        &description,
+    )
+}
+
+/// A picture that has begun, with the arrangement on the board, ended.
+#[tactic(auto, using(crate::proofs::TileLemmas::have_tiles))]
+pub fn draw_arrangement(
+    alloc: Global,
+    puzzle: &Puzzle,
+    begun: Vec<u8>,
+    arrangement: &[Placement],
+    labels: Labels,
+) -> Result<Vec<u8>, AllocError>
+    requires { IsArrangement puzzle.now arrangement.now }
+    ensures { IfOk result (λ text. IsArrangementPicture puzzle.now arrangement.now text.items) }
+{
+    let mut text = begun;
+    let canvas = board_canvas(alloc, puzzle, MARGIN)?;
+    put_bands(alloc, &mut text, &canvas, labels.signs)?;
+    put_tiles(alloc, &mut text, &canvas, arrangement, labels)?;
+    text.extend_from_slice(END)?;
+    Ok(text)
+}
+
+/// The empty board of a puzzle as a picture, with the colours that the border asks for, and each tile below.
+pub fn write_puzzle_picture(alloc: Global, puzzle: &Puzzle) -> Result<Vec<u8>, AllocError>
+    ensures { IfOk result (λ text. IsPuzzlePicture puzzle.now text.items) }
+{
+    let board = board_extent(puzzle.board().figure());
+    let cells = puzzle.board().cells();
+    let tray = Tray::new(cells, board.wide, puzzle.board().sides());
+    let (tray_width, tray_height) = (tray.width(), tray.height());
+    let width = board.wide.max(tray_width);
+    let (wide, high) = (width + 2 * MARGIN, board.high + tray_height + 3 * MARGIN);
+    let mut text = begin_puzzle(alloc, puzzle, wide, high)?;
+    put_empty_board(alloc, &mut text, puzzle, MARGIN + (width - board.wide) / 2)?;
+    let below = Canvas {
+        puzzle,
+        sites: tray_sites(alloc, tray, cells)?,
+        left: MARGIN + (width - tray_width) / 2,
+        top: board.high + 2 * MARGIN,
+    };
+    let tiles = unturned(alloc, cells)?;
+    let labels = Labels {
+        outline: 2,
+        signs: true,
+        numbers: true,
+    };
+    put_tiles(alloc, &mut text, &below, &tiles, labels)?;
+    text.extend_from_slice(END)?;
+    Ok(text)
+}
+
+fn begin_puzzle(
+    alloc: Global,
+    puzzle: &Puzzle,
+    wide: u32,
+    high: u32,
+) -> Result<Vec<u8>, AllocError> {
+    let words = board_words(alloc, puzzle.board().figure())?;
+    let title = format!(in alloc; "Puzzle: {words}")?;
+    let description = describe_tiles(alloc, puzzle)?;
+    begin_picture(
+        alloc,
+        u64::from(wide),
+        u64::from(high),
+        &title,
+        &description,
+    )
+}
+
+// The bands and the cells of the board, so far from the left edge.
+fn put_empty_board(
+    alloc: Global,
+    text: &mut Vec<u8>,
+    puzzle: &Puzzle,
+    left: u32,
+) -> Result<(), AllocError>
+    ensures { OnOk result ((sites : List Site) × AreSites puzzle.now.board sites
+        × Wraps (AreBandLines puzzle.now left 40 sites) text.old.items text.new.items) }
+{
+    let canvas = board_canvas(alloc, puzzle, left)?;
+    put_bands(alloc, text, &canvas, true)?;
+    put_cells(alloc, text, &canvas)?;
+    Ok(())
+}
+
+/// The sites of the puzzle's cells, so far from the left edge.
+pub fn board_canvas<'a>(
+    alloc: Global,
+    puzzle: &'a Puzzle,
+    left: u32,
+) -> Result<Canvas<'a>, AllocError>
+    ensures puzzle { IfOk result (λ canvas. canvas.puzzle.now ≡ puzzle.now) }
+    ensures sites { IfOk result (λ canvas. AreSites puzzle.now.board canvas.sites.items) }
+    ensures left { IfOk result (λ canvas. canvas.left ≡ left) }
+    ensures top { IfOk result (λ canvas. canvas.top ≡ MARGIN) }
+{
+    Ok(Canvas {
+        puzzle,
+        sites: sites_of(alloc, puzzle)?,
+        left,
+        top: MARGIN,
+    })
+}

@@ -1,0 +1,234 @@
+//! Tiles as they lie on a board or in the tray.
+
+ghost use Rattle.std.specs.Prelude.{◌≡◌, ◌<◌, All, OnOk, length};
+ghost use Rattle.match_picture.specs.Joined.{Grows, Wraps};
+ghost use Rattle.match_picture.specs.Pictures.{ArePartLines};
+
+use crate::canvases::Canvas;
+use crate::edges::{Edge, edge_of, edge_path};
+use crate::elements::{number, outline, put_group, sign};
+use crate::forms::{disc_radius, middle, side_of};
+use crate::parts::part_lines;
+use crate::sites::Site;
+use match_puzzle::{Placement, Puzzle};
+use std::alloc::{AllocError, Global};
+
+/// What is drawn on tiles.
+#[derive(Clone, Copy, Debug)]
+pub struct Labels {
+    /// how wide their outlines are
+    pub outline: u32,
+    /// the sign of the colour at each side
+    pub signs: bool,
+    /// the number of the tile
+    pub numbers: bool,
+}
+
+// What is drawn of all tiles before anything else of them is.
+#[derive(Clone, Copy, Debug)]
+enum Layer {
+    Outlines,
+    Signs,
+    Discs,
+    Numbers,
+}
+
+/// Writes tiles, so turned, each at the site of its place in the list: a part for each side, and above these outlines,
+/// signs, and numbers on discs.
+pub fn put_tiles(
+    alloc: Global,
+    text: &mut Vec<u8>,
+    canvas: &Canvas<'_>,
+    placements: &[Placement],
+    labels: Labels,
+) -> Result<(), AllocError>
+    requires many { length placements.now ≡ length canvas.now.sites.items }
+    requires tiles { All (λ x. x.tile < length canvas.now.puzzle.now.words) placements.now }
+    ensures { OnOk result (Wraps (ArePartLines canvas.now.puzzle.now canvas.now.left canvas.now.top
+        canvas.now.sites.items placements.now) text.old.items text.new.items) }
+{
+    let parts = part_lines(alloc, canvas, placements)?;
+    put_group(text, b"stroke=\"#fff\" stroke-linejoin=\"round\"", &parts)?;
+    put_lines_above(alloc, text, canvas, placements, labels)?;
+    Ok(())
+}
+
+// What is drawn above the parts.
+fn put_lines_above(
+    alloc: Global,
+    text: &mut Vec<u8>,
+    canvas: &Canvas<'_>,
+    placements: &[Placement],
+    labels: Labels,
+) -> Result<(), AllocError>
+    requires many { length placements.now ≡ length canvas.now.sites.items }
+    requires tiles { All (λ x. x.tile < length canvas.now.puzzle.now.words) placements.now }
+    ensures { OnOk result (Grows text.old.items text.new.items) }
+{
+    put_outlines(alloc, text, canvas, placements, labels.outline)?;
+    put_signs(alloc, text, canvas, placements, labels.signs)?;
+    put_numbers(alloc, text, canvas, placements, labels.numbers)?;
+    Ok(())
+}
+
+fn put_outlines(
+    alloc: Global,
+    text: &mut Vec<u8>,
+    canvas: &Canvas<'_>,
+    placements: &[Placement],
+    width: u32,
+) -> Result<(), AllocError>
+    requires many { length placements.now ≡ length canvas.now.sites.items }
+    requires tiles { All (λ x. x.tile < length canvas.now.puzzle.now.words) placements.now }
+    ensures { OnOk result (Grows text.old.items text.new.items) }
+{
+    let outlines = layer_lines(alloc, canvas, placements, Layer::Outlines)?;
+    let stroke = format!(in alloc;
+        "fill=\"none\" stroke=\"#222\" stroke-width=\"{width}\" stroke-linejoin=\"round\""
+    )?;
+    put_group(text, stroke.as_bytes(), &outlines)?;
+    Ok(())
+}
+
+// The sign at each side, where they are wanted.
+fn put_signs(
+    alloc: Global,
+    text: &mut Vec<u8>,
+    canvas: &Canvas<'_>,
+    placements: &[Placement],
+    wanted: bool,
+) -> Result<(), AllocError>
+    requires many { length placements.now ≡ length canvas.now.sites.items }
+    requires tiles { All (λ x. x.tile < length canvas.now.puzzle.now.words) placements.now }
+    ensures { OnOk result (Grows text.old.items text.new.items) }
+{
+    if !wanted {
+        return Ok(());
+    }
+    let signs = layer_lines(alloc, canvas, placements, Layer::Signs)?;
+    put_group(text, SIGN_LETTERS, &signs)?;
+    Ok(())
+}
+
+const SIGN_LETTERS: &[u8] =
+    b"font-family=\"monospace\" font-size=\"14\" text-anchor=\"middle\" font-weight=\"bold\"";
+
+// The number of each tile on a disc, where they are wanted.
+fn put_numbers(
+    alloc: Global,
+    text: &mut Vec<u8>,
+    canvas: &Canvas<'_>,
+    placements: &[Placement],
+    wanted: bool,
+) -> Result<(), AllocError>
+    requires many { length placements.now ≡ length canvas.now.sites.items }
+    requires tiles { All (λ x. x.tile < length canvas.now.puzzle.now.words) placements.now }
+    ensures { OnOk result (Grows text.old.items text.new.items) }
+{
+    if !wanted {
+        return Ok(());
+    }
+    let discs = layer_lines(alloc, canvas, placements, Layer::Discs)?;
+    put_group(text, b"fill=\"#fff\" stroke=\"#222\"", &discs)?;
+    let numbers = layer_lines(alloc, canvas, placements, Layer::Numbers)?;
+    let size = number_size(canvas.puzzle.board().sides());
+    let letters = format!(in alloc;
+        "font-family=\"monospace\" font-size=\"{size}\" text-anchor=\"middle\""
+    )?;
+    put_group(text, letters.as_bytes(), &numbers)?;
+    Ok(())
+}
+
+// The size of a number on a tile with so many sides.
+fn number_size(sides: u8) -> u8 {
+    if sides == 4 { 13 } else { 12 }
+}
+
+// The layer, a line for each tile.
+fn layer_lines(
+    alloc: Global,
+    canvas: &Canvas<'_>,
+    placements: &[Placement],
+    layer: Layer,
+) -> Result<Vec<u8>, AllocError>
+    requires many { length placements.now ≡ length canvas.now.sites.items }
+    requires tiles { All (λ x. x.tile < length canvas.now.puzzle.now.words) placements.now }
+{
+    let mut lines = Vec::new(alloc);
+    for index in 0..placements.len() {
+        let site = canvas.sites[index];
+        put_layer(alloc, &mut lines, canvas, site, placements[index], layer)?;
+        lines.push(b'\n')?;
+    }
+    Ok(lines)
+}
+
+fn put_layer(
+    alloc: Global,
+    line: &mut Vec<u8>,
+    canvas: &Canvas<'_>,
+    site: Site,
+    placement: Placement,
+    layer: Layer,
+) -> Result<(), AllocError>
+    requires { placement.tile < length canvas.now.puzzle.now.words }
+{
+    match layer {
+        Layer::Outlines => {
+            let edges = edges_shown(canvas.puzzle, placement);
+            line.extend_from_slice(outline(alloc, canvas, site, edges)?.as_slice())
+        }
+        Layer::Signs => put_tile_signs(alloc, line, canvas, site, placement),
+        Layer::Discs => put_disc(alloc, line, canvas, site),
+        Layer::Numbers => {
+            let at = canvas.point(site, middle(site.form));
+            let label = number(alloc, u32::from(placement.tile), at, 5)?;
+            line.extend_from_slice(label.as_bytes())
+        }
+    }
+}
+
+// The edges of the colours that are shown.
+fn edges_shown(puzzle: &Puzzle, placement: Placement) -> [Edge; 4]
+    requires { placement.tile < length puzzle.now.words }
+{
+    let mut edges = [Edge::Flat; 4];
+    for side in 0..puzzle.board().sides() {
+        edges[usize::from(side)] = edge_of(puzzle, puzzle.colour(placement, side));
+    }
+    edges
+}
+
+fn put_tile_signs(
+    alloc: Global,
+    line: &mut Vec<u8>,
+    canvas: &Canvas<'_>,
+    site: Site,
+    placement: Placement,
+) -> Result<(), AllocError>
+    requires { placement.tile < length canvas.now.puzzle.now.words }
+{
+    for side in 0..canvas.puzzle.board().sides() {
+        let colour = canvas.puzzle.colour(placement, side);
+        let form_side = side_of(site.form, side);
+        let middle = match edge_of(canvas.puzzle, colour) {
+            Edge::Flat | Edge::Knob => form_side.sign,
+            Edge::Hollow => form_side.hollow_sign,
+        };
+        let sign = sign(alloc, canvas.puzzle, colour, canvas.point(site, middle))?;
+        line.extend_from_slice(sign.as_bytes())?;
+    }
+    Ok(())
+}
+
+fn put_disc(
+    alloc: Global,
+    line: &mut Vec<u8>,
+    canvas: &Canvas<'_>,
+    site: Site,
+) -> Result<(), AllocError> {
+    let at = canvas.point(site, middle(site.form));
+    let (x, y, r) = (at.x, at.y, disc_radius(site.form));
+    let disc = format!(in alloc; "<circle cx=\"{x}\" cy=\"{y}\" r=\"{r}\"/>")?;
+    line.extend_from_slice(disc.as_bytes())
+}
