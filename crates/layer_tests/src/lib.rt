@@ -12,6 +12,8 @@ mod limits;
 #[cfg(test)]
 mod partials;
 #[cfg(test)]
+mod pictures;
+#[cfg(test)]
 mod second_forms;
 #[cfg(test)]
 mod symmetries;
