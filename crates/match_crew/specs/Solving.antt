@@ -11,8 +11,8 @@ use Rattle.cert_tree.specs.CertificateSpelling.{IsCertificateWithin}
 use Rattle.cert_tree.specs.Writing.{said_by}
 use Rattle.match_puzzle.specs.Arrangement.{AreArrangements}
 use Rattle.steal_crew.specs.Counts.{total, times, once_below}
-use Rattle.piece_desk.specs.Desks.{IsOf}
-use Rattle.piece_desk.specs.declared.desks.Desk.{Desk}
+use Rattle.piece_desk.specs.FlatDesks.{IsOfFlat}
+use Rattle.piece_desk.specs.declared.flat_desks.FlatDesk.{FlatDesk}
 use Rattle.xcc_form.specs.declared.faults.CompileFault.{CompileFault}
 use Rattle.xcc_form.specs.declared.faults.CompileFault.TheVariants as compile
 use Rattle.match_crew.specs.declared.faults.SolveFault.{SolveFault}
@@ -26,8 +26,8 @@ solve_of_compile compile.TooMany = solve.TooMany
 solve_of_compile compile.Memory = solve.Memory
 
 -- Its lemma is on the desk, and what it found are arrangements; or the branch was given up.
-abbrev pub IsOutcomeOf : Task → Desk → Searched → Type 0
-IsOutcomeOf p desk (Posted receipt found) = IsOf desk receipt × AreArrangements p found.items
+abbrev pub IsOutcomeOf : Task → FlatDesk → Searched → Type 0
+IsOutcomeOf p desk (Posted receipt found) = IsOfFlat desk receipt × AreArrangements p found.items
 IsOutcomeOf p desk GaveUp = Unit {0}
 IsOutcomeOf p desk Full = Unit {0}
 
@@ -36,7 +36,7 @@ abbrev pub IsTally : (count : ℕ) → List (Vec ℕ Global) → Type 0
 IsTally count tally = (x : ℕ) → total (λ t. times x t.items) tally ≡ once_below x count
 
 -- What so many workers came to: an outcome for each number, of which each stands in one tally.
-pub record IsSearchedBy (p : Task) (desk : Desk) (count : ℕ) (results : List Searched)
+pub record IsSearchedBy (p : Task) (desk : FlatDesk) (count : ℕ) (results : List Searched)
     (tally : List (Vec ℕ Global)) : Type 0 where
   pub outcomes : All (IsOutcomeOf p desk) results
   pub few : length results ≤ MOST_LEMMAS

@@ -16,7 +16,10 @@ mod shared;
 mod solves;
 mod watches;
 
-pub use check_crew::{Gate, Open, check_with, read_certificate_with, write_certificate_with};
+pub use check_crew::{
+    Gate, Open, ReadTexts, WrittenTexts, check_with, read_certificate_with, read_texts_with,
+    write_certificate_with, write_texts_with,
+};
 pub use faults::SolveFault;
 pub use solves::{Solved, solve_watched, solve_with};
 pub use watches::{Unwatched, Watch};

@@ -5,16 +5,18 @@ ghost use Rattle.match_puzzle.specs.declared.placements.Pair.{Pair as PlacedPair
 ghost use Rattle.match_puzzle.specs.declared.placements.Placement.{Placement};
 ghost use Rattle.steal_crew.specs.LiveHands.{Gave};
 ghost use Rattle.match_puzzle.specs.Arrangement.{IsArrangement, AreArrangements};
+ghost use Rattle.match_text.specs.declared.ranges.TheConstants.{SECOND};
+ghost use Rattle.cert_tree.specs.CertificateSpelling.{IsLemmaWithin};
 ghost use Rattle.match_crew.specs.Solving.{IsOutcomeOf};
 
 use crate::branches::{OpenBranch, fit_in_turn, prefix_of};
 use crate::choices::Choices;
 use crate::shared::Shared;
 use crate::watches::{Counted, Watch, tell_rest};
-use cert_tree::{Lemma, Node};
+use cert_tree::{Lemma, Node, PackedLemma};
 use match_board::limits::{MOST_ARRANGEMENTS, MOST_FUEL};
 use match_puzzle::{Arrangement, Pair};
-use piece_desk::{Desk, Receipt};
+use piece_desk::{FlatDesk, FlatReceipt};
 use std::alloc::AllocError;
 use std::sync::Wait;
 use std::sync::atomic::{AtomicBool, Ordering};
@@ -27,7 +29,7 @@ use xcc_form::Xcc;
 pub enum Searched {
     // Its lemma is on the desk, and this is what it found.
     Posted {
-        receipt: Receipt,
+        receipt: FlatReceipt,
         found: Vec<Arrangement>,
     },
     // Its fuel was spent, or another job came to no lemma before it began.
@@ -41,7 +43,7 @@ pub enum Searched {
 pub struct Searches<'a, T: Wait, W: Watch> {
     pub rt: &'a T,
     pub xcc: &'a Xcc<'a>,
-    pub desk: &'a Desk,
+    pub desk: &'a FlatDesk,
     pub shared: &'a Shared<'a>,
     pub watch: &'a W,
     // whether a job gave up or found too many
@@ -119,6 +121,29 @@ impl<'a, T: Wait, W: Watch> Searches<'a, T, W> {
         finished
     }
 
+    // The lemma with this number, laid out flat, if it is within the limits of a lemma's text. Its nodes are dropped here,
+    // by the worker that made them.
+    fn packed(
+        &self,
+        number: u32,
+        pairs: &[Pair],
+        tree: Node,
+    ) -> Result<Option<PackedLemma>, AllocError>
+        ensures { IfOk result (λ o. IfSome o (IsLemmaWithin SECOND)) }
+    {
+        let prefix = prefix_of(self.shared.alloc, pairs)?;
+        let lemma = Lemma {
+            number,
+            prefix,
+            tree,
+        };
+        if !lemma.within_limits() {
+            return Ok(None);
+        }
+        let packed = PackedLemma::of(self.shared.alloc, &lemma)?;
+        Ok(Some(packed))
+    }
+
     // Puts the lemma with this number on the desk.
     fn post(&self, number: u32, pairs: &[Pair], finished: Finished) -> Result<Searched, AllocError>
         requires { AreArrangements self.now.xcc.now.puzzle finished.found.items }
@@ -128,15 +153,9 @@ impl<'a, T: Wait, W: Watch> Searches<'a, T, W> {
         if found.len() > MOST_ARRANGEMENTS as usize {
             return Ok(Searched::Full);
         }
-        let prefix = prefix_of(self.shared.alloc, pairs)?;
-        let lemma = Lemma {
-            number,
-            prefix,
-            tree,
-        };
-        if !lemma.within_limits() {
+        let Some(lemma) = self.packed(number, pairs, tree)? else {
             return Ok(Searched::GaveUp);
-        }
+        };
         match self.desk.post(self.rt, lemma) {
             Ok(receipt) => {
                 let waiting = self.shared.waiting.load(Ordering::Relaxed);

@@ -8,7 +8,7 @@ ghost use Rattle.match_puzzle.specs.declared.placements.Placement.{Placement};
 ghost use Rattle.puzzle_symmetry.specs.Symmetry.{IsSymmetry};
 ghost use Rattle.cert_tree.specs.CertificateSpelling.{IsCertificateWithin};
 ghost use Rattle.cert_tree.specs.Writing.{said_by};
-ghost use Rattle.piece_desk.specs.Desks.{IsOf};
+ghost use Rattle.piece_desk.specs.FlatDesks.{IsOfFlat};
 ghost use Rattle.xcc_form.specs.Options.{HasTooManyEntries};
 ghost use Rattle.match_crew.specs.Solving.{IsOutcomeOf, IsSearchedBy, IsSolvedBy};
 
@@ -26,7 +26,7 @@ use match_board::limits::{MOST_ARRANGEMENTS, MOST_LEMMAS};
 use match_puzzle::{Arrangement, Puzzle};
 use match_symmetry::suggest;
 use match_text::list_within_limits;
-use piece_desk::{Desk, Receipt};
+use piece_desk::{FlatDesk, FlatReceipt};
 use puzzle_symmetry::{Symmetry, SymmetryFault, SymmetryLine};
 use std::alloc::{AllocError, Global};
 use std::sync::Wait;
@@ -78,7 +78,7 @@ fn symmetries_of<'a>(
 fn search_all<R: Threads + Wait + Sync, W: Watch + Sync>(
     rt: &R,
     xcc: &Xcc<'_>,
-    desk: &Desk,
+    desk: &FlatDesk,
     shared: &Shared<'_>,
     watch: &W,
 ) -> Result<Crew<Searched>, AllocError>
@@ -104,7 +104,7 @@ fn search_all<R: Threads + Wait + Sync, W: Watch + Sync>(
 // What all jobs posted and found, by their numbers.
 #[derive(Drop)]
 struct Collected {
-    receipts: Vec<Receipt>,
+    receipts: Vec<FlatReceipt>,
     // for each lemma the number of the first that it found
     first: Vec<u32>,
     listed: Vec<Arrangement>,
@@ -113,7 +113,7 @@ struct Collected {
 // Adds what the next lemma found.
 fn add(
     collected: &mut Collected,
-    receipt: Receipt,
+    receipt: FlatReceipt,
     mut found: Vec<Arrangement>,
 ) -> Result<(), AllocError>
     requires few { vec_len collected.old.listed + vec_len found ≤ MOST_ARRANGEMENTS }
@@ -131,11 +131,11 @@ fn add(
 // The receipt of a lemma, and what it found.
 fn receipt_of(
     _puzzle: &Puzzle,
-    _desk: &Desk,
+    _desk: &FlatDesk,
     searched: Searched,
-) -> Result<(Receipt, Vec<Arrangement>), SolveFault>
+) -> Result<(FlatReceipt, Vec<Arrangement>), SolveFault>
     requires { IsOutcomeOf _puzzle.now _desk.now searched }
-    ensures receipt { IfOk result (λ r. IsOf _desk.now r.0) }
+    ensures receipt { IfOk result (λ r. IsOfFlat _desk.now r.0) }
     ensures found { IfOk result (λ r. AreArrangements _puzzle.now r.1.items) }
     ensures fault { IfErr result (λ f. f ≢ SolveFault.TooMany) }
 {
@@ -150,11 +150,11 @@ fn receipt_of(
 fn collect(
     alloc: Global,
     _puzzle: &Puzzle,
-    _desk: &Desk,
+    _desk: &FlatDesk,
     results: Vec<Searched>,
 ) -> Result<Collected, SolveFault>
     requires { All (IsOutcomeOf _puzzle.now _desk.now) results.items }
-    ensures receipts { IfOk result (λ c. All (λ receipt. IsOf _desk.now receipt) c.receipts.items) }
+    ensures receipts { IfOk result (λ c. All (λ receipt. IsOfFlat _desk.now receipt) c.receipts.items) }
     ensures many { IfOk result (λ c. vec_len c.first ≡ vec_len results) }
     ensures first { IfOk result (λ c. All (λ n. n ≤ MOST_ARRANGEMENTS) c.first.items) }
     ensures listed { IfOk result (λ c. AreArrangements _puzzle.now c.listed.items) }
@@ -179,12 +179,12 @@ fn collect(
 fn certificate_of<R: Threads + Sync>(
     rt: &R,
     shared: &Shared<'_>,
-    desk: &Desk,
+    desk: &FlatDesk,
     collected: &Collected,
     lines: Vec<SymmetryLine>,
 ) -> Result<Certificate, SolveFault>
     requires workers { (1 ≤ shared.now.workers) × (shared.now.workers ≤ MOST_WORKERS) }
-    requires receipts { All (λ receipt. IsOf desk.now receipt) collected.now.receipts.items }
+    requires receipts { All (λ receipt. IsOfFlat desk.now receipt) collected.now.receipts.items }
     requires count { vec_len collected.now.first ≤ MOST_LEMMAS }
     requires first { All (λ n. n ≤ MOST_ARRANGEMENTS) collected.now.first.items }
     requires lines { length lines.items < 2 ^ 32 }
@@ -267,7 +267,7 @@ pub fn solve_watched<R: Threads + Wait + Sync, W: Watch + Sync>(
         item_rule,
     };
     let plan = plan_by_dives(planner, depth)?;
-    let desk = Desk::new(alloc)?;
+    let desk = FlatDesk::new(alloc)?;
     let shared = Shared {
         alloc,
         plan: &plan,

@@ -5,7 +5,7 @@ use Rattle.match_puzzle.specs.Puzzle.{Task}
 use Rattle.match_puzzle.specs.declared.placements.Placement.{Placement}
 use Rattle.match_board.specs.declared.limits.TheConstants.{MOST_ARRANGEMENTS}
 use Rattle.steal_crew.proofs.QueueRuleLemmas.{all_more}
-use Rattle.piece_desk.specs.Desks.{IsOf}
+use Rattle.piece_desk.specs.FlatDesks.{IsOfFlat}
 use Rattle.match_puzzle.specs.Arrangement.{AreArrangements}
 use Rattle.match_board.proofs.ListLemmas.{contains_at, place_of}
 use Rattle.match_crew.specs.Solving.{IsOutcomeOf}
@@ -38,7 +38,7 @@ loop-searched-preserved c =
     let new = c.add.new.collected in
     record {
       rest = All-rest (IsOutcomeOf p c.args._desk.now) c.in-Some.searched c.next.new.self.rest.items _ steps inv.rest;
-      receipts = all_more (λ receipt. IsOf c.args._desk.now receipt) _ _ _ inv.receipts got.receipt more.receipts;
+      receipts = all_more (λ receipt. IsOfFlat c.args._desk.now receipt) _ _ _ inv.receipts got.receipt more.receipts;
       many = one_more old.first.items new.first.items (vec_len old.listed) _ _ _ _ _ c.in-Some.searched more.first old.first.ok.0 new.first.ok.0 steps inv.many;
       first = all_more (λ n. n ≤ MOST_ARRANGEMENTS) _ _ _ inv.first inv.few more.first;
       listed = both_are p old.listed.items _ new.listed.items more.listed inv.listed got.found;

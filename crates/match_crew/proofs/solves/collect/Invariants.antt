@@ -1,6 +1,6 @@
 use Rattle.std.proofs.Common.{◌≡◌, ◌+◌, ◌≤◌, All, length, vec_len}
 use Rattle.match_board.specs.declared.limits.TheConstants.{MOST_ARRANGEMENTS}
-use Rattle.piece_desk.specs.Desks.{IsOf}
+use Rattle.piece_desk.specs.FlatDesks.{IsOfFlat}
 use Rattle.match_puzzle.specs.Arrangement.{AreArrangements}
 use Rattle.match_crew.specs.Solving.{IsOutcomeOf}
 use Rattle.match_crew.proofs.solves.collect.Given as goal
@@ -8,7 +8,7 @@ use Rattle.match_crew.proofs.solves.collect.Given as goal
 abbrev pub invariant-loop-searched : goal.invariant-loop-searched
 invariant-loop-searched l = record {
   rest : All (IsOutcomeOf l._puzzle l._desk) l.searched-iterator.rest.items;
-  receipts : All (λ receipt. IsOf l._desk receipt) l.collected.receipts.items;
+  receipts : All (λ receipt. IsOfFlat l._desk receipt) l.collected.receipts.items;
   many : vec_len l.collected.first + length l.searched-iterator.rest.items ≡ length l.fn.results.items;
   first : All (λ n. n ≤ MOST_ARRANGEMENTS) l.collected.first.items;
   listed : AreArrangements l._puzzle l.collected.listed.items;
