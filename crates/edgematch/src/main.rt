@@ -2,7 +2,9 @@
 #![tactic(auto)]
 
 use match_runs::{Exit, Input, Output, RunFault, System, SystemLimits, run_words, stopped};
+use std::fs::{self, OpenOptions};
 use std::io::ErrorKind;
+use std::os::fd::{AsRawFd, IntoRawFd};
 use std::process::ExitCode;
 use std::random::RandomSource;
 use std::sync::Wait;
@@ -13,9 +15,16 @@ use std::{env, io};
 // A stack that is enough, in bytes: 256 cells take a fifth of it. Threads get as much as the limit on stacks says.
 const STACK_LEN: usize = 0x10_0000;
 
+// What may be opened everywhere, and holds nothing.
+const NOTHING: &str = "/dev/null";
+
+// The descriptor of standard error, behind those of standard input and output.
+const LAST_STREAM: i32 = 2;
+
 // The stack that a program begins with grows as it is used, and where it can't, the system ends the program. So where
 // memory is limited, all is done on a thread, whose stack is there when it starts.
 fn main(rt: HostRuntime) -> ExitCode {
+    take_closed_streams(&rt);
     let limits = limits(&rt, rt);
     let exit = if !limits.allow_stack(STACK_LEN as u64) {
         out_of_memory(&rt)
@@ -31,6 +40,27 @@ fn main(rt: HostRuntime) -> ExitCode {
         run(&rt, &rt)
     };
     ExitCode::from(exit.code())
+}
+
+// Takes the descriptors of standard streams that are closed, so that no file that is opened later has one of them, and
+// gets what is told. They stay useless, as what is closed: the first can't be read, and the others can't be written.
+// Apart from `main`, as `run` is.
+#[inline(never)]
+fn take_closed_streams(rt: &HostRuntime) {
+    if let Ok(file) = OpenOptions::new().write(true).open(rt, NOTHING) {
+        if file.as_raw_fd() == 0 {
+            let _ = file.into_raw_fd();
+        }
+    }
+    for _ in 0..LAST_STREAM {
+        let Ok(file) = fs::open(rt, NOTHING) else {
+            return;
+        };
+        if file.as_raw_fd() > LAST_STREAM {
+            return;
+        }
+        let _ = file.into_raw_fd();
+    }
 }
 
 // What the system grants: asked for on a thread too, or here where none starts.
