@@ -1,0 +1,193 @@
+//! The files of the system.
+
+ghost use Rattle.std.specs.Prelude.{◌≡◌, false, IfOk};
+
+use crate::faults::FileFault;
+use crate::files::FileSystem;
+use crate::places::{Place, are_one, may_be_one, place_of};
+use crate::sinks::Sink;
+use crate::sources::Failed;
+use crate::systems::{Input, Output};
+use std::alloc::{AllocError, Global};
+use std::fs::{self, Metadata, OpenFile, OpenOptions, Permissions};
+use std::io::{ErrorKind, Write};
+use std::os::unix::fs::{MetadataExt, OpenOptionsExt, PermissionsExt};
+use std::random::RandomSource;
+use std::rt::Files;
+
+// The mode of a file that only its owner reads and writes, and the bits of a mode that are kept.
+const PRIVATE: u32 = 0o600;
+
+const MODE_BITS: u32 = 0o7777;
+
+/// The files of the system. What they hold, and what is done to them, is not told.
+///
+/// A file is made in the folder of its name, under another name with 64 random bits, and renamed when it is put there, so
+/// that what stands under the name is there whole at any time, the old or the new. Links are followed, and the new file
+/// has the mode and the owner of the old one, the owner as far as that is allowed. What is no plain file, as a device or a
+/// pipe, is written directly. No file is made in place of a folder.
+#[derive(Clone, Copy)]
+pub struct System<'a, R: Files + RandomSource> {
+    runtime: &'a R,
+}
+
+impl<'a, R: Files + RandomSource> System<'a, R> {
+    /// The files that this runtime reaches.
+    pub fn new(runtime: &'a R) -> System<'a, R> {
+        System { runtime }
+    }
+}
+
+/// A file of the system that is written.
+#[derive(Drop)]
+pub struct SystemFile<F: Write + Drop> {
+    output: Output<F>,
+    // none where it is written directly
+    place: Option<Place>,
+}
+
+impl<F: Write + Drop> SystemFile<F> {
+    // This file, with nothing written to it.
+    fn new(file: F, place: Option<Place>) -> SystemFile<F>
+        ensures not_idle { result.output.idle ≡ false }
+        ensures errors { result.output.errors ≡ 0 }
+    {
+        SystemFile {
+            output: Output::new(file),
+            place,
+        }
+    }
+}
+
+impl<F: Write + Drop> Sink for SystemFile<F> {
+    ghost written = { λ s. F.contents s.output.writer };
+
+    ghost idle = { λ s. s.output.idle };
+
+    ghost errors = { λ s. s.output.errors };
+
+    fn write(&mut self, bytes: &[u8]) -> Result<usize, Failed> {
+        self.output.write(bytes)
+    }
+}
+
+impl<R: Files + RandomSource> FileSystem for System<'_, R> {
+    type Reader = Input<R::File>;
+
+    type Writer = SystemFile<R::File>;
+
+    ghost opens = { λ _ _ _. Unit {0} };
+
+    ghost refuses = { λ _ _. Unit {0} };
+
+    ghost makes = { λ _ _ _. Unit {0} };
+
+    ghost does = { λ _ _ _. Unit {0} };
+
+    fn open(&self, name: &str) -> Result<Input<R::File>, Failed> {
+        match fs::open(self.runtime, name) {
+            Ok(file) => Ok(Input::new(file)),
+            Err(_) => Err(Failed),
+        }
+    }
+
+    fn make(&mut self, alloc: Global, name: &str) -> Result<SystemFile<R::File>, FileFault> {
+        match self.runtime.metadata(name) {
+            Ok(found) if found.is_dir() => Err(FileFault::Refused),
+            Ok(found) if found.is_file() => make_over(self.runtime, alloc, name, &found),
+            Ok(_) => open_directly(self.runtime, name),
+            Err(error) if error.kind() == ErrorKind::NotFound => {
+                make_first(self.runtime, alloc, name)
+            }
+            Err(_) => Err(FileFault::Refused),
+        }
+    }
+
+    fn put(&mut self, file: SystemFile<R::File>, _name: &str) -> Result<(), Failed> {
+        let SystemFile { output, place } = file;
+        drop(output);
+        let Some(place) = place else {
+            return Ok(());
+        };
+        match self.runtime.rename(place.part(), place.path()) {
+            Ok(()) => Ok(()),
+            Err(_) => {
+                let _ = self.runtime.remove_file(place.part());
+                Err(Failed)
+            }
+        }
+    }
+
+    fn remove(&mut self, file: SystemFile<R::File>, _name: &str) {
+        if let Some(place) = &file.place {
+            let _ = self.runtime.remove_file(place.part());
+        }
+    }
+
+    // Files are one where device and number are, hard links too; what is not there is one where the folder is and the
+    // name in it.
+    fn may_lead_to_one(
+        &self,
+        alloc: Global,
+        first: &str,
+        second: &str,
+    ) -> Result<bool, AllocError> {
+        match (self.runtime.metadata(first), self.runtime.metadata(second)) {
+            (Ok(first), Ok(second)) => Ok(are_one(&first, &second)),
+            (Ok(_), Err(error)) => Ok(error.kind() != ErrorKind::NotFound),
+            (Err(error), Ok(_)) => Ok(error.kind() != ErrorKind::NotFound),
+            (Err(_), Err(_)) => may_be_one(self.runtime, alloc, first, second),
+        }
+    }
+}
+
+// What is no plain file, opened to be written as it is.
+fn open_directly<R: Files>(runtime: &R, name: &str) -> Result<SystemFile<R::File>, FileFault>
+    ensures { IfOk result (λ file. (file.output.idle ≡ false) × (file.output.errors ≡ 0)) }
+{
+    let file = OpenOptions::new().write(true).open(runtime, name)?;
+    Ok(SystemFile::new(file, None))
+}
+
+// A file beside a name under which none stands.
+fn make_first<R: Files + RandomSource>(
+    runtime: &R,
+    alloc: Global,
+    name: &str,
+) -> Result<SystemFile<R::File>, FileFault>
+    ensures { IfOk result (λ file. (file.output.idle ≡ false) × (file.output.errors ≡ 0)) }
+{
+    let place = Place::new(runtime, alloc, place_of(runtime, alloc, name)?)?;
+    let file = OpenOptions::new()
+        .write(true)
+        .create_new(true)
+        .open(runtime, place.part())?;
+    Ok(SystemFile::new(file, Some(place)))
+}
+
+// A file beside a plain one that was found under the name, with its mode, and with its owner as far as that is allowed.
+// Nobody else can open it before.
+fn make_over<R: Files + RandomSource>(
+    runtime: &R,
+    alloc: Global,
+    name: &str,
+    found: &Metadata,
+) -> Result<SystemFile<R::File>, FileFault>
+    ensures { IfOk result (λ file. (file.output.idle ≡ false) × (file.output.errors ≡ 0)) }
+{
+    let place = Place::new(runtime, alloc, place_of(runtime, alloc, name)?)?;
+    if !are_one(&runtime.metadata(place.path())?, found) {
+        return Err(FileFault::Refused);
+    }
+    let file = OpenOptions::new()
+        .write(true)
+        .create_new(true)
+        .mode(PRIVATE)
+        .open(runtime, place.part())?;
+    let _ = runtime.chown(place.part(), Some(found.uid()), Some(found.gid()));
+    if let Err(error) = file.set_permissions(Permissions::from_mode(found.mode() & MODE_BITS)) {
+        let _ = runtime.remove_file(place.part());
+        return Err(FileFault::from(error));
+    }
+    Ok(SystemFile::new(file, Some(place)))
+}
