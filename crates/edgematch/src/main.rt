@@ -86,7 +86,7 @@ fn run<R: Threads + Wait + Sync + RandomSource + Clock + Eprint>(
             threads,
             rt.alloc(),
             &words,
-            &System::new(rt),
+            &mut System::new(rt),
             &mut Input::new(rt.stdin()),
             &mut Output::new(rt.stdout()),
             &mut Output::new(rt.stderr()),

@@ -3,5 +3,6 @@ pub mod OrderLemmas
 pub mod RepetitionLemmas
 pub mod RunLemmas
 pub mod RunningLemmas
+pub mod SolvedLemmas
 pub mod SolvingLemmas
 mod WordLemmas

@@ -60,8 +60,8 @@ Describes description text printed ends =
     (puzzle : Task) × PuzzleReads text (Ok puzzle) × DescribesPuzzle description puzzle printed
 
 -- What a fault says of the text of a puzzle: it spells none, with this fault, or it is want of memory.
-abbrev pub PuzzleFails : (text : List ℕ) → RunFault → Type 0
-PuzzleFails text (runs.Puzzle puzzles.Memory) = ⊥
-PuzzleFails text (runs.Puzzle fault) = PuzzleReads text (Err fault)
-PuzzleFails text runs.Memory = Unit {0}
-PuzzleFails text fault = ⊥
+abbrev pub DescribeFails : (text : List ℕ) → RunFault → Type 0
+DescribeFails text (runs.Puzzle puzzles.Memory) = ⊥
+DescribeFails text (runs.Puzzle fault) = PuzzleReads text (Err fault)
+DescribeFails text runs.Memory = Unit {0}
+DescribeFails text fault = ⊥

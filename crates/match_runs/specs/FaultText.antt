@@ -23,6 +23,8 @@ use Rattle.match_crew.specs.declared.faults.SolveFault.{SolveFault}
 use Rattle.match_crew.specs.declared.faults.SolveFault.TheVariants as solves
 use Rattle.byte_streams.specs.declared.faults.Document.{Document}
 use Rattle.byte_streams.specs.declared.faults.Document.TheVariants as documents
+use Rattle.byte_streams.specs.declared.faults.FileFault.{FileFault}
+use Rattle.byte_streams.specs.declared.faults.FileFault.TheVariants as files
 use Rattle.byte_streams.specs.declared.faults.InputFault.{InputFault}
 use Rattle.byte_streams.specs.declared.faults.InputFault.TheVariants as inputs
 use Rattle.match_runs.specs.declared.faults.RunFault.{RunFault}
@@ -38,6 +40,10 @@ abbrev pub run_of_input : InputFault → RunFault
 run_of_input (inputs.Read document) = Read document
 run_of_input (inputs.TooLong document) = TooLong document
 run_of_input inputs.Memory = Memory
+
+abbrev pub run_of_file : FileFault → RunFault
+run_of_file files.Refused = Write
+run_of_file files.Memory = Memory
 
 abbrev pub run_of_puzzle : PuzzleTextFault → RunFault
 run_of_puzzle (puzzle_text.Text fault) = Puzzle (puzzle_text.Text fault)

@@ -2,12 +2,13 @@ pub mod Checking
 pub mod Describing
 pub mod Exits
 pub mod FaultText
+pub mod FileOrigins
 pub mod Files
-pub mod Held
 pub mod Listed
 pub mod OrderRuns
 pub mod Printing
 pub mod Runs
+pub mod SolvedFiles
 pub mod Solving
 pub mod Tiles
 pub mod WordRuns

@@ -9,7 +9,7 @@ use Rattle.match_text.specs.Lists.{list_of}
 use Rattle.match_text.specs.Puzzles.{PuzzleReads}
 use Rattle.match_text.specs.declared.faults.ReadFault.TheVariants as lists
 use Rattle.byte_streams.specs.declared.documents.TwoTexts.{TwoTexts}
-use Rattle.match_runs.specs.Describing.{PuzzleFails}
+use Rattle.match_runs.specs.Describing.{DescribeFails}
 use Rattle.match_runs.specs.declared.faults.RunFault.{RunFault}
 use Rattle.match_runs.specs.declared.faults.RunFault.TheVariants as runs
 
@@ -38,4 +38,4 @@ DrawFails number texts (runs.NoArrangement at) =
     (at ≡ number) × SpellList texts.puzzle texts.list (λ p listed. length listed ≤ number)
 DrawFails number texts (runs.Arrangement at fault) =
     (at ≡ number) × SpellList texts.puzzle texts.list (λ p. IsListedAt number (λ a. IsArrangementFault p a fault))
-DrawFails number texts fault = PuzzleFails texts.puzzle fault
+DrawFails number texts fault = DescribeFails texts.puzzle fault

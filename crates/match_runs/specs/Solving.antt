@@ -13,7 +13,7 @@ use Rattle.xcc_form.specs.Options.{HasTooManyEntries}
 use Rattle.match_crew.specs.Solving.{IsSolvedBy}
 use Rattle.match_crew.specs.declared.faults.SolveFault.TheVariants as solves
 use Rattle.byte_streams.specs.declared.outputs.Products.{Products}
-use Rattle.match_runs.specs.Describing.{PuzzleFails}
+use Rattle.match_runs.specs.Describing.{DescribeFails}
 use Rattle.match_show.specs.Facts.{number_line}
 use Rattle.match_runs.specs.Printing.{IsListText}
 use Rattle.match_runs.specs.declared.faults.RunFault.{RunFault}
@@ -58,4 +58,4 @@ abbrev pub SolveFails : (text : List ℕ) → RunFault → Type 0
 SolveFails text (runs.Solve solves.TooMany) = (p : Task) × PuzzleReads text (Ok p) × HasTooManyEntries p
 SolveFails text (runs.Solve solves.Memory) = ⊥
 SolveFails text (runs.Solve fault) = (p : Task) × PuzzleReads text (Ok p)
-SolveFails text fault = PuzzleFails text fault
+SolveFails text fault = DescribeFails text fault

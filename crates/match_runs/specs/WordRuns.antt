@@ -49,12 +49,13 @@ Explains output errors exit kind =
     (AsksForText kind → ((exit ≡ Done) × errors.Untouched) ⊎ ((exit ≡ Failed) × TellsOfText errors))
     × ((AsksForText kind → ⊥) → (exit ≡ Failed) × output.Untouched)
 
--- What words come to: they are those of an order, which was carried out; or memory was refused while they were read; or
--- `clap` doesn't take them, for a reason of this kind.
-abbrev pub WordsGive : List Text → (Run : Order → Result Exit RunFault → Type 0) → (output errors : Writing) → Exit
-    → Type 0
-WordsGive words Run output errors exit =
+-- What words come to: they are those of an order, which was carried out; or nothing was done to a file, and memory was
+-- refused while they were read, or `clap` doesn't take them, for a reason of this kind.
+abbrev pub WordsGive : List Text → (Run : Order → Result Exit RunFault → Type 0) → (Unchanged : Type 0)
+    → (output errors : Writing) → Exit → Type 0
+WordsGive words Run Unchanged output errors exit =
     ((order : Order) × IsOrder words order × CarriesOut (Run order) errors exit)
-    ⊎ (WantsMemory output errors exit
+    ⊎ (Unchanged
+    × (WantsMemory output errors exit
     ⊎ ((takes whole_app words ≢ true)
-    × (kind : ErrorKind) × IsAmong kind (fault_of whole_app words) × Explains output errors exit kind))
+    × (kind : ErrorKind) × IsAmong kind (fault_of whole_app words) × Explains output errors exit kind)))

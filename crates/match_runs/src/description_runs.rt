@@ -7,7 +7,7 @@ ghost use Rattle.byte_streams.specs.Moves.{reading_of, writing_of};
 ghost use Rattle.byte_streams.specs.Origins.{one_source};
 ghost use Rattle.byte_streams.specs.Targets.{one_sink};
 ghost use Rattle.byte_streams.specs.declared.faults.Document.TheVariants as documents;
-ghost use Rattle.match_runs.specs.Describing.{CountsOptions, Describes, IsBoardText, IsSymmetriesText, PuzzleFails};
+ghost use Rattle.match_runs.specs.Describing.{CountsOptions, Describes, IsBoardText, IsSymmetriesText, DescribeFails};
 ghost use Rattle.match_runs.specs.Describing.{options_text};
 ghost use Rattle.match_runs.specs.Runs.{MadeOf, Runs};
 
@@ -46,14 +46,14 @@ pub fn run_description<P: Source, W: Sink>(
     writer: &mut W,
 ) -> Result<(), RunFault>
     ensures { Runs (one_source documents.Puzzle (reading_of P.Source puzzle.old puzzle.new)) (Describes description)
-        PuzzleFails (one_sink (writing_of W.Sink writer.old writer.new)) result }
+        DescribeFails (one_sink (writing_of W.Sink writer.old writer.new)) result }
 {
     let mut inputs = OneSource {
         source: puzzle,
         document: Document::Puzzle,
     };
     let make = |text: &Text| -> Result<(MadeText, ()), RunFault>
-        ensures { MadeOf (Describes description) PuzzleFails text.now result }
+        ensures { MadeOf (Describes description) DescribeFails text.now result }
     { described(alloc, text, description) };
     run_by(alloc, &mut inputs, make, &mut OneSink { sink: writer })
 }
@@ -64,7 +64,7 @@ fn described(
     text: &Text,
     description: Description,
 ) -> Result<(MadeText, ()), RunFault>
-    ensures { MadeOf (Describes description) PuzzleFails text.now result }
+    ensures { MadeOf (Describes description) DescribeFails text.now result }
 {
     let puzzle = read_puzzle(alloc, text.bytes())?;
     let printed = match description {

@@ -8,10 +8,10 @@ ghost use Rattle.match_runs.specs.FaultText.{text_fault_words, puzzle_fault_word
 ghost use Rattle.match_runs.specs.FaultText.{list_text_fault_words, assemble_fault_words, cert_text_fault_words};
 ghost use Rattle.match_report.specs.AnswerText.{arrangement_fault_words};
 ghost use Rattle.match_runs.specs.declared.faults.RunFault.TheVariants as run_fault;
-ghost use Rattle.match_runs.specs.FaultText.{run_of_input, run_of_puzzle, run_of_list, run_of_certificate};
+ghost use Rattle.match_runs.specs.FaultText.{run_of_file, run_of_input, run_of_puzzle, run_of_list, run_of_certificate};
 ghost use Rattle.match_runs.specs.FaultText.{run_of_expand, run_of_solve, run_of_tiles, solve_fault_words};
 
-use byte_streams::{Document, Failed, InputFault};
+use byte_streams::{Document, Failed, FileFault, InputFault};
 use cert_tree::{AssembleFault, CertTextFault};
 use match_board::{BoardFault, TilesFault};
 use match_crew::SolveFault;
@@ -62,6 +62,17 @@ impl From<Failed> for RunFault {
 
     fn from(_failed: Failed) -> RunFault {
         RunFault::Write
+    }
+}
+
+impl From<FileFault> for RunFault {
+    ghost from_gives = { λ fault e. e ≡ run_of_file fault };
+
+    fn from(fault: FileFault) -> RunFault {
+        match fault {
+            FileFault::Refused => RunFault::Write,
+            FileFault::Memory => RunFault::Memory,
+        }
     }
 }
 

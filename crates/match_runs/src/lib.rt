@@ -9,8 +9,8 @@ mod faults;
 mod files;
 mod hints;
 mod listed_runs;
+mod made_files;
 mod order_runs;
-mod parts;
 mod printing_runs;
 mod progress;
 mod questions;
@@ -24,14 +24,16 @@ mod tile_runs;
 mod word_runs;
 
 pub use byte_streams::{
-    Document, Documents, Failed, Input, Output, Sink, Source, cut_joined, write_whole,
+    Document, Documents, Failed, FileSystem, Input, Output, Sink, Source, System, cut_joined,
+    write_whole,
 };
 pub use check_runs::{run_check, run_check_watched, run_joined};
 pub use description_runs::{Description, run_description};
 pub use exits::{Exit, Status};
 pub use faults::{RunFault, fault_text};
-pub use files::{FileSystem, System, have_different_names, make, open};
+pub use files::{have_different_names, open};
 pub use listed_runs::run_listed;
+pub use made_files::nothing_is_lost;
 pub use order_runs::run_order;
 pub use printing_runs::{Printing, run_expand, run_printing};
 pub use progress::{CheckProgress, CheckWatch, SolveProgress, SolveWatch};

@@ -1,26 +1,25 @@
 //! Runs of orders: over which files each runs, and the exit status.
 
-ghost use Rattle.std.specs.Prelude.{◌≡◌, IfOk, IfErr, IsTrue, Some, true, false};
+ghost use Rattle.std.specs.Prelude.{◌≡◌, IfOk, IfErr, Some};
 ghost use Rattle.std.specs.String.{string_bytes};
 ghost use Rattle.byte_streams.specs.Moves.{reading_of, writing_of};
 ghost use Rattle.byte_streams.specs.Origins.{joined_source};
-ghost use Rattle.match_runs.specs.Files.{HaveDifferentNames, LeavesAll};
-ghost use Rattle.match_runs.specs.Held.{IsOneOf, all_three, held_puzzle, held_three};
-ghost use Rattle.match_runs.specs.OrderRuns.{CheckOf, DescriptionOf, PrintingOf, RunOf, ShowOf, SolveOf, Take, TilesOf};
-ghost use Rattle.match_runs.specs.OrderRuns.{solved_files};
+ghost use Rattle.match_runs.specs.FileOrigins.{CantOpen, all_three, one_file, three_files};
+ghost use Rattle.match_runs.specs.OrderRuns.{CheckOf, DescriptionOf, PrintingOf, RunOf, ShowOf, SolveOf, TilesOf};
+ghost use Rattle.match_runs.specs.SolvedFiles.{solved_files};
 
 use crate::check_runs::{run_check_watched, run_joined};
 use crate::description_runs::{Description, run_description};
 use crate::exits::Exit;
 use crate::faults::RunFault;
-use crate::files::{FileSystem, have_different_names, make, open};
+use crate::files::{are_apart, open};
 use crate::listed_runs::run_listed;
-use crate::parts::Parts;
+use crate::made_files::{MadeFiles, make_both, put_both, remove_both};
 use crate::printing_runs::{Printing, run_hinted};
-use crate::progress::{CheckProgress, CheckWatch, SolveProgress, SolveWatch};
+use crate::progress::{CheckProgress, SolveProgress};
 use crate::solve_runs::{SearchPlan, run_solve_watched};
 use crate::tile_runs::run_tiles;
-use byte_streams::{Document, Sink, Source};
+use byte_streams::{Document, FileSystem, Sink, Source};
 use command_words::{Colours, Files, Forks, Listed, Order, Sides, Workers};
 use std::alloc::Global;
 use std::random::RandomSource;
@@ -32,9 +31,9 @@ use std::time::Clock;
 /// shown to be complete.
 ///
 /// The files of an order are all opened before one is read: the puzzle's, the list's, the certificate's. `Read` of
-/// the first that can't be opened. A solve opens the puzzle's and makes the other two; where two of the three names
-/// are the same, or one can't be made, `Write`. Where it is to keep what stands there until all is written, it makes two
-/// beside them, and puts these there then, the list first; after a fault it removes them.
+/// the first that can't be opened. A solve opens the puzzle's and makes the other two beside their names; where two of
+/// the three are one, or one can't be made, `Write`. What it made is put under the names once all is written, the list
+/// first, and after a fault it is removed.
 ///
 /// Where texts are to be explained and one has a fault, a hint is left of what its line has to be, and what it is, or
 /// which numbers differ; memory for it may be refused.
@@ -47,12 +46,12 @@ pub fn run_order<
     rt: &R,
     alloc: Global,
     order: &Order,
-    system: &S,
+    system: &mut S,
     input: &mut I,
     output: &mut W,
     hint: &mut Option<String>,
 ) -> Result<Exit, RunFault>
-    ensures { RunOf S.FileSystem S.Writer.Sink system.now (reading_of I.Source input.old input.new)
+    ensures { RunOf S.FileSystem S.Reader.Source system.old system.new (reading_of I.Source input.old input.new)
         (writing_of W.Sink output.old output.new) order.now result }
 {
     match order {
@@ -63,15 +62,20 @@ pub fn run_order<
             forks,
             progress,
         } => {
-            let watch = CheckProgress::new(rt, *progress);
-            check(rt, alloc, files, *workers, *forks, &watch, system, output)
+            let order = CheckOrder {
+                files,
+                workers: *workers,
+                forks: *forks,
+                progress: *progress,
+            };
+            check(rt, alloc, &order, system, output)
         }
         Order::Solve {
             files,
             depth,
             fuel,
             workers,
-            keep,
+            keep: _,
             progress,
         } => {
             let search = SearchPlan {
@@ -79,8 +83,12 @@ pub fn run_order<
                 fuel: *fuel,
                 workers: *workers,
             };
-            let watch = SolveProgress::new(rt, *progress);
-            solve(rt, alloc, files, search, *keep, &watch, system, output)
+            let order = SolveOrder {
+                files,
+                search,
+                progress: *progress,
+            };
+            solve(rt, alloc, &order, system, output)
         }
         Order::Explain(files) => {
             print_all(
@@ -128,13 +136,12 @@ struct Opened<R> {
 
 // Opens all three files before any is read.
 fn open_all<S: FileSystem>(system: &S, files: &Files) -> Result<Opened<S::Reader>, RunFault>
-    ensures puzzle { IfOk result (λ opened.
-        LeavesAll (S.holds system.now (string_bytes files.now.puzzle)) (S.Reader.left opened.puzzle)) }
-    ensures list { IfOk result (λ opened.
-        LeavesAll (S.holds system.now (string_bytes files.now.list)) (S.Reader.left opened.list)) }
+    ensures puzzle { IfOk result (λ opened. S.opens system.now (string_bytes files.now.puzzle) opened.puzzle) }
+    ensures list { IfOk result (λ opened. S.opens system.now (string_bytes files.now.list) opened.list) }
     ensures certificate { IfOk result (λ opened.
-        LeavesAll (S.holds system.now (string_bytes files.now.certificate)) (S.Reader.left opened.certificate)) }
-    ensures fault { IfErr result (λ fault. (document : Document) × IsOneOf all_three document
+        S.opens system.now (string_bytes files.now.certificate) opened.certificate) }
+    ensures fault { IfErr result (λ fault. (document : Document)
+        × CantOpen S.FileSystem S.Reader.Source system.now (all_three files.now) document
         × (fault ≡ RunFault.Read document)) }
 {
     Ok(Opened {
@@ -144,146 +151,87 @@ fn open_all<S: FileSystem>(system: &S, files: &Files) -> Result<Opened<S::Reader
     })
 }
 
-fn check<S: FileSystem, W: Sink, R: Threads + Sync, T: CheckWatch + Sync>(
-    rt: &R,
-    alloc: Global,
-    files: &Files,
+// A check that is ordered.
+#[derive(Clone, Copy)]
+struct CheckOrder<'a> {
+    files: &'a Files,
     workers: Workers,
     forks: Forks,
-    watch: &T,
+    progress: bool,
+}
+
+fn check<S: FileSystem, W: Sink, R: Threads + Sync + Clock + Eprint>(
+    rt: &R,
+    alloc: Global,
+    order: &CheckOrder<'_>,
     system: &S,
     output: &mut W,
 ) -> Result<Exit, RunFault>
-    ensures { CheckOf (held_three (S.holds system.now) files.now) (writing_of W.Sink output.old output.new) result }
+    ensures { CheckOf (three_files S.FileSystem S.Reader.Source system.now order.now.files.now)
+        (writing_of W.Sink output.old output.new) result }
 {
-    let mut opened = open_all(system, files)?;
+    let mut opened = open_all(system, order.files)?;
     let status = run_check_watched(
         rt,
         alloc,
         &mut opened.puzzle,
         &mut opened.list,
         &mut opened.certificate,
-        workers,
-        forks,
-        watch,
+        order.workers,
+        order.forks,
+        &CheckProgress::new(rt, order.progress),
         output,
     )?;
     Ok(Exit::of_status(status))
 }
 
-fn solve<S: FileSystem, W: Sink, R: Threads + Wait + Sync, T: SolveWatch + Sync>(
-    rt: &R,
-    alloc: Global,
-    files: &Files,
+// A solve that is ordered.
+#[derive(Clone, Copy)]
+struct SolveOrder<'a> {
+    files: &'a Files,
     search: SearchPlan,
-    keep: bool,
-    watch: &T,
-    system: &S,
-    output: &mut W,
-) -> Result<Exit, RunFault>
-    ensures { SolveOf search.workers (held_puzzle (S.holds system.now (string_bytes files.now.puzzle)))
-        (solved_files keep (Take S.FileSystem S.Writer.Sink system.now) (S.puts system.now) files.now
-        (writing_of W.Sink output.old output.new)) result }
-{
-    if keep {
-        solve_beside(rt, alloc, files, search, watch, system, output)
-    } else {
-        solve_in_place(rt, alloc, files, search, watch, system, output)
-    }
+    progress: bool,
 }
 
-// Opens the puzzle's file and makes the others before anything is read. A file that is another of them is not made.
-fn solve_in_place<S: FileSystem, W: Sink, R: Threads + Wait + Sync, T: SolveWatch + Sync>(
+// Opens the puzzle's file and makes the others beside their names before anything is read, and puts them there when all
+// is written. A file that is another of them is not made.
+fn solve<S: FileSystem, W: Sink, R: Threads + Wait + Sync + Clock + Eprint>(
     rt: &R,
     alloc: Global,
-    files: &Files,
-    search: SearchPlan,
-    watch: &T,
-    system: &S,
+    order: &SolveOrder<'_>,
+    system: &mut S,
     output: &mut W,
 ) -> Result<Exit, RunFault>
-    ensures { SolveOf search.workers (held_puzzle (S.holds system.now (string_bytes files.now.puzzle)))
-        (solved_files false (Take S.FileSystem S.Writer.Sink system.now) (S.puts system.now) files.now
-        (writing_of W.Sink output.old output.new)) result }
+    ensures { SolveOf order.now.search.workers
+        (one_file S.FileSystem S.Reader.Source system.old (string_bytes order.now.files.now.puzzle))
+        (solved_files order.now.files.now S.does system.old system.new (writing_of W.Sink output.old output.new)) result }
 {
+    let files = order.files;
     let mut puzzle = open(system, &files.puzzle, Document::Puzzle)?;
-    if !are_apart(alloc, files, system) {
+    if !are_apart(alloc, files, system)? {
         return Err(RunFault::Write);
     }
-    let mut list = make(system, &files.list)?;
-    // What was no file may be the list's now.
-    if !are_apart(alloc, files, system) {
-        return Err(RunFault::Write);
-    }
-    let mut certificate = make(system, &files.certificate)?;
-    run_solve_watched(
-        rt,
-        alloc,
-        &mut puzzle,
-        search,
-        watch,
-        &mut list,
-        &mut certificate,
-        output,
-    )?;
-    Ok(Exit::Done)
-}
-
-// The same, but what stands under the names of the list and of the certificate is kept until both are written.
-fn solve_beside<S: FileSystem, W: Sink, R: Threads + Wait + Sync, T: SolveWatch + Sync>(
-    rt: &R,
-    alloc: Global,
-    files: &Files,
-    search: SearchPlan,
-    watch: &T,
-    system: &S,
-    output: &mut W,
-) -> Result<Exit, RunFault>
-    ensures { SolveOf search.workers (held_puzzle (S.holds system.now (string_bytes files.now.puzzle)))
-        (solved_files true (Take S.FileSystem S.Writer.Sink system.now) (S.puts system.now) files.now
-        (writing_of W.Sink output.old output.new)) result }
-{
-    let mut puzzle = open(system, &files.puzzle, Document::Puzzle)?;
-    let parts = Parts::of(alloc, files)?;
-    if !are_apart(alloc, files, system) || !parts.have_other_names(files) {
-        return Err(RunFault::Write);
-    }
-    let (mut list, mut certificate) = parts.make(system)?;
-    if parts.are_in_the_way(alloc, files, system) {
-        parts.remove(system);
-        return Err(RunFault::Write);
-    }
+    let MadeFiles {
+        mut list,
+        mut certificate,
+    } = make_both(alloc, files, system)?;
     let solved = run_solve_watched(
         rt,
         alloc,
         &mut puzzle,
-        search,
-        watch,
+        order.search,
+        &SolveProgress::new(rt, order.progress),
         &mut list,
         &mut certificate,
         output,
     );
+    let made = MadeFiles { list, certificate };
     if let Err(fault) = solved {
-        parts.remove(system);
+        remove_both(made, files, system);
         return Err(fault);
     }
-    parts.put(files, system)?;
+    put_both(made, files, system)?;
     Ok(Exit::Done)
-}
-
-// Whether the three files have different names, and as far as it can be told are three.
-fn are_apart<S: FileSystem>(alloc: Global, files: &Files, system: &S) -> bool
-    ensures { IsTrue result → HaveDifferentNames files.now }
-{
-    let Files {
-        puzzle,
-        list,
-        certificate,
-    } = files;
-    have_different_names(puzzle, list, certificate)
-        && !system.may_lead_to_one(alloc, puzzle, list)
-        && !system.may_lead_to_one(alloc, puzzle, certificate)
-        && !system.may_lead_to_one(alloc, list, certificate)
 }
 
 // As a check, and prints all arrangements, or how many they are, or why the list is refused.
@@ -296,7 +244,7 @@ fn print_all<S: FileSystem, W: Sink, R: RandomSource>(
     output: &mut W,
     hint: &mut Option<String>,
 ) -> Result<Exit, RunFault>
-    ensures { PrintingOf printing (held_three (S.holds system.now) files.now)
+    ensures { PrintingOf printing (three_files S.FileSystem S.Reader.Source system.now files.now)
         (writing_of W.Sink output.old output.new) result }
 {
     let mut opened = open_all(system, files)?;
@@ -320,7 +268,7 @@ fn describe<S: FileSystem, W: Sink>(
     system: &S,
     output: &mut W,
 ) -> Result<Exit, RunFault>
-    ensures { DescriptionOf description (held_puzzle (S.holds system.now name.now))
+    ensures { DescriptionOf description (one_file S.FileSystem S.Reader.Source system.now name.now)
         (writing_of W.Sink output.old output.new) result }
 {
     let mut puzzle = open(system, name, Document::Puzzle)?;
@@ -336,7 +284,8 @@ fn show<S: FileSystem, W: Sink>(
     system: &S,
     output: &mut W,
 ) -> Result<Exit, RunFault>
-    ensures { ShowOf (S.holds system.now) name.now listed.now (writing_of W.Sink output.old output.new) result }
+    ensures { ShowOf S.FileSystem S.Reader.Source system.now name.now listed.now
+        (writing_of W.Sink output.old output.new) result }
 {
     match listed {
         None => describe(alloc, name, Description::Board, system, output),
@@ -352,7 +301,8 @@ fn draw<S: FileSystem, W: Sink>(
     system: &S,
     output: &mut W,
 ) -> Result<Exit, RunFault>
-    ensures { ShowOf (S.holds system.now) name.now (Some listed.now) (writing_of W.Sink output.old output.new) result }
+    ensures { ShowOf S.FileSystem S.Reader.Source system.now name.now (Some listed.now)
+        (writing_of W.Sink output.old output.new) result }
 {
     let mut puzzle = open(system, name, Document::Puzzle)?;
     let mut list = open(system, &listed.list, Document::List)?;

@@ -11,9 +11,8 @@ ghost use Rattle.match_runs.specs.WordRuns.{CarriesOut, Explains, Tells, TellsFa
 
 use crate::exits::Exit;
 use crate::faults::{RunFault, fault_text};
-use crate::files::FileSystem;
 use crate::order_runs::run_order;
-use byte_streams::{Sink, Source, write_whole};
+use byte_streams::{FileSystem, Sink, Source, write_whole};
 use command_words::{Order, WordsFault, order};
 use std::alloc::Global;
 use std::random::RandomSource;
@@ -36,13 +35,13 @@ pub fn run_words<
     rt: &R,
     alloc: Global,
     words: &[String],
-    system: &S,
+    system: &mut S,
     input: &mut I,
     output: &mut W,
     errors: &mut E,
 ) -> Exit
-    ensures { WordsGive (map string_bytes words.now) (RunOf S.FileSystem S.Writer.Sink system.now
-        (reading_of I.Source input.old input.new) (writing_of W.Sink output.old output.new))
+    ensures { WordsGive (map string_bytes words.now) (RunOf S.FileSystem S.Reader.Source system.old system.new
+        (reading_of I.Source input.old input.new) (writing_of W.Sink output.old output.new)) (system.new ≡ system.old)
         (writing_of W.Sink output.old output.new) (writing_of E.Sink errors.old errors.new) result }
 {
     match order(alloc, words) {
@@ -62,13 +61,14 @@ fn carry_out<
     rt: &R,
     alloc: Global,
     order: &Order,
-    system: &S,
+    system: &mut S,
     input: &mut I,
     output: &mut W,
     errors: &mut E,
 ) -> Exit
-    ensures { CarriesOut (RunOf S.FileSystem S.Writer.Sink system.now (reading_of I.Source input.old input.new)
-        (writing_of W.Sink output.old output.new) order.now) (writing_of E.Sink errors.old errors.new) result }
+    ensures { CarriesOut (RunOf S.FileSystem S.Reader.Source system.old system.new
+        (reading_of I.Source input.old input.new) (writing_of W.Sink output.old output.new) order.now)
+        (writing_of E.Sink errors.old errors.new) result }
 {
     let mut hint = None;
     match run_order(rt, alloc, order, system, input, output, &mut hint) {

@@ -1,4 +1,4 @@
-use Rattle.std.proofs.Common.{inl, map}
+use Rattle.std.proofs.Common.{◌≡◌, inl, map, refl}
 use Rattle.std.specs.String.{string_bytes}
 use Rattle.byte_streams.specs.Moves.{reading_of, writing_of}
 use Rattle.match_runs.specs.OrderRuns.{RunOf}
@@ -12,5 +12,6 @@ pub returns-in-Err : goal.returns-in-Err
 returns-in-Err g c =
     let output = writing_of g.W.Sink c.args.output.now c.refuse.new.output in
     let errors = writing_of g.E.Sink c.args.errors.now c.refuse.new.errors in
-    refused (map string_bytes c.args.words.now) (RunOf g.S.FileSystem g.S.Writer.Sink c.args.system.now (reading_of g.I.Source c.args.input.now c.args.input.now) output) output errors c.refuse.result
+    refused (map string_bytes c.args.words.now) (RunOf g.S.FileSystem g.S.Reader.Source c.args.system.now c.args.system.now (reading_of g.I.Source c.args.input.now c.args.input.now) output)
+    (c.args.system.now ≡ c.args.system.now) refl output errors c.refuse.result
     c.in-Err.fault c.in-Err.ensures.memory c.in-Err.ensures.refused c.refuse.ensures.memory c.refuse.ensures.words
