@@ -10,6 +10,7 @@ with 2 where a case can't be read. Cases run side by side, as many as there are 
 import difflib
 import multiprocessing
 import os
+import re
 import subprocess
 import sys
 import tempfile
@@ -31,11 +32,14 @@ LONGEST = 300
 # The bytes of the longest path that the system takes, and of a name in it.
 LONGEST_PATH, LONGEST_NAME = 4096, 250
 
+# A word of a case that stands for a path: a document's file, or a folder's, with what stands behind its name.
+NAMES = re.compile(r"(\./)?(PUZZLE|LIST|CERTIFICATE|FOLDER)((?:[./].*)?)$")
+
 # What a table of a case may have, by what it is.
 TEXTS = {"like", "change", *DOCUMENTS}
 CHECKED = {"answer", "fault", "joined", "rows", "explanations", "explanation", "expansion", "arrangements", "cut"}
 STREAMED = {f"{stream}{end}" for stream in ("stdout", "stderr") for end in ("", "_begins", "_has")}
-ORDERED = {"words", "beside", "deep", "stdin", "status", "files", "files_have", "left", "stdout_lines", *STREAMED}
+ORDERED = {"words", "beside", "deep", "stdin", "status", "files", "files_have", "kept", "left", "stdout_lines", *STREAMED}
 SOLVED = {"solve"}
 WANTED = {"answer", "fault", "rows", "explanations", "expansion", "arrangements", "words", "solve"}
 
@@ -170,6 +174,14 @@ class Trial:
     def paths(self):
         return [self.path(it) for it in DOCUMENTS]
 
+    def word(self, word):
+        """A word of a case: what begins with a name of `NAMES` is a path, by `./` where that stands before it."""
+        named = NAMES.match(word)
+        if not named:
+            return word
+        before, name, behind = named.groups(default="")
+        return os.path.join(self.folder, before, name.lower() + behind)
+
     def go_deep(self, documents):
         """Goes on in a folder whose path is longer than the system takes, with the documents there by their names."""
         os.chdir(self.folder)
@@ -186,6 +198,21 @@ class Trial:
                 return file.read()
         except FileNotFoundError:
             return b"(no file)"
+
+    def names(self):
+        """The names of all files that are there, in order."""
+        return sorted(os.listdir(self.folder or "."))
+
+    def standing(self):
+        """What stands in the folder: each name, with what its file holds, or none where it is a folder."""
+        return {it: None if os.path.isdir(self.path(it)) else self.contents(it) for it in self.names()}
+
+    def wants_kept(self, way, before):
+        """What stood in the folder before stands there, and nothing else."""
+        after = self.standing()
+        self.wants(way, "the files that are left", " ".join(before).encode(), " ".join(after).encode())
+        for name, text in before.items():
+            self.wants(way, f"the file {name}", text or b"", after.get(name) or b"")
 
     def run(self, words, stdin=b""):
         self.runs += 1
@@ -294,15 +321,10 @@ def order(trial, case):
         trial.go_deep(case.documents)
     for name, text in keys.get("beside", {}).items():
         trial.put(name, text_of(text))
-    known = {it.upper(): it for it in DOCUMENTS}
-    known.update({f"{it}.part": f"{name}.part" for it, name in known.items()})
-    known = {it: trial.path(name) for it, name in known.items()} | {
-        f"./{it}": os.path.join(trial.folder, ".", name) for it, name in known.items()
-    }
     if "FOLDER" in keys["words"]:
-        known["FOLDER"] = trial.path("folder")
-        os.mkdir(known["FOLDER"])
-    got = trial.run([known.get(it, it) for it in keys["words"]], text_of(keys.get("stdin", "")))
+        os.mkdir(trial.path("folder"))
+    before = trial.standing() if keys.get("kept") else None
+    got = trial.run([trial.word(it) for it in keys["words"]], text_of(keys.get("stdin", "")))
     trial.wants_status(way, keys.get("status", 0), got.status)
     for stream, text in (("stdout", got.stdout), ("stderr", got.stderr)):
         begins, has = keys.get(f"{stream}_begins"), keys.get(f"{stream}_has")
@@ -322,8 +344,9 @@ def order(trial, case):
         if text_of(text) not in trial.contents(document):
             trial.differs(way, f"the file {document}, a part of it", text_of(text), trial.contents(document))
     if "left" in keys:
-        left = " ".join(sorted(os.listdir(trial.folder or ".")))
-        trial.wants(way, "the files that are left", " ".join(keys["left"]).encode(), left.encode())
+        trial.wants(way, "the files that are left", " ".join(keys["left"]).encode(), " ".join(trial.names()).encode())
+    if before is not None:
+        trial.wants_kept(way, before)
 
 
 def solve(trial, options, number, every=None):
@@ -359,15 +382,16 @@ def solve_in_one_lemma(trial):
     for fuel in sorted({1, 2, 5, 20, plain.branches - 1, plain.branches, 100_000}):
         if fuel < 1:
             continue
-        way = f"solve --depth 0 --fuel {fuel}"
+        way, before = f"solve --depth 0 --fuel {fuel}", trial.standing()
         got = trial.run(["solve", *trial.paths(), "--depth", "0", "--fuel", str(fuel)])
         if fuel < plain.branches:
             trial.wants_outcome(way, Outcome(3, b"", b"gave up\n"), got)
-        else:
-            begins = f"found {len(plain.listed)}\nlemmas 1\nworker 0 took 0\n".encode("latin-1")
-            trial.wants(way, "its report's begin", begins, got.stdout[: len(begins)])
+            trial.wants_kept(way, before)
+            continue
+        begins = f"found {len(plain.listed)}\nlemmas 1\nworker 0 took 0\n".encode("latin-1")
+        trial.wants(way, "its report's begin", begins, got.stdout[: len(begins)])
         for document, text in zip(DOCUMENTS[1:], texts):
-            trial.wants(way, f"the {document}", b"" if fuel < plain.branches else text, trial.contents(document))
+            trial.wants(way, f"the {document}", text, trial.contents(document))
 
 
 def solves(trial, count, every=None):
