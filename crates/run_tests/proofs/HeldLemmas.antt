@@ -1,22 +1,29 @@
 -- What a check of files says of the texts that they hold.
-use Rattle.std.proofs.Common.{◌≡◌, List, ℕ, Option, Some, refl, subst}
-use Rattle.std.specs.String.{string_bytes}
+use Rattle.std.proofs.Common.{◌≡◌, ◌∙◌, ◌++◌, List, ℕ, Option, Some, None, ap, drop, refl, subst}
+use Rattle.std.proofs.lemmas.List.{append-nil}
+use Rattle.std.specs.Io.KnownBytes.{Consumes, IsAtEnd}
+use Rattle.match_board.specs.declared.limits.TheConstants.{MOST_BYTES}
 use Rattle.byte_streams.specs.Documents.{Texts, three}
-use Rattle.byte_streams.specs.Origins.{Origin}
-use Rattle.command_words.specs.declared.orders.Files.{Files}
+use Rattle.byte_streams.specs.Moves.{Gives, Reading}
 use Rattle.match_runs.specs.Checking.{SpellCompleteList}
-use Rattle.match_runs.specs.Files.{HoldsText}
-use Rattle.match_runs.specs.Held.{held_three}
 
 same_texts : (texts : Texts) (puzzle list certificate : List ℕ) → puzzle ≡ texts.puzzle → list ≡ texts.list → certificate ≡ texts.certificate → texts ≡ three puzzle list certificate
 same_texts texts puzzle list certificate p l c = rw (p, l, c) refl
 
--- what is so of the texts that came of files is so of those that they hold
-pub held_so : (holds : List ℕ → Option (List ℕ)) (files : Files) (puzzle list certificate : List ℕ)
-    → holds (string_bytes files.puzzle) ≡ Some puzzle → holds (string_bytes files.list) ≡ Some list → holds (string_bytes files.certificate) ≡ Some certificate
-    → (texts : Texts) → (held_three holds files).Gave texts → SpellCompleteList texts → SpellCompleteList (three puzzle list certificate)
-held_so holds files puzzle list certificate p l c texts gave complete =
-    let first = subst (λ (held : Option (List ℕ)). HoldsText held texts.puzzle) p gave.0 in
-    let second = subst (λ (held : Option (List ℕ)). HoldsText held texts.list) l gave.1 in
-    let third = subst (λ (held : Option (List ℕ)). HoldsText held texts.certificate) c gave.2 in
-    subst SpellCompleteList (same_texts texts puzzle list certificate first second third) complete
+-- known bytes that came whole are the text that came
+whole_is : (bytes : List ℕ) (after : Option (List ℕ)) (text : List ℕ) → Consumes (Some bytes) after text → IsAtEnd after → bytes ≡ text
+whole_is bytes None text came end = absurd came
+whole_is bytes (Some rest) text came end = came ∙ ap (λ xs. text ++ xs) end ∙ append-nil text
+
+pub held_is : (held : List ℕ) (source : Reading) (text : List ℕ) → source.before ≡ Some held → Gives MOST_BYTES source text → held ≡ text
+held_is held source text before gave =
+    whole_is held source.after text (subst (λ (known : Option (List ℕ)). Consumes known source.after text) before gave.whole.0) gave.whole.1.1
+
+-- what is so of the texts that came is so of those that the files hold
+pub held_so : (puzzle list certificate : List ℕ) (texts : Texts) → puzzle ≡ texts.puzzle → list ≡ texts.list → certificate ≡ texts.certificate
+    → SpellCompleteList texts → SpellCompleteList (three puzzle list certificate)
+held_so puzzle list certificate texts p l c complete = subst SpellCompleteList (same_texts texts puzzle list certificate p l c) complete
+
+-- what is left of a file that was just opened is what it holds
+pub all_left : (bytes held : List ℕ) (taken : ℕ) → bytes ≡ held → taken ≡ 0 → ◌≡◌ {A = Option (List ℕ)} (Some (drop taken bytes)) (Some held)
+all_left bytes held taken is none = rw (is, none) refl

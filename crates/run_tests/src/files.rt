@@ -1,11 +1,11 @@
 //! Files in memory.
 
-ghost use Rattle.std.specs.Prelude.{◌≡◌, Some};
+ghost use Rattle.std.specs.Prelude.{◌≡◌};
 ghost use Rattle.run_tests.specs.HeldFiles.{held_by};
 
-use byte_streams::Fake;
+use byte_streams::{Fake, FileFault};
 use match_runs::{Failed, FileSystem};
-use std::alloc::Global;
+use std::alloc::{AllocError, Global};
 
 /// The files of three documents, whose names begin with `p`, with `l` and with anything else. It tells what they hold.
 #[derive(Clone, Copy)]
@@ -34,31 +34,35 @@ impl<'a> FileSystem for HeldFiles<'a> {
 
     type Writer = Fake<'a>;
 
-    ghost holds = { λ f name. Some (held_by f.puzzle.now f.list.now f.certificate.now name) };
+    ghost opens = { λ f name reader. (reader.bytes.now ≡ held_by f.puzzle.now f.list.now f.certificate.now name)
+        × (reader.taken ≡ 0) };
+
+    ghost refuses = { λ _ _. ⊥ };
 
     ghost makes = { λ _ _ _. Unit {0} };
 
-    ghost puts = { λ _ _ _. Unit {0} };
+    ghost does = { λ _ _ _. Unit {0} };
 
     fn open(&self, name: &str) -> Result<Fake<'a>, Failed> {
         Ok(Fake::new(self.alloc, self.held(name), 7, usize::MAX))
     }
 
-    fn make(&self, _name: &str) -> Result<Fake<'a>, Failed> {
-        Ok(Fake::new(self.alloc, b"", 5, usize::MAX))
+    fn make(&mut self, alloc: Global, _name: &str) -> Result<Fake<'a>, FileFault> {
+        Ok(Fake::new(alloc, b"", 5, usize::MAX))
     }
 
-    fn make_new(&self, name: &str) -> Result<Fake<'a>, Failed> {
-        self.make(name)
-    }
-
-    fn put(&self, _from: &str, _to: &str) -> Result<(), Failed> {
+    fn put(&mut self, _file: Fake<'a>, _name: &str) -> Result<(), Failed> {
         Ok(())
     }
 
-    fn remove(&self, _name: &str) {}
+    fn remove(&mut self, _file: Fake<'a>, _name: &str) {}
 
-    fn may_lead_to_one(&self, _alloc: Global, _first: &str, _second: &str) -> bool {
-        false
+    fn may_lead_to_one(
+        &self,
+        _alloc: Global,
+        _first: &str,
+        _second: &str,
+    ) -> Result<bool, AllocError> {
+        Ok(false)
     }
 }

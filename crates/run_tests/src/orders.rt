@@ -35,7 +35,7 @@ fn exit_of<R: Threads + Wait + Sync + RandomSource + Clock + Eprint>(
       certificate = certificate.now;
     })) }
 {
-    let system = HeldFiles {
+    let mut system = HeldFiles {
         alloc,
         puzzle,
         list,
@@ -60,7 +60,7 @@ fn exit_of<R: Threads + Wait + Sync + RandomSource + Clock + Eprint>(
         rt,
         alloc,
         &order,
-        &system,
+        &mut system,
         &mut input,
         &mut output,
         &mut None,

@@ -1,6 +1,6 @@
-use Rattle.std.proofs.Common.{Some, ap}
+use Rattle.std.proofs.Common.{◌∙◌, ap}
 use Rattle.run_tests.specs.HeldFiles.{held_by}
-use Rattle.run_tests.proofs.HeldLemmas.{held_so}
+use Rattle.run_tests.proofs.HeldLemmas.{all_left, held_is, held_so}
 use Rattle.run_tests.proofs.orders.exit_of.Goals as goal
 
 pub returns : goal.returns
@@ -8,10 +8,11 @@ returns g c =
     let p = c.args.puzzle.now in
     let l = c.args.list.now in
     let t = c.args.certificate.now in
-    let run = c.in_ok-exit.ensures in
-    λ done.
-    held_so (λ name. Some (held_by p l t name)) (record { puzzle = c.in_ok-first.first; list = c.in_ok-second.second; certificate = c.in_ok-third.third }) p l t
-    (ap (λ name. Some (held_by p l t name)) c.in_ok-first.ensures.ok)
-    (ap (λ name. Some (held_by p l t name)) c.in_ok-second.ensures.ok)
-    (ap (λ name. Some (held_by p l t name)) c.in_ok-third.ensures.ok)
-    run.0 run.2 (run.3.complete done)
+    let run = c.in_ok-exit.ensures.1 in
+    let all = run.2.0 in
+    let gave = run.2.1 in
+    let held = held_by p l t in
+    let first = all_left _ p _ (all.puzzle.is_opened.0 ∙ ap held c.in_ok-first.ensures.ok) all.puzzle.is_opened.1 in
+    let second = all_left _ l _ (all.list.is_opened.0 ∙ ap held c.in_ok-second.ensures.ok) all.list.is_opened.1 in
+    let third = all_left _ t _ (all.certificate.is_opened.0 ∙ ap held c.in_ok-third.ensures.ok) all.certificate.is_opened.1 in
+    λ done. held_so p l t run.0 (held_is p _ run.0.puzzle first gave.0) (held_is l _ run.0.list second gave.1) (held_is t _ run.0.certificate third gave.2) (run.3.complete done)
