@@ -1,3 +1,4 @@
 pub mod Numbers
 pub mod Branches
 pub mod Symmetries
+pub mod Hash

@@ -4,6 +4,7 @@
 mod branches;
 mod counting;
 mod crews;
+mod hashes;
 mod laws;
 mod parts;
 mod splits;
@@ -12,6 +13,7 @@ mod totals;
 pub use branches::Branch;
 pub use counting::{count_arrangements, count_below};
 pub use crews::count_with_crew;
+pub use hashes::hash_of;
 pub use laws::{parts_make_the_whole, symmetric_options_have_as_many};
 pub use parts::part_of;
 pub use splits::{MOST_BRANCHES, split};
