@@ -3,8 +3,7 @@ use Rattle.std.specs.Prelude.{◌≡◌, ◌≤◌, ◌↔◌, ◌++◌, ℕ, Li
 use Rattle.match_board.specs.declared.limits.TheConstants.{MOST_ARRANGEMENTS}
 use Rattle.match_puzzle.specs.Arrangement.{IsArrangement, AreDistinct, HasArrangements}
 use Rattle.match_puzzle.specs.declared.placements.Placement.{Placement}
-use Rattle.match_text.specs.ListSpelling.{IsListWithin, list_spelling}
-use Rattle.match_text.specs.declared.ranges.TheConstants.{FIRST}
+use Rattle.check_crew.specs.Texts.{IsListText}
 use Rattle.cert_check.specs.Setting.{Question, motions_of}
 use Rattle.cert_check.specs.Answer.{IsAnswer}
 use Rattle.cert_check.specs.declared.faults.Answer.{Answer}
@@ -22,11 +21,6 @@ use Rattle.match_runs.specs.declared.faults.RunFault.{RunFault}
 use Rattle.match_runs.specs.declared.faults.RunFault.TheVariants as runs
 use Rattle.match_runs.specs.declared.printing_runs.Printing.{Printing}
 use Rattle.match_runs.specs.declared.printing_runs.Printing.TheVariants as printings
-
--- The text is the list's: of version 1 where that has the numbers for it, else of version 2.
-pub record IsListText (rows : List (List Placement)) (text : List ℕ) : Type 0 where
-  pub first : IsListWithin FIRST rows → text ≡ list_spelling 1 rows
-  pub second : (IsListWithin FIRST rows → ⊥) → text ≡ list_spelling 2 rows
 
 -- These are all arrangements of the puzzle, each once, in the order of the closure of the list, and they can be listed.
 pub record AreAllInOrder (question : Question) (all : List (List Placement)) : Type 0 where

@@ -5,17 +5,15 @@ use Rattle.match_puzzle.specs.Puzzle.{Task}
 use Rattle.match_puzzle.specs.declared.placements.Placement.{Placement}
 use Rattle.match_text.specs.Puzzles.{PuzzleReads}
 use Rattle.cert_tree.specs.Certificate.{Contents}
-use Rattle.cert_tree.specs.CertificateSpelling.{IsCertificateWithin, certificate_spelling}
-use Rattle.cert_tree.specs.Writing.{said_by}
 use Rattle.match_report.specs.BoardText.{board_text}
 use Rattle.match_report.specs.TallyText.{tally_text}
 use Rattle.xcc_form.specs.Options.{HasTooManyEntries}
+use Rattle.check_crew.specs.Texts.{IsCertificateText, IsListText}
 use Rattle.match_crew.specs.Solving.{IsSolvedBy}
 use Rattle.match_crew.specs.declared.faults.SolveFault.TheVariants as solves
 use Rattle.byte_streams.specs.declared.outputs.Products.{Products}
 use Rattle.match_runs.specs.Describing.{DescribeFails}
 use Rattle.match_show.specs.Facts.{number_line}
-use Rattle.match_runs.specs.Printing.{IsListText}
 use Rattle.match_runs.specs.declared.faults.RunFault.{RunFault}
 use Rattle.match_runs.specs.declared.faults.RunFault.TheVariants as runs
 
@@ -33,11 +31,6 @@ report_text p listed lemmas tally =
 -- the numbers that each worker took
 abbrev pub shares_of : List (Vec ℕ Global) → List (List ℕ)
 shares_of tally = map (λ (taken : Vec ℕ Global). taken.items) tally
-
--- The text is the certificate's: of version 1 where that has the numbers for it, else of version 2.
-pub record IsCertificateText (c : Contents) (text : List ℕ) : Type 0 where
-  pub first : IsCertificateWithin (said_by 1 c) → text ≡ certificate_spelling (said_by 1 c)
-  pub second : (IsCertificateWithin (said_by 1 c) → ⊥) → text ≡ certificate_spelling (said_by 2 c)
 
 -- The text spells a puzzle, and this is made of it by so many workers: the spellings of arrangements of it and of a
 -- certificate, and the report on them.

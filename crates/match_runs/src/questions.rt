@@ -14,7 +14,7 @@ use crate::faults::RunFault;
 use byte_streams::Documents;
 use cert_check::Question;
 use cert_tree::{CertTextFault, Certificate, read_certificate};
-use match_crew::read_certificate_with;
+use match_crew::{ReadTexts, read_texts_with};
 use match_puzzle::{Arrangement, Puzzle};
 use match_text::{read_list, read_puzzle};
 use std::alloc::Global;
@@ -94,7 +94,7 @@ pub fn read_question(alloc: Global, documents: &Documents<'_>) -> Result<OwnedQu
     with_certificate(documents, puzzle, listed, certificate)
 }
 
-/// The same, of which the certificate is read by so many workers.
+/// The same, of which the certificate is read by so many workers, beside the list.
 pub fn read_question_with<R: Threads + Sync>(
     rt: &R,
     alloc: Global,
@@ -108,7 +108,10 @@ pub fn read_question_with<R: Threads + Sync>(
     ensures fault { IfErr result (CheckFails (texts_of documents.now)) }
 {
     let puzzle = read_puzzle(alloc, documents.puzzle)?;
-    let listed = read_list(alloc, documents.list)?;
-    let certificate = read_certificate_with(rt, alloc, documents.certificate, workers);
+    let ReadTexts {
+        listed,
+        certificate,
+    } = read_texts_with(rt, alloc, documents.list, documents.certificate, workers)?;
+    let listed = listed?;
     with_certificate(documents, puzzle, listed, certificate)
 }

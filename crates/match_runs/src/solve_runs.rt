@@ -20,10 +20,10 @@ use byte_streams::{
 use cert_tree::Certificate;
 use command_words::{Depth, Fuel, Workers};
 use match_board::limits::MOST_WORKERS;
-use match_crew::{Solved, Unwatched, solve_watched, write_certificate_with};
+use match_crew::{Solved, Unwatched, solve_watched, write_texts_with};
 use match_puzzle::{Arrangement, Puzzle};
 use match_report::{Taken, write_board, write_tally};
-use match_text::{put_number_line, read_puzzle, write_list};
+use match_text::{put_number_line, read_puzzle};
 use std::alloc::{AllocError, Global};
 use std::sync::Wait;
 use std::thread::Threads;
@@ -162,13 +162,12 @@ fn make_products<R: Threads + Wait + Sync, T: SolveWatch + Sync>(
         watch,
     )?;
     let shares = shares(alloc, tally)?;
-    let list = write_list(alloc, &listed)?;
-    let text = write_certificate_with(rt, alloc, &certificate, search.workers.get() as u8)?;
+    let texts = write_texts_with(rt, alloc, &listed, &certificate, search.workers.get() as u8)?;
     let report = report_on(alloc, &puzzle, &listed, &certificate, &shares)?;
-    watch.made(list.len(), text.len());
+    watch.made(texts.list.len(), texts.certificate.len());
     let made = Products {
-        list: MadeText::new(list),
-        certificate: MadeText::new(text),
+        list: MadeText::new(texts.list),
+        certificate: MadeText::new(texts.certificate),
         report: MadeText::new(report),
     };
     Ok((made, ()))

@@ -9,7 +9,8 @@ use Rattle.puzzle_symmetry.specs.Complete.{IsCompleteList}
 use Rattle.cert_check.specs.Setting.{Question, motions_of}
 use Rattle.symmetry_orbits.specs.Closure.{AddsEach}
 use Rattle.symmetry_orbits.specs.Expansion.{AreMoreReached, IsExpansion, Takes}
-use Rattle.match_runs.specs.Printing.{AreAllInOrder, IsListText}
+use Rattle.check_crew.specs.Texts.{IsListText}
+use Rattle.match_runs.specs.Printing.{AreAllInOrder}
 use Rattle.match_runs.specs.declared.printing_runs.Printing.TheVariants.{All}
 use Rattle.match_runs.proofs.RepetitionLemmas.{closure_all}
 use Rattle.match_runs.proofs.RunLemmas.{all_in_order, all_within, expand_fails, kept_are, kept_reach}

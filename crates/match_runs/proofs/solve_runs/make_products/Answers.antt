@@ -4,8 +4,8 @@ use Rattle.match_puzzle.specs.declared.placements.Placement.{Placement}
 use Rattle.match_text.specs.Puzzles.{PuzzleReads}
 use Rattle.match_puzzle.specs.Arrangement.{AreArrangements}
 use Rattle.match_crew.specs.Solving.{IsSolvedBy}
-use Rattle.match_runs.specs.Printing.{IsListText}
-use Rattle.match_runs.specs.Solving.{IsCertificateText, report_text}
+use Rattle.check_crew.specs.Texts.{IsCertificateText, IsListText}
+use Rattle.match_runs.specs.Solving.{report_text}
 use Rattle.match_runs.proofs.solve_runs.make_products.Goals as goal
 
 pub report_on-requires-clause-arrangements : goal.report_on-requires-clause-arrangements
@@ -23,8 +23,7 @@ returns g c =
     let p = c.in_ok-puzzle.puzzle in
     let solved = c.in_ok-listed.field-0 in
     let lemmas = length solved.certificate.lemmas in
-    let list = c.in_ok-list in
-    let certificate = c.in_ok-text in
+    let texts = c.in_ok-texts in
     record {
       puzzle = p;
       puzzle_read = subst (λ (t : List ℕ). PuzzleReads t (Ok p)) c.bytes.ensures.bytes c.in_ok-puzzle.ensures.exact;
@@ -33,10 +32,8 @@ returns g c =
       contents = solved.certificate;
       solved = subst (λ n. IsSolvedBy p n solved.list.items solved.tally.items solved.certificate) c.get-3.ensures.number c.in_ok-listed.ensures.solved;
       list_text = subst (IsListText solved.list.items) (sym c.new.ensures)
-          (subst (λ (l : List (List Placement)). IsListText l list.list.items) c.deref.ensures.value
-          (record { first = list.ensures.first; second = list.ensures.second }));
-      certificate_text = subst (IsCertificateText solved.certificate) (sym c.new-2.ensures)
-          (record { first = certificate.ensures.first; second = certificate.ensures.second });
+          (subst (λ (l : List (List Placement)). IsListText l texts.texts.list.items) c.deref.ensures.value texts.ensures.list);
+      certificate_text = subst (IsCertificateText solved.certificate) (sym c.new-2.ensures) texts.ensures.certificate;
       report = c.new-3.ensures ∙ c.in_ok-report.ensures
           ∙ ap (λ l. report_text p l lemmas c.deref-3.result.now) c.deref-2.ensures.value
           ∙ ap (λ s. report_text p solved.list.items lemmas s) (c.deref-3.ensures.value ∙ c.in_ok-shares.ensures);
