@@ -49,14 +49,14 @@ Example:
   edgematch check puzzle list certificate --workers 4";
 
 const SOLVED: &str = "\
-Makes LIST and CERTIFICATE anew, whatever they held: the list of the puzzle's arrangements, and \
-the certificate that there is no other, both as check reads them. Prints how many arrangements \
-were found, how many lemmas the certificate has, which of these each worker took, and the first \
-arrangement. With --progress it says meanwhile how far it is.
+Makes LIST and CERTIFICATE: the list of the puzzle's arrangements, and the certificate that there is \
+no other, both as check reads them. Prints how many arrangements were found, how many lemmas the \
+certificate has, which of these each worker took, and the first arrangement. With --progress it says \
+meanwhile how far it is.
 
-With --keep the two are made beside their names, as LIST.part and CERTIFICATE.part, and renamed once \
-both are written, so that after any fault until then, gave up included, what stood there stands. \
-Where there is a .part already, it says cannot write.
+The two are made beside their names and renamed once both are written, so that after any fault until \
+then, gave up included, what stood there stands. --keep, which asked for that once, says nothing more. \
+Links are followed, modes kept, and devices and pipes written directly.
 
 With a depth of 1 or more it looks for symmetries of the puzzle first, makes lemmas of at most 64 \
 branches of so many levels, and cites these, and their images, instead of searching again: most \
@@ -67,7 +67,7 @@ workers share the branches. What is found is the same in any case, in another or
 The fuel is the most branch nodes that are made for one lemma: cells or tiles at which it is tried \
 what fits. Where more than one worker searches, or the depth isn't 0, a lemma that is short of fuel \
 makes further lemmas of its branches. Where the fuel runs out all the same, it says gave up, and \
-nothing is written, so that both files are empty, or with --keep as they were. Then give more fuel, \
+nothing is written, and both files are as they were. Then give more fuel, \
 up to 1000000, or a greater depth, up to 3, or take a smaller puzzle. Where it says too many \
 arrangements, a greater depth may help too: of those that are images of each other it lists fewer. \
 Where it says too many options, which show tells before, only a smaller puzzle helps.
