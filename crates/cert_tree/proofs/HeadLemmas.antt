@@ -54,7 +54,7 @@ heads_of-rest tree other rest others e =
 
 -- ---- which heads are those of trees
 
-heads_in-join : (trees others : Forest) → heads_in (join trees others) ≡ heads_in trees ++ heads_in others
+pub heads_in-join : (trees others : Forest) → heads_in (join trees others) ≡ heads_in trees ++ heads_in others
 heads_in-join none others = refl
 heads_in-join (more tree trees) others = ap (λ xs. heads_of tree ++ xs) (heads_in-join trees others) ∙ sym (append_assoc (heads_of tree) (heads_in trees) (heads_in others))
 

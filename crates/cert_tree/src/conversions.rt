@@ -106,7 +106,7 @@ pub(crate) fn flat_lemmas(alloc: Global, lemmas: &[Lemma]) -> Result<Lemmas, All
 // The first tree as a node, and the walk goes past it.
 #[cycle(building)]
 #[tactic(auto, using(crate::proofs::TreeLemmas::tree_laws))]
-fn first_node(alloc: Global, trees: &mut Trees<'_>) -> Result<Node, AllocError>
+pub(crate) fn first_node(alloc: Global, trees: &mut Trees<'_>) -> Result<Node, AllocError>
     requires { trees.old ≢ none }
     ensures node { IfOk result (λ node. tree_of node ≡ first trees.old) }
     ensures past { OnOk result (trees.new ≡ past 1 trees.old) }

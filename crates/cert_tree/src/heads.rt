@@ -31,15 +31,25 @@ const _: () = prove!(size_of::<Head>() == 8);
 
 impl Head {
     ghost use Rattle.std.specs.Prelude.{◌≡◌};
-    ghost use Rattle.cert_tree.specs.Heads.{arity, branch_head};
+    ghost use Rattle.cert_tree.specs.Heads.{arity, branch_head, dead_head};
 
-    // A branch on the item, with so many children.
-    pub(crate) fn branch(item: Item, children: u32) -> Head
+    /// A branch on the item, with so many children.
+    pub fn branch(item: Item, children: u32) -> Head
         ensures { result ≡ branch_head item children }
     {
         match item {
             Item::Cell(cell) => Head::Cell { cell, children },
             Item::Tile(tile) => Head::Tile { tile, children },
+        }
+    }
+
+    /// A dead end at the item.
+    pub fn dead(item: Item) -> Head
+        ensures { result ≡ dead_head item }
+    {
+        match item {
+            Item::Cell(cell) => Head::DeadCell(cell),
+            Item::Tile(tile) => Head::DeadTile(tile),
         }
     }
 

@@ -13,6 +13,7 @@ mod heads;
 mod laws;
 mod nodes;
 mod packed_lemmas;
+mod packed_trees;
 mod parts;
 mod readers;
 mod spellings;
@@ -29,6 +30,7 @@ pub use heads::Head;
 pub use laws::{certificate_laws, head_laws, lemma_laws};
 pub use nodes::{Children, Node};
 pub use packed_lemmas::PackedLemma;
+pub use packed_trees::PackedTree;
 pub use parts::{CutCertificate, LemmaPart, cut_certificate};
 pub use readers::{read_certificate, read_lemma};
 pub use spellings::{

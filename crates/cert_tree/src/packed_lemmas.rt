@@ -3,8 +3,7 @@
 use crate::certificates::Lemma;
 use crate::conversions::put_node;
 use crate::flat_lemmas::FlatLemma;
-use crate::flat_trees::FlatTree;
-use crate::heads::Head;
+use crate::packed_trees::PackedTree;
 use match_puzzle::Pair;
 use std::alloc::{AllocError, Global};
 use std::marker::Model;
@@ -15,7 +14,7 @@ use std::marker::Model;
 pub struct PackedLemma {
     number: u32,
     pairs: Vec<Pair>,
-    heads: Vec<Head>,
+    tree: PackedTree,
 }
 
 impl Model for PackedLemma {
@@ -28,15 +27,7 @@ impl Model for PackedLemma {
 
     ghost coded = { Prim.hlevel (codes, tree_code head.the_row.coded) };
 
-    ghost use Rattle.cert_tree.specs.Heads.{trees_in, first, AreOfTree};
-
-    ghost view = { λ l. record {
-      number = l.number;
-      prefix = l.pairs.items;
-      tree = first (trees_in l.heads.items);
-    } };
-
-    ghost invariant = { λ l. AreOfTree l.heads.items };
+    ghost view = { λ l. record { number = l.number; prefix = l.pairs.items; tree = l.tree } };
 }
 
 impl PackedLemma {
@@ -44,7 +35,17 @@ impl PackedLemma {
     ghost use Rattle.match_text.specs.declared.ranges.TheConstants.{SECOND};
     ghost use Rattle.cert_tree.specs.Certificate.{flat_piece, piece_of};
     ghost use Rattle.cert_tree.specs.CertificateSpelling.{IsLemmaWithin};
-    ghost use Rattle.cert_tree.specs.Heads.{trees_in, first, AreOfTree};
+
+    /// The lemma with this number, these pairs and this tree.
+    pub fn new(number: u32, pairs: Vec<Pair>, tree: PackedTree) -> PackedLemma
+        ensures { result ≡ record { number = number; prefix = pairs.items; tree = tree } }
+    {
+        PackedLemma {
+            number,
+            pairs,
+            tree,
+        }
+    }
 
     /// An equal lemma that lies flat, laid out by a loop over the nodes.
     pub fn of(alloc: Global, lemma: &Lemma) -> Result<PackedLemma, AllocError>
@@ -54,19 +55,7 @@ impl PackedLemma {
         let pairs = Vec::from_slice(alloc, lemma.prefix.as_slice())?;
         let mut heads = Vec::new(alloc);
         put_node(&mut heads, &lemma.tree)?;
-        Ok(PackedLemma::made(lemma.number, pairs, heads))
-    }
-
-    // The lemma with these pairs and these heads.
-    fn made(number: u32, pairs: Vec<Pair>, heads: Vec<Head>) -> PackedLemma
-        requires { AreOfTree heads.items }
-        ensures { result ≡ record { number = number; prefix = pairs.items; tree = first (trees_in heads.items) } }
-    {
-        PackedLemma {
-            number,
-            pairs,
-            heads,
-        }
+        Ok(PackedLemma::new(lemma.number, pairs, PackedTree::of(heads)))
     }
 
     /// The lemma as one of a certificate, whose pairs and heads stay where they lie.
@@ -76,7 +65,7 @@ impl PackedLemma {
         FlatLemma {
             number: self.number,
             prefix: &self.pairs,
-            tree: FlatTree::of(&self.heads),
+            tree: self.tree.lend(),
         }
     }
 }

@@ -18,6 +18,7 @@ use crate::flat_lemmas::{FlatLemma, Lemmas};
 use crate::flat_trees::Trees;
 use crate::heads::Head;
 use crate::nodes::Node;
+use crate::packed_lemmas::PackedLemma;
 use match_board::limits::{
     LAST_ARRANGEMENT, LAST_LEMMA, LAST_SIDE, LAST_SYMMETRY, LAST_TURN, MOST_COLOURS,
     MOST_SYMMETRIES,
@@ -267,6 +268,25 @@ impl Lemma {
             ((text : List ℕ) → lemma_of text ≢ Ok (piece_of self.now)) }
     {
         is_lemma_within(&SECOND, self)
+    }
+}
+
+impl PackedLemma {
+    ghost use Rattle.std.specs.Prelude.{MatchBool};
+    ghost use Rattle.match_text.specs.declared.ranges.TheConstants.{SECOND};
+    ghost use Rattle.cert_tree.specs.CertificateSpelling.{IsLemmaWithin};
+    ghost use Rattle.cert_tree.specs.TreeSpelling.{IsTreeWithin};
+
+    /// Whether the lemma has a spelling, where its tree is known to be within the limits: number and prefix alone are
+    /// looked at.
+    pub fn prefix_within_limits(&self) -> bool
+        requires { IsTreeWithin SECOND SECOND.most_levels self.now.tree }
+        ensures { MatchBool result (IsLemmaWithin SECOND self.now) (IsLemmaWithin SECOND self.now → ⊥) }
+    {
+        let lemma = self.lend();
+        lemma.number <= LAST_LEMMA
+            && (lemma.prefix.len() <= usize::from(SECOND.most_cells)
+                && are_pairs_within(&SECOND, lemma.prefix))
     }
 }
 
