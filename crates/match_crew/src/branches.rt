@@ -4,7 +4,6 @@ ghost use Rattle.std.specs.Prelude.{◌≡◌, true, IfOk};
 ghost use Rattle.match_puzzle.specs.Fitting.{Fits};
 ghost use Rattle.match_puzzle.specs.Placing.{FitInTurn};
 
-use cert_tree::Pairs;
 use match_puzzle::{Pair, Partial, Puzzle};
 use std::alloc::{AllocError, Global};
 
@@ -39,8 +38,8 @@ fn fits(puzzle: &Puzzle, partial: &Partial<'_>, pair: Pair) -> bool
 }
 
 // The same pairs by cell, as a lemma's prefix has them.
-pub fn prefix_of(alloc: Global, pairs: &[Pair]) -> Result<Pairs, AllocError> {
+pub fn rising_by_cell(alloc: Global, pairs: &[Pair]) -> Result<Vec<Pair>, AllocError> {
     let mut rising = pairs.to_vec(alloc)?;
     rising.sort_unstable_by_key(|pair| pair.cell);
-    Ok(Pairs::new(rising))
+    Ok(rising)
 }

@@ -7,13 +7,14 @@ ghost use Rattle.steal_crew.specs.LiveHands.{Gave};
 ghost use Rattle.match_puzzle.specs.Arrangement.{IsArrangement, AreArrangements};
 ghost use Rattle.match_text.specs.declared.ranges.TheConstants.{SECOND};
 ghost use Rattle.cert_tree.specs.CertificateSpelling.{IsLemmaWithin};
-ghost use Rattle.match_crew.specs.Solving.{IsOutcomeOf};
+ghost use Rattle.cert_tree.specs.TreeSpelling.{IsTreeWithin};
+ghost use Rattle.match_crew.specs.Solving.{IsOutcomeOf, IsTreeWithinWith};
 
-use crate::branches::{OpenBranch, fit_in_turn, prefix_of};
+use crate::branches::{OpenBranch, fit_in_turn, rising_by_cell};
 use crate::choices::Choices;
 use crate::shared::Shared;
 use crate::watches::{Counted, Watch, tell_rest};
-use cert_tree::{Lemma, Node, PackedLemma};
+use cert_tree::{PackedLemma, PackedTree};
 use match_board::limits::{MOST_ARRANGEMENTS, MOST_FUEL};
 use match_puzzle::{Arrangement, Pair};
 use piece_desk::{FlatDesk, FlatReceipt};
@@ -21,7 +22,7 @@ use std::alloc::AllocError;
 use std::sync::Wait;
 use std::sync::atomic::{AtomicBool, Ordering};
 use steal_crew::{Hand, LiveWork};
-use xcc_dance::{Cites, OpenSets, Outcome, SearchFault, SearchOver};
+use xcc_dance::{Cites, OpenSets, PackedOutcome, SearchFault, SearchOver};
 use xcc_form::Xcc;
 
 // What an open branch came to.
@@ -53,7 +54,7 @@ pub struct Searches<'a, T: Wait, W: Watch> {
 // A tree, and the arrangements that it numbers.
 #[derive(Drop)]
 struct Finished {
-    tree: Node,
+    tree: PackedTree,
     found: Vec<Arrangement>,
 }
 
@@ -63,6 +64,7 @@ impl<'a, T: Wait, W: Watch> Searches<'a, T, W> {
         requires takes { (asked : List PlacedPair) → C.takes cites.old asked }
         ensures found { IfOk result (λ o. IfSome o
             (λ f. AreArrangements self.now.xcc.now.puzzle f.found.items)) }
+        ensures tree { IfOk result (λ o. IfSome o (λ f. IsTreeWithinWith f.found.items f.tree)) }
         ensures moved { C.moves cites.old cites.new }
     {
         let shared = self.shared;
@@ -77,8 +79,8 @@ impl<'a, T: Wait, W: Watch> Searches<'a, T, W> {
             &shared.plan.item_rule,
             cites,
         ) {
-            Ok(Outcome::Done { tree, found }) => Ok(Some(Finished { tree, found })),
-            Ok(Outcome::GaveUp) => Ok(None),
+            Ok(PackedOutcome::Done { tree, found }) => Ok(Some(Finished { tree, found })),
+            Ok(PackedOutcome::GaveUp) => Ok(None),
             // it did not run before
             Err(SearchFault::Failed) => unreachable!(),
             Err(SearchFault::Memory) => Err(AllocError),
@@ -94,6 +96,7 @@ impl<'a, T: Wait, W: Watch> Searches<'a, T, W> {
     ) -> Result<Option<Finished>, AllocError>
         ensures found { IfOk result (λ o. IfSome o
             (λ f. AreArrangements self.now.xcc.now.puzzle f.found.items)) }
+        ensures tree { IfOk result (λ o. IfSome o (λ f. IsTreeWithinWith f.found.items f.tree)) }
         ensures gave { Gave hand.old hand.new }
     {
         if self.shared.is_alone() {
@@ -121,32 +124,28 @@ impl<'a, T: Wait, W: Watch> Searches<'a, T, W> {
         finished
     }
 
-    // The lemma with this number, laid out flat, if it is within the limits of a lemma's text. Its nodes are dropped here,
-    // by the worker that made them.
+    // The lemma with this number, if number and prefix are within the limits of a lemma's text.
     fn packed(
         &self,
         number: u32,
         pairs: &[Pair],
-        tree: Node,
+        tree: PackedTree,
     ) -> Result<Option<PackedLemma>, AllocError>
+        requires { IsTreeWithin SECOND SECOND.most_levels tree }
         ensures { IfOk result (λ o. IfSome o (IsLemmaWithin SECOND)) }
     {
-        let prefix = prefix_of(self.shared.alloc, pairs)?;
-        let lemma = Lemma {
-            number,
-            prefix,
-            tree,
-        };
-        if !lemma.within_limits() {
+        let prefix = rising_by_cell(self.shared.alloc, pairs)?;
+        let lemma = PackedLemma::new(number, prefix, tree);
+        if !lemma.prefix_within_limits() {
             return Ok(None);
         }
-        let packed = PackedLemma::of(self.shared.alloc, &lemma)?;
-        Ok(Some(packed))
+        Ok(Some(lemma))
     }
 
     // Puts the lemma with this number on the desk.
     fn post(&self, number: u32, pairs: &[Pair], finished: Finished) -> Result<Searched, AllocError>
-        requires { AreArrangements self.now.xcc.now.puzzle finished.found.items }
+        requires found { AreArrangements self.now.xcc.now.puzzle finished.found.items }
+        requires tree { IsTreeWithinWith finished.found.items finished.tree }
         ensures { IfOk result (IsOutcomeOf self.now.xcc.now.puzzle self.now.desk.now) }
     {
         let Finished { tree, found } = finished;

@@ -1,12 +1,14 @@
 -- A tree that grows child by child, and what is found with it.
-use Rattle.std.proofs.Common.{◌≡◌, ◌≤◌, ◌+◌, ◌-◌, ◌++◌, ◌∷◌, [], ℕ, zero, suc, List, Option, None, Some, slice_get, MatchOption, refl, length, arith, subst}
+use Rattle.std.proofs.Common.{◌≡◌, ◌≤◌, ◌+◌, ◌-◌, ◌++◌, ◌∷◌, [], ℕ, zero, suc, List, Option, None, Some, slice_get, MatchOption, refl, length, arith, subst, ap, ◌∙◌}
 use Rattle.std.proofs.lemmas.List.Elements.{Contains-append_left}
 use Rattle.std.proofs.lemmas.Option.{none-some}
 use Rattle.xcc_form.specs.Options.{cover_of}
 use Rattle.xcc_dance.specs.Clashes.{IsOpenAt}
 use Rattle.match_puzzle.specs.declared.placements.Placement.{Placement}
-use Rattle.cert_tree.specs.Tree.{Tree, Forest, branch, dead, found, same, image, none, more, tree_of, forest_of}
-use Rattle.cert_tree.specs.declared.nodes.Node.{Node}
+use Rattle.std.proofs.lemmas.List.{append-nil}
+use Rattle.cert_tree.specs.Heads.{heads_in, heads_of, join}
+use Rattle.cert_tree.specs.Tree.{Tree, Forest, branch, dead, found, same, image, none, more}
+use Rattle.cert_tree.proofs.HeadLemmas.{heads_in-join}
 use Rattle.xcc_dance.specs.Chosen.{Selection, with_option, IsNext, IsLast}
 use Rattle.xcc_dance.specs.Progress.{AreKept}
 use Rattle.xcc_dance.specs.Found.{IsFoundFrom, branch_count, branch_total, IsFoundBelow, AreFoundBelow}
@@ -16,9 +18,16 @@ abbrev pub left_after : (options : ℕ) → (next : Option ℕ) → ℕ
 left_after options None = 0
 left_after options (Some option) = options - option
 
-pub total_more : (nodes : List Node) (node : Node) → branch_total (forest_of (nodes ++ node ∷ [])) ≡ branch_total (forest_of nodes) + branch_count (tree_of node)
-total_more [] node = omega arith
-total_more (x ∷ nodes) node = let h = total_more nodes node in omega (arith, h)
+-- these trees, and then this one
+abbrev pub with_last : Forest → Tree → Forest
+with_last trees tree = join trees (more tree none)
+
+pub total_more : (trees : Forest) (tree : Tree) → branch_total (with_last trees tree) ≡ branch_total trees + branch_count tree
+total_more none tree = omega arith
+total_more (more t trees) tree = let h = total_more trees tree in omega (arith, h)
+
+pub heads_more : (trees : Forest) (tree : Tree) → heads_in (with_last trees tree) ≡ heads_in trees ++ heads_of tree
+heads_more trees tree = heads_in-join trees (more tree none) ∙ ap (λ xs. heads_in trees ++ xs) (append-nil (heads_of tree))
 
 mutual
   pub below_up : (m n : ℕ) → m ≤ n → (t : Tree) → IsFoundBelow m t → IsFoundBelow n t
@@ -32,9 +41,9 @@ mutual
   all_up m n le none h = tt
   all_up m n le (more t ts) h = (below_up m n le t h.0, all_up m n le ts h.1)
 
-pub all_more : (n : ℕ) (nodes : List Node) (node : Node) → AreFoundBelow n (forest_of nodes) → IsFoundBelow n (tree_of node) → AreFoundBelow n (forest_of (nodes ++ node ∷ []))
-all_more n [] node h b = (b, tt)
-all_more n (x ∷ nodes) node h b = (h.0, all_more n nodes node h.1 b)
+pub all_more : (n : ℕ) (trees : Forest) (tree : Tree) → AreFoundBelow n trees → IsFoundBelow n tree → AreFoundBelow n (with_last trees tree)
+all_more n none tree h b = (b, tt)
+all_more n (more t trees) tree h b = (h.0, all_more n trees tree h.1 b)
 
 -- what is found after one more choice is found before it
 pub found_before : (s : Selection) (option : ℕ) (a : List Placement) → IsFoundFrom (with_option s option) a → IsFoundFrom s a

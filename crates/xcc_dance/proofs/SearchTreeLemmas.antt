@@ -6,19 +6,17 @@ use Rattle.match_puzzle.specs.declared.placements.Pair.{Pair}
 use Rattle.match_puzzle.specs.declared.items.Item.{Item}
 use Rattle.xcc_form.specs.Options.{cover_of}
 use Rattle.xcc_form.specs.Correspondence.{IsSolutionOf}
-use Rattle.cert_tree.specs.Tree.{Tree, Forest, branch, dead, found, same, image, none, more, count, tree_of, forest_of}
-use Rattle.cert_tree.specs.declared.nodes.Node.{Node, Found}
-use Rattle.cert_tree.proofs.TreeLemmas.{tree_of-Found}
+use Rattle.cert_tree.specs.Tree.{Tree, Forest, branch, dead, found, same, image, none, more, count}
 use Rattle.xcc_dance.specs.Clashes.{IsOpenAt}
 use Rattle.xcc_dance.specs.Chosen.{Selection, AreOpenAt, HasSize, with_option}
 use Rattle.match_puzzle.specs.Fitting.{IsNumberOf}
-use Rattle.xcc_dance.specs.Found.{IsDeadAt, IsBranchOn, branch_total}
+use Rattle.xcc_dance.specs.Found.{branch_total}
 use Rattle.xcc_dance.specs.Progress.{AreKept}
 use Rattle.xcc_dance.specs.SearchTree.{Picks, Answers, IsAbout, IsSearchTree, AreChildren, IsChild, AreBranchesOf}
 use Rattle.xcc_dance.specs.Unfinished.{wanted, begun, IsNotCited, IsPartOfSearch, IsUnfinished, AreUnfinished}
 use Rattle.xcc_dance.specs.declared.cites.Cite.{Cite}
 use Rattle.xcc_dance.proofs.SizeLemmas.{AreOpenBefore}
-use Rattle.xcc_dance.proofs.GrowingLemmas.{last_at}
+use Rattle.xcc_dance.proofs.GrowingLemmas.{last_at, with_last}
 
 -- What was answered stays answered.
 abbrev pub StayAnswered : Answers → Answers → Type 0
@@ -61,19 +59,19 @@ module _ (picks : Picks) where
     children_count (option ∷ options) (more tree trees) w = let h = children_count options trees w.1 in omega (arith, h)
 
     -- one child more, the last
-    pub child_more : (options : List ℕ) (nodes : List Node) (option : ℕ) (node : Node) → AreChildren picks answers all s options (forest_of nodes) → IsChild picks answers all (with_option s option) (tree_of node) → AreChildren picks answers all s (options ++ option ∷ []) (forest_of (nodes ++ node ∷ []))
-    child_more [] [] option node w c = (c, tt)
-    child_more [] (x ∷ nodes) option node w c = absurd w
-    child_more (o ∷ options) [] option node w c = absurd w
-    child_more (o ∷ options) (x ∷ nodes) option node w c = (w.0, child_more options nodes option node w.1 c)
+    pub child_more : (options : List ℕ) (trees : Forest) (option : ℕ) (tree : Tree) → AreChildren picks answers all s options trees → IsChild picks answers all (with_option s option) tree → AreChildren picks answers all s (options ++ option ∷ []) (with_last trees tree)
+    child_more [] none option tree w c = (c, tt)
+    child_more [] (more t trees) option tree w c = absurd w
+    child_more (o ∷ options) none option tree w c = absurd w
+    child_more (o ∷ options) (more t trees) option tree w c = (w.0, child_more options trees option tree w.1 c)
 
     pub branches_count : (item : ℕ) (children : Forest) → AreBranchesOf picks answers all s item children → HasSize (cover_of s.compiled) s.chosen item (count children)
     branches_count item children w = (w.0, w.1, children_count w.0 children w.2)
 
     -- ---- the node of these choices
 
-    pub found_searched : (before : List (List Placement)) (number : ℕ) (a : List Placement) → number ≡ length before → all ≡ before ++ a ∷ [] → IsSolutionOf s.compiled a s.chosen → IsSearchTree picks answers all s (tree_of (Found number))
-    found_searched before number a is e solution = subst (IsSearchTree picks answers all s) (sym (tree_of-Found number))
+    pub found_searched : (before : List (List Placement)) (number : ℕ) (a : List Placement) → number ≡ length before → all ≡ before ++ a ∷ [] → IsSolutionOf s.compiled a s.chosen → IsSearchTree picks answers all s (found number)
+    found_searched before number a is e solution =
         (a, subst (λ xs. slice_get xs number ≡ Some a) (sym e) (subst (λ n. slice_get (before ++ a ∷ []) n ≡ Some a) (sym is) (last_at before a)), solution)
 
     about : (cells number : ℕ) (item : Item) → cells ≡ cell_count s.compiled.puzzle.board → picks s number → IsNumberOf cells number item → IsAbout picks s number item
@@ -83,13 +81,11 @@ module _ (picks : Picks) where
     none_open number [] open_at e = open_at
     none_open number (option ∷ options) open_at e = absurd (omega (arith, e))
 
-    pub dead_searched : (cells number : ℕ) (tree : Tree) → cells ≡ cell_count s.compiled.puzzle.board → picks s number → HasSize (cover_of s.compiled) s.chosen number 0 → IsDeadAt cells number tree → IsSearchTree picks answers all s tree
-    dead_searched cells number tree e picked none_left is = subst (IsSearchTree picks answers all s) (sym is.2)
-        (number, about cells number is.0 e picked is.1, none_open number none_left.0 none_left.1 none_left.2)
+    pub dead_searched : (cells number : ℕ) (item : Item) → cells ≡ cell_count s.compiled.puzzle.board → picks s number → HasSize (cover_of s.compiled) s.chosen number 0 → IsNumberOf cells number item → IsSearchTree picks answers all s (dead item)
+    dead_searched cells number item e picked none_left is = (number, about cells number item e picked is, none_open number none_left.0 none_left.1 none_left.2)
 
-    pub branch_searched : (cells number : ℕ) (children : Forest) (tree : Tree) → cells ≡ cell_count s.compiled.puzzle.board → picks s number → AreBranchesOf picks answers all s number children → IsBranchOn cells number children tree → IsSearchTree picks answers all s tree
-    branch_searched cells number children tree e picked branches is = subst (IsSearchTree picks answers all s) (sym is.2)
-        (number, about cells number is.0 e picked is.1, branches)
+    pub branch_searched : (cells number : ℕ) (item : Item) (children : Forest) → cells ≡ cell_count s.compiled.puzzle.board → picks s number → AreBranchesOf picks answers all s number children → IsNumberOf cells number item → IsSearchTree picks answers all s (branch item children)
+    branch_searched cells number item children e picked branches is = (number, about cells number item e picked is, branches)
 
   -- ---- a search that isn't done
 

@@ -1,25 +1,48 @@
 -- How what is found grows from node to node.
-use Rattle.std.proofs.Common.{◌≡◌, ◌≢◌, ◌<◌, ◌≤◌, ◌+◌, ◌*◌, ◌++◌, ◌∷◌, [], ℕ, List, Some, length, length-append, Contains, slice_get, arith, refl, ap, sym, ◌∙◌, subst, inl, inr, ⊎_elim}
+use Rattle.std.proofs.Common.{◌≡◌, ◌≢◌, ◌<◌, ◌≤◌, ◌+◌, ◌*◌, ◌++◌, ◌∷◌, [], ℕ, List, Some, length, length-append, Contains, slice_get, append_assoc, Result, Ok, Err, Bool, true, false, IfOk, MatchBool, arith, ap, sym, ◌∙◌, subst, inl, inr, ⊎_elim}
 use Rattle.std.proofs.lemmas.List.Elements.{Contains-push_cases}
 use Rattle.match_board.specs.declared.limits.TheConstants.{MOST_CELLS, MOST_CHILDREN}
 use Rattle.match_puzzle.specs.declared.placements.Placement.{Placement}
 use Rattle.xcc_form.specs.Options.{cover_of}
 use Rattle.xcc_form.specs.Correspondence.{IsSolutionOf}
 use Rattle.match_text.specs.declared.ranges.TheConstants.{SECOND}
-use Rattle.cert_tree.specs.Tree.{Tree, Forest, branch, count, tree_of, forest_of}
+use Rattle.match_puzzle.specs.Fitting.{IsNumberOf}
+use Rattle.match_puzzle.specs.declared.items.Item.{Item}
+use Rattle.cert_tree.specs.Tree.{Tree, Forest, branch, dead, found, none, more, count}
 use Rattle.cert_tree.specs.TreeSpelling.{IsTreeWithin}
-use Rattle.cert_tree.specs.declared.nodes.Node.{Node, Found}
-use Rattle.cert_tree.proofs.TreeLemmas.{tree_of-Found, count-forest_of}
+use Rattle.cert_tree.specs.Heads.{branch_head, heads_in, heads_of}
+use Rattle.cert_tree.specs.declared.heads.Head.{Head}
+use Rattle.cert_tree.proofs.HeadLemmas.{count-join}
+use Rattle.std.specs.declared.alloc.AllocError.{AllocError}
 use Rattle.xcc_dance.specs.Clashes.{IsOpen, IsOpenAt}
 use Rattle.xcc_dance.specs.Chosen.{Selection, IsSelection, HasSize, with_option}
-use Rattle.xcc_dance.specs.Found.{IsFoundFrom, IsDeadAt, IsBranchOn}
+use Rattle.xcc_dance.specs.Found.{IsFoundFrom}
 use Rattle.xcc_dance.specs.Progress.{GoesOn, IsTreeOf, AreTreesOf, levels_below}
 use Rattle.xcc_dance.specs.declared.progress.Progress.{Progress}
 use Rattle.xcc_dance.proofs.PartialLemmas.{one_more}
 use Rattle.xcc_dance.proofs.RoomLemmas.{few_chosen}
 use Rattle.xcc_dance.proofs.SizeLemmas.{AreOpenBefore, below_one, size_same, few_below, few_sized}
-use Rattle.xcc_dance.proofs.GrowingLemmas.{kept_push, total_more, all_up, all_more, found_before}
+use Rattle.xcc_dance.proofs.GrowingLemmas.{with_last, heads_more, kept_push, total_more, all_up, all_more, found_before}
 use Rattle.xcc_dance.proofs.WithinLemmas.{found_within, dead_within, branch_within, within_more_trees}
+
+-- ---- heads behind heads
+
+-- those of a branch
+pub branch_heads : (old before after : List Head) (head : Head) (item : Item) (size : ℕ) (children : Forest) → before ≡ old ++ head ∷ [] → head ≡ branch_head item size → size ≡ count children → after ≡ before ++ heads_in children → after ≡ old ++ heads_of (branch item children)
+branch_heads old before after head item size children pushed is sized put =
+    put ∙ ap (λ xs. xs ++ heads_in children) pushed ∙ append_assoc old (head ∷ []) (heads_in children)
+    ∙ ap (λ h. old ++ h ∷ heads_in children) (is ∙ ap (branch_head item) sized)
+
+-- those of one tree more
+pub more_heads : (old before after : List Head) (trees : Forest) (tree : Tree) → before ≡ old ++ heads_in trees → after ≡ before ++ heads_of tree → after ≡ old ++ heads_in (with_last trees tree)
+more_heads old before after trees tree put put' =
+    put' ∙ ap (λ xs. xs ++ heads_of tree) put ∙ append_assoc old (heads_in trees) (heads_of tree) ∙ ap (λ xs. old ++ xs) (sym (heads_more trees tree))
+
+-- whether the fuel did, each with more that is said of it
+pub either_way : {P P' Q Q' : Type 0} → (r : Result Bool AllocError) → (P → P') → (Q → Q') → IfOk r (λ done. MatchBool done P Q) → IfOk r (λ done. MatchBool done P' Q')
+either_way (Ok true) f g w = f w
+either_way (Ok false) f g w = g w
+either_way (Err e) f g w = tt
 
 module _ (start : Selection) where
   -- what goes on with one more option goes on without it
@@ -33,56 +56,56 @@ module _ (start : Selection) where
 
   -- one arrangement more, the one that stands there
   pub found_further : (before after : Progress) (a : List Placement) → after.found.items ≡ before.found.items ++ a ∷ [] → after.fuel ≡ before.fuel → IsSolutionOf start.compiled a start.chosen → GoesOn start before after
-  found_further before after a found fuel solution =
-      let long = ap length found ∙ length-append before.found.items (a ∷ []) in
+  found_further before after a items fuel solution =
+      let long = ap length items ∙ length-append before.found.items (a ∷ []) in
       record {
         fuel = omega (arith, fuel);
         more = omega (arith, long);
-        kept = λ n b at. subst (λ xs. slice_get xs n ≡ Some b) (sym found) (kept_push before.found.items a n b at);
+        kept = λ n b at. subst (λ xs. slice_get xs n ≡ Some b) (sym items) (kept_push before.found.items a n b at);
         found = λ b c. ⊎_elim (λ old. inl old)
             (λ e. inr (subst (IsFoundFrom start) e (record { solution = start.chosen; is_solution = solution; has_chosen = λ o h. h })))
-            (Contains-push_cases before.found.items a b (subst (λ xs. Contains xs b) found c));
+            (Contains-push_cases before.found.items a b (subst (λ xs. Contains xs b) items c));
       }
 
   -- the node of a found arrangement
-  pub leaf_tree : (before after : Progress) (number : ℕ) (a : List Placement) → number ≡ length before.found.items → after.found.items ≡ before.found.items ++ a ∷ [] → after.fuel ≡ before.fuel → IsTreeOf start before after (tree_of (Found number))
-  leaf_tree before after number a is found fuel =
-      subst (IsTreeOf start before after) (sym (tree_of-Found number))
-      (let long = ap length found ∙ length-append before.found.items (a ∷ []) in
+  pub leaf_tree : (before after : Progress) (number : ℕ) (a : List Placement) → number ≡ length before.found.items → after.found.items ≡ before.found.items ++ a ∷ [] → after.fuel ≡ before.fuel → IsTreeOf start before after (found number)
+  leaf_tree before after number a is items fuel =
+      let long = ap length items ∙ length-append before.found.items (a ∷ []) in
       record {
         spent = omega (arith, fuel);
         numbers = omega (arith, is, long);
         within = λ few. found_within (levels_below start) number (length after.found.items) (omega (arith, is, long)) few;
         few = omega (arith, long, fuel);
-      })
+      }
 
   -- the node of a dead end
-  pub dead_tree : (progress : Progress) (cells item : ℕ) (tree : Tree) → cells ≤ MOST_CELLS → item < 2 * cells → IsDeadAt cells item tree → IsTreeOf start progress progress tree
-  dead_tree progress cells item tree few lt is =
-      subst (IsTreeOf start progress progress) (sym is.2) (record { spent = omega arith; numbers = tt; within = λ few'. dead_within (levels_below start) cells item is.0 few lt is.1; few = omega arith })
+  pub dead_tree : (before after : Progress) (cells number : ℕ) (item : Item) → after.found.items ≡ before.found.items → after.fuel ≡ before.fuel → cells ≤ MOST_CELLS → number < 2 * cells → IsNumberOf cells number item → IsTreeOf start before after (dead item)
+  dead_tree before after cells number item items fuel few lt is =
+      let long = ap length items in
+      record { spent = omega (arith, fuel); numbers = tt; within = λ few'. dead_within (levels_below start) cells number item few lt is; few = omega (arith, long, fuel) }
 
   -- the node of a branch
-  pub branch_tree : (first before after : Progress) (cells item size : ℕ) (children : Forest) (tree : Tree) → IsSelection start.compiled start.chosen
-      → before.fuel + 1 ≡ first.fuel → before.found.items ≡ first.found.items → cells ≤ MOST_CELLS → item < 2 * cells → HasSize (cover_of start.compiled) start.chosen item size → size ≢ 0
-      → HasSize (cover_of start.compiled) start.chosen item (count children) → AreTreesOf start before after children → IsBranchOn cells item children tree → IsTreeOf start first after tree
-  branch_tree first before after cells item size children tree right fuel found few lt sized some each trees is =
-      let same = size_same (cover_of start.compiled) start.chosen item size (count children) sized each in
-      let most = few_sized start.compiled right.compiled start.chosen item (count children) each in
+  pub branch_tree : (first before after : Progress) (cells number size : ℕ) (item : Item) (children : Forest) → IsSelection start.compiled start.chosen
+      → before.fuel + 1 ≡ first.fuel → before.found.items ≡ first.found.items → cells ≤ MOST_CELLS → number < 2 * cells → HasSize (cover_of start.compiled) start.chosen number size → size ≢ 0
+      → HasSize (cover_of start.compiled) start.chosen number (count children) → AreTreesOf start before after children → IsNumberOf cells number item → IsTreeOf start first after (branch item children)
+  branch_tree first before after cells number size item children right fuel items few lt sized some each trees is =
+      let same = size_same (cover_of start.compiled) start.chosen number size (count children) sized each in
+      let most = few_sized start.compiled right.compiled start.chosen number (count children) each in
       let spent = trees.spent in
       let many = trees.few in
-      let long = ap length found in
-      subst (IsTreeOf start first after) (sym is.2) (record {
+      let long = ap length items in
+      record {
         spent = omega (arith, spent, fuel);
         numbers = trees.numbers;
-        within = λ few'. branch_within (levels_below start) cells item children (branch is.0 children) few lt (omega (arith, same, some)) most (trees.within few') (is.0, is.1, refl);
+        within = λ few'. branch_within (levels_below start) cells number item children few lt (omega (arith, same, some)) most (trees.within few') is;
         few = omega (arith, many, most, fuel, long);
-      })
+      }
 
   -- ---- the children of a branch
 
   -- none yet
-  pub no_trees : (progress : Progress) (nodes : List Node) → nodes ≡ [] → AreTreesOf start progress progress (forest_of nodes)
-  no_trees progress nodes e = subst (λ ns. AreTreesOf start progress progress (forest_of ns)) (sym e) (record { spent = omega arith; numbers = tt; within = λ few. tt; few = omega arith })
+  pub no_trees : (progress : Progress) → AreTreesOf start progress progress none
+  no_trees progress = record { spent = omega arith; numbers = tt; within = λ few. tt; few = omega arith }
 
   module _ (right : IsSelection start.compiled start.chosen) (option : ℕ) where
     -- one level fewer is left below a child
@@ -95,25 +118,23 @@ module _ (start : Selection) where
         omega (arith, few, cells, long)
 
     -- one more
-    pub one_more_tree : (chosen : Selection) (first before after : Progress) (nodes nodes' : List Node) (node : Node) → IsOpen (cover_of start.compiled) start.chosen option → chosen ≡ with_option start option → nodes' ≡ nodes ++ node ∷ []
-        → AreTreesOf start first before (forest_of nodes) → GoesOn chosen before after → IsTreeOf chosen before after (tree_of node) → AreTreesOf start first after (forest_of nodes')
-    one_more_tree chosen first before after nodes nodes' node is_open e items old goes new =
-        let total = total_more nodes node in
+    pub one_more_tree : (chosen : Selection) (first before after : Progress) (trees : Forest) (tree : Tree) → IsOpen (cover_of start.compiled) start.chosen option → chosen ≡ with_option start option
+        → AreTreesOf start first before trees → GoesOn chosen before after → IsTreeOf chosen before after tree → AreTreesOf start first after (with_last trees tree)
+    one_more_tree chosen first before after trees tree is_open e old goes new =
+        let total = total_more trees tree in
         let spent = old.spent in
         let spent' = new.spent in
         let many = old.few in
         let many' = new.few in
-        let more = goes.more in
+        let more' = goes.more in
         let levels = ap (λ (s : Selection). levels_below s + 1) e ∙ child_levels is_open in
-        let count' = count-forest_of (nodes ++ node ∷ []) in
-        let long = length-append nodes (node ∷ []) in
-        let counted = count-forest_of nodes in
-        subst (λ ns. AreTreesOf start first after (forest_of ns)) (sym items) (record {
+        let counted = count-join trees (more tree none) in
+        record {
           spent = omega (arith, total, spent, spent');
-          numbers = all_more (length after.found.items) nodes node (all_up (length before.found.items) (length after.found.items) more (forest_of nodes) old.numbers) new.numbers;
-          within = λ few. within_more_trees (levels_below start) nodes node (old.within (omega (arith, few, more))) (subst (λ n. IsTreeWithin SECOND n (tree_of node)) levels (new.within few));
-          few = omega (arith, many, many', count', long, counted);
-        })
+          numbers = all_more (length after.found.items) trees tree (all_up (length before.found.items) (length after.found.items) more' trees old.numbers) new.numbers;
+          within = λ few. within_more_trees (levels_below start) trees tree (old.within (omega (arith, few, more'))) (subst (λ n. IsTreeWithin SECOND n tree) levels (new.within few));
+          few = omega (arith, many, many', counted);
+        }
 
     -- with the next one there are no more than a branch may have
     pub room_for_one : (item : ℕ) (options : List ℕ) → IsOpenAt (cover_of start.compiled) start.chosen item option → AreOpenBefore (cover_of start.compiled) start.chosen item (Some option) options → length options + 1 ≤ MOST_CHILDREN

@@ -1,14 +1,13 @@
 -- Nodes that are within the limits of a lemma.
-use Rattle.std.proofs.Common.{◌<◌, ◌≤◌, ◌+◌, ◌*◌, ℕ, zero, suc, List, [], ◌∷◌, ◌++◌, arith, add-one, sym, subst}
+use Rattle.std.proofs.Common.{◌<◌, ◌≤◌, ◌+◌, ◌*◌, ℕ, zero, suc, arith, add-one, sym, subst}
 use Rattle.match_board.specs.declared.limits.TheConstants.{MOST_ARRANGEMENTS, MOST_CELLS, MOST_CHILDREN}
 use Rattle.match_puzzle.specs.declared.items.Item.{Item}
 use Rattle.match_puzzle.specs.declared.items.Item.TheVariants.{Cell, Tile}
 use Rattle.match_text.specs.declared.ranges.TheConstants.{SECOND}
-use Rattle.cert_tree.specs.Tree.{Tree, Forest, branch, dead, found, same, image, none, more, count, tree_of, forest_of}
+use Rattle.cert_tree.specs.Tree.{Tree, Forest, branch, dead, found, same, image, none, more, count}
 use Rattle.cert_tree.specs.TreeSpelling.{IsItemWithin, IsTreeWithin, AreTreesWithin}
-use Rattle.cert_tree.specs.declared.nodes.Node.{Node}
 use Rattle.match_puzzle.specs.Fitting.{IsNumberOf}
-use Rattle.xcc_dance.specs.Found.{IsBranchOn}
+use Rattle.xcc_dance.proofs.GrowingLemmas.{with_last}
 
 one_level : (levels : ℕ) (tree : Tree) → IsTreeWithin SECOND (suc levels) tree → IsTreeWithin SECOND (levels + 1) tree
 one_level levels tree h = subst (λ n. IsTreeWithin SECOND n tree) (sym (add-one levels)) h
@@ -23,12 +22,12 @@ item_within cells number (Tile tile) few lt of = omega (arith, few, lt, of)
 pub dead_within : (levels cells number : ℕ) (item : Item) → cells ≤ MOST_CELLS → number < 2 * cells → IsNumberOf cells number item → IsTreeWithin SECOND (levels + 1) (dead item)
 dead_within levels cells number item few lt is = one_level levels (dead item) (item_within cells number item few lt is)
 
-pub branch_within : (levels cells item : ℕ) (children : Forest) (tree : Tree) → cells ≤ MOST_CELLS → item < 2 * cells → 1 ≤ count children → count children ≤ MOST_CHILDREN → AreTreesWithin SECOND levels children → IsBranchOn cells item children tree → IsTreeWithin SECOND (levels + 1) tree
-branch_within levels cells item children tree few lt some most all is = subst (IsTreeWithin SECOND (levels + 1)) (sym is.2) (one_level levels (branch is.0 children) (item_within cells item is.0 few lt is.1, some, most, all))
+pub branch_within : (levels cells number : ℕ) (item : Item) (children : Forest) → cells ≤ MOST_CELLS → number < 2 * cells → 1 ≤ count children → count children ≤ MOST_CHILDREN → AreTreesWithin SECOND levels children → IsNumberOf cells number item → IsTreeWithin SECOND (levels + 1) (branch item children)
+branch_within levels cells number item children few lt some most all is = one_level levels (branch item children) (item_within cells number item few lt is, some, most, all)
 
-pub within_more_trees : (levels : ℕ) (nodes : List Node) (node : Node) → AreTreesWithin SECOND levels (forest_of nodes) → IsTreeWithin SECOND levels (tree_of node) → AreTreesWithin SECOND levels (forest_of (nodes ++ node ∷ []))
-within_more_trees levels [] node all one = (one, tt)
-within_more_trees levels (x ∷ nodes) node all one = (all.0, within_more_trees levels nodes node all.1 one)
+pub within_more_trees : (levels : ℕ) (trees : Forest) (tree : Tree) → AreTreesWithin SECOND levels trees → IsTreeWithin SECOND levels tree → AreTreesWithin SECOND levels (with_last trees tree)
+within_more_trees levels none tree all one = (one, tt)
+within_more_trees levels (more t trees) tree all one = (all.0, within_more_trees levels trees tree all.1 one)
 
 mutual
   -- what is within so many levels is within more

@@ -1,8 +1,6 @@
 -- What a search finds, and its tree.
 use Rattle.std.specs.Prelude.{◌≡◌, ℕ, ◌+◌, ◌<◌, List, Contains}
 use Rattle.match_puzzle.specs.declared.placements.Placement.{Placement}
-use Rattle.match_puzzle.specs.Fitting.{IsNumberOf}
-use Rattle.match_puzzle.specs.declared.items.Item.{Item}
 use Rattle.cert_tree.specs.Tree.{Tree, Forest, branch, dead, found, same, image, none, more}
 use Rattle.xcc_form.specs.Correspondence.{IsSolutionOf}
 use Rattle.xcc_dance.specs.Chosen.{Selection}
@@ -14,14 +12,6 @@ pub record IsFoundFrom (s : Selection) (a : List Placement) : Type 0 where
   pub solution : List ℕ
   pub is_solution : IsSolutionOf s.compiled a solution
   pub has_chosen : (option : ℕ) → Contains s.chosen option → Contains solution option
-
--- The tree is a dead end at the item with this number.
-abbrev pub IsDeadAt : (cells item : ℕ) → Tree → Type 0
-IsDeadAt cells item tree = (i : Item) × IsNumberOf cells item i × (tree ≡ dead i)
-
--- The tree is a branch on the item with this number, with these children.
-abbrev pub IsBranchOn : (cells item : ℕ) → Forest → Tree → Type 0
-IsBranchOn cells item children tree = (i : Item) × IsNumberOf cells item i × (tree ≡ branch i children)
 
 abbrev mutual
   -- how many branch nodes a tree has

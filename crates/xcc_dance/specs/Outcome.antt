@@ -15,7 +15,9 @@ use Rattle.xcc_dance.specs.Unfinished.{IsUnfinished}
 use Rattle.xcc_dance.specs.declared.cites.Cite.{Cite}
 use Rattle.xcc_dance.specs.declared.cites.Cite.TheVariants.{Same, Image}
 use Rattle.xcc_dance.specs.declared.searches.Outcome.{Outcome}
-use Rattle.xcc_dance.specs.declared.searches.Outcome.TheVariants.{Done, GaveUp}
+use Rattle.xcc_dance.specs.declared.searches.Outcome.TheVariants as plain
+use Rattle.xcc_dance.specs.declared.searches.PackedOutcome.{PackedOutcome}
+use Rattle.xcc_dance.specs.declared.searches.PackedOutcome.TheVariants as packed
 
 -- The numbers are those of lemmas and symmetries that a certificate may have.
 abbrev pub IsCiteWithin : Cite → Type 0
@@ -37,19 +39,50 @@ pub record IsSearched (x : Compiled) (prefix : List Pair) (tree : Tree) (found :
   pub branch_nodes : branch_count tree ≡ branches
   pub within : length found ≤ MOST_ARRANGEMENTS → IsTreeWithin SECOND SECOND.most_levels tree
 
--- The outcome of a run, by what the search was before and is then: all was found, and the engine is what it was, with
--- link arrays each link and each size; or just the fuel was spent, and the search failed.
+-- All was found, and the engine is what it was, with link arrays each link and each size.
+abbrev pub IsDone : {S : Type 0} → (selection : S → Selection) → (before after : SearchState S) → List Pair → Tree
+    → (found : List (List Placement)) → Type 0
+IsDone selection before after prefix tree found =
+    IsSearched (selection after.engine).compiled prefix tree found after.branches
+    × (after.engine ≡ before.engine) × (after.failed ≡ false)
+
+-- Just the fuel was spent, and the search failed.
+abbrev pub IsGivenUp : {S : Type 0} → (after : SearchState S) → (fuel : ℕ) → Type 0
+IsGivenUp after fuel = (after.branches ≡ fuel) × (after.failed ≡ true)
+
+-- The outcome of a run, by what the search was before and is then.
 abbrev pub IsOutcome : {S : Type 0} → (selection : S → Selection) → (before after : SearchState S) → List Pair
     → (fuel : ℕ) → Outcome → Type 0
-IsOutcome selection before after prefix fuel (Done tree found) =
-    IsSearched (selection after.engine).compiled prefix (tree_of tree) found.items after.branches
-    × (after.engine ≡ before.engine) × (after.failed ≡ false)
-IsOutcome selection before after prefix fuel GaveUp = (after.branches ≡ fuel) × (after.failed ≡ true)
+IsOutcome selection before after prefix fuel (plain.Done tree found) =
+    IsDone selection before after prefix (tree_of tree) found.items
+IsOutcome selection before after prefix fuel plain.GaveUp = IsGivenUp after fuel
+
+-- The same, with a tree that is packed.
+abbrev pub IsPackedOutcome : {S : Type 0} → (selection : S → Selection) → (before after : SearchState S) → List Pair
+    → (fuel : ℕ) → PackedOutcome → Type 0
+IsPackedOutcome selection before after prefix fuel (packed.Done tree found) =
+    IsDone selection before after prefix tree found.items
+IsPackedOutcome selection before after prefix fuel packed.GaveUp = IsGivenUp after fuel
+
+-- The tree is that of a search from the options of the prefix.
+abbrev pub IsTreeFrom : Picks → Answers → Compiled → List Pair → Tree → (found : List (List Placement)) → Type 0
+IsTreeFrom picks answers x prefix tree found = (chosen : List ℕ) × ArePairsOf x chosen prefix
+    × IsSearchTree picks answers found (record { compiled = x; chosen = chosen }) tree
+
+-- A search from these options is unfinished after so many branch nodes.
+abbrev pub IsUnfinishedFrom : Picks → Answers → Compiled → List Pair → (nodes : ℕ) → Type 0
+IsUnfinishedFrom picks answers x prefix nodes = (chosen : List ℕ) × ArePairsOf x chosen prefix
+    × ((all : List (List Placement)) × IsUnfinished picks answers all (record { compiled = x; chosen = chosen }) nodes)
 
 -- The tree that a run came to is that of a search from the options of the prefix. Where it gave up, such a search is
 -- unfinished after as many branch nodes as there was fuel.
 abbrev pub IsSearchOf : Picks → Answers → Compiled → List Pair → (fuel : ℕ) → Outcome → Type 0
-IsSearchOf picks answers x prefix fuel (Done tree all) = (chosen : List ℕ) × ArePairsOf x chosen prefix
-    × IsSearchTree picks answers all.items (record { compiled = x; chosen = chosen }) (tree_of tree)
-IsSearchOf picks answers x prefix fuel GaveUp = (chosen : List ℕ) × ArePairsOf x chosen prefix
-    × ((all : List (List Placement)) × IsUnfinished picks answers all (record { compiled = x; chosen = chosen }) fuel)
+IsSearchOf picks answers x prefix fuel (plain.Done tree found) =
+    IsTreeFrom picks answers x prefix (tree_of tree) found.items
+IsSearchOf picks answers x prefix fuel plain.GaveUp = IsUnfinishedFrom picks answers x prefix fuel
+
+-- The same, with a tree that is packed.
+abbrev pub IsPackedSearchOf : Picks → Answers → Compiled → List Pair → (fuel : ℕ) → PackedOutcome → Type 0
+IsPackedSearchOf picks answers x prefix fuel (packed.Done tree found) =
+    IsTreeFrom picks answers x prefix tree found.items
+IsPackedSearchOf picks answers x prefix fuel packed.GaveUp = IsUnfinishedFrom picks answers x prefix fuel

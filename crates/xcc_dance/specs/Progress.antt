@@ -1,8 +1,9 @@
 -- How a search goes on from a selection.
-use Rattle.std.specs.Prelude.{◌≡◌, ◌⊎◌, ◌≤◌, ◌+◌, ◌-◌, ◌*◌, ℕ, List, Some, Contains, length, slice_get}
+use Rattle.std.specs.Prelude.{◌≡◌, ◌⊎◌, ◌≤◌, ◌+◌, ◌-◌, ◌*◌, ◌++◌, ℕ, List, Some, Contains, length, slice_get}
 use Rattle.match_board.specs.declared.limits.TheConstants.{MOST_ARRANGEMENTS, MOST_CELLS, MOST_CHILDREN}
 use Rattle.match_puzzle.specs.declared.placements.Placement.{Placement}
 use Rattle.match_text.specs.declared.ranges.TheConstants.{SECOND}
+use Rattle.cert_tree.specs.Heads.{heads_of, heads_in}
 use Rattle.cert_tree.specs.Tree.{Tree, Forest, count}
 use Rattle.cert_tree.specs.TreeSpelling.{IsTreeWithin, AreTreesWithin}
 use Rattle.xcc_dance.specs.Chosen.{Selection}
@@ -16,6 +17,14 @@ levels_below s = MOST_CELLS - length s.chosen
 -- Each number names in the one list what it names in the other.
 abbrev pub AreKept : (before after : List (List Placement)) → Type 0
 AreKept before after = (number : ℕ) (a : List Placement) → slice_get before number ≡ Some a → slice_get after number ≡ Some a
+
+-- The heads of one such tree went behind those before.
+abbrev pub PutsTree : (before after : Progress) → (IsSuch : Tree → Type 0) → Type 0
+PutsTree before after IsSuch = (tree : Tree) × (after.heads.items ≡ before.heads.items ++ heads_of tree) × IsSuch tree
+
+-- The heads of such trees did, one tree after the other.
+abbrev pub PutsTrees : (before after : Progress) → (AreSuch : Forest → Type 0) → Type 0
+PutsTrees before after AreSuch = (trees : Forest) × (after.heads.items ≡ before.heads.items ++ heads_in trees) × AreSuch trees
 
 -- Fuel may be spent, and arrangements found that have all chosen options.
 pub record GoesOn (s : Selection) (before after : Progress) : Type 0 where

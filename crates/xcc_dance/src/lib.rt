@@ -24,4 +24,4 @@ pub use laws::{
 pub use links::{Links, links_with_nothing_chosen_are_one};
 pub use open_options::{OpenOptions, left_by};
 pub use open_sets::OpenSets;
-pub use searches::{Outcome, Search, SearchOver, links_of_ready_searches_are_one};
+pub use searches::{Outcome, PackedOutcome, Search, SearchOver, links_of_ready_searches_are_one};

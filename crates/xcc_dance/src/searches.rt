@@ -1,10 +1,11 @@
 //! Searches of a compiled puzzle.
 
-ghost use Rattle.std.specs.Prelude.{◌≡◌, ◌↔◌, ◌⊎◌, ◌≤◌, [], List, IfOk, IsErrOf, true, false};
+ghost use Rattle.std.specs.Prelude.{◌≡◌, ◌↔◌, ◌⊎◌, ◌≤◌, [], List, IfOk, IsErrOf, OnErr, true, false};
+ghost use Rattle.cert_tree.specs.Tree.{tree_of};
 ghost use Rattle.match_puzzle.specs.declared.placements.Pair.{Pair as Placed};
 ghost use Rattle.xcc_dance.specs.LinkStates.{selection_of};
 ghost use Rattle.match_puzzle.specs.Placing.{FitInTurn};
-ghost use Rattle.xcc_dance.specs.Outcome.{IsOutcome, IsSearchOf};
+ghost use Rattle.xcc_dance.specs.Outcome.{IsOutcome, IsPackedOutcome, IsPackedSearchOf, IsSearchOf};
 ghost use Rattle.xcc_dance.specs.SearchTree.{picks_fewest};
 
 use crate::chooses::{Chooses, FewestOptions};
@@ -15,7 +16,7 @@ use crate::open_options::OpenOptions;
 use crate::paths::SearchPath;
 use crate::progress::Progress;
 use crate::searching::walk;
-use cert_tree::Node;
+use cert_tree::{Node, PackedTree};
 use match_board::limits::MOST_FUEL;
 use match_puzzle::{Arrangement, Pair};
 use std::alloc::{AllocError, Global};
@@ -28,6 +29,18 @@ pub enum Outcome {
     /// All arrangements that extend the prefix were found, but those that a citation stands for. `Node::Found(i)` is
     /// number i of them.
     Done { tree: Node, found: Vec<Arrangement> },
+    /// The fuel was spent, and another branch node was needed.
+    GaveUp,
+}
+
+/// The same, with a tree whose nodes lie one after the other.
+#[derive(Drop)]
+pub enum PackedOutcome {
+    /// As in [`Outcome`]; `Head::Found(i)` is number i of the arrangements.
+    Done {
+        tree: PackedTree,
+        found: Vec<Arrangement>,
+    },
     /// The fuel was spent, and another branch node was needed.
     GaveUp,
 }
@@ -121,25 +134,46 @@ impl<E: OpenOptions + Drop> SearchOver<E> {
         ensures unchanged { IsErrOf result SearchFault.Failed → self.new ≡ self.old }
         ensures moved { C.moves cites.old cites.new }
     {
-        self.run_by(prefix, fuel, &FewestOptions, cites)
+        match self.run_by(prefix, fuel, &FewestOptions, cites)? {
+            PackedOutcome::GaveUp => Ok(Outcome::GaveUp),
+            PackedOutcome::Done { tree, found } => {
+                let tree = self.nodes_of(&tree)?;
+                Ok(Outcome::Done { tree, found })
+            }
+        }
     }
 
-    /// The same, with branches on the items that the rule takes. Memory may be refused to the rule too.
+    // The tree of a run that is done, with nodes that own their children.
+    fn nodes_of(&mut self, tree: &PackedTree) -> Result<Node, AllocError>
+        requires { self.old.failed ≡ false }
+        ensures engine { self.new.engine ≡ self.old.engine }
+        ensures branches { self.new.branches ≡ self.old.branches }
+        ensures node { IfOk result (λ node. (self.new.failed ≡ false) × (tree_of node ≡ tree.now)) }
+        ensures memory { OnErr result (self.new.failed ≡ true) }
+    {
+        self.failed = true;
+        let node = tree.to_node(self.alloc)?;
+        self.failed = false;
+        Ok(node)
+    }
+
+    /// The same, with branches on the items that the rule takes, and a tree whose nodes lie one after the other. Memory
+    /// may be refused to the rule too.
     pub fn run_by<R: Chooses, C: Cites>(
         &mut self,
         prefix: &[Pair],
         fuel: u32,
         rule: &R,
         cites: &mut C,
-    ) -> Result<Outcome, SearchFault>
+    ) -> Result<PackedOutcome, SearchFault>
         requires prefix { FitInTurn (E.selection self.old.engine).compiled.puzzle prefix.now }
         requires fuel { fuel ≤ MOST_FUEL }
         requires takes { (pairs : List Placed) → FitInTurn (E.selection self.old.engine).compiled.puzzle pairs
             → C.takes cites.old pairs }
         ensures compiled { (E.selection self.new.engine).compiled ≡ (E.selection self.old.engine).compiled }
-        ensures outcome { IfOk result (IsOutcome E.selection self.old self.new prefix.now fuel) }
+        ensures outcome { IfOk result (IsPackedOutcome E.selection self.old self.new prefix.now fuel) }
         ensures tree { IfOk result
-            (IsSearchOf (R.picks rule.now) (C.answers cites.new) (E.selection self.new.engine).compiled prefix.now fuel) }
+            (IsPackedSearchOf (R.picks rule.now) (C.answers cites.new) (E.selection self.new.engine).compiled prefix.now fuel) }
         ensures most { self.new.branches ≤ fuel ⊎ IsErrOf result SearchFault.Failed }
         ensures failed { IsErrOf result SearchFault.Failed ↔ (self.old.failed ≡ true) }
         ensures memory { IsErrOf result SearchFault.Memory → self.new.failed ≡ true }
@@ -152,19 +186,21 @@ impl<E: OpenOptions + Drop> SearchOver<E> {
         self.failed = true;
         self.branches = 0;
         self.path.choose_all(prefix)?;
-        let found = Vec::new(self.alloc);
-        let mut progress = Progress { fuel, found };
+        let mut progress = Progress {
+            fuel,
+            found: Vec::new(self.alloc),
+            heads: Vec::new(self.alloc),
+        };
         let walked = walk(self.alloc, &mut self.path, rule, cites, &mut progress);
         self.branches = fuel - progress.fuel;
-        let Some(tree) = walked? else {
-            return Ok(Outcome::GaveUp);
-        };
+        if !walked? {
+            return Ok(PackedOutcome::GaveUp);
+        }
         self.path.undo_all();
         self.failed = false;
-        Ok(Outcome::Done {
-            tree,
-            found: progress.found,
-        })
+        let Progress { found, heads, .. } = progress;
+        let tree = PackedTree::of(heads);
+        Ok(PackedOutcome::Done { tree, found })
     }
 }
 

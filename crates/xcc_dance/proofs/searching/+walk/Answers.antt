@@ -1,24 +1,21 @@
-use Rattle.std.proofs.Common.{◌≡◌, ◌<◌, ◌+◌, ◌-◌, ◌*◌, ◌^◌, ◌∷◌, ◌++◌, [], ℕ, List, Some, None, IfSome, inl, length, length-append, MatchOption, arith, refl, ap, sym, ◌∙◌, subst}
+use Rattle.std.proofs.Common.{◌≡◌, ◌<◌, ◌+◌, ◌-◌, ◌*◌, ◌^◌, ◌∷◌, ◌++◌, [], ℕ, List, Some, None, IfSome, inl, length, length-append, MatchOption, arith, refl, MatchBool, append-nil, ap, sym, ◌∙◌, subst}
 use Rattle.match_board.specs.declared.limits.TheConstants.{MOST_CHILDREN}
 use Rattle.match_puzzle.specs.declared.placements.Pair.{Pair}
 use Rattle.match_board.specs.Board.{cell_count}
 use Rattle.xcc_form.specs.Options.{Compiled, cover_of}
 use Rattle.xcc_form.specs.Correspondence.{IsSolutionOf}
-use Rattle.cert_tree.specs.Tree.{tree_of, forest_of}
-use Rattle.cert_tree.specs.declared.nodes.Node.{Node}
-use Rattle.cert_tree.specs.declared.nodes.Children.{Children}
-use Rattle.cert_tree.proofs.TreeLemmas.{count-forest_of}
+use Rattle.cert_tree.specs.Tree.{branch, dead, found, none, count}
 use Rattle.xcc_dance.specs.Clashes.{IsOpenAt}
 use Rattle.xcc_dance.specs.Chosen.{Selection, IsSelection, IsUncovered, AreAllCovered, HasSize, IsNext, IsLast, with_option}
 use Rattle.match_puzzle.specs.Placing.{FitInTurn}
-use Rattle.xcc_dance.specs.Progress.{IsTreeOf, AreTreesOf}
-use Rattle.xcc_dance.specs.SearchTree.{AreChildren, IsChild, AreBranchesOf}
+use Rattle.xcc_dance.specs.Progress.{IsTreeOf, AreTreesOf, PutsTree, PutsTrees}
+use Rattle.xcc_dance.specs.SearchTree.{IsChild, IsSearchTree, AreBranchesOf}
 use Rattle.xcc_dance.specs.Unfinished.{IsNotCited, IsUnfinished, AreUnfinished}
 use Rattle.xcc_dance.specs.declared.progress.Progress.{Progress}
-use Rattle.xcc_dance.proofs.SizeLemmas.{open_first, open_next, open_all}
+use Rattle.xcc_dance.proofs.SizeLemmas.{open_first, open_next, open_all, size_same}
 use Rattle.xcc_dance.proofs.SearchTreeLemmas.{AreBranchesBefore, children_stay, children_count, child_more, branches_count, found_searched, dead_searched, branch_searched, wanted_here, begun_there, next_begun}
-use Rattle.xcc_dance.proofs.GrowingLemmas.{next_open}
-use Rattle.xcc_dance.proofs.WalkLemmas.{goes_further, found_further, leaf_tree, dead_tree, branch_tree, no_trees, one_more_tree, room_for_one}
+use Rattle.xcc_dance.proofs.GrowingLemmas.{next_open, with_last}
+use Rattle.xcc_dance.proofs.WalkLemmas.{branch_heads, more_heads, either_way, goes_further, found_further, leaf_tree, dead_tree, branch_tree, no_trees, one_more_tree, room_for_one}
 use Rattle.xcc_dance.proofs.searching.+walk.Goals as goal
 
 pub walk-arrangement-requires : goal.walk-arrangement-requires
@@ -39,6 +36,12 @@ walk-walk_options-requires g t c =
     let takes : (pairs : List Pair) → FitInTurn (g.E.OpenOptions.selection c.choose_item.new.self).compiled.puzzle pairs → g.C.Cites.takes c.args.cites.now pairs = λ pairs fit. c.requires.takes pairs (subst (λ (v : Selection). FitInTurn v.compiled.puzzle pairs) same fit) in
     λ κs below. (omega (arith, c.decreases, left), (below.0, (below.1.0, (below.1.1, (there, (takes, omega (arith, room, c.if-progress-eq0.false)))))))
 
+pub walk-returns-in_err-push-2-clause-goes_on : goal.walk-returns-in_err-push-2-clause-goes_on
+walk-returns-in_err-push-2-clause-goes_on g t c =
+    let here = ap g.E.OpenOptions.selection c.choose_item.ensures.same in
+    found_further (g.E.OpenOptions.selection c.args.path.now) c.args.progress.now _ c.in_ok-arrangement.field-0 c.in_ok-push.ensures.items refl
+    (subst (λ (v : Selection). IsSolutionOf v.compiled c.in_ok-arrangement.field-0 v.chosen) here c.in_ok-arrangement.ensures)
+
 pub walk-returns-in_default-clause-goes_on : goal.walk-returns-in_default-clause-goes_on
 walk-returns-in_default-clause-goes_on g t c =
     let here = ap g.E.OpenOptions.selection c.choose_item.ensures.same in
@@ -53,8 +56,14 @@ walk-returns-in_default-clause-tree g t c =
     let items = c.in_ok-push.ensures.items in
     let solution = subst (λ (v : Selection). IsSolutionOf v.compiled c.in_ok-arrangement.field-0 v.chosen) here c.in_ok-arrangement.ensures in (
       c.choose_item.ensures.same,
-      leaf_tree s c.args.progress.now _ c.len-number.result _ number items refl,
-      found_searched (g.R.Chooses.picks c.args.rule.now) (g.C.Cites.answers c.args.cites.now) c.push.new.self.items s c.args.progress.now.found.items c.len-number.result c.in_ok-arrangement.field-0 number items solution,
+      (
+        found c.len-number.result,
+        c.in_ok-push-2.ensures.items,
+        (
+          leaf_tree s c.args.progress.now _ c.len-number.result _ number items refl,
+          found_searched (g.R.Chooses.picks c.args.rule.now) (g.C.Cites.answers c.args.cites.now) c.push.new.self.items s c.args.progress.now.found.items c.len-number.result c.in_ok-arrangement.field-0 number items solution,
+        ),
+      ),
     )
 
 pub walk-returns-then-size-eq0-clause-tree : goal.walk-returns-then-size-eq0-clause-tree
@@ -63,73 +72,82 @@ walk-returns-then-size-eq0-clause-tree g t c =
     let same = ap g.E.OpenOptions.selection (c.engine.ensures.same ∙ c.choose_item.ensures.same) in
     let picks = g.R.Chooses.picks c.args.rule.now in
     let answers = g.C.Cites.answers c.args.cites.now in
-    let sized = subst (λ (v : Selection). HasSize (cover_of v.compiled) v.chosen c.in-Some.item c.size.result) same c.size.ensures in
+    let sized = subst (λ (v : Selection). HasSize (cover_of v.compiled) v.chosen c.in-Some.item c.size-size.result) same c.size-size.ensures in
     let none_left = subst (λ n. HasSize (cover_of s.compiled) s.chosen c.in-Some.item n) c.if-size-eq0.true sized in
-    let cells = c.cells-cells.ensures.count ∙ ap (λ (v : Selection). cell_count v.compiled.puzzle.board) (ap g.E.OpenOptions.selection c.choose_item.ensures.same) in
+    let cells = c.cells.ensures.count ∙ ap (λ (v : Selection). cell_count v.compiled.puzzle.board) (ap g.E.OpenOptions.selection c.choose_item.ensures.same) in
     let picked = subst (λ o. IfSome o (picks s)) c.in-Some.is c.in_ok-item.ensures.picked in
     let uncovered = subst (λ o. MatchOption o (AreAllCovered (cover_of s.compiled) s.chosen) (IsUncovered (cover_of s.compiled) s.chosen)) c.in-Some.is c.in_ok-item.ensures.uncovered in
-    let few = subst (λ (v : Selection). (item : ℕ) → item < (cover_of v.compiled).primaries → item < 2 * c.cells-cells.result) (ap g.E.OpenOptions.selection c.choose_item.ensures.same) c.cells-cells.ensures.few in (
+    let few = subst (λ (v : Selection). (item : ℕ) → item < (cover_of v.compiled).primaries → item < 2 * c.cells.result) (ap g.E.OpenOptions.selection c.choose_item.ensures.same) c.cells.ensures.few in
+    let item = c.numbered-about.result in (
       c.choose_item.ensures.same,
-      dead_tree s c.args.progress.now c.cells-cells.result c.in-Some.item (tree_of c.dead_node.result) c.cells-cells.ensures.most (few c.in-Some.item uncovered.primary) c.dead_node.ensures,
-      dead_searched picks answers c.args.progress.now.found.items s c.cells-cells.result c.in-Some.item (tree_of c.dead_node.result) cells picked none_left c.dead_node.ensures,
+      (
+        dead item,
+        c.in_ok-push-3.ensures.items ∙ ap (λ h. c.args.progress.now.heads.items ++ h ∷ []) c.dead.ensures,
+        (
+          dead_tree s c.args.progress.now _ c.cells.result c.in-Some.item item refl refl c.cells.ensures.most (few c.in-Some.item uncovered.primary) c.numbered-about.ensures,
+          dead_searched picks answers c.args.progress.now.found.items s c.cells.result c.in-Some.item item cells picked none_left c.numbered-about.ensures,
+        ),
+      ),
     )
 
-pub walk-returns-in-Some-2-clause-tree : goal.walk-returns-in-Some-2-clause-tree
-walk-returns-in-Some-2-clause-tree g t c =
+pub walk-returns-clause-tree : goal.walk-returns-clause-tree
+walk-returns-clause-tree g t c =
     let s = g.E.OpenOptions.selection c.args.path.now in
+    let s' = g.E.OpenOptions.selection c.choose_item.new.self in
+    let there : s' ≡ s = ap g.E.OpenOptions.selection c.choose_item.ensures.same in
     let same = ap g.E.OpenOptions.selection (c.engine.ensures.same ∙ c.choose_item.ensures.same) in
-    let before : Progress = record { fuel = c.args.progress.now.fuel - 1; found = c.args.progress.now.found } in
+    let old = c.args.progress.now in
+    let before : Progress = record { fuel = old.fuel - 1; found = old.found; heads = c.push-2.new.self } in
     let after = c.walk_options.new.progress in
     let picks = g.R.Chooses.picks c.args.rule.now in
     let answers = g.C.Cites.answers c.walk_options.new.cites in
-    let of_children : Selection → Children → Type 0 = λ (v : Selection) (ch : Children). AreTreesOf v before after (forest_of ch.nodes.items) × AreBranchesOf picks answers after.found.items v c.in-Some.item (forest_of ch.nodes.items) in
-    let there = subst (λ o. MatchOption o ((after.fuel ≡ 0) × AreUnfinished picks answers after.found.items (g.E.OpenOptions.selection c.choose_item.new.self) c.in-Some.item before.fuel) (λ (ch : Children). (c.walk_options.new.path ≡ c.choose_item.new.self) × AreTreesOf (g.E.OpenOptions.selection c.choose_item.new.self) before after (forest_of ch.nodes.items) × AreBranchesOf picks answers after.found.items (g.E.OpenOptions.selection c.choose_item.new.self) c.in-Some.item (forest_of ch.nodes.items))) c.in-Some-2.is c.in_ok-walk_options.ensures.trees in
-    let trees = subst (λ (v : Selection). of_children v c.in-Some-2.children) (ap g.E.OpenOptions.selection c.choose_item.ensures.same) (there.1, there.2) in
-    let sized = subst (λ (v : Selection). HasSize (cover_of v.compiled) v.chosen c.in-Some.item c.size.result) same c.size.ensures in
-    let right = subst (λ (v : Selection). IsSelection v.compiled v.chosen) (ap g.E.OpenOptions.selection c.choose_item.ensures.same) c.engine.ensures.right in
-    let cells = c.cells-cells.ensures.count ∙ ap (λ (v : Selection). cell_count v.compiled.puzzle.board) (ap g.E.OpenOptions.selection c.choose_item.ensures.same) in
-    let children = forest_of c.in-Some-2.children.nodes.items in
+    let number = c.in-Some.item in
+    let sized = subst (λ (v : Selection). HasSize (cover_of v.compiled) v.chosen number c.size-size.result) same c.size-size.ensures in
+    let right = subst (λ (v : Selection). IsSelection v.compiled v.chosen) there c.engine.ensures.right in
+    let cells = c.cells.ensures.count ∙ ap (λ (v : Selection). cell_count v.compiled.puzzle.board) there in
     let picked = subst (λ o. IfSome o (picks s)) c.in-Some.is c.in_ok-item.ensures.picked in
     let uncovered = subst (λ o. MatchOption o (AreAllCovered (cover_of s.compiled) s.chosen) (IsUncovered (cover_of s.compiled) s.chosen)) c.in-Some.is c.in_ok-item.ensures.uncovered in
-    let few = subst (λ (v : Selection). (item : ℕ) → item < (cover_of v.compiled).primaries → item < 2 * c.cells-cells.result) (ap g.E.OpenOptions.selection c.choose_item.ensures.same) c.cells-cells.ensures.few in (
-      there.0 ∙ c.choose_item.ensures.same,
-      branch_tree s c.args.progress.now before after c.cells-cells.result c.in-Some.item c.size.result children (tree_of c.branch_node.result) right (omega (arith, c.if-progress-eq0.false)) refl c.cells-cells.ensures.most (few c.in-Some.item uncovered.primary) sized c.if-size-eq0.false (branches_count picks answers after.found.items s c.in-Some.item children trees.1) trees.0 c.branch_node.ensures,
-      branch_searched picks answers after.found.items s c.cells-cells.result c.in-Some.item children (tree_of c.branch_node.result) cells picked trees.1 c.branch_node.ensures,
-    )
+    let few = subst (λ (v : Selection). (item : ℕ) → item < (cover_of v.compiled).primaries → item < 2 * c.cells.result) there c.cells.ensures.few in
+    let item = c.numbered-about.result in
+    let yes : (c.walk_options.new.path ≡ c.choose_item.new.self) × PutsTrees before after (λ ts. AreTreesOf s' before after ts × AreBranchesOf picks answers after.found.items s' number ts)
+    → (c.walk_options.new.path ≡ c.args.path.now) × PutsTree old after (λ t. IsTreeOf s old after t × IsSearchTree picks answers after.found.items s t) = λ w.
+    let trees = w.1.0 in
+    let both = subst (λ (v : Selection). AreTreesOf v before after trees × AreBranchesOf picks answers after.found.items v number trees) there w.1.2 in
+    let each = branches_count picks answers after.found.items s number trees both.1 in (
+      w.0 ∙ c.choose_item.ensures.same,
+      (
+        branch item trees,
+        branch_heads old.heads.items before.heads.items after.heads.items c.branch-about.result item c.size-size.result trees c.in_ok-push-4.ensures.items c.branch-about.ensures (size_same (cover_of s.compiled) s.chosen number c.size-size.result (count trees) sized each) w.1.1,
+        (
+          branch_tree s old before after c.cells.result number c.size-size.result item trees right (omega (arith, c.if-progress-eq0.false)) refl c.cells.ensures.most (few number uncovered.primary) sized c.if-size-eq0.false each both.0 c.numbered-about.ensures,
+          branch_searched picks answers after.found.items s c.cells.result number item trees cells picked both.1 c.numbered-about.ensures,
+        ),
+      ),
+    ) in
+    let no : (after.fuel ≡ 0) × AreUnfinished picks answers after.found.items s' number before.fuel → (after.fuel ≡ 0) × IsUnfinished picks answers after.found.items s old.fuel = λ w.
+    (w.0, begun_there picks answers after.found.items s number before.fuel old.fuel picked (omega (arith, c.if-progress-eq0.false)) (subst (λ (v : Selection). AreUnfinished picks answers after.found.items v number before.fuel) there w.1)) in
+    either_way c.walk_options.result yes no c.walk_options.ensures.trees
 
 pub walk-returns-then-progress-eq0-clause-tree : goal.walk-returns-then-progress-eq0-clause-tree
 walk-returns-then-progress-eq0-clause-tree g t c =
     let s = g.E.OpenOptions.selection c.args.path.now in
     let same = ap g.E.OpenOptions.selection (c.engine.ensures.same ∙ c.choose_item.ensures.same) in
     let picks = g.R.Chooses.picks c.args.rule.now in
-    let sized = subst (λ (v : Selection). HasSize (cover_of v.compiled) v.chosen c.in-Some.item c.size.result) same c.size.ensures in
+    let sized = subst (λ (v : Selection). HasSize (cover_of v.compiled) v.chosen c.in-Some.item c.size-size.result) same c.size-size.ensures in
     let picked = subst (λ o. IfSome o (picks s)) c.in-Some.is c.in_ok-item.ensures.picked in
-    (c.if-progress-eq0.true, wanted_here picks (g.C.Cites.answers c.args.cites.now) c.args.progress.now.found.items s c.in-Some.item c.size.result c.args.progress.now.fuel picked sized c.if-size-eq0.false c.if-progress-eq0.true)
-
-pub walk-returns-in-None-clause-tree : goal.walk-returns-in-None-clause-tree
-walk-returns-in-None-clause-tree g t c =
-    let s = g.E.OpenOptions.selection c.args.path.now in
-    let fuel = c.args.progress.now.fuel - 1 in
-    let after = c.walk_options.new.progress in
-    let picks = g.R.Chooses.picks c.args.rule.now in
-    let answers = g.C.Cites.answers c.walk_options.new.cites in
-    let there = rw c.in-None.is at c.in_ok-walk_options.ensures.trees in
-    let unfinished = subst (λ (v : Selection). AreUnfinished picks answers after.found.items v c.in-Some.item fuel) (ap g.E.OpenOptions.selection c.choose_item.ensures.same) there.1 in
-    let picked = subst (λ o. IfSome o (picks s)) c.in-Some.is c.in_ok-item.ensures.picked in
-    (there.0, begun_there picks answers after.found.items s c.in-Some.item fuel c.args.progress.now.fuel picked (omega (arith, c.if-progress-eq0.false)) unfinished)
+    (c.if-progress-eq0.true, wanted_here picks (g.C.Cites.answers c.args.cites.now) c.args.progress.now.found.items s c.in-Some.item c.size-size.result c.args.progress.now.fuel picked sized c.if-size-eq0.false c.if-progress-eq0.true)
 
 pub walk_options-loop-next-init : goal.walk_options-loop-next-init
 walk_options-loop-next-init g t c =
     let s = g.E.OpenOptions.selection c.args.path.now in
-    let same = ap g.E.OpenOptions.selection c.engine-engine.ensures.same in
+    let same = ap g.E.OpenOptions.selection c.engine.ensures.same in
     let next = subst (λ (v : Selection). MatchOption c.next_option-next.result (IsLast (cover_of v.compiled) v.chosen c.args.item None) (IsNext (cover_of v.compiled) v.chosen c.args.item None)) same c.next_option-next.ensures in
     record {
       path = refl;
       next = next_open s s c.args.item None c.next_option-next.result refl next;
-      children = ([], open_first (cover_of s.compiled) s.chosen c.args.item c.next_option-next.result next, subst (λ ns. AreChildren (g.R.Chooses.picks c.args.rule.now) (g.C.Cites.answers c.args.cites.now) c.args.progress.now.found.items s [] (forest_of ns)) (sym c.in_ok-nodes.ensures.items) tt);
+      made = (none, sym (append-nil c.args.progress.now.heads.items), (no_trees s c.args.progress.now, ([], open_first (cover_of s.compiled) s.chosen c.args.item c.next_option-next.result next, tt)));
       moved = g.met.C.Cites.stays c.args.cites.now;
       goes_on = record { fuel = omega arith; more = omega arith; kept = λ n a at. at; found = λ a h. inl h };
-      trees = no_trees s c.args.progress.now _ c.in_ok-nodes.ensures.items;
     }
 
 pub walk_options-child-requires : goal.walk_options-child-requires
@@ -141,14 +159,14 @@ walk_options-child-requires g t c =
     let picks = g.R.Chooses.picks c.args.rule.now in
     let answers = g.C.Cites.answers c.loop-next.cites in
     let found = c.loop-next.progress.found.items in
-    let old = subst (λ o. AreBranchesBefore picks answers found s c.args.item o (forest_of c.loop-next.nodes.items)) c.in-Some.is i.children in
-    let long = children_count picks answers found s old.0 (forest_of c.loop-next.nodes.items) old.2 in
-    let most = room_for_one s c.engine-engine.ensures.right c.in-Some.option c.args.item old.0 open_option old.1 in
-    let few = i.trees.few in
-    let counts = count-forest_of c.loop-next.nodes.items in
+    let trees = i.made.0 in
+    let old = subst (λ o. AreBranchesBefore picks answers found s c.args.item o trees) c.in-Some.is i.made.2.1 in
+    let long = children_count picks answers found s old.0 trees old.2 in
+    let most = room_for_one s c.engine.ensures.right c.in-Some.option c.args.item old.0 open_option old.1 in
+    let few = i.made.2.0.few in
     let room = c.requires.room in
     let takes : (pairs : List Pair) → FitInTurn (g.E.OpenOptions.selection c.choose.new.self).compiled.puzzle pairs → g.C.Cites.takes c.loop-next.cites pairs = λ pairs fit. g.met.C.Cites.takes_still c.args.cites.now c.loop-next.cites pairs i.moved (c.requires.takes pairs (subst (λ (x : Compiled). FitInTurn x.puzzle pairs) compiled fit)) in
-    let enough : length c.loop-next.progress.found.items + MOST_CHILDREN * c.loop-next.progress.fuel + 1 < 2 ^ 32 = omega (arith, most, long, few, counts, room) in
+    let enough : length c.loop-next.progress.found.items + MOST_CHILDREN * c.loop-next.progress.fuel + 1 < 2 ^ 32 = omega (arith, most, long, few, room) in
     let with : g.E.OpenOptions.selection c.choose.new.self ≡ with_option s c.in-Some.option = c.in_ok-choose.ensures.chosen ∙ ap (λ v. with_option (g.E.OpenOptions.selection v) c.in-Some.option) i.path in
     let lengths : length (g.E.OpenOptions.selection c.choose.new.self).chosen ≡ length s.chosen + 1 = ap (λ (v : Selection). length v.chosen) with ∙ length-append s.chosen (c.in-Some.option ∷ []) in
     let fewer = subst (λ (v : Selection). length v.chosen < length v.compiled.options) (ap g.E.OpenOptions.selection i.path) c.in_ok-choose.ensures.room in
@@ -166,28 +184,35 @@ walk_options-loop-next-preserved g t c =
     let answers' = g.C.Cites.answers c.child.new.cites in
     let found = c.loop-next.progress.found.items in
     let found' = c.child.new.progress.found.items in
-    let tree = subst (λ o. MatchOption o ((c.child.new.progress.fuel ≡ 0) × IsNotCited answers' (g.E.OpenOptions.selection c.choose.new.self) × IsUnfinished picks answers' found' (g.E.OpenOptions.selection c.choose.new.self) c.loop-next.progress.fuel) (λ (n : Node). (c.child.new.path ≡ c.choose.new.self) × IsTreeOf (g.E.OpenOptions.selection c.choose.new.self) c.loop-next.progress c.child.new.progress (tree_of n) × IsChild picks answers' found' (g.E.OpenOptions.selection c.choose.new.self) (tree_of n))) c.in-Some-2.is w.tree in
-    let back = c.undo.ensures ∙ ap g.E.OpenOptions.taken_back tree.0 ∙ c.in_ok-choose.ensures.before ∙ i.path in
+    let v = g.E.OpenOptions.selection c.choose.new.self in
+    let done = subst (λ b. MatchBool b ((c.child.new.path ≡ c.choose.new.self) × PutsTree c.loop-next.progress c.child.new.progress (λ t. IsTreeOf v c.loop-next.progress c.child.new.progress t × IsChild picks answers' found' v t)) ((c.child.new.progress.fuel ≡ 0) × IsNotCited answers' v × IsUnfinished picks answers' found' v c.loop-next.progress.fuel)) c.if-not-branch.false w.tree in
+    let trees = i.made.0 in
+    let tree = done.1.0 in
+    let back = c.undo.ensures ∙ ap g.E.OpenOptions.taken_back done.0 ∙ c.in_ok-choose.ensures.before ∙ i.path in
     let open_option = subst (λ o. MatchOption o (Unit {0}) (IsOpenAt (cover_of s.compiled) s.chosen c.args.item)) c.in-Some.is i.next in
-    let old = subst (λ o. AreBranchesBefore picks answers found s c.args.item o (forest_of c.loop-next.nodes.items)) c.in-Some.is i.children in
-    let here = ap g.E.OpenOptions.selection (c.engine.ensures.same ∙ back) in
+    let old = subst (λ o. AreBranchesBefore picks answers found s c.args.item o trees) c.in-Some.is i.made.2.1 in
+    let here = ap g.E.OpenOptions.selection (c.engine-in-Some.ensures.same ∙ back) in
     let next = subst (λ (v : Selection). MatchOption c.next_option-next-in-Some.result (IsLast (cover_of v.compiled) v.chosen c.args.item (Some c.in-Some.option)) (IsNext (cover_of v.compiled) v.chosen c.args.item (Some c.in-Some.option))) here c.next_option-next-in-Some.ensures in
-    let items = c.in_ok-push-in-Some-2.ensures.items in
     let with = chosen ∙ ap (λ v. with_option (g.E.OpenOptions.selection v) c.in-Some.option) i.path in
     record {
       path = back;
       next = next_open s s c.args.item (Some c.in-Some.option) c.next_option-next-in-Some.result refl next;
-      children = (
-        old.0 ++ c.in-Some.option ∷ [],
-        open_next (cover_of s.compiled) s.chosen c.args.item c.in-Some.option old.0 c.next_option-next-in-Some.result open_option next old.1,
-        subst (λ ns. AreChildren picks answers' found' s (old.0 ++ c.in-Some.option ∷ []) (forest_of ns)) (sym items)
-            (child_more picks answers' found' s old.0 c.loop-next.nodes.items c.in-Some.option c.in-Some-2.child
-            (children_stay picks answers answers' found found' (λ pairs o is. g.met.C.Cites.answers_still c.loop-next.cites c.child.new.cites pairs o w.moved is) w.goes_on.kept s old.0 (forest_of c.loop-next.nodes.items) old.2)
-            (subst (λ v. IsChild picks answers' found' v (tree_of c.in-Some-2.child)) with tree.2)),
+      made = (
+        with_last trees tree,
+        more_heads c.args.progress.now.heads.items c.loop-next.progress.heads.items c.child.new.progress.heads.items trees tree i.made.1 done.1.1,
+        (
+          one_more_tree s c.engine.ensures.right c.in-Some.option v c.args.progress.now c.loop-next.progress c.child.new.progress trees tree open_option.open_option with i.made.2.0 w.goes_on done.1.2.0,
+          (
+            old.0 ++ c.in-Some.option ∷ [],
+            open_next (cover_of s.compiled) s.chosen c.args.item c.in-Some.option old.0 c.next_option-next-in-Some.result open_option next old.1,
+            child_more picks answers' found' s old.0 trees c.in-Some.option tree
+                (children_stay picks answers answers' found found' (λ pairs o is. g.met.C.Cites.answers_still c.loop-next.cites c.child.new.cites pairs o w.moved is) w.goes_on.kept s old.0 trees old.2)
+                (subst (λ v. IsChild picks answers' found' v tree) with done.1.2.1),
+          ),
+        ),
       );
       moved = g.met.C.Cites.goes_on c.args.cites.now c.loop-next.cites c.child.new.cites i.moved w.moved;
-      goes_on = goes_further s (g.E.OpenOptions.selection c.choose.new.self) c.in-Some.option c.args.progress.now c.loop-next.progress c.child.new.progress with i.goes_on w.goes_on;
-      trees = one_more_tree s c.engine-engine.ensures.right c.in-Some.option (g.E.OpenOptions.selection c.choose.new.self) c.args.progress.now c.loop-next.progress c.child.new.progress c.loop-next.nodes.items c.push.new.self.items c.in-Some-2.child open_option.open_option with items i.trees w.goes_on tree.1;
+      goes_on = goes_further s v c.in-Some.option c.args.progress.now c.loop-next.progress c.child.new.progress with i.goes_on w.goes_on;
     }
 
 pub walk_options-returns-clause-trees : goal.walk_options-returns-clause-trees
@@ -197,15 +222,14 @@ walk_options-returns-clause-trees g t c =
     let picks = g.R.Chooses.picks c.args.rule.now in
     let answers = g.C.Cites.answers c.loop-next.cites in
     let found = c.loop-next.progress.found.items in
-    let all = subst (λ o. AreBranchesBefore picks answers found s c.args.item o (forest_of c.loop-next.nodes.items)) c.in_default.is i.children in
-    let same = c.new.ensures in (
+    let trees = i.made.0 in
+    let all = subst (λ o. AreBranchesBefore picks answers found s c.args.item o trees) c.in_default.is i.made.2.1 in (
       i.path,
-      subst (λ ns. AreTreesOf s c.args.progress.now c.loop-next.progress (forest_of ns)) (sym same) i.trees,
-      subst (λ ns. AreBranchesOf picks answers found s c.args.item (forest_of ns)) (sym same) (all.0, open_all (cover_of s.compiled) s.chosen c.args.item all.0 all.1, all.2),
+      (trees, i.made.1, (i.made.2.0, (all.0, open_all (cover_of s.compiled) s.chosen c.args.item all.0 all.1, all.2))),
     )
 
-pub walk_options-returns-in-None-clause-trees : goal.walk_options-returns-in-None-clause-trees
-walk_options-returns-in-None-clause-trees g t c =
+pub walk_options-returns-then-not-branch-clause-trees : goal.walk_options-returns-then-not-branch-clause-trees
+walk_options-returns-then-not-branch-clause-trees g t c =
     let s = g.E.OpenOptions.selection c.args.path.now in
     let i = c.loop-next.invariant in
     let w = c.in_ok-child.ensures in
@@ -214,23 +238,20 @@ walk_options-returns-in-None-clause-trees g t c =
     let answers' = g.C.Cites.answers c.child.new.cites in
     let found = c.loop-next.progress.found.items in
     let found' = c.child.new.progress.found.items in
-    let trees = forest_of c.loop-next.nodes.items in
-    let there = rw c.in-None.is at w.tree in
+    let trees = i.made.0 in
+    let v = g.E.OpenOptions.selection c.choose.new.self in
+    let there = subst (λ b. MatchBool b ((c.child.new.path ≡ c.choose.new.self) × PutsTree c.loop-next.progress c.child.new.progress (λ t. IsTreeOf v c.loop-next.progress c.child.new.progress t × IsChild picks answers' found' v t)) ((c.child.new.progress.fuel ≡ 0) × IsNotCited answers' v × IsUnfinished picks answers' found' v c.loop-next.progress.fuel)) c.if-not-branch.true w.tree in
     let open_option = subst (λ o. MatchOption o (Unit {0}) (IsOpenAt (cover_of s.compiled) s.chosen c.args.item)) c.in-Some.is i.next in
-    let old = subst (λ o. AreBranchesBefore picks answers found s c.args.item o trees) c.in-Some.is i.children in
+    let old = subst (λ o. AreBranchesBefore picks answers found s c.args.item o trees) c.in-Some.is i.made.2.1 in
     let with = c.in_ok-choose.ensures.chosen ∙ ap (λ v. with_option (g.E.OpenOptions.selection v) c.in-Some.option) i.path in (
       there.0,
-      next_begun picks answers answers' found found' (λ pairs o is. g.met.C.Cites.answers_still c.loop-next.cites c.child.new.cites pairs o w.moved is) w.goes_on.kept s (g.E.OpenOptions.selection c.choose.new.self) c.args.item c.in-Some.option trees c.loop-next.progress.fuel c.args.progress.now.fuel with open_option old there.1 there.2 i.trees.spent,
+      next_begun picks answers answers' found found' (λ pairs o is. g.met.C.Cites.answers_still c.loop-next.cites c.child.new.cites pairs o w.moved is) w.goes_on.kept s v c.args.item c.in-Some.option trees c.loop-next.progress.fuel c.args.progress.now.fuel with open_option old there.1 there.2 i.made.2.0.spent,
     )
 
 pub walk_options-returns-in_err-child-clause-goes_on : goal.walk_options-returns-in_err-child-clause-goes_on
 walk_options-returns-in_err-child-clause-goes_on g t c =
     goes_further (g.E.OpenOptions.selection c.args.path.now) (g.E.OpenOptions.selection c.choose.new.self) c.in-Some.option c.args.progress.now c.loop-next.progress c.child.new.progress (c.in_ok-choose.ensures.chosen ∙ ap (λ v. with_option (g.E.OpenOptions.selection v) c.in-Some.option) c.loop-next.invariant.path) c.loop-next.invariant.goes_on c.child.ensures.goes_on
 
-pub walk_options-returns-in-None-clause-goes_on : goal.walk_options-returns-in-None-clause-goes_on
-walk_options-returns-in-None-clause-goes_on g t c =
-    goes_further (g.E.OpenOptions.selection c.args.path.now) (g.E.OpenOptions.selection c.choose.new.self) c.in-Some.option c.args.progress.now c.loop-next.progress c.child.new.progress (c.in_ok-choose.ensures.chosen ∙ ap (λ v. with_option (g.E.OpenOptions.selection v) c.in-Some.option) c.loop-next.invariant.path) c.loop-next.invariant.goes_on c.child.ensures.goes_on
-
-pub walk_options-returns-in_err-push-in-Some-2-clause-goes_on : goal.walk_options-returns-in_err-push-in-Some-2-clause-goes_on
-walk_options-returns-in_err-push-in-Some-2-clause-goes_on g t c =
+pub walk_options-returns-then-not-branch-clause-goes_on : goal.walk_options-returns-then-not-branch-clause-goes_on
+walk_options-returns-then-not-branch-clause-goes_on g t c =
     goes_further (g.E.OpenOptions.selection c.args.path.now) (g.E.OpenOptions.selection c.choose.new.self) c.in-Some.option c.args.progress.now c.loop-next.progress c.child.new.progress (c.in_ok-choose.ensures.chosen ∙ ap (λ v. with_option (g.E.OpenOptions.selection v) c.in-Some.option) c.loop-next.invariant.path) c.loop-next.invariant.goes_on c.child.ensures.goes_on

@@ -1,9 +1,8 @@
 use Rattle.std.proofs.Common.{◌≡◌, ◌+◌, ◌-◌, ◌*◌, MatchOption, ℕ, length}
 use Rattle.xcc_form.specs.Options.{cover_of}
-use Rattle.cert_tree.specs.Tree.{forest_of}
 use Rattle.xcc_dance.specs.Clashes.{IsOpenAt}
 use Rattle.xcc_dance.specs.Chosen.{Selection}
-use Rattle.xcc_dance.specs.Progress.{GoesOn, AreTreesOf}
+use Rattle.xcc_dance.specs.Progress.{GoesOn, AreTreesOf, PutsTrees}
 use Rattle.xcc_dance.proofs.SearchTreeLemmas.{AreBranchesBefore}
 use Rattle.xcc_dance.proofs.GrowingLemmas.{left_after}
 use Rattle.xcc_dance.proofs.searching.+walk.Given as goal
@@ -25,10 +24,10 @@ abbrev pub invariant-walk_options-loop-next : goal.invariant-walk_options-loop-n
 invariant-walk_options-loop-next g l = record {
   path : l.path ≡ l.initial.path;
   next : MatchOption l.next (Unit {0}) (IsOpenAt (cover_of (g.E.OpenOptions.selection l.initial.path).compiled) (g.E.OpenOptions.selection l.initial.path).chosen l.item);
-  children : AreBranchesBefore (g.R.Chooses.picks l.rule) (g.C.Cites.answers l.cites) l.progress.found.items (g.E.OpenOptions.selection l.initial.path) l.item l.next (forest_of l.nodes.items);
+  made : PutsTrees l.initial.progress l.progress (λ ts. AreTreesOf (g.E.OpenOptions.selection l.initial.path) l.initial.progress l.progress ts
+      × AreBranchesBefore (g.R.Chooses.picks l.rule) (g.C.Cites.answers l.cites) l.progress.found.items (g.E.OpenOptions.selection l.initial.path) l.item l.next ts);
   moved : g.C.Cites.moves l.initial.cites l.cites;
   goes_on : GoesOn (g.E.OpenOptions.selection l.initial.path) l.initial.progress l.progress;
-  trees : AreTreesOf (g.E.OpenOptions.selection l.initial.path) l.initial.progress l.progress (forest_of l.nodes.items);
 }
 
 abbrev pub decreases-walk_options-loop-next : goal.decreases-walk_options-loop-next

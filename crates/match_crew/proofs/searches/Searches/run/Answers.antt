@@ -3,7 +3,7 @@ use Rattle.match_puzzle.specs.Puzzle.{Task}
 use Rattle.match_puzzle.specs.Arrangement.{IsArrangement}
 use Rattle.xcc_form.specs.Options.{Compiled}
 use Rattle.xcc_dance.specs.Chosen.{Selection}
-use Rattle.xcc_dance.specs.Outcome.{IsOutcome, SearchState}
+use Rattle.xcc_dance.specs.Outcome.{IsPackedOutcome, SearchState}
 use Rattle.match_puzzle.specs.Placing.{FitInTurn}
 use Rattle.match_board.proofs.ListLemmas.{contains_at}
 use Rattle.match_crew.proofs.searches.Searches.run.Goals as goal
@@ -16,6 +16,6 @@ run_by-requires-clause-prefix g c =
 pub returns-in-Ok-Done-clause-found : goal.returns-in-Ok-Done-clause-found
 returns-in-Ok-Done-clause-found g c = λ number a at.
     let w = c.in-Ok-Done in
-    let outcome = subst (IsOutcome (λ (v : Selection). v) c.in_ok-search.search c.run_by.new.self c.args.pairs.now _) w.field-0-is w.ensures.outcome in
+    let outcome = subst (IsPackedOutcome (λ (v : Selection). v) c.in_ok-search.search c.run_by.new.self c.args.pairs.now _) w.field-0-is w.ensures.outcome in
     let compiled : c.run_by.new.self.engine.compiled.puzzle ≡ c.args.self.now.xcc.now.puzzle = ap (λ (x : Compiled). x.puzzle) w.ensures.compiled ∙ ap (λ (v : SearchState Selection). v.engine.compiled.puzzle) c.in_ok-search.ensures ∙ ap (λ (v : Selection). v.compiled.puzzle) c.in_ok-engine.ensures in
     subst (λ (q : Task). IsArrangement q a) compiled (outcome.0.found_are a (contains_at w.found.items number a at)).arrangement
