@@ -1,3 +1,5 @@
+mod EdgeLemmas
 mod JoinedLemmas
 mod TileLemmas
 mod PictureLemmas
+mod LawLemmas

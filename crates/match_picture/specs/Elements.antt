@@ -3,8 +3,10 @@ use Rattle.std.specs.Prelude.{◌≡◌, ◌⊎◌, ◌+◌, ℕ, List, [], ◌�
 use Rattle.match_board.specs.Board.{side_count}
 use Rattle.match_puzzle.specs.Puzzle.{Task, HasRule, colour_of, mate_of}
 use Rattle.match_puzzle.specs.declared.placements.Placement.{Placement}
+use Rattle.match_picture.specs.Edges.{HasEdge, IsEdgePath}
 use Rattle.match_picture.specs.Joined.{IsJoined}
 use Rattle.match_picture.specs.Sites.{begin_of}
+use Rattle.match_picture.specs.declared.edges.Edge.{Edge}
 use Rattle.match_picture.specs.declared.palette.TheConstants.{FILLS}
 use Rattle.match_picture.specs.declared.sites.Site.{Site}
 
@@ -17,12 +19,13 @@ abbrev pub element_begin : Task → (colour x y : ℕ) → List ℕ
 element_begin p colour x y =
     codes "<path fill=\"#" ++ fill_of p colour ++ codes "\" d=\"M" ++ decimal x ++ 32 ∷ decimal y
 
--- an element that begins so
+-- an element that begins so, and whose path has the colour's edge
 pub record IsElement (p : Task) (colour x y : ℕ) (text : List ℕ) : Type 0 where
   pub rest : List ℕ
   pub begins : text ≡ element_begin p colour x y ++ rest
+  pub along : (edge : Edge) → HasEdge p colour edge → IsEdgePath edge rest
 
--- an element with the fill of the colour, whose path begins where the side of the site does
+-- an element with the fill and the edge of the colour, whose path begins where the side of the site does
 abbrev pub IsAtSide : Task → (left top : ℕ) → Site → (side colour : ℕ) → List ℕ → Type 0
 IsAtSide p left top site side colour text =
     IsElement p colour (left + site.x + (begin_of site.form side).0) (top + site.y + (begin_of site.form side).1) text
@@ -48,3 +51,8 @@ pub record IsBandLine (p : Task) (left top : ℕ) (site : Site) (cell : ℕ) (te
   pub bands : List ℕ
   pub joined : IsJoined (IsBand p left top site cell) (side_count p.board) bands
   pub line : ((bands ≡ []) × (text ≡ [])) ⊎ (text ≡ bands ++ 10 ∷ [])
+
+-- an element whose text is this number
+pub record SaysNumber (number : ℕ) (text : List ℕ) : Type 0 where
+  pub before : List ℕ
+  pub said : text ≡ before ++ (62 ∷ (decimal number ++ codes "</text>"))

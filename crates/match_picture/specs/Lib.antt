@@ -1,4 +1,6 @@
 pub mod Joined
 pub mod Sites
+pub mod Edges
 pub mod Elements
 pub mod Pictures
+pub mod Laws

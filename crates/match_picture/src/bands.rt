@@ -171,11 +171,13 @@ fn band(alloc: Global, canvas: &Canvas<'_>, ruled: Ruled) -> Result<Vec<u8>, All
     let Ruled { cell, side, colour } = ruled;
     let site = canvas.sites[usize::from(cell)];
     let form_side = side_of(site.form, side);
-    let edge = edge_path(alloc, site.form, side, edge_of(canvas.puzzle, colour))?;
+    let edge = edge_of(canvas.puzzle, colour);
+    let path = edge_path(alloc, site.form, side, edge)?;
     let last = outer_corner(canvas, cell, side, End::Last);
     let first = outer_corner(canvas, cell, side, End::First);
     let (out, back) = (last.step(), back_to(first, last, form_side.way));
-    let rest = format!(in alloc; "{edge}{out}{back}z\"/>")?;
+    let round = format!(in alloc; "{out}{back}z\"/>")?;
+    let rest = format!(in alloc; "{path}{round}")?;
     let mut band = begin_element(
         alloc,
         canvas.puzzle,

@@ -1,7 +1,9 @@
 //! Edges of colours.
 
-ghost use Rattle.std.specs.Prelude.{◌<◌};
+ghost use Rattle.std.specs.Prelude.{◌<◌, IfOk};
+ghost use Rattle.std.specs.String.{string_bytes};
 ghost use Rattle.match_board.specs.declared.limits.TheConstants.{MOST_COLOURS};
+ghost use Rattle.match_picture.specs.Edges.{HasArc, HasEdge, IsEdgePath};
 
 use crate::forms::{Form, Next, knob_radius, side_of};
 use match_puzzle::Puzzle;
@@ -19,6 +21,7 @@ pub enum Edge {
 /// The edge of the colour.
 pub fn edge_of(puzzle: &Puzzle, colour: u8) -> Edge
     requires { colour < MOST_COLOURS }
+    ensures { HasEdge puzzle.now colour result }
 {
     let mate = puzzle.mate(colour);
     if colour == mate {
@@ -31,7 +34,9 @@ pub fn edge_of(puzzle: &Puzzle, colour: u8) -> Edge
 }
 
 /// The path along a side, from its beginning.
-pub fn edge_path(alloc: Global, form: Form, side: u8, edge: Edge) -> Result<String, AllocError> {
+pub fn edge_path(alloc: Global, form: Form, side: u8, edge: Edge) -> Result<String, AllocError>
+    ensures { IfOk result (λ path. IsEdgePath edge (string_bytes path)) }
+{
     match edge {
         Edge::Flat => {
             let way = side_of(form, side).way.step();
@@ -43,11 +48,16 @@ pub fn edge_path(alloc: Global, form: Form, side: u8, edge: Edge) -> Result<Stri
 }
 
 // The same with an arc over the neck, clockwise or not, as the flag says.
-fn curved_path(alloc: Global, form: Form, side: u8, sweep: u8) -> Result<String, AllocError> {
+fn curved_path(alloc: Global, form: Form, side: u8, sweep: u8) -> Result<String, AllocError>
+    ensures { IfOk result (λ path. HasArc sweep (string_bytes path)) }
+{
     let side = side_of(form, side);
     let radius = knob_radius(form);
     let straight = side.straight.step();
     let neck = side.neck.step();
     let (x, y) = (Next { number: neck.x }, Next { number: neck.y });
-    format!(in alloc; "{straight}a{radius} {radius} 0 1 {sweep}{x}{y}{straight}")
+    let before = format!(in alloc; "{straight}a{radius} {radius}")?;
+    let after = format!(in alloc; "{x}{y}{straight}")?;
+    let path = format!(in alloc; "{before} 0 1 {sweep}{after}")?;
+    Ok(path)
 }

@@ -1,7 +1,8 @@
 //! Elements of a picture.
 
-ghost use Rattle.std.specs.Prelude.{◌≡◌, ◌<◌, OnOk};
-ghost use Rattle.match_picture.specs.Elements.{fill_of};
+ghost use Rattle.std.specs.Prelude.{◌≡◌, ◌<◌, IfOk, OnOk};
+ghost use Rattle.std.specs.String.{string_bytes};
+ghost use Rattle.match_picture.specs.Elements.{SaysNumber, fill_of};
 ghost use Rattle.match_picture.specs.Joined.{IsWrapped};
 ghost use Rattle.match_board.specs.declared.limits.TheConstants.{MOST_COLOURS};
 
@@ -50,9 +51,13 @@ pub fn sign(alloc: Global, puzzle: &Puzzle, colour: u8, middle: Point) -> Result
 }
 
 /// The number, its base line so far below the point.
-pub fn number(alloc: Global, number: u32, at: Point, base: u8) -> Result<String, AllocError> {
+pub fn number(alloc: Global, number: u32, at: Point, base: u8) -> Result<String, AllocError>
+    ensures { IfOk result (λ label. SaysNumber number (string_bytes label)) }
+{
     let (x, y) = (at.x, at.y.saturating_add(u64::from(base)));
-    format!(in alloc; "<text x=\"{x}\" y=\"{y}\">{number}</text>")
+    let begin = format!(in alloc; "<text x=\"{x}\" y=\"{y}\"")?;
+    let label = format!(in alloc; "{begin}>{number}</text>")?;
+    Ok(label)
 }
 
 /// The outline of a cell or a tile with these edges, side by side.

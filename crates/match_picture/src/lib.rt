@@ -10,6 +10,7 @@ mod documents;
 mod edges;
 mod elements;
 mod forms;
+mod laws;
 mod palette;
 mod parts;
 mod pictures;
@@ -18,5 +19,6 @@ mod sites;
 mod tiles;
 mod trays;
 
+pub use laws::picture_laws;
 pub use pictures::{write_arrangement_picture, write_puzzle_picture};
 pub use sheets::write_sheet;

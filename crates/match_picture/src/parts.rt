@@ -70,9 +70,10 @@ fn part(
     ensures { IfOk result (λ part. IsAtSide canvas.now.puzzle.now canvas.now.left canvas.now.top site side colour part.items) }
 {
     let form_side = side_of(site.form, side);
-    let edge = edge_path(alloc, site.form, side, edge_of(canvas.puzzle, colour))?;
-    let home = form_side.home.step();
-    let rest = format!(in alloc; "{edge}{home}z\"/>")?;
+    let edge = edge_of(canvas.puzzle, colour);
+    let path = edge_path(alloc, site.form, side, edge)?;
+    let home = format!(in alloc; "{}z\"/>", form_side.home.step())?;
+    let rest = format!(in alloc; "{path}{home}")?;
     let mut part = begin_element(
         alloc,
         canvas.puzzle,

@@ -1,6 +1,8 @@
 //! Tiles as they lie on a board or in the tray.
 
-ghost use Rattle.std.specs.Prelude.{◌≡◌, ◌<◌, All, OnOk, length};
+ghost use Rattle.std.specs.Prelude.{◌≡◌, ◌<◌, All, IfOk, OnOk, length};
+ghost use Rattle.std.specs.String.{string_bytes};
+ghost use Rattle.match_picture.specs.Elements.{SaysNumber};
 ghost use Rattle.match_picture.specs.Joined.{Grows, Wraps};
 ghost use Rattle.match_picture.specs.Pictures.{ArePartLines};
 
@@ -181,11 +183,23 @@ fn put_layer(
         Layer::Signs => put_tile_signs(alloc, line, canvas, site, placement),
         Layer::Discs => put_disc(alloc, line, canvas, site),
         Layer::Numbers => {
-            let at = canvas.point(site, middle(site.form));
-            let label = number(alloc, u32::from(placement.tile), at, 5)?;
+            let label = tile_number(alloc, canvas, site, placement)?;
             line.extend_from_slice(label.as_bytes())
         }
     }
+}
+
+// The number of the tile, in its middle.
+fn tile_number(
+    alloc: Global,
+    canvas: &Canvas<'_>,
+    site: Site,
+    placement: Placement,
+) -> Result<String, AllocError>
+    ensures { IfOk result (λ label. SaysNumber placement.tile (string_bytes label)) }
+{
+    let at = canvas.point(site, middle(site.form));
+    number(alloc, u32::from(placement.tile), at, 5)
 }
 
 // The edges of the colours that are shown.

@@ -1,5 +1,7 @@
-use Rattle.std.proofs.Common.{◌≡◌, ◌<◌, get_or, length, arith, subst}
+use Rattle.std.proofs.Common.{◌≡◌, ◌<◌, ◌∙◌, get_or, length, arith, subst}
+use Rattle.std.specs.String.{string_bytes}
 use Rattle.match_picture.specs.Elements.{IsAtSide}
+use Rattle.match_picture.proofs.EdgeLemmas.{along_edge}
 use Rattle.match_picture.proofs.JoinedLemmas.{same_item}
 use Rattle.match_picture.proofs.bands.band.Goals as goal
 
@@ -13,5 +15,6 @@ returns c = λ site at.
     let made : IsAtSide canvas.puzzle.now canvas.left canvas.top c.index-site.result.now ruled.side ruled.colour c.extend_from_slice.new.self.items = record {
       rest = c.as_bytes.result.now;
       begins = grind (arith, c.in_ok-extend_from_slice.ensures.items, c.in_ok-band.ensures, c.point.ensures.x, c.point.ensures.y, c.side_of-form_side.ensures.x, c.side_of-form_side.ensures.y);
+      along = along_edge canvas.puzzle.now ruled.colour c.edge_of-edge.result (string_bytes c.in_ok-path.path) (string_bytes c.in_ok-round.round) c.as_bytes.result.now c.edge_of-edge.ensures c.in_ok-path.ensures (c.as_bytes.ensures.value ∙ c.in_ok-rest.ensures.ok);
     } in
     subst (λ s. IsAtSide canvas.puzzle.now canvas.left canvas.top s ruled.side ruled.colour c.extend_from_slice.new.self.items) same made
