@@ -4,20 +4,22 @@ _edgematch() {
   local word=${COMP_WORDS[COMP_CWORD]} before=${COMP_WORDS[COMP_CWORD - 1]} command=${COMP_WORDS[1]} words
   COMPREPLY=()
   if [ "$COMP_CWORD" -eq 1 ]; then
-    words="check explain solve expand count show symmetries tiles help --help --version"
+    words="check explain solve expand count show draw symmetries tiles help --help --version"
   else
     case $before in
-      --depth | --fuel | --forks | --workers) return ;;
+      --depth | --first | --forks | --fuel | --most | --part | --workers) return ;;
     esac
     case $command in
       check) words="--workers --forks --progress --help" ;;
       solve) words="--depth --fuel --workers --keep --progress --help" ;;
-      explain | expand | count | show | symmetries | tiles) words="--help" ;;
-      help) words="check explain solve expand count show symmetries tiles help" ;;
+      count) words="--workers --most --part --help" ;;
+      draw) words="--first --numbers --help" ;;
+      explain | expand | show | symmetries | tiles) words="--help" ;;
+      help) words="check explain solve expand count show draw symmetries tiles help" ;;
     esac
   fi
   case $command in
-    check | explain | solve | expand | count | show | symmetries)
+    check | explain | solve | expand | count | show | draw | symmetries)
       if [ "$COMP_CWORD" -gt 1 ] && [ "${word:0:1}" != - ]; then
         mapfile -t COMPREPLY < <(compgen -f -- "$word")
         return

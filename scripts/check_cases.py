@@ -27,6 +27,8 @@ CASES, EXAMPLES = os.path.join(TOP, "cases"), os.path.join(TOP, "examples")
 GALLERY = "gallery"
 DOCUMENTS = ("puzzle", "list", "certificate")
 WORKERS, FORKS, DEPTHS = (1, 2, 7, 64), (0, 3, 6), (0, 1, 2, 3)
+# Of how many parts a count by a search is added up.
+PARTS = 3
 # The seconds that one run of the program may take.
 LONGEST = 300
 # The bytes of the longest path that the system takes, and of a name in it.
@@ -37,7 +39,7 @@ NAMES = re.compile(r"(\./)?(PUZZLE|LIST|CERTIFICATE|FOLDER)((?:[./].*)?)$")
 
 # What a table of a case may have, by what it is.
 TEXTS = {"like", "change", *DOCUMENTS}
-CHECKED = {"answer", "fault", "joined", "rows", "explanations", "explanation", "expansion", "arrangements", "cut"}
+CHECKED = {"answer", "fault", "joined", "rows", "explanations", "explanation", "expansion", "arrangements", "too_large", "cut"}
 STREAMED = {f"{stream}{end}" for stream in ("stdout", "stderr") for end in ("", "_begins", "_has")}
 ORDERED = {"words", "beside", "deep", "stdin", "status", "files", "files_have", "kept", "left", "stdout_lines", *STREAMED}
 SOLVED = {"solve"}
@@ -304,6 +306,10 @@ def expand(trial, case):
         wanted = f"arrangements {case.keys['arrangements']}".encode("latin-1")
         trial.wants("expand", "the list's second line", wanted, b"".join(got.stdout.splitlines()[1:2]))
     count(trial, "count", got)
+    if case.keys.get("too_large"):
+        trial.wants_outcome("count PUZZLE", Outcome(3, b"", b"too many options\n"), trial.run(["count", trial.path("puzzle")]))
+    elif got.status == 0:
+        count_by_search(trial, case.keys.get("arrangements", len(case.keys.get("expansion", ()))))
 
 
 def count(trial, way, expanded):
@@ -312,6 +318,32 @@ def count(trial, way, expanded):
     trial.wants_status(way, expanded.status, got.status)
     first = expanded.stdout.splitlines()[1:2] if expanded.status == 0 else [expanded.stdout[:-1]]
     trial.wants(way, "its first line", b"".join(first), b"".join(got.stdout.splitlines()[:1]))
+
+
+def count_by_search(trial, number):
+    """Counts of the puzzle by a search: so many, by one worker and by several; no more than so many, and more than one
+    less; and as the sum of the parts of one split."""
+    all_of = b"arrangements %d\n" % number
+    for options in ([], ["--workers", "3"], ["--most", str(number)], ["--most", str(2**64 - 1)]):
+        got = trial.run(["count", trial.path("puzzle"), *options])
+        trial.wants_outcome(" ".join(["count PUZZLE", *options]), Outcome(0, all_of, b""), got)
+    if number > 0:
+        got = trial.run(["count", trial.path("puzzle"), "--most", str(number - 1)])
+        more = b"arrangements more than %d\n" % (number - 1)
+        trial.wants_outcome(f"count PUZZLE --most {number - 1}", Outcome(0, more, b""), got)
+    splits, total = set(), 0
+    for part in range(1, PARTS + 1):
+        way = f"count PUZZLE --part {part}/{PARTS}"
+        got = trial.run(["count", trial.path("puzzle"), "--part", f"{part}/{PARTS}"])
+        trial.wants_status(way, 0, got.status)
+        lines = re.fullmatch(rb"(split \d+ \d+)\npart %d/%d arrangements (\d+)\n" % (part, PARTS), got.stdout)
+        if lines is None:
+            trial.differs(way, "standard output", b"split ..", got.stdout)
+            return
+        splits.add(lines[1])
+        total += int(lines[2])
+    trial.wants("count PUZZLE by parts", "the sum", b"%d" % number, b"%d" % total)
+    trial.wants("count PUZZLE by parts", "how many splits", b"1", b"%d" % len(splits))
 
 
 def order(trial, case):
@@ -397,6 +429,7 @@ def solve_in_one_lemma(trial):
 def solves(trial, count, every=None):
     """Solves of the puzzle at each depth and by several numbers of workers."""
     solve(trial, [], count, every)
+    count_by_search(trial, count)
     for depth in DEPTHS:
         for workers in WORKERS:
             solve(trial, ["--depth", str(depth), "--workers", str(workers)], count, every)

@@ -31,8 +31,9 @@ def helped(program, *command):
 
 
 def options_of(text):
-    """The options of a help, as `--fuel <N>` or `--keep`, with what is said of each, and of its default."""
-    return {words: said for words, said in rows(text, "Options") if words.startswith("--")}
+    """The options of a help, as `--fuel <N>` or `--keep`, with what is said of each, and of its default; whatever stands
+    for the value of one, as `--fuel <N>`."""
+    return {re.sub("<.*>", "<N>", words): said for words, said in rows(text, "Options") if words.startswith("--")}
 
 
 def option(name, number):
@@ -63,7 +64,7 @@ def manual_faults(commands, options):
         part = told.get(name, "")
         if said not in part.replace("\n", " "):
             yield f"what {name} does"
-        found = re.findall(r'^\n(--\w+)( " N")?\n(.*)$', part, re.MULTILINE)
+        found = re.findall(r'^\n(--\w+)( " [\w/]+")?\n(.*)$', part, re.MULTILINE)
         if {option(long, number): said for long, number, said in found} != options.get(name, {}):
             yield f"the options of {name}"
 
@@ -91,7 +92,7 @@ def zsh_faults(commands, options):
         yield "commands"
     cases = {name: part for names, part in parts(text, r"^    ([\w |]+)\)$").items() for name in names.split(" | ")}
     for name in options:
-        found = re.findall(r"'(--\w+)\[(.*?)\](:N:)?'", cases.get(name, ""))
+        found = re.findall(r"'(--\w+)\[(.*?)\](:[\w/]+:)?'", cases.get(name, ""))
         if {option(long, number): said for long, said, number in found} != without_defaults(options[name]):
             yield f"the options of {name}"
 

@@ -486,3 +486,29 @@ always_given s all strict words e a own always = let found = has_row_found a.id 
           passes = value.2;
           read = ap (option_and_then row_text) is ∙ ap (option_map (read_as r.reading)) value.1 ∙ ap (λ how. Some (read_as how value.0)) (found.0.read a own_row);
         }
+
+-- the first value of an argument of a leaf passes its parser
+pub first_passes : (s : Shape) → AllByRecursion (IsValued s.rules) s.rules → (words : List Text) → level_fault s [] nothing_held words false [] ≡ []
+    → (a : Rule) → arg_by_id s.rules a.id ≡ Some a → (text : Text) → first_of a.id (rows_after s.rules [] words) ≡ Some text → value_passes a text ≡ true
+first_passes s all words e a own text first = go (find (λ r. bytes_eq r.id a.id) rows) refl first
+  where
+    rows : List Row
+    rows = rows_after s.rules [] words
+
+    full : AllFull s.rules rows
+    full = (level_full s all [] words false [] e).0
+
+    both : (b c : Bool) → (b && c) ≡ true → b ≡ true
+    both true c e = refl
+    both false c e = absurd cc
+
+    first_value : (values : List Text) → values_pass a values ≡ true → slice_get values 0 ≡ Some text → value_passes a text ≡ true
+    first_value [] pass at = absurd cc
+    first_value (v ∷ vs) pass at = let same : v ≡ text = cc in subst (λ t. value_passes a t ≡ true) same (both (value_passes a v) (values_pass a vs) pass)
+
+    go : (o : Option Row) → find (λ r. bytes_eq r.id a.id) rows ≡ o → option_and_then (λ (r : Row). slice_get r.values 0) o ≡ Some text → value_passes a text ≡ true
+    go None is at = absurd cc
+    go (Some r) is at =
+        let found = found_has (IsFull s.rules) (λ r. bytes_eq r.id a.id) rows full r is in
+        let same : r.id ≡ a.id = (bytes_eq-Decides r.id a.id).0 found.1 in
+        first_value r.values (found.0.pass a (subst (λ id. arg_by_id s.rules id ≡ Some a) (sym same) own)) at

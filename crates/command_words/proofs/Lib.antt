@@ -1,2 +1,3 @@
+pub mod ExtentLemmas
 pub mod FaultlessWalk
 pub mod ProgramLemmas

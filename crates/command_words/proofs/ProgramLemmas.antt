@@ -7,6 +7,7 @@ use Rattle.std.specs.Str.{bytes_eq}
 use Rattle.std.proofs.lemmas.Slice.Eq.{bytes_eq-Decides}
 use Rattle.clap.specs.Facts.{parser_of_value}
 use Rattle.clap.specs.ValueTests.{accepts}
+use Rattle.clap.specs.Takes.{takes, value_passes}
 use Rattle.clap.specs.Words.{IsUnsignedIn}
 use Rattle.clap.specs.declared.builder.value_parser.ValueParser.{ValueParser}
 use Rattle.clap.specs.Lexer.{long_of, short_of}
@@ -25,11 +26,15 @@ use Rattle.clap.specs.declared.error.kind.ErrorKind.TheVariants as kinds
 use Rattle.clap.proofs.OnLiterals.{clap_on_literals}
 use Rattle.clap.proofs.ValueTestLemmas.{accepts-Accepts}
 use Rattle.command_words.specs.Commands.{whole_app}
-use Rattle.command_words.specs.Orders.{HasFiles, HasFlag, HasNumber, HasText, IsFaultOf, IsOrder, IsOrderOf, IsRefusedBy}
+use Rattle.command_words.specs.Orders.{HasFiles, HasFlag, HasNumber, HasText, IsExtent, IsFaultOf, IsMisfit, IsOrder, IsOrderOf, IsRefused, MayHaveNumber, NameFiles, TellsOfMisfit}
+use Rattle.command_words.specs.declared.orders.Extent.{Extent}
+use Rattle.command_words.specs.declared.orders.Extent.TheVariants as extents
+use Rattle.command_words.specs.declared.orders.Files.{Files}
+use Rattle.command_words.specs.declared.orders.Order.TheVariants as orders
 use Rattle.command_words.specs.declared.orders.Order.{Order}
 use Rattle.command_words.specs.declared.faults.WordsFault.{WordsFault}
 use Rattle.command_words.specs.declared.faults.WordsFault.TheVariants.{Words, Memory}
-use Rattle.command_words.proofs.FaultlessWalk.{IsGiven, IsValued, always_given, found_has, is_always_given, none_of_both, puts_values, wants_values}
+use Rattle.command_words.proofs.FaultlessWalk.{IsGiven, IsValued, always_given, first_passes, found_has, is_always_given, none_of_both, puts_values, wants_values}
 
 pub some_is : {A : Type 0} {x y : A} → Some x ≡ Some y → x ≡ y
 some_is e = cc
@@ -194,6 +199,10 @@ all_valued c (a ∷ rules) own puts = let parts = both_true _ _ puts in (record 
 abbrev pub HasNeeded : Shape → List Row → Type 0
 HasNeeded s rows = (a : Rule) → arg_by_id s.rules a.id ≡ Some a → is_always_given a ≡ true → IsGiven a rows
 
+-- The first value of each argument passes its parser.
+abbrev pub HasPassing : Shape → List Row → Type 0
+HasPassing s rows = (a : Rule) → arg_by_id s.rules a.id ≡ Some a → (text : Text) → first_of a.id rows ≡ Some text → value_passes a text ≡ true
+
 -- the command of this name
 abbrev pub command_named : Text → Option Shape
 command_named name = named (λ s. s.name) (built whole_app).subs name
@@ -204,6 +213,7 @@ pub record IsEntered (name : Text) (rows : List Row) : Type 0 where
   pub is_named : command_named name ≡ Some shape
   pub no_help : name ≢ codes "help"
   pub needed : HasNeeded shape rows
+  pub passing : HasPassing shape rows
 
 -- a command that takes its words is entered
 abbrev IsEnteredWhere : Shape → Type 0
@@ -246,6 +256,7 @@ usual_has s is usual word answers elsewhere words e = go (bytes_eq s.name (codes
           is_named = is;
           no_help = λ same. true_is_false (sym ((bytes_eq-Decides s.name (codes "help")).1 same) ∙ other);
           needed = λ a own always. always_given s valued (strict s.subcommand_negates_reqs rest.1) words e a own always;
+          passing = first_passes s valued words e;
         }
 
 each_usual : (all subs : List Shape) → AllByRecursion (λ s. named (λ t. t.name) all s.name ≡ Some s) subs → list_all is_usual subs ≡ true
@@ -319,14 +330,15 @@ parse_has command words is none name rows enters =
     program_has words (ap (λ (a : App). fault_of a words) (sym is) ∙ none (is_free command is)) name rows enters
 
 -- the order of the words, by what they enter
-pub orders : (words : List Text) (name : Text) (rows : List Row) (order : Order) → subcommand_of whole_app words ≡ Some (name, rows) → IsOrderOf (Some (name, rows)) order → IsOrder words order
-orders words name rows order enters is = subst (λ entered. IsOrderOf entered order) (sym enters) is
+pub order_of : (words : List Text) (name : Text) (rows : List Row) (order : Order) → subcommand_of whole_app words ≡ Some (name, rows) → IsOrderOf (Some (name, rows)) order → IsOrder words order
+order_of words name rows order enters is = subst (λ entered. IsOrderOf entered order) (sym enters) is
 
--- a fault of a parse is of its kinds
+-- a fault of a parse is of its kinds, and that of words that aren't taken
 pub parse_refuses : (command : Command) (words : List Text) (e : Error) (fault : WordsFault) → app_of command ≡ whole_app → (is_simple_and_free (app_of command) ≡ true → HasKind (fault_of (app_of command) words) e)
-    → IsFaultOf e fault → IsRefusedBy (fault_of whole_app words) fault
-parse_refuses command words e Memory is has gives = tt
-parse_refuses command words e (Words other) is has gives = of_kinds (subst (λ (a : App). HasKind (fault_of a words) e) is (has (is_free command is)))
+    → (takes (app_of command) words ≡ true → kind_of e ≡ kinds.OutOfMemory) → IsFaultOf e fault → IsRefused words fault
+parse_refuses command words e Memory is has passes gives = tt
+parse_refuses command words e (Words other) is has passes gives =
+    inl (λ taken. gives.1 (passes (subst (λ (a : App). takes a words ≡ true) (sym is) taken)), of_kinds (subst (λ (a : App). HasKind (fault_of a words) e) is (has (is_free command is))))
   where
     of_kinds : HasKind (fault_of whole_app words) e → IsAmong (kind_of other) (fault_of whole_app words)
     of_kinds (inl memory) = absurd (gives.1 memory)
@@ -357,6 +369,16 @@ has_text s rows id has wants = go (arg_by_id s.rules id) refl wants
         let same = (bytes_eq-Decides a.id id).0 (found_passes (λ b. bytes_eq b.id id) s.rules a is) in
         let given = has a (subst (λ t. arg_by_id s.rules t ≡ Some a) (sym same) is) always in
         (given.text, subst (λ t. first_of t rows ≡ Some given.text) same given.first)
+
+pub passing_at : (at name : Text) (rows : List Row) → IsEntered name rows → name ≡ at → command_named at ≡ Some (command_at at) → HasPassing (command_at at) rows
+passing_at at name rows is same at_is = subst (λ s. HasPassing s rows) (some_is (sym is.is_named ∙ ap command_named same ∙ at_is)) is.passing
+
+-- a number that a command may have
+pub may_have_number : (s : Shape) (rows : List Row) (a : Rule) (least most : ℕ) → HasPassing s rows → arg_by_id s.rules a.id ≡ Some a → a.parser ≡ Some (parsers.Unsigned least most) → MayHaveNumber a.id least most rows
+may_have_number s rows a least most has own number text first = read a.ignore_case a.parser text number (has a own text first)
+  where
+    read : (ignores : Bool) (parser : Option ValueParser) (text : Text) → parser ≡ Some (parsers.Unsigned least most) → accepts ignores (parser_of_value parser) text ≡ true → IsUnsignedIn least most text
+    read ignores parser text is passes = accepts-Accepts ignores (parsers.Unsigned least most) text (rw is at passes)
 
 -- a number that a command needs, or has a default for
 pub has_number : (s : Shape) (rows : List Row) (a : Rule) (least most : ℕ) → HasNeeded s rows → arg_by_id s.rules a.id ≡ Some a → is_always_given a ≡ true → a.parser ≡ Some (parsers.Unsigned least most) → HasNumber a.id least most rows
@@ -395,6 +417,33 @@ differs name other ne = go (bytes_eq other name) refl
     go true is = absurd (ne (sym ((bytes_eq-Decides other name).0 is)))
     go false is = refl
 
-pub only_memory : (e : Error) (fault : WordsFault) → IsFaultOf e fault → kind_of e ≡ kinds.OutOfMemory → fault ≡ Memory
-only_memory e (Words other) gives is = absurd (gives.1 is)
-only_memory e Memory gives is = refl
+-- ---- words of `count`
+
+differ : (name other : Text) → bytes_eq name other ≡ false → name ≡ other → ⊥
+differ name other differs_so is = true_is_false (sym ((bytes_eq-Decides name other).1 is) ∙ differs_so)
+
+-- they give no order where they give no count by a list, and none by a search
+pub no_count : (rows : List Row) → ((files : Files) → NameFiles rows files → IsExtent rows extents.All → ⊥)
+    → ((extent : Extent) → first_of (codes "LIST") rows ≡ None → first_of (codes "CERTIFICATE") rows ≡ None → IsExtent rows extent → ⊥)
+    → (order : Order) → IsOrderOf (Some (codes "count", rows)) order → ⊥
+no_count rows listed searched orders.Joined is = is
+no_count rows listed searched (orders.Check files workers forks progress) is = differ (codes "count") (codes "check") refl is.0
+no_count rows listed searched (orders.Explain files) is = differ (codes "count") (codes "explain") refl is.0
+no_count rows listed searched (orders.Solve files depth fuel workers keep progress) is = differ (codes "count") (codes "solve") refl is.0
+no_count rows listed searched (orders.Expand files) is = differ (codes "count") (codes "expand") refl is.0
+no_count rows listed searched (orders.Count files) is = listed files is.1 is.2
+no_count rows listed searched (orders.Census puzzle extent workers) is = searched extent is.2 is.3 is.4
+no_count rows listed searched (orders.Show puzzle list) is = differ (codes "count") (codes "show") refl is.0
+no_count rows listed searched (orders.Draw puzzle list first numbers) is = differ (codes "count") (codes "draw") refl is.0
+no_count rows listed searched (orders.Symmetries puzzle) is = differ (codes "count") (codes "symmetries") refl is.0
+no_count rows listed searched (orders.Tiles sides colours) is = differ (codes "count") (codes "tiles") refl is.0
+
+-- what is told of them
+pub misfits : (rows : List Row) (fault : WordsFault) → TellsOfMisfit fault → ((order : Order) → IsOrderOf (Some (codes "count", rows)) order → ⊥) → IsMisfit (Some (codes "count", rows)) fault
+misfits rows (Words error) tells none = (none, tells)
+misfits rows Memory tells none = tt
+
+-- a fault of what the words enter is one of the words
+pub misfit_refused : (words : List Text) (name : Text) (rows : List Row) (fault : WordsFault) → subcommand_of whole_app words ≡ Some (name, rows) → IsMisfit (Some (name, rows)) fault → IsRefused words fault
+misfit_refused words name rows Memory enters is = tt
+misfit_refused words name rows (Words error) enters is = inr (subst (λ entered. IsMisfit entered (Words error)) (sym enters) is)

@@ -7,6 +7,7 @@ use Rattle.clap.specs.declared.builder.action.ArgAction.TheVariants.{SetTrue}
 use Rattle.clap.specs.declared.builder.command.Command.{Command}
 use Rattle.clap.specs.declared.builder.command.Command.TheViews.{out-Command}
 use Rattle.clap.specs.declared.builder.value_parser.ValueParser.TheVariants as parsers
+use Rattle.command_words.specs.declared.numbers.TheConstants.{MOST_DRAWN}
 
 -- no argument of the command is one of its subcommands too
 abbrev pub IsLocal : Command → Type 0
@@ -29,6 +30,14 @@ number_or_default id least most default =
 abbrev pub optional_number : Text → ℕ → ℕ → Text → Rule
 optional_number id least most default =
     record (number_or_default id least most default) { long = Some id; value_names = 1 }
+
+-- a text behind an option of this name
+abbrev pub optional_text : Text → Rule
+optional_text id = record (new_rule id) { long = Some id; value_names = 1 }
+
+-- a number of 64 bits behind an option of this name
+abbrev pub optional_bound : Text → Rule
+optional_bound id = record (optional_text id) { parser = Some (parsers.Unsigned 0 18446744073709551615) }
 
 -- a flag of this name
 abbrev pub flag : Text → Rule
@@ -71,12 +80,28 @@ abbrev pub expand_app : App
 expand_app = with_files (new_app (codes "expand"))
 
 abbrev pub count_app : App
-count_app = with_files (new_app (codes "count"))
+count_app =
+    with_rules (with_puzzle (new_app (codes "count")))
+    (new_rule (codes "LIST")
+    ∷ new_rule (codes "CERTIFICATE")
+    ∷ optional_number (codes "workers") 1 MOST_WORKERS (codes "1")
+    ∷ optional_bound (codes "most")
+    ∷ optional_text (codes "part")
+    ∷ [])
 
 abbrev pub show_app : App
 show_app =
     with_rules (with_puzzle (new_app (codes "show")))
     (new_rule (codes "LIST") ∷ number_or_default (codes "N") 0 LAST_ARRANGEMENT (codes "0") ∷ [])
+
+abbrev pub draw_app : App
+draw_app =
+    with_rules (with_puzzle (new_app (codes "draw")))
+    (new_rule (codes "LIST")
+    ∷ number_or_default (codes "N") 0 LAST_ARRANGEMENT (codes "0")
+    ∷ optional_number (codes "first") 0 MOST_DRAWN (codes "0")
+    ∷ flag (codes "numbers")
+    ∷ [])
 
 abbrev pub symmetries_app : App
 symmetries_app = with_puzzle (new_app (codes "symmetries"))
@@ -89,7 +114,16 @@ tiles_app =
 -- the commands, in the order of the help
 abbrev pub commands : List App
 commands =
-    check_app ∷ explain_app ∷ solve_app ∷ expand_app ∷ count_app ∷ show_app ∷ symmetries_app ∷ tiles_app ∷ []
+    check_app
+    ∷ explain_app
+    ∷ solve_app
+    ∷ expand_app
+    ∷ count_app
+    ∷ show_app
+    ∷ draw_app
+    ∷ symmetries_app
+    ∷ tiles_app
+    ∷ []
 
 -- the program with all of them
 abbrev pub whole_app : App

@@ -1,18 +1,21 @@
 -- What words order.
-use Rattle.std.specs.Prelude.{◌≡◌, ◌≢◌, ℕ, Bool, List, Option, Some, None, codes, option_map}
+use Rattle.std.specs.Prelude.{◌≡◌, ◌≢◌, ◌⊎◌, ℕ, Bool, List, Option, Some, None, codes, option_map, true}
 use Rattle.std.specs.String.{string_bytes}
 use Rattle.std.specs.Str.Parse.{digits_value, without_leading_plus}
 use Rattle.clap.specs.Values.{bool_text}
-use Rattle.clap.specs.Words.{IsAmong, IsUnsignedIn, Kinds, Row, Text, first_of, kind_of, one_of, subcommand_of}
+use Rattle.clap.specs.Words.{IsAmong, IsUnsignedIn, Row, Text, fault_of, first_of, kind_of, one_of, subcommand_of, takes}
 use Rattle.clap.specs.declared.error.Error.{Error}
-use Rattle.clap.specs.declared.error.kind.ErrorKind.TheVariants.{OutOfMemory}
+use Rattle.clap.specs.declared.error.kind.ErrorKind.TheVariants.{ArgumentConflict, OutOfMemory}
 use Rattle.command_words.specs.declared.faults.WordsFault.{WordsFault}
 use Rattle.command_words.specs.declared.faults.WordsFault.TheVariants.{Words, Memory}
+use Rattle.command_words.specs.declared.orders.Extent.{Extent}
+use Rattle.command_words.specs.declared.orders.Extent.TheVariants as extents
 use Rattle.command_words.specs.declared.orders.Files.{Files}
 use Rattle.command_words.specs.declared.orders.Listed.{Listed}
 use Rattle.command_words.specs.declared.orders.Order.{Order}
-use Rattle.command_words.specs.declared.orders.Order.TheVariants.{Joined, Check, Explain, Solve, Expand, Count, Show, Symmetries, Tiles}
+use Rattle.command_words.specs.declared.orders.Order.TheVariants.{Joined, Check, Explain, Solve, Expand, Count, Census, Show, Draw, Symmetries, Tiles}
 use Rattle.command_words.specs.Commands.{whole_app}
+use Rattle.command_words.specs.Parts.{IsPartText}
 
 -- the matches of a command have a text under this id
 abbrev pub HasText : Text → List Row → Type 0
@@ -21,6 +24,10 @@ HasText id rows = (text : Text) × (first_of id rows ≡ Some text)
 -- and it is a number from `least` to `most`
 abbrev pub HasNumber : Text → (least most : ℕ) → List Row → Type 0
 HasNumber id least most rows = (text : Text) × (first_of id rows ≡ Some text) × IsUnsignedIn least most text
+
+-- where the matches of a command have a text under this id, it is a number from `least` to `most`
+abbrev pub MayHaveNumber : Text → (least most : ℕ) → List Row → Type 0
+MayHaveNumber id least most rows = (text : Text) → first_of id rows ≡ Some text → IsUnsignedIn least most text
 
 -- by the matches of a command the flag of this id is given, or is not
 abbrev pub IsFlagged : Text → List Row → Bool → Type 0
@@ -52,6 +59,14 @@ IsListed rows (Some listed) =
     (first_of (codes "LIST") rows ≡ Some (string_bytes listed.list))
     × (number_of (codes "N") rows ≡ Some listed.number)
 
+-- how far a search counts by the matches of `count`
+abbrev pub IsExtent : List Row → Extent → Type 0
+IsExtent rows extents.All = (first_of (codes "most") rows ≡ None) × (first_of (codes "part") rows ≡ None)
+IsExtent rows (extents.Most most) = (number_of (codes "most") rows ≡ Some most) × (first_of (codes "part") rows ≡ None)
+IsExtent rows (extents.Part part) =
+    (first_of (codes "most") rows ≡ None)
+    × (text : Text) × (first_of (codes "part") rows ≡ Some text) × IsPartText text part
+
 -- The command and its matches give the order.
 abbrev pub IsOrderOf : Option (Text × List Row) → Order → Type 0
 IsOrderOf None Joined = Unit {0}
@@ -64,9 +79,17 @@ IsOrderOf (Some (name, rows)) (Solve files depth fuel workers keep progress) =
     × (number_of (codes "fuel") rows ≡ Some fuel) × (number_of (codes "workers") rows ≡ Some workers)
     × IsFlagged (codes "keep") rows keep × IsFlagged (codes "progress") rows progress
 IsOrderOf (Some (name, rows)) (Expand files) = (name ≡ codes "expand") × NameFiles rows files
-IsOrderOf (Some (name, rows)) (Count files) = (name ≡ codes "count") × NameFiles rows files
+IsOrderOf (Some (name, rows)) (Count files) =
+    (name ≡ codes "count") × NameFiles rows files × IsExtent rows extents.All
+IsOrderOf (Some (name, rows)) (Census puzzle extent workers) =
+    (name ≡ codes "count") × (first_of (codes "PUZZLE") rows ≡ Some (string_bytes puzzle))
+    × (first_of (codes "LIST") rows ≡ None) × (first_of (codes "CERTIFICATE") rows ≡ None) × IsExtent rows extent
+    × (number_of (codes "workers") rows ≡ Some workers)
 IsOrderOf (Some (name, rows)) (Show puzzle listed) =
     (name ≡ codes "show") × (first_of (codes "PUZZLE") rows ≡ Some (string_bytes puzzle)) × IsListed rows listed
+IsOrderOf (Some (name, rows)) (Draw puzzle listed first numbers) =
+    (name ≡ codes "draw") × (first_of (codes "PUZZLE") rows ≡ Some (string_bytes puzzle)) × IsListed rows listed
+    × (number_of (codes "first") rows ≡ Some first) × IsFlagged (codes "numbers") rows numbers
 IsOrderOf (Some (name, rows)) (Symmetries puzzle) =
     (name ≡ codes "symmetries") × (first_of (codes "PUZZLE") rows ≡ Some (string_bytes puzzle))
 IsOrderOf (Some (name, rows)) (Tiles sides colours) =
@@ -83,7 +106,21 @@ abbrev pub IsFaultOf : Error → WordsFault → Type 0
 IsFaultOf error (Words e) = (e ≡ error) × (kind_of error ≢ OutOfMemory)
 IsFaultOf error Memory = kind_of error ≡ OutOfMemory
 
--- The words are refused with one of these kinds, or memory is.
-abbrev pub IsRefusedBy : Kinds → WordsFault → Type 0
-IsRefusedBy kinds (Words e) = IsAmong (kind_of e) kinds
-IsRefusedBy kinds Memory = Unit {0}
+-- The fault is that words of `count` don't go together, or want of memory.
+abbrev pub TellsOfMisfit : WordsFault → Type 0
+TellsOfMisfit (Words error) = kind_of error ≡ ArgumentConflict
+TellsOfMisfit Memory = Unit {0}
+
+-- The matches give no order, of which the fault tells, or it is want of memory.
+abbrev pub IsMisfit : Option (Text × List Row) → WordsFault → Type 0
+IsMisfit matches (Words error) =
+    ((order : Order) → IsOrderOf matches order → ⊥) × (kind_of error ≡ ArgumentConflict)
+IsMisfit matches Memory = Unit {0}
+
+-- The words are refused: `clap` doesn't take them, for a reason of one of its kinds, or what it makes of them gives no
+-- order; or memory is refused.
+abbrev pub IsRefused : (words : List Text) → WordsFault → Type 0
+IsRefused words (Words error) =
+    ((takes whole_app words ≢ true) × IsAmong (kind_of error) (fault_of whole_app words))
+    ⊎ IsMisfit (subcommand_of whole_app words) (Words error)
+IsRefused words Memory = Unit {0}

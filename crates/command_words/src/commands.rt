@@ -3,12 +3,13 @@
 ghost use Rattle.std.specs.Prelude.{◌≡◌, IfOk, codes, false};
 ghost use Rattle.match_board.specs.declared.limits.TheConstants.{LAST_ARRANGEMENT, MOST_WORKERS};
 ghost use Rattle.clap.specs.Words.{app_of, new_app, new_rule, rule_of};
-ghost use Rattle.command_words.specs.Commands.{IsLocal, flag, number_or_default, optional_number, wanted};
-ghost use Rattle.command_words.specs.Commands.{wanted_number};
-ghost use Rattle.command_words.specs.Commands.{check_app, count_app, expand_app, explain_app, show_app, solve_app};
-ghost use Rattle.command_words.specs.Commands.{symmetries_app, tiles_app};
+ghost use Rattle.command_words.specs.Commands.{IsLocal, flag, number_or_default, optional_bound, optional_number};
+ghost use Rattle.command_words.specs.Commands.{optional_text, wanted, wanted_number};
+ghost use Rattle.command_words.specs.Commands.{check_app, count_app, draw_app, expand_app, explain_app, show_app};
+ghost use Rattle.command_words.specs.Commands.{solve_app, symmetries_app, tiles_app};
 ghost use Rattle.command_words.specs.Commands.{whole_app, with_files, with_puzzle};
 
+use crate::numbers::MOST_DRAWN;
 use clap::builder::ValueParser;
 use clap::{Arg, ArgAction, Command};
 use match_board::limits::{
@@ -106,15 +107,29 @@ Example:
   edgematch explain puzzle list certificate";
 
 const COUNTED: &str = "\
-Prints how many arrangements the puzzle has, and how many where those that the symmetries of the \
-certificate take into each other count once; or the answer of check where it is refused.
+With a puzzle alone it searches, and prints how many arrangements the puzzle has: a line arrangements N. \
+Nothing is written of what the search finds, so who doubts the number runs it again; a list with its \
+certificate can be checked.
+
+With a list and a certificate it checks these, and prints how many arrangements the puzzle has, and \
+how many where those that the symmetries of the certificate take into each other count once; or the \
+answer of check where it is refused.
+
+With --most M it says arrangements more than M as soon as it has found more: with --most 1, whether there \
+is just one.
+
+With --part K/N it counts in part K of N of the search, and prints two lines: split SUBTREES HASH, of the \
+subtrees into which the search was split and a hash of them all, and part K/N arrangements M. Where all N \
+parts print the same line split, their numbers add up to how many arrangements the puzzle has.
 
 Exit status:
-  0  the arrangements are counted
+  0  the arrangements are counted, or there are more than M
   1  the certificate does not show that the list is complete
   2  anything else, which is said on standard error
+  3  too many options, or too many arrangements to be counted, 2^64 or more, said there too
 
-Example:
+Examples:
+  edgematch count puzzle --workers 4
   edgematch count puzzle list certificate";
 
 const SHOWN: &str = "\
@@ -131,6 +146,21 @@ Exit status:
 
 Example:
   edgematch show puzzle list 0";
+
+const DRAWN: &str = "\
+Prints one SVG document. With a list it draws arrangement N of it, and with --first K a sheet of the \
+K from N on; where the list has fewer from N on, it draws these. Without a list it draws the empty board \
+with the colours that the border asks for, and each tile below.
+
+Where the list has no arrangement N, or one that is to be drawn is none of the puzzle's, that is said \
+on standard error, and nothing is printed. With --first or without a list --numbers changes nothing.
+
+Exit status:
+  0  the picture is printed
+  2  anything else, which is said on standard error
+
+Example:
+  edgematch draw puzzle list 0 --numbers > picture.svg";
 
 const LISTED: &str = "\
 Prints a line for each tile, as it stands in a puzzle; at most 100.
@@ -340,16 +370,61 @@ fn explain<'a>(alloc: Global) -> Result<Command<'a>, AllocError>
     )
 }
 
-fn count<'a>(alloc: Global) -> Result<Command<'a>, AllocError>
+// A file that a command needs only with others.
+fn optional_word<'a>(alloc: Global, id: &'a str, help: &'a str) -> Arg<'a>
+    ensures rule { rule_of result ≡ new_rule id.entry.now }
+    ensures local { result.global ≡ false }
+{
+    Arg::new(alloc, id).help(help)
+}
+
+// A text behind an option of this name.
+fn optional_text<'a>(alloc: Global, id: &'a str, value: &'a str, help: &'a str) -> Arg<'a>
+    ensures rule { rule_of result ≡ optional_text id.entry.now }
+    ensures local { result.global ≡ false }
+{
+    Arg::new(alloc, id).long(id).value_name(value).help(help)
+}
+
+// A number of 64 bits behind an option of this name.
+fn optional_bound<'a>(alloc: Global, id: &'a str, value: &'a str, help: &'a str) -> Arg<'a>
+    ensures rule { rule_of result ≡ optional_bound id.entry.now }
+    ensures local { result.global ≡ false }
+{
+    optional_text(alloc, id, value, help).value_parser(ValueParser::unsigned(0, u64::MAX))
+}
+
+pub(crate) fn count<'a>(alloc: Global) -> Result<Command<'a>, AllocError>
     ensures app { IfOk result (λ c. app_of c ≡ count_app) }
     ensures local { IfOk result IsLocal }
 {
-    of_files(
+    let list = optional_word(alloc, "LIST", "File of the list of arrangements");
+    let certificate = optional_word(alloc, "CERTIFICATE", "File of the certificate");
+    let workers = workers(alloc, "How many workers search at once, 1 to 64");
+    let most = optional_bound(
+        alloc,
+        "most",
+        "M",
+        "Ends as soon as more than M are found, and says so; one worker searches then",
+    );
+    let part = optional_text(
+        alloc,
+        "part",
+        "K/N",
+        "Counts in part K of N of the search, 1/N to N/N, of 1000000 parts at most",
+    );
+    let command = of_puzzle(
         alloc,
         "count",
-        "Checks a list, and counts the arrangements of the puzzle",
+        "Counts the arrangements of a puzzle, by a search or by a list that is checked",
         COUNTED,
-    )
+    )?
+    .arg(list)?
+    .arg(certificate)?
+    .arg(workers)?
+    .arg(most)?
+    .arg(part)?;
+    Ok(command)
 }
 
 // The command of this name, with the file of a puzzle.
@@ -370,6 +445,21 @@ fn of_puzzle<'a>(
     Ok(command)
 }
 
+// Which arrangement of a list is drawn.
+fn arrangement_number<'a>(alloc: Global) -> Arg<'a>
+    ensures rule { rule_of result ≡ number_or_default (codes "N") 0 LAST_ARRANGEMENT (codes "0") }
+    ensures local { result.global ≡ false }
+{
+    number_or_default(
+        alloc,
+        "N",
+        0,
+        u64::from(LAST_ARRANGEMENT),
+        "0",
+        "Which arrangement of the list is drawn, 0 to 999999",
+    )
+}
+
 fn show<'a>(alloc: Global) -> Result<Command<'a>, AllocError>
     ensures app { IfOk result (λ c. app_of c ≡ show_app) }
     ensures local { IfOk result IsLocal }
@@ -377,14 +467,7 @@ fn show<'a>(alloc: Global) -> Result<Command<'a>, AllocError>
     let list = Arg::new(alloc, "LIST").help(
         "File of a list of arrangements, of which one is drawn",
     );
-    let number = number_or_default(
-        alloc,
-        "N",
-        0,
-        u64::from(LAST_ARRANGEMENT),
-        "0",
-        "Which arrangement of the list is drawn, 0 to 999999",
-    );
+    let number = arrangement_number(alloc);
     let command = of_puzzle(
         alloc,
         "show",
@@ -393,6 +476,52 @@ fn show<'a>(alloc: Global) -> Result<Command<'a>, AllocError>
     )?
     .arg(list)?
     .arg(number)?;
+    Ok(command)
+}
+
+// How many arrangements a sheet has.
+fn first<'a>(alloc: Global) -> Arg<'a>
+    ensures rule { rule_of result ≡ optional_number (codes "first") 0 MOST_DRAWN (codes "0") }
+    ensures local { result.global ≡ false }
+{
+    number_or_default(
+        alloc,
+        "first",
+        0,
+        u64::from(MOST_DRAWN),
+        "0",
+        "Draws a sheet of so many arrangements, from N on, 0 to 100; 0 draws N alone, large",
+    )
+    .long("first")
+    .value_name("K")
+}
+
+fn draw<'a>(alloc: Global) -> Result<Command<'a>, AllocError>
+    ensures app { IfOk result (λ c. app_of c ≡ draw_app) }
+    ensures local { IfOk result IsLocal }
+{
+    let list = optional_word(
+        alloc,
+        "LIST",
+        "File of a list of arrangements, of which one is drawn, or some",
+    );
+    let number = arrangement_number(alloc);
+    let first = first(alloc);
+    let numbers = flag(
+        alloc,
+        "numbers",
+        "Writes the number of its tile on each cell",
+    );
+    let command = of_puzzle(
+        alloc,
+        "draw",
+        "Draws a puzzle, or arrangements of a list, as a picture",
+        DRAWN,
+    )?
+    .arg(list)?
+    .arg(number)?
+    .arg(first)?
+    .arg(numbers)?;
     Ok(command)
 }
 
@@ -443,6 +572,7 @@ pub fn program<'a>(alloc: Global) -> Result<Command<'a>, AllocError>
         .subcommand(expand(alloc)?)?
         .subcommand(count(alloc)?)?
         .subcommand(show(alloc)?)?
+        .subcommand(draw(alloc)?)?
         .subcommand(symmetries(alloc)?)?
         .subcommand(tiles(alloc)?)?;
     Ok(program)

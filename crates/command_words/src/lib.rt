@@ -8,6 +8,8 @@ mod orders;
 mod readings;
 
 pub use faults::WordsFault;
-pub use numbers::{ArrangementNumber, Colours, Depth, Forks, Fuel, Sides, Within, Workers};
-pub use orders::{Files, Listed, Order};
+pub use numbers::{
+    ArrangementNumber, Colours, Depth, Drawn, Forks, Fuel, OtherParts, Sides, Within, Workers,
+};
+pub use orders::{Extent, Files, Listed, Order, Part};
 pub use readings::order;

@@ -58,8 +58,17 @@ pub type Fuel = Within<1, 1_000_000>;
 /// The number of an arrangement in a list, from 0.
 pub type ArrangementNumber = Within<0, 999_999>;
 
+/// The most arrangements that a sheet is asked to have.
+pub const MOST_DRAWN: u32 = 100;
+
+/// How many arrangements a sheet is asked to have; 0 asks for none.
+pub type Drawn = Within<0, 100>;
+
 /// How many sides a tile has.
 pub type Sides = Within<3, 4>;
 
 /// How many colours there are.
 pub type Colours = Within<1, 36>;
+
+/// How many parts of a search come before one, or behind it.
+pub type OtherParts = Within<0, 999_999>;

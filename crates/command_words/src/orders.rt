@@ -1,6 +1,8 @@
 //! What the program is to do.
 
-use crate::numbers::{ArrangementNumber, Colours, Depth, Forks, Fuel, Sides, Workers};
+use crate::numbers::{
+    ArrangementNumber, Colours, Depth, Drawn, Forks, Fuel, OtherParts, Sides, Workers,
+};
 
 /// Three files by their names.
 #[derive(PartialEq, Eq, Debug, Drop)]
@@ -15,6 +17,24 @@ pub struct Files {
 pub struct Listed {
     pub list: String,
     pub number: ArrangementNumber,
+}
+
+/// A part of a search that is dealt to several, by how many parts come before it and behind it.
+#[derive(Clone, Copy, PartialEq, Eq, Debug)]
+pub struct Part {
+    pub before: OtherParts,
+    pub behind: OtherParts,
+}
+
+/// Of which arrangements a search counts how many there are.
+#[derive(Clone, Copy, PartialEq, Eq, Debug)]
+pub enum Extent {
+    /// All.
+    All,
+    /// All, but once more than so many are found, that there are more.
+    Most(u64),
+    /// Those in this part of the search.
+    Part(Part),
 }
 
 /// What words order.
@@ -45,10 +65,25 @@ pub enum Order {
     Expand(Files),
     /// To check the documents in these files, and to count all arrangements.
     Count(Files),
+    /// To count arrangements of the puzzle in its file by a search.
+    Census {
+        puzzle: String,
+        extent: Extent,
+        workers: Workers,
+    },
     /// To draw the board of the puzzle in its file, or the arrangement that is listed.
     Show {
         puzzle: String,
         listed: Option<Listed>,
+    },
+    /// To draw the empty board of the puzzle in its file and its tiles as a picture, or the arrangement that is listed;
+    /// or a sheet of so many arrangements from that one on, where any are asked for; each tile's number on its cell, or
+    /// not.
+    Draw {
+        puzzle: String,
+        listed: Option<Listed>,
+        first: Drawn,
+        numbers: bool,
     },
     /// To print symmetries of the puzzle in its file.
     Symmetries(String),

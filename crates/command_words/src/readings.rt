@@ -1,17 +1,23 @@
 //! Words are read.
 
-ghost use Rattle.std.specs.Prelude.{◌≡◌, Some, true, codes, map, IfOk, IfErr};
+ghost use Rattle.std.specs.Prelude.{◌≡◌, Some, None, codes, map, IfOk, IfErr, MatchOption};
 ghost use Rattle.std.specs.String.{string_bytes};
-ghost use Rattle.clap.specs.Words.{fault_of, first_of, found_of, rows_of, takes};
-ghost use Rattle.command_words.specs.Commands.{whole_app};
-ghost use Rattle.command_words.specs.Orders.{HasFiles, HasFlag, HasNumber, HasText, IsFlagged, IsListed};
-ghost use Rattle.command_words.specs.Orders.{IsOrder, IsOrderOf, IsRefusedBy, NameFiles, number_of};
+ghost use Rattle.std.specs.Str.Parse.{digits_value, without_leading_plus};
+ghost use Rattle.clap.specs.Words.{IsUnsignedIn, first_of, found_of, kind_of, rows_of};
+ghost use Rattle.clap.specs.declared.error.kind.ErrorKind.TheVariants.{ArgumentConflict};
+ghost use Rattle.command_words.specs.Orders.{HasFiles, HasFlag, HasNumber, HasText, IsExtent, IsFlagged, IsListed};
+ghost use Rattle.command_words.specs.Orders.{IsMisfit, IsOrder, IsOrderOf, IsRefused, MayHaveNumber, NameFiles};
+ghost use Rattle.command_words.specs.Orders.{TellsOfMisfit, number_of};
+ghost use Rattle.command_words.specs.Parts.{IsPartText};
+ghost use Rattle.command_words.specs.declared.orders.Extent.{Extent};
+ghost use Rattle.command_words.specs.declared.orders.Part.{Part};
 
-use crate::commands::program;
+use crate::commands::{count as count_command, program};
 use crate::faults::WordsFault;
 use crate::numbers::Within;
-use crate::orders::{Files, Listed, Order};
+use crate::orders::{Extent, Files, Listed, Order, Part};
 use clap::ArgMatches;
+use clap::error::ErrorKind;
 use std::alloc::{AllocError, Global};
 
 // The text under this id.
@@ -117,6 +123,148 @@ fn listed(alloc: Global, matches: &ArgMatches<'_>) -> Result<Option<Listed>, All
     }))
 }
 
+// The part of a search that the text names, as `3/8`.
+fn part(text: &str) -> Option<Part>
+    ensures { MatchOption result ((part : Part) → IsPartText text.now part → ⊥) (IsPartText text.now) }
+{
+    let Some((number, parts)) = text.split_once('/') else {
+        return None;
+    };
+    let Ok(number) = number.parse::<u32>() else {
+        return None;
+    };
+    let Ok(parts) = parts.parse::<u32>() else {
+        return None;
+    };
+    if number == 0 || number > parts || parts > 1_000_000 {
+        return None;
+    }
+    Some(Part {
+        before: Within::new(number - 1),
+        behind: Within::new(parts - number),
+    })
+}
+
+// How far a search counts that the matches of `count` ask for.
+fn extent(matches: &ArgMatches<'_>) -> Option<Extent>
+    requires { MayHaveNumber (codes "most") 0 18446744073709551615 (rows_of (found_of matches.now)) }
+    ensures { MatchOption result ((extent : Extent) → IsExtent (rows_of (found_of matches.now)) extent → ⊥)
+        (IsExtent (rows_of (found_of matches.now))) }
+{
+    let most = matches.get_str("most");
+    let text = matches.get_str("part");
+    match (most, text) {
+        (None, None) => Some(Extent::All),
+        (Some(most), None) => Some(Extent::Most(long_number(most))),
+        (None, Some(text)) => Some(Extent::Part(part(text)?)),
+        (Some(_), Some(_)) => None,
+    }
+}
+
+// The number that the text spells.
+fn long_number(text: &str) -> u64
+    requires { IsUnsignedIn 0 18446744073709551615 text.now }
+    ensures { result ≡ digits_value 10 (without_leading_plus text.now) }
+{
+    let Ok(number) = text.parse::<u64>() else {
+        unreachable!();
+    };
+    number
+}
+
+// A count by a list and its certificate, where both are named, or by a search, where neither is.
+fn count(alloc: Global, matches: &ArgMatches<'_>) -> Result<Order, WordsFault>
+    requires puzzle { HasText (codes "PUZZLE") (rows_of (found_of matches.now)) }
+    requires workers { HasNumber (codes "workers") 1 64 (rows_of (found_of matches.now)) }
+    requires most { MayHaveNumber (codes "most") 0 18446744073709551615 (rows_of (found_of matches.now)) }
+    ensures order { IfOk result (IsOrderOf (Some (codes "count", rows_of (found_of matches.now)))) }
+    ensures refused { IfErr result (IsMisfit (Some (codes "count", rows_of (found_of matches.now)))) }
+{
+    let Some(extent) = extent(matches) else {
+        return Err(misfit(
+            alloc,
+            "--part is 1/N to N/N, of 1000000 parts at most, and stands without --most",
+        ));
+    };
+    match matches.get_str("LIST") {
+        None => census(alloc, matches, extent),
+        Some(list) => count_listed(alloc, matches, list, extent),
+    }
+}
+
+// A count by a search.
+fn census(alloc: Global, matches: &ArgMatches<'_>, extent: Extent) -> Result<Order, WordsFault>
+    requires puzzle { HasText (codes "PUZZLE") (rows_of (found_of matches.now)) }
+    requires workers { HasNumber (codes "workers") 1 64 (rows_of (found_of matches.now)) }
+    requires alone { first_of (codes "LIST") (rows_of (found_of matches.now)) ≡ None }
+    requires extent { IsExtent (rows_of (found_of matches.now)) extent }
+    ensures order { IfOk result (IsOrderOf (Some (codes "count", rows_of (found_of matches.now)))) }
+    ensures refused { IfErr result (IsMisfit (Some (codes "count", rows_of (found_of matches.now)))) }
+{
+    let None = matches.get_str("CERTIFICATE") else {
+        return Err(misfit(alloc, "a certificate stands behind its list"));
+    };
+    let puzzle = text(alloc, matches, "PUZZLE")?;
+    let workers = number(matches, "workers");
+    Ok(Order::Census {
+        puzzle,
+        extent,
+        workers,
+    })
+}
+
+// A count by this list and its certificate.
+fn count_listed(
+    alloc: Global,
+    matches: &ArgMatches<'_>,
+    list: &str,
+    extent: Extent,
+) -> Result<Order, WordsFault>
+    requires puzzle { HasText (codes "PUZZLE") (rows_of (found_of matches.now)) }
+    requires list { first_of (codes "LIST") (rows_of (found_of matches.now)) ≡ Some list.now }
+    requires extent { IsExtent (rows_of (found_of matches.now)) extent }
+    ensures order { IfOk result (IsOrderOf (Some (codes "count", rows_of (found_of matches.now)))) }
+    ensures refused { IfErr result (IsMisfit (Some (codes "count", rows_of (found_of matches.now)))) }
+{
+    let Some(certificate) = matches.get_str("CERTIFICATE") else {
+        return Err(misfit(
+            alloc,
+            "a list stands with its certificate: PUZZLE LIST CERTIFICATE, or PUZZLE alone",
+        ));
+    };
+    let Extent::All = extent else {
+        return Err(misfit(
+            alloc,
+            "--most and --part are of a search: they stand with PUZZLE alone",
+        ));
+    };
+    let puzzle = text(alloc, matches, "PUZZLE")?;
+    let list = String::from_str(alloc, list)?;
+    let certificate = String::from_str(alloc, certificate)?;
+    Ok(Order::Count(Files {
+        puzzle,
+        list,
+        certificate,
+    }))
+}
+
+// What is told of words of `count` that don't go together.
+fn misfit(alloc: Global, message: &str) -> WordsFault
+    ensures { TellsOfMisfit result }
+{
+    match misfit_error(alloc, message) {
+        Ok(error) => WordsFault::Words(error),
+        Err(_) => WordsFault::Memory,
+    }
+}
+
+fn misfit_error(alloc: Global, message: &str) -> Result<clap::Error, AllocError>
+    ensures { IfOk result (λ error. kind_of error ≡ ArgumentConflict) }
+{
+    let mut command = count_command(alloc)?.bin_name("edgematch count")?;
+    command.error(ErrorKind::ArgumentConflict, message)
+}
+
 fn show(alloc: Global, matches: &ArgMatches<'_>) -> Result<Order, AllocError>
     requires puzzle { HasText (codes "PUZZLE") (rows_of (found_of matches.now)) }
     requires number { HasNumber (codes "N") 0 999999 (rows_of (found_of matches.now)) }
@@ -125,6 +273,23 @@ fn show(alloc: Global, matches: &ArgMatches<'_>) -> Result<Order, AllocError>
     let puzzle = text(alloc, matches, "PUZZLE")?;
     let listed = listed(alloc, matches)?;
     Ok(Order::Show { puzzle, listed })
+}
+
+fn draw(alloc: Global, matches: &ArgMatches<'_>) -> Result<Order, AllocError>
+    requires puzzle { HasText (codes "PUZZLE") (rows_of (found_of matches.now)) }
+    requires number { HasNumber (codes "N") 0 999999 (rows_of (found_of matches.now)) }
+    requires first { HasNumber (codes "first") 0 100 (rows_of (found_of matches.now)) }
+    requires numbers { HasFlag (codes "numbers") (rows_of (found_of matches.now)) }
+    ensures { IfOk result (IsOrderOf (Some (codes "draw", rows_of (found_of matches.now)))) }
+{
+    let puzzle = text(alloc, matches, "PUZZLE")?;
+    let listed = listed(alloc, matches)?;
+    Ok(Order::Draw {
+        puzzle,
+        listed,
+        first: number(matches, "first"),
+        numbers: flag(matches, "numbers"),
+    })
 }
 
 fn tiles(matches: &ArgMatches<'_>) -> Order
@@ -141,14 +306,14 @@ fn tiles(matches: &ArgMatches<'_>) -> Order
 /// What the words after the program's name order.
 ///
 /// Words that name no command order what no words do. `Words` where they are wrong or ask for help,
-/// by the program's commands as `clap` reads them; then the error says why.
+/// by the program's commands as `clap` reads them, or where `count` has a list without its certificate, or these beside
+/// what a search is asked; then the error says why.
 pub fn order(alloc: Global, words: &[String]) -> Result<Order, WordsFault>
     ensures order { IfOk result (IsOrder (map string_bytes words.now)) }
 
-    // Words that `clap` takes are refused for want of memory alone, and others by a kind that it has for them.
-    ensures memory { takes whole_app (map string_bytes words.now) ≡ true
-        → IfErr result (λ fault. fault ≡ WordsFault.Memory) }
-    ensures refused { IfErr result (IsRefusedBy (fault_of whole_app (map string_bytes words.now))) }
+    // Words that `clap` takes are refused for want of memory, or since those of `count` don't go together, and others
+    // by a kind that it has for them.
+    ensures refused { IfErr result (IsRefused (map string_bytes words.now)) }
 {
     let matches = program(alloc)?.try_get_matches_from(words)?;
     let Some((name, matches)) = matches.subcommand() else {
@@ -159,8 +324,9 @@ pub fn order(alloc: Global, words: &[String]) -> Result<Order, WordsFault>
         "explain" => Ok(Order::Explain(files(alloc, matches)?)),
         "solve" => Ok(solve(alloc, matches)?),
         "expand" => Ok(Order::Expand(files(alloc, matches)?)),
-        "count" => Ok(Order::Count(files(alloc, matches)?)),
+        "count" => count(alloc, matches),
         "show" => Ok(show(alloc, matches)?),
+        "draw" => Ok(draw(alloc, matches)?),
         "symmetries" => Ok(Order::Symmetries(text(alloc, matches, "PUZZLE")?)),
         "tiles" => Ok(tiles(matches)),
         // `clap` answers the words of `help` itself, by an error.

@@ -5,6 +5,7 @@ use Rattle.byte_streams.specs.Documents.{Texts}
 use Rattle.byte_streams.specs.Moves.{Writing}
 use Rattle.byte_streams.specs.Origins.{Origin, one_source, two_sources}
 use Rattle.byte_streams.specs.Targets.{one_sink}
+use Rattle.byte_streams.specs.declared.documents.TwoTexts.{TwoTexts}
 use Rattle.byte_streams.specs.declared.faults.Document.TheVariants as documents
 use Rattle.byte_streams.specs.declared.faults.InputFault.{InputFault}
 use Rattle.byte_streams.specs.declared.files.FileSystem.{Ghosts as FileMembers}
@@ -80,15 +81,23 @@ module _ (output : Writing) where
     over_puzzle gives fails name file result run =
         then_done (one_source documents.Puzzle (read_from system source at name file)) (one_file system source at name) gives fails (λ t gave. (file, gave)) (λ f stops. inr (file, stops)) result run
 
-    -- of the files of a puzzle and a list, by the number that is drawn
+    -- of the files of a puzzle and a list
+    pub over_two : (gives : TwoTexts → List ℕ → Unit {0} → Type 0) (fails : TwoTexts → RunFault → Type 0)
+        → (puzzle list : List ℕ) (first : Opened system source at puzzle) (second : Opened system source at list) (result : Result (Unit {0}) RunFault)
+        → Runs (two_sources (read_from system source at puzzle first) (read_from system source at list second)) gives fails (one_sink output) result
+        → Runs (two_files system source at puzzle list) (ThenDone gives) fails (one_sink output) (ended (λ e. Done) result)
+    over_two gives fails puzzle list first second result run =
+        then_done (two_sources (read_from system source at puzzle first) (read_from system source at list second)) (two_files system source at puzzle list)
+        gives fails (λ t gave. (first, second, gave)) (λ f stops. inr (first, second, stops)) result run
+
+    -- and by the number that is drawn
     pub over_drawn : (number given : ℕ) → given ≡ number
         → (puzzle list : List ℕ) (first : Opened system source at puzzle) (second : Opened system source at list) (result : Result (Unit {0}) RunFault)
         → Runs (two_sources (read_from system source at puzzle first) (read_from system source at list second)) (DrawsListed given) (DrawFails given) (one_sink output) result
         → Runs (two_files system source at puzzle list) (ThenDone (DrawsListed number)) (DrawFails number) (one_sink output) (ended (λ e. Done) result)
     over_drawn number given same puzzle list first second result run =
         subst (λ (n : ℕ). Runs (two_files system source at puzzle list) (ThenDone (DrawsListed n)) (DrawFails n) (one_sink output) (ended (λ e. Done) result)) same
-        (then_done (two_sources (read_from system source at puzzle first) (read_from system source at list second)) (two_files system source at puzzle list)
-        (DrawsListed given) (DrawFails given) (λ t gave. (first, second, gave)) (λ f stops. inr (first, second, stops)) result run)
+        (over_two (DrawsListed given) (DrawFails given) puzzle list first second result run)
 
 -- a reader of the file of a name, as it was opened and as it is later
 abbrev pub opened_as : {S R W : Type 0} (system : FileMembers S R W) (source : SourceMembers R) (at : S) (name given : List ℕ) (opened later : R)

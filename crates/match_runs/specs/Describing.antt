@@ -6,6 +6,7 @@ use Rattle.match_puzzle.specs.Prefix.{empty_prefix}
 use Rattle.match_text.specs.Puzzles.{PuzzleReads}
 use Rattle.match_text.specs.declared.faults.PuzzleTextFault.TheVariants as puzzles
 use Rattle.match_text.specs.declared.ranges.TheConstants.{SECOND}
+use Rattle.match_picture.specs.Pictures.{IsPuzzlePicture}
 use Rattle.match_show.specs.Drawing.{IsDrawing}
 use Rattle.match_show.specs.Facts.{IsFacts, number_line}
 use Rattle.match_text.specs.Spelling.{line_text}
@@ -52,6 +53,7 @@ pub record IsSymmetriesText (puzzle : Task) (text : List ℕ) : Type 0 where
 -- What is printed of a puzzle.
 abbrev pub DescribesPuzzle : Description → (puzzle : Task) (printed : List ℕ) → Type 0
 DescribesPuzzle descriptions.Board puzzle printed = IsBoardText puzzle printed
+DescribesPuzzle descriptions.Picture puzzle printed = IsPuzzlePicture puzzle printed
 DescribesPuzzle descriptions.Symmetries puzzle printed = IsSymmetriesText puzzle printed
 
 -- What is printed of the puzzle that the text spells.

@@ -21,6 +21,8 @@ use Rattle.symmetry_orbits.specs.declared.expansions.ExpandFault.{ExpandFault}
 use Rattle.symmetry_orbits.specs.declared.expansions.ExpandFault.TheVariants as expansions
 use Rattle.match_crew.specs.declared.faults.SolveFault.{SolveFault}
 use Rattle.match_crew.specs.declared.faults.SolveFault.TheVariants as solves
+use Rattle.xcc_form.specs.declared.faults.CompileFault.{CompileFault}
+use Rattle.xcc_form.specs.declared.faults.CompileFault.TheVariants as compiles
 use Rattle.byte_streams.specs.declared.faults.Document.{Document}
 use Rattle.byte_streams.specs.declared.faults.Document.TheVariants as documents
 use Rattle.byte_streams.specs.declared.faults.FileFault.{FileFault}
@@ -65,6 +67,10 @@ run_of_solve solves.GaveUp = Solve solves.GaveUp
 run_of_solve solves.TooMany = Solve solves.TooMany
 run_of_solve solves.Full = Solve solves.Full
 run_of_solve solves.Memory = Memory
+
+abbrev pub run_of_compile : CompileFault → RunFault
+run_of_compile compiles.TooMany = Solve solves.TooMany
+run_of_compile compiles.Memory = Memory
 
 abbrev pub run_of_expand : ExpandFault → RunFault
 run_of_expand expansions.TooMany = Expand

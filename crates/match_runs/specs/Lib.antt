@@ -1,3 +1,4 @@
+pub mod Census
 pub mod Checking
 pub mod Describing
 pub mod Exits
@@ -6,6 +7,7 @@ pub mod FileOrigins
 pub mod Files
 pub mod Listed
 pub mod OrderRuns
+pub mod Pictures
 pub mod Printing
 pub mod Runs
 pub mod SolvedFiles

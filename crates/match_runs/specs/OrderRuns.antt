@@ -1,9 +1,10 @@
 -- What an order comes to.
 use Rattle.std.specs.Prelude.{◌≡◌, ◌⊎◌, ℕ, List, Option, Some, None, Result, Err}
 use Rattle.std.specs.String.{string_bytes}
+use Rattle.command_words.specs.declared.orders.Extent.{Extent}
 use Rattle.command_words.specs.declared.orders.Listed.{Listed}
 use Rattle.command_words.specs.declared.orders.Order.{Order}
-use Rattle.command_words.specs.declared.orders.Order.TheVariants.{Joined, Check, Explain, Solve, Expand, Count, Show, Symmetries, Tiles}
+use Rattle.command_words.specs.declared.orders.Order.TheVariants.{Joined, Check, Explain, Solve, Expand, Count, Census, Show, Draw, Symmetries, Tiles}
 use Rattle.byte_streams.specs.Documents.{Texts}
 use Rattle.byte_streams.specs.Moves.{Reading, Writing}
 use Rattle.byte_streams.specs.Origins.{Origin, joined_source, no_source}
@@ -11,11 +12,13 @@ use Rattle.byte_streams.specs.Targets.{Target, one_sink}
 use Rattle.byte_streams.specs.declared.files.FileSystem.{Ghosts as FileMembers}
 use Rattle.byte_streams.specs.declared.outputs.Products.{Products}
 use Rattle.byte_streams.specs.declared.sources.Source.{Ghosts as SourceMembers}
+use Rattle.match_runs.specs.Census.{CensusFails, CensusGives}
 use Rattle.match_runs.specs.Checking.{CheckFails, CheckGives, SpellCompleteList}
 use Rattle.match_runs.specs.Describing.{Describes, DescribeFails}
 use Rattle.match_runs.specs.Exits.{status_exit}
 use Rattle.match_runs.specs.FileOrigins.{one_file, three_files, two_files}
 use Rattle.match_runs.specs.Listed.{DrawFails, DrawsListed}
+use Rattle.match_runs.specs.Pictures.{DrawsPicture, PictureFails}
 use Rattle.match_runs.specs.Printing.{PrintingFails, PrintingGives}
 use Rattle.match_runs.specs.Runs.{Runs}
 use Rattle.match_runs.specs.SolvedFiles.{solved_files}
@@ -58,6 +61,11 @@ abbrev pub DescriptionOf : Description → Origin (List ℕ) → Writing → Res
 DescriptionOf description from output result =
     Runs from (ThenDone (Describes description)) DescribeFails (one_sink output) result
 
+-- What a count of a puzzle by a search comes to.
+abbrev pub CensusOf : Extent → Origin (List ℕ) → Writing → Result Exit RunFault → Type 0
+CensusOf extent from output result =
+    Runs from (ThenDone (CensusGives extent)) (CensusFails extent) (one_sink output) result
+
 -- What comes of a list of tiles.
 abbrev pub TilesOf : (sides colours : ℕ) → Writing → Result Exit RunFault → Type 0
 TilesOf sides colours output result =
@@ -79,6 +87,15 @@ module _ {S R W : Type 0} (system : FileMembers S R W) (source : SourceMembers R
       Runs (two_files system source old puzzle (string_bytes listed.list)) (ThenDone (DrawsListed listed.number))
       (DrawFails listed.number) (one_sink output) result
 
+  -- What comes of a picture of the puzzle in the file of this name: of its empty board and its tiles, or of what is
+  -- listed.
+  abbrev pub PictureOf : (puzzle : List ℕ) → Option Listed → (first : ℕ) → Writing → Result Exit RunFault → Type 0
+  PictureOf puzzle None first output result =
+      DescriptionOf descriptions.Picture (one_file system source old puzzle) output result
+  PictureOf puzzle (Some listed) first output result =
+      Runs (two_files system source old puzzle (string_bytes listed.list)) (ThenDone (DrawsPicture listed.number first))
+      (PictureFails listed.number first) (one_sink output) result
+
   module _ (new : S) (input : Reading) (output : Writing) where
     -- What an order comes to. No order does anything to a file but a solve.
     abbrev pub RunOf : Order → Result Exit RunFault → Type 0
@@ -91,10 +108,14 @@ module _ {S R W : Type 0} (system : FileMembers S R W) (source : SourceMembers R
         (new ≡ old) × PrintingOf printings.All (three_files system source old files) output result
     RunOf (Count files) result =
         (new ≡ old) × PrintingOf printings.Count (three_files system source old files) output result
+    RunOf (Census puzzle extent workers) result =
+        (new ≡ old) × CensusOf extent (one_file system source old (string_bytes puzzle)) output result
     RunOf (Solve files depth fuel workers keep progress) result =
         SolveOf workers (one_file system source old (string_bytes files.puzzle))
         (solved_files files system.does old new output) result
     RunOf (Show puzzle listed) result = (new ≡ old) × ShowOf (string_bytes puzzle) listed output result
+    RunOf (Draw puzzle listed first numbers) result =
+        (new ≡ old) × PictureOf (string_bytes puzzle) listed first output result
     RunOf (Symmetries puzzle) result =
         (new ≡ old)
         × DescriptionOf descriptions.Symmetries (one_file system source old (string_bytes puzzle)) output result

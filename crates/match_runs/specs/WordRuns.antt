@@ -50,12 +50,14 @@ Explains output errors exit kind =
     × ((AsksForText kind → ⊥) → (exit ≡ Failed) × output.Untouched)
 
 -- What words come to: they are those of an order, which was carried out; or nothing was done to a file, and memory was
--- refused while they were read, or `clap` doesn't take them, for a reason of this kind.
+-- refused while they were read, or `clap` doesn't take them, for a reason of this kind, or they are of a command, and give
+-- no order.
 abbrev pub WordsGive : List Text → (Run : Order → Result Exit RunFault → Type 0) → (Unchanged : Type 0)
     → (output errors : Writing) → Exit → Type 0
 WordsGive words Run Unchanged output errors exit =
     ((order : Order) × IsOrder words order × CarriesOut (Run order) errors exit)
     ⊎ (Unchanged
     × (WantsMemory output errors exit
-    ⊎ ((takes whole_app words ≢ true)
-    × (kind : ErrorKind) × IsAmong kind (fault_of whole_app words) × Explains output errors exit kind)))
+    ⊎ (((takes whole_app words ≢ true)
+    × (kind : ErrorKind) × IsAmong kind (fault_of whole_app words) × Explains output errors exit kind)
+    ⊎ (((order : Order) → IsOrder words order → ⊥) × (exit ≡ Failed) × output.Untouched))))

@@ -16,6 +16,7 @@ use crate::running::run_by;
 use byte_streams::{Document, MadeText, OneSink, OneSource, Sink, Source, Text};
 use cert_tree::write_symmetries;
 use match_board::limits::MOST_ENTRIES;
+use match_picture::write_puzzle_picture;
 use match_puzzle::{Partial, Puzzle};
 use match_report::Line;
 use match_show::{write_drawing, write_facts};
@@ -30,6 +31,8 @@ pub enum Description {
     /// Its empty board, drawn, with the numbers of its cells and the colours that the border asks for, and then how
     /// many cells, tiles and colours there are, and where each colour stands.
     Board,
+    /// A picture of its empty board, with the colours that the border asks for, and of each tile.
+    Picture,
     /// Symmetries of it, at most 1,024: how many they are, and then the line of each, as a certificate has them. They
     /// are those that a solve of the puzzle may cite by.
     Symmetries,
@@ -69,6 +72,7 @@ fn described(
     let puzzle = read_puzzle(alloc, text.bytes())?;
     let printed = match description {
         Description::Board => board_text(alloc, &puzzle)?,
+        Description::Picture => write_puzzle_picture(alloc, &puzzle)?,
         Description::Symmetries => symmetries_text(alloc, &puzzle)?,
     };
     Ok((MadeText::new(printed), ()))

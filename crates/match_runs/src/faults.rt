@@ -9,7 +9,8 @@ ghost use Rattle.match_runs.specs.FaultText.{list_text_fault_words, assemble_fau
 ghost use Rattle.match_report.specs.AnswerText.{arrangement_fault_words};
 ghost use Rattle.match_runs.specs.declared.faults.RunFault.TheVariants as run_fault;
 ghost use Rattle.match_runs.specs.FaultText.{run_of_file, run_of_input, run_of_puzzle, run_of_list, run_of_certificate};
-ghost use Rattle.match_runs.specs.FaultText.{run_of_expand, run_of_solve, run_of_tiles, solve_fault_words};
+ghost use Rattle.match_runs.specs.FaultText.{run_of_compile, run_of_expand, run_of_solve, run_of_tiles};
+ghost use Rattle.match_runs.specs.FaultText.{solve_fault_words};
 
 use byte_streams::{Document, Failed, FileFault, InputFault};
 use cert_tree::{AssembleFault, CertTextFault};
@@ -19,6 +20,7 @@ use match_puzzle::{ArrangementFault, PuzzleFault};
 use match_report::{ExpandFault, Line, put_arrangement_fault};
 use match_text::{ListTextFault, PuzzleTextFault, TextFault, TextKind};
 use std::alloc::{AllocError, Global};
+use xcc_form::CompileFault;
 
 /// Why a run stopped.
 #[derive(Clone, Copy, PartialEq, Eq, Debug)]
@@ -116,6 +118,17 @@ impl From<SolveFault> for RunFault {
         match fault {
             SolveFault::Memory => RunFault::Memory,
             fault => RunFault::Solve(fault),
+        }
+    }
+}
+
+impl From<CompileFault> for RunFault {
+    ghost from_gives = { λ fault e. e ≡ run_of_compile fault };
+
+    fn from(fault: CompileFault) -> RunFault {
+        match fault {
+            CompileFault::TooMany => RunFault::Solve(SolveFault::TooMany),
+            CompileFault::Memory => RunFault::Memory,
         }
     }
 }

@@ -1,7 +1,8 @@
-//! The runs of the program, from bytes to bytes: checks, explanations, expansions, counts, solves, boards, symmetries and
-//! lists of tiles; the words that order them; and what is told of faults.
+//! The runs of the program, from bytes to bytes: checks, explanations, expansions, counts, solves, boards, pictures,
+//! symmetries and lists of tiles; the words that order them; and what is told of faults.
 #![tactic(auto)]
 
+mod census_runs;
 mod check_runs;
 mod description_runs;
 mod exits;
@@ -11,6 +12,7 @@ mod hints;
 mod listed_runs;
 mod made_files;
 mod order_runs;
+mod picture_runs;
 mod printing_runs;
 mod progress;
 mod questions;
@@ -27,6 +29,7 @@ pub use byte_streams::{
     Document, Documents, Failed, FileSystem, Input, Output, Sink, Source, System, cut_joined,
     write_whole,
 };
+pub use census_runs::{CensusPlan, run_census};
 pub use check_runs::{run_check, run_check_watched, run_joined};
 pub use description_runs::{Description, run_description};
 pub use exits::{Exit, Status};
@@ -35,6 +38,7 @@ pub use files::{have_different_names, open};
 pub use listed_runs::run_listed;
 pub use made_files::nothing_is_lost;
 pub use order_runs::run_order;
+pub use picture_runs::{PicturePlan, run_picture};
 pub use printing_runs::{Printing, run_expand, run_printing};
 pub use progress::{CheckProgress, CheckWatch, SolveProgress, SolveWatch};
 pub use random_fold::RandomFold;

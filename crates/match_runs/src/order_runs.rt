@@ -5,9 +5,11 @@ ghost use Rattle.std.specs.String.{string_bytes};
 ghost use Rattle.byte_streams.specs.Moves.{reading_of, writing_of};
 ghost use Rattle.byte_streams.specs.Origins.{joined_source};
 ghost use Rattle.match_runs.specs.FileOrigins.{CantOpen, all_three, one_file, three_files};
-ghost use Rattle.match_runs.specs.OrderRuns.{CheckOf, DescriptionOf, PrintingOf, RunOf, ShowOf, SolveOf, TilesOf};
+ghost use Rattle.match_runs.specs.OrderRuns.{CheckOf, DescriptionOf, PictureOf, PrintingOf, RunOf, ShowOf, SolveOf};
+ghost use Rattle.match_runs.specs.OrderRuns.{TilesOf};
 ghost use Rattle.match_runs.specs.SolvedFiles.{solved_files};
 
+use crate::census_runs::{CensusPlan, count_by_search};
 use crate::check_runs::{run_check_watched, run_joined};
 use crate::description_runs::{Description, run_description};
 use crate::exits::Exit;
@@ -15,12 +17,13 @@ use crate::faults::RunFault;
 use crate::files::{are_apart, open};
 use crate::listed_runs::run_listed;
 use crate::made_files::{MadeFiles, make_both, put_both, remove_both};
+use crate::picture_runs::{PicturePlan, run_picture};
 use crate::printing_runs::{Printing, run_hinted};
 use crate::progress::{CheckProgress, SolveProgress};
 use crate::solve_runs::{SearchPlan, run_solve_watched};
 use crate::tile_runs::run_tiles;
 use byte_streams::{Document, FileSystem, Sink, Source};
-use command_words::{Colours, Files, Forks, Listed, Order, Sides, Workers};
+use command_words::{Colours, Drawn, Files, Forks, Listed, Order, Sides, Workers};
 use std::alloc::Global;
 use std::random::RandomSource;
 use std::sync::Wait;
@@ -105,7 +108,31 @@ pub fn run_order<
         Order::Count(files) => {
             print_all(rt, alloc, files, Printing::Count, system, output, hint)
         }
+        Order::Census {
+            puzzle,
+            extent,
+            workers,
+        } => {
+            let plan = CensusPlan {
+                extent: *extent,
+                workers: *workers,
+            };
+            count_by_search(rt, alloc, puzzle, plan, system, output)
+        }
         Order::Show { puzzle, listed } => show(alloc, puzzle, listed, system, output),
+        Order::Draw {
+            puzzle,
+            listed,
+            first,
+            numbers,
+        } => {
+            let order = PictureOrder {
+                puzzle,
+                first: *first,
+                numbers: *numbers,
+            };
+            picture(alloc, &order, listed, system, output)
+        }
         Order::Symmetries(puzzle) => {
             describe(alloc, puzzle, Description::Symmetries, system, output)
         }
@@ -307,6 +334,53 @@ fn draw<S: FileSystem, W: Sink>(
     let mut puzzle = open(system, name, Document::Puzzle)?;
     let mut list = open(system, &listed.list, Document::List)?;
     run_listed(alloc, &mut puzzle, &mut list, listed.number.get(), output)?;
+    Ok(Exit::Done)
+}
+
+// A picture that is ordered.
+#[derive(Clone, Copy)]
+struct PictureOrder<'a> {
+    puzzle: &'a String,
+    first: Drawn,
+    numbers: bool,
+}
+
+// A picture of the puzzle's empty board and its tiles, or of what is listed.
+fn picture<S: FileSystem, W: Sink>(
+    alloc: Global,
+    order: &PictureOrder<'_>,
+    listed: &Option<Listed>,
+    system: &S,
+    output: &mut W,
+) -> Result<Exit, RunFault>
+    ensures { PictureOf S.FileSystem S.Reader.Source system.now (string_bytes order.now.puzzle.now) listed.now
+        order.now.first (writing_of W.Sink output.old output.new) result }
+{
+    match listed {
+        None => describe(alloc, order.puzzle, Description::Picture, system, output),
+        Some(listed) => picture_listed(alloc, order, listed, system, output),
+    }
+}
+
+// A picture of what is listed, of the list in its file.
+fn picture_listed<S: FileSystem, W: Sink>(
+    alloc: Global,
+    order: &PictureOrder<'_>,
+    listed: &Listed,
+    system: &S,
+    output: &mut W,
+) -> Result<Exit, RunFault>
+    ensures { PictureOf S.FileSystem S.Reader.Source system.now (string_bytes order.now.puzzle.now) (Some listed.now)
+        order.now.first (writing_of W.Sink output.old output.new) result }
+{
+    let plan = PicturePlan {
+        number: listed.number,
+        first: order.first,
+        numbers: order.numbers,
+    };
+    let mut puzzle = open(system, order.puzzle, Document::Puzzle)?;
+    let mut list = open(system, &listed.list, Document::List)?;
+    run_picture(alloc, &mut puzzle, &mut list, plan, output)?;
     Ok(Exit::Done)
 }
 

@@ -244,7 +244,7 @@ fn write_count(alloc: Global, counted: Count) -> Result<Vec<u8>, AllocError>
 }
 
 #[tactic(auto, unfolding(match_text::specs::Spelling::text_of, match_text::specs::Spelling::line_text))]
-fn put_count_line(text: &mut Vec<u8>, word: &[u8], number: u64) -> Result<(), AllocError>
+pub(crate) fn put_count_line(text: &mut Vec<u8>, word: &[u8], number: u64) -> Result<(), AllocError>
     ensures { OnOk result (text.new.items ≡ text.old.items ++ number_line word.now number) }
 {
     let mut buffer = Buffer::new();

@@ -28,5 +28,6 @@ returns c =
     let with_expand = more _ c.in_ok-subcommand-4.ensures.shape c.in_ok-expand.ensures.local with_solve c.in_ok-expand.ensures.app in
     let with_count = more _ c.in_ok-subcommand-5.ensures.shape c.in_ok-count.ensures.local with_expand c.in_ok-count.ensures.app in
     let with_show = more _ c.in_ok-subcommand-6.ensures.shape c.in_ok-show.ensures.local with_count c.in_ok-show.ensures.app in
-    let with_symmetries = more _ c.in_ok-subcommand-7.ensures.shape c.in_ok-symmetries.ensures.local with_show c.in_ok-symmetries.ensures.app in
+    let with_draw = more _ c.in_ok-subcommand-7.ensures.shape c.in_ok-draw.ensures.local with_show c.in_ok-draw.ensures.app in
+    let with_symmetries = more _ c.in_ok-subcommand-8.ensures.shape c.in_ok-symmetries.ensures.local with_draw c.in_ok-symmetries.ensures.app in
     more _ c.in_ok-program.ensures.shape c.in_ok-tiles.ensures.local with_symmetries c.in_ok-tiles.ensures.app

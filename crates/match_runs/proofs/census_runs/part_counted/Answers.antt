@@ -1,0 +1,78 @@
+use Rattle.std.proofs.Common.{◌≡◌, ◌∙◌, ◌++◌, None, Some, Err, length, arith, ap, ap₂, subst, sym}
+use Rattle.std.proofs.lemmas.Result.{err_from_is_err_and}
+use Rattle.command_words.specs.declared.orders.Extent.TheVariants as extents
+use Rattle.match_census.specs.Branches.{AreSelections, HaveTogether, IsTotal, every}
+use Rattle.match_census.proofs.PartLemmas.{every_fewer, part_selections}
+use Rattle.command_words.specs.Parts.{parts_with}
+use Rattle.match_runs.specs.Census.{part_of, split_line}
+use Rattle.match_runs.proofs.CensusLemmas.{compile_fails}
+use Rattle.match_runs.proofs.census_runs.part_counted.Goals.{In_ok-dealt}
+use Rattle.match_runs.proofs.census_runs.part_counted.Goals as goal
+
+pub returns-in_err-xcc-clause-fails : goal.returns-in_err-xcc-clause-fails
+returns-in_err-xcc-clause-fails g c =
+    let w = err_from_is_err_and c.from_residual.result c.from_residual.ensures.1 in
+    rw (w.1, w.2) (compile_fails (extents.Part c.args.part) c.args.puzzle.now c.in_err-xcc.field-0.0 (λ e. c.in_err-xcc.ensures.too_many (ap Err e)))
+
+pub write_split-requires : goal.write_split-requires
+write_split-requires g c =
+    let long = ap length c.deref.ensures.value in
+    let few = c.in_ok-branches.ensures.few in
+    let len = c.in_ok-branches.branches.ok.0 in
+    omega (arith, long, few, len)
+
+-- what is dealt to the part
+dealt : (g : _) (c : In_ok-dealt g) → c.in_ok-dealt.dealt.items ≡ part_of c.args.part c.in_ok-branches.branches.items
+dealt g c = c.in_ok-dealt.ensures ∙ ap₂ (λ parts before. every parts before c.in_ok-branches.branches.items) c.parts_of.ensures.parts c.before_of.ensures.before
+
+pub count_with_crew-requires-clause-selections : goal.count_with_crew-requires-clause-selections
+count_with_crew-requires-clause-selections g c =
+    let at = (goal.at.count_with_crew-requires-clause-selections g c).In_ok-dealt in
+    let x = c.in_ok-xcc.xcc in
+    let part = c.args.part in
+    let branches = c.in_ok-branches.branches.items in
+    λ κs below. subst (AreSelections x) (sym (c.deref-2.ensures.value ∙ dealt g at)) (part_selections x (parts_with part) part.before branches c.in_ok-branches.ensures.selections)
+
+pub count_with_crew-requires-clause-few : goal.count_with_crew-requires-clause-few
+count_with_crew-requires-clause-few g c =
+    let at = (goal.at.count_with_crew-requires-clause-few g c).In_ok-dealt in
+    let part = c.args.part in
+    let branches = c.in_ok-branches.branches.items in
+    let long = ap length (c.deref-2.ensures.value ∙ dealt g at) in
+    let fewer = every_fewer (parts_with part) part.before branches in
+    let few = c.in_ok-branches.ensures.few in
+    let len = c.in_ok-branches.branches.ok.0 in
+    omega (arith, long, fewer, few, len)
+
+pub returns-in_default-clause-fails : goal.returns-in_default-clause-fails
+returns-in_default-clause-fails g c =
+    let at = (goal.at.returns-in_default-clause-fails g c).In_ok-dealt in
+    let x = c.in_ok-xcc.xcc in
+    let told : IsTotal x c.deref-2.result.now None = subst (IsTotal x c.deref-2.result.now) c.in_default.is c.in_ok-counted.ensures in
+    record {
+      compiled = x;
+      of = c.in_ok-xcc.ensures.puzzle;
+      branches = c.in_ok-branches.branches.items;
+      split = c.in_ok-branches.ensures.split;
+      many = subst (λ branches. IsTotal x branches None) (c.deref-2.ensures.value ∙ dealt g at) told;
+    }
+
+pub returns-clause-prints : goal.returns-clause-prints
+returns-clause-prints g c =
+    let at = (goal.at.returns-clause-prints g c).In_ok-dealt in
+    let x = c.in_ok-xcc.xcc in
+    let part = c.args.part in
+    let branches = c.in_ok-branches.branches.items in
+    let count = c.in-Some.count in
+    let told : IsTotal x c.deref-2.result.now (Some count) = subst (IsTotal x c.deref-2.result.now) c.in-Some.is c.in_ok-counted.ensures in
+    let split = c.in_ok-text.ensures ∙ ap split_line c.deref.ensures.value in
+    let line = c.deref-3.ensures.value ∙ c.in_ok-line.ensures in
+    record {
+      compiled = x;
+      of = c.in_ok-xcc.ensures.puzzle;
+      branches = branches;
+      split = c.in_ok-branches.ensures.split;
+      count = count;
+      counted = subst (λ bs. HaveTogether x bs count) (c.deref-2.ensures.value ∙ dealt g at) told;
+      is = c.in_ok-extend_from_slice.ensures.items ∙ ap₂ (λ before behind. before ++ behind) split line;
+    }

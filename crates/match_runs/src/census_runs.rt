@@ -1,0 +1,263 @@
+//! Runs that count the arrangements of a puzzle by a search.
+
+ghost use Rattle.std.specs.Prelude.{◌≡◌, ◌<◌, ◌≤◌, ◌++◌, ◌∷◌, [], IfOk, IfErr, OnOk, codes, decimal, length};
+ghost use Rattle.match_text.specs.Spelling.{line_text, spaced};
+ghost use Rattle.command_words.specs.Parts.{parts_with};
+ghost use Rattle.match_show.specs.Facts.{number_line};
+ghost use Rattle.match_census.specs.declared.splits.TheConstants.{MOST_BRANCHES};
+ghost use Rattle.byte_streams.specs.Moves.{reading_of, writing_of};
+ghost use Rattle.byte_streams.specs.Origins.{one_source};
+ghost use Rattle.byte_streams.specs.Targets.{one_sink};
+ghost use Rattle.byte_streams.specs.declared.faults.Document.TheVariants as documents;
+ghost use Rattle.command_words.specs.declared.orders.Extent.TheVariants as extents;
+ghost use Rattle.match_runs.specs.Census.{CensusFails, CensusGives, IsNotCounted, PrintsCount, part_line};
+ghost use Rattle.match_runs.specs.Census.{part_word, split_line};
+ghost use Rattle.match_runs.specs.FileOrigins.{one_file};
+ghost use Rattle.match_runs.specs.OrderRuns.{CensusOf};
+ghost use Rattle.match_runs.specs.Runs.{MadeOf, Runs};
+
+use crate::exits::Exit;
+use crate::faults::RunFault;
+use crate::files::open;
+use crate::printing_runs::put_count_line;
+use crate::running::run_by;
+use byte_streams::{Document, FileSystem, MadeText, OneSink, OneSource, Sink, Source, Text};
+use command_words::{Extent, Part, Workers};
+use itoa::Buffer;
+use match_census::{Branch, count_arrangements, count_with_crew, hash_of, part_of, split};
+use match_crew::SolveFault;
+use match_puzzle::Puzzle;
+use match_report::Line;
+use match_text::read_puzzle;
+use std::alloc::{AllocError, Global};
+use std::thread::Threads;
+use xcc_form::compile;
+
+// Into so many branches at least a search is split whose workers share them, where it has so many.
+const SHARED: u32 = 4_096;
+
+// Into so many one of which parts are counted.
+const DEALT: u32 = 100_000;
+
+/// What is counted by a search, and by how many workers.
+#[derive(Clone, Copy)]
+pub struct CensusPlan {
+    pub extent: Extent,
+    pub workers: Workers,
+}
+
+/// Reads a puzzle to its end, and writes how many arrangements it has, counted by a search: a line `arrangements N`. Where
+/// it is only to be told whether there are more than `M`, `arrangements more than M` where there are. Of part `K` of `N` of
+/// the search, `split SUBTREES HASH` and `part K/N arrangements M`: the parts of one split add up.
+///
+/// `Read` and `TooLong` are of the puzzle; `Puzzle` where its text spells none; `Solve(TooMany)` where its options have
+/// over 200,000 items together, and `Solve(Full)` where 2^64 arrangements or more are counted. Where a fault other than
+/// `Write` is answered, nothing was written.
+pub fn run_census<P: Source, W: Sink, R: Threads + Sync>(
+    rt: &R,
+    alloc: Global,
+    puzzle: &mut P,
+    plan: CensusPlan,
+    writer: &mut W,
+) -> Result<(), RunFault>
+    ensures { Runs (one_source documents.Puzzle (reading_of P.Source puzzle.old puzzle.new)) (CensusGives plan.extent)
+        (CensusFails plan.extent) (one_sink (writing_of W.Sink writer.old writer.new)) result }
+{
+    let mut inputs = OneSource {
+        source: puzzle,
+        document: Document::Puzzle,
+    };
+    let make = |text: &Text| -> Result<(MadeText, ()), RunFault>
+        ensures { MadeOf (CensusGives plan.extent) (CensusFails plan.extent) text.now result }
+    { counted(rt, alloc, text, plan) };
+    run_by(alloc, &mut inputs, make, &mut OneSink { sink: writer })
+}
+
+// What is printed of the puzzle that the text spells.
+fn counted<R: Threads + Sync>(
+    rt: &R,
+    alloc: Global,
+    text: &Text,
+    plan: CensusPlan,
+) -> Result<(MadeText, ()), RunFault>
+    ensures { MadeOf (CensusGives plan.extent) (CensusFails plan.extent) text.now result }
+{
+    let puzzle = read_puzzle(alloc, text.bytes())?;
+    let printed = count_text(rt, alloc, &puzzle, plan)?;
+    Ok((MadeText::new(printed), ()))
+}
+
+// What is printed of the puzzle.
+fn count_text<R: Threads + Sync>(
+    rt: &R,
+    alloc: Global,
+    puzzle: &Puzzle,
+    plan: CensusPlan,
+) -> Result<Vec<u8>, RunFault>
+    ensures prints { IfOk result (λ text. PrintsCount plan.extent puzzle.now text.items) }
+    ensures fails { IfErr result (IsNotCounted plan.extent puzzle.now) }
+{
+    let CensusPlan { extent, workers } = plan;
+    match extent {
+        Extent::All => all_counted(rt, alloc, puzzle, workers),
+        Extent::Most(most) => counted_to(alloc, puzzle, most),
+        Extent::Part(part) => part_counted(rt, alloc, puzzle, part, workers),
+    }
+}
+
+// How many arrangements there are.
+fn all_counted<R: Threads + Sync>(
+    rt: &R,
+    alloc: Global,
+    puzzle: &Puzzle,
+    workers: Workers,
+) -> Result<Vec<u8>, RunFault>
+    ensures prints { IfOk result (λ text. PrintsCount extents.All puzzle.now text.items) }
+    ensures fails { IfErr result (IsNotCounted extents.All puzzle.now) }
+{
+    let xcc = compile(alloc, puzzle)?;
+    let branches = split(alloc, &xcc, SHARED)?;
+    let counted = count_with_crew(rt, alloc, &xcc, &branches, workers.get() as u8)?;
+    let Some(count) = counted else {
+        return Err(RunFault::Solve(SolveFault::Full));
+    };
+    Ok(count_line(alloc, b"arrangements", count)?)
+}
+
+// How many arrangements there are, or that there are more than so many.
+fn counted_to(alloc: Global, puzzle: &Puzzle, most: u64) -> Result<Vec<u8>, RunFault>
+    ensures prints { IfOk result (λ text. PrintsCount (extents.Most most) puzzle.now text.items) }
+    ensures fails { IfErr result (IsNotCounted (extents.Most most) puzzle.now) }
+{
+    match count_arrangements(alloc, puzzle, most)? {
+        Some(count) => Ok(count_line(alloc, b"arrangements", count)?),
+        None => Ok(count_line(alloc, b"arrangements more than", most)?),
+    }
+}
+
+// How many arrangements a part of the search has.
+fn part_counted<R: Threads + Sync>(
+    rt: &R,
+    alloc: Global,
+    puzzle: &Puzzle,
+    part: Part,
+    workers: Workers,
+) -> Result<Vec<u8>, RunFault>
+    ensures prints { IfOk result (λ text. PrintsCount (extents.Part part) puzzle.now text.items) }
+    ensures fails { IfErr result (IsNotCounted (extents.Part part) puzzle.now) }
+{
+    let xcc = compile(alloc, puzzle)?;
+    let branches = split(alloc, &xcc, DEALT)?;
+    let mut text = write_split(alloc, &branches)?;
+    let dealt = part_of(alloc, branches, before_of(&part), parts_of(&part))?;
+    let counted = count_with_crew(rt, alloc, &xcc, &dealt, workers.get() as u8)?;
+    let Some(count) = counted else {
+        return Err(RunFault::Solve(SolveFault::Full));
+    };
+    let line = write_part(alloc, part, count)?;
+    text.extend_from_slice(&line)?;
+    Ok(text)
+}
+
+// A line of this word and this number.
+fn count_line(alloc: Global, word: &[u8], number: u64) -> Result<Vec<u8>, AllocError>
+    ensures { IfOk result (λ text. text.items ≡ number_line word.now number) }
+{
+    let mut text = Vec::new(alloc);
+    put_count_line(&mut text, word, number)?;
+    Ok(text)
+}
+
+// The line of a split.
+#[tactic(auto, using(match_report::proofs::LineLemmas::line_laws))]
+fn write_split(alloc: Global, branches: &[Branch]) -> Result<Vec<u8>, AllocError>
+    requires { length branches.now ≤ MOST_BRANCHES }
+    ensures { IfOk result (λ text. text.items ≡ split_line branches.now) }
+{
+    let mut buffer = Buffer::new();
+    let mut line = Line::new(alloc, b"split")?;
+    line.number(branches.len() as u32)?;
+    line.word(buffer.format(hash_of(branches)).as_bytes())?;
+    line.end()
+}
+
+// The line of a part.
+fn write_part(alloc: Global, part: Part, count: u64) -> Result<Vec<u8>, AllocError>
+    ensures { IfOk result (λ text. text.items ≡ part_line part count) }
+{
+    let word = part_word(alloc, part)?;
+    counted_line(alloc, b"part", &word, b"arrangements", count)
+}
+
+// A line of these words and this number.
+#[tactic(auto, using(match_report::proofs::LineLemmas::line_laws))]
+fn counted_line(
+    alloc: Global,
+    first: &[u8],
+    second: &[u8],
+    third: &[u8],
+    count: u64,
+) -> Result<Vec<u8>, AllocError>
+    ensures { IfOk result (λ text. text.items
+        ≡ line_text (first.now ∷ second.now ∷ third.now ∷ decimal count ∷ [])) }
+{
+    let mut line = Line::new(alloc, first)?;
+    line.word(second)?;
+    add_count(&mut line, third, count)?;
+    line.end()
+}
+
+// This word and this number more.
+#[tactic(auto, using(match_report::proofs::LineLemmas::line_laws))]
+fn add_count(line: &mut Line, word: &[u8], count: u64) -> Result<(), AllocError>
+    ensures { OnOk result (line.new ≡ line.old ++ spaced (word.now ∷ decimal count ∷ [])) }
+{
+    let mut buffer = Buffer::new();
+    line.word(word)?;
+    line.word(buffer.format(count).as_bytes())
+}
+
+// How many parts come before it.
+fn before_of(part: &Part) -> u32
+    ensures before { result ≡ part.now.before }
+    ensures few { result ≤ 999999 }
+{
+    part.before.get()
+}
+
+// How many parts there are.
+fn parts_of(part: &Part) -> u32
+    ensures parts { result ≡ parts_with part.now }
+    ensures others { part.now.before < result }
+{
+    let behind = part.behind;
+    before_of(part) + 1 + behind.get()
+}
+
+// The number of a part and how many there are, as `3/8`.
+fn part_word(alloc: Global, part: Part) -> Result<Vec<u8>, AllocError>
+    ensures { IfOk result (λ word. word.items ≡ part_word part) }
+{
+    let mut buffer = Buffer::new();
+    let mut word = Vec::from_slice(alloc, buffer.format(before_of(&part) + 1).as_bytes())?;
+    word.push(b'/')?;
+    word.extend_from_slice(buffer.format(parts_of(&part)).as_bytes())?;
+    Ok(word)
+}
+
+// Counts arrangements of the puzzle in the file of this name.
+pub(crate) fn count_by_search<S: FileSystem, W: Sink, R: Threads + Sync>(
+    rt: &R,
+    alloc: Global,
+    name: &str,
+    plan: CensusPlan,
+    system: &S,
+    output: &mut W,
+) -> Result<Exit, RunFault>
+    ensures { CensusOf plan.extent (one_file S.FileSystem S.Reader.Source system.now name.now)
+        (writing_of W.Sink output.old output.new) result }
+{
+    let mut puzzle = open(system, name, Document::Puzzle)?;
+    run_census(rt, alloc, &mut puzzle, plan, output)?;
+    Ok(Exit::Done)
+}
