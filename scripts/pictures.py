@@ -1,0 +1,94 @@
+#!/usr/bin/env python3
+"""Holds the pictures of `docs/pictures` to what the program draws of the puzzles of `examples/gallery`.
+
+usage: pictures.py PROGRAM [--write]
+
+Each puzzle has a picture of the first arrangement of its list, or of itself where there is none, and some a sheet of
+their whole list. A list is made by `solve` with the options of docs/GALLERY.md, but with one worker, since several list
+in another order. What takes seconds to solve has that first arrangement stored beside its picture, as `NAME.list`. With
+`--write` the pictures are written. It ends with 0 where all stand as they are drawn, and with 1 where one doesn't.
+"""
+import os
+import re
+import subprocess
+import sys
+import tempfile
+
+import gallery
+from gallery import PUZZLES, TOP
+
+PICTURES = os.path.join(TOP, "docs/pictures")
+# Puzzles whose tiles are numbered, and those that have a sheet too.
+NUMBERED, ON_SHEETS = ("nine_cards",), ("nine_cards", "sixteen_cards", "squares_of_two_colours")
+# The most arrangements of a sheet.
+MOST = "100"
+
+
+def said(*words):
+    """What a run prints; what it says on standard error is seen."""
+    return subprocess.run(words, stdout=subprocess.PIPE, check=True).stdout
+
+
+def list_of(program, folder, name, options):
+    """The file of a puzzle's list, which is made in the folder where none is stored."""
+    stored = os.path.join(PICTURES, f"{name}.list")
+    if os.path.exists(stored):
+        return stored
+    made = [os.path.join(folder, f"{name}.{document}") for document in ("list", "certificate")]
+    said(program, "solve", os.path.join(PUZZLES, name), *made, *re.sub(r"--workers \d+", "", options).split())
+    return made[0]
+
+
+def has_none(path):
+    """Whether nothing is listed."""
+    with open(path, encoding="ascii") as file:
+        return file.read().split("\n")[1] == "arrangements 0"
+
+
+def drawn(program, folder, name, options):
+    """The pictures of a puzzle, each with its name."""
+    puzzle, listed = os.path.join(PUZZLES, name), list_of(program, folder, name, options)
+    words = [] if has_none(listed) else [listed, *(["--numbers"] if name in NUMBERED else [])]
+    yield name, said(program, "draw", puzzle, *words)
+    if name in ON_SHEETS:
+        yield f"{name}_sheet", said(program, "draw", puzzle, listed, "--first", MOST)
+
+
+def stored_pictures():
+    """The pictures that stand there, by their names."""
+    stored = {}
+    for name in os.listdir(PICTURES):
+        if name.endswith(".svg"):
+            with open(os.path.join(PICTURES, name), "rb") as file:
+                stored[name.removesuffix(".svg")] = file.read()
+    return stored
+
+
+def write(pictures):
+    for name, text in pictures.items():
+        with open(os.path.join(PICTURES, f"{name}.svg"), "wb") as file:
+            file.write(text)
+
+
+def main(program, *options):
+    program = os.path.abspath(program)
+    with tempfile.TemporaryDirectory() as folder:
+        pictures = dict(it for name, words, *_ in gallery.page_rows() for it in drawn(program, folder, name, words))
+    if "--write" in options:
+        write(pictures)
+    stored = stored_pictures()
+    names = sorted({*pictures, *stored})
+    wrong = [name for name in names if pictures.get(name) != stored.get(name)]
+    for name in wrong:
+        print(f"docs/pictures/{name}.svg: {'not as it is drawn' if name in pictures else 'nothing draws it'}")
+    print(f"{len(names) - len(wrong)} passed, {len(wrong)} failed")
+    return 1 if wrong else 0
+
+
+if __name__ == "__main__":
+    if "--help" in sys.argv:
+        print(__doc__)
+    elif len(sys.argv) < 2 or sys.argv[1].startswith("-") or sys.argv[2:] not in ([], ["--write"]):
+        sys.exit(__doc__)
+    else:
+        sys.exit(main(*sys.argv[1:]))
