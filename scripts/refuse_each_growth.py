@@ -182,6 +182,9 @@ def commands():
         for words in ("check", "check --workers 3 --forks 2", "expand"):
             command, *options = words.split()
             found.append(Command(f"program: {example}, {words}", [program, command, *files, *options]))
+        for words in ("draw", "draw LIST 0 --numbers", "draw LIST 0 --first 2"):
+            command, *options = words.replace("LIST", files[1]).split()
+            found.append(Command(f"program: {example}, {words}", [program, command, files[0], *options]))
         for words in ("--depth 0", "--depth 1", "--depth 1 --workers 3"):
             made = ("list", "certificate")
             words_of_it = [program, "solve", files[0], *made, *words.split()]
