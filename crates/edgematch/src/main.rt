@@ -1,7 +1,7 @@
 //! Solves edge-matching puzzles, and checks whether a list of arrangements is complete, by a certificate.
 #![tactic(auto)]
 
-use match_runs::{Exit, Input, Output, RunFault, System, SystemLimits, run_words, stopped};
+use match_program::{Exit, Input, Output, RunFault, System, SystemLimits, run_words, stopped};
 use std::fs::{self, OpenOptions};
 use std::io::ErrorKind;
 use std::os::fd::{AsRawFd, IntoRawFd};

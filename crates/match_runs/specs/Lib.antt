@@ -1,16 +1,11 @@
 pub mod Census
 pub mod Checking
 pub mod Describing
-pub mod Exits
 pub mod FaultText
-pub mod FileOrigins
-pub mod Files
 pub mod Listed
-pub mod OrderRuns
 pub mod Pictures
 pub mod Printing
 pub mod Runs
-pub mod SolvedFiles
 pub mod Solving
+pub mod Statuses
 pub mod Tiles
-pub mod WordRuns

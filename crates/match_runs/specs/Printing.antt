@@ -16,7 +16,7 @@ use Rattle.symmetry_orbits.specs.Orbits.{AreMoreListedOrInOrbit, IsCount}
 use Rattle.symmetry_orbits.specs.declared.numbers.Count.{Count}
 use Rattle.byte_streams.specs.Documents.{Texts}
 use Rattle.match_runs.specs.Checking.{Answers, CheckFails, Spells}
-use Rattle.match_runs.specs.declared.exits.Status.{Status}
+use Rattle.match_runs.specs.declared.statuses.Status.{Status}
 use Rattle.match_runs.specs.declared.faults.RunFault.{RunFault}
 use Rattle.match_runs.specs.declared.faults.RunFault.TheVariants as runs
 use Rattle.match_runs.specs.declared.printing_runs.Printing.{Printing}

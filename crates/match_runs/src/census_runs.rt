@@ -12,16 +12,12 @@ ghost use Rattle.byte_streams.specs.declared.faults.Document.TheVariants as docu
 ghost use Rattle.command_words.specs.declared.orders.Extent.TheVariants as extents;
 ghost use Rattle.match_runs.specs.Census.{CensusFails, CensusGives, IsNotCounted, PrintsCount, part_line};
 ghost use Rattle.match_runs.specs.Census.{part_word, split_line};
-ghost use Rattle.match_runs.specs.FileOrigins.{one_file};
-ghost use Rattle.match_runs.specs.OrderRuns.{CensusOf};
 ghost use Rattle.match_runs.specs.Runs.{MadeOf, Runs};
 
-use crate::exits::Exit;
 use crate::faults::RunFault;
-use crate::files::open;
 use crate::printing_runs::put_count_line;
 use crate::running::run_by;
-use byte_streams::{Document, FileSystem, MadeText, OneSink, OneSource, Sink, Source, Text};
+use byte_streams::{Document, MadeText, OneSink, OneSource, Sink, Source, Text};
 use command_words::{Extent, Part, Workers};
 use itoa::Buffer;
 use match_census::{Branch, count_arrangements, count_with_crew, hash_of, part_of, split};
@@ -243,21 +239,4 @@ fn part_word(alloc: Global, part: Part) -> Result<Vec<u8>, AllocError>
     word.push(b'/')?;
     word.extend_from_slice(buffer.format(parts_of(&part)).as_bytes())?;
     Ok(word)
-}
-
-// Counts arrangements of the puzzle in the file of this name.
-pub(crate) fn count_by_search<S: FileSystem, W: Sink, R: Threads + Sync>(
-    rt: &R,
-    alloc: Global,
-    name: &str,
-    plan: CensusPlan,
-    system: &S,
-    output: &mut W,
-) -> Result<Exit, RunFault>
-    ensures { CensusOf plan.extent (one_file S.FileSystem S.Reader.Source system.now name.now)
-        (writing_of W.Sink output.old output.new) result }
-{
-    let mut puzzle = open(system, name, Document::Puzzle)?;
-    run_census(rt, alloc, &mut puzzle, plan, output)?;
-    Ok(Exit::Done)
 }

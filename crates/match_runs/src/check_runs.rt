@@ -8,11 +8,11 @@ ghost use Rattle.byte_streams.specs.Targets.{one_sink};
 ghost use Rattle.match_runs.specs.Checking.{CheckFails, CheckGives};
 ghost use Rattle.match_runs.specs.Runs.{MadeOf, Runs};
 
-use crate::exits::Status;
 use crate::faults::RunFault;
-use crate::progress::CheckWatch;
 use crate::questions::read_question_with;
 use crate::running::run_by;
+use crate::statuses::Status;
+use crate::watches::CheckWatch;
 use byte_streams::{
     Documents, JoinedSource, MadeText, OneSink, OwnedDocuments, Sink, Source, ThreeSources,
 };

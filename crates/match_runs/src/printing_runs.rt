@@ -18,13 +18,13 @@ ghost use Rattle.check_crew.specs.Texts.{IsListText};
 ghost use Rattle.match_runs.specs.Printing.{PrintingFails, PrintingGives};
 ghost use Rattle.match_runs.specs.Runs.{MadeOf, Runs};
 
-use crate::exits::Status;
 use crate::faults::RunFault;
 use crate::hints::hint_of;
 use crate::questions::read_question;
 use crate::random_fold::RandomFold;
 use crate::repetitions::distinct_symmetries;
 use crate::running::run_by;
+use crate::statuses::Status;
 use byte_streams::{Documents, MadeText, OneSink, OwnedDocuments, Sink, Source, ThreeSources};
 use cert_check::{Answer, Fault, Open, Prepared, Question};
 use itoa::Buffer;
@@ -101,7 +101,7 @@ pub fn run_printing<P: Source, L: Source, C: Source, W: Sink, R: RandomSource>(
 
 /// The same, and where texts are to be explained and one has a fault, a hint is left of what its line has to be, if
 /// memory isn't refused to it.
-pub(crate) fn run_hinted<P: Source, L: Source, C: Source, W: Sink, R: RandomSource>(
+pub fn run_hinted<P: Source, L: Source, C: Source, W: Sink, R: RandomSource>(
     rt: &R,
     alloc: Global,
     puzzle: &mut P,

@@ -12,8 +12,8 @@ ghost use Rattle.match_runs.specs.Runs.{MadeOf, Runs};
 ghost use Rattle.match_runs.specs.Solving.{SolveFails, SolveGives, first_board, report_text, shares_of};
 
 use crate::faults::RunFault;
-use crate::progress::SolveWatch;
 use crate::running::run_by;
+use crate::watches::SolveWatch;
 use byte_streams::{
     Document, Inputs, MadeText, OneSource, Outputs, Products, Sink, Source, Text, ThreeSinks,
 };

@@ -1,6 +1,7 @@
 //! What the system gives: files, limits and random bytes.
 
-use match_runs::{Document, RandomFold, RunFault, System, SystemLimits, open, read_whole};
+use match_program::{SystemLimits, open};
+use match_runs::{Document, RandomFold, RunFault, System, read_whole};
 use std::hash::BuildHasher;
 use std::io;
 use std::random::RandomSource;

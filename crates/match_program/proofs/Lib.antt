@@ -1,0 +1,3 @@
+mod WordLemmas
+pub mod OrderLemmas
+pub mod SolvedLemmas

@@ -1,0 +1,106 @@
+-- What an order comes to, by the run that it makes and the files that it opens.
+use Rattle.std.proofs.Common.{◌≡◌, ◌∙◌, ℕ, List, Result, length, inr, refl, sym, subst}
+use Rattle.match_report.specs.AnswerText.{answer_line}
+use Rattle.byte_streams.specs.Documents.{Texts}
+use Rattle.byte_streams.specs.Moves.{Writing}
+use Rattle.byte_streams.specs.Origins.{Origin, one_source, two_sources}
+use Rattle.byte_streams.specs.Targets.{one_sink}
+use Rattle.byte_streams.specs.declared.documents.TwoTexts.{TwoTexts}
+use Rattle.byte_streams.specs.declared.faults.Document.TheVariants as documents
+use Rattle.byte_streams.specs.declared.faults.InputFault.{InputFault}
+use Rattle.byte_streams.specs.declared.files.FileSystem.{Ghosts as FileMembers}
+use Rattle.byte_streams.specs.declared.sources.Source.{Ghosts as SourceMembers}
+use Rattle.command_words.specs.declared.orders.Files.{Files}
+use Rattle.cert_check.specs.Setting.{Question}
+use Rattle.cert_check.specs.declared.faults.Answer.{Answer}
+use Rattle.cert_check.specs.declared.faults.Answer.TheVariants as answers
+use Rattle.match_runs.specs.Checking.{Answers, CheckGives, SpellCompleteList}
+use Rattle.match_runs.specs.Statuses.{status_of}
+use Rattle.match_program.specs.Exits.{status_exit}
+use Rattle.match_program.specs.FileOrigins.{AllOpened, Opened, one_file, read_from, read_from_all, three_files, two_files}
+use Rattle.match_runs.specs.Listed.{DrawFails, DrawsListed}
+use Rattle.match_program.specs.OrderRuns.{EndsBy, ThenDone}
+use Rattle.match_runs.specs.Printing.{Prints, PrintingGives}
+use Rattle.match_runs.specs.Runs.{Runs}
+use Rattle.match_program.specs.declared.exits.Exit.TheVariants.{Done}
+use Rattle.match_runs.specs.declared.statuses.Status.{Status}
+use Rattle.match_runs.specs.declared.statuses.Status.TheVariants as status
+use Rattle.match_runs.specs.declared.faults.RunFault.{RunFault}
+use Rattle.match_runs.specs.declared.printing_runs.Printing.{Printing}
+use Rattle.match_runs.proofs.RunningLemmas.{ended, over}
+
+-- a status that ends with all done is that of a list that is complete
+answers_complete : (Is : Question → Answer → Type 0) (texts : Texts) (s : Status) → Answers texts Is s → status_exit s ≡ Done → SpellCompleteList texts
+answers_complete Is texts s a done = (a.question, a.spelled, a.sound (complete a.answer (sym a.ends ∙ is_complete s done)))
+  where
+    is_complete : (s : Status) → status_exit s ≡ Done → s ≡ status.Complete
+    is_complete status.Complete e = refl
+    is_complete status.Refused e = absurd cc
+
+    complete : (answer : Answer) → status_of answer ≡ status.Complete → answer ≡ answers.Complete
+    complete answers.Complete e = refl
+    complete (answers.Refused fault) e = absurd cc
+
+pub check_complete : (texts : Texts) (printed : List ℕ) (s : Status) → CheckGives texts printed s → status_exit s ≡ Done → SpellCompleteList texts
+check_complete texts printed s given = answers_complete (λ question answer. printed ≡ answer_line answer (length question.listed)) texts s given
+
+pub printing_complete : (printing : Printing) (texts : Texts) (printed : List ℕ) (s : Status) → PrintingGives printing texts printed s → status_exit s ≡ Done → SpellCompleteList texts
+printing_complete printing texts printed s given = answers_complete (λ question answer. Prints question answer printing printed) texts s given
+
+-- ---- runs over files
+
+module _ (output : Writing) where
+  module _ (gives : Texts → List ℕ → Status → Type 0) (fails : Texts → RunFault → Type 0) (law : (t : Texts) (m : List ℕ) (s : Status) → gives t m s → status_exit s ≡ Done → SpellCompleteList t) where
+    ends_by : (texts : Texts) (printed : List ℕ) (s : Status) → gives texts printed s → EndsBy gives texts printed (status_exit s)
+    ends_by texts printed s given = record { status = s; given = given; ends = refl; complete = λ done. law texts printed s given done }
+
+    -- of three documents
+    pub over_documents : (from : Origin Texts) (result : Result Status RunFault)
+        → Runs from gives fails (one_sink output) result → Runs from (EndsBy gives) fails (one_sink output) (ended status_exit result)
+    over_documents from result run = over from from gives (EndsBy gives) fails (one_sink output) status_exit (λ t g. g) (λ f s. s) ends_by result run
+
+    -- of three that come from files
+    pub over_three : {S R W : Type 0} (system : FileMembers S R W) (source : SourceMembers R) (at : S) (files : Files) (all : AllOpened system source at files) (result : Result Status RunFault)
+        → Runs (read_from_all system source at files all) gives fails (one_sink output) result
+        → Runs (three_files system source at files) (EndsBy gives) fails (one_sink output) (ended status_exit result)
+    over_three system source at files all result run =
+        over (read_from_all system source at files all) (three_files system source at files) gives (EndsBy gives) fails (one_sink output) status_exit
+        (λ t gave. (all, gave)) (λ f stops. inr (all, stops)) ends_by result run
+
+  -- what ends by nothing
+  pub then_done : {T : Type 0} (from from' : Origin T) (gives : T → List ℕ → Unit {0} → Type 0) (fails : T → RunFault → Type 0)
+      → ((t : T) → from.Gave t → from'.Gave t) → ((f : InputFault) → from.Stopped f → from'.Stopped f) → (result : Result (Unit {0}) RunFault)
+      → Runs from gives fails (one_sink output) result → Runs from' (ThenDone gives) fails (one_sink output) (ended (λ e. Done) result)
+  then_done from from' gives fails gave stopped result run =
+      over from from' gives (ThenDone gives) fails (one_sink output) (λ e. Done) gave stopped (λ t m e g. (g, refl)) result run
+
+  module _ {S R W : Type 0} (system : FileMembers S R W) (source : SourceMembers R) (at : S) where
+    -- of the file of a puzzle that is described
+    pub over_puzzle : (gives : List ℕ → List ℕ → Unit {0} → Type 0) (fails : List ℕ → RunFault → Type 0) (name : List ℕ) (file : Opened system source at name) (result : Result (Unit {0}) RunFault)
+        → Runs (one_source documents.Puzzle (read_from system source at name file)) gives fails (one_sink output) result
+        → Runs (one_file system source at name) (ThenDone gives) fails (one_sink output) (ended (λ e. Done) result)
+    over_puzzle gives fails name file result run =
+        then_done (one_source documents.Puzzle (read_from system source at name file)) (one_file system source at name) gives fails (λ t gave. (file, gave)) (λ f stops. inr (file, stops)) result run
+
+    -- of the files of a puzzle and a list
+    pub over_two : (gives : TwoTexts → List ℕ → Unit {0} → Type 0) (fails : TwoTexts → RunFault → Type 0)
+        → (puzzle list : List ℕ) (first : Opened system source at puzzle) (second : Opened system source at list) (result : Result (Unit {0}) RunFault)
+        → Runs (two_sources (read_from system source at puzzle first) (read_from system source at list second)) gives fails (one_sink output) result
+        → Runs (two_files system source at puzzle list) (ThenDone gives) fails (one_sink output) (ended (λ e. Done) result)
+    over_two gives fails puzzle list first second result run =
+        then_done (two_sources (read_from system source at puzzle first) (read_from system source at list second)) (two_files system source at puzzle list)
+        gives fails (λ t gave. (first, second, gave)) (λ f stops. inr (first, second, stops)) result run
+
+    -- and by the number that is drawn
+    pub over_drawn : (number given : ℕ) → given ≡ number
+        → (puzzle list : List ℕ) (first : Opened system source at puzzle) (second : Opened system source at list) (result : Result (Unit {0}) RunFault)
+        → Runs (two_sources (read_from system source at puzzle first) (read_from system source at list second)) (DrawsListed given) (DrawFails given) (one_sink output) result
+        → Runs (two_files system source at puzzle list) (ThenDone (DrawsListed number)) (DrawFails number) (one_sink output) (ended (λ e. Done) result)
+    over_drawn number given same puzzle list first second result run =
+        subst (λ (n : ℕ). Runs (two_files system source at puzzle list) (ThenDone (DrawsListed n)) (DrawFails n) (one_sink output) (ended (λ e. Done) result)) same
+        (over_two (DrawsListed given) (DrawFails given) puzzle list first second result run)
+
+-- a reader of the file of a name, as it was opened and as it is later
+abbrev pub opened_as : {S R W : Type 0} (system : FileMembers S R W) (source : SourceMembers R) (at : S) (name given : List ℕ) (opened later : R)
+    → given ≡ name → system.opens at given opened → Opened system source at name
+opened_as system source at name given opened later same is = record { opened = opened; later = later; is_opened = subst (λ (n : List ℕ). system.opens at n opened) same is }

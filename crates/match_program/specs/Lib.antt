@@ -1,0 +1,6 @@
+pub mod Exits
+pub mod FileOrigins
+pub mod Files
+pub mod OrderRuns
+pub mod SolvedFiles
+pub mod WordRuns

@@ -1,0 +1,55 @@
+//! Files by their names.
+
+ghost use Rattle.std.specs.Prelude.{◌≡◌, ◌≢◌, ◌↔◌, false, IfOk, IfErr, IsTrue};
+ghost use Rattle.match_program.specs.Files.{HaveDifferentNames};
+
+use byte_streams::{Document, FileSystem};
+use command_words::Files;
+use match_runs::RunFault;
+use std::alloc::{AllocError, Global};
+
+/// The file of a document, opened, with nothing read of it. `Read` of the document where it can't
+/// be opened.
+pub fn open<S: FileSystem>(
+    system: &S,
+    name: &str,
+    document: Document,
+) -> Result<S::Reader, RunFault>
+    ensures opened { IfOk result (S.opens system.now name.now) }
+    ensures unread { IfOk result (λ reader. (S.Reader.ended reader ≡ false) × (S.Reader.errors reader ≡ 0)) }
+    ensures fault { IfErr result (λ fault. (fault ≡ RunFault.Read document) × S.refuses system.now name.now) }
+{
+    match system.open(name) {
+        Ok(file) => Ok(file),
+        Err(_) => Err(RunFault::Read(document)),
+    }
+}
+
+/// Whether the three files have different names.
+pub fn have_different_names(puzzle: &str, list: &str, certificate: &str) -> bool
+    ensures { IsTrue result
+        ↔ ((puzzle.now ≢ list.now) × (puzzle.now ≢ certificate.now) × (list.now ≢ certificate.now)) }
+{
+    puzzle != list && puzzle != certificate && list != certificate
+}
+
+// Whether the three files have different names, and as far as it can be told are three.
+pub(crate) fn are_apart<S: FileSystem>(
+    alloc: Global,
+    files: &Files,
+    system: &S,
+) -> Result<bool, AllocError>
+    ensures { IfOk result (λ are. IsTrue are → HaveDifferentNames files.now) }
+{
+    let Files {
+        puzzle,
+        list,
+        certificate,
+    } = files;
+    Ok(
+        have_different_names(puzzle, list, certificate)
+            && !system.may_lead_to_one(alloc, puzzle, list)?
+            && !system.may_lead_to_one(alloc, puzzle, certificate)?
+            && !system.may_lead_to_one(alloc, list, certificate)?,
+    )
+}

@@ -1,0 +1,20 @@
+//! The program without its `main`: the words that order runs, the files that these are over, how it ends, and what is
+//! told meanwhile.
+#![tactic(auto)]
+
+mod exits;
+mod files;
+mod made_files;
+mod order_runs;
+mod progress;
+mod system_limits;
+mod word_runs;
+
+pub use exits::Exit;
+pub use files::{have_different_names, open};
+pub use made_files::nothing_is_lost;
+pub use match_runs::{Input, Output, RunFault, System};
+pub use order_runs::run_order;
+pub use progress::{CheckProgress, SolveProgress};
+pub use system_limits::SystemLimits;
+pub use word_runs::{run_words, stopped};

@@ -1,0 +1,187 @@
+//! How far a check or a solve is, told on standard error.
+
+use check_crew::Gate;
+use match_board::limits::MOST_BYTES;
+use match_crew::Watch;
+use match_runs::{CheckWatch, SolveWatch};
+use std::sync::atomic::{AtomicBool, AtomicU64, Ordering};
+use std::time::{Clock, Instant};
+
+// Whose turn it is to tell: once a second, the worker that comes by first.
+#[derive(Drop)]
+struct Turns<'a, R: Clock + Eprint> {
+    rt: &'a R,
+    // none where nothing is to be told, or there is no clock
+    start: Option<Instant>,
+    // the second in which it was told last
+    told: AtomicU64,
+}
+
+impl<'a, R: Clock + Eprint> Turns<'a, R> {
+    fn new(rt: &'a R, asked: bool) -> Turns<'a, R> {
+        let start = if asked { Instant::now(rt).ok() } else { None };
+        Turns {
+            rt,
+            start,
+            told: AtomicU64::new(0),
+        }
+    }
+
+    // The seconds since the start.
+    fn passed(&self) -> Option<u64> {
+        let start = self.start.as_ref()?;
+        let passed = start.elapsed(self.rt).ok()?;
+        Some(passed.as_secs())
+    }
+
+    // The same, where it is the caller's turn.
+    fn take(&self) -> Option<u64> {
+        let now = self.passed()?;
+        let told = self.told.load(Ordering::Relaxed);
+        let is_next = now > told
+            && self
+                .told
+                .compare_exchange(told, now, Ordering::Relaxed, Ordering::Relaxed)
+                .is_ok();
+        if is_next { Some(now) } else { None }
+    }
+}
+
+/// Tells how far a check is: of how many lemmas it was begun to walk the tree.
+#[derive(Drop)]
+pub struct CheckProgress<'a, R: Clock + Eprint> {
+    turns: Turns<'a, R>,
+    lemmas: AtomicU64,
+    begun: AtomicU64,
+}
+
+impl<'a, R: Clock + Eprint> CheckProgress<'a, R> {
+    /// Tells where it is asked for, and else nothing.
+    pub fn new(rt: &'a R, asked: bool) -> CheckProgress<'a, R> {
+        CheckProgress {
+            turns: Turns::new(rt, asked),
+            lemmas: AtomicU64::new(0),
+            begun: AtomicU64::new(0),
+        }
+    }
+}
+
+impl<R: Clock + Eprint> Gate for CheckProgress<'_, R> {
+    fn enter(&self, _lemma: u32) {
+        let begun = self.begun.fetch_add(1, Ordering::Relaxed);
+        if let Some(seconds) = self.turns.take() {
+            let lemmas = self.lemmas.load(Ordering::Relaxed);
+            let _ = eprintln!(self.turns.rt; "check: {seconds} s, {begun} of {lemmas} lemmas");
+        }
+    }
+}
+
+impl<R: Clock + Eprint> CheckWatch for CheckProgress<'_, R> {
+    fn begins(&self, lemmas: usize) {
+        self.lemmas.store(lemmas as u64, Ordering::Relaxed);
+    }
+}
+
+// A node of a certificate has at least so many bytes: a letter and a digit, each behind a space.
+const LEAST_NODE_LEN: u64 = 4;
+
+/// Tells how far a solve is: how many children of branches were looked at, how many lemmas are done and how many wait
+/// for a worker, and how many arrangements were found.
+#[derive(Drop)]
+pub struct SolveProgress<'a, R: Clock + Eprint> {
+    turns: Turns<'a, R>,
+    children: AtomicU64,
+    lemmas: AtomicU64,
+    waiting: AtomicU64,
+    found: AtomicU64,
+    // whether it was told that the certificate is too long to be checked
+    is_too_long: AtomicBool,
+}
+
+impl<'a, R: Clock + Eprint> SolveProgress<'a, R> {
+    /// Tells where it is asked for, and else nothing.
+    pub fn new(rt: &'a R, asked: bool) -> SolveProgress<'a, R> {
+        SolveProgress {
+            turns: Turns::new(rt, asked),
+            children: AtomicU64::new(0),
+            lemmas: AtomicU64::new(0),
+            waiting: AtomicU64::new(0),
+            found: AtomicU64::new(0),
+            is_too_long: AtomicBool::new(false),
+        }
+    }
+
+    // How many nodes the certificate has by now: each child that was looked at, and the root of each lemma.
+    fn nodes(&self) -> u64 {
+        let children = self.children.load(Ordering::Relaxed);
+        let lemmas = self.lemmas.load(Ordering::Relaxed);
+        children.saturating_add(lemmas)
+    }
+
+    // Tells how far it is after so many seconds.
+    fn tell(&self, seconds: u64) {
+        let children = self.children.load(Ordering::Relaxed);
+        let lemmas = self.lemmas.load(Ordering::Relaxed);
+        let waiting = self.waiting.load(Ordering::Relaxed);
+        let found = self.found.load(Ordering::Relaxed);
+        let _ = eprintln!(self.turns.rt;
+            "solve: {seconds} s, {children} children looked at, {lemmas} lemmas done, {waiting} open, \
+             {found} arrangements"
+        );
+    }
+
+    // Tells once that the certificate is too long, as soon as its nodes say so.
+    fn tell_of_length(&self) {
+        let is_too_long = self.nodes() > u64::from(MOST_BYTES) / LEAST_NODE_LEN;
+        if is_too_long && !self.is_too_long.swap(true, Ordering::Relaxed) {
+            let _ = eprintln!(self.turns.rt; "solve: the certificate is longer than check reads");
+        }
+    }
+
+    fn tell_in_turn(&self) {
+        if let Some(seconds) = self.turns.take() {
+            self.tell(seconds);
+            self.tell_of_length();
+        }
+    }
+}
+
+impl<R: Clock + Eprint> Watch for SolveProgress<'_, R> {
+    fn looked(&self, children: u32) {
+        self.children
+            .fetch_add(u64::from(children), Ordering::Relaxed);
+        self.tell_in_turn();
+    }
+
+    fn searched(&self, found: usize, waiting: u64) {
+        self.lemmas.fetch_add(1, Ordering::Relaxed);
+        self.found.fetch_add(found as u64, Ordering::Relaxed);
+        self.waiting.store(waiting, Ordering::Relaxed);
+        self.tell_in_turn();
+    }
+
+    fn gave_up(&self, pairs: usize) {
+        if let Some(seconds) = self.turns.passed() {
+            self.tell(seconds);
+            let _ = eprintln!(self.turns.rt;
+                "solve: the fuel of a lemma of {pairs} pairs is spent"
+            );
+        }
+    }
+}
+
+impl<R: Clock + Eprint> SolveWatch for SolveProgress<'_, R> {
+    fn made(&self, list: usize, certificate: usize) {
+        let Some(seconds) = self.turns.passed() else {
+            return;
+        };
+        self.tell(seconds);
+        let nodes = self.nodes();
+        let _ = eprintln!(self.turns.rt;
+            "solve: a list of {list} bytes, a certificate of {nodes} nodes and {certificate} bytes"
+        );
+        if list > MOST_BYTES as usize || certificate > MOST_BYTES as usize {
+            let _ = eprintln!(self.turns.rt; "solve: that is more than check reads");
+        }
+    }
+}

@@ -1,0 +1,161 @@
+//! Runs of the words of a command line: what they order, and what is told where that fails.
+
+ghost use Rattle.std.specs.Prelude.{◌≡◌, map};
+ghost use Rattle.std.specs.String.{string_bytes};
+ghost use Rattle.clap.specs.Words.{kind_of};
+ghost use Rattle.clap.specs.declared.error.Error.{Error};
+ghost use Rattle.byte_streams.specs.Moves.{reading_of, writing_of};
+ghost use Rattle.match_program.specs.Exits.{fault_exit};
+ghost use Rattle.match_program.specs.OrderRuns.{RunOf};
+ghost use Rattle.match_program.specs.WordRuns.{CarriesOut, Explains, Tells, TellsFault, WantsMemory, WordsGive};
+
+use crate::exits::Exit;
+use crate::order_runs::run_order;
+use byte_streams::{FileSystem, Sink, Source, write_whole};
+use command_words::{Order, WordsFault, order};
+use match_runs::{RunFault, fault_text};
+use std::alloc::Global;
+use std::random::RandomSource;
+use std::sync::Wait;
+use std::thread::Threads;
+use std::time::Clock;
+
+/// Does what the words after the program's name order, and says how the program ends. A fault's line goes to `errors`, and
+/// nothing else but what is wrong with words; how far a check or a solve is, and what a text's line has to be
+/// that is to be explained, is told by `rt`.
+///
+/// Help and the version go to the output. All is done then; where they can't be written, it ends as `Write` does.
+pub fn run_words<
+    S: FileSystem,
+    I: Source,
+    W: Sink,
+    E: Sink,
+    R: Threads + Wait + Sync + RandomSource + Clock + Eprint,
+>(
+    rt: &R,
+    alloc: Global,
+    words: &[String],
+    system: &mut S,
+    input: &mut I,
+    output: &mut W,
+    errors: &mut E,
+) -> Exit
+    ensures { WordsGive (map string_bytes words.now) (RunOf S.FileSystem S.Reader.Source system.old system.new
+        (reading_of I.Source input.old input.new) (writing_of W.Sink output.old output.new)) (system.new ≡ system.old)
+        (writing_of W.Sink output.old output.new) (writing_of E.Sink errors.old errors.new) result }
+{
+    match order(alloc, words) {
+        Ok(order) => carry_out(rt, alloc, &order, system, input, output, errors),
+        Err(fault) => refuse(alloc, &fault, output, errors),
+    }
+}
+
+// Does what is ordered, and tells of a fault.
+fn carry_out<
+    S: FileSystem,
+    I: Source,
+    W: Sink,
+    E: Sink,
+    R: Threads + Wait + Sync + RandomSource + Clock + Eprint,
+>(
+    rt: &R,
+    alloc: Global,
+    order: &Order,
+    system: &mut S,
+    input: &mut I,
+    output: &mut W,
+    errors: &mut E,
+) -> Exit
+    ensures { CarriesOut (RunOf S.FileSystem S.Reader.Source system.old system.new
+        (reading_of I.Source input.old input.new) (writing_of W.Sink output.old output.new) order.now)
+        (writing_of E.Sink errors.old errors.new) result }
+{
+    let mut hint = None;
+    match run_order(rt, alloc, order, system, input, output, &mut hint) {
+        Ok(exit) => exit,
+        Err(fault) => {
+            let exit = stopped(alloc, &fault, errors);
+            tell_hint(rt, &hint);
+            exit
+        }
+    }
+}
+
+// Tells what was left to be told beside a fault.
+fn tell_hint<R: Eprint>(rt: &R, hint: &Option<String>) {
+    if let Some(hint) = hint {
+        let _ = rt.eprintln(hint);
+    }
+}
+
+// Says why words order nothing.
+fn refuse<W: Sink, E: Sink>(
+    alloc: Global,
+    fault: &WordsFault,
+    output: &mut W,
+    errors: &mut E,
+) -> Exit
+    ensures memory { fault.now ≡ WordsFault.Memory
+        → WantsMemory (writing_of W.Sink output.old output.new) (writing_of E.Sink errors.old errors.new) result }
+    ensures words { (error : Error) → fault.now ≡ WordsFault.Words error
+        → Explains (writing_of W.Sink output.old output.new) (writing_of E.Sink errors.old errors.new) result
+        (kind_of error) }
+{
+    match fault {
+        WordsFault::Words(error) => explained(alloc, error, output, errors),
+        WordsFault::Memory => stopped(alloc, &RunFault::Memory, errors),
+    }
+}
+
+/// Says in one line why a run stopped, and how the program ends then. Where the line can't be written, nothing can be said.
+pub fn stopped<E: Sink>(alloc: Global, fault: &RunFault, errors: &mut E) -> Exit
+    ensures exit { result ≡ fault_exit fault.now }
+    ensures told { TellsFault (writing_of E.Sink errors.old errors.new) fault.now }
+{
+    tell(alloc, fault, errors);
+    Exit::of_fault(fault)
+}
+
+// Where memory is refused to the line, that is told.
+fn tell<E: Sink>(alloc: Global, fault: &RunFault, errors: &mut E)
+    ensures { TellsFault (writing_of E.Sink errors.old errors.new) fault.now }
+{
+    match fault_text(alloc, fault) {
+        Ok(text) => put(errors, &text),
+        Err(_) => put(errors, b"out of memory\n"),
+    }
+}
+
+// Writes the text, or a front of it.
+fn put<E: Sink>(errors: &mut E, text: &[u8])
+    ensures { Tells (writing_of E.Sink errors.old errors.new) text.now }
+{
+    match write_whole(errors, text) {
+        Ok(()) => {}
+        // Nothing can be said.
+        Err(_) => {}
+    }
+}
+
+// Prints help or the version where it was asked for, else what is wrong with the words.
+fn explained<W: Sink, E: Sink>(
+    alloc: Global,
+    error: &clap::Error,
+    output: &mut W,
+    errors: &mut E,
+) -> Exit
+    ensures { Explains (writing_of W.Sink output.old output.new) (writing_of E.Sink errors.old errors.new) result
+        (kind_of error.now) }
+{
+    let Ok(text) = format!(in alloc; "{error}") else {
+        return stopped(alloc, &RunFault::Memory, errors);
+    };
+    if error.use_stderr() {
+        put(errors, text.as_bytes());
+        return Exit::Failed;
+    }
+    match write_whole(output, text.as_bytes()) {
+        Ok(()) => Exit::Done,
+        Err(_) => stopped(alloc, &RunFault::Write, errors),
+    }
+}

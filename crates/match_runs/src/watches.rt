@@ -1,0 +1,24 @@
+//! What is told of a check or a solve while it runs.
+
+use check_crew::{Gate, Open};
+use match_crew::{Unwatched, Watch};
+
+/// Told of a check while it runs. No answer depends on it.
+pub trait CheckWatch: Gate {
+    /// A certificate of so many lemmas was read.
+    fn begins(&self, lemmas: usize);
+}
+
+impl CheckWatch for Open {
+    fn begins(&self, _lemmas: usize) {}
+}
+
+/// Told of a solve while it runs. Nothing that is made depends on it.
+pub trait SolveWatch: Watch {
+    /// A list and a certificate of so many bytes are to be written.
+    fn made(&self, list: usize, certificate: usize);
+}
+
+impl SolveWatch for Unwatched {
+    fn made(&self, _list: usize, _certificate: usize) {}
+}
