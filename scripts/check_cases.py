@@ -20,6 +20,7 @@ from dataclasses import dataclass, field
 
 import plain_search
 from plain_search import ItemSearch, Search, read_puzzle
+from script_words import fault, help_or_fault, program_at
 
 TOP = os.path.join(os.path.dirname(os.path.abspath(__file__)), "..")
 CASES, EXAMPLES = os.path.join(TOP, "cases"), os.path.join(TOP, "examples")
@@ -533,15 +534,13 @@ def is_named(name, wanted):
 
 
 def main(program, *wanted):
-    program, begun = os.path.abspath(program), time.monotonic()
+    begun = time.monotonic()
     try:
         works = [(program, kind, case) for kind, case in every_case() if not wanted or is_named(case.name, wanted)]
     except (Unreadable, tomllib.TOMLDecodeError, OSError) as error:
-        print(f"check_cases: {error}", file=sys.stderr)
-        return 2
+        fault(error)
     if not works:
-        print(f"check_cases: there is no case {' '.join(wanted)}", file=sys.stderr)
-        return 2
+        fault(f"there is no case {' '.join(wanted)}")
     runs, failed = 0, 0
     with multiprocessing.Pool() as pool:
         for name, count, differences in pool.imap_unordered(tried, works):
@@ -556,6 +555,5 @@ def main(program, *wanted):
 
 
 if __name__ == "__main__":
-    if len(sys.argv) < 2 or sys.argv[1].startswith("-"):
-        sys.exit(__doc__)
-    sys.exit(main(*sys.argv[1:]))
+    help_or_fault(__doc__, 1)
+    sys.exit(main(program_at(sys.argv[1]), *sys.argv[2:]))

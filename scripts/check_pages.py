@@ -11,6 +11,8 @@ import re
 import subprocess
 import sys
 
+from script_words import help_or_fault, program_at
+
 TOP = os.path.join(os.path.dirname(os.path.abspath(__file__)), "..")
 BASH_WORDS = 'source "$1"; shift; COMP_WORDS=(edgematch "$@"); COMP_CWORD=$#; _edgematch; printf "%s\\n" "${COMPREPLY[@]}"'
 
@@ -114,7 +116,7 @@ def without_defaults(options):
 
 
 def main(program):
-    commands, options = said_by_help(os.path.abspath(program))
+    commands, options = said_by_help(program)
     pages = {"docs/edgematch.1": manual_faults, "completions/edgematch.bash": bash_faults,
              "completions/_edgematch": zsh_faults, "completions/edgematch.fish": fish_faults}
     failed = 0
@@ -128,6 +130,5 @@ def main(program):
 
 
 if __name__ == "__main__":
-    if len(sys.argv) != 2 or sys.argv[1].startswith("-"):
-        sys.exit(__doc__)
-    sys.exit(main(sys.argv[1]))
+    help_or_fault(__doc__, 1, 1)
+    sys.exit(main(program_at(sys.argv[1])))

@@ -1,11 +1,13 @@
 #!/usr/bin/env python3
 """Solves, checks and counts the puzzles of docs/GALLERY.md, and shows what isn't as the page has it.
 
-usage: gallery.py PROGRAM [PUZZLE..]
+usage: gallery.py PROGRAM [--texts FOLDER | PUZZLE..]
 
 PUZZLE is the name of a file of `examples/gallery`; without any, all are tried, which takes minutes. Prints the row of
 each as the page has it, with the bytes and the seconds of this run. It ends with 0 where the arrangements and the orbits
-are those of the page, and with 1 where they aren't.
+are those of the page, with 1 where they aren't, and with 2 where a word is wrong. With --texts it writes lists and
+certificates into the folder FOLDER, and checks them: of the puzzles that the page solves with one worker, since several
+list in another order each time.
 """
 import os
 import re
@@ -13,6 +15,8 @@ import subprocess
 import sys
 import tempfile
 import time
+
+from script_words import fault, help_or_fault, program_at
 
 TOP = os.path.join(os.path.dirname(os.path.abspath(__file__)), "..")
 PUZZLES = os.path.join(TOP, "examples/gallery")
@@ -28,7 +32,10 @@ def page_rows():
 def timed(*words):
     """What a run prints, and the seconds that it took."""
     begun = time.monotonic()
-    run = subprocess.run(words, capture_output=True, text=True, check=True)
+    try:
+        run = subprocess.run(words, capture_output=True, text=True, check=True)
+    except (OSError, subprocess.CalledProcessError) as error:
+        fault(f"{' '.join(words)}: {getattr(error, 'stderr', None) or error}".strip())
     return run.stdout, time.monotonic() - begun
 
 
@@ -55,11 +62,26 @@ def row_of(program, name, options):
     return "| " + " | ".join(cells) + " |", counts
 
 
+def keep_texts(program, folder):
+    """Writes the lists and certificates of the puzzles that one worker solves, and says of which they are."""
+    if not os.path.isdir(folder):
+        fault(f"there is no folder {folder}")
+    for name, options, *_ in page_rows():
+        if "--workers" not in options:
+            made = [os.path.join(folder, f"{name}.{document}") for document in ("list", "certificate")]
+            files = [os.path.join(PUZZLES, name), *made]
+            timed(program, "solve", *files, *options.split())
+            print(f"{name}: {timed(program, 'check', *files)[0]}", end="")
+    return 0
+
+
 def main(program, *wanted):
-    program, failed, rows = os.path.abspath(program), 0, page_rows()
+    if len(wanted) == 2 and wanted[0] == "--texts":
+        return keep_texts(program, wanted[1])
+    failed, rows = 0, page_rows()
     strange = sorted(set(wanted) - {name for name, *_ in rows})
-    if strange or not os.access(program, os.X_OK):
-        sys.exit(f"gallery: there is no {f'puzzle {strange[0]}' if strange else f'program {program}'}")
+    if strange:
+        fault(f"there is no puzzle {strange[0]}")
     for name, options, *counts in rows:
         if wanted and name not in wanted:
             continue
@@ -72,6 +94,5 @@ def main(program, *wanted):
 
 
 if __name__ == "__main__":
-    if len(sys.argv) < 2 or sys.argv[1].startswith("-"):
-        sys.exit(__doc__)
-    sys.exit(main(*sys.argv[1:]))
+    help_or_fault(__doc__, 1)
+    sys.exit(main(program_at(sys.argv[1]), *sys.argv[2:]))

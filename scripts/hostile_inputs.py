@@ -19,6 +19,8 @@ import resource
 import subprocess
 import tempfile
 
+from script_words import fault, program_at
+
 COLOURS = "0123456789abcdefghijklmnopqrstuvwxyz"
 CHECK, EXPAND = ["check"], ["expand"]
 
@@ -296,13 +298,18 @@ def report(program, make, size):
 
 
 def options():
-    parser = argparse.ArgumentParser(description=__doc__.splitlines()[0])
+    parser = argparse.ArgumentParser(description=__doc__, formatter_class=argparse.RawDescriptionHelpFormatter)
     parser.add_argument("program")
     parser.add_argument("names", nargs="*")
     parser.add_argument("--bytes", type=int, default=1_000_000)
     parser.add_argument("--doublings", type=int, default=0)
     parser.add_argument("--members", type=int, default=2_000)
-    return parser.parse_intermixed_args()
+    given = parser.parse_intermixed_args()
+    strange = sorted({*given.names} - {make.__name__ for make in INPUTS})
+    if strange:
+        fault(f"there is no input {strange[0]}")
+    given.program = program_at(given.program)
+    return given
 
 
 OPTIONS = options()

@@ -19,6 +19,8 @@ import resource
 import subprocess
 import tempfile
 
+from script_words import fault, program_at
+
 REFUSED = (2, "", "out of memory\n")
 COLOURS = "0123456789abcdefghijklmnopqrstuvwxyz"
 CREWS = [["--workers", "1"], ["--workers", "4"]]
@@ -118,6 +120,15 @@ def sweep(name, run, kind, step):
     return f"{name}: {count} runs, from {first} KB on with its answer", wrong
 
 
+def text_of(path):
+    """The text of a puzzle's file."""
+    try:
+        with open(path, encoding="ascii") as file:
+            return file.read()
+    except (OSError, ValueError) as error:
+        fault(f"{path}: {error}")
+
+
 def main():
     parse = argparse.ArgumentParser(description=__doc__, formatter_class=argparse.RawDescriptionHelpFormatter)
     parse.add_argument("program")
@@ -127,13 +138,12 @@ def main():
     parse.add_argument("--looks", action="store_true")
     parse.add_argument("--jobs", type=int, default=os.cpu_count())
     given = parse.parse_args()
-    program, steps = os.path.abspath(given.program), {"memory": given.memory, "stack": given.stack}
+    program, steps = program_at(given.program), {"memory": given.memory, "stack": given.stack}
     wrong = []
     with tempfile.TemporaryDirectory() as folder, concurrent.futures.ThreadPoolExecutor(given.jobs) as pool:
         texts = {f"row of {count} cells": row_of_cells(count) for count in (100, 256)}
         for path in given.puzzles:
-            with open(path, encoding="ascii") as file:
-                texts[os.path.basename(path)] = file.read()
+            texts[os.path.basename(path)] = text_of(path)
         begun = []
         for number, (name, text) in enumerate(texts.items()):
             puzzle = Puzzle(program, text, os.path.join(folder, str(number)))

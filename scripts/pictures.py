@@ -16,6 +16,7 @@ import tempfile
 
 import gallery
 from gallery import PUZZLES, TOP
+from script_words import fault, help_or_fault, program_at
 
 PICTURES = os.path.join(TOP, "docs/pictures")
 # Puzzles whose tiles are numbered, and those that have a sheet too.
@@ -71,7 +72,6 @@ def write(pictures):
 
 
 def main(program, *options):
-    program = os.path.abspath(program)
     with tempfile.TemporaryDirectory() as folder:
         pictures = dict(it for name, words, *_ in gallery.page_rows() for it in drawn(program, folder, name, words))
     if "--write" in options:
@@ -86,9 +86,7 @@ def main(program, *options):
 
 
 if __name__ == "__main__":
-    if "--help" in sys.argv:
-        print(__doc__)
-    elif len(sys.argv) < 2 or sys.argv[1].startswith("-") or sys.argv[2:] not in ([], ["--write"]):
-        sys.exit(__doc__)
-    else:
-        sys.exit(main(*sys.argv[1:]))
+    help_or_fault(__doc__, 1, 2)
+    if sys.argv[2:] not in ([], ["--write"]):
+        fault(f"there is no word {sys.argv[2]}")
+    sys.exit(main(program_at(sys.argv[1]), *sys.argv[2:]))

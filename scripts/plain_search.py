@@ -7,8 +7,10 @@ Reads the puzzle's text from the file PUZZLE, and writes the other two. At each 
 placements is filled, the least number at a tie; a cell that nothing fits ends a branch. Nodes with DEPTH pairs (0,
 unless given) are lemmas of their own, which the root cites. After MOST nodes (no bound, unless given) it gives up. With
 --items a branch is on the cell or tile with the fewest fitting pairs, a cell at a tie, as `edgematch solve --depth 0`
-has it, which then writes the same. Nobody has to trust it: `edgematch check` reads what it wrote.
+has it, which then writes the same. Nobody has to trust it: `edgematch check` reads what it wrote. It ends with 0 where
+both are written, and with 2 and a line on standard error where they aren't.
 """
+import os
 import sys
 
 DIGITS = "0123456789abcdefghijklmnopqrstuvwxyz"
@@ -16,6 +18,11 @@ DIGITS = "0123456789abcdefghijklmnopqrstuvwxyz"
 
 class GaveUp(Exception):
     pass
+
+
+def fault(why):
+    print(f"plain_search: {why}", file=sys.stderr)
+    sys.exit(2)
 
 
 def rectangle(width, height):
@@ -221,26 +228,46 @@ class ItemSearch(Search):
         return min(items, key=lambda it: len(it[2]))
 
 
+def puzzle_in(name):
+    """The puzzle of a file; a text that is none needn't be told, since `edgematch show` tells it better."""
+    try:
+        with open(name, encoding="ascii") as file:
+            return read_puzzle(file.read())
+    except OSError as error:
+        fault(f"{name}: {error.strerror}")
+    except (ValueError, IndexError, TypeError):
+        fault(f"{name}: that is no puzzle; edgematch show says why")
+
+
+def write(name, text):
+    try:
+        with open(name, "w", encoding="ascii") as file:
+            file.write(text)
+    except OSError as error:
+        fault(f"{name}: {error.strerror}")
+
+
 def main(words):
+    if {"--help", "-h"} & {*words}:
+        print(__doc__.strip())
+        return
     kind = ItemSearch if words[:1] == ["--items"] else Search
     words = words[1:] if kind is ItemSearch else words
-    if "--help" in words or not 3 <= len(words) <= 5 or not all(it.isdecimal() for it in words[3:]):
-        sys.exit(__doc__)
+    if not 3 <= len(words) <= 5 or words[0].startswith("-") or not all(it.isdecimal() for it in words[3:]):
+        fault(f"{__doc__.splitlines()[2]} (--help says more)")
     puzzle_name, list_name, certificate_name, *numbers = words
     depth = int(numbers[0]) if numbers else 0
     most = int(numbers[1]) if len(numbers) > 1 else sys.maxsize
-    try:
-        with open(puzzle_name) as file:
-            text = file.read()
-    except OSError as error:
-        sys.exit(f"plain_search: {puzzle_name}: {error.strerror}")
-    search = kind(read_puzzle(text), depth, most)
+    if os.path.realpath(puzzle_name) in map(os.path.realpath, (list_name, certificate_name)):
+        fault(f"{puzzle_name}: it is the puzzle, and stays")
+    search = kind(puzzle_in(puzzle_name), depth, most)
     sys.setrecursionlimit(10_000)
-    search.run()
-    with open(list_name, "w") as file:
-        file.write(search.list_text())
-    with open(certificate_name, "w") as file:
-        file.write(search.certificate_text())
+    try:
+        search.run()
+    except GaveUp:
+        fault(f"gave up after {most} nodes; nothing is written")
+    write(list_name, search.list_text())
+    write(certificate_name, search.certificate_text())
     print(f"found {len(search.listed)}, {search.nodes} nodes, {len(search.lemmas)} lemmas")
 
 

@@ -24,6 +24,8 @@ import subprocess
 import sys
 import tempfile
 
+from script_words import fault
+
 HERE = os.path.dirname(os.path.abspath(__file__))
 TOP = os.path.dirname(HERE)
 EXAMPLES = os.path.join(TOP, "examples")
@@ -45,7 +47,11 @@ class Refuser:
         self.folder, self.rest, self.seconds = folder, rest, seconds
         self.library = os.path.join(folder, "refuse_growth.so")
         words = ["-O2", "-shared", "-fPIC", "-o", self.library, os.path.join(HERE, "refuse_growth.c")]
-        subprocess.run([os.environ.get("CC", "cc"), *words], check=True)
+        compiler = os.environ.get("CC", "cc")
+        try:
+            subprocess.run([compiler, *words], check=True)
+        except (OSError, subprocess.CalledProcessError) as error:
+            fault(f"the C compiler {compiler}: {error}")
 
     def run(self, words, stdin="", at=0, makes=()):
         """What comes of a command whose request of this number is refused: 0 for none."""
@@ -207,6 +213,9 @@ def main():
         refuser = Refuser(folder, given.rest, given.seconds)
         crates = sorted(os.listdir(os.path.join(TOP, "crates")))
         subjects = [it for crate in crates for it in tests_of(refuser, crate)] + commands()
+        strange = [name for name in given.names if not any(is_named(it, [name]) for it in subjects)]
+        if strange:
+            fault(f"there is no {strange[0]}, or it isn't built")
         subjects = [it for it in subjects if is_named(it, given.names)]
         wrong = []
         with concurrent.futures.ThreadPoolExecutor(given.jobs) as pool:

@@ -15,6 +15,8 @@ import re
 import sys
 import textwrap
 
+from script_words import fault, help_or_fault
+
 TOP = os.path.join(os.path.dirname(os.path.abspath(__file__)), "..")
 PAGE, README = "docs/THEOREM.md", "README.md"
 
@@ -317,8 +319,9 @@ def main():
 
 
 if __name__ == "__main__":
+    help_or_fault(__doc__, 0, 1)
     if sys.argv[1:] not in ([], ["--write"]):
-        sys.exit(__doc__)
+        fault(f"there is no word {sys.argv[1]}")
     if sys.argv[1:]:
         write()
     sys.exit(main())

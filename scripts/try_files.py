@@ -17,6 +17,8 @@ import tempfile
 import threading
 import time
 
+from script_words import help_or_fault, program_at
+
 PUZZLE = b"match 1\nboard rect 2 1\nturns no\nborder free\ntiles 2\ntile 0101\ntile 0101\nend\n"
 NO_PUZZLE = PUZZLE.replace(b"tiles 2\ntile 0101\n", b"tiles 1\n")
 # Another puzzle, of one arrangement.
@@ -322,11 +324,10 @@ TRIALS = (
 
 
 def main():
-    if len(sys.argv) != 2:
-        sys.exit(__doc__)
+    help_or_fault(__doc__, 1, 1)
     # Where it is ignored, as in what runs behind a shell, the program would ignore it too.
     signal.signal(signal.SIGINT, signal.default_int_handler)
-    program, failed = os.path.abspath(sys.argv[1]), 0
+    program, failed = program_at(sys.argv[1]), 0
     for tried in TRIALS:
         with tempfile.TemporaryDirectory() as folder:
             trial = Trial(program, folder)

@@ -16,6 +16,8 @@ import subprocess
 import sys
 import tempfile
 
+from script_words import fault, help_or_fault
+
 TOP = os.path.join(os.path.dirname(os.path.abspath(__file__)), "..")
 CRATES = os.path.join(TOP, "crates")
 # The most edits that the gate tries: each takes half a minute or more.
@@ -99,13 +101,10 @@ def try_all(names):
 
 
 def main(words):
-    if words in (["--help"], ["-h"]):
-        print(__doc__)
-        return 0
     names = crates() if words == ["--all"] else words
     strange = sorted(set(names) - set(crates()))
     if strange:
-        sys.exit(f"there is no crate {strange[0]}\n\n{__doc__}")
+        fault(f"there is no crate {strange[0]}")
     wrong = look_at_all()
     if wrong or not names:
         return 1 if wrong else 0
@@ -113,4 +112,5 @@ def main(words):
 
 
 if __name__ == "__main__":
+    help_or_fault(__doc__, 0)
     sys.exit(main(sys.argv[1:]))
