@@ -7,3 +7,4 @@ pub mod TotalLemmas
 pub mod PartLemmas
 pub mod ChunkLemmas
 pub mod CarryingLemmas
+pub mod ChildLemmas

@@ -9,7 +9,7 @@ use Rattle.xcc_dance.specs.Clashes.{IsOpen}
 use Rattle.xcc_dance.specs.Chosen.{IsSelection}
 
 -- what stands behind a list
-behind : {X : Type 0} (xs ys : List X) (y : X) → slice_get (xs ++ y ∷ ys) (length xs) ≡ Some y
+pub behind : {X : Type 0} (xs ys : List X) (y : X) → slice_get (xs ++ y ∷ ys) (length xs) ≡ Some y
 behind [] ys y = refl
 behind (x ∷ xs) ys y = behind xs ys y
 

@@ -1,4 +1,5 @@
 pub mod Numbers
 pub mod Branches
 pub mod Symmetries
+pub mod Children
 pub mod Hash

@@ -41,6 +41,14 @@ impl Branch {
         Branch { chosen, weight }
     }
 
+    // From here on it stands for so many branches.
+    pub(crate) fn weigh(&mut self, weight: u64)
+        requires { 1 ≤ weight }
+        ensures { self.new ≡ record self.old { weight = weight } }
+    {
+        self.weight = weight;
+    }
+
     /// The options, in the order of choosing.
     pub fn chosen(&self) -> &[u32]
         ensures { result.now ≡ self.now.chosen }

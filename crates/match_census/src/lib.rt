@@ -2,11 +2,15 @@
 #![tactic(auto)]
 
 mod branches;
+mod children;
 mod counting;
 mod crews;
+mod dives;
 mod hashes;
+mod items;
 mod laws;
 mod parts;
+mod roots;
 mod splits;
 mod totals;
 

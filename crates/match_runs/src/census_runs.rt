@@ -1,9 +1,11 @@
 //! Runs that count the arrangements of a puzzle by a search.
 
-ghost use Rattle.std.specs.Prelude.{◌≡◌, ◌<◌, ◌≤◌, ◌++◌, ◌∷◌, [], IfOk, IfErr, OnOk, codes, decimal, length};
+ghost use Rattle.std.specs.Prelude.{◌≡◌, ◌<◌, ◌≤◌, ◌++◌, ◌∷◌, [], IfOk, IfErr, OnOk, codes, decimal, length, vec_len};
+ghost use Rattle.puzzle_symmetry.specs.Motion.{AreOfPuzzle};
 ghost use Rattle.match_text.specs.Spelling.{line_text, spaced};
 ghost use Rattle.command_words.specs.Parts.{parts_with};
 ghost use Rattle.match_show.specs.Facts.{number_line};
+ghost use Rattle.match_census.specs.Branches.{AreSelections, IsSplit};
 ghost use Rattle.match_census.specs.declared.splits.TheConstants.{MOST_BRANCHES};
 ghost use Rattle.byte_streams.specs.Moves.{reading_of, writing_of};
 ghost use Rattle.byte_streams.specs.Origins.{one_source};
@@ -24,10 +26,11 @@ use match_census::{Branch, count_arrangements, count_with_crew, hash_of, part_of
 use match_crew::SolveFault;
 use match_puzzle::Puzzle;
 use match_report::Line;
+use match_symmetry::{Symmetry, SymmetryFault, suggest};
 use match_text::read_puzzle;
 use std::alloc::{AllocError, Global};
 use std::thread::Threads;
-use xcc_form::compile;
+use xcc_form::{Xcc, compile};
 
 // Into so many branches at least a search is split whose workers share them, where it has so many.
 const SHARED: u32 = 4_096;
@@ -112,7 +115,7 @@ fn all_counted<R: Threads + Sync>(
     ensures fails { IfErr result (IsNotCounted extents.All puzzle.now) }
 {
     let xcc = compile(alloc, puzzle)?;
-    let branches = split(alloc, &xcc, SHARED)?;
+    let branches = branches_of(alloc, &xcc, SHARED)?;
     let counted = count_with_crew(rt, alloc, &xcc, &branches, workers.get() as u8)?;
     let Some(count) = counted else {
         return Err(RunFault::Solve(SolveFault::Full));
@@ -143,7 +146,7 @@ fn part_counted<R: Threads + Sync>(
     ensures fails { IfErr result (IsNotCounted (extents.Part part) puzzle.now) }
 {
     let xcc = compile(alloc, puzzle)?;
-    let branches = split(alloc, &xcc, DEALT)?;
+    let branches = branches_of(alloc, &xcc, DEALT)?;
     let mut text = write_split(alloc, &branches)?;
     let dealt = part_of(alloc, branches, before_of(&part), parts_of(&part))?;
     let counted = count_with_crew(rt, alloc, &xcc, &dealt, workers.get() as u8)?;
@@ -153,6 +156,32 @@ fn part_counted<R: Threads + Sync>(
     let line = write_part(alloc, part, count)?;
     text.extend_from_slice(&line)?;
     Ok(text)
+}
+
+// The branches of a split into so many at least, merged by symmetries of the puzzle.
+fn branches_of(alloc: Global, xcc: &Xcc<'_>, least: u32) -> Result<Vec<Branch>, AllocError>
+    ensures split { IfOk result (λ v. IsSplit xcc.now v.items) }
+    ensures selections { IfOk result (λ v. AreSelections xcc.now v.items) }
+    ensures few { IfOk result (λ v. vec_len v ≤ MOST_BRANCHES) }
+{
+    let symmetries = symmetries_of(alloc, xcc.puzzle())?;
+    split(alloc, xcc, &symmetries, least)
+}
+
+// Symmetries of the puzzle, by which branches are merged.
+fn symmetries_of<'a>(alloc: Global, puzzle: &'a Puzzle) -> Result<Vec<Symmetry<'a>>, AllocError>
+    ensures { IfOk result (λ v. AreOfPuzzle puzzle.now v.items) }
+{
+    let lines = suggest(alloc, puzzle)?;
+    let mut symmetries = Vec::new(alloc);
+    for line in &lines {
+        match Symmetry::new(alloc, puzzle, line) {
+            Ok(symmetry) => symmetries.push(symmetry)?,
+            Err(SymmetryFault::Memory) => return Err(AllocError),
+            Err(_) => continue,
+        }
+    }
+    Ok(symmetries)
 }
 
 // A line of this word and this number.

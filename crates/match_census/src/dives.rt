@@ -1,0 +1,70 @@
+//! Guesses of how many nodes a search has, by dives (D. E. Knuth, Estimating the efficiency of backtrack programs,
+//! 1975). A dive goes from a node to a leaf, and takes a child at random at each node. Where all children had as much
+//! below them as the one that is taken, a node had one node more than it has children times as many as that child.
+
+ghost use Rattle.std.specs.Prelude.{◌≡◌};
+
+use crate::items::option_behind;
+use rand_core::{Rng, SeedableRng};
+use rand_xoshiro::Xoshiro256PlusPlus;
+use std::alloc::AllocError;
+use xcc_dance::OpenOptions;
+
+// What the random numbers begin with. It is always the same, so that each call makes the same split.
+const SEED: u64 = 1975;
+
+// What dives are made with.
+#[derive(Drop)]
+pub(crate) struct Dives {
+    random: Xoshiro256PlusPlus,
+    // the most levels that a tree has
+    levels: u16,
+}
+
+impl Dives {
+    // Dives for a puzzle of so many cells.
+    pub(crate) fn new(cells: u16) -> Dives {
+        Dives {
+            random: Xoshiro256PlusPlus::seed_from_u64(SEED),
+            levels: cells,
+        }
+    }
+
+    // The mean of so many dives from where the engine is.
+    pub(crate) fn mean<E: OpenOptions>(
+        &mut self,
+        engine: &mut E,
+        dives: u64,
+    ) -> Result<u64, AllocError>
+        ensures { engine.new ≡ engine.old }
+    {
+        let mut sum: u64 = 0;
+        for _ in 0..dives {
+            let nodes = self.dive(engine, self.levels)?;
+            sum = sum.saturating_add(nodes);
+        }
+        Ok(sum / dives.max(1))
+    }
+
+    // One dive, of at most so many levels.
+    #[cycle(dive)]
+    fn dive<E: OpenOptions>(&mut self, engine: &mut E, levels: u16) -> Result<u64, AllocError>
+        ensures { engine.new ≡ engine.old }
+    {
+        let Some(item) = engine.branch_item() else {
+            return Ok(1);
+        };
+        let children = engine.size(item);
+        if children == 0 || levels == 0 {
+            return Ok(1);
+        }
+        let Some(option) = option_behind(engine, item, self.random.next_u32() % children) else {
+            return Ok(1);
+        };
+        engine.choose(option)?;
+        let nodes = self.dive(engine, levels - 1);
+        engine.undo();
+        let below = nodes?;
+        Ok(below.saturating_mul(u64::from(children)).saturating_add(1))
+    }
+}

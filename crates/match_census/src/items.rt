@@ -1,0 +1,54 @@
+//! Items to branch on.
+
+ghost use Rattle.std.specs.Prelude.{IfSome};
+ghost use Rattle.xcc_form.specs.Options.{cover_of};
+ghost use Rattle.xcc_dance.specs.Chosen.{IsUncovered};
+ghost use Rattle.xcc_dance.specs.Clashes.{IsOpen, IsOpenAt};
+
+use xcc_dance::OpenOptions;
+
+// The item with this number, if it is uncovered.
+pub(crate) fn uncovered_item<E: OpenOptions>(engine: &E, number: u32) -> Option<u32>
+    ensures { let s = E.selection engine.now in IfSome result (IsUncovered (cover_of s.compiled) s.chosen) }
+{
+    let mut next = engine.next_item(None);
+    while let Some(item) = next {
+        if item == number {
+            return Some(item);
+        }
+        next = engine.next_item(Some(item));
+    }
+    None
+}
+
+// The option with this number, if it is an open one of the item.
+pub(crate) fn open_option<E: OpenOptions>(engine: &E, item: u32, number: u32) -> Option<u32>
+    requires { let s = E.selection engine.now in IsUncovered (cover_of s.compiled) s.chosen item }
+    ensures { let s = E.selection engine.now in IfSome result (IsOpen (cover_of s.compiled) s.chosen) }
+{
+    let mut next = engine.next_option(item, None);
+    while let Some(option) = next {
+        if option == number {
+            return Some(option);
+        }
+        next = engine.next_option(item, Some(option));
+    }
+    None
+}
+
+// The open option of an item that has so many before it, if there is one.
+pub(crate) fn option_behind<E: OpenOptions>(engine: &E, item: u32, before: u32) -> Option<u32>
+    requires { let s = E.selection engine.now in IsUncovered (cover_of s.compiled) s.chosen item }
+    ensures { let s = E.selection engine.now in IfSome result (IsOpenAt (cover_of s.compiled) s.chosen item) }
+{
+    let mut left = before;
+    let mut next = engine.next_option(item, None);
+    while let Some(option) = next {
+        if left == 0 {
+            return Some(option);
+        }
+        left -= 1;
+        next = engine.next_option(item, Some(option));
+    }
+    None
+}
