@@ -52,8 +52,8 @@ Example:
 const SOLVED: &str = "\
 Makes LIST and CERTIFICATE: the list of the puzzle's arrangements, and the certificate that there is \
 no other, both as check reads them. Prints how many arrangements were found, how many lemmas the \
-certificate has, which of these each worker took, and the first arrangement. With --progress it says \
-meanwhile how far it is.
+certificate has, a line for each worker with the lemmas that it took, also where it took none, and the \
+first arrangement. With --progress it says meanwhile how far it is.
 
 The two are made beside their names and renamed once both are written, so that after any fault until \
 then, gave up included, what stood there stands. --keep, which asked for that once, says nothing more. \
@@ -111,9 +111,9 @@ With a puzzle alone it searches, and prints how many arrangements the puzzle has
 Nothing is written of what the search finds, so who doubts the number runs it again; a list with its \
 certificate can be checked.
 
-With a list and a certificate it checks these, and prints how many arrangements the puzzle has, and \
-how many where those that the symmetries of the certificate take into each other count once; or the \
-answer of check where it is refused.
+With a list and a certificate it checks these, and prints two lines: arrangements N, how many the puzzle \
+has, and orbits K, how many where those that the symmetries of the certificate take into each other \
+count once; or the answer of check where it is refused.
 
 With --most M it says arrangements more than M as soon as it has found more: with --most 1, whether there \
 is just one.
@@ -315,7 +315,7 @@ fn solve<'a>(alloc: Global) -> Result<Command<'a>, AllocError>
         0,
         u64::from(MOST_DEPTH),
         "1",
-        "Of how many levels of branches lemmas are made at first, 0 to 3",
+        "How many levels of branches become lemmas before the search, 0 to 3",
     );
     let fuel = optional_number(
         alloc,
@@ -545,9 +545,7 @@ fn tiles<'a>(alloc: Global) -> Result<Command<'a>, AllocError>
         "How many colours there are, 1 to 36",
     );
     let command = Command::new(alloc, "tiles")
-        .about(
-            "Lists the tiles with so many sides and colours, one of those that turn into each other",
-        )
+        .about("Lists the tiles with so many sides and colours, each in one of its turns")
         .after_help(LISTED)
         .arg(sides)?
         .arg(colours)?;

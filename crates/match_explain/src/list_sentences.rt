@@ -107,7 +107,7 @@ impl<'a> Listed<'a> {
         let (other_side, other) = (met.name(self.puzzle), letter(u32::from(other)));
         let (cell, other_cell) = (at.cell, met.cell);
         let sentence = format!(in alloc;
-            "cell {cell} shows {shown} on its {side}, which asks for {mate}, \
+            "cell {cell} shows {shown} on its {side}, which has to meet {mate}, \
              and cell {other_cell} shows {other} on its {other_side}"
         )?;
         Ok(Some(sentence))
