@@ -75,7 +75,7 @@ def installs(top, folder):
     """What isn't as wanted of a program that is installed below a path relative to another folder, and taken away."""
     run = called(folder, os.path.join(top, "scripts/install"), "to here")
     found = files_in(os.path.join(folder, "to here"))
-    if run.returncode != 0 or len(found) != 6:
+    if run.returncode != 0 or len(found) != 7:
         yield f"install: status {run.returncode}, {found} {run.stderr}"
     with open(os.path.join(folder, "to here/bin/own"), "w", encoding="ascii"):
         pass
