@@ -4,7 +4,8 @@
 usage: try_scripts.py
 
 It needs no program: a stand-in is installed and packed, from a copy of what is copied then. Each link of a page of the
-archive has to lead to a file of it. It takes a second, and ends with 0 where all is as wanted, else with 1.
+archive has to lead to a file of it, and what is wrong with a page has to be told. It takes seconds, and ends with 0
+where all is as wanted, else with 1.
 """
 import concurrent.futures
 import os
@@ -28,6 +29,24 @@ case $1 in
   solve) : >"$3" && : >"$4" ;;
 esac
 """
+# Words that make a page too long, or its sentences.
+MANY = "Words" + 49 * " word"
+AGAIN = "This sentence has more than a dozen words, and stands on two pages for no reason."
+# What is done to a page, or to what it speaks of: a text in the place of another, or behind all; and what is told then.
+WRONG_PAGES = [
+    ("crates/match_report/README.md", "# `match_report`", "# `match_reports`", "begins with another line"),
+    ("docs/ARCHITECTURE.md", "\n  9  ", "\n  0  ", "edgematch stands no higher than match_program"),
+    ("crates/match_text/README.md", "let list = ", "let lists = ", "list_again of layer_tests/src/texts.rt"),
+    ("crates/match_show/README.md", "`write_facts`", "`write_fax`", "there is no write_fax, "),
+    ("docs/FURTHER.md", "`cert_tree/src/nodes.rt`", "`cert_tree/src/node.rt`", "there is no cert_tree/src/node.rt"),
+    ("README.md", "| `symmetries PUZZLE`", "| `symmetry PUZZLE`", "differ in symmetry"),
+    ("crates/match_board/src/limits.rt", "MOST_COLOURS: u8 = 36", "MOST_COLOURS: u8 = 35", "doesn't say: 35 colours"),
+    ("README.md", "(docs/LARGE.md)", "(docs/LARGER.md)", "leads to docs/LARGER.md, which isn't there"),
+    (".ci/run", 'part "pages"', 'part "leaves"', "CONTRIBUTING.md has the parts"),
+    ("docs/DECISIONS.md", None, f"\n{MANY}. {MANY}. {MANY}. {MANY}. {MANY}. {MANY}.\n", "docs/DECISIONS.md is larger"),
+    ("docs/LARGE.md", None, f"\n{AGAIN}\n", "docs/LARGE.md, docs/MACHINE.md: twice: this sentence"),
+    ("docs/MACHINE.md", None, f"\n{AGAIN} {MANY}.\n", "docs/MACHINE.md: 50 words: Words"),
+]
 
 
 def scripts():
@@ -69,6 +88,26 @@ def copy_of_the_top(folder):
 
 def files_in(folder):
     return sorted(os.path.join(where, it) for where, _, names in os.walk(folder) for it in names)
+
+
+def changed(path, old, new):
+    """Puts a text in the place of another one in a file, or behind all."""
+    with open(path, encoding="utf-8") as file:
+        text = file.read()
+    with open(path, "w", encoding="utf-8") as file:
+        file.write(text + new if old is None else text.replace(old, new, 1))
+
+
+def tells_what_is_wrong(_, folder):
+    """What isn't told of pages that are wrong in each way."""
+    top = os.path.join(folder, "wrong pages")
+    shutil.copytree(TOP, top, ignore=shutil.ignore_patterns(".git", "out", "__pycache__"))
+    for path, old, new, _ in WRONG_PAGES:
+        changed(os.path.join(top, path), old, new)
+    run = called("/", os.path.join(top, "scripts/page_facts.py"))
+    if run.returncode != 1 or not run.stdout.endswith(f"\n0 passed, {len(WRONG_PAGES)} failed\n"):
+        yield f"wrong pages: status {run.returncode}, {run.stdout[-80:]!r} {run.stderr[-80:]!r}"
+    yield from (f"it isn't told: {said}" for _, _, _, said in WRONG_PAGES if said not in run.stdout)
 
 
 def installs(top, folder):
@@ -113,8 +152,8 @@ def main():
     with tempfile.TemporaryDirectory() as folder, concurrent.futures.ThreadPoolExecutor() as pool:
         top = copy_of_the_top(folder)
         tried = [pool.submit(list, helps(name)) for name in scripts()]
-        tried += [pool.submit(list, kind(top, folder)) for kind in (installs, packs)]
-        names, wrong = [*scripts(), "install", "package"], [it.result() for it in tried]
+        tried += [pool.submit(list, kind(top, folder)) for kind in (installs, packs, tells_what_is_wrong)]
+        names, wrong = [*scripts(), "install", "package", "page_facts.py"], [it.result() for it in tried]
     for name, faults in zip(names, wrong):
         for fault in faults:
             print(f"{name}: {fault}")

@@ -1,0 +1,420 @@
+#!/usr/bin/env python3
+"""Holds the pages to the files that they speak of: crates, counts, commands, limits, links, names and quotations.
+
+usage: page_facts.py [--write]
+
+The pages are README.md, CONTRIBUTING.md, CHANGELOG.md, those of docs/, and a README.md in the folder of each crate. It
+prints how large those are that have a bound, and looks at how long sentences are, and whether one stands twice. With
+--write the counts are made anew. It takes a second, and ends with 0 where all pages are right, and with 1 where one
+isn't, and says where. A quotation of the code begins with its file and the function that has it, as
+`// match_board/src/boards.rt, meets`; `..` in a line of its own stands for lines that are left out.
+"""
+import collections
+import functools
+import glob
+import operator
+import os
+import re
+import sys
+import textwrap
+import tomllib
+
+from script_words import fault, help_or_fault
+from try_further_edits import MOST_IN_THE_GATE, edits_in
+
+TOP = os.path.join(os.path.dirname(os.path.abspath(__file__)), "..")
+README, CONTRIBUTING, ARCHITECTURE = "README.md", "CONTRIBUTING.md", "docs/ARCHITECTURE.md"
+MANUAL, GATE = "docs/edgematch.1", ".ci/run"
+# The most bytes of a page, the most lines of a crate's, and the most words of a sentence, in the mean and of each.
+BOUNDS = {README: 10_000, ARCHITECTURE: 9_000, "docs/DECISIONS.md": 5_000, "docs/PROVED.md": 12_000}
+MOST_LINES, MOST_IN_THE_MEAN, MOST_WORDS = 60, 25, 45
+# A sentence of so many words is to stand in one place.
+LONG = 12
+# What stands on a page by the limits of the code and of scripts. A number stands there as text, with commas.
+LIMITS = {
+    README: [
+        "{MOST_PLAIN_CELLS} cells in a rectangle, a triangle or a hexagon",
+        "{MOST_CELLS} in a board of another shape",
+        "{MOST_COLOURS} colours, {MOST_ARRANGEMENTS} listed arrangements, {MOST_SYMMETRIES} symmetries",
+        "{MOST_LEMMAS} lemmas",
+    ],
+    "docs/FORMATS.md": [
+        "| cells and tiles, each numbered from 0 | up to {MOST_PLAIN_CELLS} | up to {MOST_CELLS} |",
+        "| entries of `border each` | 400 | {MOST_RULES} |",
+        "| children of a branch | 400 | {MOST_CHILDREN} |",
+        "| levels of a tree | 101 | {MOST_LEVELS} |",
+        "{MOST_COLOURS} colours, one character each",
+        "at most {MOST_PLACES} places and {MOST_CELLS} cells",
+        "0 to {MOST_SYMMETRIES}, and M lines `lemma`, 0 to {MOST_LEMMAS}",
+        "(over {MOST_BYTES} bytes)",
+        "`items N of {MOST_ENTRIES:d}`",
+    ],
+    CONTRIBUTING: [
+        "at most {MOST_IN_THE_MEAN} words in the mean and none over {MOST_WORDS}",
+        "A crate's page has at most {MOST_LINES} lines",
+        "So at most {MOST_IN_THE_GATE} stand in",
+    ],
+    "docs/DECISIONS.md": ["At most {MOST_IN_THE_GATE} must-fail edits stand in the gate"],
+    "docs/PROVED.md": ["1 to {MOST_WORKERS} workers and 0 to {MOST_FORKS} forks", "over {MOST_ENTRIES} items"],
+    "docs/MACHINE.md": ["1 to {MOST_WORKERS} workers and 1 to {MOST_WORKERS} queues"],
+    "docs/SOLVING.md": ["(over {MOST_ENTRIES} items)", "(over {MOST_ARRANGEMENTS} to be listed)"],
+    "crates/match_board/README.md": ["`MOST_CELLS` ({MOST_CELLS})", "`MOST_PLAIN_CELLS` ({MOST_PLAIN_CELLS})"],
+    "crates/steal_crew/README.md": ["At most {MOST_GIVEN} jobs are given by a job"],
+    "crates/byte_streams/README.md": ["tried {MOST_TRIES} times"],
+    "crates/check_crew/README.md": ["a tree of under {LEAST_FORKED} nodes", "Below {LEAST_NODES} nodes the caller"],
+    "crates/match_census/README.md": ["at most {MOST_BRANCHES} branches"],
+    "crates/match_crew/README.md": [
+        "at most {MOST_PLANNED} branches",
+        "At most {MOST_ITEMS} items",
+        "under {FEW_NODES} nodes",
+        "after {LONG} children",
+    ],
+}
+# Where paths begin that are looked at, beside crates.
+FOLDERS = ["src", "specs", "proofs", "crates", "scripts", "cases", "docs"]
+# What is of the kit alone.
+OF_THE_KIT = {"crossbeam_queue", "RandomState"}
+# The pages whose names are those of the code, beside those of the crates.
+OF_THE_CODE = [ARCHITECTURE, "docs/DECISIONS.md", "docs/FURTHER.md", "docs/PROVED.md", "docs/MACHINE.md"]
+
+KINDS = "must-fail", "further-edits"
+CONSTANT = re.compile(r"^(?:pub )?const (\w+): \w+ = ([\w ]+(?: [-+*<]+ [\w ]+)?);$", re.M)
+SIGNS = {"+": operator.add, "-": operator.sub, "*": operator.mul, "<<": operator.lshift}
+LINK = re.compile(r"\]\(([^)\s]+)\)|(?:src|href)=\"([^\"]+)\"")
+FENCED = re.compile(r"^```.*?^```$", re.M | re.S)
+QUOTED = re.compile(r"^```\n// (\S+), (\w+)\n(.*?)^```$", re.M | re.S)
+SPAN = re.compile(r"`([^`\n]+(?:\n[^`\n]+)?)`")
+CALL = re.compile(r"(?:^|[ /(])edgematch ([a-z]+)((?: [^\s`|>)]+)*)")
+PATH = re.compile(r"[\w.-]+(?:/[\w.-]+)+|[\w-]+\.(?:rt|antt|py|toml|md|txt)")
+WORD = re.compile(r"[A-Za-z_][A-Za-z0-9_']*")
+COUNTS = re.compile(r"\d+ crates, \d+ cases, \d+ edits in the gate and \d+ beside it")
+END = re.compile(r"(?<=[.!?])[\"'*)]*\s+(?=[\"'*(\[]*[A-Z0-9`])")
+
+
+@functools.cache
+def text_of(path):
+    with open(os.path.join(TOP, path), encoding="utf-8") as file:
+        return file.read()
+
+
+def is_there(path):
+    return os.path.exists(os.path.join(TOP, path))
+
+
+def found(pattern):
+    """The files that a pattern names, by their paths from the top."""
+    return sorted(glob.glob(pattern, root_dir=TOP, recursive=True, include_hidden=True))
+
+
+@functools.cache
+def crates():
+    """The crates in the order of crates.txt, each with those that it stands on, of the project alone."""
+    lines = [line.split(":") for line in text_of("crates.txt").splitlines()]
+    names = [of.split()[0] for of, _ in lines]
+    return {name: [it for it in on.split() if it in names] for name, (_, on) in zip(names, lines)}
+
+
+def below(crate):
+    """All crates that a crate stands on, also by others."""
+    return {under for it in crates()[crate] for under in {it} | below(it)}
+
+
+def page_of(crate):
+    return f"crates/{crate}/README.md"
+
+
+@functools.cache
+def pages():
+    return [README, CONTRIBUTING, "CHANGELOG.md", *found("docs/*.md"), *filter(is_there, map(page_of, crates()))]
+
+
+def plain(text):
+    """A text in one line, without the marks of a quotation."""
+    return " ".join(re.sub(r"^> ?", "", text, flags=re.M).split())
+
+
+# ---- crates
+
+
+def page_faults():
+    """What a crate's page lacks: the page, its name, or room."""
+    for crate in crates():
+        if not is_there(page_of(crate)):
+            yield f"crates/{crate} has no README.md"
+            continue
+        lines = text_of(page_of(crate)).splitlines()
+        if lines[0] != f"# `{crate}`":
+            yield f"{page_of(crate)} begins with another line than # `{crate}`"
+        if len(lines) > MOST_LINES:
+            yield f"{page_of(crate)} has {len(lines)} lines, and {MOST_LINES} at most are to stand there"
+        named = set(SPAN.findall(text_of(page_of(crate)).split("\n## ")[0])) & {*crates()}
+        yield from (f"{page_of(crate)}: it doesn't stand on {it}" for it in sorted(named - below(crate) - {crate}))
+
+
+def layer_faults():
+    """What the picture and the table of the layers say otherwise than crates.txt."""
+    page = text_of(ARCHITECTURE)
+    rows = [line.split() for line in page.split("```")[1].splitlines() if re.match(r" +\d ", line)]
+    row_of = {crate: int(row[0]) for row in rows for crate in row[1:]}
+    for crate, row in row_of.items():
+        lower = [it for it in crates().get(crate, []) if row_of.get(it, row) < row]
+        yield from (f"{crate} stands no higher than {it}" for it in crates().get(crate, []) if it not in lower)
+    told = re.findall(r"\[`(\w+)`\]\(\.\./crates/\1/README\.md\)", page)
+    yield from (f"the page has {it} {told.count(it)} times" for it in crates() if told.count(it) not in (1, 2))
+    drawn = {*row_of} - {*crates()} | {it for it in re.findall(r"^\| \[`(\w+)`", page, re.M)} ^ {*row_of}
+    yield from (f"{it} stands in the picture or in the table alone" for it in sorted(drawn))
+
+
+# ---- quotations and names
+
+
+def item_of(path, name):
+    """The lines of a function of a file, laid out from its own margin."""
+    begins = re.compile(rf"^( *)(?:pub(?:\(\w+\))? )?fn {name}\b.*?^\1\}}$", re.M | re.S)
+    item = begins.search(text_of(path))
+    return item and re.sub(rf"^{item[1]}", "", item[0], flags=re.M)
+
+
+def stands_in(lines, item):
+    """Whether the lines stand in an item, one behind the other, but for what `..` stands for."""
+    at = 0
+    for part in "\n".join(lines).split("\n..\n"):
+        margins = {len(it) - len(it.lstrip()) for it in item.split("\n")}
+        places = [item.find("\n" + textwrap.indent(part, " " * margin) + "\n", at) for margin in sorted(margins)]
+        at = min((place for place in places if place >= 0), default=-1)
+        if at < 0:
+            return False
+    return True
+
+
+def quotation_faults():
+    """The quotations that don't stand in their functions."""
+    for page in pages():
+        for file, name, said in QUOTED.findall(text_of(page)):
+            item = item_of(f"crates/{file}", name) if is_there(f"crates/{file}") else None
+            if not item or not stands_in(said.rstrip("\n").split("\n"), item):
+                yield f"{page}: {name} of {file} has no such lines"
+
+
+@functools.cache
+def known_words():
+    """The words of the code, of its definitions and proofs, and of cases, with the names of all files."""
+    files = [it for kind in ("src", "specs", "proofs") for it in found(f"crates/*/{kind}/**/*.*")]
+    files += found("cases/*") + ["crates.txt", MANUAL]
+    words = {word for it in files for word in re.findall(r"[\w']+", text_of(it))}
+    named = files + [it for kind in ("crates/*/*", "scripts/*", "examples/*", "docs/*", "*") for it in found(kind)]
+    return words | OF_THE_KIT | {os.path.splitext(part)[0] for it in named for part in it.split("/")}
+
+
+def spans_of(page):
+    """What a page has between backticks, in one line each."""
+    return {plain(it) for it in SPAN.findall(FENCED.sub("", text_of(page)))}
+
+
+def name_faults():
+    """The names of the code that there aren't."""
+    for page in [*OF_THE_CODE, *filter(is_there, map(page_of, crates()))]:
+        for span in sorted(spans_of(page)):
+            words = {it for it in WORD.findall(PATH.sub("", span)) if len(it) > 2}
+            yield from (f"{page}: there is no {it}, as in `{span}`" for it in sorted(words - known_words()))
+
+
+def path_faults():
+    """The paths that lead nowhere: from the top, from crates, or in a crate."""
+    for page in pages():
+        folders = ["", "crates/", page.removesuffix("README.md")]
+        for path in sorted({it for span in spans_of(page) for it in PATH.findall(span)}):
+            if path.split("/")[0] not in {*FOLDERS, *crates()} or re.search("NAME|MODULE", path):
+                continue
+            if not any(is_there(folder + path) for folder in folders) and not found(f"crates/*/{path}"):
+                yield f"{page}: there is no {path}"
+
+
+# ---- commands, limits, links
+
+
+@functools.cache
+def manual():
+    """The commands of the manual page, each with what stands there. It is held to the program by check_pages.py."""
+    text = text_of(MANUAL).replace("\\-", "-").split(".SH COMMANDS\n")[1].split("\n.SH ")[0]
+    parts = re.split(r"^\.SS (\w+)\n", text, flags=re.M)[1:]
+    return dict(zip(parts[::2], parts[1::2]))
+
+
+def command_faults():
+    """The commands and options that a page calls and that there aren't, and those that the README leaves out."""
+    for page in pages():
+        code = [*spans_of(page), *(line for it in FENCED.findall(text_of(page)) for line in it.split("\n"))]
+        for command, words in sorted({call for it in code for call in CALL.findall(it)}):
+            options = [it.split("=")[0] for it in words.split() if it.startswith("--") and it != "--help"]
+            if command not in manual():
+                yield f"{page}: there is no command {command}"
+            else:
+                yield from (f"{page}: {command} has no {it}" for it in options if it not in manual()[command])
+    table = text_of(README).split("| Words | ")[1].split("\n\n")[0]
+    differ = {*re.findall(r"^\| `([a-z]+)[ `]", table, re.M)} ^ {*manual()} - {"help"}
+    yield from (f"{README}: its table of commands and {MANUAL} differ in {it}" for it in sorted(differ))
+
+
+@functools.cache
+def constants(folder):
+    """The numbers that the code below a folder declares as constants, by their names."""
+    values = {}
+    for name, said in (constant for path in found(f"{folder}/**/*.rt") for constant in CONSTANT.findall(text_of(path))):
+        words = re.sub(r" as \w+", "", said).split()
+        if all(word in values or word[0].isdigit() for word in words[::2]):
+            numbers = [values[word] if word in values else int(word, 0) for word in words[::2]]
+            values[name] = SIGNS[words[1]](*numbers) if words[1:] else numbers[0]
+    return values
+
+
+def limits(page):
+    """The limits of the code and of scripts, and for a crate's page the numbers of the crate, by their names."""
+    of_scripts = {name: value for name, value in globals().items() if name.startswith("MOST_")}
+    return of_scripts | constants("crates/match_board/src") | constants(os.path.join(os.path.dirname(page), "src"))
+
+
+def limit_faults():
+    """The sentences on limits that don't stand on their pages."""
+    for page, sentences in LIMITS.items():
+        for sentence in sentences:
+            wanted = re.sub(r"\{(\w+)\}", r"{\1:,}", sentence).format(**limits(page))
+            if wanted not in plain(text_of(page)):
+                yield f"{page} doesn't say: {wanted}"
+
+
+def anchors(path):
+    """What a link into a page may name: its headings."""
+    heads = re.findall(r"^#+ (.*)$", FENCED.sub("", text_of(path)), re.M)
+    return {re.sub(r"[^\w -]", "", it.lower()).replace(" ", "-") for it in heads}
+
+
+def link_faults():
+    """The links that lead nowhere, and the pages to which the README doesn't lead."""
+    for page in pages():
+        for link in {"".join(it) for it in LINK.findall(text_of(page))}:
+            path, _, anchor = link.partition("#")
+            whole = os.path.normpath(os.path.join(os.path.dirname(page), path)) if path else page
+            if "://" not in link and (not is_there(whole) or anchor and anchor not in anchors(whole)):
+                yield f"{page} leads to {link}, which isn't there"
+    led = {README, *(it[0] for it in LINK.findall(text_of(README)))}
+    left = (it for it in pages() if it not in led and not it.startswith("crates/"))
+    yield from (f"{README} doesn't lead to {it}" for it in left)
+
+
+# ---- counts and sizes
+
+
+def counts():
+    """The sentence of CONTRIBUTING.md that counts."""
+    cases = sum(len(tomllib.loads(text_of(it))) for it in found("cases/*.toml"))
+    gate, beside = (sum(len(edits_in(os.path.join(TOP, it))) for it in found(f"crates/*/{kind}")) for kind in KINDS)
+    return f"{len(crates())} crates, {cases} cases, {gate} edits in the gate and {beside} beside it"
+
+
+def count_faults():
+    """The counts that are stale, the parts of the gate that the page leaves out, and the line of the kit."""
+    page = text_of(CONTRIBUTING)
+    if counts() not in plain(page):
+        yield f"{CONTRIBUTING} doesn't say: {counts()}"
+    parts = re.findall(r'^part "([^"]+)"', text_of(GATE), re.M)
+    table = re.findall(r"^\| ([^|]+) \|", page.split("| Part | ")[1].split("\n\n")[0], re.M)
+    if table != parts:
+        yield f"{CONTRIBUTING} has the parts {table}, and the gate {parts}"
+    kit = re.search(r"rattle-kit-\w+ logic \w+", text_of("crates/command_words/src/commands.rt"))
+    for path in (README, "docs/PROVED.md"):
+        if not kit or kit[0] not in plain(text_of(path)):
+            yield f"{path} doesn't name the kit of --version, {kit and kit[0]}"
+    puzzles = len(found("examples/gallery/*"))
+    rows = len(re.findall(r"^\| \[", text_of("docs/GALLERY.md"), re.M))
+    if rows != puzzles or f"{puzzles - 1} puzzles more" not in plain(text_of(README)):
+        yield f"docs/GALLERY.md has {rows} rows for {puzzles} puzzles, or {README} not: {puzzles - 1} puzzles more"
+
+
+def size_faults():
+    """The pages that are larger than their bound."""
+    for page, bound in BOUNDS.items():
+        size = len(text_of(page).encode())
+        print(f"{page}: {size:,} of {bound:,} bytes")
+        if size > bound:
+            yield f"{page} is larger"
+
+
+# ---- prose
+
+
+def blocks_of(page):
+    """The paragraphs, members of lists and cells of tables of a page, and whether each is a cell."""
+    text = re.sub(r"<[^>]*>", "", FENCED.sub("", text_of(page)))
+    text = re.sub(r"\[([^\]]*)\]\([^)\s]*\)", r"\1", re.sub(r"^> ?", "", text, flags=re.M))
+    for part in re.split(r"\n\s*\n|\n(?=\s*(?:[-*]|\d+\.) )|\n(?=[|#])", text):
+        if part.startswith("|"):
+            yield from ((cell, True) for cell in part.replace("\\|", " ").split("|"))
+        elif not part.startswith("#"):
+            yield re.sub(r"^\s*(?:[-*]|\d+\.) ", "", part), False
+
+
+def sentences_of(page):
+    """The sentences of a page, each in one line, and whether they stand in a table."""
+    for block, is_cell in blocks_of(page):
+        yield from ((it, is_cell) for it in END.split(plain(block)) if it)
+
+
+def words_of(sentence):
+    """How many words a sentence has. What stands between backticks is one."""
+    return sum(any(map(str.isalnum, it)) for it in SPAN.sub("code", sentence).split())
+
+
+def length_faults():
+    """The sentences that are too long, and the pages where they are so in the mean."""
+    for page in pages():
+        prose = [words_of(it) for it, is_cell in sentences_of(page) if not is_cell]
+        mean = sum(prose) / max(1, len(prose))
+        if mean > MOST_IN_THE_MEAN:
+            yield f"{page}: sentences of {mean:.1f} words"
+        for sentence, _ in sentences_of(page):
+            if words_of(sentence) > MOST_WORDS:
+                yield f"{page}: {words_of(sentence)} words: {sentence[:90]}"
+
+
+def repetition_faults():
+    """The long sentences that stand in two places."""
+    places = collections.defaultdict(list)
+    for page in pages():
+        for sentence, _ in sentences_of(page):
+            if words_of(sentence) >= LONG:
+                places[re.sub(r"\W+", " ", sentence.lower())].append(page)
+    yield from (f"{', '.join(of)}: twice: {said[:90]}" for said, of in places.items() if len(of) > 1)
+
+
+PARTS = [
+    page_faults, layer_faults, quotation_faults, name_faults, path_faults, command_faults, limit_faults, link_faults,
+    count_faults, size_faults, length_faults, repetition_faults,
+]
+
+
+def write():
+    made = COUNTS.sub(counts(), text_of(CONTRIBUTING))
+    with open(os.path.join(TOP, CONTRIBUTING), "w", encoding="utf-8") as file:
+        file.write(made)
+    text_of.cache_clear()
+
+
+def main():
+    failed = 0
+    for part in PARTS:
+        faults = list(part())
+        failed += bool(faults)
+        for it in faults:
+            print(it)
+    print(f"{len(PARTS) - failed} passed, {failed} failed")
+    return 1 if failed else 0
+
+
+if __name__ == "__main__":
+    help_or_fault(__doc__, 0, 1)
+    if sys.argv[1:] not in ([], ["--write"]):
+        fault(f"there is no word {sys.argv[1]}")
+    if sys.argv[1:]:
+        write()
+    sys.exit(main())
