@@ -4,10 +4,11 @@
 usage: page_facts.py [--write]
 
 The pages are README.md, CONTRIBUTING.md, CHANGELOG.md, those of docs/, and a README.md in the folder of each crate. It
-prints how large those are that have a bound, and looks at how long sentences are, and whether one stands twice. With
---write the counts are made anew. It takes a second, and ends with 0 where all pages are right, and with 1 where one
-isn't, and says where. A quotation of the code begins with its file and the function that has it, as
-`// match_board/src/boards.rt, meets`; `..` in a line of its own stands for lines that are left out.
+prints how large those are that have a bound, and looks at how long lines of prose and sentences are, whether a sentence
+stands twice, and whether two empty lines follow each other. With --write the counts are made anew. It takes a second,
+and ends with 0 where all pages are right, and with 1 where one isn't, and says where. A quotation of the code begins
+with its file and the function that has it, as `// match_board/src/boards.rt, meets`; `..` in a line of its own stands
+for lines that are left out.
 """
 import collections
 import functools
@@ -25,9 +26,10 @@ from try_further_edits import MOST_IN_THE_GATE, edits_in
 TOP = os.path.join(os.path.dirname(os.path.abspath(__file__)), "..")
 README, CONTRIBUTING, ARCHITECTURE = "README.md", "CONTRIBUTING.md", "docs/ARCHITECTURE.md"
 MANUAL, GATE = "docs/edgematch.1", ".ci/run"
-# The most bytes of a page, the most lines of a crate's, and the most words of a sentence, in the mean and of each.
+# The most bytes of a page, the most lines of a crate's, the most characters of a line of prose, and the most words of a
+# sentence, in the mean and of each.
 BOUNDS = {README: 10_000, ARCHITECTURE: 9_000, "docs/DECISIONS.md": 5_000, "docs/PROVED.md": 12_000}
-MOST_LINES, MOST_IN_THE_MEAN, MOST_WORDS = 60, 25, 45
+MOST_LINES, MOST_CHARACTERS, MOST_IN_THE_MEAN, MOST_WORDS = 60, 120, 25, 45
 # A sentence of so many words is to stand in one place.
 LONG = 12
 # What stands on a page by the limits of the code and of scripts. A number stands there as text, with commas.
@@ -52,6 +54,7 @@ LIMITS = {
     CONTRIBUTING: [
         "at most {MOST_IN_THE_MEAN} words in the mean and none over {MOST_WORDS}",
         "A crate's page has at most {MOST_LINES} lines",
+        "lines of at most {MOST_CHARACTERS} characters",
         "So at most {MOST_IN_THE_GATE} stand in",
     ],
     "docs/DECISIONS.md": ["At most {MOST_IN_THE_GATE} must-fail edits stand in the gate"],
@@ -343,6 +346,17 @@ def size_faults():
 # ---- prose
 
 
+def layout_faults():
+    """The lines of prose that are too long, and where two empty lines follow each other."""
+    for page in pages():
+        lines = FENCED.sub("```", text_of(page)).split("\n")
+        for before, line in zip(lines, lines[1:]):
+            if not before and not line:
+                yield f"{page}: two empty lines follow each other"
+            if len(line) > MOST_CHARACTERS and not line.startswith(("|", "<")):
+                yield f"{page}: {len(line)} characters: {line[:90]}"
+
+
 def blocks_of(page):
     """The paragraphs, members of lists and cells of tables of a page, and whether each is a cell."""
     text = re.sub(r"<[^>]*>", "", FENCED.sub("", text_of(page)))
@@ -389,7 +403,7 @@ def repetition_faults():
 
 PARTS = [
     page_faults, layer_faults, quotation_faults, name_faults, path_faults, command_faults, limit_faults, link_faults,
-    count_faults, size_faults, length_faults, repetition_faults,
+    count_faults, size_faults, layout_faults, length_faults, repetition_faults,
 ]
 
 
