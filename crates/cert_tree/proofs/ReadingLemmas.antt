@@ -22,9 +22,8 @@ use Rattle.match_text.specs.declared.faults.ReadFault.{ReadFault}
 use Rattle.cert_tree.specs.declared.faults.CertTextFault.{CertTextFault}
 use Rattle.cert_tree.specs.Faults.{of_assembly}
 use Rattle.cert_tree.specs.Certificate.{Contents, Piece, piece_of, piece_number}
-use Rattle.cert_tree.specs.Spans.{number_of, AreSpans}
-use Rattle.cert_tree.specs.declared.heads.Head.{Head}
-use Rattle.match_puzzle.specs.declared.placements.Pair.{Pair}
+use Rattle.cert_tree.specs.declared.flat_lemmas.Block.{Block}
+use Rattle.cert_tree.specs.Spans.{number_of, ArePlaced}
 use Rattle.cert_tree.specs.Assembly.{how_often, IsOnly, HaveNoStranger, IsAssembly, AssemblyFails, assembly_rank, Assembles, TellsLeast}
 use Rattle.cert_tree.specs.CertificateText.{Said, lemma_of, certificate_of, Makes, CertificateGives}
 use Rattle.cert_tree.specs.CertificateSpelling.{lemma_spelling, certificate_spelling, IsSymmetryWithin, IsLemmaWithin, IsCertificateWithin}
@@ -126,8 +125,8 @@ module _ {X : Type 0} (to_piece : X → Piece) where
   no_strangers_of count xs none n past = sym (often-pieces xs n) ∙ none n past
 
 -- what is assembled lies there still
-pub assembled_spans : (pairs : List Pair) (heads : List Head) (count : ℕ) (spans sorted : List LemmaSpan) → AreSpans pairs heads spans → Assembles number_of count spans (Ok sorted) → AreSpans pairs heads sorted
-assembled_spans pairs heads count spans sorted are is span at =
+pub assembled_spans : (blocks : List Block) (count : ℕ) (spans sorted : List LemmaSpan) → ArePlaced blocks spans → Assembles number_of count spans (Ok sorted) → ArePlaced blocks sorted
+assembled_spans blocks count spans sorted are is span at =
     let there : slice_get sorted at.0 ≡ Some span = contained_at sorted span at in
     are span (is.only at.0 span there).among
 

@@ -1,9 +1,9 @@
 -- Lemmas that lie among others, and stay where they are while more are put behind them.
 use Rattle.std.proofs.Common.{◌≡◌, ◌≤◌, ◌<◌, ◌^◌, ◌-◌, ◌++◌, ◌∷◌, ◌+◌, ℕ, zero, suc, List, [], Some, Contains, get_or, slice_get, length, take, drop, map, refl, sym, ap, subst, ◌∙◌, arith, ⊎_elim}
 use Rattle.std.specs.List.{slice_range}
-use Rattle.std.proofs.lemmas.List.{take-append-le, drop-append-le, length-append, length-drop, map-append, take_rest}
+use Rattle.std.proofs.lemmas.List.{take-append-le, drop-append-le, get_or_append_left, get_or-append-add, length-append, length-drop, length-map, map-append, take_rest}
 use Rattle.std.proofs.lemmas.List.Elements.{Contains-append_cases, Contains-push_cases}
-use Rattle.std.proofs.Math.Seq.{drop-append-add, drop-append_seam}
+use Rattle.std.proofs.Math.Seq.{drop-append_seam}
 use Rattle.match_puzzle.specs.declared.placements.Pair.{Pair}
 use Rattle.cert_tree.specs.declared.heads.Head.{Head}
 use Rattle.cert_tree.specs.declared.flat_lemmas.LemmaSpan.{LemmaSpan}
@@ -13,7 +13,8 @@ use Rattle.match_puzzle.proofs.Prefixes.{inside}
 use Rattle.cert_tree.specs.declared.certificates.Lemma.{Lemma}
 use Rattle.cert_tree.specs.Tree.{Tree, tree_of, IsNarrow}
 use Rattle.cert_tree.specs.Certificate.{Piece, piece_of}
-use Rattle.cert_tree.specs.Spans.{piece_in, IsSpan, AreSpans, CanMove, moved_by}
+use Rattle.cert_tree.specs.declared.flat_lemmas.Block.{Block}
+use Rattle.cert_tree.specs.Spans.{piece_in, piece_at, pairs_of, pairs_at, heads_of_block, heads_at, LiesIn, IsSpan, AreSpans, IsPlaced, ArePlaced, CanMove, moved_by}
 use Rattle.cert_tree.proofs.HeadLemmas.{of_tree}
 
 -- ---- what stands behind other things
@@ -47,18 +48,21 @@ last_part xs start = take_rest xs start
 module _ (pairs pairs' : List Pair) (heads heads' : List Head) (more_pairs : IsBehind pairs pairs') (more_heads : IsBehind heads heads') where
   same_piece : (span : LemmaSpan) → IsSpan pairs heads span → piece_in pairs' heads' span ≡ piece_in pairs heads span
   same_piece span is =
-      let prefix = same_part pairs pairs' span.pairs_start span.pairs_end more_pairs is.some_pairs is.within_pairs in
-      let tree = same_part heads heads' span.heads_start span.heads_end more_heads is.some_heads is.within_heads in
+      let prefix = same_part pairs pairs' span.pairs_start span.pairs_end more_pairs is.lies.some_pairs is.lies.within_pairs in
+      let tree = same_part heads heads' span.heads_start span.heads_end more_heads is.lies.some_heads is.lies.within_heads in
       rw (prefix, tree) refl
 
-  pub still_span : (span : LemmaSpan) → IsSpan pairs heads span → IsSpan pairs' heads' span
-  still_span span is = record {
+  still_lies : (span : LemmaSpan) → LiesIn pairs heads span → LiesIn pairs' heads' span
+  still_lies span is = record {
     some_pairs = is.some_pairs;
     within_pairs = let more = length_behind pairs pairs' more_pairs in let old = is.within_pairs in omega (arith, more, old);
     some_heads = is.some_heads;
     within_heads = let more = length_behind heads heads' more_heads in let old = is.within_heads in omega (arith, more, old);
     tree = subst AreOfTree (sym (same_part heads heads' span.heads_start span.heads_end more_heads is.some_heads is.within_heads)) is.tree;
   }
+
+  pub still_span : (span : LemmaSpan) → IsSpan pairs heads span → IsSpan pairs' heads' span
+  still_span span is = record { lies = still_lies span is.lies; first = is.first }
 
   pub same_pieces : (spans : List LemmaSpan) → AreSpans pairs heads spans → map (piece_in pairs' heads') spans ≡ map (piece_in pairs heads) spans
   same_pieces [] are = refl
@@ -81,89 +85,135 @@ module _ (pairs pairs' : List Pair) (heads heads' : List Head) (more_pairs : IsB
         ap (map (piece_in pairs' heads')) pushed ∙ map-append (piece_in pairs' heads') spans (span ∷ [])
         ∙ ap (λ pieces. pieces ++ piece_in pairs' heads' span ∷ []) (same_pieces spans are)
 
--- ---- lemmas that are put behind others
+-- ---- lemmas in blocks
 
--- a part of those behind
-moved_part : {X : Type 0} (old more : List X) (start end : ℕ) → slice_range (old ++ more) (length old + start) (length old + end) ≡ slice_range more start end
-moved_part old more start end =
-    let same : (length old + end) - (length old + start) ≡ end - start = omega arith in
-    ap (λ n. take n (drop (length old + start) (old ++ more))) same ∙ ap (take (end - start)) (drop-append-add old more start)
+-- what stands at a place, of those before and of those behind
+module _ {X Y : Type 0} (f : X → Y) (d : Y) (xs more : List X) where
+  at_left : (n : ℕ) → n < length xs → get_or (map f (xs ++ more)) n d ≡ get_or (map f xs) n d
+  at_left n lt =
+      let long = length-map xs f in
+      ap (λ ys. get_or ys n d) (map-append f xs more) ∙ get_or_append_left (map f xs) (map f more) d n (omega (arith, lt, long))
 
-module _ (pairs more_pairs : List Pair) (heads more_heads : List Head) where
+  at_right : (n : ℕ) → get_or (map f (xs ++ more)) (length xs + n) d ≡ get_or (map f more) n d
+  at_right n =
+      ap (λ ys. get_or ys (length xs + n) d) (map-append f xs more)
+      ∙ ap (λ k. get_or (map f xs ++ map f more) (k + n) d) (sym (length-map xs f))
+      ∙ get_or-append-add (map f xs) (map f more) n d
+
+-- the same lemma lies in the same pieces of memory
+lies_in : (pairs pairs' : List Pair) (heads heads' : List Head) (span : LemmaSpan) → pairs' ≡ pairs → heads' ≡ heads → LiesIn pairs heads span → LiesIn pairs' heads' span
+lies_in pairs pairs' heads heads' span same_pairs same_heads is =
+    subst (λ (ps : List Pair). LiesIn ps heads' span) (sym same_pairs) (subst (λ (hs : List Head). LiesIn pairs hs span) (sym same_heads) is)
+
+-- where it lies in its block doesn't hang on which block that is
+moved_lies : (n : ℕ) (pairs : List Pair) (heads : List Head) (span : LemmaSpan) → LiesIn pairs heads span → LiesIn pairs heads (moved_by n span)
+moved_lies n pairs heads span is = record { some_pairs = is.some_pairs; within_pairs = is.within_pairs; some_heads = is.some_heads; within_heads = is.within_heads; tree = is.tree }
+
+module _ (blocks more : List Block) where
   abbrev moved : LemmaSpan → LemmaSpan
-  moved span = moved_by (length pairs) (length heads) span
+  moved span = moved_by (length blocks) span
 
-  moved_piece : (span : LemmaSpan) → piece_in (pairs ++ more_pairs) (heads ++ more_heads) (moved span) ≡ piece_in more_pairs more_heads span
-  moved_piece span = rw (moved_part pairs more_pairs span.pairs_start span.pairs_end, moved_part heads more_heads span.heads_start span.heads_end) refl
+  still_piece : (span : LemmaSpan) → span.block < length blocks → piece_at (blocks ++ more) span ≡ piece_at blocks span
+  still_piece span lt = rw (at_left pairs_of [] blocks more span.block lt, at_left heads_of_block [] blocks more span.block lt) refl
 
-  moved_span : (span : LemmaSpan) → IsSpan more_pairs more_heads span → IsSpan (pairs ++ more_pairs) (heads ++ more_heads) (moved span)
-  moved_span span is = record {
-    some_pairs = let some = is.some_pairs in omega arith;
-    within_pairs = let within = is.within_pairs in let long = length-append pairs more_pairs in omega arith;
-    some_heads = let some = is.some_heads in omega arith;
-    within_heads = let within = is.within_heads in let long = length-append heads more_heads in omega arith;
-    tree = subst AreOfTree (sym (moved_part heads more_heads span.heads_start span.heads_end)) is.tree;
+  still_placed : (span : LemmaSpan) → IsPlaced blocks span → IsPlaced (blocks ++ more) span
+  still_placed span is = record {
+    some = let some = is.some in let long = length-append blocks more in omega (arith, some, long);
+    lies = lies_in (pairs_at blocks span.block) (pairs_at (blocks ++ more) span.block) (heads_at blocks span.block) (heads_at (blocks ++ more) span.block) span
+        (at_left pairs_of [] blocks more span.block is.some) (at_left heads_of_block [] blocks more span.block is.some) is.lies;
   }
 
-  moved_pieces : (others : List LemmaSpan) → map (piece_in (pairs ++ more_pairs) (heads ++ more_heads)) (map moved others) ≡ map (piece_in more_pairs more_heads) others
+  moved_piece : (span : LemmaSpan) → piece_at (blocks ++ more) (moved span) ≡ piece_at more span
+  moved_piece span = rw (at_right pairs_of [] blocks more span.block, at_right heads_of_block [] blocks more span.block) refl
+
+  moved_placed : (span : LemmaSpan) → IsPlaced more span → IsPlaced (blocks ++ more) (moved span)
+  moved_placed span is = record {
+    some = let some = is.some in let long = length-append blocks more in omega (arith, some, long);
+    lies = lies_in (pairs_at more span.block) (pairs_at (blocks ++ more) (length blocks + span.block)) (heads_at more span.block) (heads_at (blocks ++ more) (length blocks + span.block)) (moved span)
+        (at_right pairs_of [] blocks more span.block) (at_right heads_of_block [] blocks more span.block)
+        (moved_lies (length blocks) (pairs_at more span.block) (heads_at more span.block) span is.lies);
+  }
+
+  still_pieces : (spans : List LemmaSpan) → ArePlaced blocks spans → map (piece_at (blocks ++ more)) spans ≡ map (piece_at blocks) spans
+  still_pieces [] are = refl
+  still_pieces (span ∷ spans) are =
+      let one = still_piece span (are span (0, omega arith, refl)).some in
+      let others = still_pieces spans (λ other at. are other (suc at.0, omega (arith, at.1), at.2)) in
+      ap (λ piece. piece ∷ map (piece_at (blocks ++ more)) spans) one ∙ ap (λ pieces. piece_at blocks span ∷ pieces) others
+
+  moved_pieces : (others : List LemmaSpan) → map (piece_at (blocks ++ more)) (map moved others) ≡ map (piece_at more) others
   moved_pieces [] = refl
   moved_pieces (span ∷ others) =
-      ap (λ piece. piece ∷ map (piece_in (pairs ++ more_pairs) (heads ++ more_heads)) (map moved others)) (moved_piece span)
-      ∙ ap (λ pieces. piece_in more_pairs more_heads span ∷ pieces) (moved_pieces others)
+      ap (λ piece. piece ∷ map (piece_at (blocks ++ more)) (map moved others)) (moved_piece span)
+      ∙ ap (λ pieces. piece_at more span ∷ pieces) (moved_pieces others)
 
-  moved_spans : (others : List LemmaSpan) → AreSpans more_pairs more_heads others → AreSpans (pairs ++ more_pairs) (heads ++ more_heads) (map moved others)
-  moved_spans [] are span at = absurd (omega (arith, at.1))
-  moved_spans (other ∷ others) are span (zero, lt, is) = subst (IsSpan (pairs ++ more_pairs) (heads ++ more_heads)) is (moved_span other (are other (0, omega arith, refl)))
-  moved_spans (other ∷ others) are span (suc k, lt, is) = moved_spans others (λ x at. are x (suc at.0, omega (arith, at.1), at.2)) span (k, omega (arith, lt), is)
+  all_moved : (others : List LemmaSpan) → ArePlaced more others → ArePlaced (blocks ++ more) (map moved others)
+  all_moved [] are span at = absurd (omega (arith, at.1))
+  all_moved (other ∷ others) are span (zero, lt, is) = subst (IsPlaced (blocks ++ more)) is (moved_placed other (are other (0, omega arith, refl)))
+  all_moved (other ∷ others) are span (suc k, lt, is) = all_moved others (λ x at. are x (suc at.0, omega (arith, at.1), at.2)) span (k, omega (arith, lt), is)
 
-  -- the places of those that are moved are numbers of a machine
-  pub can_move : (before_pairs before_heads : ℕ) (others : List LemmaSpan) → AreSpans more_pairs more_heads others → before_pairs + length more_pairs < 2 ^ 64 → before_heads + length more_heads < 2 ^ 64
-      → All (CanMove before_pairs before_heads) others
-  can_move before_pairs before_heads [] are few_pairs few_heads k d lt = absurd (omega (arith, lt))
-  can_move before_pairs before_heads (span ∷ others) are few_pairs few_heads zero d lt =
-      let is = are span (0, omega arith, refl) in
-      let some_pairs = is.some_pairs in
-      let within_pairs = is.within_pairs in
-      let some_heads = is.some_heads in
-      let within_heads = is.within_heads in
-      record { pairs_start = omega arith; pairs_end = omega arith; heads_start = omega arith; heads_end = omega arith }
-  can_move before_pairs before_heads (span ∷ others) are few_pairs few_heads (suc k) d lt =
-      can_move before_pairs before_heads others (λ x at. are x (suc at.0, omega (arith, at.1), at.2)) few_pairs few_heads k d (omega (arith, lt))
+  -- the blocks of those that are moved are numbers of a machine
+  pub can_move : (before : ℕ) (others : List LemmaSpan) → ArePlaced more others → before + length more < 2 ^ 64 → All (CanMove before) others
+  can_move before [] are few k d lt = absurd (omega (arith, lt))
+  can_move before (span ∷ others) are few zero d lt = let some = (are span (0, omega arith, refl)).some in omega (arith, some, few)
+  can_move before (span ∷ others) are few (suc k) d lt = can_move before others (λ x at. are x (suc at.0, omega (arith, at.1), at.2)) few k d (omega (arith, lt))
 
-  pub joined_spans : (spans others : List LemmaSpan) → AreSpans pairs heads spans → AreSpans more_pairs more_heads others → AreSpans (pairs ++ more_pairs) (heads ++ more_heads) (spans ++ map moved others)
-  joined_spans spans others are more_are span at =
+  pub joined_placed : (spans others : List LemmaSpan) → ArePlaced blocks spans → ArePlaced more others → ArePlaced (blocks ++ more) (spans ++ map moved others)
+  joined_placed spans others are more_are span at =
       ⊎_elim
-      (λ old. still_span pairs (pairs ++ more_pairs) heads (heads ++ more_heads) (is_behind pairs (pairs ++ more_pairs) more_pairs refl) (is_behind heads (heads ++ more_heads) more_heads refl) span (are span old))
-      (λ new. moved_spans others more_are span new)
+      (λ old. still_placed span (are span old))
+      (λ new. all_moved others more_are span new)
       (Contains-append_cases spans (map moved others) span at)
 
-  pub joined_pieces : (spans others : List LemmaSpan) → AreSpans pairs heads spans
-      → map (piece_in (pairs ++ more_pairs) (heads ++ more_heads)) (spans ++ map moved others) ≡ map (piece_in pairs heads) spans ++ map (piece_in more_pairs more_heads) others
+  pub joined_pieces : (spans others : List LemmaSpan) → ArePlaced blocks spans
+      → map (piece_at (blocks ++ more)) (spans ++ map moved others) ≡ map (piece_at blocks) spans ++ map (piece_at more) others
   joined_pieces spans others are =
-      map-append (piece_in (pairs ++ more_pairs) (heads ++ more_heads)) spans (map moved others)
-      ∙ ap (λ pieces. pieces ++ map (piece_in (pairs ++ more_pairs) (heads ++ more_heads)) (map moved others)) (same_pieces pairs (pairs ++ more_pairs) heads (heads ++ more_heads) (is_behind pairs (pairs ++ more_pairs) more_pairs refl) (is_behind heads (heads ++ more_heads) more_heads refl) spans are)
-      ∙ ap (λ pieces. map (piece_in pairs heads) spans ++ pieces) (moved_pieces others)
+      map-append (piece_at (blocks ++ more)) spans (map moved others)
+      ∙ ap (λ pieces. pieces ++ map (piece_at (blocks ++ more)) (map moved others)) (still_pieces spans are)
+      ∙ ap (λ pieces. map (piece_at blocks) spans ++ pieces) (moved_pieces others)
 
--- these lemmas and those, where they lie in one piece of memory
-module _ (pairs more_pairs pairs' : List Pair) (heads more_heads heads' : List Head) (before_pairs before_heads : ℕ) (spans others spans' : List LemmaSpan)
-    (at_pairs : before_pairs ≡ length pairs) (at_heads : before_heads ≡ length heads) (pairs_are : pairs' ≡ pairs ++ more_pairs) (heads_are : heads' ≡ heads ++ more_heads) (spans_are : spans' ≡ spans ++ map (moved_by before_pairs before_heads) others)
-    (are : AreSpans pairs heads spans) (more_are : AreSpans more_pairs more_heads others) where
-  moved_are : spans' ≡ spans ++ map (moved_by (length pairs) (length heads)) others
-  moved_are = spans_are ∙ ap (λ n. spans ++ map (moved_by n before_heads) others) at_pairs ∙ ap (λ n. spans ++ map (moved_by (length pairs) n) others) at_heads
+-- these lemmas and those
+module _ (blocks more blocks' : List Block) (before : ℕ) (spans others spans' : List LemmaSpan)
+    (at : before ≡ length blocks) (blocks_are : blocks' ≡ blocks ++ more) (spans_are : spans' ≡ spans ++ map (moved_by before) others)
+    (are : ArePlaced blocks spans) (more_are : ArePlaced more others) where
+  moved_are : spans' ≡ spans ++ map (moved_by (length blocks)) others
+  moved_are = spans_are ∙ ap (λ n. spans ++ map (moved_by n) others) at
 
-  pub with_spans : AreSpans pairs' heads' spans'
-  with_spans =
-      subst (λ (ps : List Pair). AreSpans ps heads' spans') (sym pairs_are)
-      (subst (λ (hs : List Head). AreSpans (pairs ++ more_pairs) hs spans') (sym heads_are)
-      (subst (λ (ss : List LemmaSpan). AreSpans (pairs ++ more_pairs) (heads ++ more_heads) ss) (sym moved_are)
-      (joined_spans pairs more_pairs heads more_heads spans others are more_are)))
+  pub with_placed : ArePlaced blocks' spans'
+  with_placed =
+      subst (λ (bs : List Block). ArePlaced bs spans') (sym blocks_are)
+      (subst (λ (ss : List LemmaSpan). ArePlaced (blocks ++ more) ss) (sym moved_are) (joined_placed blocks more spans others are more_are))
 
-  pub with_pieces : map (piece_in pairs' heads') spans' ≡ map (piece_in pairs heads) spans ++ map (piece_in more_pairs more_heads) others
+  pub with_pieces : map (piece_at blocks') spans' ≡ map (piece_at blocks) spans ++ map (piece_at more) others
   with_pieces =
-      ap (λ (ps : List Pair). map (piece_in ps heads') spans') pairs_are
-      ∙ ap (λ (hs : List Head). map (piece_in (pairs ++ more_pairs) hs) spans') heads_are
-      ∙ ap (map (piece_in (pairs ++ more_pairs) (heads ++ more_heads))) moved_are
-      ∙ joined_pieces pairs more_pairs heads more_heads spans others are
+      ap (λ (bs : List Block). map (piece_at bs) spans') blocks_are
+      ∙ ap (map (piece_at (blocks ++ more))) moved_are
+      ∙ joined_pieces blocks more spans others are
+
+-- lemmas in one block
+module _ (block : Block) where
+  alone_piece : (span : LemmaSpan) → span.block ≡ 0 → piece_at (block ∷ []) span ≡ piece_in (pairs_of block) (heads_of_block block) span
+  alone_piece span first = rw (first) refl
+
+  alone_placed : (span : LemmaSpan) → IsSpan (pairs_of block) (heads_of_block block) span → IsPlaced (block ∷ []) span
+  alone_placed span is = record {
+    some = let first = is.first in omega (arith, first);
+    lies = lies_in (pairs_of block) (pairs_at (block ∷ []) span.block) (heads_of_block block) (heads_at (block ∷ []) span.block) span
+        (ap (pairs_at (block ∷ [])) is.first) (ap (heads_at (block ∷ [])) is.first) is.lies;
+  }
+
+  pub all_alone : (blocks : List Block) (spans : List LemmaSpan) → blocks ≡ block ∷ [] → AreSpans (pairs_of block) (heads_of_block block) spans → ArePlaced blocks spans
+  all_alone blocks spans one are span at = subst (λ (bs : List Block). IsPlaced bs span) (sym one) (alone_placed span (are span at))
+
+  pub alone_pieces : (blocks : List Block) (spans : List LemmaSpan) → blocks ≡ block ∷ [] → AreSpans (pairs_of block) (heads_of_block block) spans
+      → map (piece_at blocks) spans ≡ map (piece_in (pairs_of block) (heads_of_block block)) spans
+  alone_pieces blocks spans one are = ap (λ (bs : List Block). map (piece_at bs) spans) one ∙ each spans are
+    where
+      each : (spans : List LemmaSpan) → AreSpans (pairs_of block) (heads_of_block block) spans → map (piece_at (block ∷ [])) spans ≡ map (piece_in (pairs_of block) (heads_of_block block)) spans
+      each [] are = refl
+      each (span ∷ spans) are =
+          ap (λ piece. piece ∷ map (piece_at (block ∷ [])) spans) (alone_piece span (are span (0, omega arith, refl)).first)
+          ∙ ap (λ pieces. piece_in (pairs_of block) (heads_of_block block) span ∷ pieces) (each spans (λ other at. are other (suc at.0, omega (arith, at.1), at.2)))
 
 -- ---- a lemma that was put behind the others
 

@@ -218,9 +218,9 @@ pub(crate) fn assemble_flat(
     ensures lemmas { IfOk result (λ certificate. Assembles piece_number count pieces (Ok certificate.lemmas)) }
     ensures fault { IfErr result (λ fault. Assembles piece_number count pieces (Err fault)) }
 {
-    let (pairs, heads, spans) = pieces.apart();
+    let (blocks, spans) = pieces.apart();
     let spans = assembled(alloc, count, spans)?;
-    let lemmas = Lemmas::of(pairs, heads, spans);
+    let lemmas = Lemmas::of_blocks(blocks, spans);
     Ok(Certificate::of(symmetries, lemmas))
 }
 

@@ -100,7 +100,7 @@ pub(crate) fn flat_lemmas(alloc: Global, lemmas: &[Lemma]) -> Result<Lemmas, All
         let span = put_flat(&mut pairs, &mut heads, lemma)?;
         spans.push(span)?;
     }
-    Ok(Lemmas::of(pairs, heads, spans))
+    Lemmas::of(pairs, heads, spans)
 }
 
 // The first tree as a node, and the walk goes past it.

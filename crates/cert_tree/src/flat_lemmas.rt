@@ -6,13 +6,21 @@ ghost use Rattle.cert_tree.specs.Spans.{CanMove, moved_by};
 use crate::flat_trees::FlatTree;
 use crate::heads::Head;
 use match_puzzle::Pair;
-use std::alloc::AllocError;
+use std::alloc::{AllocError, Global};
 use std::marker::Model;
 
-/// Where a lemma lies among the pairs and the heads of all lemmas.
+/// Pairs and heads among which lemmas lie, each in one piece of memory.
+#[derive(Drop)]
+pub(crate) struct Block {
+    pub(crate) pairs: Vec<Pair>,
+    pub(crate) heads: Vec<Head>,
+}
+
+/// In which block a lemma lies, and where among its pairs and heads.
 #[derive(Clone, Copy)]
 pub(crate) struct LemmaSpan {
     pub(crate) number: u32,
+    pub(crate) block: usize,
     pub(crate) pairs_start: usize,
     pub(crate) pairs_end: usize,
     pub(crate) heads_start: usize,
@@ -32,11 +40,11 @@ pub struct FlatLemma<'a> {
 /// The lemmas of a certificate, by number.
 ///
 /// The pairs of all prefixes lie in one piece of memory, and the heads of all trees in another, so that a lemma asks
-/// for none of its own: it takes 40 bytes, 6 for each pair and 8 for each node.
+/// for none of its own: it takes 48 bytes, 6 for each pair and 8 for each node. Lemmas that were read side by side stay
+/// where they are, in a few such pieces.
 #[derive(Drop)]
 pub struct Lemmas {
-    pairs: Vec<Pair>,
-    heads: Vec<Head>,
+    blocks: Vec<Block>,
     spans: Vec<LemmaSpan>,
 }
 
@@ -51,50 +59,65 @@ impl Model for Lemmas {
 
     ghost coded = { Prim.hlevel (codes, tree_code head.the_row.coded) };
 
-    ghost use Rattle.cert_tree.specs.Spans.{piece_in, AreSpans};
+    ghost use Rattle.cert_tree.specs.Spans.{piece_at, ArePlaced};
 
-    ghost view = { λ l. map (piece_in l.pairs.items l.heads.items) l.spans.items };
+    ghost view = { λ l. map (piece_at l.blocks.items) l.spans.items };
 
-    ghost invariant = { λ l. AreSpans l.pairs.items l.heads.items l.spans.items };
+    ghost invariant = { λ l. ArePlaced l.blocks.items l.spans.items };
 }
 
 impl Lemmas {
-    ghost use Rattle.std.specs.Prelude.{◌≡◌, ◌<◌, ◌++◌, IfOk, Some, length, map, slice_get};
+    ghost use Rattle.std.specs.Prelude.{◌≡◌, ◌<◌, ◌++◌, [], IfOk, Some, length, map, slice_get};
     ghost use Rattle.cert_tree.specs.Certificate.{flat_piece};
-    ghost use Rattle.cert_tree.specs.Spans.{piece_in, AreSpans};
+    ghost use Rattle.cert_tree.specs.Spans.{piece_at, piece_in, ArePlaced, AreSpans};
+
+    // No lemmas.
+    pub(crate) fn none(alloc: Global) -> Lemmas
+        ensures { result ≡ [] }
+    {
+        Lemmas::of_blocks(Vec::new(alloc), Vec::new(alloc))
+    }
+
+    // The lemmas that lie there, in one block.
+    pub(crate) fn of(
+        pairs: Vec<Pair>,
+        heads: Vec<Head>,
+        spans: Vec<LemmaSpan>,
+    ) -> Result<Lemmas, AllocError>
+        requires { AreSpans pairs.items heads.items spans.items }
+        ensures { IfOk result (λ lemmas. lemmas ≡ map (piece_in pairs.items heads.items) spans.items) }
+    {
+        let mut blocks = Vec::new(*spans.allocator());
+        blocks.push(Block { pairs, heads })?;
+        Ok(Lemmas::of_blocks(blocks, spans))
+    }
 
     // The lemmas that lie there.
-    pub(crate) fn of(pairs: Vec<Pair>, heads: Vec<Head>, spans: Vec<LemmaSpan>) -> Lemmas
-        requires { AreSpans pairs.items heads.items spans.items }
-        ensures { result ≡ map (piece_in pairs.items heads.items) spans.items }
+    pub(crate) fn of_blocks(blocks: Vec<Block>, spans: Vec<LemmaSpan>) -> Lemmas
+        requires { ArePlaced blocks.items spans.items }
+        ensures { result ≡ map (piece_at blocks.items) spans.items }
     {
-        Lemmas {
-            pairs,
-            heads,
-            spans,
-        }
+        Lemmas { blocks, spans }
     }
 
-    // Their pairs, their heads, and where each of them lies.
-    pub(crate) fn apart(self) -> (Vec<Pair>, Vec<Head>, Vec<LemmaSpan>)
-        ensures spans { AreSpans result.0.items result.1.items result.2.items }
-        ensures lemmas { self ≡ map (piece_in result.0.items result.1.items) result.2.items }
+    // Their pairs and heads, and where each of them lies.
+    pub(crate) fn apart(self) -> (Vec<Block>, Vec<LemmaSpan>)
+        ensures spans { ArePlaced result.0.items result.1.items }
+        ensures lemmas { self ≡ map (piece_at result.0.items) result.1.items }
     {
-        (self.pairs, self.heads, self.spans)
+        (self.blocks, self.spans)
     }
 
-    // These lemmas, and then those.
+    // These lemmas, and then those. Pairs and heads stay where they lie.
     pub(crate) fn with(self, others: Lemmas) -> Result<Lemmas, AllocError>
         ensures { IfOk result (λ all. all ≡ self ++ others) }
     {
-        let (mut pairs, mut heads, mut spans) = self.apart();
-        let (other_pairs, other_heads, other_spans) = others.apart();
-        let pairs_before = pairs.len();
-        let heads_before = heads.len();
-        pairs.extend_from_slice(&other_pairs)?;
-        heads.extend_from_slice(&other_heads)?;
-        put_moved(&mut spans, &other_spans, pairs_before, heads_before)?;
-        Ok(Lemmas::of(pairs, heads, spans))
+        let (mut blocks, mut spans) = self.apart();
+        let (mut other_blocks, other_spans) = others.apart();
+        let before = blocks.len();
+        blocks.append(&mut other_blocks)?;
+        put_moved(&mut spans, &other_spans, before)?;
+        Ok(Lemmas::of_blocks(blocks, spans))
     }
 
     /// How many there are.
@@ -109,18 +132,20 @@ impl Lemmas {
         requires { number < length self.now }
         ensures { slice_get self.now number ≡ Some (flat_piece result) }
     {
-        FlatLemma::of(&self.pairs, &self.heads, self.spans[number])
+        let span = self.spans[number];
+        let block = &self.blocks[span.block];
+        FlatLemma::of(&block.pairs, &block.heads, span)
     }
 }
 
 impl<'a> FlatLemma<'a> {
     ghost use Rattle.std.specs.Prelude.{◌≡◌};
     ghost use Rattle.cert_tree.specs.Certificate.{flat_piece};
-    ghost use Rattle.cert_tree.specs.Spans.{piece_in, IsSpan};
+    ghost use Rattle.cert_tree.specs.Spans.{piece_in, LiesIn};
 
     // The lemma that lies there.
     pub(crate) fn of(pairs: &'a [Pair], heads: &'a [Head], span: LemmaSpan) -> FlatLemma<'a>
-        requires { IsSpan pairs.now heads.now span }
+        requires { LiesIn pairs.now heads.now span }
         ensures { flat_piece result ≡ piece_in pairs.now heads.now span }
     {
         FlatLemma {
@@ -156,6 +181,7 @@ impl LemmaSpan {
     {
         LemmaSpan {
             number,
+            block: 0,
             pairs_start,
             pairs_end: pairs.len(),
             heads_start,
@@ -163,33 +189,33 @@ impl LemmaSpan {
         }
     }
 
-    // The same, so many pairs and heads further on.
-    fn moved(self, pairs: usize, heads: usize) -> LemmaSpan
-        requires { CanMove pairs heads self }
-        ensures { result ≡ moved_by pairs heads self }
+    // The same, so many blocks further on.
+    fn moved(self, blocks: usize) -> LemmaSpan
+        requires { CanMove blocks self }
+        ensures { result ≡ moved_by blocks self }
     {
         LemmaSpan {
             number: self.number,
-            pairs_start: pairs + self.pairs_start,
-            pairs_end: pairs + self.pairs_end,
-            heads_start: heads + self.heads_start,
-            heads_end: heads + self.heads_end,
+            block: blocks + self.block,
+            pairs_start: self.pairs_start,
+            pairs_end: self.pairs_end,
+            heads_start: self.heads_start,
+            heads_end: self.heads_end,
         }
     }
 }
 
-// Behind these the others, each so many pairs and heads further on.
+// Behind these the others, each so many blocks further on.
 fn put_moved(
     spans: &mut Vec<LemmaSpan>,
     others: &[LemmaSpan],
-    pairs: usize,
-    heads: usize,
+    blocks: usize,
 ) -> Result<(), AllocError>
-    requires { All (CanMove pairs heads) others.now }
-    ensures { OnOk result (spans.new.items ≡ spans.old.items ++ map (moved_by pairs heads) others.now) }
+    requires { All (CanMove blocks) others.now }
+    ensures { OnOk result (spans.new.items ≡ spans.old.items ++ map (moved_by blocks) others.now) }
 {
     for span in others {
-        spans.push(span.moved(pairs, heads))?;
+        spans.push(span.moved(blocks))?;
     }
     Ok(())
 }

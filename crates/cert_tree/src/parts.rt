@@ -117,8 +117,7 @@ pub fn cut_certificate(
     })
 }
 
-// All lemmas in the order of the parts, or the first fault. What was read of a part is given up as soon as it was put
-// behind the others.
+// All lemmas in the order of the parts, or the first fault. What was read of a part stays where it lies.
 fn joined(
     alloc: Global,
     _parts: &[LemmaPart<'_>],
@@ -127,7 +126,7 @@ fn joined(
     requires { AreRead _parts.now read.items }
     ensures { Says (λ lemmas. lemmas) result (parts_say _parts.now) }
 {
-    let mut all = Lemmas::of(Vec::new(alloc), Vec::new(alloc), Vec::new(alloc));
+    let mut all = Lemmas::none(alloc);
     for one in read {
         all = all.with(one?)?;
     }

@@ -136,7 +136,8 @@ pub(crate) fn read_lemmas(
         let span = lemma(scan, ranges, &mut pairs, &mut heads)?;
         spans.push(span)?;
     }
-    Ok(Lemmas::of(pairs, heads, spans))
+    let lemmas = Lemmas::of(pairs, heads, spans)?;
+    Ok(lemmas)
 }
 
 // One lemma, in the ranges of version 2, and nothing after it.

@@ -109,7 +109,8 @@ fn turned_lemmas(
         spans.push(span)?;
     }
     spans.reverse();
-    Ok(Lemmas::of(pairs, heads, spans))
+    let turned = Lemmas::of(pairs, heads, spans)?;
+    Ok(turned)
 }
 
 /// The certificate of these symmetries and pieces, whose numbers run upwards from the root, which is 0: number t of a

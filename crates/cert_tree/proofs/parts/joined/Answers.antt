@@ -1,17 +1,14 @@
-use Rattle.std.proofs.Common.{◌∙◌, ◌+◌, length, drop, map, ap, arith}
+use Rattle.std.proofs.Common.{◌∙◌, ◌+◌, length, drop, ap, arith}
 use Rattle.std.proofs.lemmas.Iterator.Adapters.{YieldsList-from_vec}
 use Rattle.std.proofs.lemmas.Iterator.Consumers.{YieldsList-turn, YieldsList-end}
 use Rattle.std.proofs.lemmas.List.{length_push}
 use Rattle.std.proofs.lemmas.Result.{err_from_is_err_and}
 use Rattle.cert_tree.specs.Parts.{parts_say}
-use Rattle.cert_tree.specs.Spans.{piece_in}
 use Rattle.cert_tree.proofs.PartLemmas.{joined_all, joined_none, onto, read_fault, read_more}
 use Rattle.cert_tree.proofs.parts.joined.Goals as goal
 
 pub loop-one-init : goal.loop-one-init
-loop-one-init c =
-    let says = parts_say c.args._parts.now in
-    ap (λ all. onto all says) c.of-all.ensures ∙ ap (λ spans. onto (map (piece_in c.new.result.items c.new-2.result.items) spans) says) c.new-3.ensures.items ∙ joined_none c.args._parts.now
+loop-one-init c = ap (λ all. onto all (parts_say c.args._parts.now)) c.none-all.ensures ∙ joined_none c.args._parts.now
 
 pub returns-in_err-one : goal.returns-in_err-one
 returns-in_err-one c =

@@ -25,4 +25,4 @@ loop-preserved c =
     }
 
 pub returns : goal.returns
-returns c = rw c.of.ensures (times_done (lemma_line c.args.ranges.now) c.loop.scan (c.args.count - c.loop.counter) (map (piece_in c.loop.pairs.items c.loop.heads.items) c.loop.spans.items) (times c.args.count (lemma_line c.args.ranges.now) c.args.scan.now) (omega arith) c.loop.invariant.read)
+returns c = rw c.in_ok-lemmas.ensures (times_done (lemma_line c.args.ranges.now) c.loop.scan (c.args.count - c.loop.counter) (map (piece_in c.loop.pairs.items c.loop.heads.items) c.loop.spans.items) (times c.args.count (lemma_line c.args.ranges.now) c.args.scan.now) (omega arith) c.loop.invariant.read)

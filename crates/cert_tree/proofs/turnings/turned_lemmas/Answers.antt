@@ -37,5 +37,5 @@ returns c =
     let piece = piece_in c.loop-lemma.pairs.items c.loop-lemma.heads.items in
     let turn = turned_piece c.args.count c.args.first.now in
     let all : take c.loop-lemma.lemma-index c.args.lemmas.now ≡ c.args.lemmas.now = take_all c.loop-lemma.lemma-index c.args.lemmas.now (omega (arith, c.loop-lemma-test.false)) in
-    c.of.ensures ∙ ap (map piece) c.reverse.ensures.items ∙ map_reversed piece c.loop-lemma.spans.items
+    c.in_ok-turned.ensures ∙ ap (map piece) c.reverse.ensures.items ∙ map_reversed piece c.loop-lemma.spans.items
     ∙ ap reverse (c.loop-lemma.invariant.lemmas ∙ ap (λ (ls : List FlatLemma). map turn (map flat_piece ls)) all)
