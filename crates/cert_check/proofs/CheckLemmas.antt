@@ -25,7 +25,7 @@ use Rattle.cert_check.specs.Lists.{IsFirstBad}
 use Rattle.cert_check.specs.declared.symmetries.SymmetriesFault.{SymmetriesFault}
 use Rattle.cert_check.specs.declared.symmetries.SymmetriesFault.TheVariants.{Line, Memory}
 use Rattle.cert_check.specs.Lines.{LineFails, LinesFail, TellsOfPrefixes}
-use Rattle.cert_check.specs.Walk.{Tells, TellsOfLemma, TellsOfTrees, TellsOfArrangements, TellsOfListing}
+use Rattle.cert_check.specs.Walk.{Tells, TellsOfLemma, TellsOfTrees, TellsOfArrangements}
 use Rattle.puzzle_symmetry.proofs.MotionLemmas.{lines_of}
 use Rattle.cert_check.proofs.PrefixLemmas.{start_long}
 use Rattle.cert_check.proofs.FaultLemmas.{holds_not_fails}
@@ -144,12 +144,6 @@ pub tells_lemma : (question : Question) (number : ℕ) (lemma : Piece) (setting 
 tells_lemma question number lemma setting said is at told = (lemma, at, subst (λ (s : Setting). Tells s lemma.tree (start_of s.puzzle lemma) said) is told)
 
 -- ---- what the parts of the check say
-
--- the first fault of the list is the first of all
-pub first_listing : (question : Question) (fault : Fault) → TellsOfListing question.puzzle question.listed (Some fault) → IsFirst fault_rank (Occurs question) fault
-first_listing question (faults.List number fault) told = first_list question number fault told
-first_listing question (faults.Repeated number) told = first_repeated question told.0 number told.1
-first_listing question _ told = absurd told
 
 -- the first line that is none
 pub first_line : (p : Task) (lines : List SymmetryLine) (number : ℕ) (g : SymmetryLine) (fault : SymmetriesFault) → slice_get lines number ≡ Some g →

@@ -15,8 +15,6 @@ use Rattle.cert_tree.specs.Heads.{first, past}
 use Rattle.cert_tree.specs.Certificate.{Piece}
 use Rattle.cert_check.specs.declared.faults.NodeFault.{NodeFault}
 use Rattle.cert_check.specs.declared.faults.TreeFault.{TreeFault}
-use Rattle.cert_check.specs.declared.faults.Fault.{Fault}
-use Rattle.cert_check.specs.declared.faults.Fault.TheVariants as faults
 use Rattle.cert_check.specs.declared.forks.Part.{Part}
 use Rattle.cert_check.specs.Setting.{Question, Setting, setting_at}
 use Rattle.cert_check.specs.NodeRules.{Holds}
@@ -110,10 +108,6 @@ TellsOfArrangements p listed said =
     MatchOption said (AreArrangements p listed)
     (λ r. IsFirstBad (λ n a. IsArrangement p a) (λ n a fault. IsArrangementFault p a fault) listed r.0 r.1)
 
--- What is said of the list: that it has different arrangements, or its first fault.
-abbrev pub TellsOfListing : Task → List (List Placement) → Option Fault → Type 0
-TellsOfListing p listed None = AreArrangements p listed × AreDistinct listed
-TellsOfListing p listed (Some (faults.List number fault)) = TellsOfArrangements p listed (Some (number, fault))
-TellsOfListing p listed (Some (faults.Repeated number)) =
-    AreArrangements p listed × IsLeast (RepeatsEarlier listed) number
-TellsOfListing p listed (Some fault) = ⊥
+-- What is said of repetitions in a list: that there are none, or the first that equals an earlier one.
+abbrev pub TellsOfRepeats : List (List Placement) → Option ℕ → Type 0
+TellsOfRepeats listed said = MatchOption said (AreDistinct listed) (IsLeast (RepeatsEarlier listed))

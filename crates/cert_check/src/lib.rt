@@ -21,4 +21,5 @@ pub use forks::forked_tree_fault;
 pub use gates::{Gate, Open};
 pub use prepared::Prepared;
 pub use questions::Question;
+pub use repeats::first_repeated;
 pub use symmetries::{SymmetriesFault, make_symmetries};

@@ -1,9 +1,5 @@
 //! What is asked of the checker, and what is checked of it before the trees.
 
-ghost use Rattle.std.specs.Prelude.{◌≡◌, ◌<◌, ◌^◌, IfOk, OnErr, length};
-ghost use Rattle.cert_check.specs.Walk.{TellsOfArrangements, TellsOfListing};
-ghost use Rattle.match_puzzle.specs.Arrangement.{AreArrangements};
-
 use crate::faults::{Answer, Fault};
 use crate::gates::Gate;
 use crate::list_faults::list_fault;
@@ -46,7 +42,7 @@ impl<'a> Question<'a> {
     ghost use Rattle.match_board.specs.First.{IsFirst};
     ghost use Rattle.match_board.specs.declared.limits.TheConstants.{MOST_LEMMAS};
     ghost use Rattle.cert_check.specs.Setting.{question_of};
-    ghost use Rattle.cert_check.specs.Walk.{TellsOfArrangements};
+    ghost use Rattle.cert_check.specs.Walk.{TellsOfArrangements, TellsOfRepeats};
     ghost use Rattle.match_puzzle.specs.Arrangement.{AreArrangements};
     ghost use Rattle.cert_check.specs.Answer.{IsAnswer, IsSound, IsCovering, Occurs, fault_rank};
 
@@ -118,9 +114,29 @@ impl<'a> Question<'a> {
         // Want of memory hides no fault of a listed one.
         ensures memory { OnErr result (AreArrangements self.now.puzzle self.now.listed) }
     {
+        if let Some((number, fault)) = bad {
+            return Ok(Err(Fault::List(number, fault)));
+        }
+        let repeated = first_repeated(alloc, self.listed)?;
+        self.prepare_listed(alloc, repeated)
+    }
+
+    /// The same as [`Question::prepare`], where each listed one is an arrangement.
+    ///
+    /// `repeated` is what [`first_repeated`] finds: the first that equals an earlier one, or none where all are different.
+    pub fn prepare_listed(
+        &self,
+        alloc: Global,
+        repeated: Option<u32>,
+    ) -> Result<Result<Prepared<'a>, Fault>, AllocError>
+        requires arrangements { AreArrangements self.now.puzzle self.now.listed }
+        requires repeated { TellsOfRepeats self.now.listed repeated }
+        ensures prepared { IfOk result (λ r. IfOk r (λ prepared. prepared ≡ self.now)) }
+        ensures fault { IfOk result (λ r. IfErr r (IsFirst fault_rank (Occurs self.now))) }
+    {
         let puzzle = self.puzzle;
-        if let Some(fault) = listing_fault(alloc, puzzle, self.listed, bad)? {
-            return Ok(Err(fault));
+        if let Some(number) = repeated {
+            return Ok(Err(Fault::Repeated(number)));
         }
         let symmetries = match make_symmetries(alloc, puzzle, self.certificate.symmetries()) {
             Ok(symmetries) => symmetries,
@@ -158,26 +174,5 @@ impl<'a> Question<'a> {
         };
         let found = prepared.trees_fault(alloc, gate)?;
         Ok(prepared.answer(found))
-    }
-}
-
-// What is wrong with the list alone.
-fn listing_fault(
-    alloc: Global,
-    puzzle: &Puzzle,
-    listed: &[Arrangement],
-    bad: Option<(u32, ArrangementFault)>,
-) -> Result<Option<Fault>, AllocError>
-    requires listed { length listed.now < 2 ^ 32 }
-    requires bad { TellsOfArrangements puzzle.now listed.now bad }
-    ensures told { IfOk result (TellsOfListing puzzle.now listed.now) }
-    ensures memory { OnErr result (AreArrangements puzzle.now listed.now) }
-{
-    if let Some((number, fault)) = bad {
-        return Ok(Some(Fault::List(number, fault)));
-    }
-    match first_repeated(alloc, listed)? {
-        None => Ok(None),
-        Some(number) => Ok(Some(Fault::Repeated(number))),
     }
 }

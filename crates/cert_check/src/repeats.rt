@@ -5,6 +5,7 @@ ghost use Rattle.std.specs.Prelude.{option_copied};
 ghost use Rattle.match_board.specs.First.{IsLeast};
 ghost use Rattle.match_puzzle.specs.Arrangement.{AreDistinct};
 ghost use Rattle.cert_check.specs.Answer.{RepeatsEarlier};
+ghost use Rattle.cert_check.specs.Walk.{TellsOfRepeats};
 ghost use Rattle.cert_check.specs.Repeats.{AreEqualAt, AreItsPlaces, key_of, keyed_cmp, with_number};
 
 use match_puzzle::{Arrangement, Placement};
@@ -21,16 +22,13 @@ pub(crate) struct KeyedPlace {
     place: u32,
 }
 
-// The first one that equals an earlier one.
-//
-// A list that rises needs no memory, and others sixteen bytes an entry. There are O(n log n) comparisons of whole
-// entries whatever the list is, and hardly any where no list was looked for whose entries have the same numbers.
-pub(crate) fn first_repeated(
-    alloc: Global,
-    listed: &[Arrangement],
-) -> Result<Option<u32>, AllocError>
+/// The first listed one that equals an earlier one, or none where all are different.
+///
+/// A list that rises needs no memory, and others sixteen bytes an entry. There are O(n log n) comparisons of whole
+/// entries whatever the list is, and hardly any where no list was looked for whose entries have the same numbers.
+pub fn first_repeated(alloc: Global, listed: &[Arrangement]) -> Result<Option<u32>, AllocError>
     requires { length listed.now < 2 ^ 32 }
-    ensures { IfOk result (λ r. MatchOption r (AreDistinct listed.now) (IsLeast (RepeatsEarlier listed.now))) }
+    ensures { IfOk result (TellsOfRepeats listed.now) }
 {
     if rises(listed) {
         return Ok(None);
