@@ -1,22 +1,24 @@
 //! The check of a certificate by a crew.
 
-ghost use Rattle.std.specs.Prelude.{◌<◌, ◌≤◌, ◌^◌, IfOk, OnErr, length};
+ghost use Rattle.std.specs.Prelude.{◌≡◌, ◌<◌, ◌≤◌, ◌^◌, IfOk, IfErr, OnErr, length};
 ghost use Rattle.std.specs.Thread.{IsSync};
 ghost use Rattle.match_board.specs.declared.limits.TheConstants.{MOST_WORKERS, MOST_FORKS};
 ghost use Rattle.cert_check.specs.Setting.{question_of};
-ghost use Rattle.cert_check.specs.Walk.{TellsOfTrees};
+ghost use Rattle.match_board.specs.First.{IsFirst};
+ghost use Rattle.cert_check.specs.Walk.{TellsOfArrangements, TellsOfRepeats, TellsOfTrees};
 ghost use Rattle.match_puzzle.specs.Arrangement.{AreArrangements};
-ghost use Rattle.cert_check.specs.Answer.{IsAnswer, IsSound, IsCovering};
+ghost use Rattle.cert_check.specs.Answer.{IsAnswer, IsSound, IsCovering, Occurs, fault_rank};
 ghost use Rattle.check_crew.specs.Jobs.{IsJob, IsFinding};
 
 use crate::jobs::{Walks, first_found, walk_tree};
 use crate::lists::list_fault;
-use cert_check::{Answer, Gate, Prepared, Question, TreeFault};
+use crate::orders::run_from_last;
+use cert_check::{Answer, Fault, Gate, Prepared, Question, TreeFault, first_repeated};
 use cert_tree::Certificate;
-use match_puzzle::{Arrangement, Puzzle};
+use match_puzzle::{Arrangement, ArrangementFault, Puzzle};
 use std::alloc::{AllocError, Global};
 use std::thread::Threads;
-use steal_crew::run_crew;
+use steal_crew::both;
 
 // The first lemma whose tree has a fault, with its first fault, or none where all hold: each lemma is a job of a crew.
 fn trees_fault<R: Threads + Sync, G: Gate + Sync>(
@@ -38,8 +40,41 @@ fn trees_fault<R: Threads + Sync, G: Gate + Sync>(
             ensures { IfOk result (IsFinding prepared.entry.now number) }
         { walk_tree(rt, alloc, prepared, forks, gate, number) },
     };
-    let crew = run_crew(rt, alloc, &walks, count, workers)?;
-    first_found(alloc, crew.results())
+    let found = run_from_last(rt, alloc, &walks, count, workers)?;
+    first_found(alloc, &found)
+}
+
+// What [`Question::prepare`] answers. The list is verified while repetitions are looked for in it.
+fn prepare<'a, R: Threads + Sync>(
+    rt: &R,
+    alloc: Global,
+    question: &Question<'a>,
+) -> Result<Result<Prepared<'a>, Fault>, AllocError>
+    ensures prepared { IfOk result (λ r. IfOk r (λ prepared. prepared ≡ question.now)) }
+    ensures fault { IfOk result (λ r. IfErr r (IsFirst fault_rank (Occurs question.now))) }
+    ensures memory { OnErr result (AreArrangements question.now.puzzle question.now.listed) }
+{
+    let puzzle = question.puzzle();
+    let listed = question.listed();
+    let found = both(
+        rt,
+        || -> Result<Option<(u32, ArrangementFault)>, AllocError>
+            requires { IsSync R.row × (length listed.now < 2 ^ 32) }
+            ensures { IfOk result (TellsOfArrangements puzzle.entry.now listed.entry.now) }
+        { Ok(list_fault(rt, puzzle, listed)) },
+        || -> Result<Option<u32>, AllocError>
+            requires { length listed.now < 2 ^ 32 }
+            ensures { IfOk result (TellsOfRepeats listed.entry.now) }
+        { first_repeated(alloc, listed) },
+    );
+    let Ok((bad, repeated)) = found else {
+        // Want of memory hides no fault of a listed one.
+        return question.prepare(alloc, question.list_fault());
+    };
+    match bad {
+        None => question.prepare_listed(alloc, repeated),
+        Some(_) => question.prepare(alloc, bad),
+    }
 }
 
 /// What [`cert_check::check`] answers, by 1 to 64 workers and with 0 to 6 forks: neither they nor the gate change the
@@ -78,8 +113,7 @@ pub fn check_with<R: Threads + Sync, G: Gate + Sync>(
     if workers == 1 && forks == 0 {
         return question.check(alloc, gate);
     }
-    let bad = list_fault(rt, puzzle, listed);
-    let prepared = match question.prepare(alloc, bad)? {
+    let prepared = match prepare(rt, alloc, &question)? {
         Ok(prepared) => prepared,
         Err(fault) => return Ok(Answer::Refused(fault)),
     };

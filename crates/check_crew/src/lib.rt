@@ -6,6 +6,7 @@ mod jobs;
 mod lemma_parts;
 mod limits;
 mod lists;
+mod orders;
 mod readings;
 mod texts;
 mod writings;

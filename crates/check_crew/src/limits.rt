@@ -8,10 +8,11 @@ ghost use Rattle.cert_tree.specs.Writing.{said_by};
 ghost use Rattle.check_crew.specs.LemmaParts.{AreCut, AreOfParts, TellsOfLimits};
 
 use crate::lemma_parts::LemmaParts;
+use crate::orders::run_from_last;
 use cert_tree::{Certificate, Lemmas, are_symmetries_within_limits};
 use std::alloc::{AllocError, Global};
 use std::thread::Threads;
-use steal_crew::{Work, run_crew};
+use steal_crew::Work;
 
 // Whether lemmas have spellings in the version: a job for each part.
 #[derive(Drop)]
@@ -52,8 +53,7 @@ fn are_parts_within<R: Threads + Sync>(
     ensures { IfOk result (TellsOfLimits version parts.now.lemmas.now 0 (length parts.now.lemmas.now)) }
 {
     let limits = Limits { version, parts };
-    let crew = run_crew(rt, alloc, &limits, parts.count(), workers)?;
-    let (told, _) = crew.into_parts();
+    let told = run_from_last(rt, alloc, &limits, parts.count(), workers)?;
     Ok(are_all(parts, version, &told))
 }
 

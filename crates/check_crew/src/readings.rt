@@ -10,18 +10,18 @@ ghost use Rattle.cert_tree.specs.CertificateText.{CertificateGives, Makes, Said,
 ghost use Rattle.cert_tree.specs.Parts.{AreRead, IsReadAt};
 ghost use Rattle.cert_tree.specs.Writing.{said_by};
 
+use crate::orders::run_from_last;
 use cert_tree::{CertTextFault, Certificate, LemmaPart, Lemmas, cut_certificate, read_certificate};
 use match_text::ReadFault;
 use std::alloc::{AllocError, Global};
 use std::thread::Threads;
-use steal_crew::{Work, run_crew};
+use steal_crew::Work;
 
 // A text of fewer bytes is read by one thread, which is done before others would have started.
 const LEAST_SHARED: usize = 1 << 20;
 
-// More parts than workers: so a worker that began late takes fewer, and what is held twice while the parts are joined
-// is a small part of all.
-const PARTS_FOR_EACH: usize = 4;
+// More parts than workers: so a worker that began late takes fewer.
+const PARTS_FOR_EACH: usize = 8;
 
 // Each part has at least so many bytes, but for the last one.
 const LEAST_PART: usize = 1 << 16;
@@ -64,9 +64,7 @@ fn read_parts<R: Threads + Sync>(
     ensures { IfOk result (λ read. AreRead parts.now read.items) }
 {
     let work = Parts { alloc, parts };
-    let crew = run_crew(rt, alloc, &work, parts.len() as u32, workers)?;
-    let (read, _) = crew.into_parts();
-    Ok(read)
+    run_from_last(rt, alloc, &work, parts.len() as u32, workers)
 }
 
 // The certificate of a text, each part of which is a job of a crew.

@@ -53,16 +53,17 @@ fn read_at_once<R: Threads + Sync>(
     ensures list { IfOk result (λ read. IsListRead list.now read.listed) }
     ensures certificate { IfOk result (λ read. CertificateGives read.certificate (certificate_of certificate.now)) }
 {
-    let (listed, certificate) = both(
+    let (certificate, listed) = both(
         rt,
-        || -> Result<Result<Vec<Arrangement>, ListTextFault>, AllocError>
-            requires { length list.now + 1 < 2 ^ 32 }
-            ensures { IfOk result (IsListRead list.entry.now) }
-        { Ok(read_list(alloc, list)) },
         || -> Result<Result<Certificate, CertTextFault>, AllocError>
             requires { IsSync R.row × (length certificate.now + 1 < 2 ^ 32) × (1 ≤ workers) × (workers ≤ MOST_WORKERS) }
             ensures { IfOk result (λ read. CertificateGives read (certificate_of certificate.entry.now)) }
         { Ok(read_certificate_with(rt, alloc, certificate, workers)) },
+        // On the caller's thread, where memory for many small pieces comes with the fewest calls of the system.
+        || -> Result<Result<Vec<Arrangement>, ListTextFault>, AllocError>
+            requires { length list.now + 1 < 2 ^ 32 }
+            ensures { IfOk result (IsListRead list.entry.now) }
+        { Ok(read_list(alloc, list)) },
     )?;
     Ok(ReadTexts {
         listed,
@@ -72,9 +73,9 @@ fn read_at_once<R: Threads + Sync>(
 
 /// What [`read_list`] reads of the one text and [`read_certificate_with`] of the other, at once.
 ///
-/// Each fault stands where it was found, and so it is the caller's to look at the list's first. With one worker, or where
-/// the list has less than 64 KiB, the list is read before the certificate, on the caller's thread; else on a thread of
-/// its own, beside those of the workers. Want of memory is each reading's own fault.
+/// Each fault stands where it was found, and so it is the caller's to look at the list's first. The list is read on the
+/// caller's thread: with one worker, or where it has less than 64 KiB, before the certificate, and else while workers on
+/// other threads read that. Want of memory is each reading's own fault.
 pub fn read_texts_with<R: Threads + Sync>(
     rt: &R,
     alloc: Global,

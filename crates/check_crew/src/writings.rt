@@ -9,10 +9,11 @@ ghost use Rattle.check_crew.specs.LemmaParts.{AreCut, AreLines, AreOfParts};
 
 use crate::lemma_parts::LemmaParts;
 use crate::limits::within_limits_with;
+use crate::orders::run_from_last;
 use cert_tree::{Certificate, join_certificate, write_certificate, write_lemma_lines};
 use std::alloc::{AllocError, Global};
 use std::thread::Threads;
-use steal_crew::{Work, run_crew};
+use steal_crew::Work;
 
 // The lines of lemmas: a job for each part.
 #[derive(Drop)]
@@ -51,9 +52,7 @@ fn write_parts<R: Threads + Sync>(
         AreOfParts (AreLines parts.now.lemmas.now) parts.now.starts.items lines.items) }
 {
     let lines = Lines { alloc, parts };
-    let crew = run_crew(rt, alloc, &lines, parts.count(), workers)?;
-    let (lines, _) = crew.into_parts();
-    Ok(lines)
+    run_from_last(rt, alloc, &lines, parts.count(), workers)
 }
 
 /// What [`write_certificate`] writes, by 1 to 64 workers, whose number doesn't change it.

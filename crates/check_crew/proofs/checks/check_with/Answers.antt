@@ -1,15 +1,11 @@
-use Rattle.std.proofs.Common.{◌≡◌, ◌∙◌, IfOk, OnErr, sym, subst}
+use Rattle.std.proofs.Common.{◌≡◌, ◌∙◌, IfOk, OnErr, subst}
 use Rattle.std.proofs.lemmas.Result.{err_from_is_err_and}
 use Rattle.cert_check.specs.Setting.{Question}
 use Rattle.match_puzzle.specs.Arrangement.{AreArrangements}
-use Rattle.cert_check.specs.Walk.{TellsOfArrangements}
 use Rattle.check_crew.proofs.checks.check_with.Goals as goal
 
 pub returns-then-forks-eq0-clause-memory : goal.returns-then-forks-eq0-clause-memory
 returns-then-forks-eq0-clause-memory g c = subst (λ (q : Question). OnErr c.check.result (AreArrangements q.puzzle q.listed)) c.new-question.ensures c.check.ensures.memory
-
-pub prepare-requires : goal.prepare-requires
-prepare-requires g c = subst (λ (q : Question). TellsOfArrangements q.puzzle q.listed c.list_fault-bad.result) (sym c.new-question.ensures) c.list_fault-bad.ensures
 
 pub returns-in_err-prepared-clause-memory : goal.returns-in_err-prepared-clause-memory
 returns-in_err-prepared-clause-memory g c =
