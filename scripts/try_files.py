@@ -1,6 +1,6 @@
 #!/usr/bin/env python3
-"""Tries what no case can of the files of a solve: links, modes, devices, pipes, closed streams, signals, a full disk, and
-two solves at once.
+"""Tries what no case can of the files of a solve: links, modes, devices, pipes, closed streams, signals, a full disk, two
+solves at once, and what is told on a terminal.
 
 usage: try_files.py PROGRAM
 
@@ -316,10 +316,54 @@ def a_closed_input(trial):
     trial.wants("the fault", (2, b"cannot read input\n"), (run.returncode, run.stderr))
 
 
+def told_on_a_terminal(trial, words):
+    """What the words come to where standard error is a terminal: the exit status, and what is told there."""
+    seen, terminal = os.openpty()
+    run = subprocess.run([trial.program, *words], stdin=subprocess.DEVNULL, stdout=subprocess.DEVNULL, stderr=terminal,
+                         cwd=trial.folder, timeout=LONGEST, check=False)
+    os.close(terminal)
+    told = b""
+    with open(seen, "rb", buffering=0) as file:
+        try:
+            while part := file.read(4096):
+                told += part
+        except OSError:
+            # A terminal that nobody holds any more.
+            pass
+    return run.returncode, told.replace(b"\r\n", b"\n")
+
+
+def reasons_on_a_terminal(trial):
+    """Which file is refused, and why, is told in a second line on a terminal, and elsewhere the one line alone."""
+    os.mkdir(trial.path("folder"))
+    trial.put("list", LIST)
+    no_file, is_folder = b"nothing: there is no such file\n", b"folder: it is a folder\n"
+    for words, line, reason in (
+            ("check nothing list list", b"cannot read puzzle\n", no_file),
+            ("check puzzle nothing list", b"cannot read list\n", no_file),
+            ("check puzzle folder list", b"cannot read list\n", is_folder),
+            ("count puzzle list nothing", b"cannot read certificate\n", no_file),
+            ("count nothing", b"cannot read puzzle\n", no_file),
+            ("show folder", b"cannot read puzzle\n", is_folder),
+            ("draw puzzle nothing", b"cannot read list\n", no_file),
+            ("solve nothing list made", b"cannot read puzzle\n", no_file),
+            ("solve puzzle folder made", b"cannot write\n", is_folder),
+            ("solve puzzle made none/made", b"cannot write\n", b"none/made: there is no such folder\n"),
+            ("solve puzzle list/made made", b"cannot write\n", b"list/made: there is no such folder\n"),
+            ("solve puzzle /dev/full made", b"cannot write\n", b"/dev/full: no space is left\n"),
+            ("solve puzzle made made", b"cannot write\n",
+             b"two of the names lead to one file\n"),
+    ):
+        trial.wants(f"{words}: told on a terminal", (2, line + reason), told_on_a_terminal(trial, words.split()))
+        run = subprocess.run([trial.program, *words.split()], capture_output=True, cwd=trial.folder, timeout=LONGEST, check=False)
+        trial.wants(f"{words}: told elsewhere", (2, line), (run.returncode, run.stderr))
+    trial.wants_left("puzzle", "list", "folder")
+
+
 TRIALS = (
     new_files, modes, owners, links, links_in_a_circle, hard_links_of_the_puzzle, two_links_to_nothing, pipes, devices,
     a_full_disk, a_closed_pipe_for_the_report, a_stop_by_a_signal, two_at_once, a_fault_beside_another_solve,
-    closed_streams, a_closed_input,
+    closed_streams, a_closed_input, reasons_on_a_terminal,
 )
 
 

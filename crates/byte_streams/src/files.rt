@@ -4,6 +4,7 @@ ghost use Rattle.std.specs.Prelude.{◌≡◌, false, ℕ, List, IfOk, OnErr, On
 ghost use Rattle.byte_streams.specs.Deeds.{Deed, IsFileOf, did_make, did_put, did_remove};
 
 use crate::faults::FileFault;
+use crate::refusals::Refusal;
 use crate::sinks::Sink;
 use crate::sources::{Failed, Source};
 use std::alloc::{AllocError, Global};
@@ -26,7 +27,7 @@ pub trait FileSystem {
     ghost does: { Self → Deed → Self → Type 0 };
 
     /// The file of this name, opened, with nothing read of it.
-    fn open(&self, name: &str) -> Result<Self::Reader, Failed>
+    fn open(&self, name: &str) -> Result<Self::Reader, Refusal>
         ensures opened { IfOk result (opens self.now name.now) }
         ensures unread { IfOk result
             (λ reader. (Self.Reader.ended reader ≡ false) × (Self.Reader.errors reader ≡ 0)) }
@@ -51,6 +52,12 @@ pub trait FileSystem {
     /// Removes the file that was made beside this name.
     fn remove(&mut self, file: Self::Writer, name: &str)
         ensures { does self.old (did_remove name.now) self.new };
+
+    /// Why the last write to the file failed, if one did.
+    fn refusal_of(&self, file: &Self::Writer) -> Option<Refusal>;
+
+    /// Why no file can be made under this name, as far as the system says before it is tried.
+    fn refusal_at(&self, alloc: Global, name: &str) -> Option<Refusal>;
 
     /// Whether both names lead to one file, be it there or not, or it can't be told that they don't.
     fn may_lead_to_one(&self, alloc: Global, first: &str, second: &str) -> Result<bool, AllocError>;

@@ -1,6 +1,7 @@
 //! Where a file of the system stands, and where it is made.
 
 use crate::faults::FileFault;
+use crate::refusals::Refusal;
 use std::alloc::{AllocError, Global};
 use std::fs::Metadata;
 use std::io::{self, ErrorKind};
@@ -27,7 +28,7 @@ impl Place {
         path: PathBuf,
     ) -> Result<Place, FileFault> {
         if path.as_str().ends_with('/') || path.file_name().is_none() {
-            return Err(FileFault::Refused);
+            return Err(FileFault::Refused(Refusal::Folder));
         }
         let mut bytes = [0; 8];
         runtime.fill_bytes(&mut bytes)?;
@@ -99,7 +100,7 @@ fn are_one_place<R: Files>(
 }
 
 // What is told of the folder that a path is in.
-fn folder_of<R: Files>(runtime: &R, path: Path<'_>) -> io::Result<Metadata> {
+pub(crate) fn folder_of<R: Files>(runtime: &R, path: Path<'_>) -> io::Result<Metadata> {
     match path.parent() {
         Some(folder) if !folder.as_str().is_empty() => runtime.metadata(folder.as_str()),
         _ => runtime.metadata("."),

@@ -4,7 +4,8 @@ ghost use Rattle.std.specs.Prelude.{◌≡◌, false, IfOk};
 
 use crate::faults::FileFault;
 use crate::files::FileSystem;
-use crate::places::{Place, are_one, may_be_one, place_of};
+use crate::places::{Place, are_one, folder_of, may_be_one, place_of};
+use crate::refusals::Refusal;
 use crate::sinks::Sink;
 use crate::sources::Failed;
 use crate::systems::{Input, Output};
@@ -84,22 +85,26 @@ impl<R: Files + RandomSource> FileSystem for System<'_, R> {
 
     ghost does = { λ _ _ _. Unit {0} };
 
-    fn open(&self, name: &str) -> Result<Input<R::File>, Failed> {
+    fn open(&self, name: &str) -> Result<Input<R::File>, Refusal> {
+        match self.runtime.metadata(name) {
+            Ok(found) if found.is_dir() => return Err(Refusal::Folder),
+            _ => {}
+        }
         match fs::open(self.runtime, name) {
             Ok(file) => Ok(Input::new(file)),
-            Err(_) => Err(Failed),
+            Err(error) => Err(Refusal::of_opening(&error)),
         }
     }
 
     fn make(&mut self, alloc: Global, name: &str) -> Result<SystemFile<R::File>, FileFault> {
         match self.runtime.metadata(name) {
-            Ok(found) if found.is_dir() => Err(FileFault::Refused),
+            Ok(found) if found.is_dir() => Err(FileFault::Refused(Refusal::Folder)),
             Ok(found) if found.is_file() => make_over(self.runtime, alloc, name, &found),
             Ok(_) => open_directly(self.runtime, name),
             Err(error) if error.kind() == ErrorKind::NotFound => {
                 make_first(self.runtime, alloc, name)
             }
-            Err(_) => Err(FileFault::Refused),
+            Err(error) => Err(FileFault::from(error)),
         }
     }
 
@@ -121,6 +126,20 @@ impl<R: Files + RandomSource> FileSystem for System<'_, R> {
     fn remove(&mut self, file: SystemFile<R::File>, _name: &str) {
         if let Some(place) = &file.place {
             let _ = self.runtime.remove_file(place.part());
+        }
+    }
+
+    fn refusal_of(&self, file: &SystemFile<R::File>) -> Option<Refusal> {
+        file.output.refusal()
+    }
+
+    fn refusal_at(&self, alloc: Global, name: &str) -> Option<Refusal> {
+        match place_of(self.runtime, alloc, name) {
+            Ok(place) => match folder_of(self.runtime, place.as_path()) {
+                Ok(_) => None,
+                Err(error) => Some(Refusal::of_making(&error)),
+            },
+            Err(error) => Some(Refusal::of_making(&error)),
         }
     }
 
@@ -177,7 +196,7 @@ fn make_over<R: Files + RandomSource>(
 {
     let place = Place::new(runtime, alloc, place_of(runtime, alloc, name)?)?;
     if !are_one(&runtime.metadata(place.path())?, found) {
-        return Err(FileFault::Refused);
+        return Err(FileFault::Refused(Refusal::Other));
     }
     let file = OpenOptions::new()
         .write(true)

@@ -1,8 +1,9 @@
 //! Readers and writers of the system, as sources and sinks.
 
-ghost use Rattle.std.specs.Prelude.{◌≡◌, ◌≤◌, ◌<◌, false, IfSome, IfNone, length, take};
+ghost use Rattle.std.specs.Prelude.{◌≡◌, ◌≤◌, ◌<◌, false, IfOk, IfSome, IfNone, OnErr, length, take};
 ghost use Rattle.std.specs.Io.KnownBytes.{Appends, Consumes, IsAtEnd, Keeps};
 
+use crate::refusals::Refusal;
 use crate::sinks::Sink;
 use crate::sources::{Failed, Source};
 use std::io::{ErrorKind, Read, Write};
@@ -79,9 +80,16 @@ pub struct Output<W: Write> {
     writer: W,
     idle: bool,
     errors: u64,
+    // why the last write failed, if one did
+    refusal: Option<Refusal>,
 }
 
 impl<W: Write> Output<W> {
+    // Why the last write failed, if one did.
+    pub(crate) fn refusal(&self) -> Option<Refusal> {
+        self.refusal
+    }
+
     /// A sink over this writer.
     pub fn new(writer: W) -> Output<W>
         ensures writer { result.writer ≡ writer }
@@ -92,24 +100,25 @@ impl<W: Write> Output<W> {
             writer,
             idle: false,
             errors: 0,
+            refusal: None,
         }
     }
 }
 
-// A write that is tried again while it is interrupted; none where it fails.
-fn count_write<W: Write>(writer: &mut W, bytes: &[u8]) -> Option<usize>
-    ensures count { IfSome result (λ n. n ≤ length bytes.now) }
-    ensures bytes { IfSome result (λ n. Appends (W.contents writer.old) (W.contents writer.new) (take n bytes.now)) }
-    ensures kept { IfNone result (Keeps (W.contents writer.old) (W.contents writer.new)) }
+// A write that is tried again while it is interrupted.
+fn count_write<W: Write>(writer: &mut W, bytes: &[u8]) -> Result<usize, Refusal>
+    ensures count { IfOk result (λ n. n ≤ length bytes.now) }
+    ensures bytes { IfOk result (λ n. Appends (W.contents writer.old) (W.contents writer.new) (take n bytes.now)) }
+    ensures kept { OnErr result (Keeps (W.contents writer.old) (W.contents writer.new)) }
 {
     for _ in 0..MOST_TRIES {
         match writer.write(bytes) {
-            Ok(count) => return Some(count),
+            Ok(count) => return Ok(count),
             Err(error) if error.kind() == ErrorKind::Interrupted => {}
-            Err(_) => return None,
+            Err(error) => return Err(Refusal::of_making(&error)),
         }
     }
-    None
+    Err(Refusal::Other)
 }
 
 impl<W: Write> Sink for Output<W> {
@@ -120,12 +129,17 @@ impl<W: Write> Sink for Output<W> {
     ghost errors = { λ s. s.errors };
 
     fn write(&mut self, bytes: &[u8]) -> Result<usize, Failed> {
-        let Some(count) = count_write(&mut self.writer, bytes) else {
-            self.idle = false;
-            self.errors = self.errors.saturating_add(1);
-            return Err(Failed);
-        };
-        self.idle = count == 0 && !bytes.is_empty();
-        Ok(count)
+        match count_write(&mut self.writer, bytes) {
+            Ok(count) => {
+                self.idle = count == 0 && !bytes.is_empty();
+                Ok(count)
+            }
+            Err(refusal) => {
+                self.idle = false;
+                self.errors = self.errors.saturating_add(1);
+                self.refusal = Some(refusal);
+                Err(Failed)
+            }
+        }
     }
 }

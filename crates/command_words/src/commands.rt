@@ -61,9 +61,10 @@ Links are followed, modes kept, and devices and pipes written directly.
 
 With a depth of 1 or more it looks for symmetries of the puzzle first, makes lemmas of at most 64 \
 branches of so many levels, and cites these, and their images, instead of searching again: most \
-puzzles with symmetries take a fraction of the time then, and their list has one of the \
-arrangements that are images of each other. With a depth of 0 every arrangement is listed. The \
-workers share the branches. What is found is the same in any case, in another order.
+puzzles with symmetries take a fraction of the time then. Their list leaves out most images of what \
+it has, though not all, so its length is no number to publish: count says how many arrangements \
+there are, and how many that are no images of each other. With a depth of 0 every arrangement is \
+listed. The workers share the branches.
 
 The fuel is the most branch nodes that are made for one lemma: cells or tiles at which it is tried \
 what fits. Where more than one worker searches, or the depth isn't 0, a lemma that is short of fuel \

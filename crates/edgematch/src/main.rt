@@ -1,9 +1,11 @@
 //! Solves edge-matching puzzles, and checks whether a list of arrangements is complete, by a certificate.
 #![tactic(auto)]
 
-use match_program::{Exit, Input, Output, RunFault, System, SystemLimits, run_words, stopped};
+use match_program::{
+    Exit, Input, Output, RunFault, Streams, System, SystemLimits, run_words, stopped,
+};
 use std::fs::{self, OpenOptions};
-use std::io::ErrorKind;
+use std::io::{ErrorKind, IsTerminal};
 use std::os::fd::{AsRawFd, IntoRawFd};
 use std::process::ExitCode;
 use std::random::RandomSource;
@@ -82,15 +84,22 @@ fn run<R: Threads + Wait + Sync + RandomSource + Clock + Eprint>(
     rt: &HostRuntime,
 ) -> Exit {
     match words(rt) {
-        Ok(words) => run_words(
-            threads,
-            rt.alloc(),
-            &words,
-            &mut System::new(rt),
-            &mut Input::new(rt.stdin()),
-            &mut Output::new(rt.stdout()),
-            &mut Output::new(rt.stderr()),
-        ),
+        Ok(words) => {
+            let errors = rt.stderr();
+            let terminal = errors.is_terminal();
+            run_words(
+                threads,
+                rt.alloc(),
+                &words,
+                &mut System::new(rt),
+                &mut Streams {
+                    input: &mut Input::new(rt.stdin()),
+                    output: &mut Output::new(rt.stdout()),
+                    errors: &mut Output::new(errors),
+                    terminal,
+                },
+            )
+        }
         Err(error) => unread(rt, &error),
     }
 }

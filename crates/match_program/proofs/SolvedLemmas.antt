@@ -7,14 +7,11 @@ use Rattle.byte_streams.specs.Moves.{FrontOf, Takes, Writing}
 use Rattle.byte_streams.specs.Origins.{one_source}
 use Rattle.byte_streams.specs.Targets.{StopsWriting, Target, filled, products_to, three_sinks}
 use Rattle.byte_streams.specs.declared.faults.Document.TheVariants as documents
-use Rattle.byte_streams.specs.declared.faults.FileFault.{FileFault}
-use Rattle.byte_streams.specs.declared.faults.FileFault.TheVariants as file_faults
 use Rattle.byte_streams.specs.declared.faults.InputFault.TheVariants as inputs
 use Rattle.byte_streams.specs.declared.files.FileSystem.{Ghosts as FileMembers}
 use Rattle.byte_streams.specs.declared.outputs.Products.{Products}
 use Rattle.byte_streams.specs.declared.sources.Source.{Ghosts as SourceMembers}
 use Rattle.command_words.specs.declared.orders.Files.{Files}
-use Rattle.match_runs.specs.FaultText.{run_of_file}
 use Rattle.match_program.specs.FileOrigins.{Opened, one_file, read_from}
 use Rattle.match_program.specs.OrderRuns.{SolveOf, ThenDone}
 use Rattle.match_runs.specs.Runs.{Runs}
@@ -45,11 +42,6 @@ did_as does deed old name given new same did = subst (λ (n : List ℕ). does ol
 pub is_file_as : {S W : Type 0} (makes : S → List ℕ → W → Type 0) (written : W → Option (List ℕ)) (name given : List ℕ) (writer : W) (text : List ℕ)
     → given ≡ name → IsFileOf makes written name writer text → IsFileOf makes written given writer text
 is_file_as makes written name given writer text same is = rw same is
-
--- a file that isn't made is a fault of writing, or want of memory
-pub file_fault : (fault : FileFault) → (run_of_file fault ≡ runs.Write) ⊎ (run_of_file fault ≡ runs.Memory)
-file_fault file_faults.Refused = inl refl
-file_fault file_faults.Memory = inr refl
 
 -- files that were made took what went to their writers since
 pub are_written : {S W : Type 0} (makes : S → List ℕ → W → Type 0) (written : W → Option (List ℕ)) (files : Files) (begun later : MadeFiles W) (texts : Products)

@@ -3,26 +3,38 @@
 ghost use Rattle.std.specs.Prelude.{◌≡◌, ◌≢◌, ◌↔◌, false, IfOk, IfErr, IsTrue};
 ghost use Rattle.match_program.specs.Files.{HaveDifferentNames};
 
-use byte_streams::{Document, FileSystem};
+use byte_streams::{Document, FileSystem, Refusal};
 use command_words::Files;
-use match_runs::RunFault;
+use match_runs::{HintedFault, RunFault};
 use std::alloc::{AllocError, Global};
 
 /// The file of a document, opened, with nothing read of it. `Read` of the document where it can't
-/// be opened.
+/// be opened, and the hint says why.
 pub fn open<S: FileSystem>(
+    alloc: Global,
     system: &S,
     name: &str,
     document: Document,
-) -> Result<S::Reader, RunFault>
+) -> Result<S::Reader, HintedFault>
     ensures opened { IfOk result (S.opens system.now name.now) }
     ensures unread { IfOk result (λ reader. (S.Reader.ended reader ≡ false) × (S.Reader.errors reader ≡ 0)) }
-    ensures fault { IfErr result (λ fault. (fault ≡ RunFault.Read document) × S.refuses system.now name.now) }
+    ensures fault { IfErr result (λ hinted. (hinted.fault ≡ RunFault.Read document) × S.refuses system.now name.now) }
 {
     match system.open(name) {
         Ok(file) => Ok(file),
-        Err(_) => Err(RunFault::Read(document)),
+        Err(refusal) => {
+            Err(HintedFault {
+                fault: RunFault::Read(document),
+                hint: hint_on(alloc, name, refusal),
+            })
+        }
     }
+}
+
+// Which file is refused, and why, where memory isn't refused to it.
+pub(crate) fn hint_on(alloc: Global, name: &str, refusal: Refusal) -> Option<String> {
+    let words = refusal.words();
+    format!(in alloc; "{name}: {words}").ok()
 }
 
 /// Whether the three files have different names.

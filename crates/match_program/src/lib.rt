@@ -7,14 +7,16 @@ mod files;
 mod made_files;
 mod order_runs;
 mod progress;
+mod streams;
 mod system_limits;
 mod word_runs;
 
 pub use exits::Exit;
 pub use files::{have_different_names, open};
 pub use made_files::nothing_is_lost;
-pub use match_runs::{Input, Output, RunFault, System};
+pub use match_runs::{HintedFault, Input, Output, RunFault, System};
 pub use order_runs::run_order;
 pub use progress::{CheckProgress, SolveProgress};
+pub use streams::Streams;
 pub use system_limits::SystemLimits;
 pub use word_runs::{run_words, stopped};

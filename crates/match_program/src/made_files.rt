@@ -6,9 +6,10 @@ ghost use Rattle.byte_streams.specs.declared.outputs.Products.{Products};
 ghost use Rattle.match_program.specs.SolvedFiles.{AreMade, AreWritten, NothingIsLost, Undid, both_made, both_removed};
 ghost use Rattle.match_program.specs.SolvedFiles.{PutsNoneOrHalf, both_put};
 
-use byte_streams::FileSystem;
+use crate::files::hint_on;
+use byte_streams::{FileFault, FileSystem};
 use command_words::Files;
-use match_runs::RunFault;
+use match_runs::{HintedFault, RunFault};
 use std::alloc::Global;
 
 // The files of a list and a certificate, made beside their names.
@@ -23,19 +24,37 @@ pub(crate) fn make_both<S: FileSystem>(
     alloc: Global,
     files: &Files,
     system: &mut S,
-) -> Result<MadeFiles<S::Writer>, RunFault>
+) -> Result<MadeFiles<S::Writer>, HintedFault>
     ensures made { IfOk result (AreMade S.makes files.now) }
     ensures does { OnOk result (Did S.does system.old (both_made files.now) system.new) }
     ensures undone { OnErr result (Undid files.now S.does system.old system.new) }
-    ensures fault { IfErr result (λ fault. (fault ≡ RunFault.Write) ⊎ (fault ≡ RunFault.Memory)) }
+    ensures fault { IfErr result (λ hinted. (hinted.fault ≡ RunFault.Write) ⊎ (hinted.fault ≡ RunFault.Memory)) }
 {
-    let list = system.make(alloc, &files.list)?;
+    let list = match system.make(alloc, &files.list) {
+        Ok(list) => list,
+        Err(fault) => return Err(not_made(alloc, &files.list, fault)),
+    };
     match system.make(alloc, &files.certificate) {
         Ok(certificate) => Ok(MadeFiles { list, certificate }),
         Err(fault) => {
             system.remove(list, &files.list);
-            Err(RunFault::from(fault))
+            Err(not_made(alloc, &files.certificate, fault))
         }
+    }
+}
+
+// Why a file was not made.
+fn not_made(alloc: Global, name: &str, fault: FileFault) -> HintedFault
+    ensures { (result.fault ≡ RunFault.Write) ⊎ (result.fault ≡ RunFault.Memory) }
+{
+    match fault {
+        FileFault::Refused(refusal) => {
+            HintedFault {
+                fault: RunFault::Write,
+                hint: hint_on(alloc, name, refusal),
+            }
+        }
+        FileFault::Memory => HintedFault::from(RunFault::Memory),
     }
 }
 

@@ -7,18 +7,23 @@ ghost use Rattle.byte_streams.specs.Origins.{joined_source};
 ghost use Rattle.match_program.specs.FileOrigins.{CantOpen, all_three, one_file, three_files};
 ghost use Rattle.match_program.specs.OrderRuns.{CensusOf, CheckOf, DescriptionOf, PictureOf, PrintingOf, RunOf, ShowOf};
 ghost use Rattle.match_program.specs.OrderRuns.{SolveOf, TilesOf};
+ghost use Rattle.match_runs.specs.Runs.{unhinted};
+ghost use Rattle.match_program.specs.SameStreams.{AreSameStreams};
 ghost use Rattle.match_program.specs.SolvedFiles.{solved_files};
 
 use crate::exits::Exit;
-use crate::files::{are_apart, open};
+use crate::files::{are_apart, hint_on, open};
 use crate::made_files::{MadeFiles, make_both, put_both, remove_both};
 use crate::progress::{CheckProgress, SolveProgress};
-use byte_streams::{Document, FileSystem, Sink, Source};
+use crate::streams::Streams;
+use byte_streams::{
+    Document, FileSystem, OneSink, OneSource, Sink, Source, ThreeSinks, ThreeSources,
+};
 use command_words::{Colours, Drawn, Files, Forks, Listed, Order, Sides, Workers};
 use match_runs::{
-    CensusPlan, Description, PicturePlan, Printing, RunFault, SearchPlan, run_census,
-    run_check_watched, run_description, run_hinted, run_joined, run_listed, run_picture,
-    run_solve_watched, run_tiles,
+    CensusPlan, CheckPlan, Description, HintedFault, PicturePlan, Printing, RunFault, SearchPlan,
+    Watched, run_census, run_check_watched, run_description, run_joined, run_listed, run_picture,
+    run_printing, run_solve_watched, run_tiles,
 };
 use std::alloc::Global;
 use std::random::RandomSource;
@@ -34,40 +39,45 @@ use std::time::Clock;
 /// the three are one, or one can't be made, `Write`. What it made is put under the names once all is written, the list
 /// first, and after a fault it is removed.
 ///
-/// Where texts are to be explained and one has a fault, a hint is left of what its line has to be, and what it is, or
-/// which numbers differ; memory for it may be refused.
+/// A hint says why a file is refused; and where texts are to be explained and one has a fault, what its line has to be, and
+/// what it is, or which numbers differ. Memory for it may be refused.
 pub fn run_order<
     S: FileSystem,
     I: Source,
     W: Sink,
+    E: Sink,
     R: Threads + Wait + Sync + RandomSource + Clock + Eprint,
 >(
     rt: &R,
     alloc: Global,
     order: &Order,
     system: &mut S,
-    input: &mut I,
-    output: &mut W,
-    hint: &mut Option<String>,
-) -> Result<Exit, RunFault>
-    ensures { RunOf S.FileSystem S.Reader.Source system.old system.new (reading_of I.Source input.old input.new)
-        (writing_of W.Sink output.old output.new) order.now result }
+    streams: &mut Streams<'_, '_, '_, I, W, E>,
+) -> Result<Exit, HintedFault>
+    ensures same { AreSameStreams streams.old streams.new }
+    ensures errors { streams.new.errors.now ≡ streams.old.errors.now }
+    ensures run { RunOf S.FileSystem S.Reader.Source system.old system.new
+        (reading_of I.Source streams.old.input.now streams.new.input.now)
+        (writing_of W.Sink streams.old.output.now streams.new.output.now) order.now (unhinted result) }
 {
     match order {
-        Order::Joined => check_joined(rt, alloc, input, output),
+        Order::Joined => check_joined(rt, alloc, streams.input, streams.output),
         Order::Check {
             files,
             workers,
             forks,
             progress,
         } => {
-            let order = CheckOrder {
-                files,
+            let plan = CheckPlan {
                 workers: *workers,
                 forks: *forks,
+            };
+            let order = CheckOrder {
+                files,
+                plan,
                 progress: *progress,
             };
-            check(rt, alloc, &order, system, output)
+            check(rt, alloc, &order, system, streams.output)
         }
         Order::Solve {
             files,
@@ -77,32 +87,38 @@ pub fn run_order<
             keep: _,
             progress,
         } => {
-            let search = SearchPlan {
+            let plan = SearchPlan {
                 depth: *depth,
                 fuel: *fuel,
                 workers: *workers,
             };
             let order = SolveOrder {
                 files,
-                search,
+                plan,
                 progress: *progress,
             };
-            solve(rt, alloc, &order, system, output)
+            solve(rt, alloc, &order, system, streams.output)
         }
         Order::Explain(files) => {
-            print_all(
-                rt,
-                alloc,
+            let order = PrintingOrder {
                 files,
-                Printing::Explanation,
-                system,
-                output,
-                hint,
-            )
+                printing: Printing::Explanation,
+            };
+            print_all(rt, alloc, &order, system, streams.output)
         }
-        Order::Expand(files) => { print_all(rt, alloc, files, Printing::All, system, output, hint) }
+        Order::Expand(files) => {
+            let order = PrintingOrder {
+                files,
+                printing: Printing::All,
+            };
+            print_all(rt, alloc, &order, system, streams.output)
+        }
         Order::Count(files) => {
-            print_all(rt, alloc, files, Printing::Count, system, output, hint)
+            let order = PrintingOrder {
+                files,
+                printing: Printing::Count,
+            };
+            print_all(rt, alloc, &order, system, streams.output)
         }
         Order::Census {
             puzzle,
@@ -113,9 +129,10 @@ pub fn run_order<
                 extent: *extent,
                 workers: *workers,
             };
-            count_by_search(rt, alloc, puzzle, plan, system, output)
+            let order = CensusOrder { puzzle, plan };
+            count_by_search(rt, alloc, &order, system, streams.output)
         }
-        Order::Show { puzzle, listed } => show(alloc, puzzle, listed, system, output),
+        Order::Show { puzzle, listed } => show(alloc, puzzle, listed, system, streams.output),
         Order::Draw {
             puzzle,
             listed,
@@ -127,12 +144,18 @@ pub fn run_order<
                 first: *first,
                 numbers: *numbers,
             };
-            picture(alloc, &order, listed, system, output)
+            picture(alloc, &order, listed, system, streams.output)
         }
         Order::Symmetries(puzzle) => {
-            describe(alloc, puzzle, Description::Symmetries, system, output)
+            describe(
+                alloc,
+                puzzle,
+                Description::Symmetries,
+                system,
+                streams.output,
+            )
         }
-        Order::Tiles { sides, colours } => list_tiles(alloc, *sides, *colours, output),
+        Order::Tiles { sides, colours } => list_tiles(alloc, *sides, *colours, streams.output),
     }
 }
 
@@ -141,9 +164,9 @@ fn check_joined<I: Source, W: Sink, R: Threads + Sync>(
     alloc: Global,
     input: &mut I,
     output: &mut W,
-) -> Result<Exit, RunFault>
+) -> Result<Exit, HintedFault>
     ensures { CheckOf (joined_source (reading_of I.Source input.old input.new))
-        (writing_of W.Sink output.old output.new) result }
+        (writing_of W.Sink output.old output.new) (unhinted result) }
 {
     let status = run_joined(rt, alloc, input, Workers::new(1), Forks::new(0), output)?;
     Ok(Exit::of_status(status))
@@ -157,20 +180,39 @@ struct Opened<R> {
     certificate: R,
 }
 
+impl<R: Source> Opened<R> {
+    // The files as sources.
+    fn sources(&mut self) -> ThreeSources<'_, '_, '_, R, R, R>
+        ensures puzzle { result.puzzle.now ≡ self.old.puzzle }
+        ensures list { result.list.now ≡ self.old.list }
+        ensures certificate { result.certificate.now ≡ self.old.certificate }
+    {
+        ThreeSources {
+            puzzle: &mut self.puzzle,
+            list: &mut self.list,
+            certificate: &mut self.certificate,
+        }
+    }
+}
+
 // Opens all three files before any is read.
-fn open_all<S: FileSystem>(system: &S, files: &Files) -> Result<Opened<S::Reader>, RunFault>
+fn open_all<S: FileSystem>(
+    alloc: Global,
+    system: &S,
+    files: &Files,
+) -> Result<Opened<S::Reader>, HintedFault>
     ensures puzzle { IfOk result (λ opened. S.opens system.now (string_bytes files.now.puzzle) opened.puzzle) }
     ensures list { IfOk result (λ opened. S.opens system.now (string_bytes files.now.list) opened.list) }
     ensures certificate { IfOk result (λ opened.
         S.opens system.now (string_bytes files.now.certificate) opened.certificate) }
-    ensures fault { IfErr result (λ fault. (document : Document)
+    ensures fault { IfErr result (λ hinted. (document : Document)
         × CantOpen S.FileSystem S.Reader.Source system.now (all_three files.now) document
-        × (fault ≡ RunFault.Read document)) }
+        × (hinted.fault ≡ RunFault.Read document)) }
 {
     Ok(Opened {
-        puzzle: open(system, &files.puzzle, Document::Puzzle)?,
-        list: open(system, &files.list, Document::List)?,
-        certificate: open(system, &files.certificate, Document::Certificate)?,
+        puzzle: open(alloc, system, &files.puzzle, Document::Puzzle)?,
+        list: open(alloc, system, &files.list, Document::List)?,
+        certificate: open(alloc, system, &files.certificate, Document::Certificate)?,
     })
 }
 
@@ -178,8 +220,7 @@ fn open_all<S: FileSystem>(system: &S, files: &Files) -> Result<Opened<S::Reader
 #[derive(Clone, Copy)]
 struct CheckOrder<'a> {
     files: &'a Files,
-    workers: Workers,
-    forks: Forks,
+    plan: CheckPlan,
     progress: bool,
 }
 
@@ -189,21 +230,22 @@ fn check<S: FileSystem, W: Sink, R: Threads + Sync + Clock + Eprint>(
     order: &CheckOrder<'_>,
     system: &S,
     output: &mut W,
-) -> Result<Exit, RunFault>
+) -> Result<Exit, HintedFault>
     ensures { CheckOf (three_files S.FileSystem S.Reader.Source system.now order.now.files.now)
-        (writing_of W.Sink output.old output.new) result }
+        (writing_of W.Sink output.old output.new) (unhinted result) }
 {
-    let mut opened = open_all(system, order.files)?;
+    let mut opened = open_all(alloc, system, order.files)?;
+    let progress = CheckProgress::new(rt, order.progress);
+    let check = Watched {
+        plan: order.plan,
+        watch: &progress,
+    };
     let status = run_check_watched(
         rt,
         alloc,
-        &mut opened.puzzle,
-        &mut opened.list,
-        &mut opened.certificate,
-        order.workers,
-        order.forks,
-        &CheckProgress::new(rt, order.progress),
-        output,
+        &check,
+        &mut opened.sources(),
+        &mut OneSink { sink: output },
     )?;
     Ok(Exit::of_status(status))
 }
@@ -212,7 +254,7 @@ fn check<S: FileSystem, W: Sink, R: Threads + Sync + Clock + Eprint>(
 #[derive(Clone, Copy)]
 struct SolveOrder<'a> {
     files: &'a Files,
-    search: SearchPlan,
+    plan: SearchPlan,
     progress: bool,
 }
 
@@ -224,62 +266,104 @@ fn solve<S: FileSystem, W: Sink, R: Threads + Wait + Sync + Clock + Eprint>(
     order: &SolveOrder<'_>,
     system: &mut S,
     output: &mut W,
-) -> Result<Exit, RunFault>
-    ensures { SolveOf order.now.search.workers
+) -> Result<Exit, HintedFault>
+    ensures { SolveOf order.now.plan.workers
         (one_file S.FileSystem S.Reader.Source system.old (string_bytes order.now.files.now.puzzle))
-        (solved_files order.now.files.now S.does system.old system.new (writing_of W.Sink output.old output.new)) result }
+        (solved_files order.now.files.now S.does system.old system.new (writing_of W.Sink output.old output.new)) (unhinted result) }
 {
     let files = order.files;
-    let mut puzzle = open(system, &files.puzzle, Document::Puzzle)?;
+    let mut puzzle = open(alloc, system, &files.puzzle, Document::Puzzle)?;
     if !are_apart(alloc, files, system)? {
-        return Err(RunFault::Write);
+        return Err(not_apart(alloc, files, system));
     }
-    let MadeFiles {
-        mut list,
-        mut certificate,
-    } = make_both(alloc, files, system)?;
+    let mut made = make_both(alloc, files, system)?;
+    let progress = SolveProgress::new(rt, order.progress);
+    let search = Watched {
+        plan: order.plan,
+        watch: &progress,
+    };
     let solved = run_solve_watched(
         rt,
         alloc,
-        &mut puzzle,
-        order.search,
-        &SolveProgress::new(rt, order.progress),
-        &mut list,
-        &mut certificate,
-        output,
+        &search,
+        &mut OneSource {
+            source: &mut puzzle,
+            document: Document::Puzzle,
+        },
+        &mut ThreeSinks {
+            list: &mut made.list,
+            certificate: &mut made.certificate,
+            report: output,
+        },
     );
-    let made = MadeFiles { list, certificate };
     if let Err(fault) = solved {
+        let hint = hint_on_writing(alloc, files, &made, system);
         remove_both(made, files, system);
-        return Err(fault);
+        return Err(HintedFault { fault, hint });
     }
     put_both(made, files, system)?;
     Ok(Exit::Done)
+}
+
+// That two of three names lead to one file, or it can't be told that they don't.
+fn not_apart<S: FileSystem>(alloc: Global, files: &Files, system: &S) -> HintedFault
+    ensures { result.fault ≡ RunFault.Write }
+{
+    HintedFault {
+        fault: RunFault::Write,
+        hint: hint_on_places(alloc, files, system),
+    }
+}
+
+// Under which of the names no file can be made, and why, or that two of them lead to one.
+fn hint_on_places<S: FileSystem>(alloc: Global, files: &Files, system: &S) -> Option<String> {
+    for name in [&files.list, &files.certificate] {
+        if let Some(refusal) = system.refusal_at(alloc, name) {
+            return hint_on(alloc, name, refusal);
+        }
+    }
+    String::from_str(alloc, "two of the names lead to one file").ok()
+}
+
+// Which of the files could not be written, and why, if one couldn't.
+fn hint_on_writing<S: FileSystem>(
+    alloc: Global,
+    files: &Files,
+    made: &MadeFiles<S::Writer>,
+    system: &S,
+) -> Option<String> {
+    if let Some(refusal) = system.refusal_of(&made.list) {
+        return hint_on(alloc, &files.list, refusal);
+    }
+    let refusal = system.refusal_of(&made.certificate)?;
+    hint_on(alloc, &files.certificate, refusal)
+}
+
+// What is printed that is ordered, of three documents.
+#[derive(Clone, Copy)]
+struct PrintingOrder<'a> {
+    files: &'a Files,
+    printing: Printing,
 }
 
 // As a check, and prints all arrangements, or how many they are, or why the list is refused.
 fn print_all<S: FileSystem, W: Sink, R: RandomSource>(
     rt: &R,
     alloc: Global,
-    files: &Files,
-    printing: Printing,
+    order: &PrintingOrder<'_>,
     system: &S,
     output: &mut W,
-    hint: &mut Option<String>,
-) -> Result<Exit, RunFault>
-    ensures { PrintingOf printing (three_files S.FileSystem S.Reader.Source system.now files.now)
-        (writing_of W.Sink output.old output.new) result }
+) -> Result<Exit, HintedFault>
+    ensures { PrintingOf order.now.printing (three_files S.FileSystem S.Reader.Source system.now order.now.files.now)
+        (writing_of W.Sink output.old output.new) (unhinted result) }
 {
-    let mut opened = open_all(system, files)?;
-    let status = run_hinted(
+    let mut opened = open_all(alloc, system, order.files)?;
+    let status = run_printing(
         rt,
         alloc,
-        &mut opened.puzzle,
-        &mut opened.list,
-        &mut opened.certificate,
-        printing,
-        output,
-        hint,
+        order.printing,
+        &mut opened.sources(),
+        &mut OneSink { sink: output },
     )?;
     Ok(Exit::of_status(status))
 }
@@ -290,29 +374,36 @@ fn describe<S: FileSystem, W: Sink>(
     description: Description,
     system: &S,
     output: &mut W,
-) -> Result<Exit, RunFault>
+) -> Result<Exit, HintedFault>
     ensures { DescriptionOf description (one_file S.FileSystem S.Reader.Source system.now name.now)
-        (writing_of W.Sink output.old output.new) result }
+        (writing_of W.Sink output.old output.new) (unhinted result) }
 {
-    let mut puzzle = open(system, name, Document::Puzzle)?;
+    let mut puzzle = open(alloc, system, name, Document::Puzzle)?;
     run_description(alloc, &mut puzzle, description, output)?;
     Ok(Exit::Done)
 }
 
-// Counts arrangements of the puzzle in the file of this name.
+// A count by a search that is ordered.
+#[derive(Clone, Copy)]
+struct CensusOrder<'a> {
+    puzzle: &'a String,
+    plan: CensusPlan,
+}
+
+// Counts arrangements of the puzzle in its file.
 fn count_by_search<S: FileSystem, W: Sink, R: Threads + Sync>(
     rt: &R,
     alloc: Global,
-    name: &str,
-    plan: CensusPlan,
+    order: &CensusOrder<'_>,
     system: &S,
     output: &mut W,
-) -> Result<Exit, RunFault>
-    ensures { CensusOf plan.extent (one_file S.FileSystem S.Reader.Source system.now name.now)
-        (writing_of W.Sink output.old output.new) result }
+) -> Result<Exit, HintedFault>
+    ensures { CensusOf order.now.plan.extent
+        (one_file S.FileSystem S.Reader.Source system.now (string_bytes order.now.puzzle.now))
+        (writing_of W.Sink output.old output.new) (unhinted result) }
 {
-    let mut puzzle = open(system, name, Document::Puzzle)?;
-    run_census(rt, alloc, &mut puzzle, plan, output)?;
+    let mut puzzle = open(alloc, system, order.puzzle, Document::Puzzle)?;
+    run_census(rt, alloc, &mut puzzle, order.plan, output)?;
     Ok(Exit::Done)
 }
 
@@ -323,9 +414,9 @@ fn show<S: FileSystem, W: Sink>(
     listed: &Option<Listed>,
     system: &S,
     output: &mut W,
-) -> Result<Exit, RunFault>
+) -> Result<Exit, HintedFault>
     ensures { ShowOf S.FileSystem S.Reader.Source system.now name.now listed.now
-        (writing_of W.Sink output.old output.new) result }
+        (writing_of W.Sink output.old output.new) (unhinted result) }
 {
     match listed {
         None => describe(alloc, name, Description::Board, system, output),
@@ -340,12 +431,12 @@ fn draw<S: FileSystem, W: Sink>(
     listed: &Listed,
     system: &S,
     output: &mut W,
-) -> Result<Exit, RunFault>
+) -> Result<Exit, HintedFault>
     ensures { ShowOf S.FileSystem S.Reader.Source system.now name.now (Some listed.now)
-        (writing_of W.Sink output.old output.new) result }
+        (writing_of W.Sink output.old output.new) (unhinted result) }
 {
-    let mut puzzle = open(system, name, Document::Puzzle)?;
-    let mut list = open(system, &listed.list, Document::List)?;
+    let mut puzzle = open(alloc, system, name, Document::Puzzle)?;
+    let mut list = open(alloc, system, &listed.list, Document::List)?;
     run_listed(alloc, &mut puzzle, &mut list, listed.number.get(), output)?;
     Ok(Exit::Done)
 }
@@ -365,9 +456,9 @@ fn picture<S: FileSystem, W: Sink>(
     listed: &Option<Listed>,
     system: &S,
     output: &mut W,
-) -> Result<Exit, RunFault>
+) -> Result<Exit, HintedFault>
     ensures { PictureOf S.FileSystem S.Reader.Source system.now (string_bytes order.now.puzzle.now) listed.now
-        order.now.first (writing_of W.Sink output.old output.new) result }
+        order.now.first (writing_of W.Sink output.old output.new) (unhinted result) }
 {
     match listed {
         None => describe(alloc, order.puzzle, Description::Picture, system, output),
@@ -382,17 +473,17 @@ fn picture_listed<S: FileSystem, W: Sink>(
     listed: &Listed,
     system: &S,
     output: &mut W,
-) -> Result<Exit, RunFault>
+) -> Result<Exit, HintedFault>
     ensures { PictureOf S.FileSystem S.Reader.Source system.now (string_bytes order.now.puzzle.now) (Some listed.now)
-        order.now.first (writing_of W.Sink output.old output.new) result }
+        order.now.first (writing_of W.Sink output.old output.new) (unhinted result) }
 {
     let plan = PicturePlan {
         number: listed.number,
         first: order.first,
         numbers: order.numbers,
     };
-    let mut puzzle = open(system, order.puzzle, Document::Puzzle)?;
-    let mut list = open(system, &listed.list, Document::List)?;
+    let mut puzzle = open(alloc, system, order.puzzle, Document::Puzzle)?;
+    let mut list = open(alloc, system, &listed.list, Document::List)?;
     run_picture(alloc, &mut puzzle, &mut list, plan, output)?;
     Ok(Exit::Done)
 }
@@ -402,8 +493,8 @@ fn list_tiles<W: Sink>(
     sides: Sides,
     colours: Colours,
     output: &mut W,
-) -> Result<Exit, RunFault>
-    ensures { TilesOf sides colours (writing_of W.Sink output.old output.new) result }
+) -> Result<Exit, HintedFault>
+    ensures { TilesOf sides colours (writing_of W.Sink output.old output.new) (unhinted result) }
 {
     run_tiles(alloc, sides, colours, output)?;
     Ok(Exit::Done)

@@ -7,13 +7,15 @@ ghost use Rattle.clap.specs.declared.error.Error.{Error};
 ghost use Rattle.byte_streams.specs.Moves.{reading_of, writing_of};
 ghost use Rattle.match_program.specs.Exits.{fault_exit};
 ghost use Rattle.match_program.specs.OrderRuns.{RunOf};
+ghost use Rattle.match_program.specs.SameStreams.{AreSameStreams};
 ghost use Rattle.match_program.specs.WordRuns.{CarriesOut, Explains, Tells, TellsFault, WantsMemory, WordsGive};
 
 use crate::exits::Exit;
 use crate::order_runs::run_order;
+use crate::streams::Streams;
 use byte_streams::{FileSystem, Sink, Source, write_whole};
 use command_words::{Order, WordsFault, order};
-use match_runs::{RunFault, fault_text};
+use match_runs::{HintedFault, RunFault, fault_text};
 use std::alloc::Global;
 use std::random::RandomSource;
 use std::sync::Wait;
@@ -21,8 +23,8 @@ use std::thread::Threads;
 use std::time::Clock;
 
 /// Does what the words after the program's name order, and says how the program ends. A fault's line goes to `errors`, and
-/// nothing else but what is wrong with words; how far a check or a solve is, and what a text's line has to be
-/// that is to be explained, is told by `rt`.
+/// nothing else but what is wrong with words; how far a check or a solve is, what a text's line has to be that is to be
+/// explained, and on a terminal why a file is refused, is told by `rt`.
 ///
 /// Help and the version go to the output. All is done then; where they can't be written, it ends as `Write` does.
 pub fn run_words<
@@ -36,17 +38,18 @@ pub fn run_words<
     alloc: Global,
     words: &[String],
     system: &mut S,
-    input: &mut I,
-    output: &mut W,
-    errors: &mut E,
+    streams: &mut Streams<'_, '_, '_, I, W, E>,
 ) -> Exit
-    ensures { WordsGive (map string_bytes words.now) (RunOf S.FileSystem S.Reader.Source system.old system.new
-        (reading_of I.Source input.old input.new) (writing_of W.Sink output.old output.new)) (system.new ≡ system.old)
-        (writing_of W.Sink output.old output.new) (writing_of E.Sink errors.old errors.new) result }
+    ensures same { AreSameStreams streams.old streams.new }
+    ensures run { WordsGive (map string_bytes words.now) (RunOf S.FileSystem S.Reader.Source system.old system.new
+        (reading_of I.Source streams.old.input.now streams.new.input.now)
+        (writing_of W.Sink streams.old.output.now streams.new.output.now)) (system.new ≡ system.old)
+        (writing_of W.Sink streams.old.output.now streams.new.output.now)
+        (writing_of E.Sink streams.old.errors.now streams.new.errors.now) result }
 {
     match order(alloc, words) {
-        Ok(order) => carry_out(rt, alloc, &order, system, input, output, errors),
-        Err(fault) => refuse(alloc, &fault, output, errors),
+        Ok(order) => carry_out(rt, alloc, &order, system, streams),
+        Err(fault) => refuse(alloc, &fault, streams.output, streams.errors),
     }
 }
 
@@ -62,27 +65,31 @@ fn carry_out<
     alloc: Global,
     order: &Order,
     system: &mut S,
-    input: &mut I,
-    output: &mut W,
-    errors: &mut E,
+    streams: &mut Streams<'_, '_, '_, I, W, E>,
 ) -> Exit
-    ensures { CarriesOut (RunOf S.FileSystem S.Reader.Source system.old system.new
-        (reading_of I.Source input.old input.new) (writing_of W.Sink output.old output.new) order.now)
-        (writing_of E.Sink errors.old errors.new) result }
+    ensures same { AreSameStreams streams.old streams.new }
+    ensures run { CarriesOut (RunOf S.FileSystem S.Reader.Source system.old system.new
+        (reading_of I.Source streams.old.input.now streams.new.input.now)
+        (writing_of W.Sink streams.old.output.now streams.new.output.now) order.now)
+        (writing_of E.Sink streams.old.errors.now streams.new.errors.now) result }
 {
-    let mut hint = None;
-    match run_order(rt, alloc, order, system, input, output, &mut hint) {
+    match run_order(rt, alloc, order, system, streams) {
         Ok(exit) => exit,
-        Err(fault) => {
-            let exit = stopped(alloc, &fault, errors);
-            tell_hint(rt, &hint);
+        Err(hinted) => {
+            let exit = stopped(alloc, &hinted.fault, streams.errors);
+            tell_hint(rt, &hinted, streams.terminal);
             exit
         }
     }
 }
 
-// Tells what was left to be told beside a fault.
-fn tell_hint<R: Eprint>(rt: &R, hint: &Option<String>) {
+// Tells what was left to be told beside a fault; of one of reading or writing, of which scripts want one line alone, on a
+// terminal.
+fn tell_hint<R: Eprint>(rt: &R, hinted: &HintedFault, terminal: bool) {
+    let HintedFault { fault, hint } = hinted;
+    if !terminal && matches!(fault, RunFault::Read(_) | RunFault::Write) {
+        return;
+    }
     if let Some(hint) = hint {
         let _ = rt.eprintln(hint);
     }

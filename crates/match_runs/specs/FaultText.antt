@@ -44,7 +44,7 @@ run_of_input (inputs.TooLong document) = TooLong document
 run_of_input inputs.Memory = Memory
 
 abbrev pub run_of_file : FileFault → RunFault
-run_of_file files.Refused = Write
+run_of_file (files.Refused why) = Write
 run_of_file files.Memory = Memory
 
 abbrev pub run_of_puzzle : PuzzleTextFault → RunFault

@@ -9,6 +9,7 @@ use Rattle.byte_streams.specs.declared.faults.InputFault.TheVariants as inputs
 use Rattle.match_runs.specs.FaultText.{run_of_input}
 use Rattle.match_runs.specs.declared.faults.RunFault.{RunFault}
 use Rattle.match_runs.specs.declared.faults.RunFault.TheVariants as runs
+use Rattle.match_runs.specs.declared.hints.HintedFault.{HintedFault}
 
 -- The fault is one of what texts say or ask, or want of memory: none of reading, and none of writing.
 abbrev pub IsOfTexts : RunFault → Type 0
@@ -31,6 +32,11 @@ Runs {T} {M} {E} from gives fails to (Err runs.Memory) = from.Stopped inputs.Mem
 Runs {T} {M} {E} from gives fails to (Err runs.Write) =
     (texts : T) × (made : M) × (ends : E) × from.Gave texts × gives texts made ends × to.Stopped made
 Runs {T} {M} {E} from gives fails to (Err fault) = (texts : T) × from.Gave texts × fails texts fault × to.Untouched
+
+-- what a run came to, whatever is told beside its fault
+abbrev pub unhinted : {E : Type 0} → Result E HintedFault → Result E RunFault
+unhinted (Ok ends) = Ok ends
+unhinted (Err hinted) = Err hinted.fault
 
 -- What is made of texts: what is given of them, or why nothing is.
 abbrev pub MadeOf : {T M E : Type 0} → (gives : T → M → E → Type 0) (fails : T → RunFault → Type 0) → T

@@ -12,15 +12,23 @@ use crate::faults::RunFault;
 use crate::questions::read_question_with;
 use crate::running::run_by;
 use crate::statuses::Status;
-use crate::watches::CheckWatch;
+use crate::watches::{CheckWatch, Watched};
 use byte_streams::{
-    Documents, JoinedSource, MadeText, OneSink, OwnedDocuments, Sink, Source, ThreeSources,
+    Documents, Inputs, JoinedSource, MadeText, OneSink, Outputs, OwnedDocuments, Sink, Source,
+    ThreeSources,
 };
 use command_words::{Forks, Workers};
 use match_crew::{Open, check_with};
 use match_report::write_answer;
 use std::alloc::Global;
 use std::thread::Threads;
+
+/// By what a list is checked.
+#[derive(Clone, Copy)]
+pub struct CheckPlan {
+    pub workers: Workers,
+    pub forks: Forks,
+}
 
 /// Reads a puzzle, a list and a certificate, each to its end and in this order, and writes the
 /// answer to them and nothing else. The answer is the same for any number of workers and of forks.
@@ -42,52 +50,43 @@ pub fn run_check<P: Source, L: Source, C: Source, W: Sink, R: Threads + Sync>(
         (reading_of C.Source certificate.old certificate.new)) CheckGives CheckFails
         (one_sink (writing_of W.Sink writer.old writer.new)) result }
 {
-    run_check_watched(
-        rt,
-        alloc,
-        puzzle,
-        list,
-        certificate,
-        workers,
-        forks,
-        &Open,
-        writer,
-    )
-}
-
-/// The same, of which the watch is told while it runs.
-pub fn run_check_watched<
-    P: Source,
-    L: Source,
-    C: Source,
-    W: Sink,
-    R: Threads + Sync,
-    G: CheckWatch + Sync,
->(
-    rt: &R,
-    alloc: Global,
-    puzzle: &mut P,
-    list: &mut L,
-    certificate: &mut C,
-    workers: Workers,
-    forks: Forks,
-    watch: &G,
-    writer: &mut W,
-) -> Result<Status, RunFault>
-    ensures { Runs (three_sources (reading_of P.Source puzzle.old puzzle.new) (reading_of L.Source list.old list.new)
-        (reading_of C.Source certificate.old certificate.new)) CheckGives CheckFails
-        (one_sink (writing_of W.Sink writer.old writer.new)) result }
-{
-    let plan = CheckPlan { workers, forks };
-    let make = |texts: &OwnedDocuments| -> Result<(MadeText, Status), RunFault>
-        ensures { MadeOf CheckGives CheckFails texts.now result }
-    { answer_of(rt, alloc, &texts.lend(), plan, watch) };
     let mut inputs = ThreeSources {
         puzzle,
         list,
         certificate,
     };
-    run_by(alloc, &mut inputs, make, &mut OneSink { sink: writer })
+    let plan = CheckPlan { workers, forks };
+    let check = Watched { plan, watch: &Open };
+    run_check_watched(
+        rt,
+        alloc,
+        &check,
+        &mut inputs,
+        &mut OneSink { sink: writer },
+    )
+}
+
+/// The same, over whatever the documents come from and the answer goes to, and the watch is told while it runs.
+pub fn run_check_watched<
+    I: Inputs<Texts = OwnedDocuments>,
+    O: Outputs<Made = MadeText>,
+    R: Threads + Sync,
+    G: CheckWatch + Sync,
+>(
+    rt: &R,
+    alloc: Global,
+    check: &Watched<'_, CheckPlan, G>,
+    inputs: &mut I,
+    outputs: &mut O,
+) -> Result<Status, RunFault>
+    ensures inputs { I.same inputs.old inputs.new }
+    ensures outputs { O.same outputs.old outputs.new }
+    ensures run { Runs (I.reads inputs.old inputs.new) CheckGives CheckFails (O.writes outputs.old outputs.new) result }
+{
+    let make = |texts: &OwnedDocuments| -> Result<(MadeText, Status), RunFault>
+        ensures { MadeOf CheckGives CheckFails texts.now result }
+    { answer_of(rt, alloc, &texts.lend(), check) };
+    run_by(alloc, inputs, make, outputs)
 }
 
 /// Reads a puzzle, a list and a certificate, joined, to the end, and writes the answer to them and nothing else. The
@@ -106,23 +105,10 @@ pub fn run_joined<S: Source, W: Sink, R: Threads + Sync>(
     ensures { Runs (joined_source (reading_of S.Source reader.old reader.new)) CheckGives CheckFails
         (one_sink (writing_of W.Sink writer.old writer.new)) result }
 {
+    let mut input = JoinedSource { input: reader };
     let plan = CheckPlan { workers, forks };
-    let make = |texts: &OwnedDocuments| -> Result<(MadeText, Status), RunFault>
-        ensures { MadeOf CheckGives CheckFails texts.now result }
-    { answer_of(rt, alloc, &texts.lend(), plan, &Open) };
-    run_by(
-        alloc,
-        &mut JoinedSource { input: reader },
-        make,
-        &mut OneSink { sink: writer },
-    )
-}
-
-// By what a list is checked.
-#[derive(Clone, Copy)]
-struct CheckPlan {
-    workers: Workers,
-    forks: Forks,
+    let check = Watched { plan, watch: &Open };
+    run_check_watched(rt, alloc, &check, &mut input, &mut OneSink { sink: writer })
 }
 
 // The line of the answer to the documents.
@@ -130,16 +116,16 @@ fn answer_of<R: Threads + Sync, G: CheckWatch + Sync>(
     rt: &R,
     alloc: Global,
     documents: &Documents<'_>,
-    plan: CheckPlan,
-    watch: &G,
+    check: &Watched<'_, CheckPlan, G>,
 ) -> Result<(MadeText, Status), RunFault>
     requires { AreShort (texts_of documents.now) }
     ensures { MadeOf CheckGives CheckFails (texts_of documents.now) result }
 {
+    let plan = check.plan;
     let workers = plan.workers.get() as u8;
     let owned = read_question_with(rt, alloc, documents, workers)?;
     let question = owned.question();
-    watch.begins(question.lemmas().len() as usize);
+    check.watch.begins(question.lemmas().len() as usize);
     let answer = check_with(
         rt,
         alloc,
@@ -148,7 +134,7 @@ fn answer_of<R: Threads + Sync, G: CheckWatch + Sync>(
         question.certificate(),
         workers,
         plan.forks.get() as u8,
-        watch,
+        check.watch,
     )?;
     let line = write_answer(alloc, &answer, question.listed().len() as u32)?;
     Ok((MadeText::new(line), Status::of_answer(&answer)))

@@ -72,7 +72,7 @@ impl From<FileFault> for RunFault {
 
     fn from(fault: FileFault) -> RunFault {
         match fault {
-            FileFault::Refused => RunFault::Write,
+            FileFault::Refused(_) => RunFault::Write,
             FileFault::Memory => RunFault::Memory,
         }
     }

@@ -25,15 +25,16 @@ pub use byte_streams::{
     write_whole,
 };
 pub use census_runs::{CensusPlan, run_census};
-pub use check_runs::{run_check, run_check_watched, run_joined};
+pub use check_runs::{CheckPlan, run_check, run_check_watched, run_joined};
 pub use description_runs::{Description, run_description};
 pub use faults::{RunFault, fault_text};
+pub use hints::HintedFault;
 pub use listed_runs::run_listed;
 pub use picture_runs::{PicturePlan, run_picture};
-pub use printing_runs::{Printing, run_expand, run_hinted, run_printing};
+pub use printing_runs::{Printing, run_expand, run_printing};
 pub use random_fold::RandomFold;
 pub use readings::read_whole;
 pub use solve_runs::{SearchPlan, run_solve, run_solve_watched};
 pub use statuses::Status;
 pub use tile_runs::run_tiles;
-pub use watches::{CheckWatch, SolveWatch};
+pub use watches::{CheckWatch, SolveWatch, Watched};

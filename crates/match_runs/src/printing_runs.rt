@@ -16,16 +16,18 @@ ghost use Rattle.byte_streams.specs.Targets.{one_sink};
 ghost use Rattle.match_runs.specs.Printing.{AreAllInOrder, CompleteFails, IsCountOf, Prints, count_text};
 ghost use Rattle.check_crew.specs.Texts.{IsListText};
 ghost use Rattle.match_runs.specs.Printing.{PrintingFails, PrintingGives};
-ghost use Rattle.match_runs.specs.Runs.{MadeOf, Runs};
+ghost use Rattle.match_runs.specs.Runs.{MadeOf, Runs, unhinted};
 
 use crate::faults::RunFault;
-use crate::hints::hint_of;
+use crate::hints::{HintedFault, hint_of};
 use crate::questions::read_question;
 use crate::random_fold::RandomFold;
 use crate::repetitions::distinct_symmetries;
 use crate::running::run_by;
 use crate::statuses::Status;
-use byte_streams::{Documents, MadeText, OneSink, OwnedDocuments, Sink, Source, ThreeSources};
+use byte_streams::{
+    Documents, Inputs, MadeText, OneSink, Outputs, OwnedDocuments, Sink, Source, ThreeSources,
+};
 use cert_check::{Answer, Fault, Open, Prepared, Question};
 use itoa::Buffer;
 use match_explain::write_explanation;
@@ -66,71 +68,60 @@ pub fn run_expand<P: Source, L: Source, C: Source, W: Sink, R: RandomSource>(
         (reading_of C.Source certificate.old certificate.new)) (PrintingGives Printing.All)
         (PrintingFails Printing.All) (one_sink (writing_of W.Sink writer.old writer.new)) result }
 {
-    run_printing(rt, alloc, puzzle, list, certificate, Printing::All, writer)
-}
-
-/// As [`run_expand`], and prints the list of all arrangements; or how many they are: a line `arrangements N`, and a line
-/// `orbits N`, how many where those that the certificate's symmetries take into each other count once; or the answer,
-/// and where it is refused, why.
-///
-/// `Expand` where over 1,000,000 are to be listed; of a count, where so many are in one orbit.
-pub fn run_printing<P: Source, L: Source, C: Source, W: Sink, R: RandomSource>(
-    rt: &R,
-    alloc: Global,
-    puzzle: &mut P,
-    list: &mut L,
-    certificate: &mut C,
-    printing: Printing,
-    writer: &mut W,
-) -> Result<Status, RunFault>
-    ensures { Runs (three_sources (reading_of P.Source puzzle.old puzzle.new) (reading_of L.Source list.old list.new)
-        (reading_of C.Source certificate.old certificate.new)) (PrintingGives printing)
-        (PrintingFails printing) (one_sink (writing_of W.Sink writer.old writer.new)) result }
-{
-    run_hinted(
-        rt,
-        alloc,
+    let mut inputs = ThreeSources {
         puzzle,
         list,
         certificate,
-        printing,
-        writer,
-        &mut None,
-    )
+    };
+    match run_printing(
+        rt,
+        alloc,
+        Printing::All,
+        &mut inputs,
+        &mut OneSink { sink: writer },
+    ) {
+        Ok(status) => Ok(status),
+        Err(hinted) => Err(hinted.fault),
+    }
 }
 
-/// The same, and where texts are to be explained and one has a fault, a hint is left of what its line has to be, if
-/// memory isn't refused to it.
-pub fn run_hinted<P: Source, L: Source, C: Source, W: Sink, R: RandomSource>(
+/// As [`run_expand`], over whatever the documents come from and the text goes to, and prints the list of all
+/// arrangements; or how many they are: a line `arrangements N`, and a line `orbits N`, how many where those that the
+/// certificate's symmetries take into each other count once; or the answer, and where it is refused, why.
+///
+/// `Expand` where over 1,000,000 are to be listed; of a count, where so many are in one orbit. Where texts are to be
+/// explained and one has a fault, a hint is given of what its line has to be, if memory isn't refused to it.
+pub fn run_printing<
+    I: Inputs<Texts = OwnedDocuments>,
+    O: Outputs<Made = MadeText>,
+    R: RandomSource,
+>(
     rt: &R,
     alloc: Global,
-    puzzle: &mut P,
-    list: &mut L,
-    certificate: &mut C,
     printing: Printing,
-    writer: &mut W,
-    hint: &mut Option<String>,
-) -> Result<Status, RunFault>
-    ensures { Runs (three_sources (reading_of P.Source puzzle.old puzzle.new) (reading_of L.Source list.old list.new)
-        (reading_of C.Source certificate.old certificate.new)) (PrintingGives printing)
-        (PrintingFails printing) (one_sink (writing_of W.Sink writer.old writer.new)) result }
+    inputs: &mut I,
+    outputs: &mut O,
+) -> Result<Status, HintedFault>
+    ensures inputs { I.same inputs.old inputs.new }
+    ensures outputs { O.same outputs.old outputs.new }
+    ensures run { Runs (I.reads inputs.old inputs.new) (PrintingGives printing) (PrintingFails printing)
+        (O.writes outputs.old outputs.new) (unhinted result) }
 {
+    let mut hint = None;
     let make = |texts: &OwnedDocuments| -> Result<(MadeText, Status), RunFault>
         ensures { MadeOf (PrintingGives printing) (PrintingFails printing) texts.now result }
     {
         let documents = texts.lend();
         let made = printing_of(rt, alloc, &documents, printing);
         if let (Printing::Explanation, Err(fault)) = (printing, &made) {
-            *hint = hint_of(alloc, &documents, fault);
+            hint = hint_of(alloc, &documents, fault);
         }
         made
     };
-    let mut inputs = ThreeSources {
-        puzzle,
-        list,
-        certificate,
-    };
-    run_by(alloc, &mut inputs, make, &mut OneSink { sink: writer })
+    match run_by(alloc, inputs, make, outputs) {
+        Ok(status) => Ok(status),
+        Err(fault) => Err(HintedFault { fault, hint }),
+    }
 }
 
 // What is printed of the documents.

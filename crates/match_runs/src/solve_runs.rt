@@ -13,7 +13,7 @@ ghost use Rattle.match_runs.specs.Solving.{SolveFails, SolveGives, first_board, 
 
 use crate::faults::RunFault;
 use crate::running::run_by;
-use crate::watches::SolveWatch;
+use crate::watches::{SolveWatch, Watched};
 use byte_streams::{
     Document, Inputs, MadeText, OneSource, Outputs, Products, Sink, Source, Text, ThreeSinks,
 };
@@ -62,44 +62,6 @@ pub fn run_solve<R: Threads + Wait + Sync, P: Source, L: Sink, C: Sink, W: Sink>
         SolveFails (three_sinks (writing_of L.Sink list.old list.new)
         (writing_of C.Sink certificate.old certificate.new) (writing_of W.Sink writer.old writer.new)) result }
 {
-    run_solve_watched(
-        rt,
-        alloc,
-        puzzle,
-        SearchPlan {
-            depth,
-            fuel,
-            workers,
-        },
-        &Unwatched,
-        list,
-        certificate,
-        writer,
-    )
-}
-
-/// The same, of which the watch is told while it runs.
-pub fn run_solve_watched<
-    R: Threads + Wait + Sync,
-    P: Source,
-    L: Sink,
-    C: Sink,
-    W: Sink,
-    T: SolveWatch + Sync,
->(
-    rt: &R,
-    alloc: Global,
-    puzzle: &mut P,
-    search: SearchPlan,
-    watch: &T,
-    list: &mut L,
-    certificate: &mut C,
-    writer: &mut W,
-) -> Result<(), RunFault>
-    ensures { Runs (one_source documents.Puzzle (reading_of P.Source puzzle.old puzzle.new)) (SolveGives search.workers)
-        SolveFails (three_sinks (writing_of L.Sink list.old list.new)
-        (writing_of C.Sink certificate.old certificate.new) (writing_of W.Sink writer.old writer.new)) result }
-{
     let mut inputs = OneSource {
         source: puzzle,
         document: Document::Puzzle,
@@ -109,11 +71,20 @@ pub fn run_solve_watched<
         certificate,
         report: writer,
     };
-    solve_over(rt, alloc, search, watch, &mut inputs, &mut outputs)
+    let plan = SearchPlan {
+        depth,
+        fuel,
+        workers,
+    };
+    let search = Watched {
+        plan,
+        watch: &Unwatched,
+    };
+    run_solve_watched(rt, alloc, &search, &mut inputs, &mut outputs)
 }
 
-// The same, over whatever the puzzle comes from and the texts go to.
-fn solve_over<
+/// The same, over whatever the puzzle comes from and the texts go to, and the watch is told while it runs.
+pub fn run_solve_watched<
     R: Threads + Wait + Sync,
     T: SolveWatch + Sync,
     I: Inputs<Texts = Text>,
@@ -121,19 +92,18 @@ fn solve_over<
 >(
     rt: &R,
     alloc: Global,
-    search: SearchPlan,
-    watch: &T,
+    search: &Watched<'_, SearchPlan, T>,
     inputs: &mut I,
     outputs: &mut O,
 ) -> Result<(), RunFault>
     ensures inputs { I.same inputs.old inputs.new }
     ensures outputs { O.same outputs.old outputs.new }
-    ensures run { Runs (I.reads inputs.old inputs.new) (SolveGives search.workers) SolveFails
+    ensures run { Runs (I.reads inputs.old inputs.new) (SolveGives search.now.plan.workers) SolveFails
         (O.writes outputs.old outputs.new) result }
 {
     let make = |text: &Text| -> Result<(Products, ()), RunFault>
-        ensures { MadeOf (SolveGives search.workers) SolveFails text.now result }
-    { make_products(rt, alloc, text, search, watch) };
+        ensures { MadeOf (SolveGives search.entry.now.plan.workers) SolveFails text.now result }
+    { make_products(rt, alloc, text, search) };
     run_by(alloc, inputs, make, outputs)
 }
 
@@ -142,11 +112,11 @@ fn make_products<R: Threads + Wait + Sync, T: SolveWatch + Sync>(
     rt: &R,
     alloc: Global,
     text: &Text,
-    search: SearchPlan,
-    watch: &T,
+    search: &Watched<'_, SearchPlan, T>,
 ) -> Result<(Products, ()), RunFault>
-    ensures { MadeOf (SolveGives search.workers) SolveFails text.now result }
+    ensures { MadeOf (SolveGives search.now.plan.workers) SolveFails text.now result }
 {
+    let plan = search.plan;
     let puzzle = read_puzzle(alloc, text.bytes())?;
     let Solved {
         list: listed,
@@ -156,15 +126,15 @@ fn make_products<R: Threads + Wait + Sync, T: SolveWatch + Sync>(
         rt,
         alloc,
         &puzzle,
-        search.depth.get() as u8,
-        search.fuel.get(),
-        search.workers.get() as u8,
-        watch,
+        plan.depth.get() as u8,
+        plan.fuel.get(),
+        plan.workers.get() as u8,
+        search.watch,
     )?;
     let shares = shares(alloc, tally)?;
-    let texts = write_texts_with(rt, alloc, &listed, &certificate, search.workers.get() as u8)?;
+    let texts = write_texts_with(rt, alloc, &listed, &certificate, plan.workers.get() as u8)?;
     let report = report_on(alloc, &puzzle, &listed, &certificate, &shares)?;
-    watch.made(texts.list.len(), texts.certificate.len());
+    search.watch.made(texts.list.len(), texts.certificate.len());
     let made = Products {
         list: MadeText::new(texts.list),
         certificate: MadeText::new(texts.certificate),

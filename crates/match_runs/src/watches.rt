@@ -3,6 +3,13 @@
 use check_crew::{Gate, Open};
 use match_crew::{Unwatched, Watch};
 
+/// What is to be done, and who is told of it while it runs.
+#[derive(Drop)]
+pub struct Watched<'a, P, W> {
+    pub plan: P,
+    pub watch: &'a W,
+}
+
 /// Told of a check while it runs. No answer depends on it.
 pub trait CheckWatch: Gate {
     /// A certificate of so many lemmas was read.

@@ -3,7 +3,7 @@
 ghost use Rattle.std.specs.Prelude.{◌≡◌};
 ghost use Rattle.run_tests.specs.HeldFiles.{held_by};
 
-use byte_streams::{Fake, FileFault};
+use byte_streams::{Fake, FileFault, Refusal};
 use match_runs::{Failed, FileSystem};
 use std::alloc::{AllocError, Global};
 
@@ -43,7 +43,7 @@ impl<'a> FileSystem for HeldFiles<'a> {
 
     ghost does = { λ _ _ _. Unit {0} };
 
-    fn open(&self, name: &str) -> Result<Fake<'a>, Failed> {
+    fn open(&self, name: &str) -> Result<Fake<'a>, Refusal> {
         Ok(Fake::new(self.alloc, self.held(name), 7, usize::MAX))
     }
 
@@ -56,6 +56,14 @@ impl<'a> FileSystem for HeldFiles<'a> {
     }
 
     fn remove(&mut self, _file: Fake<'a>, _name: &str) {}
+
+    fn refusal_of(&self, _file: &Fake<'a>) -> Option<Refusal> {
+        None
+    }
+
+    fn refusal_at(&self, _alloc: Global, _name: &str) -> Option<Refusal> {
+        None
+    }
 
     fn may_lead_to_one(
         &self,

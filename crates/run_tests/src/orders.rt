@@ -9,7 +9,7 @@ use crate::outcomes::with_memory;
 use byte_streams::Fake;
 use command_words::{Files, Forks, Order, Workers};
 use match_crew::SolveFault;
-use match_program::{Exit, run_order};
+use match_program::{Exit, HintedFault, Streams, run_order};
 use match_runs::RunFault;
 use std::alloc::Global;
 use std::random::RandomSource;
@@ -29,7 +29,7 @@ fn exit_of<R: Threads + Wait + Sync + RandomSource + Clock + Eprint>(
     puzzle: &[u8],
     list: &[u8],
     certificate: &[u8],
-) -> Result<Exit, RunFault>
+) -> Result<Exit, HintedFault>
     ensures { IfOk result (λ exit. exit ≡ Exit.Done → SpellCompleteList (record {
       puzzle = puzzle.now;
       list = list.now;
@@ -57,23 +57,30 @@ fn exit_of<R: Threads + Wait + Sync + RandomSource + Clock + Eprint>(
     };
     let mut input = Fake::new(alloc, b"", 7, usize::MAX);
     let mut output = Fake::new(alloc, b"", 5, usize::MAX);
-    let exit = run_order(
-        rt,
-        alloc,
-        &order,
-        &mut system,
-        &mut input,
-        &mut output,
-        &mut None,
-    )?;
+    let mut errors = Fake::new(alloc, b"", 5, usize::MAX);
+    let mut streams = Streams {
+        input: &mut input,
+        output: &mut output,
+        errors: &mut errors,
+        terminal: false,
+    };
+    let exit = run_order(rt, alloc, &order, &mut system, &mut streams)?;
     Ok(exit)
+}
+
+// The same, without what is told beside a fault.
+fn without_hint(ended: Result<Exit, HintedFault>) -> Result<Exit, RunFault> {
+    match ended {
+        Ok(exit) => Ok(exit),
+        Err(HintedFault { fault, hint: _ }) => Err(fault),
+    }
 }
 
 #[test]
 fn a_check_that_is_done_is_of_a_complete_list(rt: HostRuntime) -> Result<(), Fail> {
     for (certificate, exit) in [(TWINS.certificate, Exit::Done), (DEAD_TWINS, Exit::Refused)] {
         let ended = exit_of(&rt, rt.alloc(), TWINS.puzzle, TWINS.list, certificate);
-        assert!(rt; with_memory(ended)? == Ok(exit));
+        assert!(rt; with_memory(without_hint(ended))? == Ok(exit));
     }
     for (fault, code) in [
         (RunFault::Tiles, 2),

@@ -1,6 +1,6 @@
 //! What the system gives: files, limits and random bytes.
 
-use match_program::{SystemLimits, open};
+use match_program::{HintedFault, SystemLimits, open};
 use match_runs::{Document, RandomFold, RunFault, System, read_whole};
 use std::hash::BuildHasher;
 use std::io;
@@ -9,12 +9,16 @@ use std::test::Fail;
 
 #[test]
 fn opens_a_file_or_names_its_document(rt: HostRuntime) -> Result<(), Fail> {
-    let Ok(mut empty) = open(&System::new(&rt), "/dev/null", Document::Puzzle) else {
+    let system = System::new(&rt);
+    let Ok(mut empty) = open(rt.alloc(), &system, "/dev/null", Document::Puzzle) else {
         return Err(Fail::from("it was not opened"));
     };
     assert!(rt; read_whole(rt.alloc(), &mut empty, 10, Document::Puzzle)?.is_empty());
-    let fault = open(&System::new(&rt), "no/such/file", Document::List).err();
-    assert!(rt; fault == Some(RunFault::Read(Document::List)));
+    let refused = open(rt.alloc(), &system, "no/such/file", Document::List);
+    let Err(HintedFault { fault, hint: _ }) = refused else {
+        return Err(Fail::from("it was opened"));
+    };
+    assert!(rt; fault == RunFault::Read(Document::List));
     Ok(())
 }
 

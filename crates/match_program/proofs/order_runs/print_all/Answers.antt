@@ -1,33 +1,37 @@
-use Rattle.std.proofs.Common.{Ok, Err}
+use Rattle.std.proofs.Common.{◌≡◌, Ok, Err, rules, subst, sym}
 use Rattle.std.proofs.lemmas.Result.{err_from_is_err_and}
 use Rattle.byte_streams.specs.Moves.{writing_of}
-use Rattle.match_program.specs.FileOrigins.{AllOpened}
+use Rattle.match_program.specs.FileOrigins.{AllOpened, three_files}
 use Rattle.match_runs.specs.Printing.{PrintingFails, PrintingGives}
+use Rattle.match_program.specs.OrderRuns.{PrintingOf}
 use Rattle.match_program.proofs.OrderLemmas.{over_three, printing_complete}
-use Rattle.match_program.proofs.order_runs.print_all.Goals.{After-run_hinted}
+use Rattle.match_program.proofs.order_runs.print_all.Goals.{After-run_printing}
 use Rattle.match_program.proofs.order_runs.print_all.Goals as goal
 
 -- the three readers
-abbrev readers : (g : _) (c : After-run_hinted g) → AllOpened g.S.FileSystem g.S.Reader.Source c.args.system.now c.args.files.now
+abbrev readers : (g : _) (c : After-run_printing g) → AllOpened g.S.FileSystem g.S.Reader.Source c.args.system.now c.args.order.now.files.now
 readers g c =
-    let first = c.in_ok-opened.opened in
+    let first = c.sources in
     let opened = c.in_ok-opened.ensures in
-    let new = c.run_hinted.new in
+    let new = c.run_printing.new.inputs in
     record {
-      puzzle = record { opened = first.puzzle; later = new.puzzle; is_opened = opened.puzzle };
-      list = record { opened = first.list; later = new.list; is_opened = opened.list };
-      certificate = record { opened = first.certificate; later = new.certificate; is_opened = opened.certificate };
+      puzzle = record { opened = first.result.puzzle.now; later = new.puzzle.now; is_opened = rw first.ensures.puzzle opened.puzzle };
+      list = record { opened = first.result.list.now; later = new.list.now; is_opened = rw first.ensures.list opened.list };
+      certificate = record { opened = first.result.certificate.now; later = new.certificate.now; is_opened = rw first.ensures.certificate opened.certificate };
     }
 
 pub returns-in_err-status : goal.returns-in_err-status
 returns-in_err-status g c =
     let w = err_from_is_err_and c.from_residual-in_err-status.result c.from_residual-in_err-status.ensures.1 in
-    let all = readers g ((goal.at.returns-in_err-status g c).After-run_hinted) in
-    rw (w.1, w.2) (over_three (writing_of g.W.Sink c.args.output.now c.run_hinted.new.writer) (PrintingGives c.args.printing) (PrintingFails c.args.printing) (printing_complete c.args.printing) g.S.FileSystem g.S.Reader.Source c.args.system.now c.args.files.now all
-    (Err c.in_err-status.field-0.0) c.in_err-status.ensures)
+    let all = readers g ((goal.at.returns-in_err-status g c).After-run_printing) in
+    let left : c.output-1.given.0 ≡ c.run_printing.new.outputs.sink.now = search rules in
+    rw (w.1, w.2) (subst (λ o. PrintingOf c.args.order.now.printing (three_files g.S.FileSystem g.S.Reader.Source c.args.system.now c.args.order.now.files.now) (writing_of g.W.Sink c.args.output.now o) (Err c.in_err-status.field-0.0.fault)) (sym left)
+    (over_three (writing_of g.W.Sink c.args.output.now c.run_printing.new.outputs.sink.now) (PrintingGives c.args.order.now.printing) (PrintingFails c.args.order.now.printing) (printing_complete c.args.order.now.printing) g.S.FileSystem g.S.Reader.Source c.args.system.now c.args.order.now.files.now all
+    (Err c.in_err-status.field-0.0.fault) c.in_err-status.ensures.run))
 
 pub returns : goal.returns
 returns g c =
-    let all = readers g ((goal.at.returns g c).After-run_hinted) in
-    rw c.of_status.ensures (over_three (writing_of g.W.Sink c.args.output.now c.run_hinted.new.writer) (PrintingGives c.args.printing) (PrintingFails c.args.printing) (printing_complete c.args.printing) g.S.FileSystem g.S.Reader.Source c.args.system.now c.args.files.now all
-    (Ok c.in_ok-status.status) c.in_ok-status.ensures)
+    let all = readers g ((goal.at.returns g c).After-run_printing) in
+    let left : c.output-1.given.0 ≡ c.run_printing.new.outputs.sink.now = search rules in
+    rw (left, c.of_status.ensures) (over_three (writing_of g.W.Sink c.args.output.now c.run_printing.new.outputs.sink.now) (PrintingGives c.args.order.now.printing) (PrintingFails c.args.order.now.printing) (printing_complete c.args.order.now.printing) g.S.FileSystem g.S.Reader.Source c.args.system.now c.args.order.now.files.now all
+    (Ok c.in_ok-status.status) c.in_ok-status.ensures.run)

@@ -5,13 +5,13 @@ use Rattle.match_program.specs.OrderRuns.{RunOf}
 use Rattle.match_program.proofs.WordLemmas.{refused}
 use Rattle.match_program.proofs.word_runs.run_words.Goals as goal
 
-pub returns-in-Ok : goal.returns-in-Ok
-returns-in-Ok g c = inl (c.in-Ok.order, c.in-Ok.ensures.order, c.carry_out.ensures)
+pub returns-in-Ok-clause-run : goal.returns-in-Ok-clause-run
+returns-in-Ok-clause-run g c = inl (c.in-Ok.order, c.in-Ok.ensures.order, c.carry_out.ensures.run)
 
-pub returns-in-Err : goal.returns-in-Err
-returns-in-Err g c =
-    let output = writing_of g.W.Sink c.args.output.now c.refuse.new.output in
-    let errors = writing_of g.E.Sink c.args.errors.now c.refuse.new.errors in
-    refused (map string_bytes c.args.words.now) (RunOf g.S.FileSystem g.S.Reader.Source c.args.system.now c.args.system.now (reading_of g.I.Source c.args.input.now c.args.input.now) output)
+pub returns-in-Err-clause-run : goal.returns-in-Err-clause-run
+returns-in-Err-clause-run g c =
+    let output = writing_of g.W.Sink c.args.streams.now.output.now c.refuse.new.output in
+    let errors = writing_of g.E.Sink c.args.streams.now.errors.now c.refuse.new.errors in
+    refused (map string_bytes c.args.words.now) (RunOf g.S.FileSystem g.S.Reader.Source c.args.system.now c.args.system.now (reading_of g.I.Source c.args.streams.now.input.now c.args.streams.now.input.now) output)
     (c.args.system.now ≡ c.args.system.now) refl output errors c.refuse.result
     c.in-Err.fault c.in-Err.ensures.refused c.refuse.ensures.memory c.refuse.ensures.words
