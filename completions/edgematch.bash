@@ -12,7 +12,7 @@ _edgematch() {
     case $command in
       check) words="--workers --forks --progress --help" ;;
       solve) words="--depth --fuel --workers --keep --progress --help" ;;
-      count) words="--workers --most --part --help" ;;
+      count) words="--workers --most --part --progress --help" ;;
       draw) words="--first --numbers --help" ;;
       explain | expand | show | symmetries | tiles) words="--help" ;;
       help) words="check explain solve expand count show draw symmetries tiles help" ;;

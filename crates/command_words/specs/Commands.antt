@@ -87,6 +87,7 @@ count_app =
     ∷ optional_number (codes "workers") 1 MOST_WORKERS (codes "1")
     ∷ optional_bound (codes "most")
     ∷ optional_text (codes "part")
+    ∷ flag (codes "progress")
     ∷ [])
 
 abbrev pub show_app : App

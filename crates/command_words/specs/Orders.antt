@@ -81,10 +81,10 @@ IsOrderOf (Some (name, rows)) (Solve files depth fuel workers keep progress) =
 IsOrderOf (Some (name, rows)) (Expand files) = (name ≡ codes "expand") × NameFiles rows files
 IsOrderOf (Some (name, rows)) (Count files) =
     (name ≡ codes "count") × NameFiles rows files × IsExtent rows extents.All
-IsOrderOf (Some (name, rows)) (Census puzzle extent workers) =
+IsOrderOf (Some (name, rows)) (Census puzzle extent workers progress) =
     (name ≡ codes "count") × (first_of (codes "PUZZLE") rows ≡ Some (string_bytes puzzle))
     × (first_of (codes "LIST") rows ≡ None) × (first_of (codes "CERTIFICATE") rows ≡ None) × IsExtent rows extent
-    × (number_of (codes "workers") rows ≡ Some workers)
+    × (number_of (codes "workers") rows ≡ Some workers) × IsFlagged (codes "progress") rows progress
 IsOrderOf (Some (name, rows)) (Show puzzle listed) =
     (name ≡ codes "show") × (first_of (codes "PUZZLE") rows ≡ Some (string_bytes puzzle)) × IsListed rows listed
 IsOrderOf (Some (name, rows)) (Draw puzzle listed first numbers) =

@@ -123,6 +123,9 @@ With --part K/N it counts in part K of N of the search, and prints two lines: sp
 subtrees into which the search was split and a hash of them all, and part K/N arrangements M. Where all N \
 parts print the same line split, their numbers add up to how many arrangements the puzzle has.
 
+With --progress a search says meanwhile how many of the subtrees are done, how many arrangements they have, \
+and about how long the others will take.
+
 Exit status:
   0  the arrangements are counted, or there are more than M
   1  the certificate does not show that the list is complete
@@ -414,6 +417,7 @@ pub(crate) fn count<'a>(alloc: Global) -> Result<Command<'a>, AllocError>
         "K/N",
         "Counts in part K of N of the search, 1/N to N/N, of 1000000 parts at most",
     );
+    let progress = progress(alloc);
     let command = of_puzzle(
         alloc,
         "count",
@@ -424,7 +428,8 @@ pub(crate) fn count<'a>(alloc: Global) -> Result<Command<'a>, AllocError>
     .arg(certificate)?
     .arg(workers)?
     .arg(most)?
-    .arg(part)?;
+    .arg(part)?
+    .arg(progress)?;
     Ok(command)
 }
 

@@ -70,6 +70,7 @@ pub enum Order {
         puzzle: String,
         extent: Extent,
         workers: Workers,
+        progress: bool,
     },
     /// To draw the board of the puzzle in its file, or the arrangement that is listed.
     Show {

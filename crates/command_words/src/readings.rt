@@ -176,6 +176,7 @@ fn long_number(text: &str) -> u64
 fn count(alloc: Global, matches: &ArgMatches<'_>) -> Result<Order, WordsFault>
     requires puzzle { HasText (codes "PUZZLE") (rows_of (found_of matches.now)) }
     requires workers { HasNumber (codes "workers") 1 64 (rows_of (found_of matches.now)) }
+    requires progress { HasFlag (codes "progress") (rows_of (found_of matches.now)) }
     requires most { MayHaveNumber (codes "most") 0 18446744073709551615 (rows_of (found_of matches.now)) }
     ensures order { IfOk result (IsOrderOf (Some (codes "count", rows_of (found_of matches.now)))) }
     ensures refused { IfErr result (IsMisfit (Some (codes "count", rows_of (found_of matches.now)))) }
@@ -196,6 +197,7 @@ fn count(alloc: Global, matches: &ArgMatches<'_>) -> Result<Order, WordsFault>
 fn census(alloc: Global, matches: &ArgMatches<'_>, extent: Extent) -> Result<Order, WordsFault>
     requires puzzle { HasText (codes "PUZZLE") (rows_of (found_of matches.now)) }
     requires workers { HasNumber (codes "workers") 1 64 (rows_of (found_of matches.now)) }
+    requires progress { HasFlag (codes "progress") (rows_of (found_of matches.now)) }
     requires alone { first_of (codes "LIST") (rows_of (found_of matches.now)) ≡ None }
     requires extent { IsExtent (rows_of (found_of matches.now)) extent }
     ensures order { IfOk result (IsOrderOf (Some (codes "count", rows_of (found_of matches.now)))) }
@@ -210,6 +212,7 @@ fn census(alloc: Global, matches: &ArgMatches<'_>, extent: Extent) -> Result<Ord
         puzzle,
         extent,
         workers,
+        progress: flag(matches, "progress"),
     })
 }
 

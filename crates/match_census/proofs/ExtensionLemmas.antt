@@ -95,7 +95,7 @@ module _ (s : Selection) (right : IsSelection s.compiled s.chosen) where
 
   module _ (item : ℕ) (uncovered : IsUncovered (cover_of s.compiled) s.chosen item) where
     -- an arrangement has one of the item's open options
-    has_open : (a : List Placement) → IsFoundFrom s a → (option : ℕ) × IsOpenAt (cover_of s.compiled) s.chosen item option × IsFoundFrom (with_option s option) a
+    pub has_open : (a : List Placement) → IsFoundFrom s a → (option : ℕ) × IsOpenAt (cover_of s.compiled) s.chosen item option × IsFoundFrom (with_option s option) a
     has_open a f =
         let solution = f.is_solution.solution in
         let by = solution.covered item uncovered.primary in (
@@ -120,7 +120,7 @@ module _ (s : Selection) (right : IsSelection s.compiled s.chosen) where
             clash
 
     -- and no other
-    has_one : (option other : ℕ) → HasPrimary (cover_of s.compiled) option item → HasPrimary (cover_of s.compiled) other item → (a : List Placement) → IsFoundFrom (with_option s option) a → IsFoundFrom (with_option s other) a → option ≡ other
+    pub has_one : (option other : ℕ) → HasPrimary (cover_of s.compiled) option item → HasPrimary (cover_of s.compiled) other item → (a : List Placement) → IsFoundFrom (with_option s option) a → IsFoundFrom (with_option s other) a → option ≡ other
     has_one option other at at' a f f' =
         let solution = f.is_solution.solution in
         let same = (are_one_to_one s.compiled right.compiled).one_solution a f.solution f'.solution solution f'.is_solution.solution f.is_solution.filled f'.is_solution.filled in
@@ -132,11 +132,11 @@ module _ (s : Selection) (right : IsSelection s.compiled s.chosen) where
     none_before (Some first) h = no_such (IsFoundBefore s item (Some first)) (λ a w. let le = h.first w.0 w.2 tt in let lt = w.1 in omega (arith, le, lt))
 
     module _ (option : ℕ) (is_open : IsOpenAt (cover_of s.compiled) s.chosen item option) where
-      apart : (a : List Placement) → IsFoundBefore s item (Some option) a → IsFoundFrom (with_option s option) a → ⊥
+      pub apart : (a : List Placement) → IsFoundBefore s item (Some option) a → IsFoundFrom (with_option s option) a → ⊥
       apart a w f = let lt = w.1 in let same = has_one w.0 option w.2.at is_open.at a w.3 f in omega (arith, lt, same)
 
       -- the one, what comes before it, and nothing else come before the next one
-      before_next : (next : Option ℕ) → IsNextOrLast s item (Some option) next → (option < bound_of (length (cover_of s.compiled).options) next) × ((other : ℕ) → IsOpenAt (cover_of s.compiled) s.chosen item other → other < bound_of (length (cover_of s.compiled).options) next → other ≤ option)
+      pub before_next : (next : Option ℕ) → IsNextOrLast s item (Some option) next → (option < bound_of (length (cover_of s.compiled).options) next) × ((other : ℕ) → IsOpenAt (cover_of s.compiled) s.chosen item other → other < bound_of (length (cover_of s.compiled).options) next → other ≤ option)
       before_next None h = (is_open.open_option.real, λ other other_open lt. ⊎_elim (λ after. absurd (h other other_open after)) (λ le. le) (lt_or_le option other))
       before_next (Some later) h = (h.after_it, λ other other_open lt. ⊎_elim (λ after. let le = h.first other other_open after in absurd (omega (arith, lt, le))) (λ le. le) (lt_or_le option other))
 

@@ -4,7 +4,12 @@ pub mod OneNumberLemmas
 pub mod BranchLemmas
 pub mod PickingLemmas
 pub mod TotalLemmas
+pub mod SpreadLemmas
 pub mod PartLemmas
 pub mod ChunkLemmas
 pub mod CarryingLemmas
+pub mod DecidingLemmas
+pub mod ExistenceLemmas
+pub mod ExchangeLemmas
+pub mod LookLemmas
 pub mod ChildLemmas

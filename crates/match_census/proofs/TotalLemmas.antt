@@ -1,16 +1,19 @@
 -- A total that grows branch by branch, and totals of parts.
-use Rattle.std.proofs.Common.{◌≡◌, ◌<◌, ◌≤◌, ◌+◌, ◌-◌, ◌*◌, ◌/◌, ◌++◌, ◌∷◌, [], ℕ, suc, List, Some, length, length-append, slice_get, get_or, take, drop, sum, arith, refl, ap, sym, ◌∙◌, subst, ⊎_elim}
+use Rattle.std.proofs.Common.{◌≡◌, ◌<◌, ◌≤◌, ◌+◌, ◌-◌, ◌*◌, ◌/◌, ◌++◌, ◌∷◌, [], ℕ, suc, List, Option, None, Some, MatchOption, length, length-append, slice_get, get_or, take, drop, sum, arith, refl, ap, sym, ◌∙◌, subst, ⊎_elim}
 use Rattle.std.proofs.Math.Nat.{mul_comm, mul-add, mul-le-mul_left, lt-div-mul-add, div-mul-le_self}
 use Rattle.std.proofs.Math.Seq.{drop-cons}
 use Rattle.std.proofs.lemmas.List.{take-append-drop}
 use Rattle.std.proofs.lemmas.List.Sums.{sum_by-cons, sum_by-append}
+use Rattle.std.proofs.lemmas.List.Elements.{Contains-append_right}
 use Rattle.match_board.proofs.ListLemmas.{taken_more}
+use Rattle.match_puzzle.specs.Arrangement.{IsArrangement, HasArrangements}
 use Rattle.match_puzzle.proofs.PlacedPairLemmas.{pushed_at}
 use Rattle.xcc_form.specs.Options.{Compiled}
 use Rattle.xcc_dance.specs.Found.{IsFoundFrom}
 use Rattle.match_census.specs.Numbers.{AreMoreThan, HasExtensions}
-use Rattle.match_census.specs.Branches.{WeightedBranch, selection_of, HaveTogether, HaveMoreTogether, every}
+use Rattle.match_census.specs.Branches.{WeightedBranch, selection_of, HaveTogether, HaveMoreTogether, IsSplit, AreSelections, every}
 use Rattle.match_census.proofs.BranchLemmas.{together_join, together_cut}
+use Rattle.match_census.proofs.ExistenceLemmas.{some_number}
 use Rattle.match_census.proofs.OneNumberLemmas.{more_are_fewer, one_together}
 
 -- a multiple of a number that is below a quotient is below the dividend
@@ -22,7 +25,7 @@ within_share left weight count le =
     omega (arith, some, all, turned)
 
 -- and of one past the quotient past it
-past_share : (left weight count : ℕ) → 1 ≤ weight → left / weight < count → left < weight * count
+pub past_share : (left weight count : ℕ) → 1 ≤ weight → left / weight < count → left < weight * count
 past_share left weight count some lt =
     let next : left / weight + 1 ≤ count = omega (arith, lt) in
     let past = lt-div-mul-add {a = left} {b = weight} (omega (arith, some)) in
@@ -64,6 +67,26 @@ pub more_than_share : (x : Compiled) (branches : List WeightedBranch) (i : ℕ) 
 more_than_share x branches i b weight total most lt is weighs some old le more all t =
     more_by_one x (take i branches) (drop (suc i) branches) b total most old le (subst (λ w. 1 ≤ w) weighs some) (subst (λ w. AreMoreThan ((most - total) / w) (IsFoundFrom (selection_of x b))) weighs more) all
     (subst (λ these. HaveTogether x these all) (cut_at x branches i b lt is) t)
+
+-- ---- numbers that there are
+
+-- Branches have a number together.
+pub some_together : (x : Compiled) (branches : List WeightedBranch) → AreSelections x branches → (total : ℕ) × HaveTogether x branches total
+some_together x [] are = (0, refl)
+some_together x (b ∷ branches) are =
+    let count = some_number (selection_of x b) (are b (0, omega arith, refl)) in
+    let rest = some_together x branches (λ c within. are c (Contains-append_right (b ∷ []) branches c within)) in
+    (b.weight * count.0 + rest.0, (count.0, rest.0, count.1, rest.1, refl))
+
+-- of a split it is told of all arrangements what is told of the branches
+pub told_of_split : (x : Compiled) (branches : List WeightedBranch) (most : ℕ) (said : Option ℕ) → IsSplit x branches → AreSelections x branches → MatchOption said (HaveMoreTogether x branches most) (HaveTogether x branches)
+    → MatchOption said (AreMoreThan most (IsArrangement x.puzzle)) (HasArrangements x.puzzle)
+told_of_split x branches most None split are more =
+    let total = some_together x branches are in
+    let all = split total.0 total.1 in
+    let past = more total.0 total.1 in
+    record { found = all.all; once = all.once; more = let e = all.counted in omega (arith, past, e); each = λ a c. (all.just a).0 c }
+told_of_split x branches most (Some total) split are have = split total have
 
 -- ---- parts
 

@@ -2,4 +2,5 @@ pub mod Numbers
 pub mod Branches
 pub mod Symmetries
 pub mod Children
+pub mod Looks
 pub mod Hash

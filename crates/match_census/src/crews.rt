@@ -4,9 +4,13 @@ ghost use Rattle.std.specs.Prelude.{◌<◌, ◌≤◌, ◌*◌, ℕ, Option, If
 ghost use Rattle.std.specs.Fork.{slice_chunk};
 ghost use Rattle.match_board.specs.declared.limits.TheConstants.{MOST_LEMMAS, MOST_WORKERS};
 ghost use Rattle.match_census.specs.Branches.{AreSelections, IsTotal};
+ghost use Rattle.match_census.specs.Looks.{AreLooks};
 
 use crate::branches::Branch;
+use crate::looks::looks_of;
+use crate::spreads::spread;
 use crate::totals::count_branches;
+use crate::watches::CensusWatch;
 use std::alloc::{AllocError, Global};
 use std::thread::Threads;
 use steal_crew::{Work, run_crew};
@@ -20,31 +24,50 @@ const JOBS_FOR_EACH: usize = 64;
 // two.
 const MOST_IN_JOB: usize = 64;
 
-// Branches, so many for each job but perhaps the last.
+/// Branches of a search, as they are to be counted, and who is told meanwhile.
 #[derive(Drop)]
-struct Chunks<'a> {
+pub struct Count<'a, 'w, W: CensusWatch> {
+    pub xcc: &'a Xcc<'a>,
+    pub branches: Vec<Branch>,
+    pub watch: &'w W,
+}
+
+// What each worker has.
+#[derive(Drop)]
+struct Means<'a, 'l, 'w, W: CensusWatch> {
     alloc: Global,
     xcc: &'a Xcc<'a>,
-    branches: &'a [Branch],
+    looks: &'l [Option<u32>],
+    watch: &'w W,
+}
+
+// Branches, so many for each job but perhaps the last.
+#[derive(Drop)]
+struct Chunks<'a, 'l, 'w, 'b, W: CensusWatch> {
+    means: Means<'a, 'l, 'w, W>,
+    branches: &'b [Branch],
     size: usize,
 }
 
-impl<'a> Work for Chunks<'a> {
+impl<'a, 'l, 'w, 'b, W: CensusWatch> Work for Chunks<'a, 'l, 'w, 'b, W> {
     type R = Option<u64>;
 
     ghost use Rattle.std.specs.Prelude.{◌<◌, ◌*◌, length};
     ghost use Rattle.std.specs.Fork.{slice_chunk};
     ghost use Rattle.match_census.specs.Branches.{AreSelections, IsTotal};
+    ghost use Rattle.match_census.specs.Looks.{AreLooks};
 
-    ghost accepts = { λ w n. (n * w.size < length w.branches.now) × AreSelections w.xcc.now w.branches.now };
+    ghost accepts = { λ w n. (n * w.size < length w.branches.now) × AreSelections w.means.xcc.now w.branches.now
+        × AreLooks w.means.xcc.now w.means.looks.now };
 
-    ghost gives = { λ w n r. IsTotal w.xcc.now (slice_chunk w.branches.now w.size n) r };
+    ghost gives = { λ w n r. IsTotal w.means.xcc.now (slice_chunk w.branches.now w.size n) r };
 
     fn one(&self, number: u32) -> Result<Option<u64>, AllocError> {
         let rest = &self.branches[number as usize * self.size..];
         let chunk = &rest[..self.size.min(rest.len())];
-        let mut engine = OpenSets::new(self.alloc, self.xcc)?;
-        count_branches(&mut engine, chunk, u64::MAX)
+        let means = &self.means;
+        let mut engine = OpenSets::new(means.alloc, means.xcc)?;
+        count_branches(&mut engine, means.looks, means.watch, chunk, u64::MAX)
     }
 }
 
@@ -52,24 +75,53 @@ impl<'a> Work for Chunks<'a> {
 /// number doesn't change it. `None` where they have 2^64 or more.
 ///
 /// It joins threads, one for each worker but the caller. An error where memory is refused, to any of the workers.
-pub fn count_with_crew<R: Threads + Sync>(
+pub fn count_with_crew<R: Threads + Sync, W: CensusWatch + Sync>(
     rt: &R,
     alloc: Global,
-    xcc: &Xcc<'_>,
+    count: Count<'_, '_, W>,
+    workers: u8,
+) -> Result<Option<u64>, AllocError>
+    requires selections { AreSelections count.xcc.now count.branches.items }
+    requires few { length count.branches.items ≤ MOST_LEMMAS }
+    requires workers { (1 ≤ workers) × (workers ≤ MOST_WORKERS) }
+    ensures { IfOk result (IsTotal count.entry.xcc.now count.entry.branches.items) }
+{
+    let Count {
+        xcc,
+        branches,
+        watch,
+    } = count;
+    let looks = looks_of(alloc, xcc)?;
+    let spread = spread(alloc, branches)?;
+    watch.begins(spread.len());
+    let means = Means {
+        alloc,
+        xcc,
+        looks: &looks,
+        watch,
+    };
+    count_chunks(rt, means, &spread, workers)
+}
+
+// The same, of branches that are counted in their order.
+fn count_chunks<R: Threads + Sync, W: CensusWatch + Sync>(
+    rt: &R,
+    means: Means<'_, '_, '_, W>,
     branches: &[Branch],
     workers: u8,
 ) -> Result<Option<u64>, AllocError>
-    requires selections { AreSelections xcc.now branches.now }
+    requires selections { AreSelections means.xcc.now branches.now }
+    requires looks { AreLooks means.xcc.now means.looks.now }
     requires few { length branches.now ≤ MOST_LEMMAS }
     requires workers { (1 ≤ workers) × (workers ≤ MOST_WORKERS) }
-    ensures { IfOk result (IsTotal xcc.now branches.now) }
+    ensures { IfOk result (IsTotal means.entry.xcc.now branches.now) }
 {
     let jobs = usize::from(workers) * JOBS_FOR_EACH;
     let size = (branches.len() / jobs).max(1).min(MOST_IN_JOB);
     let count = branches.len().div_ceil(size) as u32;
+    let (alloc, xcc) = (means.alloc, means.xcc);
     let work = Chunks {
-        alloc,
-        xcc,
+        means,
         branches,
         size,
     };

@@ -9,16 +9,25 @@ mod dives;
 mod hashes;
 mod items;
 mod laws;
+mod looks;
 mod parts;
 mod roots;
 mod splits;
+mod spreads;
 mod totals;
+mod watches;
+mod weights;
 
 pub use branches::Branch;
-pub use counting::{count_arrangements, count_below};
-pub use crews::count_with_crew;
+pub use counting::count_below;
+pub use crews::{Count, count_with_crew};
 pub use hashes::hash_of;
-pub use laws::{parts_make_the_whole, symmetric_options_have_as_many};
+pub use laws::{
+    options_that_show_alike_have_as_many, parts_make_the_whole, selections_have_a_number,
+    symmetric_options_have_as_many,
+};
+pub use looks::looks_of;
 pub use parts::part_of;
 pub use splits::{MOST_BRANCHES, split};
-pub use totals::count_branches;
+pub use totals::count_arrangements;
+pub use watches::{CensusWatch, Unwatched};

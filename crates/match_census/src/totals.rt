@@ -1,25 +1,34 @@
 //! How many arrangements branches have together.
 
 ghost use Rattle.std.specs.Prelude.{◌≡◌, ◌≤◌, ◌++◌, [], IfOk, IfSome, MatchOption};
+ghost use Rattle.match_puzzle.specs.Arrangement.{IsArrangement, HasArrangements};
 ghost use Rattle.xcc_dance.specs.Chosen.{IsSelection};
 ghost use Rattle.xcc_dance.specs.Found.{IsFoundFrom};
+ghost use Rattle.match_census.specs.Looks.{AreLooks};
 ghost use Rattle.match_census.specs.Numbers.{AreMoreThan, HasExtensions};
-ghost use Rattle.match_census.specs.Branches.{AreSelections, HaveTogether, HaveMoreTogether};
+ghost use Rattle.match_census.specs.Branches.{AreSelections, HaveTogether, HaveMoreTogether, IsSplit};
 
 use crate::branches::Branch;
 use crate::counting::count_below;
-use std::alloc::AllocError;
-use xcc_dance::OpenOptions;
+use crate::crews::Count;
+use crate::looks::looks_of;
+use crate::spreads::spread;
+use crate::watches::CensusWatch;
+use std::alloc::{AllocError, Global};
+use xcc_dance::{OpenOptions, OpenSets};
 
-/// How many arrangements these branches have together, each as often as it weighs, or `None` where they have more than
-/// `most`. Nothing is chosen before.
-///
-/// An error where memory is refused.
-pub fn count_branches<E: OpenOptions>(
+// How many arrangements these branches have together, each as often as it weighs, or `None` where they have more than
+// `most`. Nothing is chosen before.
+//
+// An error where memory is refused.
+pub(crate) fn count_branches<E: OpenOptions, W: CensusWatch>(
     engine: &mut E,
+    looks: &[Option<u32>],
+    watch: &W,
     branches: &[Branch],
     most: u64,
 ) -> Result<Option<u64>, AllocError>
+    requires looks { AreLooks (E.selection engine.old).compiled looks.now }
     requires empty { (E.selection engine.old).chosen ≡ [] }
     requires selections { AreSelections (E.selection engine.old).compiled branches.now }
     ensures same { engine.new ≡ engine.old }
@@ -31,10 +40,13 @@ pub fn count_branches<E: OpenOptions>(
     let mut total: u64 = 0;
     for branch in branches {
         let weight = branch.weight();
-        let Some(count) = count_with(engine, branch.chosen(), (most - total) / weight)? else {
+        let Some(count) = count_with(engine, looks, branch.chosen(), (most - total) / weight)?
+        else {
             return Ok(None);
         };
-        total += weight * count;
+        let more = weight * count;
+        total += more;
+        watch.counted(more);
     }
     Ok(Some(total))
 }
@@ -43,10 +55,12 @@ pub fn count_branches<E: OpenOptions>(
 #[cycle(count_with)]
 fn count_with<E: OpenOptions>(
     engine: &mut E,
+    looks: &[Option<u32>],
     options: &[u32],
     most: u64,
 ) -> Result<Option<u64>, AllocError>
-    requires { let s = E.selection engine.old in IsSelection s.compiled (s.chosen ++ options.now) }
+    requires looks { AreLooks (E.selection engine.old).compiled looks.now }
+    requires selection { let s = E.selection engine.old in IsSelection s.compiled (s.chosen ++ options.now) }
     ensures same { engine.new ≡ engine.old }
     ensures counted { let s = E.selection engine.old in
         let t = record s { chosen = s.chosen ++ options.now } in IfOk result (λ o. MatchOption o
@@ -55,10 +69,39 @@ fn count_with<E: OpenOptions>(
     ensures most { IfOk result (λ o. IfSome o (λ count. count ≤ most)) }
 {
     let Some((option, others)) = options.split_first() else {
-        return count_below(engine, most);
+        return count_below(engine, looks, most);
     };
     engine.choose(*option)?;
-    let counted = count_with(engine, others, most);
+    let counted = count_with(engine, looks, others, most);
     engine.undo();
     counted
+}
+
+/// How many arrangements a puzzle has, or `None` where there are more than `most`, by the branches into which the search
+/// for them is split.
+///
+/// An error where memory is refused.
+pub fn count_arrangements<W: CensusWatch>(
+    alloc: Global,
+    count: Count<'_, '_, W>,
+    most: u64,
+) -> Result<Option<u64>, AllocError>
+    requires split { IsSplit count.xcc.now count.branches.items }
+    requires selections { AreSelections count.xcc.now count.branches.items }
+    ensures counted { let puzzle = count.entry.xcc.now.puzzle in IfOk result (λ o. MatchOption o
+        (AreMoreThan most (IsArrangement puzzle))
+        (HasArrangements puzzle)) }
+    ensures most { IfOk result (λ o. IfSome o (λ total. total ≤ most)) }
+{
+    let Count {
+        xcc,
+        branches,
+        watch,
+    } = count;
+    let _puzzle = xcc.puzzle();
+    let looks = looks_of(alloc, xcc)?;
+    let spread = spread(alloc, branches)?;
+    watch.begins(spread.len());
+    let mut engine = OpenSets::new(alloc, xcc)?;
+    count_branches(&mut engine, &looks, watch, &spread, most)
 }

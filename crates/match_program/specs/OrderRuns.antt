@@ -108,7 +108,7 @@ module _ {S R W : Type 0} (system : FileMembers S R W) (source : SourceMembers R
         (new ≡ old) × PrintingOf printings.All (three_files system source old files) output result
     RunOf (Count files) result =
         (new ≡ old) × PrintingOf printings.Count (three_files system source old files) output result
-    RunOf (Census puzzle extent workers) result =
+    RunOf (Census puzzle extent workers progress) result =
         (new ≡ old) × CensusOf extent (one_file system source old (string_bytes puzzle)) output result
     RunOf (Solve files depth fuel workers keep progress) result =
         SolveOf workers (one_file system source old (string_bytes files.puzzle))

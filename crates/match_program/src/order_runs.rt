@@ -14,12 +14,12 @@ ghost use Rattle.match_program.specs.SolvedFiles.{solved_files};
 use crate::exits::Exit;
 use crate::files::{are_apart, hint_on, open};
 use crate::made_files::{MadeFiles, make_both, put_both, remove_both};
-use crate::progress::{CheckProgress, SolveProgress};
+use crate::progress::{CensusProgress, CheckProgress, SolveProgress};
 use crate::streams::Streams;
 use byte_streams::{
     Document, FileSystem, OneSink, OneSource, Sink, Source, ThreeSinks, ThreeSources,
 };
-use command_words::{Colours, Drawn, Files, Forks, Listed, Order, Sides, Workers};
+use command_words::{Colours, Drawn, Extent, Files, Forks, Listed, Order, Sides, Workers};
 use match_runs::{
     CensusPlan, CheckPlan, Description, HintedFault, PicturePlan, Printing, RunFault, SearchPlan,
     Watched, run_census, run_check_watched, run_description, run_joined, run_listed, run_picture,
@@ -124,12 +124,14 @@ pub fn run_order<
             puzzle,
             extent,
             workers,
+            progress,
         } => {
-            let plan = CensusPlan {
+            let order = CensusOrder {
+                puzzle,
                 extent: *extent,
                 workers: *workers,
+                progress: *progress,
             };
-            let order = CensusOrder { puzzle, plan };
             count_by_search(rt, alloc, &order, system, streams.output)
         }
         Order::Show { puzzle, listed } => show(alloc, puzzle, listed, system, streams.output),
@@ -387,23 +389,30 @@ fn describe<S: FileSystem, W: Sink>(
 #[derive(Clone, Copy)]
 struct CensusOrder<'a> {
     puzzle: &'a String,
-    plan: CensusPlan,
+    extent: Extent,
+    workers: Workers,
+    progress: bool,
 }
 
 // Counts arrangements of the puzzle in its file.
-fn count_by_search<S: FileSystem, W: Sink, R: Threads + Sync>(
+fn count_by_search<S: FileSystem, W: Sink, R: Threads + Sync + Clock + Eprint>(
     rt: &R,
     alloc: Global,
     order: &CensusOrder<'_>,
     system: &S,
     output: &mut W,
 ) -> Result<Exit, HintedFault>
-    ensures { CensusOf order.now.plan.extent
+    ensures { CensusOf order.now.extent
         (one_file S.FileSystem S.Reader.Source system.now (string_bytes order.now.puzzle.now))
         (writing_of W.Sink output.old output.new) (unhinted result) }
 {
     let mut puzzle = open(alloc, system, order.puzzle, Document::Puzzle)?;
-    run_census(rt, alloc, &mut puzzle, order.plan, output)?;
+    let plan = CensusPlan {
+        extent: order.extent,
+        workers: order.workers,
+        watch: &CensusProgress::new(rt, order.progress),
+    };
+    run_census(rt, alloc, &mut puzzle, &plan, output)?;
     Ok(Exit::Done)
 }
 

@@ -1,7 +1,8 @@
-//! How far a check or a solve is, told on standard error.
+//! How far a check, a solve or a count is, told on standard error.
 
 use check_crew::Gate;
 use match_board::limits::MOST_BYTES;
+use match_census::CensusWatch;
 use match_crew::Watch;
 use match_runs::{CheckWatch, SolveWatch};
 use std::sync::atomic::{AtomicBool, AtomicU64, Ordering};
@@ -182,6 +183,64 @@ impl<R: Clock + Eprint> SolveWatch for SolveProgress<'_, R> {
         );
         if list > MOST_BYTES as usize || certificate > MOST_BYTES as usize {
             let _ = eprintln!(self.turns.rt; "solve: that is more than check reads");
+        }
+    }
+}
+
+/// Tells how far a count by a search is: how many of its subtrees are done, how many arrangements they have, and about
+/// how long the others will take, at the pace of those that are done.
+#[derive(Drop)]
+pub struct CensusProgress<'a, R: Clock + Eprint> {
+    turns: Turns<'a, R>,
+    subtrees: AtomicU64,
+    done: AtomicU64,
+    arrangements: AtomicU64,
+}
+
+impl<'a, R: Clock + Eprint> CensusProgress<'a, R> {
+    /// Tells where it is asked for, and else nothing.
+    pub fn new(rt: &'a R, asked: bool) -> CensusProgress<'a, R> {
+        CensusProgress {
+            turns: Turns::new(rt, asked),
+            subtrees: AtomicU64::new(0),
+            done: AtomicU64::new(0),
+            arrangements: AtomicU64::new(0),
+        }
+    }
+
+    // Tells how far it is after so many seconds.
+    fn tell(&self, seconds: u64) {
+        let subtrees = self.subtrees.load(Ordering::Relaxed);
+        let done = self.done.load(Ordering::Relaxed);
+        let arrangements = self.arrangements.load(Ordering::Relaxed);
+        let left = seconds_left(seconds, done, subtrees);
+        let _ = eprintln!(self.turns.rt;
+            "count: {seconds} s, {done} of {subtrees} subtrees, {arrangements} arrangements, about {left} s left"
+        );
+    }
+}
+
+// How many seconds it takes until all are done, where so many were done in so many seconds.
+fn seconds_left(seconds: u64, done: u64, all: u64) -> u64 {
+    let left = all.saturating_sub(done);
+    seconds.saturating_mul(left) / done.max(1)
+}
+
+impl<R: Clock + Eprint> CensusWatch for CensusProgress<'_, R> {
+    fn begins(&self, branches: usize) {
+        self.subtrees.store(branches as u64, Ordering::Relaxed);
+    }
+
+    fn counted(&self, arrangements: u64) {
+        self.arrangements.fetch_add(arrangements, Ordering::Relaxed);
+        let done = self.done.fetch_add(1, Ordering::Relaxed).saturating_add(1);
+        let seconds = if done == self.subtrees.load(Ordering::Relaxed) {
+            self.turns.passed()
+        } else {
+            self.turns.take()
+        };
+        if let Some(seconds) = seconds {
+            self.tell(seconds);
         }
     }
 }

@@ -1,6 +1,6 @@
 //! Runs that count the arrangements of a puzzle by a search.
 
-ghost use Rattle.std.specs.Prelude.{◌≡◌, ◌<◌, ◌≤◌, ◌++◌, ◌∷◌, [], IfOk, IfErr, OnOk, codes, decimal, length, vec_len};
+ghost use Rattle.std.specs.Prelude.{◌≡◌, ◌<◌, ◌≤◌, ◌++◌, ◌∷◌, [], IfOk, IfErr, MatchOption, OnOk, codes, decimal, length, vec_len};
 ghost use Rattle.puzzle_symmetry.specs.Motion.{AreOfPuzzle};
 ghost use Rattle.match_text.specs.Spelling.{line_text, spaced};
 ghost use Rattle.command_words.specs.Parts.{parts_with};
@@ -22,7 +22,9 @@ use crate::running::run_by;
 use byte_streams::{Document, MadeText, OneSink, OneSource, Sink, Source, Text};
 use command_words::{Extent, Part, Workers};
 use itoa::Buffer;
-use match_census::{Branch, count_arrangements, count_with_crew, hash_of, part_of, split};
+use match_census::{
+    Branch, CensusWatch, Count, count_arrangements, count_with_crew, hash_of, part_of, split,
+};
 use match_crew::SolveFault;
 use match_puzzle::Puzzle;
 use match_report::Line;
@@ -32,17 +34,22 @@ use std::alloc::{AllocError, Global};
 use std::thread::Threads;
 use xcc_form::{Xcc, compile};
 
-// Into so many branches at least a search is split whose workers share them, where it has so many.
+// Into so many branches at least a search is split that may end early, where it has so many: enough for symmetries to
+// merge them, and few enough to begin at once.
+const SHORT: u32 = 256;
+
+// Into so many a search is split whose workers share them.
 const SHARED: u32 = 4_096;
 
 // Into so many one of which parts are counted.
 const DEALT: u32 = 100_000;
 
-/// What is counted by a search, and by how many workers.
-#[derive(Clone, Copy)]
-pub struct CensusPlan {
+/// What is counted by a search, by how many workers, and who is told meanwhile.
+#[derive(Drop)]
+pub struct CensusPlan<'w, W: CensusWatch> {
     pub extent: Extent,
     pub workers: Workers,
+    pub watch: &'w W,
 }
 
 /// Reads a puzzle to its end, and writes how many arrangements it has, counted by a search: a line `arrangements N`. Where
@@ -52,34 +59,34 @@ pub struct CensusPlan {
 /// `Read` and `TooLong` are of the puzzle; `Puzzle` where its text spells none; `Solve(TooMany)` where its options have
 /// over 200,000 items together, and `Solve(Full)` where 2^64 arrangements or more are counted. Where a fault other than
 /// `Write` is answered, nothing was written.
-pub fn run_census<P: Source, W: Sink, R: Threads + Sync>(
+pub fn run_census<P: Source, W: Sink, R: Threads + Sync, T: CensusWatch + Sync>(
     rt: &R,
     alloc: Global,
     puzzle: &mut P,
-    plan: CensusPlan,
+    plan: &CensusPlan<'_, T>,
     writer: &mut W,
 ) -> Result<(), RunFault>
-    ensures { Runs (one_source documents.Puzzle (reading_of P.Source puzzle.old puzzle.new)) (CensusGives plan.extent)
-        (CensusFails plan.extent) (one_sink (writing_of W.Sink writer.old writer.new)) result }
+    ensures { Runs (one_source documents.Puzzle (reading_of P.Source puzzle.old puzzle.new)) (CensusGives plan.now.extent)
+        (CensusFails plan.now.extent) (one_sink (writing_of W.Sink writer.old writer.new)) result }
 {
     let mut inputs = OneSource {
         source: puzzle,
         document: Document::Puzzle,
     };
     let make = |text: &Text| -> Result<(MadeText, ()), RunFault>
-        ensures { MadeOf (CensusGives plan.extent) (CensusFails plan.extent) text.now result }
+        ensures { MadeOf (CensusGives plan.entry.now.extent) (CensusFails plan.entry.now.extent) text.now result }
     { counted(rt, alloc, text, plan) };
     run_by(alloc, &mut inputs, make, &mut OneSink { sink: writer })
 }
 
 // What is printed of the puzzle that the text spells.
-fn counted<R: Threads + Sync>(
+fn counted<R: Threads + Sync, T: CensusWatch + Sync>(
     rt: &R,
     alloc: Global,
     text: &Text,
-    plan: CensusPlan,
+    plan: &CensusPlan<'_, T>,
 ) -> Result<(MadeText, ()), RunFault>
-    ensures { MadeOf (CensusGives plan.extent) (CensusFails plan.extent) text.now result }
+    ensures { MadeOf (CensusGives plan.now.extent) (CensusFails plan.now.extent) text.now result }
 {
     let puzzle = read_puzzle(alloc, text.bytes())?;
     let printed = count_text(rt, alloc, &puzzle, plan)?;
@@ -87,36 +94,40 @@ fn counted<R: Threads + Sync>(
 }
 
 // What is printed of the puzzle.
-fn count_text<R: Threads + Sync>(
+fn count_text<R: Threads + Sync, T: CensusWatch + Sync>(
     rt: &R,
     alloc: Global,
     puzzle: &Puzzle,
-    plan: CensusPlan,
+    plan: &CensusPlan<'_, T>,
 ) -> Result<Vec<u8>, RunFault>
-    ensures prints { IfOk result (λ text. PrintsCount plan.extent puzzle.now text.items) }
-    ensures fails { IfErr result (IsNotCounted plan.extent puzzle.now) }
+    ensures prints { IfOk result (λ text. PrintsCount plan.now.extent puzzle.now text.items) }
+    ensures fails { IfErr result (IsNotCounted plan.now.extent puzzle.now) }
 {
-    let CensusPlan { extent, workers } = plan;
-    match extent {
-        Extent::All => all_counted(rt, alloc, puzzle, workers),
-        Extent::Most(most) => counted_to(alloc, puzzle, most),
-        Extent::Part(part) => part_counted(rt, alloc, puzzle, part, workers),
+    match plan.extent {
+        Extent::All => all_counted(rt, alloc, puzzle, plan),
+        Extent::Most(most) => counted_to(alloc, puzzle, most, plan.watch),
+        Extent::Part(part) => part_counted(rt, alloc, puzzle, part, plan),
     }
 }
 
 // How many arrangements there are.
-fn all_counted<R: Threads + Sync>(
+fn all_counted<R: Threads + Sync, T: CensusWatch + Sync>(
     rt: &R,
     alloc: Global,
     puzzle: &Puzzle,
-    workers: Workers,
+    plan: &CensusPlan<'_, T>,
 ) -> Result<Vec<u8>, RunFault>
     ensures prints { IfOk result (λ text. PrintsCount extents.All puzzle.now text.items) }
     ensures fails { IfErr result (IsNotCounted extents.All puzzle.now) }
 {
     let xcc = compile(alloc, puzzle)?;
     let branches = branches_of(alloc, &xcc, SHARED)?;
-    let counted = count_with_crew(rt, alloc, &xcc, &branches, workers.get() as u8)?;
+    let count = Count {
+        xcc: &xcc,
+        branches,
+        watch: plan.watch,
+    };
+    let counted = count_with_crew(rt, alloc, count, plan.workers.get() as u8)?;
     let Some(count) = counted else {
         return Err(RunFault::Solve(SolveFault::Full));
     };
@@ -124,23 +135,45 @@ fn all_counted<R: Threads + Sync>(
 }
 
 // How many arrangements there are, or that there are more than so many.
-fn counted_to(alloc: Global, puzzle: &Puzzle, most: u64) -> Result<Vec<u8>, RunFault>
+fn counted_to<T: CensusWatch>(
+    alloc: Global,
+    puzzle: &Puzzle,
+    most: u64,
+    watch: &T,
+) -> Result<Vec<u8>, RunFault>
     ensures prints { IfOk result (λ text. PrintsCount (extents.Most most) puzzle.now text.items) }
     ensures fails { IfErr result (IsNotCounted (extents.Most most) puzzle.now) }
 {
-    match count_arrangements(alloc, puzzle, most)? {
-        Some(count) => Ok(count_line(alloc, b"arrangements", count)?),
-        None => Ok(count_line(alloc, b"arrangements more than", most)?),
+    let xcc = compile(alloc, puzzle)?;
+    let branches = branches_of(alloc, &xcc, SHORT)?;
+    let count = Count {
+        xcc: &xcc,
+        branches,
+        watch,
+    };
+    let counted = count_arrangements(alloc, count, most)?;
+    Ok(bounded_line(alloc, counted, most)?)
+}
+
+// The line of how many there are, or that there are more than so many.
+fn bounded_line(alloc: Global, counted: Option<u64>, most: u64) -> Result<Vec<u8>, AllocError>
+    ensures { IfOk result (λ text. MatchOption counted
+        (text.items ≡ number_line (codes "arrangements more than") most)
+        (λ count. text.items ≡ number_line (codes "arrangements") count)) }
+{
+    match counted {
+        Some(count) => count_line(alloc, b"arrangements", count),
+        None => count_line(alloc, b"arrangements more than", most),
     }
 }
 
 // How many arrangements a part of the search has.
-fn part_counted<R: Threads + Sync>(
+fn part_counted<R: Threads + Sync, T: CensusWatch + Sync>(
     rt: &R,
     alloc: Global,
     puzzle: &Puzzle,
     part: Part,
-    workers: Workers,
+    plan: &CensusPlan<'_, T>,
 ) -> Result<Vec<u8>, RunFault>
     ensures prints { IfOk result (λ text. PrintsCount (extents.Part part) puzzle.now text.items) }
     ensures fails { IfErr result (IsNotCounted (extents.Part part) puzzle.now) }
@@ -149,7 +182,12 @@ fn part_counted<R: Threads + Sync>(
     let branches = branches_of(alloc, &xcc, DEALT)?;
     let mut text = write_split(alloc, &branches)?;
     let dealt = part_of(alloc, branches, before_of(&part), parts_of(&part))?;
-    let counted = count_with_crew(rt, alloc, &xcc, &dealt, workers.get() as u8)?;
+    let count = Count {
+        xcc: &xcc,
+        branches: dealt,
+        watch: plan.watch,
+    };
+    let counted = count_with_crew(rt, alloc, count, plan.workers.get() as u8)?;
     let Some(count) = counted else {
         return Err(RunFault::Solve(SolveFault::Full));
     };

@@ -15,4 +15,4 @@ returns-in_default-clause-refused c =
 pub returns-clause-order : goal.returns-clause-order
 returns-clause-order c =
     let none = sym (first_value-rows (found_of c.args.matches.now) (codes "CERTIFICATE")) ∙ sym c.get_str.ensures ∙ ap (option_map (λ s. s.now)) c.in-None.is in
-    (refl, c.in_ok-puzzle.ensures, c.requires.alone, none, c.requires.extent, c.number-workers.ensures)
+    (refl, c.in_ok-puzzle.ensures, c.requires.alone, none, c.requires.extent, c.number-workers.ensures, c.flag.ensures)

@@ -89,6 +89,9 @@ count-requires-clause-workers c = has_number (command_at (codes "count")) (rows_
 pub count-requires-clause-most : goal.count-requires-clause-most
 count-requires-clause-most c = may_have_number (command_at (codes "count")) (rows_of (found_of c.in-Some.matches.now)) (rule_at (command_at (codes "count")) 4) 0 18446744073709551615 (passing (goal.at.count-requires-clause-most c).In-Some (codes "count") (search rules) refl) refl refl
 
+pub count-requires-clause-progress : goal.count-requires-clause-progress
+count-requires-clause-progress c = has_flag (command_at (codes "count")) (rows_of (found_of c.in-Some.matches.now)) (rule_at (command_at (codes "count")) 6) (needed (goal.at.count-requires-clause-progress c).In-Some (codes "count") (search rules) refl) refl refl refl
+
 pub show-requires-clause-puzzle : goal.show-requires-clause-puzzle
 show-requires-clause-puzzle c = has_text (command_at (codes "show")) (rows_of (found_of c.in-Some.matches.now)) (codes "PUZZLE") (needed (goal.at.show-requires-clause-puzzle c).In-Some (codes "show") (search rules) refl) refl
 

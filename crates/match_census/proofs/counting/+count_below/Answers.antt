@@ -1,4 +1,4 @@
-use Rattle.std.proofs.Common.{◌≤◌, ◌-◌, ℕ, None, Some, MatchOption, IfSome, arith, refl, ap, ◌∙◌, subst}
+use Rattle.std.proofs.Common.{◌≤◌, ◌-◌, ◌*◌, ◌/◌, ℕ, None, Some, MatchOption, IfSome, arith, refl, ap, ◌∙◌, subst}
 use Rattle.xcc_form.specs.Options.{cover_of}
 use Rattle.xcc_dance.specs.Clashes.{IsOpenAt}
 use Rattle.xcc_dance.specs.Chosen.{Selection, AreAllCovered, IsToBranchOn, with_option}
@@ -6,7 +6,10 @@ use Rattle.xcc_dance.specs.Found.{IsFoundFrom}
 use Rattle.xcc_dance.proofs.GrowingLemmas.{next_open}
 use Rattle.match_census.specs.Numbers.{AreSoMany, AreMoreThan, HasExtensions}
 use Rattle.match_census.proofs.NumberLemmas.{more_than_fewer}
-use Rattle.match_census.proofs.ExtensionLemmas.{IsFoundBefore, IsNextOrLast, one_extension, none_before, one_more_before, more_before, all_before}
+use Rattle.match_census.specs.Looks.{IsPassed, IsWeight}
+use Rattle.match_census.proofs.ExtensionLemmas.{IsNextOrLast, one_extension}
+use Rattle.match_census.proofs.LookLemmas.{IsFoundUnder, none_under, passed_under, one_more_under, more_under, all_under}
+use Rattle.match_census.proofs.TotalLemmas.{within_share}
 use Rattle.match_census.proofs.counting.+count_below.Goals as goal
 
 -- What `branch_item` says.
@@ -31,8 +34,30 @@ loop-next-init g t c =
     record {
       same = refl;
       next = next_open s s c.in-Some.item None c.next_option-next.result refl c.next_option-next.ensures;
-      counted = none_before s c.chosen-right.ensures.right c.in-Some.item branch.uncovered c.next_option-next.result c.next_option-next.ensures;
+      counted = none_under s c.chosen-right.ensures.right c.args.looks.now c.requires c.in-Some.item branch.uncovered c.next_option-next.result c.next_option-next.ensures;
       most = omega arith;
+    }
+
+pub loop-next-preserved-in_default-weight_of : goal.loop-next-preserved-in_default-weight_of
+loop-next-preserved-in_default-weight_of g t c =
+    let s = g.E.OpenOptions.selection c.args.engine.now in
+    let i = c.loop-next.invariant in
+    let item = c.in-Some.item in
+    let option = c.in-Some-next.option in
+    let looks = c.args.looks.now in
+    let same = ap g.E.OpenOptions.selection i.same in
+    let branch = subst (λ o. MatchOption o (AreAllCovered (cover_of s.compiled) s.chosen) (IsBranch s)) c.in-Some.is c.branch_item.ensures in
+    let is_open = subst (λ o. MatchOption o (Unit {0}) (IsOpenAt (cover_of s.compiled) s.chosen item)) c.in-Some-next.is i.next in
+    let next = c.next_option-next-in-Some-next.result in
+    let h = subst (λ (v : Selection). IsNextOrLast v item (Some option) next) same c.next_option-next-in-Some-next.ensures in
+    let told = subst (λ (v : Selection). MatchOption c.weight_of.result (IsPassed v looks item option) (IsWeight v looks item option)) same c.weight_of.ensures.weight in
+    let passed = subst (λ o. MatchOption o (IsPassed s looks item option) (IsWeight s looks item option)) c.in_default-weight_of.is told in
+    record {
+      same = i.same;
+      next = next_open s s item (Some option) next refl h;
+      counted = passed_under s c.chosen-right.ensures.right looks c.requires item branch.uncovered option is_open next h c.loop-next.sum passed
+          (subst (λ o. AreSoMany (IsFoundUnder s looks item o) c.loop-next.sum) c.in-Some-next.is i.counted);
+      most = i.most;
     }
 
 pub loop-next-preserved : goal.loop-next-preserved
@@ -41,25 +66,48 @@ loop-next-preserved g t c =
     let i = c.loop-next.invariant in
     let item = c.in-Some.item in
     let option = c.in-Some-next.option in
+    let looks = c.args.looks.now in
+    let weight = c.in-Some-weight_of.weight in
     let count = c.in-Some-2.count in
+    let share = c.share.result in
     let left = c.args.most - c.loop-next.sum in
     let chosen = g.E.OpenOptions.selection c.choose.new.self in
+    let same = ap g.E.OpenOptions.selection i.same in
     let branch = subst (λ o. MatchOption o (AreAllCovered (cover_of s.compiled) s.chosen) (IsBranch s)) c.in-Some.is c.branch_item.ensures in
     let is_open = subst (λ o. MatchOption o (Unit {0}) (IsOpenAt (cover_of s.compiled) s.chosen item)) c.in-Some-next.is i.next in
+    let next = c.next_option-next-in-Some-next.result in
+    let h = subst (λ (v : Selection). IsNextOrLast v item (Some option) next) same c.next_option-next-in-Some-next.ensures in
+    let told = subst (λ (v : Selection). MatchOption c.weight_of.result (IsPassed v looks item option) (IsWeight v looks item option)) same c.weight_of.ensures.weight in
+    let weighs = subst (λ o. MatchOption o (IsPassed s looks item option) (IsWeight s looks item option)) c.in-Some-weight_of.is told in
     let with = c.in_ok-choose.ensures.chosen ∙ ap (λ v. with_option (g.E.OpenOptions.selection v) option) i.same in
     let back = c.undo.ensures ∙ ap g.E.OpenOptions.taken_back c.count_below-below.ensures.same ∙ c.in_ok-choose.ensures.before ∙ i.same in
-    let below = subst (λ o. MatchOption o (AreMoreThan left (IsFoundFrom chosen)) (HasExtensions chosen)) c.in-Some-2.is c.in_ok-count.ensures.counted in
-    let few = subst (λ o. IfSome o (λ n. n ≤ left)) c.in-Some-2.is c.in_ok-count.ensures.most in
-    let next = subst (λ (v : Selection). IsNextOrLast v item (Some option) c.next_option-next-in-Some-next.result) (ap g.E.OpenOptions.selection back) c.next_option-next-in-Some-next.ensures in
-    let before = subst (λ o. AreSoMany (IsFoundBefore s item o) c.loop-next.sum) c.in-Some-next.is i.counted in
+    let below = subst (λ o. MatchOption o (AreMoreThan share (IsFoundFrom chosen)) (HasExtensions chosen)) c.in-Some-2.is c.in_ok-count.ensures.counted in
+    let few = subst (λ o. IfSome o (λ n. n ≤ share)) c.in-Some-2.is c.in_ok-count.ensures.most in
+    let within = within_share left weight count (subst (λ n. count ≤ n) c.share.ensures few) in
     let most = i.most in
     record {
       same = back;
-      next = next_open s s item (Some option) c.next_option-next-in-Some-next.result refl next;
-      counted = one_more_before s c.chosen-right.ensures.right item branch.uncovered option is_open c.next_option-next-in-Some-next.result next c.loop-next.sum count before
+      next = next_open s s item (Some option) next refl h;
+      counted = one_more_under s c.chosen-right.ensures.right looks c.requires item branch.uncovered option is_open weight count weighs next h c.loop-next.sum
+          (subst (λ o. AreSoMany (IsFoundUnder s looks item o) c.loop-next.sum) c.in-Some-next.is i.counted)
           (subst (λ v. HasExtensions v count) with below);
-      most = omega (arith, few, most);
+      most = omega (arith, within, most);
     }
+
+pub overflow_mul-sum : goal.overflow_mul-sum
+overflow_mul-sum g t c =
+    let few = subst (λ o. IfSome o (λ n. n ≤ c.share.result)) c.in-Some-2.is c.in_ok-count.ensures.most in
+    let within = within_share (c.args.most - c.loop-next.sum) c.in-Some-weight_of.weight c.in-Some-2.count (subst (λ n. c.in-Some-2.count ≤ n) c.share.ensures few) in
+    let fits = c.ranges.most in
+    omega (arith, within, fits)
+
+pub overflow_add-sum : goal.overflow_add-sum
+overflow_add-sum g t c =
+    let few = subst (λ o. IfSome o (λ n. n ≤ c.share.result)) c.in-Some-2.is c.in_ok-count.ensures.most in
+    let within = within_share (c.args.most - c.loop-next.sum) c.in-Some-weight_of.weight c.in-Some-2.count (subst (λ n. c.in-Some-2.count ≤ n) c.share.ensures few) in
+    let le = c.loop-next.invariant.most in
+    let fits = c.ranges.most in
+    omega (arith, within, le, fits)
 
 pub returns-in_default-2-clause-counted : goal.returns-in_default-2-clause-counted
 returns-in_default-2-clause-counted g t c =
@@ -67,20 +115,24 @@ returns-in_default-2-clause-counted g t c =
     let i = c.loop-next.invariant in
     let item = c.in-Some.item in
     let option = c.in-Some-next.option in
-    let left = c.args.most - c.loop-next.sum in
+    let looks = c.args.looks.now in
+    let weight = c.in-Some-weight_of.weight in
+    let share = c.share.result in
     let chosen = g.E.OpenOptions.selection c.choose.new.self in
+    let same = ap g.E.OpenOptions.selection i.same in
     let branch = subst (λ o. MatchOption o (AreAllCovered (cover_of s.compiled) s.chosen) (IsBranch s)) c.in-Some.is c.branch_item.ensures in
     let is_open = subst (λ o. MatchOption o (Unit {0}) (IsOpenAt (cover_of s.compiled) s.chosen item)) c.in-Some-next.is i.next in
+    let told = subst (λ (v : Selection). MatchOption c.weight_of.result (IsPassed v looks item option) (IsWeight v looks item option)) same c.weight_of.ensures.weight in
+    let weighs = subst (λ o. MatchOption o (IsPassed s looks item option) (IsWeight s looks item option)) c.in-Some-weight_of.is told in
     let with = c.in_ok-choose.ensures.chosen ∙ ap (λ v. with_option (g.E.OpenOptions.selection v) option) i.same in
-    let below = subst (λ o. MatchOption o (AreMoreThan left (IsFoundFrom chosen)) (HasExtensions chosen)) c.in_default-2.is c.in_ok-count.ensures.counted in
-    let before = subst (λ o. AreSoMany (IsFoundBefore s item o) c.loop-next.sum) c.in-Some-next.is i.counted in
-    let most = i.most in
-    subst (λ n. AreMoreThan n (IsFoundFrom s)) (omega (arith, most))
-    (more_before s c.chosen-right.ensures.right item branch.uncovered option is_open c.loop-next.sum left before (subst (λ v. AreMoreThan left (IsFoundFrom v)) with below))
+    let below = subst (λ o. MatchOption o (AreMoreThan share (IsFoundFrom chosen)) (HasExtensions chosen)) c.in_default-2.is c.in_ok-count.ensures.counted in
+    more_under s c.chosen-right.ensures.right looks c.requires item branch.uncovered option is_open c.loop-next.sum c.args.most weight i.most c.in-Some-weight_of.ensures.least weighs
+    (subst (λ o. AreSoMany (IsFoundUnder s looks item o) c.loop-next.sum) c.in-Some-next.is i.counted)
+    (subst (λ n. AreMoreThan n (IsFoundFrom (with_option s option))) c.share.ensures (subst (λ v. AreMoreThan share (IsFoundFrom v)) with below))
 
 pub returns-clause-counted : goal.returns-clause-counted
 returns-clause-counted g t c =
     let s = g.E.OpenOptions.selection c.args.engine.now in
     let branch = subst (λ o. MatchOption o (AreAllCovered (cover_of s.compiled) s.chosen) (IsBranch s)) c.in-Some.is c.branch_item.ensures in
-    all_before s c.chosen-right.ensures.right c.in-Some.item branch.uncovered c.loop-next.sum
-    (subst (λ o. AreSoMany (IsFoundBefore s c.in-Some.item o) c.loop-next.sum) c.in_default-next.is c.loop-next.invariant.counted)
+    all_under s c.chosen-right.ensures.right c.args.looks.now c.requires c.in-Some.item branch.uncovered c.loop-next.sum
+    (subst (λ o. AreSoMany (IsFoundUnder s c.args.looks.now c.in-Some.item o) c.loop-next.sum) c.in_default-next.is c.loop-next.invariant.counted)

@@ -3,7 +3,7 @@ use Rattle.xcc_form.specs.Options.{cover_of}
 use Rattle.xcc_dance.specs.Clashes.{IsOpenAt}
 use Rattle.xcc_dance.proofs.GrowingLemmas.{left_after}
 use Rattle.match_census.specs.Numbers.{AreSoMany}
-use Rattle.match_census.proofs.ExtensionLemmas.{IsFoundBefore}
+use Rattle.match_census.proofs.LookLemmas.{IsFoundUnder}
 use Rattle.match_census.proofs.counting.+count_below.Given as goal
 
 abbrev pub decreases-count_below : goal.decreases-count_below
@@ -13,7 +13,7 @@ abbrev pub invariant-loop-next : goal.invariant-loop-next
 invariant-loop-next g l = record {
   same : l.engine ≡ l.initial.engine;
   next : MatchOption l.next (Unit {0}) (IsOpenAt (cover_of (g.E.OpenOptions.selection l.initial.engine).compiled) (g.E.OpenOptions.selection l.initial.engine).chosen l.item);
-  counted : AreSoMany (IsFoundBefore (g.E.OpenOptions.selection l.initial.engine) l.item l.next) l.sum;
+  counted : AreSoMany (IsFoundUnder (g.E.OpenOptions.selection l.initial.engine) l.looks l.item l.next) l.sum;
   most : l.sum ≤ l.most;
 }
 

@@ -1,6 +1,7 @@
 use Rattle.std.proofs.Common.{◌++◌, IfOk, MatchOption, arith, sym, subst}
 use Rattle.xcc_dance.specs.Chosen.{Selection, IsSelection}
 use Rattle.xcc_dance.specs.Found.{IsFoundFrom}
+use Rattle.match_census.specs.Looks.{AreLooks}
 use Rattle.match_census.specs.Numbers.{AreMoreThan, HasExtensions}
 use Rattle.match_census.proofs.PickingLemmas.{none_picked, one_picked, picked_is_open, picked_chosen}
 use Rattle.match_census.proofs.totals.+count_with.Goals as goal
@@ -8,7 +9,7 @@ use Rattle.match_census.proofs.totals.+count_with.Goals as goal
 pub choose-requires : goal.choose-requires
 choose-requires g t c =
     let s = g.E.OpenOptions.selection c.args.engine.now in
-    picked_is_open s.compiled s.chosen c.in-Some.others.now c.args.options.now c.in-Some.option.now c.in-Some.ensures.cases.0 c.requires
+    picked_is_open s.compiled s.chosen c.in-Some.others.now c.args.options.now c.in-Some.option.now c.in-Some.ensures.cases.0 c.requires.selection
 
 pub count_with-counted-requires : goal.count_with-counted-requires
 count_with-counted-requires g t c =
@@ -19,8 +20,11 @@ count_with-counted-requires g t c =
       omega (arith, c.decreases, shorter),
       (
         below,
-        subst (λ (v : Selection). IsSelection v.compiled (v.chosen ++ others)) (sym c.in_ok-choose.ensures.chosen)
-            (picked_chosen s.compiled s.chosen others c.args.options.now c.in-Some.option.now c.in-Some.ensures.cases.0 c.requires),
+        (
+          subst (λ (v : Selection). AreLooks v.compiled c.args.looks.now) (sym c.in_ok-choose.ensures.chosen) c.requires.looks,
+          subst (λ (v : Selection). IsSelection v.compiled (v.chosen ++ others)) (sym c.in_ok-choose.ensures.chosen)
+              (picked_chosen s.compiled s.chosen others c.args.options.now c.in-Some.option.now c.in-Some.ensures.cases.0 c.requires.selection),
+        ),
       ),
     )
 

@@ -9,8 +9,8 @@ use Rattle.match_census.proofs.BranchLemmas.{read_at, chosen_for, selection_for}
 use Rattle.match_census.proofs.TotalLemmas.{within_share, one_more_taken, more_than_share}
 use Rattle.match_census.proofs.totals.count_branches.Goals as goal
 
-pub count_with-requires : goal.count_with-requires
-count_with-requires g c =
+pub count_with-requires-clause-selection : goal.count_with-requires-clause-selection
+count_with-requires-clause-selection g c =
     let s = g.E.OpenOptions.selection c.args.engine.now in
     let b = c.branch-item.result in
     let at = read_at c.args.branches.now c.loop-branch.branch-index b c.loop-branch-test.true c.branch-item.is in
@@ -31,8 +31,8 @@ returns-in_default-clause-counted g c =
     more_than_share s.compiled c.args.branches.now c.loop-branch.branch-index b weight c.loop-branch.total c.args.most c.loop-branch-test.true c.branch-item.is c.weight-weight.ensures.value c.weight-weight.ensures.least i.total i.most
     (subst (λ t. AreMoreThan share (IsFoundFrom t)) chosen more)
 
-pub overflow_mul-total : goal.overflow_mul-total
-overflow_mul-total g c =
+pub overflow_mul-more : goal.overflow_mul-more
+overflow_mul-more g c =
     let few = subst (λ o. IfSome o (λ n. n ≤ (c.args.most - c.loop-branch.total) / c.weight-weight.result)) c.in-Some.is c.in_ok-count.ensures.most in
     let within = within_share (c.args.most - c.loop-branch.total) c.weight-weight.result c.in-Some.count few in
     let fits = c.ranges.most in

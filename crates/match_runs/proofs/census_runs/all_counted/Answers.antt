@@ -11,31 +11,23 @@ returns-in_err-xcc-clause-fails g c =
     rw (w.1, w.2) (compile_fails extents.All c.args.puzzle.now c.in_err-xcc.field-0.0 (λ e. c.in_err-xcc.ensures.too_many (ap Err e)))
 
 pub count_with_crew-requires-clause-selections : goal.count_with_crew-requires-clause-selections
-count_with_crew-requires-clause-selections g c = λ κs below. subst (AreSelections c.in_ok-xcc.xcc) (sym c.deref.ensures.value) c.in_ok-branches.ensures.selections
-
-pub count_with_crew-requires-clause-few : goal.count_with_crew-requires-clause-few
-count_with_crew-requires-clause-few g c =
-    let long = ap length c.deref.ensures.value in
-    let few = c.in_ok-branches.ensures.few in
-    let len = c.in_ok-branches.branches.ok.0 in
-    omega (arith, long, few, len)
+count_with_crew-requires-clause-selections g c = λ κs below. c.in_ok-branches.ensures.selections
 
 pub returns-in_default-clause-fails : goal.returns-in_default-clause-fails
 returns-in_default-clause-fails g c =
     let x = c.in_ok-xcc.xcc in
-    let told : IsTotal x c.deref.result.now None = subst (IsTotal x c.deref.result.now) c.in_default.is c.in_ok-counted.ensures in
+    let branches = c.in_ok-branches.branches.items in
     record {
       compiled = x;
       of = c.in_ok-xcc.ensures.puzzle;
       branches = c.in_ok-branches.branches.items;
       split = c.in_ok-branches.ensures.split;
-      many = subst (λ branches. IsTotal x branches None) c.deref.ensures.value told;
+      many = subst (IsTotal x branches) c.in_default.is c.in_ok-counted.ensures;
     }
 
 pub returns-clause-prints : goal.returns-clause-prints
 returns-clause-prints g c =
     let x = c.in_ok-xcc.xcc in
     let count = c.in-Some.count in
-    let told : IsTotal x c.deref.result.now (Some count) = subst (IsTotal x c.deref.result.now) c.in-Some.is c.in_ok-counted.ensures in
-    let have = subst (λ branches. HaveTogether x branches count) c.deref.ensures.value told in
+    let have : HaveTogether x c.in_ok-branches.branches.items count = subst (IsTotal x c.in_ok-branches.branches.items) c.in-Some.is c.in_ok-counted.ensures in
     (count, split_counts x c.args.puzzle.now c.in_ok-branches.branches.items count c.in_ok-xcc.ensures.puzzle c.in_ok-branches.ensures.split have, c.in_ok-count_line.ensures)

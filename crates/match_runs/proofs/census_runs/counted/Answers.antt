@@ -8,4 +8,4 @@ pub returns-in_err-printed : goal.returns-in_err-printed
 returns-in_err-printed g c =
     let w = err_from_is_err_and c.from_residual-in_err-printed.result c.from_residual-in_err-printed.ensures.1 in
     let reads = subst (λ (t : List ℕ). PuzzleReads t (Ok c.in_ok-puzzle.puzzle)) c.bytes.ensures.bytes c.in_ok-puzzle.ensures.exact in
-    rw (w.1, w.2) (not_counted c.args.plan.extent c.args.text.now c.in_ok-puzzle.puzzle reads c.in_err-printed.field-0.0 c.in_err-printed.ensures.fails)
+    rw (w.1, w.2) (not_counted c.args.plan.now.extent c.args.text.now c.in_ok-puzzle.puzzle reads c.in_err-printed.field-0.0 c.in_err-printed.ensures.fails)

@@ -31,30 +31,31 @@ count_with_crew-requires-clause-selections g c =
     let x = c.in_ok-xcc.xcc in
     let part = c.args.part in
     let branches = c.in_ok-branches.branches.items in
-    λ κs below. subst (AreSelections x) (sym (c.deref-2.ensures.value ∙ dealt g at)) (part_selections x (parts_with part) part.before branches c.in_ok-branches.ensures.selections)
+    λ κs below. subst (AreSelections x) (sym (dealt g at)) (part_selections x (parts_with part) part.before branches c.in_ok-branches.ensures.selections)
 
 pub count_with_crew-requires-clause-few : goal.count_with_crew-requires-clause-few
 count_with_crew-requires-clause-few g c =
     let at = (goal.at.count_with_crew-requires-clause-few g c).In_ok-dealt in
     let part = c.args.part in
     let branches = c.in_ok-branches.branches.items in
-    let long = ap length (c.deref-2.ensures.value ∙ dealt g at) in
+    let long = ap length (dealt g at) in
     let fewer = every_fewer (parts_with part) part.before branches in
     let few = c.in_ok-branches.ensures.few in
     let len = c.in_ok-branches.branches.ok.0 in
-    omega (arith, long, fewer, few, len)
+    let dealt_len = c.in_ok-dealt.dealt.ok.0 in
+    omega (arith, long, fewer, few, len, dealt_len)
 
 pub returns-in_default-clause-fails : goal.returns-in_default-clause-fails
 returns-in_default-clause-fails g c =
     let at = (goal.at.returns-in_default-clause-fails g c).In_ok-dealt in
     let x = c.in_ok-xcc.xcc in
-    let told : IsTotal x c.deref-2.result.now None = subst (IsTotal x c.deref-2.result.now) c.in_default.is c.in_ok-counted.ensures in
+    let told : IsTotal x c.in_ok-dealt.dealt.items None = subst (IsTotal x c.in_ok-dealt.dealt.items) c.in_default.is c.in_ok-counted.ensures in
     record {
       compiled = x;
       of = c.in_ok-xcc.ensures.puzzle;
       branches = c.in_ok-branches.branches.items;
       split = c.in_ok-branches.ensures.split;
-      many = subst (λ branches. IsTotal x branches None) (c.deref-2.ensures.value ∙ dealt g at) told;
+      many = subst (λ branches. IsTotal x branches None) (dealt g at) told;
     }
 
 pub returns-clause-prints : goal.returns-clause-prints
@@ -64,15 +65,15 @@ returns-clause-prints g c =
     let part = c.args.part in
     let branches = c.in_ok-branches.branches.items in
     let count = c.in-Some.count in
-    let told : IsTotal x c.deref-2.result.now (Some count) = subst (IsTotal x c.deref-2.result.now) c.in-Some.is c.in_ok-counted.ensures in
+    let told : IsTotal x c.in_ok-dealt.dealt.items (Some count) = subst (IsTotal x c.in_ok-dealt.dealt.items) c.in-Some.is c.in_ok-counted.ensures in
     let split = c.in_ok-text.ensures ∙ ap split_line c.deref.ensures.value in
-    let line = c.deref-3.ensures.value ∙ c.in_ok-line.ensures in
+    let line = c.deref-2.ensures.value ∙ c.in_ok-line.ensures in
     record {
       compiled = x;
       of = c.in_ok-xcc.ensures.puzzle;
       branches = branches;
       split = c.in_ok-branches.ensures.split;
       count = count;
-      counted = subst (λ bs. HaveTogether x bs count) (c.deref-2.ensures.value ∙ dealt g at) told;
+      counted = subst (λ bs. HaveTogether x bs count) (dealt g at) told;
       is = c.in_ok-extend_from_slice.ensures.items ∙ ap₂ (λ before behind. before ++ behind) split line;
     }

@@ -1,27 +1,23 @@
-use Rattle.std.proofs.Common.{◌-◌, ◌*◌, IfOk, MatchOption, Result, Ok, Err, ℕ, length, take, drop, refl, sym, subst}
+use Rattle.std.proofs.Common.{◌-◌, ◌*◌, IfOk, MatchOption, ℕ, length, take, drop, refl, sym, subst}
 use Rattle.std.specs.Fork.{slice_chunk}
 use Rattle.xcc_dance.specs.Chosen.{Selection}
 use Rattle.match_census.specs.Branches.{AreSelections, HaveTogether, HaveMoreTogether, IsTotal}
+use Rattle.match_census.proofs.SpreadLemmas.{ok_then}
 use Rattle.match_census.proofs.ChunkLemmas.{chunk_is, chunk_selections, told}
 use Rattle.match_census.proofs.crews.ChunksWork.one.Goals as goal
 
--- what is so of a value is so of it
-ok_then : {T E : Type 0} (P Q : T → Type 0) → ((t : T) → P t → Q t) → (r : Result T E) → IfOk r P → IfOk r Q
-ok_then P Q f (Ok t) p = f t p
-ok_then P Q f (Err e) p = tt
-
 pub count_branches-requires-clause-selections : goal.count_branches-requires-clause-selections
-count_branches-requires-clause-selections c =
+count_branches-requires-clause-selections g c =
     let w = c.args.self.now in
     let first = c.args.number * w.size in
     let chunk = chunk_is w.branches.now first w.size c.min.result c.min.ensures in
     subst (λ (v : Selection). AreSelections v.compiled (take c.min.result (take (length w.branches.now - first) (drop first w.branches.now)))) (sym c.in_ok-engine.ensures)
-    (subst (AreSelections w.xcc.now) (sym chunk) (chunk_selections w.xcc.now w.branches.now first w.size c.requires.1))
+    (subst (AreSelections w.means.xcc.now) (sym chunk) (chunk_selections w.means.xcc.now w.branches.now first w.size c.requires.1))
 
 pub returns : goal.returns
-returns c =
+returns g c =
     let w = c.args.self.now in
-    let x = w.xcc.now in
+    let x = w.means.xcc.now in
     let first = c.args.number * w.size in
     let taken = take c.min.result (take (length w.branches.now - first) (drop first w.branches.now)) in
     let chunk = chunk_is w.branches.now first w.size c.min.result c.min.ensures in

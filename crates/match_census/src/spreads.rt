@@ -1,0 +1,53 @@
+//! The order in which branches are counted.
+
+ghost use Rattle.std.specs.Prelude.{◌≡◌, ◌++◌, IfOk, length};
+ghost use Rattle.xcc_form.specs.Options.{Compiled};
+ghost use Rattle.match_census.specs.Branches.{AreSelections, StandFor};
+
+use crate::branches::Branch;
+use std::alloc::{AllocError, Global};
+use std::mem::swap;
+
+// So many branches or fewer stay next to each other.
+const NEAR: usize = 64;
+
+// Halving so often leaves few of the most branches.
+const MOST_HALVINGS: u8 = 16;
+
+// The same branches in another order, in which what is counted first is from all over the search: the work in a branch
+// is much like that in those beside it, and differs from the work in far ones. So the share of the branches that are
+// counted tells the share of the work that is done.
+//
+// An error where memory is refused.
+pub(crate) fn spread(alloc: Global, branches: Vec<Branch>) -> Result<Vec<Branch>, AllocError>
+    ensures stand { IfOk result (λ v. (x : Compiled) → StandFor x v.items branches.items) }
+    ensures selections { IfOk result (λ v. (x : Compiled) → AreSelections x branches.items → AreSelections x v.items) }
+    ensures long { IfOk result (λ v. length v.items ≡ length branches.items) }
+{
+    let mut spread = branches;
+    let mut near = spread.len();
+    for _ in 0..MOST_HALVINGS {
+        if near <= NEAR {
+            break;
+        }
+        spread = halves(alloc, spread)?;
+        near /= 2;
+    }
+    Ok(spread)
+}
+
+// Every second branch, and then the others.
+fn halves(alloc: Global, branches: Vec<Branch>) -> Result<Vec<Branch>, AllocError>
+    ensures stand { IfOk result (λ v. (x : Compiled) → StandFor x v.items branches.items) }
+    ensures selections { IfOk result (λ v. (x : Compiled) → AreSelections x branches.items → AreSelections x v.items) }
+    ensures long { IfOk result (λ v. length v.items ≡ length branches.items) }
+{
+    let mut these = Vec::new(alloc);
+    let mut others = Vec::new(alloc);
+    for branch in branches {
+        these.push(branch)?;
+        swap(&mut these, &mut others);
+    }
+    these.append(&mut others)?;
+    Ok(these)
+}

@@ -1,0 +1,20 @@
+//! What is told of a count while it runs.
+
+/// Told of a count while it runs, by whichever worker comes by. No answer depends on it.
+pub trait CensusWatch {
+    /// So many branches are to be counted.
+    fn begins(&self, branches: usize);
+
+    /// One more of them is counted, and so many arrangements more, as often as it weighs.
+    fn counted(&self, arrangements: u64);
+}
+
+/// Does nothing.
+#[derive(Drop)]
+pub struct Unwatched;
+
+impl CensusWatch for Unwatched {
+    fn begins(&self, _branches: usize) {}
+
+    fn counted(&self, _arrangements: u64) {}
+}
