@@ -32,7 +32,9 @@ pub use nodes::{Children, Node};
 pub use packed_lemmas::PackedLemma;
 pub use packed_trees::PackedTree;
 pub use parts::{CutCertificate, LemmaPart, cut_certificate};
-pub use readers::{read_certificate, read_lemma};
+pub use readers::{
+    LemmaLines, certificate_fault_place, read_certificate, read_lemma, read_lemma_lines,
+};
 pub use spellings::{
     join_certificate, put_pair, write_certificate, write_lemma, write_lemma_lines, write_symmetries,
 };

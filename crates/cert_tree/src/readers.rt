@@ -1,6 +1,7 @@
 //! Lemmas and certificates are read.
 
-ghost use Rattle.std.specs.Prelude.{◌≡◌, ◌+◌, ◌<◌, ◌≤◌, ◌^◌, ℕ, List, Contains, Ok, Err, IfOk, IfErr, OnOk, ◌++◌};
+ghost use Rattle.std.specs.Prelude.{◌≡◌, ◌+◌, ◌<◌, ◌≤◌, ◌^◌, ℕ, List, Contains, Ok, Err, IfOk, IfErr, IfSome, OnOk};
+ghost use Rattle.std.specs.Prelude.{◌++◌};
 ghost use Rattle.std.specs.Prelude.{length, take, drop};
 ghost use Rattle.match_text.specs.Ranges.{IsVersion, AreRanges};
 ghost use Rattle.match_text.specs.Words.{Judges};
@@ -27,7 +28,9 @@ use crate::heads::Head;
 use crate::tree_readers::tree;
 use match_board::limits::{LAST_LEMMA, LAST_SIDE, MOST_LEMMAS, MOST_SYMMETRIES};
 use match_puzzle::Pair;
-use match_text::{Ranges, ReadFault, SECOND, Scan, TextFault, TextKind, ranges_of};
+use match_text::{
+    Asked, FaultPlace, Ranges, ReadFault, SECOND, Scan, TextFault, TextKind, ranges_of,
+};
 use puzzle_symmetry::{Images, SymmetryLine};
 use std::alloc::Global;
 
@@ -47,8 +50,9 @@ fn mirrored_word(word: &[u8]) -> Result<bool, TextKind>
 fn mirrored(scan: &mut Scan) -> Result<bool, TextFault>
     ensures { Gives (λ mirrored. mirrored) result scan.new (word_by mirrored_in scan.old) }
 {
-    let word = scan.next_word()?;
-    scan.accept(mirrored_word(word))
+    let asked = Asked::OneOf("+, or -");
+    let word = scan.next_word(asked)?;
+    scan.accept(asked, mirrored_word(word))
 }
 
 #[tactic(auto, unfolding(crate::specs::CertificateText::symmetry_line))]
@@ -241,6 +245,41 @@ fn read_lines(alloc: Global, text: &[u8]) -> Result<CertificateLines, ReadFault>
 {
     let mut scan = Scan::new(text);
     whole(alloc, &mut scan)
+}
+
+/// Where the text of a certificate has its first fault; none where it has none, or memory is refused. Lemmas' numbers are
+/// no such fault.
+#[tactic(auto, unfolding(crate::specs::CertificateText::certificate_of))]
+pub fn certificate_fault_place(alloc: Global, text: &[u8]) -> Option<FaultPlace<'_>>
+    requires { length text.now + 1 < 2 ^ 32 }
+    ensures { IfSome result (λ place. certificate_of text.now ≡ Err place.fault) }
+{
+    let mut scan = Scan::new(text);
+    match whole(alloc, &mut scan) {
+        Err(ReadFault::Text(fault)) => Some(scan.fault_place(fault)),
+        _ => None,
+    }
+}
+
+/// The lemmas of a certificate's text in the order of their lines, and the number of the first of these lines, from 1.
+#[derive(Drop)]
+pub struct LemmaLines {
+    pub first_line: usize,
+    pub lemmas: Lemmas,
+}
+
+/// The lemmas of a certificate's text as they stand there, assembled or not; none where the text has a fault, or memory is
+/// refused.
+pub fn read_lemma_lines(alloc: Global, text: &[u8]) -> Option<LemmaLines>
+    requires { length text.now + 1 < 2 ^ 32 }
+{
+    let lines = read_lines(alloc, text).ok()?;
+    // The version, how many symmetries, these, how many lemmas.
+    let first_line = lines.symmetries.len().saturating_add(4);
+    Some(LemmaLines {
+        first_line,
+        lemmas: lines.lemmas,
+    })
 }
 
 // The certificate of these lines.

@@ -11,7 +11,7 @@ ghost use Rattle.cert_tree.specs.HeadReading.{most_of, rest_by, head_by, ReadsOn
 
 use crate::heads::Head;
 use match_board::limits::{LAST_ARRANGEMENT, LAST_LEMMA, LAST_SYMMETRY};
-use match_text::{Ranges, ReadFault, Scan, TextFault, TextKind};
+use match_text::{Asked, Ranges, ReadFault, Scan, TextFault, TextKind};
 
 // The kinds of node that have a letter.
 #[derive(Clone, Copy)]
@@ -24,6 +24,9 @@ enum NodeKind {
     Same,
     Image,
 }
+
+// How the letters are told.
+const NODE: Asked = Asked::OneOf("a node: c, t, d, e, f, s, or i");
 
 fn node_kind_word(word: &[u8]) -> Result<NodeKind, TextKind>
     ensures { Judges (λ kind. kind) result (node_kind_in word.now) }
@@ -46,16 +49,18 @@ fn node_kind(scan: &mut Scan) -> Result<NodeKind, TextFault>
 {
     // Looked at where it stands: in a `Result` beside a fault a word would pass through memory.
     let Some(word) = scan.peek() else {
+        scan.miss(NODE);
         return Err(scan.fault(TextKind::Word));
     };
-    scan.accept(node_kind_word(word))
+    scan.accept(NODE, node_kind_word(word))
 }
 
 // What is wrong where a node would begin below the last level.
 #[tactic(auto, unfolding(crate::specs::TreeText::tree_by))]
-fn below_last(scan: &Scan) -> TextFault
-    ensures { (ranges : RangesOf) → tree_by ranges 0 scan.now ≡ Err result }
+fn below_last(scan: &mut Scan) -> TextFault
+    ensures { (ranges : RangesOf) → tree_by ranges 0 scan.old ≡ Err result }
 {
+    scan.miss(NODE);
     if scan.has_word() {
         scan.fault(TextKind::TooDeep)
     } else {

@@ -1,6 +1,6 @@
 //! Lists of arrangements are read.
 
-ghost use Rattle.std.specs.Prelude.{◌≡◌, ◌+◌, ◌<◌, ◌^◌, ℕ, List, Ok, IfOk, length, take};
+ghost use Rattle.std.specs.Prelude.{◌≡◌, ◌+◌, ◌<◌, ◌^◌, ℕ, List, Ok, Err, IfOk, IfSome, length, take};
 ghost use Rattle.match_text.specs.Ranges.{AreRanges};
 ghost use Rattle.match_text.specs.declared.ranges.TheConstants.{SECOND};
 ghost use Rattle.match_text.specs.Words.{placement_in};
@@ -11,6 +11,7 @@ ghost use Rattle.match_text.specs.declared.faults.TextKind.TheVariants as kinds;
 ghost use Rattle.match_text.specs.ListSpelling.{list_spelling, IsListWithin, IsSpelledIn};
 ghost use Rattle.match_text.specs.Lists.{arrangement_line, list_text, list_of, list_said, said_of};
 
+use crate::asked::FaultPlace;
 use crate::faults::{ListTextFault, ReadFault};
 use crate::ranges::{Ranges, ranges_of};
 use crate::scans::Scan;
@@ -114,6 +115,19 @@ fn read_text(alloc: Global, text: &[u8]) -> Result<Vec<Arrangement>, ReadFault>
     let mut scan = Scan::new(text);
     let said = whole(alloc, &mut scan)?;
     Ok(said.rows)
+}
+
+/// Where the text of a list has its first fault; none where it has none, or memory is refused.
+#[tactic(auto, unfolding(crate::specs::Lists::list_of, crate::specs::Lists::list_said))]
+pub fn list_fault_place(alloc: Global, text: &[u8]) -> Option<FaultPlace<'_>>
+    requires { length text.now + 1 < 2 ^ 32 }
+    ensures { IfSome result (λ place. list_of text.now ≡ Err place.fault) }
+{
+    let mut scan = Scan::new(text);
+    match whole(alloc, &mut scan) {
+        Err(ReadFault::Text(fault)) => Some(scan.fault_place(fault)),
+        _ => None,
+    }
 }
 
 /// The arrangements that a text lists, or its first fault; `Memory` only where that is refused.

@@ -1,6 +1,7 @@
 //! Puzzles are read.
 
-ghost use Rattle.std.specs.Prelude.{◌≡◌, ◌≢◌, ◌+◌, ◌*◌, ◌<◌, ◌^◌, ◌++◌, ℕ, Ok, IfOk, IfErr, OnOk, length, map, take};
+ghost use Rattle.std.specs.Prelude.{◌≡◌, ◌≢◌, ◌+◌, ◌*◌, ◌<◌, ◌^◌, ◌++◌, ℕ, Ok, Err, IfOk, IfErr, IfSome, OnOk};
+ghost use Rattle.std.specs.Prelude.{length, map, take};
 ghost use Rattle.match_board.specs.Board.{IsBoard, IsPlain, shape_of};
 ghost use Rattle.match_board.specs.Tile.{word as tile_colours};
 ghost use Rattle.match_board.specs.First.{IsFirst};
@@ -19,6 +20,7 @@ ghost use Rattle.match_text.specs.Puzzles.{row_line, shape_rows, board_rows, fig
 ghost use Rattle.match_text.specs.Puzzles.{BoardFails, mates_line, mating_part};
 ghost use Rattle.match_text.specs.Puzzles.{PuzzleReads, PuzzleGives};
 
+use crate::asked::{Asked, FaultPlace};
 use crate::faults::{PuzzleTextFault, ReadFault, TextFault, TextKind};
 use crate::ranges::{Ranges, ranges_of};
 use crate::scans::Scan;
@@ -28,21 +30,21 @@ use match_board::{Board, BoardFault, Figure, Tile};
 use match_puzzle::{Border, BorderRules, Puzzle, PuzzleFault};
 use std::alloc::{AllocError, Global};
 
-// What a text says of a puzzle. There may be no such puzzle.
+/// What a text says of a puzzle. There may be no such puzzle.
 #[derive(Drop)]
-struct PuzzleText {
-    // 1 or 2
-    version: u8,
-    board: BoardLine,
-    // one for each place of a shape, else none
-    marks: Vec<bool>,
-    turns: bool,
-    // with as many rules as a text may give
-    border: Border,
-    // as many as a text may give, none in version 1
-    mates: Vec<u8>,
-    // at least one, and as many as a text may give
-    tiles: Vec<Tile>,
+pub struct PuzzleText {
+    /// 1 or 2.
+    pub version: u8,
+    pub board: BoardLine,
+    /// One for each place of a shape, row by row, whether it has a cell; else none.
+    pub marks: Vec<bool>,
+    pub turns: bool,
+    /// With as many rules as a text may give.
+    pub border: Border,
+    /// As many as a text may give, none in version 1.
+    pub mates: Vec<u8>,
+    /// At least one, and as many as a text may give.
+    pub tiles: Vec<Tile>,
 }
 
 // The kinds of board that have a word.
@@ -54,13 +56,13 @@ enum BoardKind {
     Shape,
 }
 
-// What the line of a board says, with numbers that a text may give.
+/// What the line of a board says, with numbers that a text may give.
 #[derive(Clone, Copy)]
-enum BoardLine {
+pub enum BoardLine {
     Rectangle { width: u16, height: u16 },
     Triangle { size: u16 },
     Hexagon { size: u16 },
-    // so many places in each row, and so many rows, which follow
+    /// So many places in each row, and so many rows, which follow.
     Shape { width: u16, height: u16 },
 }
 
@@ -70,6 +72,15 @@ enum BorderKind {
     Free,
     One,
     Each,
+}
+
+// The words for kinds of board, as they are told.
+fn board_kinds(version: u8) -> &'static str {
+    if version == 1 {
+        "rect, triangle, or hexagon"
+    } else {
+        "rect, triangle, hexagon, or shape"
+    }
 }
 
 fn board_kind_word(word: &[u8], version: u8) -> Result<BoardKind, TextKind>
@@ -94,8 +105,9 @@ fn board_kind_word(word: &[u8], version: u8) -> Result<BoardKind, TextKind>
 fn board_kind(scan: &mut Scan, version: u8) -> Result<BoardKind, TextFault>
     ensures { Gives (λ kind. kind) result scan.new (word_by (board_kind_in version) scan.old) }
 {
-    let word = scan.next_word()?;
-    scan.accept(board_kind_word(word, version))
+    let asked = Asked::OneOf(board_kinds(version));
+    let word = scan.next_word(asked)?;
+    scan.accept(asked, board_kind_word(word, version))
 }
 
 // A width, a height or a size of a board that is no shape.
@@ -166,8 +178,9 @@ fn put_marks(marks: &mut Vec<bool>, row: &[u8]) -> Result<(), AllocError>
 fn row_marks(scan: &mut Scan, width: u16, marks: &mut Vec<bool>) -> Result<(), ReadFault>
     ensures { AddsRow result marks.old.items marks.new.items scan.new (word_by (marks_in width) scan.old) }
 {
-    let word = scan.next_word()?;
-    scan.accept(row_word(word, width))?;
+    let asked = Asked::Row { width };
+    let word = scan.next_word(asked)?;
+    scan.accept(asked, row_word(word, width))?;
     put_marks(marks, word)?;
     Ok(())
 }
@@ -228,8 +241,9 @@ fn turns_word(word: &[u8]) -> Result<bool, TextKind>
 fn turns_rule(scan: &mut Scan) -> Result<bool, TextFault>
     ensures { Gives (λ turns. turns) result scan.new (word_by turns_in scan.old) }
 {
-    let word = scan.next_word()?;
-    scan.accept(turns_word(word))
+    let asked = Asked::OneOf("yes, or no");
+    let word = scan.next_word(asked)?;
+    scan.accept(asked, turns_word(word))
 }
 
 #[tactic(auto, unfolding(crate::specs::Puzzles::turns_line))]
@@ -262,8 +276,9 @@ fn border_kind_word(word: &[u8]) -> Result<BorderKind, TextKind>
 fn border_kind(scan: &mut Scan) -> Result<BorderKind, TextFault>
     ensures { Gives (λ kind. kind) result scan.new (word_by border_kind_in scan.old) }
 {
-    let word = scan.next_word()?;
-    scan.accept(border_kind_word(word))
+    let asked = Asked::OneOf("free, one, or each");
+    let word = scan.next_word(asked)?;
+    scan.accept(asked, border_kind_word(word))
 }
 
 // The rest of the line.
@@ -401,14 +416,28 @@ fn whole(alloc: Global, scan: &mut Scan) -> Result<PuzzleText, ReadFault>
     })
 }
 
+/// What a text says of a puzzle, or its first fault; `Memory` only where that is refused.
 #[tactic(auto, unfolding(crate::specs::Puzzles::puzzle_of))]
-fn read_text(alloc: Global, text: &[u8]) -> Result<PuzzleText, ReadFault>
+pub fn read_puzzle_text(alloc: Global, text: &[u8]) -> Result<PuzzleText, ReadFault>
     requires { length text.now + 1 < 2 ^ 32 }
     ensures says { Says view_of result (puzzle_of text.now) }
     ensures marks { IfOk result (λ t. HasItsMarks t.board t.marks.items) }
 {
     let mut scan = Scan::new(text);
     whole(alloc, &mut scan)
+}
+
+/// Where the text of a puzzle has its first fault; none where it has none, or memory is refused.
+#[tactic(auto, unfolding(crate::specs::Puzzles::puzzle_of))]
+pub fn puzzle_fault_place(alloc: Global, text: &[u8]) -> Option<FaultPlace<'_>>
+    requires { length text.now + 1 < 2 ^ 32 }
+    ensures { IfSome result (λ place. puzzle_of text.now ≡ Err place.fault) }
+{
+    let mut scan = Scan::new(text);
+    match whole(alloc, &mut scan) {
+        Err(ReadFault::Text(fault)) => Some(scan.fault_place(fault)),
+        _ => None,
+    }
 }
 
 // The board that was said.
@@ -422,6 +451,17 @@ fn make_board(line: BoardLine, marks: &[bool]) -> Result<Board, BoardFault>
         BoardLine::Triangle { size } => Board::of(Figure::Triangle { size }),
         BoardLine::Hexagon { size } => Board::of(Figure::Hexagon { size }),
         BoardLine::Shape { width, height } => Board::shape(width, height, marks),
+    }
+}
+
+impl PuzzleText {
+    /// The board that is said, or why there is none.
+    pub fn make_board(&self) -> Result<Board, BoardFault>
+        requires { HasItsMarks self.now.board self.now.marks.items }
+        ensures board { IfOk result (λ b. (b ≡ figure_of self.now.board self.now.marks.items) × IsBoard b) }
+        ensures fault { IfErr result (BoardFails (figure_of self.now.board self.now.marks.items)) }
+    {
+        make_board(self.board, &self.marks)
     }
 }
 
@@ -455,7 +495,7 @@ fn read_and_make(alloc: Global, text: &[u8]) -> Result<Puzzle, PuzzleTextFault>
     requires { length text.now + 1 < 2 ^ 32 }
     ensures { PuzzleReads text.now result }
 {
-    let said = read_text(alloc, text)?;
+    let said = read_puzzle_text(alloc, text)?;
     let board = make_board(said.board, &said.marks)?;
     let puzzle = make_said(alloc, board, &said)?;
     Ok(puzzle)

@@ -11,6 +11,7 @@ ghost use Rattle.match_text.specs.Words.{pair_in};
 ghost use Rattle.match_text.specs.Place.{Place, start, first_word, other_words, without_word, judged, Gives, next_line};
 ghost use Rattle.match_text.specs.Place.{end_of_line, end_of_text, skip_line, some_word, word_by, opening, counted, closing};
 
+use crate::asked::{Asked, FaultPlace};
 use crate::faults::{TextFault, TextKind};
 use crate::ranges::Ranges;
 use crate::words::{
@@ -32,6 +33,8 @@ pub struct Scan<'a> {
     rest: Option<&'a [u8]>,
     // what stands after the line
     ahead: &'a [u8],
+    // the word that was asked for and wasn't there; no value that is read depends on it
+    missed: Option<Asked>,
 }
 
 impl<'a> Model for Scan<'a> {
@@ -56,6 +59,7 @@ impl<'a> Scan<'a> {
             line: 0,
             rest: None,
             ahead: text,
+            missed: None,
         }
     }
 
@@ -65,6 +69,27 @@ impl<'a> Scan<'a> {
     {
         Scan {
             line: self.line,
+            rest: self.rest,
+            ahead: self.ahead,
+            missed: self.missed,
+        }
+    }
+
+    /// Notes which word is asked for here and isn't there, for those who are told of a fault.
+    #[inline]
+    pub fn miss(&mut self, asked: Asked)
+        ensures { self.new ≡ self.old }
+    {
+        self.missed = Some(asked);
+    }
+
+    /// The place of this fault, at which reading ended.
+    pub fn fault_place(&self, fault: TextFault) -> FaultPlace<'a>
+        ensures { result.fault ≡ fault }
+    {
+        FaultPlace {
+            fault,
+            missed: self.missed,
             rest: self.rest,
             ahead: self.ahead,
         }
@@ -171,14 +196,19 @@ impl<'a> Scan<'a> {
         }
     }
 
-    /// The next word. Word, where none stands there.
+    /// The next word, which is asked for. Word, where none stands there.
     #[inline]
-    pub fn next_word(&self) -> Result<&'a [u8], TextFault>
-        ensures { MatchResult result
-            (λ word. first_word self.now.words ≡ Some word.now)
-            (λ e. (self.now.words ≡ []) × (e ≡ record { line = self.now.line; kind = TextKind.Word })) }
+    pub fn next_word(&mut self, asked: Asked) -> Result<&'a [u8], TextFault>
+        ensures word { MatchResult result
+            (λ word. first_word self.old.words ≡ Some word.now)
+            (λ e. (self.old.words ≡ []) × (e ≡ record { line = self.old.line; kind = TextKind.Word })) }
+        ensures same { self.new ≡ self.old }
     {
-        self.peek().ok_or(self.fault(TextKind::Word))
+        let Some(word) = self.peek() else {
+            self.miss(asked);
+            return Err(self.fault(TextKind::Word));
+        };
+        Ok(word)
     }
 
     /// A word stands there. Word, where none does.
@@ -207,9 +237,13 @@ impl<'a> Scan<'a> {
         }
     }
 
-    /// Goes past the next word where it was judged good, and else says what is wrong with it.
+    /// Goes past the next word, which is asked for, where it was judged good, and else says what is wrong with it.
     #[inline]
-    pub fn accept<X>(&mut self, judgement: Result<X, TextKind>) -> Result<X, TextFault>
+    pub fn accept<X>(
+        &mut self,
+        asked: Asked,
+        judgement: Result<X, TextKind>,
+    ) -> Result<X, TextFault>
         requires { self.old.words ≢ [] }
         ensures gives { Gives (λ x. x) result self.new (judged self.old (other_words self.old.words) judgement) }
         ensures err { OnErr result (self.new ≡ self.old) }
@@ -219,25 +253,29 @@ impl<'a> Scan<'a> {
                 self.advance();
                 Ok(x)
             }
-            Err(kind) => Err(self.fault(kind)),
+            Err(kind) => {
+                self.miss(asked);
+                Err(self.fault(kind))
+            }
         }
     }
 
     // This word, whatever stands after it.
     #[inline(never)]
     #[tactic(auto, unfolding(crate::specs::Place::word_by))]
-    fn any_word(&mut self, wanted: &[u8]) -> Result<(), TextFault>
+    fn any_word(&mut self, wanted: &'static [u8]) -> Result<(), TextFault>
         ensures gives { Gives (λ _. tt) result self.new (word_by (fixed_in wanted.now) self.old) }
         ensures err { OnErr result (self.new ≡ self.old) }
     {
-        let word = self.next_word()?;
-        self.accept(fixed_word(word, wanted))
+        let asked = Asked::Word(wanted);
+        let word = self.next_word(asked)?;
+        self.accept(asked, fixed_word(word, wanted))
     }
 
     /// This word.
     #[inline]
     #[tactic(auto, unfolding(crate::specs::Place::word_by))]
-    pub fn word(&mut self, wanted: &[u8]) -> Result<(), TextFault>
+    pub fn word(&mut self, wanted: &'static [u8]) -> Result<(), TextFault>
         ensures gives { Gives (λ _. tt) result self.new (word_by (fixed_in wanted.now) self.old) }
         ensures err { OnErr result (self.new ≡ self.old) }
     {
@@ -258,8 +296,9 @@ impl<'a> Scan<'a> {
         ensures version { IfOk result IsVersion }
         ensures err { OnErr result (self.new ≡ self.old) }
     {
-        let word = self.next_word()?;
-        self.accept(version_word(word))
+        let asked = Asked::Version;
+        let word = self.next_word(asked)?;
+        self.accept(asked, version_word(word))
     }
 
     // A number of any length.
@@ -271,8 +310,9 @@ impl<'a> Scan<'a> {
         ensures within { IfOk result (λ n. (least ≤ n) × (n ≤ most)) }
         ensures err { OnErr result (self.new ≡ self.old) }
     {
-        let word = self.next_word()?;
-        self.accept(number_word(word, least, most))
+        let asked = Asked::Number { least, most };
+        let word = self.next_word(asked)?;
+        self.accept(asked, number_word(word, least, most))
     }
 
     /// A number from `least` to `most`.
@@ -303,8 +343,9 @@ impl<'a> Scan<'a> {
         ensures gives { Gives (λ n. n) result self.new (word_by colour_in self.old) }
         ensures err { OnErr result (self.new ≡ self.old) }
     {
-        let word = self.next_word()?;
-        self.accept(colour_word(word))
+        let asked = Asked::Colour;
+        let word = self.next_word(asked)?;
+        self.accept(asked, colour_word(word))
     }
 
     /// What is asked of a border pair: a colour below 36, or nothing.
@@ -313,8 +354,9 @@ impl<'a> Scan<'a> {
         ensures gives { Gives (λ rule. rule) result self.new (word_by rule_in self.old) }
         ensures err { OnErr result (self.new ≡ self.old) }
     {
-        let word = self.next_word()?;
-        self.accept(rule_word(word))
+        let asked = Asked::Rule;
+        let word = self.next_word(asked)?;
+        self.accept(asked, rule_word(word))
     }
 
     /// A tile of three or four sides.
@@ -323,8 +365,9 @@ impl<'a> Scan<'a> {
         ensures gives { Gives tile_colours result self.new (word_by tile_in self.old) }
         ensures err { OnErr result (self.new ≡ self.old) }
     {
-        let word = self.next_word()?;
-        self.accept(tile_word(word))
+        let asked = Asked::Tile;
+        let word = self.next_word(asked)?;
+        self.accept(asked, tile_word(word))
     }
 
     // A placement, whatever stands after it.
@@ -334,8 +377,11 @@ impl<'a> Scan<'a> {
         ensures gives { Gives (λ p. p) result self.new (word_by (placement_in ranges.now) self.old) }
         ensures err { OnErr result (self.new ≡ self.old) }
     {
-        let word = self.next_word()?;
-        self.accept(placement_word(word, ranges))
+        let asked = Asked::Placement {
+            last_tile: ranges.last_cell,
+        };
+        let word = self.next_word(asked)?;
+        self.accept(asked, placement_word(word, ranges))
     }
 
     /// A placement: a tile in its range, and a turn below 4.
@@ -362,13 +408,16 @@ impl<'a> Scan<'a> {
         ensures gives { Gives (λ p. p) result self.new (word_by (pair_in ranges.now) self.old) }
         ensures err { OnErr result (self.new ≡ self.old) }
     {
-        let word = self.next_word()?;
-        self.accept(pair_word(word, ranges))
+        let asked = Asked::Pair {
+            last_cell: ranges.last_cell,
+        };
+        let word = self.next_word(asked)?;
+        self.accept(asked, pair_word(word, ranges))
     }
 
     /// The first line of a text: its name and the version, 1 or 2.
     #[tactic(auto, unfolding(crate::specs::Place::opening))]
-    pub fn opening(&mut self, name: &[u8]) -> Result<u8, TextFault>
+    pub fn opening(&mut self, name: &'static [u8]) -> Result<u8, TextFault>
         ensures gives { Gives (λ version. version) result self.new (opening name.now self.old) }
         ensures version { IfOk result IsVersion }
     {
@@ -381,7 +430,7 @@ impl<'a> Scan<'a> {
 
     /// A line of a name and a number from `least` to `most`.
     #[tactic(auto, unfolding(crate::specs::Place::counted))]
-    pub fn counted(&mut self, name: &[u8], least: u32, most: u32) -> Result<u32, TextFault>
+    pub fn counted(&mut self, name: &'static [u8], least: u32, most: u32) -> Result<u32, TextFault>
         requires { most + 1 < 2 ^ 32 }
         ensures gives { Gives (λ n. n) result self.new (counted name.now least most self.old) }
         ensures within { IfOk result (λ n. (least ≤ n) × (n ≤ most)) }
