@@ -3,6 +3,7 @@
 
 mod arrangements;
 mod drawings;
+mod estimates;
 mod faces;
 mod facts;
 mod figures;
@@ -14,6 +15,7 @@ mod triangles;
 
 pub use arrangements::write_arrangement;
 pub use drawings::write_drawing;
+pub use estimates::{Estimate, estimate_of, write_estimate};
 pub use facts::write_facts;
 pub use figures::{is_filled, row_length, rows as row_count};
 pub use laws::drawing_laws;

@@ -1,0 +1,205 @@
+//! How many arrangements a puzzle may be expected to have.
+
+ghost use Rattle.std.specs.Prelude.{◌<◌, IfOk};
+ghost use Rattle.match_board.specs.Board.{cell_count};
+ghost use Rattle.match_show.specs.Facts.{IsEstimateLine};
+
+use match_board::limits::MOST_COLOURS;
+use match_puzzle::Puzzle;
+use std::alloc::{AllocError, Global};
+
+// The digits of an estimate are below this, and at least a tenth of it, or 0.
+const DIGITS_END: u64 = 1_000_000_000_000;
+// No cell has more sides.
+const MOST_SIDES: u8 = 4;
+// Up to so many places before the point an estimate is written in full.
+const MOST_PLACES: i32 = 6;
+
+/// How many arrangements a puzzle would have in the mean, if each side of each tile showed a colour of its own accord,
+/// each as often as it stands on the tiles: as many as there are ways to lay the tiles, times the chance of each shared
+/// edge that its colours go together, and of each outer side that it shows what is asked. Where tiles aren't turned,
+/// colours are counted for each side apart. It is an estimate, and the number itself may be far from it: sides of one
+/// tile don't go their own ways.
+#[derive(Clone, Copy)]
+pub struct Estimate {
+    // 12 digits, or 0
+    digits: u64,
+    // how many places stand before the point
+    places: i32,
+}
+
+impl Estimate {
+    fn one() -> Estimate {
+        Estimate {
+            digits: DIGITS_END / 10,
+            places: 1,
+        }
+    }
+
+    // So many times as much, where `ways` and `of` are below 2^21.
+    fn times(self, ways: u32, of: u32) -> Estimate {
+        let mut digits = self.digits.saturating_mul(u64::from(ways)) / u64::from(of.max(1));
+        let mut places = self.places;
+        while digits >= DIGITS_END {
+            digits /= 10;
+            places = places.saturating_add(1);
+        }
+        while digits > 0 && digits < DIGITS_END / 10 {
+            digits *= 10;
+            places = places.saturating_sub(1);
+        }
+        Estimate { digits, places }
+    }
+
+    /// Whether it is more than a list may have, 1,000,000.
+    pub fn is_over_a_list(self) -> bool {
+        self.digits > 0 && self.places > MOST_PLACES
+    }
+
+    /// In full up to 999,999, and else as `1.5e7`, with two digits.
+    ///
+    /// An `Err` where memory is refused, and nowhere else.
+    pub fn to_text(self, alloc: Global) -> Result<String, AllocError> {
+        if self.digits == 0 {
+            return format!(in alloc; "0");
+        }
+        if self.places < 1 || self.places > MOST_PLACES {
+            let head = self.digits / (DIGITS_END / 10);
+            let tail = self.digits / (DIGITS_END / 100) % 10;
+            let power = self.places.saturating_sub(1);
+            return format!(in alloc; "{head}.{tail}e{power}");
+        }
+        let mut whole = self.digits;
+        for _ in self.places..12 {
+            whole /= 10;
+        }
+        format!(in alloc; "{whole}")
+    }
+}
+
+/// How many arrangements the puzzle may be expected to have.
+///
+/// An `Err` where memory for a table of colours is refused, and nowhere else. It asks what each side of each cell meets.
+pub fn estimate_of(alloc: Global, puzzle: &Puzzle) -> Result<Estimate, AllocError> {
+    let colours = SideColours::of(alloc, puzzle)?;
+    let mut estimate = ways_to_lay(puzzle);
+    for cell in 0..puzzle.board().cells() {
+        estimate = with_sides(estimate, puzzle, &colours, cell);
+    }
+    Ok(estimate)
+}
+
+// In how many ways tiles can be laid, whatever they show.
+fn ways_to_lay(puzzle: &Puzzle) -> Estimate {
+    let mut ways = Estimate::one();
+    let mut laid = 0u32;
+    for tile in puzzle.tiles() {
+        let turns = if puzzle.turns() { tile.period() } else { 1 };
+        laid = laid.saturating_add(1);
+        ways = ways.times(laid.saturating_mul(u32::from(turns)), 1);
+    }
+    ways
+}
+
+// The estimate, times the chances of the cell's sides, of each shared edge at the lesser cell.
+fn with_sides(before: Estimate, puzzle: &Puzzle, colours: &SideColours, cell: u16) -> Estimate
+    requires { cell < cell_count puzzle.now.board }
+{
+    let mut estimate = before;
+    for side in 0..puzzle.board().sides() {
+        match puzzle.meets(cell, side) {
+            Some((other, met)) => {
+                if cell < other {
+                    estimate = estimate.times(colours.matching(puzzle, side, met), colours.pairs());
+                }
+            }
+            None => {
+                if let Some(asked) = puzzle.rule(cell, side) {
+                    estimate = estimate.times(colours.count(side, asked), colours.sides);
+                }
+            }
+        }
+    }
+    estimate
+}
+
+// How often each colour stands on each side of the tiles; or on any, where tiles may be turned.
+#[derive(Drop)]
+struct SideColours {
+    // by side and colour
+    counts: Vec<u32>,
+    // how many sides were counted for each side: at least one, at most 1,024
+    sides: u32,
+}
+
+impl SideColours {
+    fn of(alloc: Global, puzzle: &Puzzle) -> Result<SideColours, AllocError> {
+        let board_sides = puzzle.board().sides();
+        let mut counts = Vec::with_capacity(
+            alloc,
+            usize::from(MOST_SIDES) * usize::from(MOST_COLOURS),
+        )?;
+        for side in 0..MOST_SIDES {
+            for colour in 0..MOST_COLOURS {
+                counts.push(count_of(puzzle, side, colour))?;
+            }
+        }
+        let cells = u32::from(puzzle.board().cells());
+        let sides = if puzzle.turns() {
+            cells * u32::from(board_sides)
+        } else {
+            cells
+        };
+        Ok(SideColours { counts, sides })
+    }
+
+    // How often the colour stands on the side.
+    fn count(&self, side: u8, colour: u8) -> u32 {
+        let place = usize::from(side) * usize::from(MOST_COLOURS) + usize::from(colour);
+        match self.counts.get(place) {
+            Some(count) => *count,
+            None => 0,
+        }
+    }
+
+    // Of how many pairs of sides, one of each of these, the colours go together.
+    fn matching(&self, puzzle: &Puzzle, side: u8, met: u8) -> u32 {
+        let mut matching = 0u32;
+        for colour in 0..MOST_COLOURS {
+            let pairs = self
+                .count(side, colour)
+                .saturating_mul(self.count(met, puzzle.mate(colour)));
+            matching = matching.saturating_add(pairs);
+        }
+        matching
+    }
+
+    // Of how many pairs in all.
+    fn pairs(&self) -> u32 {
+        self.sides.saturating_mul(self.sides)
+    }
+}
+
+// How many tiles have the colour on the side, or how many of their sides have it, where tiles may be turned.
+fn count_of(puzzle: &Puzzle, side: u8, colour: u8) -> u32 {
+    let mut count = 0u32;
+    for tile in puzzle.tiles() {
+        for other in 0..tile.sides() {
+            if (puzzle.turns() || other == side) && tile.shows(0, other) == colour {
+                count = count.saturating_add(1);
+            }
+        }
+    }
+    count
+}
+
+/// The line `estimate N`: how many arrangements the puzzle may be expected to have.
+///
+/// An `Err` where memory is refused, and nowhere else.
+pub fn write_estimate(alloc: Global, puzzle: &Puzzle) -> Result<Vec<u8>, AllocError>
+    ensures { IfOk result (λ text. IsEstimateLine text.items) }
+{
+    let number = estimate_of(alloc, puzzle)?.to_text(alloc)?;
+    let line = format!(in alloc; "estimate {number}\n")?;
+    Ok(Vec::from(line))
+}
