@@ -7,7 +7,7 @@ ghost use Rattle.xcc_dance.specs.Outcome.{IsCiteWithin};
 use crate::branches::OpenBranch;
 use crate::images::Occupied;
 use crate::shared::Shared;
-use crate::watches::{Watch, tell};
+use crate::watches::{Met, Watch};
 use match_puzzle::Pair;
 use std::alloc::AllocError;
 use std::sync::atomic::Ordering;
@@ -31,8 +31,10 @@ pub struct Choices<'a, 'h, W: Watch> {
     pub level: usize,
     // whether that prefix holds an image of a later lemma, so that each child does
     pub holds: bool,
-    // how often it was asked
-    pub asked: u32,
+    // how many cells are to be filled
+    pub cells: usize,
+    // what it met: it was asked of each child
+    pub met: Met,
     // whether it gives children away
     pub gives: bool,
 }
@@ -79,10 +81,10 @@ impl<'a, 'h, W: Watch> Choices<'a, 'h, W> {
         ensures same { self.new.hand.ghost_name ≡ self.old.hand.ghost_name }
         ensures gave { self.new.hand.now ≡ self.old.hand.now }
     {
-        if self.shared.nearly_spent(self.asked) {
+        if self.shared.nearly_spent(self.met.children) {
             return true;
         }
-        if !self.gives && self.asked >= LONG && self.asked % 16 == 0 {
+        if !self.gives && self.met.children >= LONG && self.met.children % 16 == 0 {
             self.gives = self.shared.few_wait();
         }
         self.gives
@@ -120,17 +122,21 @@ impl<'a, 'h, W: Watch> Cites for Choices<'a, 'h, W> {
     ghost answers_still = { λ _ _ _ _ _ _. tt };
 
     fn cite(&mut self, prefix: &[Pair]) -> Result<Option<Cite>, AllocError> {
-        if self.number == 0 && self.asked == 0 {
+        if self.number == 0 && self.met.children == 0 {
             self.give_planned()?;
         }
-        self.asked = self.asked.saturating_add(1);
-        tell(self.watch, self.asked);
+        self.met.child(self.watch);
         if let Some(cite) = self.known(prefix) {
             return Ok(Some(cite));
         }
-        if !self.is_to_give(prefix) {
-            return Ok(None);
+        let given = if self.is_to_give(prefix) {
+            self.give(prefix)?
+        } else {
+            None
+        };
+        if given.is_none() && prefix.len() == self.cells {
+            self.met.arrangement();
         }
-        self.give(prefix)
+        Ok(given)
     }
 }

@@ -13,7 +13,7 @@ ghost use Rattle.match_crew.specs.Solving.{IsOutcomeOf, IsTreeWithinWith};
 use crate::branches::{OpenBranch, fit_in_turn, rising_by_cell};
 use crate::choices::Choices;
 use crate::shared::Shared;
-use crate::watches::{Counted, Watch, tell_rest};
+use crate::watches::{Counted, Met, Watch};
 use cert_tree::{PackedLemma, PackedTree};
 use match_board::limits::{MOST_ARRANGEMENTS, MOST_FUEL};
 use match_puzzle::{Arrangement, Pair};
@@ -99,13 +99,15 @@ impl<'a, T: Wait, W: Watch> Searches<'a, T, W> {
         ensures tree { IfOk result (λ o. IfSome o (λ f. IsTreeWithinWith f.found.items f.tree)) }
         ensures gave { Gave hand.old hand.new }
     {
+        let cells = usize::from(self.xcc.puzzle().board().cells());
         if self.shared.is_alone() {
             let mut cites = Counted {
                 watch: self.watch,
-                looked: 0,
+                cells,
+                met: Met::at_root(pairs.len() == cells),
             };
             let finished = self.run(pairs, &mut cites);
-            tell_rest(self.watch, cites.looked);
+            cites.met.tell_rest(self.watch);
             return finished;
         }
         let shared = self.shared;
@@ -116,11 +118,12 @@ impl<'a, T: Wait, W: Watch> Searches<'a, T, W> {
             number,
             level: pairs.len(),
             holds: shared.plan.images.cite_any(pairs, number).is_some(),
-            asked: 0,
+            cells,
+            met: Met::at_root(pairs.len() == cells),
             gives: false,
         };
         let finished = self.run(pairs, &mut choices);
-        tell_rest(self.watch, choices.asked);
+        choices.met.tell_rest(self.watch);
         finished
     }
 
@@ -158,7 +161,7 @@ impl<'a, T: Wait, W: Watch> Searches<'a, T, W> {
         match self.desk.post(self.rt, lemma) {
             Ok(receipt) => {
                 let waiting = self.shared.waiting.load(Ordering::Relaxed);
-                self.watch.searched(found.len(), waiting);
+                self.watch.searched(waiting);
                 Ok(Searched::Posted { receipt, found })
             }
             Err(_) => Err(AllocError),

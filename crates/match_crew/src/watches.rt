@@ -6,11 +6,12 @@ use xcc_dance::{Cite, Cites};
 
 /// Told of a search while it runs, by whichever worker comes by. Nothing that is found depends on it.
 pub trait Watch {
-    /// A worker looked at so many further children of branches.
-    fn looked(&self, children: u32);
+    /// A worker looked at so many further children of branches, and met so many further arrangements, which it has found
+    /// if its lemma is searched to its end.
+    fn looked(&self, children: u32, arrangements: u32);
 
-    /// A lemma has been searched, and so many arrangements were found in it; so many branches wait for a worker.
-    fn searched(&self, found: usize, waiting: u64);
+    /// A lemma has been searched; so many branches wait for a worker.
+    fn searched(&self, waiting: u64);
 
     /// The fuel of a lemma was spent, whose prefix has so many pairs.
     fn gave_up(&self, pairs: usize);
@@ -21,9 +22,9 @@ pub trait Watch {
 pub struct Unwatched;
 
 impl Watch for Unwatched {
-    fn looked(&self, _children: u32) {}
+    fn looked(&self, _children: u32, _arrangements: u32) {}
 
-    fn searched(&self, _found: usize, _waiting: u64) {}
+    fn searched(&self, _waiting: u64) {}
 
     fn gave_up(&self, _pairs: usize) {}
 }
@@ -31,24 +32,51 @@ impl Watch for Unwatched {
 // So many children are told of at once.
 const TOLD_AT_ONCE: u32 = 1_024;
 
-// Tells of the last children, where so many were looked at that it is time.
-pub(crate) fn tell<W: Watch>(watch: &W, looked: u32) {
-    if looked % TOLD_AT_ONCE == 0 {
-        watch.looked(TOLD_AT_ONCE);
+// What a job met, as far as the numbers fit.
+#[derive(Clone, Copy)]
+pub struct Met {
+    // how many children of branches
+    pub children: u32,
+    // how many arrangements that were not told of
+    untold: u32,
+}
+
+impl Met {
+    // Where a lemma's root is an arrangement, or isn't.
+    pub(crate) fn at_root(is_arrangement: bool) -> Met {
+        Met {
+            children: 0,
+            untold: u32::from(is_arrangement),
+        }
+    }
+
+    // One child more; tells of the last ones, where so many were looked at that it is time.
+    pub(crate) fn child<W: Watch>(&mut self, watch: &W) {
+        self.children = self.children.saturating_add(1);
+        if self.children % TOLD_AT_ONCE == 0 {
+            watch.looked(TOLD_AT_ONCE, self.untold);
+            self.untold = 0;
+        }
+    }
+
+    // One arrangement more.
+    pub(crate) fn arrangement(&mut self) {
+        self.untold = self.untold.saturating_add(1);
+    }
+
+    // Tells of what was met since it was told last.
+    pub(crate) fn tell_rest<W: Watch>(&self, watch: &W) {
+        watch.looked(self.children % TOLD_AT_ONCE, self.untold);
     }
 }
 
-// Tells of the children that were looked at since it was told last, where so many were in all.
-pub(crate) fn tell_rest<W: Watch>(watch: &W, looked: u32) {
-    watch.looked(looked % TOLD_AT_ONCE);
-}
-
-// Cites nothing, and tells how many children were looked at.
+// Cites nothing, and tells what was met.
 #[derive(Drop)]
 pub struct Counted<'a, W: Watch> {
     pub watch: &'a W,
-    // how many they are, as far as that fits
-    pub looked: u32,
+    // how many cells are to be filled
+    pub cells: usize,
+    pub met: Met,
 }
 
 impl<'a, W: Watch> Cites for Counted<'a, W> {
@@ -66,9 +94,11 @@ impl<'a, W: Watch> Cites for Counted<'a, W> {
 
     ghost answers_still = { λ _ _ _ _ _ _. tt };
 
-    fn cite(&mut self, _prefix: &[Pair]) -> Result<Option<Cite>, AllocError> {
-        self.looked = self.looked.saturating_add(1);
-        tell(self.watch, self.looked);
+    fn cite(&mut self, prefix: &[Pair]) -> Result<Option<Cite>, AllocError> {
+        self.met.child(self.watch);
+        if prefix.len() == self.cells {
+            self.met.arrangement();
+        }
         Ok(None)
     }
 }
