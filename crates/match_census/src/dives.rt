@@ -19,6 +19,8 @@ pub(crate) struct Dives {
     random: Xoshiro256PlusPlus,
     // the most levels that a tree has
     levels: u16,
+    // how many nodes the dives have come to
+    steps: u64,
 }
 
 impl Dives {
@@ -27,7 +29,13 @@ impl Dives {
         Dives {
             random: Xoshiro256PlusPlus::seed_from_u64(SEED),
             levels: cells,
+            steps: 0,
         }
+    }
+
+    // How many nodes the dives have come to.
+    pub(crate) fn steps(&self) -> u64 {
+        self.steps
     }
 
     // The mean of so many dives from where the engine is.
@@ -51,6 +59,7 @@ impl Dives {
     fn dive<E: OpenOptions>(&mut self, engine: &mut E, levels: u16) -> Result<u64, AllocError>
         ensures { engine.new ≡ engine.old }
     {
+        self.steps = self.steps.saturating_add(1);
         let Some(item) = engine.branch_item() else {
             return Ok(1);
         };
