@@ -1,2 +1,3 @@
 pub mod SceneLemmas
 pub mod NodeLemmas
+pub mod FindingLemmas

@@ -20,7 +20,9 @@ use Rattle.cert_check.specs.declared.faults.NodeFault.{NodeFault}
 use Rattle.cert_check.specs.declared.faults.NodeFault.TheVariants.{WrongCount, NotDead}
 use Rattle.cert_check.specs.declared.faults.TreeFault.{TreeFault}
 use Rattle.match_show.specs.Drawing.{IsDrawing}
+use Rattle.match_explain.specs.Findings.{IsFinding, closing_of}
 use Rattle.match_explain.specs.Scene.{LeadsTo}
+use Rattle.match_explain.specs.declared.findings.Finding.{Finding}
 
 -- The line names the pairs that fit and settle the item, in the item's order, each behind a space.
 abbrev pub NamesFitting : Task → Prefix → Item → (line : List ℕ) → Type 0
@@ -48,10 +50,6 @@ MarksNode (found number) mark = Unit {0}
 MarksNode (same lemma) mark = mark ≡ None
 MarksNode (image lemma symmetry) mark = mark ≡ None
 
--- what a certificate that is refused leaves open
-abbrev pub closing_text : List ℕ
-closing_text = codes "This does not say that the list is incomplete." ++ 10 ∷ []
-
 -- The line of words names the lemma by its number. Which place it names, how it calls the node, and its sentence on
 -- the fault are not said here.
 pub record NamesLemma (number : ℕ) (words : List ℕ) : Type 0 where
@@ -63,7 +61,7 @@ pub record NamesLemma (number : ℕ) (words : List ℕ) : Type 0 where
       ++ (codes ", lemma " ++ (decimal number ++ (codes ": " ++ (node ++ (codes ": " ++ (sentence ++ 10 ∷ [])))))))))
 
 -- The text tells of the node that the fault's path leads to: in words, by the pairs that fit, and by the board, drawn
--- as it is there. Then it says what stays open, and no more.
+-- as it is there. Then it says what the board says of the list, or what stays open, and no more.
 pub record TellsOfNode (question : Question) (number : ℕ) (fault : TreeFault) (text : List ℕ) : Type 0 where
   pub lemma : Piece
   pub is : slice_get question.lemmas number ≡ Some lemma
@@ -79,7 +77,9 @@ pub record TellsOfNode (question : Question) (number : ℕ) (fault : TreeFault) 
   pub marks : MarksNode node mark
   pub drawing : List ℕ
   pub drawn : IsDrawing (record { puzzle = question.puzzle; placed = placed }) mark drawing
-  pub parts : text ≡ words ++ (fitting ++ (drawing ++ closing_text))
+  pub finding : Finding
+  pub finds : IsFinding question placed finding
+  pub parts : text ≡ words ++ (fitting ++ (drawing ++ closing_of finding))
 
 -- What a text that explains a fault has to tell. Of a fault that is no node's, nothing is said here.
 abbrev pub IsExplanation : Question → Fault → (text : List ℕ) → Type 0

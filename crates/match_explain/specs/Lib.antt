@@ -1,2 +1,3 @@
 pub mod Scene
+pub mod Findings
 pub mod Explanation

@@ -9,23 +9,29 @@ use crate::certificate_sentences::{prefix_sentence, root_sentence, symmetry_sent
 use crate::cited_pairs::prefix_of;
 use crate::list_sentences::Listed;
 use crate::node_explanations::explain_node;
-use crate::places::line_of;
+use crate::places::{LemmaLine, line_of};
 use cert_check::{Fault, Question};
 use match_puzzle::{Arrangement, ArrangementFault, PrefixFault, Puzzle};
 use match_show::write_drawing;
 use puzzle_symmetry::SymmetryFault;
 use std::alloc::{AllocError, Global};
+use std::hash::BuildHasher;
 
 /// Why a question's list and certificate are refused, by this fault: where it stands in their texts, what is wrong
 /// there, and for a listed arrangement or a node of a tree the board, drawn with what is placed.
 ///
+/// Of a node whose board is an arrangement that isn't listed, that is told, and whether it is an image of a listed one;
+/// its images are looked up by their hash, of which [`expand`](symmetry_orbits::expand) says more.
+///
 /// The certificate's text is asked for the line that a lemma stands on. An `Err` where memory is refused, and nowhere
-/// else. It takes time in proportion to the question and the text, and memory for what is written.
-pub fn write_explanation(
+/// else. It takes time in proportion to the question, the text and those images, and memory for these and for what is
+/// written.
+pub fn write_explanation<S: BuildHasher + Drop>(
     alloc: Global,
     question: &Question<'_>,
     fault: &Fault,
     certificate: &[u8],
+    hasher: S,
 ) -> Result<Vec<u8>, AllocError>
     requires { IsAnswer question.now (Refused fault.now) }
     ensures { IfOk result (λ text. IsExplanation question.now fault.now text.items) }
@@ -44,7 +50,13 @@ pub fn write_explanation(
             let text = format!(in alloc; "certificate: {sentence}\n{CLOSING}")?;
             Ok(Vec::from(text))
         }
-        Fault::Tree(number, fault) => explain_node(alloc, question, *number, fault, certificate),
+        Fault::Tree(number, fault) => {
+            let lemma = LemmaLine {
+                number: *number,
+                line: line_of(alloc, certificate, *number)?,
+            };
+            explain_node(alloc, question, lemma, fault, hasher)
+        }
     }
 }
 

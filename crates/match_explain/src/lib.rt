@@ -4,16 +4,23 @@
 mod certificate_sentences;
 mod cited_pairs;
 mod differences;
+mod documents;
 mod explanations;
+mod findings;
+mod line_forms;
 mod list_sentences;
 mod node_explanations;
 mod node_sentences;
 mod places;
-mod puzzle_numbers;
+mod puzzle_hints;
+mod record_hints;
 mod scenes;
 mod sides;
-mod text_lines;
+mod spots;
+mod text_hints;
+mod tree_spots;
 
 pub use explanations::write_explanation;
-pub use puzzle_numbers::puzzle_sentence;
-pub use text_lines::{Text, line_sentence};
+pub use findings::{Finding, missing_laws};
+pub use puzzle_hints::puzzle_hint;
+pub use record_hints::{certificate_hint, list_hint};

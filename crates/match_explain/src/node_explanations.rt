@@ -15,39 +15,40 @@ ghost use Rattle.cert_check.specs.declared.faults.Fault.TheVariants as faults;
 ghost use Rattle.match_explain.specs.Explanation.{NamesFitting, NamesLemma, NamesWhatFits, TellsOfNode};
 ghost use Rattle.match_explain.specs.Explanation.{miscounted_item};
 
-use crate::explanations::CLOSING;
+use crate::findings::finding_of;
 use crate::node_sentences::Node;
-use crate::places::line_of;
+use crate::places::LemmaLine;
 use crate::scenes::Scene;
 use cert_check::{NodeFault, Question, TreeFault};
 use cert_tree::{Head, put_pair};
 use match_puzzle::{FittingPairs, Item, Partial};
 use match_show::write_drawing;
 use std::alloc::{AllocError, Global};
+use std::hash::BuildHasher;
 
-// Why the tree of the lemma with this number is refused.
-pub(crate) fn explain_node(
+// Why the tree of this lemma is refused.
+pub(crate) fn explain_node<S: BuildHasher + Drop>(
     alloc: Global,
     question: &Question<'_>,
-    number: u32,
+    at: LemmaLine,
     fault: &TreeFault,
-    certificate: &[u8],
+    hasher: S,
 ) -> Result<Vec<u8>, AllocError>
-    requires { IsAnswer question.now (Refused (faults.Tree number fault.now)) }
-    ensures { IfOk result (λ text. TellsOfNode question.now number fault.now text.items) }
+    requires { IsAnswer question.now (Refused (faults.Tree at.number fault.now)) }
+    ensures { IfOk result (λ text. TellsOfNode question.now at.number fault.now text.items) }
 {
+    let LemmaLine { number, line } = at;
     let lemma = question.lemmas().at(number as usize);
     let None = question.puzzle().prefix_fault(lemma.prefix) else {
         unreachable!();
     };
     let scene = Scene::at(alloc, question.puzzle(), &lemma, fault.path.steps())?;
     let node = Node {
-        question,
+        question: &*question,
         lemma: number,
         head: scene.head(),
         partial: &scene.partial,
     };
-    let line = line_of(alloc, certificate, number)?;
     let word = scene
         .words
         .saturating_add(lemma.prefix.len())
@@ -57,9 +58,10 @@ pub(crate) fn explain_node(
     let mut text = words_line(alloc, line, word, number, words.as_str(), sentence.as_str())?;
     let fitting = write_what_fits(alloc, &scene, fault.fault)?;
     let drawing = write_drawing(alloc, &scene.partial, node.cell())?;
+    let finding = finding_of(alloc, &*question, &scene.partial, hasher)?;
     text.extend_from_slice(&fitting)?;
     text.extend_from_slice(&drawing)?;
-    text.extend_from_slice(CLOSING.as_bytes())?;
+    text.extend_from_slice(finding.closing())?;
     Ok(text)
 }
 

@@ -14,3 +14,10 @@ pub(crate) fn line_of(alloc: Global, certificate: &[u8], lemma: u32) -> Result<u
     }
     Ok(number)
 }
+
+// A lemma's number, and the line on which it stands.
+#[derive(Clone, Copy)]
+pub(crate) struct LemmaLine {
+    pub(crate) number: u32,
+    pub(crate) line: u32,
+}

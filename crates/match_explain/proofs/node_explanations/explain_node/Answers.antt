@@ -8,57 +8,63 @@ use Rattle.cert_check.specs.Derivation.{start_of}
 use Rattle.cert_check.specs.Setting.{setting_at}
 use Rattle.cert_check.specs.declared.faults.Fault.TheVariants as faults
 use Rattle.match_show.specs.Drawing.{IsDrawing}
-use Rattle.match_explain.specs.Explanation.{MarksNode, NamesWhatFits, closing_text}
+use Rattle.match_explain.specs.Explanation.{MarksNode, NamesWhatFits}
+use Rattle.match_explain.specs.Findings.{closing_of}
 use Rattle.match_explain.specs.Scene.{IsPath, LeadsTo}
+use Rattle.match_explain.proofs.FindingLemmas.{are_faultless}
 use Rattle.match_explain.proofs.NodeLemmas.{four_parts, has_fault, leads_to_fault}
 use Rattle.match_explain.proofs.node_explanations.explain_node.Goals as goal
 
 pub unreachable-requires : goal.unreachable-requires
-unreachable-requires c =
+unreachable-requires g c =
     let question = c.args.question.now in
     let lemma = flat_piece c.at-lemma.result in
-    let at = subst (λ (ls : List Piece). slice_get ls c.args.number ≡ Some lemma) c.lemmas.ensures.lemmas c.at-lemma.ensures in
+    let at = subst (λ (ls : List Piece). slice_get ls c.args.at.number ≡ Some lemma) c.lemmas.ensures.lemmas c.at-lemma.ensures in
     let has : IsPrefixFault question.puzzle lemma.prefix c.in_default.field-0 = search rules in
-    omega (arith, (c.requires.first (faults.Prefix c.args.number c.in_default.field-0) (lemma, at, has)).first)
+    omega (arith, (c.requires.first (faults.Prefix c.args.at.number c.in_default.field-0) (lemma, at, has)).first)
 
 pub at-requires-clause-path : goal.at-requires-clause-path
-at-requires-clause-path c =
+at-requires-clause-path g c =
     let question = c.args.question.now in
     let lemma = flat_piece c.at-lemma.result in
-    let at = subst (λ (ls : List Piece). slice_get ls c.args.number ≡ Some lemma) c.lemmas.ensures.lemmas c.at-lemma.ensures in
-    let (node, placed, leads, has) = leads_to_fault question c.args.number c.args.fault.now lemma at c.requires.occurs in
+    let at = subst (λ (ls : List Piece). slice_get ls c.args.at.number ≡ Some lemma) c.lemmas.ensures.lemmas c.at-lemma.ensures in
+    let (node, placed, leads, has) = leads_to_fault question c.args.at.number c.args.fault.now lemma at c.requires.occurs in
     let path : IsPath question.puzzle lemma.tree (start_of question.puzzle lemma) c.args.fault.now.path = (node, placed, leads) in
     rw (c.steps.ensures, c.puzzle-2.ensures) path
 
 pub write_what_fits-requires-clause-fault : goal.write_what_fits-requires-clause-fault
-write_what_fits-requires-clause-fault c =
+write_what_fits-requires-clause-fault g c =
     let question = c.args.question.now in
     let lemma = flat_piece c.at-lemma.result in
     let scene = c.in_ok-scene.scene in
-    let at = subst (λ (ls : List Piece). slice_get ls c.args.number ≡ Some lemma) c.lemmas.ensures.lemmas c.at-lemma.ensures in
+    let at = subst (λ (ls : List Piece). slice_get ls c.args.at.number ≡ Some lemma) c.lemmas.ensures.lemmas c.at-lemma.ensures in
     let leads : LeadsTo question.puzzle lemma.tree (start_of question.puzzle lemma) c.args.fault.now.path (first scene.trees) scene.partial.placed = rw (← c.steps.ensures, ← c.puzzle-2.ensures) c.in_ok-scene.ensures.leads in
-    (setting_at question c.args.number, sym (c.in_ok-scene.ensures.puzzle ∙ c.puzzle-2.ensures), has_fault question c.args.number c.args.fault.now lemma (first scene.trees) scene.partial.placed at c.requires.occurs leads)
+    (setting_at question c.args.at.number, sym (c.in_ok-scene.ensures.puzzle ∙ c.puzzle-2.ensures), has_fault question c.args.at.number c.args.fault.now lemma (first scene.trees) scene.partial.placed at c.requires.occurs leads)
+
+pub finding_of-requires-clause-faultless : goal.finding_of-requires-clause-faultless
+finding_of-requires-clause-faultless g c = are_faultless c.args.question.now c.args.at.number c.args.fault.now c.requires
 
 pub returns : goal.returns
-returns c =
+returns g c =
     let question = c.args.question.now in
     let lemma = flat_piece c.at-lemma.result in
     let scene = c.in_ok-scene.scene in
-    let at = subst (λ (ls : List Piece). slice_get ls c.args.number ≡ Some lemma) c.lemmas.ensures.lemmas c.at-lemma.ensures in
+    let at = subst (λ (ls : List Piece). slice_get ls c.args.at.number ≡ Some lemma) c.lemmas.ensures.lemmas c.at-lemma.ensures in
     let leads : LeadsTo question.puzzle lemma.tree (start_of question.puzzle lemma) c.args.fault.now.path (first scene.trees) scene.partial.placed = rw (← c.steps.ensures, ← c.puzzle-2.ensures) c.in_ok-scene.ensures.leads in
     let puzzle : scene.partial.puzzle ≡ question.puzzle = c.in_ok-scene.ensures.puzzle ∙ c.puzzle-2.ensures in
     let words = c.in_ok-text.text.items in
     let fitting = c.in_ok-fitting.fitting.items in
     let drawing = c.in_ok-drawing.drawing.items in
-    let written : c.extend_from_slice-3.new.self.items ≡ ((words ++ fitting) ++ drawing) ++ closing_text =
-    rw (c.in_ok-extend_from_slice-3.ensures.items, c.in_ok-extend_from_slice-2.ensures.items, c.in_ok-extend_from_slice.ensures.items, c.deref.ensures.value, c.deref-2.ensures.value, c.as_bytes.ensures.value) refl in
+    let finding = c.in_ok-finding.finding in
+    let written : c.extend_from_slice-3.new.self.items ≡ ((words ++ fitting) ++ drawing) ++ closing_of finding =
+    rw (c.in_ok-extend_from_slice-3.ensures.items, c.in_ok-extend_from_slice-2.ensures.items, c.in_ok-extend_from_slice.ensures.items, c.deref.ensures.value, c.deref-2.ensures.value, c.closing.ensures) refl in
     record {
       lemma = lemma;
       is = at;
       node = first scene.trees;
       placed = scene.partial.placed;
       leads = leads;
-      has = has_fault question c.args.number c.args.fault.now lemma (first scene.trees) scene.partial.placed at c.requires.occurs leads;
+      has = has_fault question c.args.at.number c.args.fault.now lemma (first scene.trees) scene.partial.placed at c.requires.occurs leads;
       words = words;
       told = c.in_ok-text.ensures;
       fitting = fitting;
@@ -67,5 +73,7 @@ returns c =
       marks = subst (λ (trees : Forest). MarksNode (first trees) c.cell.result) c.head.ensures.1 (c.cell.ensures c.head.ensures.0);
       drawing = drawing;
       drawn = subst (λ (p : Task). IsDrawing (record { puzzle = p; placed = scene.partial.placed }) c.cell.result c.in_ok-drawing.drawing.items) puzzle c.in_ok-drawing.ensures;
-      parts = written ∙ four_parts words fitting drawing closing_text;
+      finding = finding;
+      finds = c.in_ok-finding.ensures;
+      parts = written ∙ four_parts words fitting drawing (closing_of finding);
     }
