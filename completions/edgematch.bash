@@ -10,11 +10,12 @@ _edgematch() {
       --depth | --first | --forks | --fuel | --most | --part | --workers) return ;;
     esac
     case $command in
-      check) words="--workers --forks --progress --help" ;;
-      solve) words="--depth --fuel --workers --keep --progress --help" ;;
+      check) words="--workers --forks --progress --hints --help" ;;
+      solve) words="--depth --fuel --workers --keep --progress --hints --help" ;;
       count) words="--workers --most --part --progress --help" ;;
+      expand) words="--orbits --hints --help" ;;
       draw) words="--first --numbers --help" ;;
-      explain | expand | show | symmetries | tiles) words="--help" ;;
+      explain | show | symmetries | tiles) words="--help" ;;
       help) words="check explain solve expand count show draw symmetries tiles help" ;;
     esac
   fi

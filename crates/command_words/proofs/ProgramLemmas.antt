@@ -427,10 +427,11 @@ pub no_count : (rows : List Row) → ((files : Files) → NameFiles rows files �
     → ((extent : Extent) → first_of (codes "LIST") rows ≡ None → first_of (codes "CERTIFICATE") rows ≡ None → IsExtent rows extent → ⊥)
     → (order : Order) → IsOrderOf (Some (codes "count", rows)) order → ⊥
 no_count rows listed searched orders.Joined is = is
-no_count rows listed searched (orders.Check files workers forks progress) is = differ (codes "count") (codes "check") refl is.0
+no_count rows listed searched (orders.Check files workers forks progress hints) is = differ (codes "count") (codes "check") refl is.0
 no_count rows listed searched (orders.Explain files) is = differ (codes "count") (codes "explain") refl is.0
-no_count rows listed searched (orders.Solve files depth fuel workers keep progress) is = differ (codes "count") (codes "solve") refl is.0
-no_count rows listed searched (orders.Expand files) is = differ (codes "count") (codes "expand") refl is.0
+no_count rows listed searched (orders.ExplainPuzzle puzzle) is = differ (codes "count") (codes "explain") refl is.0
+no_count rows listed searched (orders.Solve files depth fuel workers keep progress hints) is = differ (codes "count") (codes "solve") refl is.0
+no_count rows listed searched (orders.Expand files orbits hints) is = differ (codes "count") (codes "expand") refl is.0
 no_count rows listed searched (orders.Count files) is = listed files is.1 is.2
 no_count rows listed searched (orders.Census puzzle extent workers progress) is = searched extent is.2 is.3 is.4
 no_count rows listed searched (orders.Show puzzle list) is = differ (codes "count") (codes "show") refl is.0
@@ -438,10 +439,39 @@ no_count rows listed searched (orders.Draw puzzle list first numbers) is = diffe
 no_count rows listed searched (orders.Symmetries puzzle) is = differ (codes "count") (codes "symmetries") refl is.0
 no_count rows listed searched (orders.Tiles sides colours) is = differ (codes "count") (codes "tiles") refl is.0
 
--- what is told of them
+-- ---- words of `explain`
+
+-- they give no order where they name no three files, and no puzzle alone
+pub no_explain : (rows : List Row) → ((files : Files) → NameFiles rows files → ⊥) → (first_of (codes "LIST") rows ≡ None → first_of (codes "CERTIFICATE") rows ≡ None → ⊥)
+    → (order : Order) → IsOrderOf (Some (codes "explain", rows)) order → ⊥
+no_explain rows listed alone orders.Joined is = is
+no_explain rows listed alone (orders.Check files workers forks progress hints) is = differ (codes "explain") (codes "check") refl is.0
+no_explain rows listed alone (orders.Explain files) is = listed files is.1
+no_explain rows listed alone (orders.ExplainPuzzle puzzle) is = alone is.2 is.3
+no_explain rows listed alone (orders.Solve files depth fuel workers keep progress hints) is = differ (codes "explain") (codes "solve") refl is.0
+no_explain rows listed alone (orders.Expand files orbits hints) is = differ (codes "explain") (codes "expand") refl is.0
+no_explain rows listed alone (orders.Count files) is = differ (codes "explain") (codes "count") refl is.0
+no_explain rows listed alone (orders.Census puzzle extent workers progress) is = differ (codes "explain") (codes "count") refl is.0
+no_explain rows listed alone (orders.Show puzzle list) is = differ (codes "explain") (codes "show") refl is.0
+no_explain rows listed alone (orders.Draw puzzle list first numbers) is = differ (codes "explain") (codes "draw") refl is.0
+no_explain rows listed alone (orders.Symmetries puzzle) is = differ (codes "explain") (codes "symmetries") refl is.0
+no_explain rows listed alone (orders.Tiles sides colours) is = differ (codes "explain") (codes "tiles") refl is.0
+
+-- a certificate without a list
+pub no_list_explained : (rows : List Row) (text : Text) → first_of (codes "LIST") rows ≡ None → first_of (codes "CERTIFICATE") rows ≡ Some text → (order : Order) → IsOrderOf (Some (codes "explain", rows)) order → ⊥
+no_list_explained rows text list certificate = no_explain rows (λ files named. none_is_some (sym list ∙ named.list)) (λ alone uncertified. none_is_some (sym uncertified ∙ certificate))
+
+-- a list without a certificate
+pub no_certificate_explained : (rows : List Row) (text : Text) → first_of (codes "LIST") rows ≡ Some text → first_of (codes "CERTIFICATE") rows ≡ None → (order : Order) → IsOrderOf (Some (codes "explain", rows)) order → ⊥
+no_certificate_explained rows text list certificate = no_explain rows (λ files named. none_is_some (sym certificate ∙ named.certificate)) (λ alone uncertified. none_is_some (sym alone ∙ list))
+
+-- what is told of words of a command that give no order
+pub misfits_of : (name : Text) (rows : List Row) (fault : WordsFault) → TellsOfMisfit fault → ((order : Order) → IsOrderOf (Some (name, rows)) order → ⊥) → IsMisfit (Some (name, rows)) fault
+misfits_of name rows (Words error) tells none = (none, tells)
+misfits_of name rows Memory tells none = tt
+
 pub misfits : (rows : List Row) (fault : WordsFault) → TellsOfMisfit fault → ((order : Order) → IsOrderOf (Some (codes "count", rows)) order → ⊥) → IsMisfit (Some (codes "count", rows)) fault
-misfits rows (Words error) tells none = (none, tells)
-misfits rows Memory tells none = tt
+misfits rows = misfits_of (codes "count") rows
 
 -- a fault of what the words enter is one of the words
 pub misfit_refused : (words : List Text) (name : Text) (rows : List Row) (fault : WordsFault) → subcommand_of whole_app words ≡ Some (name, rows) → IsMisfit (Some (name, rows)) fault → IsRefused words fault

@@ -61,10 +61,12 @@ check_app =
     (optional_number (codes "workers") 1 MOST_WORKERS (codes "1")
     ∷ optional_number (codes "forks") 0 MOST_FORKS (codes "0")
     ∷ flag (codes "progress")
+    ∷ flag (codes "hints")
     ∷ [])
 
 abbrev pub explain_app : App
-explain_app = with_files (new_app (codes "explain"))
+explain_app =
+    with_rules (with_puzzle (new_app (codes "explain"))) (new_rule (codes "LIST") ∷ new_rule (codes "CERTIFICATE") ∷ [])
 
 abbrev pub solve_app : App
 solve_app =
@@ -74,10 +76,11 @@ solve_app =
     ∷ optional_number (codes "workers") 1 MOST_WORKERS (codes "1")
     ∷ flag (codes "keep")
     ∷ flag (codes "progress")
+    ∷ flag (codes "hints")
     ∷ [])
 
 abbrev pub expand_app : App
-expand_app = with_files (new_app (codes "expand"))
+expand_app = with_rules (with_files (new_app (codes "expand"))) (flag (codes "orbits") ∷ flag (codes "hints") ∷ [])
 
 abbrev pub count_app : App
 count_app =

@@ -13,7 +13,7 @@ use Rattle.command_words.specs.declared.orders.Extent.TheVariants as extents
 use Rattle.command_words.specs.declared.orders.Files.{Files}
 use Rattle.command_words.specs.declared.orders.Listed.{Listed}
 use Rattle.command_words.specs.declared.orders.Order.{Order}
-use Rattle.command_words.specs.declared.orders.Order.TheVariants.{Joined, Check, Explain, Solve, Expand, Count, Census, Show, Draw, Symmetries, Tiles}
+use Rattle.command_words.specs.declared.orders.Order.TheVariants.{Joined, Check, Explain, ExplainPuzzle, Solve, Expand, Count, Census, Show, Draw, Symmetries, Tiles}
 use Rattle.command_words.specs.Commands.{whole_app}
 use Rattle.command_words.specs.Parts.{IsPartText}
 
@@ -70,15 +70,22 @@ IsExtent rows (extents.Part part) =
 -- The command and its matches give the order.
 abbrev pub IsOrderOf : Option (Text × List Row) → Order → Type 0
 IsOrderOf None Joined = Unit {0}
-IsOrderOf (Some (name, rows)) (Check files workers forks progress) =
+IsOrderOf (Some (name, rows)) (Check files workers forks progress hints) =
     (name ≡ codes "check") × NameFiles rows files × (number_of (codes "workers") rows ≡ Some workers)
     × (number_of (codes "forks") rows ≡ Some forks) × IsFlagged (codes "progress") rows progress
+    × IsFlagged (codes "hints") rows hints
 IsOrderOf (Some (name, rows)) (Explain files) = (name ≡ codes "explain") × NameFiles rows files
-IsOrderOf (Some (name, rows)) (Solve files depth fuel workers keep progress) =
+IsOrderOf (Some (name, rows)) (ExplainPuzzle puzzle) =
+    (name ≡ codes "explain") × (first_of (codes "PUZZLE") rows ≡ Some (string_bytes puzzle))
+    × (first_of (codes "LIST") rows ≡ None) × (first_of (codes "CERTIFICATE") rows ≡ None)
+IsOrderOf (Some (name, rows)) (Solve files depth fuel workers keep progress hints) =
     (name ≡ codes "solve") × NameFiles rows files × (number_of (codes "depth") rows ≡ Some depth)
     × (number_of (codes "fuel") rows ≡ Some fuel) × (number_of (codes "workers") rows ≡ Some workers)
     × IsFlagged (codes "keep") rows keep × IsFlagged (codes "progress") rows progress
-IsOrderOf (Some (name, rows)) (Expand files) = (name ≡ codes "expand") × NameFiles rows files
+    × IsFlagged (codes "hints") rows hints
+IsOrderOf (Some (name, rows)) (Expand files orbits hints) =
+    (name ≡ codes "expand") × NameFiles rows files × IsFlagged (codes "orbits") rows orbits
+    × IsFlagged (codes "hints") rows hints
 IsOrderOf (Some (name, rows)) (Count files) =
     (name ≡ codes "count") × NameFiles rows files × IsExtent rows extents.All
 IsOrderOf (Some (name, rows)) (Census puzzle extent workers progress) =
@@ -106,7 +113,7 @@ abbrev pub IsFaultOf : Error → WordsFault → Type 0
 IsFaultOf error (Words e) = (e ≡ error) × (kind_of error ≢ OutOfMemory)
 IsFaultOf error Memory = kind_of error ≡ OutOfMemory
 
--- The fault is that words of `count` don't go together, or want of memory.
+-- The fault is that words of a command don't go together, or want of memory.
 abbrev pub TellsOfMisfit : WordsFault → Type 0
 TellsOfMisfit (Words error) = kind_of error ≡ ArgumentConflict
 TellsOfMisfit Memory = Unit {0}

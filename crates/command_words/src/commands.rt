@@ -86,8 +86,11 @@ const EXPANDED: &str = "\
 Prints the list with the images of its arrangements under the symmetries of the certificate, or \
 the answer of check where it is refused.
 
+With --orbits it prints one of each orbit: of the arrangements of the list, in its order, those that the \
+symmetries take no earlier one of them to. How many there are is what count calls orbits.
+
 Exit status:
-  0  every arrangement of the puzzle is printed, once
+  0  every arrangement of the puzzle is printed, once; with --orbits one of each orbit
   1  the certificate does not show that the list is complete
   2  anything else, which is said on standard error
 
@@ -97,14 +100,17 @@ Example:
 const EXPLAINED: &str = "\
 Prints the answer of check, and where it is refused, why: a sentence, the line and the word where \
 the fault is, the board with what is placed there, and the pairs that fit where their number is told \
-wrongly.
+wrongly. Where a text has a fault, standard error says what has to stand there, and what does.
+
+With a puzzle alone it prints puzzle: no fault, or says the same of its text.
 
 Exit status:
-  0  the list is complete
+  0  the list is complete; or the puzzle alone has no fault
   1  the certificate does not show that
   2  anything else, which is said on standard error
 
-Example:
+Examples:
+  edgematch explain puzzle
   edgematch explain puzzle list certificate";
 
 const COUNTED: &str = "\
@@ -112,9 +118,11 @@ With a puzzle alone it searches, and prints how many arrangements the puzzle has
 Nothing is written of what the search finds, so who doubts the number runs it again; a list with its \
 certificate can be checked.
 
-With a list and a certificate it checks these, and prints two lines: arrangements N, how many the puzzle \
-has, and orbits K, how many where those that the symmetries of the certificate take into each other \
-count once; or the answer of check where it is refused.
+With a list and a certificate it checks these, and prints four lines: arrangements N, how many the puzzle \
+has; pictures P, how many where those that show the same at each cell count once, since only equal tiles are \
+exchanged in them; orbits K, how many where those that the symmetries of the certificate take into each other \
+count once; and symmetries S, how many symmetries the certificate names. Or it prints the answer of check where \
+it is refused.
 
 With --most M it says arrangements more than M as soon as it has found more: with --most 1, whether there \
 is just one.
@@ -265,6 +273,18 @@ fn progress<'a>(alloc: Global) -> Arg<'a>
     )
 }
 
+// That it tells what has to be changed in a text that has a fault.
+fn hints<'a>(alloc: Global) -> Arg<'a>
+    ensures rule { rule_of result ≡ flag (codes "hints") }
+    ensures local { result.global ≡ false }
+{
+    flag(
+        alloc,
+        "hints",
+        "Tells beside a fault of a text what has to stand there, on a terminal or not",
+    )
+}
+
 // The command of this name, with three files by their names.
 fn of_files<'a>(
     alloc: Global,
@@ -297,6 +317,7 @@ fn check<'a>(alloc: Global) -> Result<Command<'a>, AllocError>
         "In how many levels of a tree the halves of a branch are walked at once, 0 to 6",
     );
     let progress = progress(alloc);
+    let hints = hints(alloc);
     let command = of_files(
         alloc,
         "check",
@@ -305,7 +326,8 @@ fn check<'a>(alloc: Global) -> Result<Command<'a>, AllocError>
     )?
     .arg(workers)?
     .arg(forks)?
-    .arg(progress)?;
+    .arg(progress)?
+    .arg(hints)?;
     Ok(command)
 }
 
@@ -336,6 +358,7 @@ fn solve<'a>(alloc: Global) -> Result<Command<'a>, AllocError>
         "Leaves LIST and CERTIFICATE as they are until both are written",
     );
     let progress = progress(alloc);
+    let hints = hints(alloc);
     let command = of_files(
         alloc,
         "solve",
@@ -346,7 +369,8 @@ fn solve<'a>(alloc: Global) -> Result<Command<'a>, AllocError>
     .arg(fuel)?
     .arg(workers)?
     .arg(keep)?
-    .arg(progress)?;
+    .arg(progress)?
+    .arg(hints)?;
     Ok(command)
 }
 
@@ -354,24 +378,38 @@ fn expand<'a>(alloc: Global) -> Result<Command<'a>, AllocError>
     ensures app { IfOk result (λ c. app_of c ≡ expand_app) }
     ensures local { IfOk result IsLocal }
 {
-    of_files(
+    let orbits = flag(
+        alloc,
+        "orbits",
+        "Prints one arrangement of each orbit alone",
+    );
+    let hints = hints(alloc);
+    let command = of_files(
         alloc,
         "expand",
         "Checks a list, and prints every arrangement of the puzzle",
         EXPANDED,
-    )
+    )?
+    .arg(orbits)?
+    .arg(hints)?;
+    Ok(command)
 }
 
-fn explain<'a>(alloc: Global) -> Result<Command<'a>, AllocError>
+pub(crate) fn explain<'a>(alloc: Global) -> Result<Command<'a>, AllocError>
     ensures app { IfOk result (λ c. app_of c ≡ explain_app) }
     ensures local { IfOk result IsLocal }
 {
-    of_files(
+    let list = optional_word(alloc, "LIST", "File of the list of arrangements");
+    let certificate = optional_word(alloc, "CERTIFICATE", "File of the certificate");
+    let command = of_puzzle(
         alloc,
         "explain",
-        "Checks a list, and says why it is refused",
+        "Checks a list, and says why it is refused, or what is wrong with a puzzle",
         EXPLAINED,
-    )
+    )?
+    .arg(list)?
+    .arg(certificate)?;
+    Ok(command)
 }
 
 // A file that a command needs only with others.

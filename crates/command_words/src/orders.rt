@@ -42,17 +42,22 @@ pub enum Extent {
 pub enum Order {
     /// To check the documents that stand on standard input, joined.
     Joined,
-    /// To check the documents in these files; to tell meanwhile how far it is, or not.
+    /// To check the documents in these files; to tell meanwhile how far it is, or not; to tell what has to be changed in a
+    /// text that has a fault, also where nobody reads that on a terminal, or not.
     Check {
         files: Files,
         workers: Workers,
         forks: Forks,
         progress: bool,
+        hints: bool,
     },
     /// To check the documents in these files, and to say why they are refused.
     Explain(Files),
+    /// To say whether the text of the puzzle in its file has a fault.
+    ExplainPuzzle(String),
     /// To search for all arrangements of the puzzle in its file, and to make the files of their list and of a
-    /// certificate; to keep what stands there until both are written, or not; to tell meanwhile how far it is, or not.
+    /// certificate; to keep what stands there until both are written, or not; to tell meanwhile how far it is, or not; to
+    /// tell what has to be changed in a text that has a fault, as of a check, or not.
     Solve {
         files: Files,
         depth: Depth,
@@ -60,9 +65,15 @@ pub enum Order {
         workers: Workers,
         keep: bool,
         progress: bool,
+        hints: bool,
     },
-    /// To check the documents in these files, and to print all arrangements.
-    Expand(Files),
+    /// To check the documents in these files, and to print all arrangements, or of these one of each orbit alone; to tell
+    /// what has to be changed in a text that has a fault, as of a check, or not.
+    Expand {
+        files: Files,
+        orbits: bool,
+        hints: bool,
+    },
     /// To check the documents in these files, and to count all arrangements.
     Count(Files),
     /// To count arrangements of the puzzle in its file by a search.

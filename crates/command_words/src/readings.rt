@@ -12,7 +12,7 @@ ghost use Rattle.command_words.specs.Parts.{IsPartText};
 ghost use Rattle.command_words.specs.declared.orders.Extent.{Extent};
 ghost use Rattle.command_words.specs.declared.orders.Part.{Part};
 
-use crate::commands::{count as count_command, program};
+use crate::commands::{count as count_command, explain as explain_command, program};
 use crate::faults::WordsFault;
 use crate::numbers::Within;
 use crate::orders::{Extent, Files, Listed, Order, Part};
@@ -75,6 +75,7 @@ fn check(alloc: Global, matches: &ArgMatches<'_>) -> Result<Order, AllocError>
     requires workers { HasNumber (codes "workers") 1 64 (rows_of (found_of matches.now)) }
     requires forks { HasNumber (codes "forks") 0 6 (rows_of (found_of matches.now)) }
     requires progress { HasFlag (codes "progress") (rows_of (found_of matches.now)) }
+    requires hints { HasFlag (codes "hints") (rows_of (found_of matches.now)) }
     ensures { IfOk result (IsOrderOf (Some (codes "check", rows_of (found_of matches.now)))) }
 {
     let files = files(alloc, matches)?;
@@ -84,6 +85,7 @@ fn check(alloc: Global, matches: &ArgMatches<'_>) -> Result<Order, AllocError>
         workers,
         forks: number(matches, "forks"),
         progress: flag(matches, "progress"),
+        hints: flag(matches, "hints"),
     })
 }
 
@@ -94,6 +96,7 @@ fn solve(alloc: Global, matches: &ArgMatches<'_>) -> Result<Order, AllocError>
     requires workers { HasNumber (codes "workers") 1 64 (rows_of (found_of matches.now)) }
     requires keep { HasFlag (codes "keep") (rows_of (found_of matches.now)) }
     requires progress { HasFlag (codes "progress") (rows_of (found_of matches.now)) }
+    requires hints { HasFlag (codes "hints") (rows_of (found_of matches.now)) }
     ensures { IfOk result (IsOrderOf (Some (codes "solve", rows_of (found_of matches.now)))) }
 {
     let files = files(alloc, matches)?;
@@ -105,7 +108,70 @@ fn solve(alloc: Global, matches: &ArgMatches<'_>) -> Result<Order, AllocError>
         workers,
         keep: flag(matches, "keep"),
         progress: flag(matches, "progress"),
+        hints: flag(matches, "hints"),
     })
+}
+
+fn expand(alloc: Global, matches: &ArgMatches<'_>) -> Result<Order, AllocError>
+    requires files { HasFiles (rows_of (found_of matches.now)) }
+    requires orbits { HasFlag (codes "orbits") (rows_of (found_of matches.now)) }
+    requires hints { HasFlag (codes "hints") (rows_of (found_of matches.now)) }
+    ensures { IfOk result (IsOrderOf (Some (codes "expand", rows_of (found_of matches.now)))) }
+{
+    let files = files(alloc, matches)?;
+    Ok(Order::Expand {
+        files,
+        orbits: flag(matches, "orbits"),
+        hints: flag(matches, "hints"),
+    })
+}
+
+// Of three documents, where all are named, or of a puzzle, where it is alone.
+fn explain(alloc: Global, matches: &ArgMatches<'_>) -> Result<Order, WordsFault>
+    requires { HasText (codes "PUZZLE") (rows_of (found_of matches.now)) }
+    ensures order { IfOk result (IsOrderOf (Some (codes "explain", rows_of (found_of matches.now)))) }
+    ensures refused { IfErr result (IsMisfit (Some (codes "explain", rows_of (found_of matches.now)))) }
+{
+    if let Some(list) = matches.get_str("LIST") {
+        return explain_listed(alloc, matches, list);
+    }
+    explain_alone(alloc, matches)
+}
+
+// What is wrong with a puzzle.
+fn explain_alone(alloc: Global, matches: &ArgMatches<'_>) -> Result<Order, WordsFault>
+    requires puzzle { HasText (codes "PUZZLE") (rows_of (found_of matches.now)) }
+    requires alone { first_of (codes "LIST") (rows_of (found_of matches.now)) ≡ None }
+    ensures order { IfOk result (IsOrderOf (Some (codes "explain", rows_of (found_of matches.now)))) }
+    ensures refused { IfErr result (IsMisfit (Some (codes "explain", rows_of (found_of matches.now)))) }
+{
+    let None = matches.get_str("CERTIFICATE") else {
+        return Err(explain_misfit(alloc, "a certificate stands behind its list"));
+    };
+    Ok(Order::ExplainPuzzle(text(alloc, matches, "PUZZLE")?))
+}
+
+// Why this list and its certificate are refused.
+fn explain_listed(alloc: Global, matches: &ArgMatches<'_>, list: &str) -> Result<Order, WordsFault>
+    requires puzzle { HasText (codes "PUZZLE") (rows_of (found_of matches.now)) }
+    requires list { first_of (codes "LIST") (rows_of (found_of matches.now)) ≡ Some list.now }
+    ensures order { IfOk result (IsOrderOf (Some (codes "explain", rows_of (found_of matches.now)))) }
+    ensures refused { IfErr result (IsMisfit (Some (codes "explain", rows_of (found_of matches.now)))) }
+{
+    let Some(certificate) = matches.get_str("CERTIFICATE") else {
+        return Err(explain_misfit(
+            alloc,
+            "a list stands with its certificate: PUZZLE LIST CERTIFICATE, or PUZZLE alone",
+        ));
+    };
+    let puzzle = text(alloc, matches, "PUZZLE")?;
+    let list = String::from_str(alloc, list)?;
+    let certificate = String::from_str(alloc, certificate)?;
+    Ok(Order::Explain(Files {
+        puzzle,
+        list,
+        certificate,
+    }))
 }
 
 // The list and the number, if a list is named.
@@ -268,6 +334,23 @@ fn misfit_error(alloc: Global, message: &str) -> Result<clap::Error, AllocError>
     command.error(ErrorKind::ArgumentConflict, message)
 }
 
+// What is told of words of `explain` that don't go together.
+fn explain_misfit(alloc: Global, message: &str) -> WordsFault
+    ensures { TellsOfMisfit result }
+{
+    match explain_misfit_error(alloc, message) {
+        Ok(error) => WordsFault::Words(error),
+        Err(_) => WordsFault::Memory,
+    }
+}
+
+fn explain_misfit_error(alloc: Global, message: &str) -> Result<clap::Error, AllocError>
+    ensures { IfOk result (λ error. kind_of error ≡ ArgumentConflict) }
+{
+    let mut command = explain_command(alloc)?.bin_name("edgematch explain")?;
+    command.error(ErrorKind::ArgumentConflict, message)
+}
+
 fn show(alloc: Global, matches: &ArgMatches<'_>) -> Result<Order, AllocError>
     requires puzzle { HasText (codes "PUZZLE") (rows_of (found_of matches.now)) }
     requires number { HasNumber (codes "N") 0 999999 (rows_of (found_of matches.now)) }
@@ -309,13 +392,13 @@ fn tiles(matches: &ArgMatches<'_>) -> Order
 /// What the words after the program's name order.
 ///
 /// Words that name no command order what no words do. `Words` where they are wrong or ask for help,
-/// by the program's commands as `clap` reads them, or where `count` has a list without its certificate, or these beside
-/// what a search is asked; then the error says why.
+/// by the program's commands as `clap` reads them, or where `count` or `explain` has a list without its certificate, or
+/// `count` has these beside what a search is asked; then the error says why.
 pub fn order(alloc: Global, words: &[String]) -> Result<Order, WordsFault>
     ensures order { IfOk result (IsOrder (map string_bytes words.now)) }
 
-    // Words that `clap` takes are refused for want of memory, or since those of `count` don't go together, and others
-    // by a kind that it has for them.
+    // Words that `clap` takes are refused for want of memory, or since those of `count` or `explain` don't go together, and
+    // others by a kind that it has for them.
     ensures refused { IfErr result (IsRefused (map string_bytes words.now)) }
 {
     let matches = program(alloc)?.try_get_matches_from(words)?;
@@ -324,9 +407,9 @@ pub fn order(alloc: Global, words: &[String]) -> Result<Order, WordsFault>
     };
     match name {
         "check" => Ok(check(alloc, matches)?),
-        "explain" => Ok(Order::Explain(files(alloc, matches)?)),
+        "explain" => explain(alloc, matches),
         "solve" => Ok(solve(alloc, matches)?),
-        "expand" => Ok(Order::Expand(files(alloc, matches)?)),
+        "expand" => Ok(expand(alloc, matches)?),
         "count" => count(alloc, matches),
         "show" => Ok(show(alloc, matches)?),
         "draw" => Ok(draw(alloc, matches)?),

@@ -13,8 +13,10 @@ returns-clause-app c =
     c.optional_number-fuel.ensures.rule ∙ ap (λ most. optional_number (codes "fuel") 1 most (codes "1000000")) (search rules) in
     let workers : rule_of c.workers-workers.result ≡ optional_number (codes "workers") 1 MOST_WORKERS (codes "1") = c.workers-workers.ensures.rule in
     let keep : rule_of c.flag-keep.result ≡ flag (codes "keep") = c.flag-keep.ensures.rule in
-    c.in_ok-command.ensures.shape c.progress-progress.ensures.local
+    let progress : rule_of c.progress-progress.result ≡ flag (codes "progress") = c.progress-progress.ensures.rule in
+    c.in_ok-command.ensures.shape c.hints-hints.ensures.local
+    ∙ ap₂ with_rule (c.in_ok-arg-5.ensures.shape c.progress-progress.ensures.local
     ∙ ap₂ with_rule (c.in_ok-arg-4.ensures.shape c.flag-keep.ensures.local
     ∙ ap₂ with_rule (c.in_ok-arg-3.ensures.shape c.workers-workers.ensures.local
     ∙ ap₂ with_rule (c.in_ok-arg-2.ensures.shape c.optional_number-fuel.ensures.local
-    ∙ ap₂ with_rule (c.in_ok-arg.ensures.shape c.optional_number-depth.ensures.local ∙ ap₂ with_rule files depth) fuel) workers) keep) c.progress-progress.ensures.rule
+    ∙ ap₂ with_rule (c.in_ok-arg.ensures.shape c.optional_number-depth.ensures.local ∙ ap₂ with_rule files depth) fuel) workers) keep) progress) c.hints-hints.ensures.rule

@@ -7,7 +7,7 @@ use Rattle.std.specs.Str.{bytes_eq}
 use Rattle.command_words.specs.Commands.{whole_app}
 use Rattle.command_words.specs.Orders.{IsOrder, IsOrderOf, IsRefused}
 use Rattle.command_words.specs.declared.orders.Order.{Order}
-use Rattle.command_words.specs.declared.orders.Order.TheVariants.{Explain, Expand, Symmetries}
+use Rattle.command_words.specs.declared.orders.Order.TheVariants.{Symmetries}
 use Rattle.command_words.proofs.ProgramLemmas.{HasNeeded, HasPassing, IsEntered, command_at, command_named, has_flag, has_number, differs, has_files, has_text, may_have_number, misfit_refused, needed_at, none_is_some, order_of, parse_enters, parse_has, parse_refuses, passing_at, rule_at}
 use Rattle.command_words.proofs.readings.order.Goals.{In-Some}
 use Rattle.command_words.proofs.readings.order.Goals as goal
@@ -52,6 +52,9 @@ check-requires-clause-forks c = has_number (command_at (codes "check")) (rows_of
 pub check-requires-clause-progress : goal.check-requires-clause-progress
 check-requires-clause-progress c = has_flag (command_at (codes "check")) (rows_of (found_of c.in-Some.matches.now)) (rule_at (command_at (codes "check")) 5) (needed (goal.at.check-requires-clause-progress c).In-Some (codes "check") (search rules) refl) refl refl refl
 
+pub check-requires-clause-hints : goal.check-requires-clause-hints
+check-requires-clause-hints c = has_flag (command_at (codes "check")) (rows_of (found_of c.in-Some.matches.now)) (rule_at (command_at (codes "check")) 6) (needed (goal.at.check-requires-clause-hints c).In-Some (codes "check") (search rules) refl) refl refl refl
+
 pub solve-requires-clause-files : goal.solve-requires-clause-files
 solve-requires-clause-files c = has_files (command_at (codes "solve")) (rows_of (found_of c.in-Some.matches.now)) (needed (goal.at.solve-requires-clause-files c).In-Some (codes "solve") (search rules) refl) refl refl refl
 
@@ -70,11 +73,20 @@ solve-requires-clause-keep c = has_flag (command_at (codes "solve")) (rows_of (f
 pub solve-requires-clause-progress : goal.solve-requires-clause-progress
 solve-requires-clause-progress c = has_flag (command_at (codes "solve")) (rows_of (found_of c.in-Some.matches.now)) (rule_at (command_at (codes "solve")) 7) (needed (goal.at.solve-requires-clause-progress c).In-Some (codes "solve") (search rules) refl) refl refl refl
 
-pub files-requires : goal.files-requires
-files-requires c = has_files (command_at (codes "explain")) (rows_of (found_of c.in-Some.matches.now)) (needed (goal.at.files-requires c).In-Some (codes "explain") (search rules) refl) refl refl refl
+pub solve-requires-clause-hints : goal.solve-requires-clause-hints
+solve-requires-clause-hints c = has_flag (command_at (codes "solve")) (rows_of (found_of c.in-Some.matches.now)) (rule_at (command_at (codes "solve")) 8) (needed (goal.at.solve-requires-clause-hints c).In-Some (codes "solve") (search rules) refl) refl refl refl
 
-pub files-requires-in-expand : goal.files-requires-in-expand
-files-requires-in-expand c = has_files (command_at (codes "expand")) (rows_of (found_of c.in-Some.matches.now)) (needed (goal.at.files-requires-in-expand c).In-Some (codes "expand") (search rules) refl) refl refl refl
+pub expand-requires-clause-files : goal.expand-requires-clause-files
+expand-requires-clause-files c = has_files (command_at (codes "expand")) (rows_of (found_of c.in-Some.matches.now)) (needed (goal.at.expand-requires-clause-files c).In-Some (codes "expand") (search rules) refl) refl refl refl
+
+pub expand-requires-clause-orbits : goal.expand-requires-clause-orbits
+expand-requires-clause-orbits c = has_flag (command_at (codes "expand")) (rows_of (found_of c.in-Some.matches.now)) (rule_at (command_at (codes "expand")) 3) (needed (goal.at.expand-requires-clause-orbits c).In-Some (codes "expand") (search rules) refl) refl refl refl
+
+pub expand-requires-clause-hints : goal.expand-requires-clause-hints
+expand-requires-clause-hints c = has_flag (command_at (codes "expand")) (rows_of (found_of c.in-Some.matches.now)) (rule_at (command_at (codes "expand")) 4) (needed (goal.at.expand-requires-clause-hints c).In-Some (codes "expand") (search rules) refl) refl refl refl
+
+pub explain-requires : goal.explain-requires
+explain-requires c = has_text (command_at (codes "explain")) (rows_of (found_of c.in-Some.matches.now)) (codes "PUZZLE") (needed (goal.at.explain-requires c).In-Some (codes "explain") (search rules) refl) refl
 
 -- where a number stands for an argument of the command of this name, it is in its range
 passing : (c : In-Some) (name : Text) → c.in-Some.name.now ≡ name → command_named name ≡ Some (command_at name) → HasPassing (command_at name) (rows_of (found_of c.in-Some.matches.now))
@@ -122,14 +134,11 @@ tiles-requires-clause-colours c = has_number (command_at (codes "tiles")) (rows_
 pub returns-in-check-clause-order : goal.returns-in-check-clause-order
 returns-in-check-clause-order c = ordered (goal.at.returns-in-check-clause-order c).In-Some (codes "check") c.in_ok-check-in-check.field-0 (search rules) c.in_ok-check-in-check.ensures
 
-pub returns-in-explain-clause-order : goal.returns-in-explain-clause-order
-returns-in-explain-clause-order c = ordered (goal.at.returns-in-explain-clause-order c).In-Some (codes "explain") (Explain c.in_ok-files-in-explain.field-0) (search rules) (refl, c.in_ok-files-in-explain.ensures)
-
 pub returns-in-solve-clause-order : goal.returns-in-solve-clause-order
 returns-in-solve-clause-order c = ordered (goal.at.returns-in-solve-clause-order c).In-Some (codes "solve") c.in_ok-solve-in-solve.field-0 (search rules) c.in_ok-solve-in-solve.ensures
 
 pub returns-in-expand-clause-order : goal.returns-in-expand-clause-order
-returns-in-expand-clause-order c = ordered (goal.at.returns-in-expand-clause-order c).In-Some (codes "expand") (Expand c.in_ok-files-in-expand.field-0) (search rules) (refl, c.in_ok-files-in-expand.ensures)
+returns-in-expand-clause-order c = ordered (goal.at.returns-in-expand-clause-order c).In-Some (codes "expand") c.in_ok-expand-in-expand.field-0 (search rules) c.in_ok-expand-in-expand.ensures
 
 -- what is said of what was counted, and of why not
 made : {T E : Type 0} (P Q : T → Type 0) (r : Result T E) → ((x : T) → P x → Q x) → IfOk r P → IfOk r Q
@@ -152,6 +161,19 @@ returns-in-count-clause-refused c =
     let rows = rows_of (found_of c.in-Some.matches.now) in
     let enters : subcommand_of whole_app words ≡ Some (codes "count", rows) = subst (λ n. subcommand_of whole_app words ≡ Some (n, rows)) (search rules) (named at) in
     failed _ (IsRefused words) c.count.result (λ fault is. misfit_refused words (codes "count") rows fault enters is) c.count.ensures.refused
+
+pub returns-in-explain-clause-order : goal.returns-in-explain-clause-order
+returns-in-explain-clause-order c =
+    let at = (goal.at.returns-in-explain-clause-order c).In-Some in
+    made _ (IsOrder (map string_bytes c.args.words.now)) c.explain.result (λ given is. ordered at (codes "explain") given (search rules) is) c.explain.ensures.order
+
+pub returns-in-explain-clause-refused : goal.returns-in-explain-clause-refused
+returns-in-explain-clause-refused c =
+    let at = (goal.at.returns-in-explain-clause-refused c).In-Some in
+    let words = map string_bytes c.args.words.now in
+    let rows = rows_of (found_of c.in-Some.matches.now) in
+    let enters : subcommand_of whole_app words ≡ Some (codes "explain", rows) = subst (λ n. subcommand_of whole_app words ≡ Some (n, rows)) (search rules) (named at) in
+    failed _ (IsRefused words) c.explain.result (λ fault is. misfit_refused words (codes "explain") rows fault enters is) c.explain.ensures.refused
 
 pub returns-in-show-clause-order : goal.returns-in-show-clause-order
 returns-in-show-clause-order c = ordered (goal.at.returns-in-show-clause-order c).In-Some (codes "show") c.in_ok-show-in-show.field-0 (search rules) c.in_ok-show-in-show.ensures
