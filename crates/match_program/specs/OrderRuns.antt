@@ -1,10 +1,10 @@
 -- What an order comes to.
-use Rattle.std.specs.Prelude.{◌≡◌, ◌⊎◌, ℕ, List, Option, Some, None, Result, Err}
+use Rattle.std.specs.Prelude.{◌≡◌, ◌⊎◌, ℕ, Bool, true, false, List, Option, Some, None, Result, Err}
 use Rattle.std.specs.String.{string_bytes}
 use Rattle.command_words.specs.declared.orders.Extent.{Extent}
 use Rattle.command_words.specs.declared.orders.Listed.{Listed}
 use Rattle.command_words.specs.declared.orders.Order.{Order}
-use Rattle.command_words.specs.declared.orders.Order.TheVariants.{Joined, Check, Explain, Solve, Expand, Count, Census, Show, Draw, Symmetries, Tiles}
+use Rattle.command_words.specs.declared.orders.Order.TheVariants.{Joined, Check, Explain, ExplainPuzzle, Solve, Expand, Count, Census, Show, Draw, Symmetries, Tiles}
 use Rattle.byte_streams.specs.Documents.{Texts}
 use Rattle.byte_streams.specs.Moves.{Reading, Writing}
 use Rattle.byte_streams.specs.Origins.{Origin, joined_source, no_source}
@@ -50,6 +50,11 @@ ThenDone gives texts made exit = gives texts made tt × (exit ≡ exits.Done)
 -- What a check comes to.
 abbrev pub CheckOf : Origin Texts → Writing → Result Exit RunFault → Type 0
 CheckOf from output result = Runs from (EndsBy CheckGives) CheckFails (one_sink output) result
+
+-- a list of one of each orbit, or of all
+abbrev pub list_printed : (orbits : Bool) → Printing
+list_printed true = printings.Orbits
+list_printed false = printings.All
 
 -- What a check comes to that prints more than its answer.
 abbrev pub PrintingOf : Printing → Origin Texts → Writing → Result Exit RunFault → Type 0
@@ -100,17 +105,19 @@ module _ {S R W : Type 0} (system : FileMembers S R W) (source : SourceMembers R
     -- What an order comes to. No order does anything to a file but a solve.
     abbrev pub RunOf : Order → Result Exit RunFault → Type 0
     RunOf Joined result = (new ≡ old) × CheckOf (joined_source input) output result
-    RunOf (Check files workers forks progress) result =
+    RunOf (Check files workers forks progress hints) result =
         (new ≡ old) × CheckOf (three_files system source old files) output result
     RunOf (Explain files) result =
         (new ≡ old) × PrintingOf printings.Explanation (three_files system source old files) output result
-    RunOf (Expand files) result =
-        (new ≡ old) × PrintingOf printings.All (three_files system source old files) output result
+    RunOf (ExplainPuzzle puzzle) result =
+        (new ≡ old) × DescriptionOf descriptions.NoFault (one_file system source old (string_bytes puzzle)) output result
+    RunOf (Expand files orbits hints) result =
+        (new ≡ old) × PrintingOf (list_printed orbits) (three_files system source old files) output result
     RunOf (Count files) result =
         (new ≡ old) × PrintingOf printings.Count (three_files system source old files) output result
     RunOf (Census puzzle extent workers progress) result =
         (new ≡ old) × CensusOf extent (one_file system source old (string_bytes puzzle)) output result
-    RunOf (Solve files depth fuel workers keep progress) result =
+    RunOf (Solve files depth fuel workers keep progress hints) result =
         SolveOf workers (one_file system source old (string_bytes files.puzzle))
         (solved_files files system.does old new output) result
     RunOf (Show puzzle listed) result = (new ≡ old) × ShowOf (string_bytes puzzle) listed output result

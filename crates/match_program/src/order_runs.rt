@@ -6,7 +6,7 @@ ghost use Rattle.byte_streams.specs.Moves.{reading_of, writing_of};
 ghost use Rattle.byte_streams.specs.Origins.{joined_source};
 ghost use Rattle.match_program.specs.FileOrigins.{CantOpen, all_three, one_file, three_files};
 ghost use Rattle.match_program.specs.OrderRuns.{CensusOf, CheckOf, DescriptionOf, PictureOf, PrintingOf, RunOf, ShowOf};
-ghost use Rattle.match_program.specs.OrderRuns.{SolveOf, TilesOf};
+ghost use Rattle.match_program.specs.OrderRuns.{SolveOf, TilesOf, list_printed};
 ghost use Rattle.match_runs.specs.Runs.{unhinted};
 ghost use Rattle.match_program.specs.SameStreams.{AreSameStreams};
 ghost use Rattle.match_program.specs.SolvedFiles.{solved_files};
@@ -19,11 +19,12 @@ use crate::streams::Streams;
 use byte_streams::{
     Document, FileSystem, OneSink, OneSource, Sink, Source, ThreeSinks, ThreeSources,
 };
+use check_crew::Open;
 use command_words::{Colours, Drawn, Extent, Files, Forks, Listed, Order, Sides, Workers};
 use match_runs::{
     CensusPlan, CheckPlan, Description, HintedFault, PicturePlan, Printing, RunFault, SearchPlan,
-    Watched, run_census, run_check_watched, run_description, run_joined, run_listed, run_picture,
-    run_printing, run_solve_watched, run_tiles,
+    Watched, run_census, run_check_watched, run_description, run_joined_watched, run_listed,
+    run_picture, run_printing, run_solve_watched, run_tiles,
 };
 use std::alloc::Global;
 use std::random::RandomSource;
@@ -39,8 +40,8 @@ use std::time::Clock;
 /// the three are one, or one can't be made, `Write`. What it made is put under the names once all is written, the list
 /// first, and after a fault it is removed.
 ///
-/// A hint says why a file is refused; and where texts are to be explained and one has a fault, what its line has to be, and
-/// what it is, or which numbers differ. Memory for it may be refused.
+/// A hint says why a file is refused, or what has to be changed in a text that has a fault. Memory for it may be refused. A
+/// check and a solve make none of a text where it isn't asked for and nobody reads it on a terminal.
 pub fn run_order<
     S: FileSystem,
     I: Source,
@@ -61,12 +62,16 @@ pub fn run_order<
         (writing_of W.Sink streams.old.output.now streams.new.output.now) order.now (unhinted result) }
 {
     match order {
-        Order::Joined => check_joined(rt, alloc, streams.input, streams.output),
+        Order::Joined => {
+            let hints = streams.terminal;
+            check_joined(rt, alloc, hints, streams.input, streams.output)
+        }
         Order::Check {
             files,
             workers,
             forks,
             progress,
+            hints,
         } => {
             let plan = CheckPlan {
                 workers: *workers,
@@ -76,6 +81,7 @@ pub fn run_order<
                 files,
                 plan,
                 progress: *progress,
+                hints: are_told(*hints, streams.terminal),
             };
             check(rt, alloc, &order, system, streams.output)
         }
@@ -86,6 +92,7 @@ pub fn run_order<
             workers,
             keep: _,
             progress,
+            hints,
         } => {
             let plan = SearchPlan {
                 depth: *depth,
@@ -96,6 +103,7 @@ pub fn run_order<
                 files,
                 plan,
                 progress: *progress,
+                hints: are_told(*hints, streams.terminal),
             };
             solve(rt, alloc, &order, system, streams.output)
         }
@@ -106,10 +114,17 @@ pub fn run_order<
             };
             print_all(rt, alloc, &order, system, streams.output)
         }
-        Order::Expand(files) => {
+        Order::ExplainPuzzle(puzzle) => {
+            describe(alloc, puzzle, Description::NoFault, system, streams.output)
+        }
+        Order::Expand {
+            files,
+            orbits,
+            hints: _,
+        } => {
             let order = PrintingOrder {
                 files,
-                printing: Printing::All,
+                printing: listing_of(*orbits),
             };
             print_all(rt, alloc, &order, system, streams.output)
         }
@@ -161,16 +176,31 @@ pub fn run_order<
     }
 }
 
+// Whether hints are told: where they are asked for, or somebody reads them on a terminal.
+fn are_told(hints: bool, terminal: bool) -> bool {
+    hints || terminal
+}
+
 fn check_joined<I: Source, W: Sink, R: Threads + Sync>(
     rt: &R,
     alloc: Global,
+    hints: bool,
     input: &mut I,
     output: &mut W,
 ) -> Result<Exit, HintedFault>
     ensures { CheckOf (joined_source (reading_of I.Source input.old input.new))
         (writing_of W.Sink output.old output.new) (unhinted result) }
 {
-    let status = run_joined(rt, alloc, input, Workers::new(1), Forks::new(0), output)?;
+    let plan = CheckPlan {
+        workers: Workers::new(1),
+        forks: Forks::new(0),
+    };
+    let check = Watched {
+        plan,
+        watch: &Open,
+        hints,
+    };
+    let status = run_joined_watched(rt, alloc, &check, input, output)?;
     Ok(Exit::of_status(status))
 }
 
@@ -224,6 +254,7 @@ struct CheckOrder<'a> {
     files: &'a Files,
     plan: CheckPlan,
     progress: bool,
+    hints: bool,
 }
 
 fn check<S: FileSystem, W: Sink, R: Threads + Sync + Clock + Eprint>(
@@ -241,6 +272,7 @@ fn check<S: FileSystem, W: Sink, R: Threads + Sync + Clock + Eprint>(
     let check = Watched {
         plan: order.plan,
         watch: &progress,
+        hints: order.hints,
     };
     let status = run_check_watched(
         rt,
@@ -258,6 +290,7 @@ struct SolveOrder<'a> {
     files: &'a Files,
     plan: SearchPlan,
     progress: bool,
+    hints: bool,
 }
 
 // Opens the puzzle's file and makes the others beside their names before anything is read, and puts them there when all
@@ -283,6 +316,7 @@ fn solve<S: FileSystem, W: Sink, R: Threads + Wait + Sync + Clock + Eprint>(
     let search = Watched {
         plan: order.plan,
         watch: &progress,
+        hints: order.hints,
     };
     let solved = run_solve_watched(
         rt,
@@ -298,8 +332,10 @@ fn solve<S: FileSystem, W: Sink, R: Threads + Wait + Sync + Clock + Eprint>(
             report: output,
         },
     );
-    if let Err(fault) = solved {
-        let hint = hint_on_writing(alloc, files, &made, system);
+    if let Err(HintedFault { fault, hint }) = solved {
+        let hint = progress
+            .with_met(alloc, &fault, hint)
+            .or(hint_on_writing(alloc, files, &made, system));
         remove_both(made, files, system);
         return Err(HintedFault { fault, hint });
     }
@@ -348,7 +384,18 @@ struct PrintingOrder<'a> {
     printing: Printing,
 }
 
-// As a check, and prints all arrangements, or how many they are, or why the list is refused.
+// The list of one arrangement of each orbit, or of all.
+fn listing_of(orbits: bool) -> Printing
+    ensures { result ≡ list_printed orbits }
+{
+    if orbits {
+        Printing::Orbits
+    } else {
+        Printing::All
+    }
+}
+
+// As a check, and prints all arrangements or one of each orbit, or how many they are, or why the list is refused.
 fn print_all<S: FileSystem, W: Sink, R: RandomSource>(
     rt: &R,
     alloc: Global,

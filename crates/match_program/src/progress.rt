@@ -3,8 +3,9 @@
 use check_crew::Gate;
 use match_board::limits::MOST_BYTES;
 use match_census::CensusWatch;
-use match_crew::Watch;
-use match_runs::{CheckWatch, SolveWatch};
+use match_crew::{SolveFault, Watch};
+use match_runs::{CheckWatch, RunFault, SolveWatch};
+use std::alloc::Global;
 use std::sync::atomic::{AtomicBool, AtomicU64, Ordering};
 use std::time::{Clock, Instant};
 
@@ -87,14 +88,14 @@ impl<R: Clock + Eprint> CheckWatch for CheckProgress<'_, R> {
 const LEAST_NODE_LEN: u64 = 4;
 
 /// Tells how far a solve is: how many children of branches were looked at, how many lemmas are done and how many wait
-/// for a worker, and how many arrangements were found.
+/// for a worker, and how many arrangements were met, in the lemmas that are being searched too.
 #[derive(Drop)]
 pub struct SolveProgress<'a, R: Clock + Eprint> {
     turns: Turns<'a, R>,
     children: AtomicU64,
     lemmas: AtomicU64,
     waiting: AtomicU64,
-    found: AtomicU64,
+    met: AtomicU64,
     // whether it was told that the certificate is too long to be checked
     is_too_long: AtomicBool,
 }
@@ -107,9 +108,26 @@ impl<'a, R: Clock + Eprint> SolveProgress<'a, R> {
             children: AtomicU64::new(0),
             lemmas: AtomicU64::new(0),
             waiting: AtomicU64::new(0),
-            found: AtomicU64::new(0),
+            met: AtomicU64::new(0),
             is_too_long: AtomicBool::new(false),
         }
+    }
+
+    /// The hint, and before it, where the search gave up, what it had met until then. None where there is no hint, or memory
+    /// is refused.
+    pub fn with_met(
+        &self,
+        alloc: Global,
+        fault: &RunFault,
+        hint: Option<String>,
+    ) -> Option<String> {
+        let hint = hint?;
+        if !matches!(fault, RunFault::Solve(SolveFault::GaveUp)) {
+            return Some(hint);
+        }
+        let nodes = self.nodes();
+        let met = self.met.load(Ordering::Relaxed);
+        format!(in alloc; "nodes met: {nodes}, arrangements met: {met}, {hint}").ok()
     }
 
     // How many nodes the certificate has by now: each child that was looked at, and the root of each lemma.
@@ -124,10 +142,10 @@ impl<'a, R: Clock + Eprint> SolveProgress<'a, R> {
         let children = self.children.load(Ordering::Relaxed);
         let lemmas = self.lemmas.load(Ordering::Relaxed);
         let waiting = self.waiting.load(Ordering::Relaxed);
-        let found = self.found.load(Ordering::Relaxed);
+        let met = self.met.load(Ordering::Relaxed);
         let _ = eprintln!(self.turns.rt;
             "solve: {seconds} s, {children} children looked at, {lemmas} lemmas done, {waiting} open, \
-             {found} arrangements"
+             {met} arrangements"
         );
     }
 
@@ -148,15 +166,16 @@ impl<'a, R: Clock + Eprint> SolveProgress<'a, R> {
 }
 
 impl<R: Clock + Eprint> Watch for SolveProgress<'_, R> {
-    fn looked(&self, children: u32) {
+    fn looked(&self, children: u32, arrangements: u32) {
         self.children
             .fetch_add(u64::from(children), Ordering::Relaxed);
+        self.met
+            .fetch_add(u64::from(arrangements), Ordering::Relaxed);
         self.tell_in_turn();
     }
 
-    fn searched(&self, found: usize, waiting: u64) {
+    fn searched(&self, waiting: u64) {
         self.lemmas.fetch_add(1, Ordering::Relaxed);
-        self.found.fetch_add(found as u64, Ordering::Relaxed);
         self.waiting.store(waiting, Ordering::Relaxed);
         self.tell_in_turn();
     }

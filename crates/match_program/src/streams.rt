@@ -8,6 +8,7 @@ pub struct Streams<'i, 'o, 'e, I: Source, W: Sink, E: Sink> {
     pub input: &'i mut I,
     pub output: &'o mut W,
     pub errors: &'e mut E,
-    /// Whether somebody reads the errors on a terminal, who is told too why a file is refused.
+    /// Whether somebody reads the errors on a terminal, who is told too why a file is refused, and what has to be changed
+    /// in a text that has a fault.
     pub terminal: bool,
 }

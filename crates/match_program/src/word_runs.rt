@@ -23,8 +23,8 @@ use std::thread::Threads;
 use std::time::Clock;
 
 /// Does what the words after the program's name order, and says how the program ends. A fault's line goes to `errors`, and
-/// nothing else but what is wrong with words; how far a check or a solve is, what a text's line has to be that is to be
-/// explained, and on a terminal why a file is refused, is told by `rt`.
+/// nothing else but what is wrong with words. How far a check or a solve is, what has to be changed in a text that has a
+/// fault, and on a terminal why a file is refused, is told by `rt`.
 ///
 /// Help and the version go to the output. All is done then; where they can't be written, it ends as `Write` does.
 pub fn run_words<
@@ -77,17 +77,34 @@ fn carry_out<
         Ok(exit) => exit,
         Err(hinted) => {
             let exit = stopped(alloc, &hinted.fault, streams.errors);
-            tell_hint(rt, &hinted, streams.terminal);
+            tell_hint(rt, order, &hinted, streams.terminal);
             exit
         }
     }
 }
 
-// Tells what was left to be told beside a fault; of one of reading or writing, of which scripts want one line alone, on a
-// terminal.
-fn tell_hint<R: Eprint>(rt: &R, hinted: &HintedFault, terminal: bool) {
+// Whether what is told beside the fault is told also where nobody reads it on a terminal. Of a fault of reading or writing,
+// and of orders that scripts give, these want one line alone.
+fn is_always_told(order: &Order, fault: &RunFault) -> bool {
+    if matches!(fault, RunFault::Read(_) | RunFault::Write) {
+        return false;
+    }
+    match order {
+        Order::Joined => false,
+        Order::Check { hints, .. } | Order::Solve { hints, .. } | Order::Expand { hints, .. } => {
+            *hints
+        }
+        Order::Explain(_) | Order::ExplainPuzzle(_) | Order::Count(_) | Order::Census { .. } =>
+            true,
+        Order::Show { .. } | Order::Draw { .. } | Order::Symmetries(_) | Order::Tiles { .. } =>
+            true,
+    }
+}
+
+// Tells what was left to be told beside a fault.
+fn tell_hint<R: Eprint>(rt: &R, order: &Order, hinted: &HintedFault, terminal: bool) {
     let HintedFault { fault, hint } = hinted;
-    if !terminal && matches!(fault, RunFault::Read(_) | RunFault::Write) {
+    if !terminal && !is_always_told(order, fault) {
         return;
     }
     if let Some(hint) = hint {

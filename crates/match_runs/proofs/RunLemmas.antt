@@ -2,6 +2,7 @@
 use Rattle.std.proofs.Common.{◌≡◌, ◌≤◌, ℕ, suc, List, [], ◌∷◌, Some, Result, Ok, Err, IsErrOf, Contains, length, map, slice_get, arith, refl, ap, sym, ◌∙◌, subst, ⊎_elim}
 use Rattle.match_board.specs.declared.limits.TheConstants.{MOST_ARRANGEMENTS}
 use Rattle.std.specs.List.{AllByRecursion}
+use Rattle.std.proofs.lemmas.List.{length-map}
 use Rattle.match_puzzle.specs.Puzzle.{Task, IsPuzzle}
 use Rattle.match_puzzle.specs.Arrangement.{IsArrangement}
 use Rattle.match_puzzle.specs.declared.placements.Placement.{Placement}
@@ -21,7 +22,7 @@ use Rattle.cert_tree.specs.Certificate.{Contents, Piece}
 use Rattle.cert_tree.specs.CertificateText.{Said, Makes, CertificateGives}
 use Rattle.cert_tree.specs.declared.faults.AssembleFault.{AssembleFault}
 use Rattle.cert_tree.specs.declared.faults.CertTextFault.TheVariants.{Text, Assemble}
-use Rattle.cert_check.specs.Setting.{Question}
+use Rattle.cert_check.specs.Setting.{Question, motions_of}
 use Rattle.puzzle_symmetry.specs.Complete.{AreSymmetries, IsCompleteList}
 use Rattle.cert_check.specs.Answer.{IsAnswer}
 use Rattle.puzzle_symmetry.proofs.MotionLemmas.{are_of_puzzle, lines_of}
@@ -36,6 +37,7 @@ use Rattle.match_runs.proofs.RepetitionLemmas.{more_are_reached}
 use Rattle.match_report.specs.AnswerText.{HasLine, HasWords}
 use Rattle.symmetry_orbits.specs.declared.expansions.ExpandFault.{ExpandFault}
 use Rattle.symmetry_orbits.specs.declared.expansions.ExpandFault.TheVariants as expansions
+use Rattle.symmetry_orbits.specs.Orbits.{AreOneOfEachOrbit}
 use Rattle.symmetry_orbits.specs.Expansion.{AreMoreReached, AreOf, IsExpansion, HasWhatIsReached}
 use Rattle.match_runs.specs.FaultText.{run_of_expand}
 use Rattle.byte_streams.specs.Documents.{Texts}
@@ -181,3 +183,35 @@ pub expand_fails : {T : Type 0} (printing : Printing) (question : Question) (fau
     → (IsErrOf {T = T} (Err fault) expansions.TooMany → AreTooMany printing question) → CompleteFails printing question (run_of_expand fault)
 expand_fails printing question expansions.TooMany too_many = too_many refl
 expand_fails printing question expansions.Memory too_many = tt
+
+-- ---- what was read of a question whose list is complete
+
+module _ (question : Question) (puzzle : IsPuzzle question.puzzle) (complete : IsCompleteList question.puzzle question.symmetries question.listed) (p : Task) (listed : List (List Placement)) (motions : List Motion)
+    (same_puzzle : p ≡ question.puzzle) (same_listed : listed ≡ question.listed) (same_motions : motions ≡ motions_of question) where
+  same_lines : map line_of motions ≡ question.symmetries
+  same_lines = ap (map line_of) same_motions ∙ lines_of question.puzzle question.symmetries
+
+  pub read_are : AreOf p listed motions
+  read_are =
+      subst (λ (q : Task). AreOf q listed motions) (sym same_puzzle)
+      (subst (λ (l : List (List Placement)). AreOf question.puzzle l motions) (sym same_listed)
+      (subst (AreOf question.puzzle question.listed) (sym same_motions) (all_are question.puzzle question.listed question.symmetries puzzle complete)))
+
+  pub read_complete : IsCompleteList p (map line_of motions) listed
+  read_complete =
+      subst (λ (q : Task). IsCompleteList q (map line_of motions) listed) (sym same_puzzle)
+      (subst (IsCompleteList question.puzzle (map line_of motions)) (sym same_listed)
+      (subst (λ (lines : List SymmetryLine). IsCompleteList question.puzzle lines question.listed) (sym same_lines) complete))
+
+  -- What is said of what was read is said of the question.
+  pub said_of_question : (P : Task → List SymmetryLine → List (List Placement) → Type 0) → P p (map line_of motions) listed → P question.puzzle question.symmetries question.listed
+  said_of_question P said = subst (P question.puzzle question.symmetries) same_listed (subst (λ (lines : List SymmetryLine). P question.puzzle lines listed) same_lines (subst (λ (q : Task). P q (map line_of motions) listed) same_puzzle said))
+
+  pub so_many_symmetries : length motions ≡ length question.symmetries
+  so_many_symmetries = sym (length-map motions line_of) ∙ ap length same_lines
+
+  -- The first of each orbit can be listed.
+  pub firsts_within : (firsts : List (List Placement)) → AreOneOfEachOrbit p (map line_of motions) listed firsts → length firsts ≤ MOST_ARRANGEMENTS → IsListWithin SECOND firsts
+  firsts_within firsts one few =
+      arrangements_within p firsts (read_are.puzzle) (λ a c.
+      reached_is p (map line_of motions) listed read_are.puzzle read_are.symmetries (λ b among. let at = place_of listed b among in read_are.arrangements at.0 b at.1) a (one.reached a c)) few

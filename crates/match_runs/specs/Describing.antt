@@ -8,7 +8,7 @@ use Rattle.match_text.specs.declared.faults.PuzzleTextFault.TheVariants as puzzl
 use Rattle.match_text.specs.declared.ranges.TheConstants.{SECOND}
 use Rattle.match_picture.specs.Pictures.{IsPuzzlePicture}
 use Rattle.match_show.specs.Drawing.{IsDrawing}
-use Rattle.match_show.specs.Facts.{IsFacts, number_line}
+use Rattle.match_show.specs.Facts.{IsEstimateLine, IsFacts, number_line}
 use Rattle.match_text.specs.Spelling.{line_text}
 use Rattle.xcc_form.specs.Options.{Compiled, HasTooManyEntries, IsCompiled, entries_of}
 use Rattle.puzzle_symmetry.specs.Symmetry.{IsSymmetry}
@@ -31,7 +31,7 @@ CountsOptions puzzle text =
     ((x : Compiled) × (x.puzzle ≡ puzzle) × IsCompiled x × (text ≡ options_text (length x.options) (entries_of x)))
     ⊎ (HasTooManyEntries puzzle × (text ≡ line_text (codes "too" ∷ codes "many" ∷ codes "options" ∷ [])))
 
--- The text is the empty board of the puzzle, drawn, and then facts of it.
+-- The text is the empty board of the puzzle, drawn, then facts of it, and an estimate.
 pub record IsBoardText (puzzle : Task) (text : List ℕ) : Type 0 where
   pub drawing : List ℕ
   pub drawn : IsDrawing (record { puzzle = puzzle; placed = empty_prefix puzzle }) None drawing
@@ -39,7 +39,9 @@ pub record IsBoardText (puzzle : Task) (text : List ℕ) : Type 0 where
   pub told : IsFacts puzzle facts
   pub options : List ℕ
   pub counted : CountsOptions puzzle options
-  pub parts : text ≡ drawing ++ (facts ++ options)
+  pub estimate : List ℕ
+  pub is_estimate : IsEstimateLine estimate
+  pub parts : text ≡ drawing ++ (facts ++ (options ++ estimate))
 
 -- The text has lines of symmetries of the puzzle, as a certificate of version 2 has them: at most so many as there may
 -- be, each within its limits, and spelled as there.
@@ -50,11 +52,16 @@ pub record IsSymmetriesText (puzzle : Task) (text : List ℕ) : Type 0 where
   pub few : length lines ≤ MOST_SYMMETRIES
   pub spelled : text ≡ symmetries_spelling lines
 
+-- what is printed of a puzzle that is only to have no fault
+abbrev pub no_fault_text : List ℕ
+no_fault_text = line_text (codes "puzzle:" ∷ codes "no" ∷ codes "fault" ∷ [])
+
 -- What is printed of a puzzle.
 abbrev pub DescribesPuzzle : Description → (puzzle : Task) (printed : List ℕ) → Type 0
 DescribesPuzzle descriptions.Board puzzle printed = IsBoardText puzzle printed
 DescribesPuzzle descriptions.Picture puzzle printed = IsPuzzlePicture puzzle printed
 DescribesPuzzle descriptions.Symmetries puzzle printed = IsSymmetriesText puzzle printed
+DescribesPuzzle descriptions.NoFault puzzle printed = printed ≡ no_fault_text
 
 -- What is printed of the puzzle that the text spells.
 abbrev pub Describes : Description → (text printed : List ℕ) → (ends : Unit {0}) → Type 0

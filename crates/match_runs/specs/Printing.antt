@@ -12,7 +12,9 @@ use Rattle.match_report.specs.AnswerText.{answer_line}
 use Rattle.match_explain.specs.Explanation.{IsExplanation}
 use Rattle.match_show.specs.Facts.{number_line}
 use Rattle.symmetry_orbits.specs.Expansion.{IsExpansion, AreMoreReached}
-use Rattle.symmetry_orbits.specs.Orbits.{AreMoreListedOrInOrbit, IsCount}
+use Rattle.symmetry_orbits.specs.Firsts.{AreFirstOfEachOrbit}
+use Rattle.symmetry_orbits.specs.Orbits.{AreMoreListedOrInOrbit, AreOneOfEachOrbit, IsCount}
+use Rattle.symmetry_orbits.specs.Pictures.{HasPictures}
 use Rattle.symmetry_orbits.specs.declared.numbers.Count.{Count}
 use Rattle.byte_streams.specs.Documents.{Texts}
 use Rattle.match_runs.specs.Checking.{Answers, CheckFails, Spells}
@@ -29,26 +31,35 @@ pub record AreAllInOrder (question : Question) (all : List (List Placement)) : T
   pub once : AreDistinct all
   pub few : length all ≤ MOST_ARRANGEMENTS
 
--- how many arrangements there are, and how many orbits
-abbrev pub count_text : Count → List ℕ
-count_text count =
-    number_line (codes "arrangements") count.arrangements ++ number_line (codes "orbits") count.orbits
+-- These are one arrangement of each orbit: of the listed ones the first of each, in the order of the list.
+pub record AreFirstsOf (question : Question) (firsts : List (List Placement)) : Type 0 where
+  pub first_listed : AreFirstOfEachOrbit question.puzzle question.symmetries question.listed firsts
+  pub one_of_each : AreOneOfEachOrbit question.puzzle question.symmetries question.listed firsts
 
--- So many arrangements and orbits are reached from the list, and so many arrangements the puzzle has.
-abbrev pub IsCountOf : Question → Count → Type 0
-IsCountOf question count =
-    IsCount question.puzzle question.symmetries question.listed count
-    × HasArrangements question.puzzle count.arrangements
+-- how many arrangements there are, how many pictures and how many orbits, and by how many symmetries
+abbrev pub count_text : Count → (symmetries : ℕ) → List ℕ
+count_text count symmetries =
+    number_line (codes "arrangements") count.arrangements ++ number_line (codes "pictures") count.pictures
+    ++ number_line (codes "orbits") count.orbits ++ number_line (codes "symmetries") symmetries
 
--- What is printed of what was asked. Where it is complete: the list of all arrangements, or how many they are, or the
--- answer. Where it is refused: the answer, and why, where that is to be explained.
+-- So many arrangements and orbits are reached from the list, and so many arrangements and pictures the puzzle has.
+pub record IsCountOf (question : Question) (count : Count) : Type 0 where
+  pub reached : IsCount question.puzzle question.symmetries question.listed count
+  pub arrangements : HasArrangements question.puzzle count.arrangements
+  pub pictures : HasPictures question.puzzle count.pictures
+
+-- What is printed of what was asked. Where it is complete: the list of all arrangements or of one of each orbit, or how
+-- many they are, or the answer. Where it is refused: the answer, and why, where that is to be explained.
 abbrev pub Prints : Question → Answer → Printing → List ℕ → Type 0
 Prints question Complete printings.All text =
     (all : List (List Placement)) × AreAllInOrder question all × IsListText all text
+Prints question Complete printings.Orbits text =
+    (firsts : List (List Placement)) × AreFirstsOf question firsts × IsListText firsts text
 Prints question Complete printings.Count text =
-    (count : Count) × IsCountOf question count × (text ≡ count_text count)
+    (count : Count) × IsCountOf question count × (text ≡ count_text count (length question.symmetries))
 Prints question Complete printings.Explanation text = text ≡ answer_line Complete (length question.listed)
 Prints question (Refused fault) printings.All text = text ≡ answer_line (Refused fault) (length question.listed)
+Prints question (Refused fault) printings.Orbits text = text ≡ answer_line (Refused fault) (length question.listed)
 Prints question (Refused fault) printings.Count text = text ≡ answer_line (Refused fault) (length question.listed)
 Prints question (Refused fault) printings.Explanation text =
     (why : List ℕ) × IsExplanation question fault why
@@ -59,10 +70,13 @@ abbrev pub PrintingGives : Printing → Texts → (printed : List ℕ) → Statu
 PrintingGives printing texts printed status =
     Answers texts (λ question answer. Prints question answer printing printed) status
 
--- More arrangements are reached than can be listed; or to be counted, more are listed than can be, or in one orbit.
+-- More arrangements are reached than can be listed; or for one of each orbit, or to be counted, more are listed than can
+-- be, or in one orbit.
 abbrev pub AreTooMany : Printing → Question → Type 0
 AreTooMany printings.All question =
     AreMoreReached MOST_ARRANGEMENTS question.puzzle question.symmetries question.listed
+AreTooMany printings.Orbits question =
+    AreMoreListedOrInOrbit MOST_ARRANGEMENTS question.puzzle question.symmetries question.listed
 AreTooMany printings.Count question =
     AreMoreListedOrInOrbit MOST_ARRANGEMENTS question.puzzle question.symmetries question.listed
 AreTooMany printings.Explanation question = ⊥

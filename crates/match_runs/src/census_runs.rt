@@ -14,9 +14,10 @@ ghost use Rattle.byte_streams.specs.declared.faults.Document.TheVariants as docu
 ghost use Rattle.command_words.specs.declared.orders.Extent.TheVariants as extents;
 ghost use Rattle.match_runs.specs.Census.{CensusFails, CensusGives, IsNotCounted, PrintsCount, part_line};
 ghost use Rattle.match_runs.specs.Census.{part_word, split_line};
-ghost use Rattle.match_runs.specs.Runs.{MadeOf, Runs};
+ghost use Rattle.match_runs.specs.Runs.{MadeOf, Runs, unhinted};
 
 use crate::faults::RunFault;
+use crate::hints::{HintedFault, hint_on};
 use crate::printing_runs::put_count_line;
 use crate::running::run_by;
 use byte_streams::{Document, MadeText, OneSink, OneSource, Sink, Source, Text};
@@ -56,27 +57,37 @@ pub struct CensusPlan<'w, W: CensusWatch> {
 /// it is only to be told whether there are more than `M`, `arrangements more than M` where there are. Of part `K` of `N` of
 /// the search, `split SUBTREES HASH` and `part K/N arrangements M`: the parts of one split add up.
 ///
-/// `Read` and `TooLong` are of the puzzle; `Puzzle` where its text spells none; `Solve(TooMany)` where its options have
-/// over 200,000 items together, and `Solve(Full)` where 2^64 arrangements or more are counted. Where a fault other than
-/// `Write` is answered, nothing was written.
+/// `Read` and `TooLong` are of the puzzle; `Puzzle` where its text spells none, with a hint of what has to be changed there;
+/// `Solve(TooMany)` where its options have over 200,000 items together, and `Solve(Full)` where 2^64 arrangements or more
+/// are counted. Where a fault other than `Write` is answered, nothing was written.
 pub fn run_census<P: Source, W: Sink, R: Threads + Sync, T: CensusWatch + Sync>(
     rt: &R,
     alloc: Global,
     puzzle: &mut P,
     plan: &CensusPlan<'_, T>,
     writer: &mut W,
-) -> Result<(), RunFault>
+) -> Result<(), HintedFault>
     ensures { Runs (one_source documents.Puzzle (reading_of P.Source puzzle.old puzzle.new)) (CensusGives plan.now.extent)
-        (CensusFails plan.now.extent) (one_sink (writing_of W.Sink writer.old writer.new)) result }
+        (CensusFails plan.now.extent) (one_sink (writing_of W.Sink writer.old writer.new)) (unhinted result) }
 {
     let mut inputs = OneSource {
         source: puzzle,
         document: Document::Puzzle,
     };
+    let mut hint = None;
     let make = |text: &Text| -> Result<(MadeText, ()), RunFault>
         ensures { MadeOf (CensusGives plan.entry.now.extent) (CensusFails plan.entry.now.extent) text.now result }
-    { counted(rt, alloc, text, plan) };
-    run_by(alloc, &mut inputs, make, &mut OneSink { sink: writer })
+    {
+        let made = counted(rt, alloc, text, plan);
+        if let Err(fault) = &made {
+            hint = hint_on(alloc, text.bytes(), b"", fault);
+        }
+        made
+    };
+    match run_by(alloc, &mut inputs, make, &mut OneSink { sink: writer }) {
+        Ok(()) => Ok(()),
+        Err(fault) => Err(HintedFault { fault, hint }),
+    }
 }
 
 // What is printed of the puzzle that the text spells.

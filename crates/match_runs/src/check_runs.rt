@@ -6,9 +6,10 @@ ghost use Rattle.byte_streams.specs.Moves.{reading_of, writing_of};
 ghost use Rattle.byte_streams.specs.Origins.{joined_source, three_sources};
 ghost use Rattle.byte_streams.specs.Targets.{one_sink};
 ghost use Rattle.match_runs.specs.Checking.{CheckFails, CheckGives};
-ghost use Rattle.match_runs.specs.Runs.{MadeOf, Runs};
+ghost use Rattle.match_runs.specs.Runs.{MadeOf, Runs, unhinted};
 
 use crate::faults::RunFault;
+use crate::hints::{HintedFault, hint_of};
 use crate::questions::read_question_with;
 use crate::running::run_by;
 use crate::statuses::Status;
@@ -56,17 +57,25 @@ pub fn run_check<P: Source, L: Source, C: Source, W: Sink, R: Threads + Sync>(
         certificate,
     };
     let plan = CheckPlan { workers, forks };
-    let check = Watched { plan, watch: &Open };
-    run_check_watched(
+    let check = Watched {
+        plan,
+        watch: &Open,
+        hints: false,
+    };
+    match run_check_watched(
         rt,
         alloc,
         &check,
         &mut inputs,
         &mut OneSink { sink: writer },
-    )
+    ) {
+        Ok(status) => Ok(status),
+        Err(hinted) => Err(hinted.fault),
+    }
 }
 
-/// The same, over whatever the documents come from and the answer goes to, and the watch is told while it runs.
+/// The same, over whatever the documents come from and the answer goes to, and the watch is told while it runs. Where a
+/// hint is wanted and a text has a fault, it says what has to be changed there, if memory isn't refused to it.
 pub fn run_check_watched<
     I: Inputs<Texts = OwnedDocuments>,
     O: Outputs<Made = MadeText>,
@@ -78,15 +87,27 @@ pub fn run_check_watched<
     check: &Watched<'_, CheckPlan, G>,
     inputs: &mut I,
     outputs: &mut O,
-) -> Result<Status, RunFault>
+) -> Result<Status, HintedFault>
     ensures inputs { I.same inputs.old inputs.new }
     ensures outputs { O.same outputs.old outputs.new }
-    ensures run { Runs (I.reads inputs.old inputs.new) CheckGives CheckFails (O.writes outputs.old outputs.new) result }
+    ensures run { Runs (I.reads inputs.old inputs.new) CheckGives CheckFails (O.writes outputs.old outputs.new)
+        (unhinted result) }
 {
+    let mut hint = None;
     let make = |texts: &OwnedDocuments| -> Result<(MadeText, Status), RunFault>
         ensures { MadeOf CheckGives CheckFails texts.now result }
-    { answer_of(rt, alloc, &texts.lend(), check) };
-    run_by(alloc, inputs, make, outputs)
+    {
+        let documents = texts.lend();
+        let made = answer_of(rt, alloc, &documents, check);
+        if let (true, Err(fault)) = (check.hints, &made) {
+            hint = hint_of(alloc, &documents, fault);
+        }
+        made
+    };
+    match run_by(alloc, inputs, make, outputs) {
+        Ok(status) => Ok(status),
+        Err(fault) => Err(HintedFault { fault, hint }),
+    }
 }
 
 /// Reads a puzzle, a list and a certificate, joined, to the end, and writes the answer to them and nothing else. The
@@ -105,10 +126,31 @@ pub fn run_joined<S: Source, W: Sink, R: Threads + Sync>(
     ensures { Runs (joined_source (reading_of S.Source reader.old reader.new)) CheckGives CheckFails
         (one_sink (writing_of W.Sink writer.old writer.new)) result }
 {
-    let mut input = JoinedSource { input: reader };
     let plan = CheckPlan { workers, forks };
-    let check = Watched { plan, watch: &Open };
-    run_check_watched(rt, alloc, &check, &mut input, &mut OneSink { sink: writer })
+    let check = Watched {
+        plan,
+        watch: &Open,
+        hints: false,
+    };
+    match run_joined_watched(rt, alloc, &check, reader, writer) {
+        Ok(status) => Ok(status),
+        Err(hinted) => Err(hinted.fault),
+    }
+}
+
+/// The same, with a watch and hints as [`run_check_watched`] has them.
+pub fn run_joined_watched<S: Source, W: Sink, R: Threads + Sync, G: CheckWatch + Sync>(
+    rt: &R,
+    alloc: Global,
+    check: &Watched<'_, CheckPlan, G>,
+    reader: &mut S,
+    writer: &mut W,
+) -> Result<Status, HintedFault>
+    ensures { Runs (joined_source (reading_of S.Source reader.old reader.new)) CheckGives CheckFails
+        (one_sink (writing_of W.Sink writer.old writer.new)) (unhinted result) }
+{
+    let mut input = JoinedSource { input: reader };
+    run_check_watched(rt, alloc, check, &mut input, &mut OneSink { sink: writer })
 }
 
 // The line of the answer to the documents.

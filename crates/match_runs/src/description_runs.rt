@@ -9,9 +9,10 @@ ghost use Rattle.byte_streams.specs.Targets.{one_sink};
 ghost use Rattle.byte_streams.specs.declared.faults.Document.TheVariants as documents;
 ghost use Rattle.match_runs.specs.Describing.{CountsOptions, Describes, IsBoardText, IsSymmetriesText, DescribeFails};
 ghost use Rattle.match_runs.specs.Describing.{options_text};
-ghost use Rattle.match_runs.specs.Runs.{MadeOf, Runs};
+ghost use Rattle.match_runs.specs.Runs.{MadeOf, Runs, unhinted};
 
 use crate::faults::{RunFault, words_line};
+use crate::hints::{HintedFault, hint_on};
 use crate::running::run_by;
 use byte_streams::{Document, MadeText, OneSink, OneSource, Sink, Source, Text};
 use cert_tree::write_symmetries;
@@ -19,7 +20,7 @@ use match_board::limits::MOST_ENTRIES;
 use match_picture::write_puzzle_picture;
 use match_puzzle::{Partial, Puzzle};
 use match_report::Line;
-use match_show::{write_drawing, write_facts};
+use match_show::{write_drawing, write_estimate, write_facts};
 use match_symmetry::suggest;
 use match_text::{put_number_line, read_puzzle};
 use std::alloc::{AllocError, Global};
@@ -29,36 +30,49 @@ use xcc_form::{CompileFault, compile};
 #[derive(Clone, Copy, PartialEq, Eq, Debug)]
 pub enum Description {
     /// Its empty board, drawn, with the numbers of its cells and the colours that the border asks for, and then how
-    /// many cells, tiles and colours there are, and where each colour stands.
+    /// many cells, tiles and colours there are, where each colour stands, how many options a search has, and an estimate
+    /// of how many arrangements there are.
     Board,
     /// A picture of its empty board, with the colours that the border asks for, and of each tile.
     Picture,
     /// Symmetries of it, at most 1,024: how many they are, and then the line of each, as a certificate has them. They
     /// are those that a solve of the puzzle may cite by.
     Symmetries,
+    /// That it has no fault.
+    NoFault,
 }
 
 /// Reads a puzzle to its end, and writes what is asked of it.
 ///
-/// `Read` and `TooLong` are of the puzzle; `Puzzle` where its text spells none. Where a fault other than `Write` is
-/// answered, nothing was written.
+/// `Read` and `TooLong` are of the puzzle; `Puzzle` where its text spells none, with a hint of what has to be changed
+/// there. Where a fault other than `Write` is answered, nothing was written.
 pub fn run_description<P: Source, W: Sink>(
     alloc: Global,
     puzzle: &mut P,
     description: Description,
     writer: &mut W,
-) -> Result<(), RunFault>
+) -> Result<(), HintedFault>
     ensures { Runs (one_source documents.Puzzle (reading_of P.Source puzzle.old puzzle.new)) (Describes description)
-        DescribeFails (one_sink (writing_of W.Sink writer.old writer.new)) result }
+        DescribeFails (one_sink (writing_of W.Sink writer.old writer.new)) (unhinted result) }
 {
     let mut inputs = OneSource {
         source: puzzle,
         document: Document::Puzzle,
     };
+    let mut hint = None;
     let make = |text: &Text| -> Result<(MadeText, ()), RunFault>
         ensures { MadeOf (Describes description) DescribeFails text.now result }
-    { described(alloc, text, description) };
-    run_by(alloc, &mut inputs, make, &mut OneSink { sink: writer })
+    {
+        let made = described(alloc, text, description);
+        if let Err(fault) = &made {
+            hint = hint_on(alloc, text.bytes(), b"", fault);
+        }
+        made
+    };
+    match run_by(alloc, &mut inputs, make, &mut OneSink { sink: writer }) {
+        Ok(()) => Ok(()),
+        Err(fault) => Err(HintedFault { fault, hint }),
+    }
 }
 
 // What is written of the puzzle that the text spells.
@@ -74,6 +88,7 @@ fn described(
         Description::Board => board_text(alloc, &puzzle)?,
         Description::Picture => write_puzzle_picture(alloc, &puzzle)?,
         Description::Symmetries => symmetries_text(alloc, &puzzle)?,
+        Description::NoFault => words_line(alloc, b"puzzle:", b"no", b"fault")?,
     };
     Ok((MadeText::new(printed), ()))
 }
@@ -86,8 +101,10 @@ fn board_text(alloc: Global, puzzle: &Puzzle) -> Result<Vec<u8>, AllocError>
     let mut text = write_drawing(alloc, &partial, None)?;
     let facts = write_facts(alloc, puzzle)?;
     let options = write_options(alloc, puzzle)?;
+    let estimate = write_estimate(alloc, puzzle)?;
     text.extend_from_slice(&facts)?;
     text.extend_from_slice(&options)?;
+    text.extend_from_slice(&estimate)?;
     Ok(text)
 }
 

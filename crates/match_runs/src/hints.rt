@@ -2,16 +2,15 @@
 
 ghost use Rattle.std.specs.Prelude.{◌≡◌};
 ghost use Rattle.match_runs.specs.declared.faults.RunFault.TheVariants as runs;
+ghost use Rattle.match_runs.specs.Runs.{unhinted};
 
 use crate::faults::RunFault;
 use byte_streams::Documents;
-use cert_tree::CertTextFault;
-use match_explain::{Text, line_sentence, puzzle_sentence};
-use match_text::{PuzzleTextFault, ReadFault};
+use match_explain::{certificate_hint, list_hint, puzzle_hint};
 use std::alloc::{AllocError, Global};
 
-/// Why a run stopped, and what is told beside that, if anything is: what the line of a text has to be, or why a file is
-/// refused. Nothing depends on the hint.
+/// Why a run stopped, and what is told beside that, if anything is: what has to be changed in a text that has a fault, or
+/// why a file is refused. Nothing depends on the hint.
 #[derive(Drop)]
 pub struct HintedFault {
     pub fault: RunFault,
@@ -37,38 +36,45 @@ impl From<AllocError> for HintedFault {
     }
 }
 
-/// What the line of a text has to be that has the fault, and what it is, or which numbers differ. None where there is
-/// nothing to tell, or memory for it is refused.
+/// What a run came to, whatever is told beside its fault.
+pub(crate) fn without_hint<E>(ended: Result<E, HintedFault>) -> Result<E, RunFault>
+    ensures { result ≡ unhinted ended }
+{
+    match ended {
+        Ok(ends) => Ok(ends),
+        Err(hinted) => Err(hinted.fault),
+    }
+}
+
+/// What has to be changed in the text that has the fault. None where there is nothing to tell, or memory for it is refused.
 pub(crate) fn hint_of(
     alloc: Global,
     documents: &Documents<'_>,
     fault: &RunFault,
 ) -> Option<String> {
-    match sentence_of(alloc, documents, fault) {
-        Ok(sentence) => sentence,
+    let hint = match fault {
+        RunFault::Puzzle(fault) => puzzle_hint(alloc, documents.puzzle, fault),
+        RunFault::List(fault) => list_hint(alloc, documents.list, fault),
+        RunFault::Certificate(fault) => certificate_hint(alloc, documents.certificate, fault),
+        _ => Ok(None),
+    };
+    match hint {
+        Ok(hint) => hint,
         Err(_) => None,
     }
 }
 
-fn sentence_of(
+/// The same of a puzzle that is alone, or has a list.
+pub(crate) fn hint_on(
     alloc: Global,
-    documents: &Documents<'_>,
+    puzzle: &[u8],
+    list: &[u8],
     fault: &RunFault,
-) -> Result<Option<String>, AllocError> {
-    let (text, bytes, line) = match fault {
-        RunFault::Puzzle(PuzzleTextFault::Text(fault)) => (
-            Text::Puzzle,
-            documents.puzzle,
-            fault.line,
-        ),
-        RunFault::List(ReadFault::Text(fault)) => (Text::List, documents.list, fault.line),
-        RunFault::Certificate(CertTextFault::Text(fault)) => {
-            (Text::Certificate, documents.certificate, fault.line)
-        }
-        RunFault::Puzzle(PuzzleTextFault::Puzzle(fault)) => {
-            return puzzle_sentence(alloc, documents.puzzle, fault);
-        }
-        _ => return Ok(None),
+) -> Option<String> {
+    let documents = Documents {
+        puzzle,
+        list,
+        certificate: b"",
     };
-    Ok(Some(line_sentence(alloc, text, bytes, line)?))
+    hint_of(alloc, &documents, fault)
 }

@@ -2,6 +2,7 @@
 //! tiles; and what is told of faults.
 #![tactic(auto)]
 
+mod advice;
 mod census_runs;
 mod check_runs;
 mod description_runs;
@@ -25,7 +26,7 @@ pub use byte_streams::{
     write_whole,
 };
 pub use census_runs::{CensusPlan, run_census};
-pub use check_runs::{CheckPlan, run_check, run_check_watched, run_joined};
+pub use check_runs::{CheckPlan, run_check, run_check_watched, run_joined, run_joined_watched};
 pub use description_runs::{Description, run_description};
 pub use faults::{RunFault, fault_text};
 pub use hints::HintedFault;

@@ -4,9 +4,10 @@ ghost use Rattle.byte_streams.specs.Moves.{reading_of, writing_of};
 ghost use Rattle.byte_streams.specs.Origins.{two_sources};
 ghost use Rattle.byte_streams.specs.Targets.{one_sink};
 ghost use Rattle.match_runs.specs.Listed.{DrawFails, DrawsListed};
-ghost use Rattle.match_runs.specs.Runs.{MadeOf, Runs};
+ghost use Rattle.match_runs.specs.Runs.{MadeOf, Runs, unhinted};
 
 use crate::faults::RunFault;
+use crate::hints::{HintedFault, hint_on};
 use crate::running::run_by;
 use byte_streams::{MadeText, OneSink, Sink, Source, TwoSources, TwoTexts};
 use match_show::write_arrangement;
@@ -17,27 +18,38 @@ use std::alloc::Global;
 /// this number on it, drawn.
 ///
 /// `Read` and `TooLong` name the document, and the list is not touched where that is the puzzle; `Puzzle` or `List`
-/// where a text spells none; `NoArrangement` where fewer are listed, `Arrangement` where what is listed there is none
-/// of the puzzle's. Where a fault other than `Write` is answered, nothing was written.
+/// where a text spells none, with a hint of what has to be changed there; `NoArrangement` where fewer are listed,
+/// `Arrangement` where what is listed there is none of the puzzle's. Where a fault other than `Write` is answered, nothing
+/// was written.
 pub fn run_listed<P: Source, L: Source, W: Sink>(
     alloc: Global,
     puzzle: &mut P,
     list: &mut L,
     number: u32,
     writer: &mut W,
-) -> Result<(), RunFault>
+) -> Result<(), HintedFault>
     ensures { Runs (two_sources (reading_of P.Source puzzle.old puzzle.new) (reading_of L.Source list.old list.new))
-        (DrawsListed number) (DrawFails number) (one_sink (writing_of W.Sink writer.old writer.new)) result }
+        (DrawsListed number) (DrawFails number) (one_sink (writing_of W.Sink writer.old writer.new)) (unhinted result) }
 {
+    let mut hint = None;
     let make = |texts: &TwoTexts| -> Result<(MadeText, ()), RunFault>
         ensures { MadeOf (DrawsListed number) (DrawFails number) texts.now result }
-    { drawn(alloc, texts, number) };
-    run_by(
+    {
+        let made = drawn(alloc, texts, number);
+        if let Err(fault) = &made {
+            hint = hint_on(alloc, texts.puzzle.bytes(), texts.list.bytes(), fault);
+        }
+        made
+    };
+    match run_by(
         alloc,
         &mut TwoSources { puzzle, list },
         make,
         &mut OneSink { sink: writer },
-    )
+    ) {
+        Ok(()) => Ok(()),
+        Err(fault) => Err(HintedFault { fault, hint }),
+    }
 }
 
 // The board with the listed arrangement of this number on it.

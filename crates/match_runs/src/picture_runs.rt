@@ -7,9 +7,10 @@ ghost use Rattle.byte_streams.specs.Origins.{two_sources};
 ghost use Rattle.byte_streams.specs.Targets.{one_sink};
 ghost use Rattle.match_runs.specs.Pictures.{DrawsPicture, IsFirstWrong, IsNotDrawn, IsPictureFrom, IsPictureOf};
 ghost use Rattle.match_runs.specs.Pictures.{PictureFails, to_be_drawn};
-ghost use Rattle.match_runs.specs.Runs.{MadeOf, Runs};
+ghost use Rattle.match_runs.specs.Runs.{MadeOf, Runs, unhinted};
 
 use crate::faults::RunFault;
+use crate::hints::{HintedFault, hint_on};
 use crate::running::run_by;
 use byte_streams::{MadeText, OneSink, Sink, Source, TwoSources, TwoTexts};
 use command_words::{ArrangementNumber, Drawn};
@@ -33,28 +34,39 @@ pub struct PicturePlan {
 /// asked for.
 ///
 /// `Read` and `TooLong` name the document, and the list is not touched where that is the puzzle; `Puzzle` or `List`
-/// where a text spells none; `NoArrangement` of the first number where fewer are listed, `Arrangement` of the first that
-/// is to be drawn and is none of the puzzle's. Where a fault other than `Write` is answered, nothing was written.
+/// where a text spells none, with a hint of what has to be changed there; `NoArrangement` of the first number where fewer
+/// are listed, `Arrangement` of the first that is to be drawn and is none of the puzzle's. Where a fault other than `Write`
+/// is answered, nothing was written.
 pub fn run_picture<P: Source, L: Source, W: Sink>(
     alloc: Global,
     puzzle: &mut P,
     list: &mut L,
     plan: PicturePlan,
     writer: &mut W,
-) -> Result<(), RunFault>
+) -> Result<(), HintedFault>
     ensures { Runs (two_sources (reading_of P.Source puzzle.old puzzle.new) (reading_of L.Source list.old list.new))
         (DrawsPicture plan.number plan.first) (PictureFails plan.number plan.first)
-        (one_sink (writing_of W.Sink writer.old writer.new)) result }
+        (one_sink (writing_of W.Sink writer.old writer.new)) (unhinted result) }
 {
+    let mut hint = None;
     let make = |texts: &TwoTexts| -> Result<(MadeText, ()), RunFault>
         ensures { MadeOf (DrawsPicture plan.number plan.first) (PictureFails plan.number plan.first) texts.now result }
-    { pictured(alloc, texts, plan) };
-    run_by(
+    {
+        let made = pictured(alloc, texts, plan);
+        if let Err(fault) = &made {
+            hint = hint_on(alloc, texts.puzzle.bytes(), texts.list.bytes(), fault);
+        }
+        made
+    };
+    match run_by(
         alloc,
         &mut TwoSources { puzzle, list },
         make,
         &mut OneSink { sink: writer },
-    )
+    ) {
+        Ok(()) => Ok(()),
+        Err(fault) => Err(HintedFault { fault, hint }),
+    }
 }
 
 // The picture of what the texts spell.

@@ -13,7 +13,7 @@ ghost use Rattle.byte_streams.specs.LentTexts.{texts_of};
 ghost use Rattle.byte_streams.specs.Moves.{reading_of, writing_of};
 ghost use Rattle.byte_streams.specs.Origins.{three_sources};
 ghost use Rattle.byte_streams.specs.Targets.{one_sink};
-ghost use Rattle.match_runs.specs.Printing.{AreAllInOrder, CompleteFails, IsCountOf, Prints, count_text};
+ghost use Rattle.match_runs.specs.Printing.{AreAllInOrder, AreFirstsOf, CompleteFails, IsCountOf, Prints, count_text};
 ghost use Rattle.check_crew.specs.Texts.{IsListText};
 ghost use Rattle.match_runs.specs.Printing.{PrintingFails, PrintingGives};
 ghost use Rattle.match_runs.specs.Runs.{MadeOf, Runs, unhinted};
@@ -35,14 +35,16 @@ use match_report::{expand, write_answer};
 use match_text::write_list;
 use std::alloc::{AllocError, Global};
 use std::random::RandomSource;
-use symmetry_orbits::{Count, count, counting_laws};
+use symmetry_orbits::{Count, count, counting_laws, first_of_each_orbit};
 
 /// What is printed of a puzzle, a list and a certificate.
 #[derive(Clone, Copy, PartialEq, Eq, Debug)]
 pub enum Printing {
     /// The list of all arrangements.
     All,
-    /// How many arrangements there are, and how many orbits.
+    /// The list of one arrangement of each orbit.
+    Orbits,
+    /// How many arrangements there are, how many pictures, how many orbits, and how many symmetries are named.
     Count,
     /// The answer, and where it is refused, why.
     Explanation,
@@ -86,11 +88,15 @@ pub fn run_expand<P: Source, L: Source, C: Source, W: Sink, R: RandomSource>(
 }
 
 /// As [`run_expand`], over whatever the documents come from and the text goes to, and prints the list of all
-/// arrangements; or how many they are: a line `arrangements N`, and a line `orbits N`, how many where those that the
-/// certificate's symmetries take into each other count once; or the answer, and where it is refused, why.
+/// arrangements; or one of each orbit, the first that is listed; or how many they are; or the answer, and where it is
+/// refused, why.
 ///
-/// `Expand` where over 1,000,000 are to be listed; of a count, where so many are in one orbit. Where texts are to be
-/// explained and one has a fault, a hint is given of what its line has to be, if memory isn't refused to it.
+/// A count is of four lines. `arrangements N`; `pictures P`, how many where those count once that show the same at each
+/// cell; `orbits K`, how many where those count once that the certificate's symmetries take into each other; and
+/// `symmetries S`, how many the certificate names.
+///
+/// `Expand` where over 1,000,000 are to be listed; of orbits, where so many are in one. Where a text has a fault, a hint is
+/// given of what has to be changed there, if memory isn't refused to it.
 pub fn run_printing<
     I: Inputs<Texts = OwnedDocuments>,
     O: Outputs<Made = MadeText>,
@@ -113,7 +119,7 @@ pub fn run_printing<
     {
         let documents = texts.lend();
         let made = printing_of(rt, alloc, &documents, printing);
-        if let (Printing::Explanation, Err(fault)) = (printing, &made) {
+        if let Err(fault) = &made {
             hint = hint_of(alloc, &documents, fault);
         }
         made
@@ -136,10 +142,14 @@ fn printing_of<R: RandomSource>(
 {
     let owned = read_question(alloc, documents)?;
     let question = owned.question();
+    let explaining = Explaining {
+        certificate: documents.certificate,
+        hasher: RandomFold::new(rt),
+    };
     let prepared = match question.prepare(alloc, question.list_fault())? {
         Ok(prepared) => prepared,
         Err(fault) => {
-            let text = refused_text(alloc, &question, fault, documents.certificate, printing)?;
+            let text = refused_text(alloc, &question, fault, &explaining, printing)?;
             return Ok((MadeText::new(text), Status::Refused));
         }
     };
@@ -150,7 +160,7 @@ fn printing_of<R: RandomSource>(
             Ok((MadeText::new(text), Status::Complete))
         }
         Answer::Refused(fault) => {
-            let text = refused_text(alloc, &question, fault, documents.certificate, printing)?;
+            let text = refused_text(alloc, &question, fault, &explaining, printing)?;
             Ok((MadeText::new(text), Status::Refused))
         }
     }
@@ -169,6 +179,7 @@ fn complete_text<R: RandomSource>(
 {
     match printing {
         Printing::All => all_text(rt, alloc, prepared),
+        Printing::Orbits => orbits_text(rt, alloc, &prepared),
         Printing::Count => counted_text(rt, alloc, &prepared),
         Printing::Explanation => Ok(complete_line(alloc, &prepared)?),
     }
@@ -182,12 +193,19 @@ fn complete_line(alloc: Global, prepared: &Prepared<'_>) -> Result<Vec<u8>, Allo
     write_answer(alloc, &Answer::Complete, listed)
 }
 
+// What a fault is explained by: the certificate's text, and a hash for images of arrangements.
+#[derive(Clone, Copy)]
+struct Explaining<'a> {
+    certificate: &'a [u8],
+    hasher: RandomFold,
+}
+
 // What is printed where the list is refused for this fault.
 fn refused_text(
     alloc: Global,
     question: &Question<'_>,
     fault: Fault,
-    certificate: &[u8],
+    explaining: &Explaining<'_>,
     printing: Printing,
 ) -> Result<Vec<u8>, AllocError>
     requires puzzle { IsPuzzle question.now.puzzle }
@@ -196,9 +214,17 @@ fn refused_text(
 {
     let listed = question.listed().len() as u32;
     match printing {
-        Printing::All | Printing::Count => write_answer(alloc, &Answer::Refused(fault), listed),
+        Printing::All | Printing::Orbits | Printing::Count => write_answer(
+            alloc,
+            &Answer::Refused(fault),
+            listed,
+        ),
         Printing::Explanation => {
-            let why = write_explanation(alloc, question, &fault, certificate)?;
+            let Explaining {
+                certificate,
+                hasher,
+            } = *explaining;
+            let why = write_explanation(alloc, question, &fault, certificate, hasher)?;
             let mut text = write_answer(alloc, &Answer::Refused(fault), listed)?;
             text.extend_from_slice(&why)?;
             Ok(text)
@@ -206,7 +232,7 @@ fn refused_text(
     }
 }
 
-// How many arrangements the puzzle has, and how many orbits, from a complete list.
+// How many arrangements, pictures and orbits the puzzle has, from a complete list, by so many symmetries.
 fn counted_text<R: RandomSource>(
     rt: &R,
     alloc: Global,
@@ -214,23 +240,28 @@ fn counted_text<R: RandomSource>(
 ) -> Result<Vec<u8>, RunFault>
     requires { IsCompleteList prepared.now.puzzle prepared.now.symmetries prepared.now.listed }
     ensures count { IfOk result (λ text.
-        (n : Count) × IsCountOf prepared.now n × (text.items ≡ count_text n)) }
+        (n : Count) × IsCountOf prepared.now n × (text.items ≡ count_text n (length prepared.now.symmetries))) }
     ensures fails { IfErr result (CompleteFails Printing.Count prepared.now) }
 {
-    let listed = prepared.question().listed();
-    let counted = count(alloc, listed, prepared.symmetries(), RandomFold::new(rt))?;
+    let question = prepared.question();
+    let puzzle = question.puzzle();
+    let listed = question.listed();
+    let symmetries = prepared.symmetries();
+    let counted = count(alloc, puzzle, listed, symmetries, RandomFold::new(rt))?;
     counting_laws();
-    let text = write_count(alloc, counted)?;
+    let text = write_count(alloc, counted, symmetries.len() as u64)?;
     Ok(text)
 }
 
-// Both numbers, a line each.
-fn write_count(alloc: Global, counted: Count) -> Result<Vec<u8>, AllocError>
-    ensures { IfOk result (λ text. text.items ≡ count_text counted) }
+// The numbers, a line each.
+fn write_count(alloc: Global, counted: Count, symmetries: u64) -> Result<Vec<u8>, AllocError>
+    ensures { IfOk result (λ text. text.items ≡ count_text counted symmetries) }
 {
     let mut text = Vec::new(alloc);
     put_count_line(&mut text, b"arrangements", counted.arrangements)?;
+    put_count_line(&mut text, b"pictures", counted.pictures)?;
     put_count_line(&mut text, b"orbits", counted.orbits)?;
+    put_count_line(&mut text, b"symmetries", symmetries)?;
     Ok(text)
 }
 
@@ -244,6 +275,25 @@ pub(crate) fn put_count_line(text: &mut Vec<u8>, word: &[u8], number: u64) -> Re
     text.extend_from_slice(buffer.format(number).as_bytes())?;
     text.push(b'\n')?;
     Ok(())
+}
+
+// The list of one arrangement of each orbit, from a complete list.
+fn orbits_text<R: RandomSource>(
+    rt: &R,
+    alloc: Global,
+    prepared: &Prepared<'_>,
+) -> Result<Vec<u8>, RunFault>
+    requires { IsCompleteList prepared.now.puzzle prepared.now.symmetries prepared.now.listed }
+    ensures firsts { IfOk result (λ text. (firsts : List (List Placement)) × AreFirstsOf prepared.now firsts
+        × IsListText firsts text.items) }
+    ensures fails { IfErr result (CompleteFails Printing.Orbits prepared.now) }
+{
+    let question = prepared.question();
+    let listed = question.listed();
+    let symmetries = prepared.symmetries();
+    let firsts = first_of_each_orbit(alloc, listed, symmetries, RandomFold::new(rt))?;
+    let text = write_list(alloc, &firsts)?;
+    Ok(text)
 }
 
 // The list of all arrangements of the puzzle, from a complete one.

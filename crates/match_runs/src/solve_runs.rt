@@ -8,10 +8,12 @@ ghost use Rattle.byte_streams.specs.Moves.{reading_of, writing_of};
 ghost use Rattle.byte_streams.specs.Origins.{one_source};
 ghost use Rattle.byte_streams.specs.Targets.{three_sinks};
 ghost use Rattle.byte_streams.specs.declared.faults.Document.TheVariants as documents;
-ghost use Rattle.match_runs.specs.Runs.{MadeOf, Runs};
+ghost use Rattle.match_runs.specs.Runs.{MadeOf, Runs, unhinted};
 ghost use Rattle.match_runs.specs.Solving.{SolveFails, SolveGives, first_board, report_text, shares_of};
 
+use crate::advice::solve_hint;
 use crate::faults::RunFault;
+use crate::hints::{HintedFault, without_hint};
 use crate::running::run_by;
 use crate::watches::{SolveWatch, Watched};
 use byte_streams::{
@@ -79,11 +81,14 @@ pub fn run_solve<R: Threads + Wait + Sync, P: Source, L: Sink, C: Sink, W: Sink>
     let search = Watched {
         plan,
         watch: &Unwatched,
+        hints: false,
     };
-    run_solve_watched(rt, alloc, &search, &mut inputs, &mut outputs)
+    without_hint(run_solve_watched(rt, alloc, &search, &mut inputs, &mut outputs))
 }
 
-/// The same, over whatever the puzzle comes from and the texts go to, and the watch is told while it runs.
+/// The same, over whatever the puzzle comes from and the texts go to, and the watch is told while it runs. Where a hint is
+/// wanted, it says what has to be changed in a text that has a fault, or of a search that gave up or found too many how
+/// many arrangements may be expected, and what may help, if memory isn't refused to it.
 pub fn run_solve_watched<
     R: Threads + Wait + Sync,
     T: SolveWatch + Sync,
@@ -95,16 +100,26 @@ pub fn run_solve_watched<
     search: &Watched<'_, SearchPlan, T>,
     inputs: &mut I,
     outputs: &mut O,
-) -> Result<(), RunFault>
+) -> Result<(), HintedFault>
     ensures inputs { I.same inputs.old inputs.new }
     ensures outputs { O.same outputs.old outputs.new }
     ensures run { Runs (I.reads inputs.old inputs.new) (SolveGives search.now.plan.workers) SolveFails
-        (O.writes outputs.old outputs.new) result }
+        (O.writes outputs.old outputs.new) (unhinted result) }
 {
+    let mut hint = None;
     let make = |text: &Text| -> Result<(Products, ()), RunFault>
         ensures { MadeOf (SolveGives search.entry.now.plan.workers) SolveFails text.now result }
-    { make_products(rt, alloc, text, search) };
-    run_by(alloc, inputs, make, outputs)
+    {
+        let made = make_products(rt, alloc, text, search);
+        if let (true, Err(fault)) = (search.hints, &made) {
+            hint = solve_hint(alloc, text.bytes(), &search.plan, fault);
+        }
+        made
+    };
+    match run_by(alloc, inputs, make, outputs) {
+        Ok(()) => Ok(()),
+        Err(fault) => Err(HintedFault { fault, hint }),
+    }
 }
 
 // What is made of a puzzle's text.

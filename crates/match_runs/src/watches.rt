@@ -3,11 +3,12 @@
 use check_crew::{Gate, Open};
 use match_crew::{Unwatched, Watch};
 
-/// What is to be done, and who is told of it while it runs.
+/// What is to be done, who is told of it while it runs, and whether a hint is wanted beside the fault of a text.
 #[derive(Drop)]
 pub struct Watched<'a, P, W> {
     pub plan: P,
     pub watch: &'a W,
+    pub hints: bool,
 }
 
 /// Told of a check while it runs. No answer depends on it.

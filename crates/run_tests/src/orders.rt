@@ -54,6 +54,7 @@ fn exit_of<R: Threads + Wait + Sync + RandomSource + Clock + Eprint>(
         workers: Workers::new(2),
         forks: Forks::new(1),
         progress: false,
+        hints: false,
     };
     let mut input = Fake::new(alloc, b"", 7, usize::MAX);
     let mut output = Fake::new(alloc, b"", 5, usize::MAX);

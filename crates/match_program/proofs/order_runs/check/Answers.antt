@@ -25,9 +25,9 @@ returns-in_err-status g c =
     let w = err_from_is_err_and c.from_residual-in_err-status.result c.from_residual-in_err-status.ensures.1 in
     let all = readers g ((goal.at.returns-in_err-status g c).After-run_check_watched) in
     let left : c.output-1.given.0 ≡ c.run_check_watched.new.outputs.sink.now = search rules in
-    rw (w.1, w.2) (subst (λ o. CheckOf (three_files g.S.FileSystem g.S.Reader.Source c.args.system.now c.args.order.now.files.now) (writing_of g.W.Sink c.args.output.now o) (Err c.in_err-status.field-0.0)) (sym left)
+    rw (w.1, w.2) (subst (λ o. CheckOf (three_files g.S.FileSystem g.S.Reader.Source c.args.system.now c.args.order.now.files.now) (writing_of g.W.Sink c.args.output.now o) (Err c.in_err-status.field-0.0.fault)) (sym left)
     (over_three (writing_of g.W.Sink c.args.output.now c.run_check_watched.new.outputs.sink.now) CheckGives CheckFails check_complete g.S.FileSystem g.S.Reader.Source c.args.system.now c.args.order.now.files.now all
-    (Err c.in_err-status.field-0.0) c.in_err-status.ensures.run))
+    (Err c.in_err-status.field-0.0.fault) c.in_err-status.ensures.run))
 
 pub returns : goal.returns
 returns g c =

@@ -15,7 +15,7 @@ pub returns-in_err-run_census : goal.returns-in_err-run_census
 returns-in_err-run_census g c =
     let w = err_from_is_err_and c.from_residual-in_err-run_census.result c.from_residual-in_err-run_census.ensures.1 in
     rw (w.1, w.2) (over_puzzle (writing_of g.W.Sink c.args.output.now c.run_census.new.writer) g.S.FileSystem g.S.Reader.Source c.args.system.now (CensusGives c.args.order.now.extent) (CensusFails c.args.order.now.extent) (string_bytes c.args.order.now.puzzle.now)
-    (file g ((goal.at.returns-in_err-run_census g c).After-run_census)) (Err c.in_err-run_census.field-0.0) c.in_err-run_census.ensures)
+    (file g ((goal.at.returns-in_err-run_census g c).After-run_census)) (Err c.in_err-run_census.field-0.0.fault) c.in_err-run_census.ensures)
 
 pub returns : goal.returns
 returns g c =

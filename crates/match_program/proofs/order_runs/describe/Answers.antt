@@ -14,7 +14,7 @@ pub returns-in_err-run_description : goal.returns-in_err-run_description
 returns-in_err-run_description g c =
     let w = err_from_is_err_and c.from_residual-in_err-run_description.result c.from_residual-in_err-run_description.ensures.1 in
     rw (w.1, w.2) (over_puzzle (writing_of g.W.Sink c.args.output.now c.run_description.new.writer) g.S.FileSystem g.S.Reader.Source c.args.system.now (Describes c.args.description) DescribeFails c.args.name.now
-    (file g ((goal.at.returns-in_err-run_description g c).After-run_description)) (Err c.in_err-run_description.field-0.0) c.in_err-run_description.ensures)
+    (file g ((goal.at.returns-in_err-run_description g c).After-run_description)) (Err c.in_err-run_description.field-0.0.fault) c.in_err-run_description.ensures)
 
 pub returns : goal.returns
 returns g c =

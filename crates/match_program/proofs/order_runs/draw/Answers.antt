@@ -18,7 +18,7 @@ returns-in_err-run_listed g c =
     let w = err_from_is_err_and c.from_residual-in_err-run_listed.result c.from_residual-in_err-run_listed.ensures.1 in
     let at = (goal.at.returns-in_err-run_listed g c).After-run_listed in
     rw (w.1, w.2) (over_drawn (writing_of g.W.Sink c.args.output.now c.run_listed.new.writer) g.S.FileSystem g.S.Reader.Source c.args.system.now c.args.listed.now.number c.get.result c.get.ensures.number
-    c.args.name.now (string_bytes c.args.listed.now.list) (first g at) (second g at) (Err c.in_err-run_listed.field-0.0) c.in_err-run_listed.ensures)
+    c.args.name.now (string_bytes c.args.listed.now.list) (first g at) (second g at) (Err c.in_err-run_listed.field-0.0.fault) c.in_err-run_listed.ensures)
 
 pub returns : goal.returns
 returns g c =

@@ -21,7 +21,7 @@ returns-in_err-run_picture g c =
     let number = c.args.listed.now.number in
     let asked = c.args.order.now.first in
     rw (w.1, w.2) (over_two (writing_of g.W.Sink c.args.output.now c.run_picture.new.writer) g.S.FileSystem g.S.Reader.Source c.args.system.now (DrawsPicture number asked) (PictureFails number asked)
-    (string_bytes c.args.order.now.puzzle.now) (string_bytes c.args.listed.now.list) (first g at) (second g at) (Err c.in_err-run_picture.field-0.0) c.in_err-run_picture.ensures)
+    (string_bytes c.args.order.now.puzzle.now) (string_bytes c.args.listed.now.list) (first g at) (second g at) (Err c.in_err-run_picture.field-0.0.fault) c.in_err-run_picture.ensures)
 
 pub returns : goal.returns
 returns g c =

@@ -42,10 +42,10 @@ returns-in-Err g c =
     let read = c.run_solve_watched-solved.new in
     let left : c.output-1.given.0 ≡ read.outputs.report.now = search rules in
     let report = writing_of g.W.Sink c.args.output.now read.outputs.report.now in
-    subst (λ o. SolveOf c.args.order.now.plan.workers (one_file g.S.FileSystem g.S.Reader.Source old (string_bytes files.puzzle)) (solved_files files does old new (writing_of g.W.Sink c.args.output.now o)) (Err c.in-Err.fault)) (sym left)
+    subst (λ o. SolveOf c.args.order.now.plan.workers (one_file g.S.FileSystem g.S.Reader.Source old (string_bytes files.puzzle)) (solved_files files does old new (writing_of g.W.Sink c.args.output.now o)) (Err c.in-Err.field-0.fault)) (sym left)
     (solve_stopped g.S.FileSystem g.S.Reader.Source old (string_bytes files.puzzle) (file g at) c.args.order.now.plan.workers
     (writing_of g.S.Writer.Sink c.in_ok-made.made.list read.outputs.list.now) (writing_of g.S.Writer.Sink c.in_ok-made.made.certificate read.outputs.certificate.now) report (solved_files files does old new report)
-    (Undid files does old new) (undone does files old c.make_both.new.system new c.in_ok-made.ensures.does c.remove_both.ensures) (λ m s. inl s) (λ u. u) c.in-Err.fault c.in-Err.ensures.run)
+    (Undid files does old new) (undone does files old c.make_both.new.system new c.in_ok-made.ensures.does c.remove_both.ensures) (λ m s. inl s) (λ u. u) c.in-Err.field-0.fault c.in-Err.ensures.run)
 
 -- the two files took the texts that were made
 written : (g : _) (c : In_default g) → AreWritten g.S.FileSystem.makes g.S.Writer.Sink.written c.args.order.now.files.now

@@ -48,8 +48,8 @@ returns-in-Err g c =
       spelled = c.in_ok-owned.ensures.question;
       answered = first g at;
       sound = λ e. absurd (other fault e);
-      is = subst (λ (q : Question). Prints q (Refused fault) printing c.new.result) c.question-question.ensures
-          (subst (Prints c.question-question.result (Refused fault) printing) (sym c.new.ensures) c.in_ok-text-in-Err.ensures);
+      is = subst (λ (q : Question). Prints q (Refused fault) printing c.new-in-Err.result) c.question-question.ensures
+          (subst (Prints c.question-question.result (Refused fault) printing) (sym c.new-in-Err.ensures) c.in_ok-text-in-Err.ensures);
       ends = refl;
     }
 

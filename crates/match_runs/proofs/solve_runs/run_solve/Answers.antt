@@ -9,4 +9,4 @@ returns g c =
     let list : c.list-1.given.0 ≡ new.outputs.list.now = search rules in
     let certificate : c.certificate-1.given.0 ≡ new.outputs.certificate.now = search rules in
     let report : c.writer-1.given.0 ≡ new.outputs.report.now = search rules in
-    rw (puzzle, list, certificate, report) c.run_solve_watched.ensures.run
+    rw (puzzle, list, certificate, report, c.without_hint.ensures) c.run_solve_watched.ensures.run

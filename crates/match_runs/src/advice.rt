@@ -1,0 +1,53 @@
+//! What is told of a puzzle that can't be solved as it was asked.
+
+use crate::faults::RunFault;
+use crate::hints::hint_on;
+use crate::solve_runs::SearchPlan;
+use match_board::limits::{MOST_BYTES, MOST_DEPTH, MOST_FUEL};
+use match_crew::SolveFault;
+use match_show::{Estimate, estimate_of};
+use match_text::read_puzzle;
+use std::alloc::Global;
+
+/// What may help where a solve of this puzzle's text had this fault: what has to be changed in the text, or how many
+/// arrangements may be expected, and what can be done then. None where there is nothing to tell, or memory for it is
+/// refused.
+pub(crate) fn solve_hint(
+    alloc: Global,
+    puzzle: &[u8],
+    plan: &SearchPlan,
+    fault: &RunFault,
+) -> Option<String> {
+    match fault {
+        RunFault::Solve(SolveFault::GaveUp) | RunFault::Solve(SolveFault::Full) => {
+            expectation(alloc, puzzle, plan)
+        }
+        _ => hint_on(alloc, puzzle, b"", fault),
+    }
+}
+
+// How many arrangements may be expected of the puzzle, and what may help.
+fn expectation(alloc: Global, puzzle: &[u8], plan: &SearchPlan) -> Option<String> {
+    // What was read is no longer.
+    if puzzle.len() > MOST_BYTES as usize {
+        return None;
+    }
+    let puzzle = read_puzzle(alloc, puzzle).ok()?;
+    let estimate = estimate_of(alloc, &puzzle).ok()?;
+    let number = estimate.to_text(alloc).ok()?;
+    let advice = advice(estimate, plan);
+    format!(in alloc; "arrangements by an estimate: {number}; {advice}").ok()
+}
+
+// What may help.
+fn advice(estimate: Estimate, plan: &SearchPlan) -> &'static str {
+    if estimate.is_over_a_list() {
+        "a list has at most 1000000: edgematch count PUZZLE counts without one"
+    } else if plan.fuel.get() < MOST_FUEL {
+        "more fuel may help, up to --fuel 1000000"
+    } else if plan.depth.get() < u32::from(MOST_DEPTH) {
+        "a greater depth may help, up to --depth 3"
+    } else {
+        "edgematch count PUZZLE counts without a list and without fuel"
+    }
+}
