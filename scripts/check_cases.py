@@ -40,7 +40,7 @@ NAMES = re.compile(r"(\./)?(PUZZLE|LIST|CERTIFICATE|FOLDER)((?:[./].*)?)$")
 
 # What a table of a case may have, by what it is.
 TEXTS = {"like", "change", *DOCUMENTS}
-CHECKED = {"answer", "fault", "joined", "rows", "explanations", "explanation", "expansion", "arrangements", "too_large", "cut"}
+CHECKED = {"answer", "fault", "hint", "joined", "rows", "explanations", "explanation", "expansion", "arrangements", "too_large", "cut"}
 STREAMED = {f"{stream}{end}" for stream in ("stdout", "stderr") for end in ("", "_begins", "_has")}
 ORDERED = {"words", "beside", "deep", "stdin", "status", "files", "files_have", "kept", "left", "stdout_lines", *STREAMED}
 SOLVED = {"solve"}
@@ -273,6 +273,9 @@ def check(trial, case):
         stdin = b"".join(case.documents[it] for it in DOCUMENTS)
         trial.wants_outcome("joined", outcome_of(joined), trial.run([], stdin))
     explain(trial, wanted, case.keys.get("explanation", ""))
+    explain_puzzle(trial, wanted)
+    if "hint" in case.keys:
+        hint(trial, wanted, text_of(case.keys["hint"]) + b"\n")
 
 
 def explain(trial, wanted, why):
@@ -285,6 +288,35 @@ def explain(trial, wanted, why):
     trial.wants("explain", "what stands below", why, below[: len(why)])
     if (wanted.status == 1) != (below != b""):
         trial.differs("explain", "what stands below, and should only below a refusal", b"", below)
+
+
+def explain_puzzle(trial, wanted):
+    """An explanation of the puzzle alone: its fault, or that it has none."""
+    got = trial.run(["explain", trial.path("puzzle")])
+    if wanted.stderr.startswith(b"puzzle: "):
+        fault = b"".join(got.stderr.splitlines(True)[:1])
+        trial.wants_outcome("explain PUZZLE", wanted, Outcome(got.status, got.stdout, fault))
+    else:
+        trial.wants_outcome("explain PUZZLE", Outcome(0, b"puzzle: no fault\n", b""), got)
+
+
+def hint(trial, wanted, told):
+    """What is told beside the fault of a text: always by commands for people, and by the others where it is asked for."""
+    paths, puzzle = trial.paths(), trial.path("puzzle")
+    always = [["explain", *paths], ["count", *paths]]
+    asked = [["check", *paths], ["check", *paths, "--workers", "3"], ["expand", *paths]]
+    if wanted.stderr.startswith(b"puzzle: "):
+        always += [[it, puzzle] for it in ("explain", "show", "count", "symmetries", "draw")]
+        asked.append(["solve", *paths])
+    elif wanted.stderr.startswith(b"list: "):
+        always += [[it, *paths[:2]] for it in ("show", "draw")]
+    both = Outcome(wanted.status, wanted.stdout, wanted.stderr + told)
+    for words, outcome in [
+        *((words, both) for words in always),
+        *((words, wanted) for words in asked),
+        *(([*words, "--hints"], both) for words in asked),
+    ]:
+        trial.wants_outcome(" ".join(words), outcome, trial.run(words))
 
 
 def list_text(arrangements):
@@ -313,12 +345,36 @@ def expand(trial, case):
         count_by_search(trial, case.keys.get("arrangements", len(case.keys.get("expansion", ()))))
 
 
+def pictures_of(puzzle, arrangements):
+    """How many of the arrangements differ in what they show: at each cell the tile's word, turned."""
+    tiles = [line.split()[1].decode("latin-1") for line in puzzle.splitlines() if line.startswith(b"tile ")]
+
+    def shown(placement):
+        tile, turn = (int(number) for number in placement.split("."))
+        return tiles[tile][turn:] + tiles[tile][:turn]
+
+    return len({" ".join(shown(it) for it in arrangement.split()) for arrangement in arrangements})
+
+
 def count(trial, way, expanded):
-    """A count of the documents: it says how many the expansion lists, or what that says of a refusal."""
+    """A count of the documents: it says how many the expansion lists, how many of these differ in what they show, how
+    many are listed of each orbit one, and how many symmetries the certificate names; or what the expansion says of a
+    refusal."""
     got = trial.run(["count", *trial.paths()])
-    trial.wants_status(way, expanded.status, got.status)
-    first = expanded.stdout.splitlines()[1:2] if expanded.status == 0 else [expanded.stdout[:-1]]
-    trial.wants(way, "its first line", b"".join(first), b"".join(got.stdout.splitlines()[:1]))
+    if expanded.status != 0:
+        trial.wants_outcome(way, expanded, got)
+        return
+    every = arrangements_in(expanded.stdout)
+    firsts = arrangements_in(trial.run(["expand", "--orbits", *trial.paths()]).stdout)
+    listed = arrangements_in(trial.contents("list"))
+    places = [listed.index(it) for it in firsts if it in listed]
+    if len(places) != len(firsts) or places != sorted(set(places)):
+        trial.differs(f"{way}, expand --orbits", "what is listed, in its order", list_text(listed), list_text(firsts))
+    pictures = pictures_of(trial.contents("puzzle"), every)
+    symmetries = int(trial.contents("certificate").splitlines()[1].split()[1])
+    numbers = {"arrangements": len(every), "pictures": pictures, "orbits": len(firsts), "symmetries": symmetries}
+    lines = "".join(f"{word} {number}\n" for word, number in numbers.items())
+    trial.wants_outcome(way, Outcome(0, lines.encode("latin-1"), b""), got)
 
 
 def count_by_search(trial, number):
@@ -471,7 +527,9 @@ def run_example(trial, case):
     paths = trial.paths()
     listed = len(arrangements_in(case.documents["list"]))
     check(trial, Case(case.name, case.documents, {"answer": f"complete {listed}"}))
-    expanded = arrangements_in(trial.run(["expand", *paths]).stdout)
+    expansion = trial.run(["expand", *paths])
+    count(trial, "count", expansion)
+    expanded = arrangements_in(expansion.stdout)
     for place, document in enumerate(DOCUMENTS):
         missing = [trial.path("missing") if it == place else paths[it] for it in range(len(DOCUMENTS))]
         wanted = outcome_of(f"cannot read {document}")

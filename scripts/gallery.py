@@ -4,8 +4,9 @@
 usage: gallery.py PROGRAM [--texts FOLDER | PUZZLE..]
 
 PUZZLE is the name of a file of `examples/gallery`; without any, all are tried, which takes minutes. Prints the row of
-each as the page has it, with the bytes and the seconds of this run. It ends with 0 where the arrangements and the orbits
-are those of the page, with 1 where they aren't, and with 2 where a word is wrong. With --texts it writes lists and
+each as the page has it, with the bytes and the seconds of this run. It ends with 0 where the arrangements, the pictures
+and the orbits are those of the page, and expand lists as many; with 1 where they aren't; and with 2 where a word is
+wrong. With --texts it writes lists and
 certificates into the folder FOLDER, and checks them: of the puzzles that the page solves with one worker, since several
 list in another order each time.
 """
@@ -16,15 +17,17 @@ import sys
 import tempfile
 import time
 
+from check_cases import arrangements_in, pictures_of
 from script_words import fault, help_or_fault, program_at
 
 TOP = os.path.join(os.path.dirname(os.path.abspath(__file__)), "..")
 PUZZLES = os.path.join(TOP, "examples/gallery")
-ROW = re.compile(r"^\| \[(\w+)\]\(\S+\) \| `(.*?)` \| ([\d,]+) \| ([\d,]+) \|", re.MULTILINE)
+ROW = re.compile(r"^\| \[(\w+)\]\(\S+\) \| `(.*?)` \| ([\d,]+) \| ([\d,]+) \| ([\d,]+) \|", re.MULTILINE)
+MOST_EXPANDED = 1_000_000
 
 
 def page_rows():
-    """The rows of the page: a puzzle, the options of its solve, its arrangements and its orbits."""
+    """The rows of the page: a puzzle, the options of its solve, its arrangements, its pictures and its orbits."""
     with open(os.path.join(TOP, "docs/GALLERY.md"), encoding="utf-8") as file:
         return ROW.findall(file.read())
 
@@ -44,19 +47,34 @@ def numbers_of(text):
     return {word: f"{int(number):,}" for word, number in re.findall(r"^(\w+) (\d+)$", text, re.MULTILINE)}
 
 
+def listed_counts(program, files, counted):
+    """The numbers of a count, worked out from what expand lists; those of a count where that is too much."""
+    firsts = arrangements_in(timed(program, "expand", "--orbits", *files)[0].encode("latin-1"))
+    if int(counted["arrangements"].replace(",", "")) > MOST_EXPANDED:
+        return {**counted, "orbits": f"{len(firsts):,}"}
+    every = arrangements_in(timed(program, "expand", *files)[0].encode("latin-1"))
+    with open(files[0], "rb") as file:
+        pictures = pictures_of(file.read(), every)
+    return {**counted, "arrangements": f"{len(every):,}", "pictures": f"{pictures:,}", "orbits": f"{len(firsts):,}"}
+
+
 def row_of(program, name, options):
-    """The row of a puzzle, and its arrangements and orbits."""
+    """The row of a puzzle, and its arrangements, pictures and orbits."""
     with tempfile.TemporaryDirectory() as folder:
         files = [os.path.join(PUZZLES, name), os.path.join(folder, "list"), os.path.join(folder, "certificate")]
         report, solving = timed(program, "solve", *files, *options.split())
         workers = re.findall(r"--workers \d+", options)
         answer, checking = timed(program, "check", *files, *" ".join(workers).split())
         counted, counting = timed(program, "count", *files)
+        all_of = numbers_of(counted)
+        listed_too = listed_counts(program, files, all_of)
         listed, certified = (f"{os.path.getsize(file):,}" for file in files[1:])
     if not answer.startswith("complete "):
         return f"{name}: {answer}", None
-    found, all_of = numbers_of(report)["found"], numbers_of(counted)
-    counts = all_of["arrangements"], all_of["orbits"]
+    if listed_too != all_of:
+        return f"{name}: count says {all_of}, and expand lists {listed_too}", None
+    found = numbers_of(report)["found"]
+    counts = all_of["arrangements"], all_of["pictures"], all_of["orbits"]
     cells = [f"[{name}](../examples/gallery/{name})", f"`{options}`", *counts, found, listed, certified,
              *(f"{seconds:.1f}" for seconds in (solving, checking, counting))]
     return "| " + " | ".join(cells) + " |", counts

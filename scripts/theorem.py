@@ -23,7 +23,12 @@ PAGE, README = "docs/THEOREM.md", "README.md"
 COMPLETE = "puzzle_symmetry/specs/Complete.antt", "IsCompleteList"
 LINE = "match_report/specs/AnswerText.antt", "answer_line"
 HAS = "match_puzzle/specs/Arrangement.antt", "HasArrangements"
-COUNT = [HAS, ("symmetry_orbits/specs/Orbits.antt", "IsCount"), ("match_runs/specs/Printing.antt", "count_text")]
+COUNT = [
+    HAS,
+    ("symmetry_orbits/specs/Pictures.antt", "HasPictures"),
+    ("symmetry_orbits/specs/Orbits.antt", "IsCount"),
+    ("match_runs/specs/Printing.antt", "count_text"),
+]
 SEARCH = [HAS, ("match_census/specs/Numbers.antt", "AreMoreThan")]
 SPELLED = "match_runs/specs/Checking.antt", "SpellCompleteList"
 # The rows of the page's table, with the definitions that say it. The README has the numbers of the first.

@@ -316,10 +316,10 @@ def a_closed_input(trial):
     trial.wants("the fault", (2, b"cannot read input\n"), (run.returncode, run.stderr))
 
 
-def told_on_a_terminal(trial, words):
+def told_on_a_terminal(trial, words, given=b""):
     """What the words come to where standard error is a terminal: the exit status, and what is told there."""
     seen, terminal = os.openpty()
-    run = subprocess.run([trial.program, *words], stdin=subprocess.DEVNULL, stdout=subprocess.DEVNULL, stderr=terminal,
+    run = subprocess.run([trial.program, *words], input=given, stdout=subprocess.DEVNULL, stderr=terminal,
                          cwd=trial.folder, timeout=LONGEST, check=False)
     os.close(terminal)
     told = b""
@@ -360,10 +360,38 @@ def reasons_on_a_terminal(trial):
     trial.wants_left("puzzle", "list", "folder")
 
 
+def hints_on_a_terminal(trial):
+    """What has to be changed in a text is told in a second line on a terminal, and elsewhere where it is asked for, or
+    always, by the command."""
+    trial.put("none", NO_PUZZLE)
+    trial.put("list", LIST)
+    trial.put("certificate", CERTIFICATE)
+    line = b"puzzle: tile-count\n"
+    hint = (b'the board of puzzle line 2 has 2 cells, and puzzle line 5 says "tiles 1": there has to be a tile for each cell\n')
+    for words, always in (
+            ("check none list certificate", False),
+            ("expand none list certificate", False),
+            ("solve none made made_too", False),
+            ("count none list certificate", True),
+            ("explain none list certificate", True),
+            ("explain none", True),
+            ("count none", True),
+            ("show none", True),
+            ("draw none", True),
+            ("symmetries none", True),
+    ):
+        trial.wants(f"{words}: told on a terminal", (2, line + hint), told_on_a_terminal(trial, words.split()))
+        run = subprocess.run([trial.program, *words.split()], capture_output=True, cwd=trial.folder, timeout=LONGEST, check=False)
+        trial.wants(f"{words}: told elsewhere", (2, line + hint if always else line), (run.returncode, run.stderr))
+    joined = NO_PUZZLE + LIST + CERTIFICATE
+    trial.wants("told on a terminal of an input", (2, line + hint), told_on_a_terminal(trial, [], joined))
+    trial.wants_left("puzzle", "none", "list", "certificate")
+
+
 TRIALS = (
     new_files, modes, owners, links, links_in_a_circle, hard_links_of_the_puzzle, two_links_to_nothing, pipes, devices,
     a_full_disk, a_closed_pipe_for_the_report, a_stop_by_a_signal, two_at_once, a_fault_beside_another_solve,
-    closed_streams, a_closed_input, reasons_on_a_terminal,
+    closed_streams, a_closed_input, reasons_on_a_terminal, hints_on_a_terminal,
 )
 
 
