@@ -4,11 +4,10 @@
 
 ghost use Rattle.std.specs.Prelude.{◌≡◌};
 
-use crate::items::option_behind;
 use rand_core::{Rng, SeedableRng};
 use rand_xoshiro::Xoshiro256PlusPlus;
 use std::alloc::AllocError;
-use xcc_dance::OpenOptions;
+use xcc_dance::{OpenOptions, option_behind};
 
 // What the random numbers begin with. It is always the same, so that each call makes the same split.
 const SEED: u64 = 1975;

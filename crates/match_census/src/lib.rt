@@ -7,7 +7,6 @@ mod counting;
 mod crews;
 mod dives;
 mod hashes;
-mod items;
 mod laws;
 mod looks;
 mod parts;

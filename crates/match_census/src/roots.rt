@@ -7,10 +7,9 @@ ghost use Rattle.xcc_dance.specs.Clashes.{IsOpen};
 
 use crate::branches::Branch;
 use crate::dives::Dives;
-use crate::items::{open_option, uncovered_item};
 use crate::splits::Splitter;
 use std::alloc::{AllocError, Global};
-use xcc_dance::OpenOptions;
+use xcc_dance::{OpenOptions, open_option, uncovered_item};
 
 // How many dives tell whether a branch is worth a guess.
 const DIVES_BEFORE: u64 = 16;

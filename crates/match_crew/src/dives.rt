@@ -5,16 +5,14 @@
 
 ghost use Rattle.std.specs.Prelude.{◌≡◌, IfSome};
 ghost use Rattle.xcc_form.specs.Options.{cover_of};
-ghost use Rattle.xcc_dance.specs.Chosen.{IsUncovered};
-ghost use Rattle.xcc_dance.specs.Clashes.{IsOpen, IsOpenAt};
+ghost use Rattle.xcc_dance.specs.Clashes.{IsOpen};
 
 use crate::images::PrefixImages;
-use crate::items::uncovered_item;
 use match_puzzle::Pair;
 use rand_core::{Rng, SeedableRng};
 use rand_xoshiro::Xoshiro256PlusPlus;
 use std::alloc::{AllocError, Global};
-use xcc_dance::OpenOptions;
+use xcc_dance::{OpenOptions, open_option, option_behind, uncovered_item};
 
 // What the random numbers begin with. It is always the same, so that a solve can be repeated.
 const SEED: u64 = 1975;
@@ -92,7 +90,7 @@ impl Dives {
         let Some((pair, others)) = pairs.split_first() else {
             return self.mean(engine, citable, dives);
         };
-        let Some(option) = open_option(engine, *pair) else {
+        let Some(option) = option_at(engine, *pair) else {
             return Ok(0);
         };
         self.placed.push(*pair)?;
@@ -155,35 +153,10 @@ impl Dives {
     }
 }
 
-// The open option of an item that has so many before it, if there is one.
-fn option_behind<E: OpenOptions>(engine: &E, item: u32, before: u32) -> Option<u32>
-    requires { let s = E.selection engine.now in IsUncovered (cover_of s.compiled) s.chosen item }
-    ensures { let s = E.selection engine.now in IfSome result (IsOpenAt (cover_of s.compiled) s.chosen item) }
-{
-    let mut left = before;
-    let mut next = engine.next_option(item, None);
-    while let Some(option) = next {
-        if left == 0 {
-            return Some(option);
-        }
-        left -= 1;
-        next = engine.next_option(item, Some(option));
-    }
-    None
-}
-
 // The option of this pair, if it is open.
-fn open_option<E: OpenOptions>(engine: &E, pair: Pair) -> Option<u32>
+fn option_at<E: OpenOptions>(engine: &E, pair: Pair) -> Option<u32>
     ensures { let s = E.selection engine.now in IfSome result (IsOpen (cover_of s.compiled) s.chosen) }
 {
     let item = uncovered_item(engine, u32::from(pair.cell))?;
-    let wanted = engine.xcc().option_of(pair)?;
-    let mut next = engine.next_option(item, None);
-    while let Some(option) = next {
-        if option == wanted {
-            return Some(option);
-        }
-        next = engine.next_option(item, Some(option));
-    }
-    None
+    open_option(engine, item, engine.xcc().option_of(pair)?)
 }

@@ -5,6 +5,7 @@
 mod chooses;
 mod cites;
 mod faults;
+mod finding;
 mod laws;
 mod links;
 mod open_options;
@@ -17,6 +18,7 @@ mod searching;
 pub use chooses::{Chooses, FewestOptions, LeastLeft};
 pub use cites::{Cite, Cites, NoCites};
 pub use faults::SearchFault;
+pub use finding::{open_option, option_behind, uncovered_item};
 pub use laws::{
     branch_items_have_the_fewest, open_options_are_listed, open_options_are_those_that_fit,
     options_stand_as_pairs, uncovered_items_are_open, whole_selections_are_solutions,

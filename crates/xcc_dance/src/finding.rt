@@ -1,15 +1,16 @@
-//! Items to branch on.
+//! Items and options that are looked up by what they are: in the engine's own lists, so that what is found is open.
 
-ghost use Rattle.std.specs.Prelude.{IfSome};
+ghost use Rattle.std.specs.Prelude.{◌≡◌, IfSome};
 ghost use Rattle.xcc_form.specs.Options.{cover_of};
 ghost use Rattle.xcc_dance.specs.Chosen.{IsUncovered};
 ghost use Rattle.xcc_dance.specs.Clashes.{IsOpen, IsOpenAt};
 
-use xcc_dance::OpenOptions;
+use crate::open_options::OpenOptions;
 
-// The item with this number, if it is uncovered.
-pub(crate) fn uncovered_item<E: OpenOptions>(engine: &E, number: u32) -> Option<u32>
-    ensures { let s = E.selection engine.now in IfSome result (IsUncovered (cover_of s.compiled) s.chosen) }
+/// The item with this number, if it is uncovered. Time in how many items are.
+pub fn uncovered_item<E: OpenOptions>(engine: &E, number: u32) -> Option<u32>
+    ensures number { IfSome result (λ item. item ≡ number) }
+    ensures uncovered { let s = E.selection engine.now in IfSome result (IsUncovered (cover_of s.compiled) s.chosen) }
 {
     let mut next = engine.next_item(None);
     while let Some(item) = next {
@@ -21,10 +22,11 @@ pub(crate) fn uncovered_item<E: OpenOptions>(engine: &E, number: u32) -> Option<
     None
 }
 
-// The option with this number, if it is an open one of the item.
-pub(crate) fn open_option<E: OpenOptions>(engine: &E, item: u32, number: u32) -> Option<u32>
+/// The option with this number, if it is an open one of the item. Time in how many are open.
+pub fn open_option<E: OpenOptions>(engine: &E, item: u32, number: u32) -> Option<u32>
     requires { let s = E.selection engine.now in IsUncovered (cover_of s.compiled) s.chosen item }
-    ensures { let s = E.selection engine.now in IfSome result (IsOpen (cover_of s.compiled) s.chosen) }
+    ensures number { IfSome result (λ option. option ≡ number) }
+    ensures open { let s = E.selection engine.now in IfSome result (IsOpen (cover_of s.compiled) s.chosen) }
 {
     let mut next = engine.next_option(item, None);
     while let Some(option) = next {
@@ -36,8 +38,8 @@ pub(crate) fn open_option<E: OpenOptions>(engine: &E, item: u32, number: u32) ->
     None
 }
 
-// The open option of an item that has so many before it, if there is one.
-pub(crate) fn option_behind<E: OpenOptions>(engine: &E, item: u32, before: u32) -> Option<u32>
+/// The open option of an item that has so many before it, if there is one.
+pub fn option_behind<E: OpenOptions>(engine: &E, item: u32, before: u32) -> Option<u32>
     requires { let s = E.selection engine.now in IsUncovered (cover_of s.compiled) s.chosen item }
     ensures { let s = E.selection engine.now in IfSome result (IsOpenAt (cover_of s.compiled) s.chosen item) }
 {
