@@ -29,7 +29,7 @@ COUNT = [
     ("symmetry_orbits/specs/Orbits.antt", "IsCount"),
     ("match_runs/specs/Printing.antt", "count_text"),
 ]
-SEARCH = [HAS, ("match_census/specs/Numbers.antt", "AreMoreThan")]
+SEARCH = [HAS, ("match_puzzle/specs/Numbers.antt", "AreMoreThan")]
 SPELLED = "match_runs/specs/Checking.antt", "SpellCompleteList"
 # The rows of the page's table, with the definitions that say it. The README has the numbers of the first.
 ROWS = {

@@ -1,16 +1,16 @@
 -- There is a number of arrangements that have all chosen options.
-use Rattle.std.proofs.Common.{◌≡◌, ◌<◌, ◌≤◌, ◌+◌, ◌++◌, ◌∷◌, [], ℕ, zero, suc, Some, None, length, length-append, arith, subst, inl, inr, ⊎_elim}
-use Rattle.match_puzzle.specs.declared.placements.Placement.{Placement}
+use Rattle.std.proofs.Common.{◌≤◌, ◌+◌, ◌++◌, ◌∷◌, [], ℕ, zero, suc, Some, length, length-append, arith, subst, inl, inr, ⊎_elim}
+use Rattle.match_puzzle.specs.Numbers.{AreSoMany}
+use Rattle.match_puzzle.proofs.NumberLemmas.{no_such, same_number, both_kinds}
 use Rattle.xcc_form.specs.Options.{cover_of}
 use Rattle.xcc_dance.specs.Clashes.{IsOpen, IsOpenAt}
 use Rattle.xcc_dance.specs.Chosen.{Selection, IsSelection, IsUncovered, with_option}
 use Rattle.xcc_dance.specs.Found.{IsFoundFrom}
 use Rattle.xcc_dance.proofs.PartialLemmas.{one_more}
 use Rattle.xcc_dance.proofs.RoomLemmas.{room}
-use Rattle.match_census.specs.Numbers.{AreSoMany, HasExtensions}
-use Rattle.match_census.proofs.NumberLemmas.{no_such, same_number, both_kinds}
 use Rattle.match_census.proofs.ExtensionLemmas.{IsFoundBefore, one_extension, apart, all_before}
 use Rattle.match_census.proofs.DecidingLemmas.{equal_or_not, goes_on_at, covered_or_one}
+use Rattle.match_census.specs.Extensions.{HasExtensions}
 
 -- one option more
 pub grown : (s : Selection) (option : ℕ) → IsSelection s.compiled s.chosen → IsOpen (cover_of s.compiled) s.chosen option → IsSelection s.compiled (s.chosen ++ option ∷ [])

@@ -5,6 +5,9 @@ use Rattle.std.proofs.lemmas.List.Elements.{Contains-push, Contains-push_cases}
 use Rattle.match_board.proofs.Listings.{lt_or_le}
 use Rattle.match_puzzle.specs.Arrangement.{IsArrangement, HasArrangements}
 use Rattle.match_puzzle.specs.declared.placements.Placement.{Placement}
+use Rattle.match_puzzle.specs.Numbers.{AreSoMany, AreMoreThan}
+use Rattle.match_puzzle.proofs.NumberLemmas.{no_such, just_one, same_number, both_kinds, more_of_both}
+use Rattle.match_census.specs.Extensions.{HasExtensions}
 use Rattle.xcc_form.specs.ExactCover.{HasPrimary, IsSolution}
 use Rattle.xcc_form.specs.Options.{Compiled, IsCompiled, cover_of}
 use Rattle.xcc_form.specs.Correspondence.{IsFilledBy, HaveSameOptions}
@@ -17,8 +20,6 @@ use Rattle.xcc_dance.specs.Found.{IsFoundFrom}
 use Rattle.xcc_dance.proofs.GrowingLemmas.{found_before}
 use Rattle.xcc_dance.proofs.SizeLemmas.{bound_of}
 use Rattle.xcc_dance.proofs.SolutionLemmas.{is_solution}
-use Rattle.match_census.specs.Numbers.{AreSoMany, AreMoreThan, HasExtensions}
-use Rattle.match_census.proofs.NumberLemmas.{no_such, just_one, same_number, both_kinds, more_of_both}
 
 -- the same options fill the board in the same way
 filled_by_same : (x : Compiled) (chosen other : List ℕ) (a : List Placement) → HaveSameOptions chosen other → IsFilledBy x chosen a → IsFilledBy x other a

@@ -1,4 +1,3 @@
-pub mod NumberLemmas
 pub mod ExtensionLemmas
 pub mod OneNumberLemmas
 pub mod BranchLemmas

@@ -4,11 +4,11 @@ use Rattle.std.proofs.lemmas.Option.{slice_get_within}
 use Rattle.match_puzzle.specs.Arrangement.{AreDistinct}
 use Rattle.match_puzzle.specs.declared.placements.Placement.{Placement}
 use Rattle.match_puzzle.proofs.Prefixes.{inside}
+use Rattle.match_puzzle.specs.Numbers.{AreSoMany, AreMoreThan}
 use Rattle.xcc_form.specs.Options.{Compiled}
 use Rattle.xcc_form.proofs.OptionLemmas.{contains_at, place_of, read_in}
 use Rattle.xcc_form.proofs.WholeLemmas.{list_from}
 use Rattle.xcc_dance.proofs.RoomLemmas.{few_different}
-use Rattle.match_census.specs.Numbers.{AreSoMany, AreMoreThan}
 use Rattle.match_census.specs.Branches.{WeightedBranch, HaveTogether}
 
 -- different things that are all in another list are no more than that has

@@ -8,13 +8,14 @@ use Rattle.std.proofs.lemmas.List.Elements.{Contains-append_right}
 use Rattle.match_board.proofs.ListLemmas.{taken_more}
 use Rattle.match_puzzle.specs.Arrangement.{IsArrangement, HasArrangements}
 use Rattle.match_puzzle.proofs.PlacedPairLemmas.{pushed_at}
+use Rattle.match_puzzle.specs.Numbers.{AreMoreThan}
 use Rattle.xcc_form.specs.Options.{Compiled}
 use Rattle.xcc_dance.specs.Found.{IsFoundFrom}
-use Rattle.match_census.specs.Numbers.{AreMoreThan, HasExtensions}
 use Rattle.match_census.specs.Branches.{WeightedBranch, selection_of, HaveTogether, HaveMoreTogether, IsSplit, AreSelections, every}
 use Rattle.match_census.proofs.BranchLemmas.{together_join, together_cut}
 use Rattle.match_census.proofs.ExistenceLemmas.{some_number}
 use Rattle.match_census.proofs.OneNumberLemmas.{more_are_fewer, one_together}
+use Rattle.match_census.specs.Extensions.{HasExtensions}
 
 -- a multiple of a number that is below a quotient is below the dividend
 pub within_share : (left weight count : ℕ) → count ≤ left / weight → weight * count ≤ left

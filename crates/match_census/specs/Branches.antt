@@ -1,9 +1,9 @@
 -- Branches of a search, and how many arrangements they have together.
 use Rattle.std.specs.Prelude.{◌≡◌, ◌<◌, ◌+◌, ◌≤◌, ◌-◌, ◌*◌, ◌^◌, ◌++◌, ℕ, zero, suc, List, [], ◌∷◌, Option, None, Some, Contains, length, slice_get}
 use Rattle.match_puzzle.specs.Arrangement.{HasArrangements}
+use Rattle.match_census.specs.Extensions.{HasExtensions}
 use Rattle.xcc_form.specs.Options.{Compiled}
 use Rattle.xcc_dance.specs.Chosen.{Selection, IsSelection}
-use Rattle.match_census.specs.Numbers.{HasExtensions}
 
 -- options that are chosen, and how many branches alike it stands for
 pub record WeightedBranch : Type 0 where

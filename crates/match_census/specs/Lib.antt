@@ -1,4 +1,4 @@
-pub mod Numbers
+pub mod Extensions
 pub mod Branches
 pub mod Symmetries
 pub mod Children

@@ -1,9 +1,10 @@
 //! Counting by a search.
 
 ghost use Rattle.std.specs.Prelude.{◌≡◌, ◌≤◌, ◌/◌, IfOk, IfSome, MatchOption};
+ghost use Rattle.match_puzzle.specs.Numbers.{AreMoreThan};
 ghost use Rattle.xcc_dance.specs.Found.{IsFoundFrom};
 ghost use Rattle.match_census.specs.Looks.{AreLooks};
-ghost use Rattle.match_census.specs.Numbers.{AreMoreThan, HasExtensions};
+ghost use Rattle.match_census.specs.Extensions.{HasExtensions};
 
 use crate::weights::weight_of;
 use std::alloc::AllocError;

@@ -2,11 +2,12 @@
 
 ghost use Rattle.std.specs.Prelude.{◌≡◌, ◌≤◌, ◌++◌, [], IfOk, IfSome, MatchOption};
 ghost use Rattle.match_puzzle.specs.Arrangement.{IsArrangement, HasArrangements};
+ghost use Rattle.match_puzzle.specs.Numbers.{AreMoreThan};
 ghost use Rattle.xcc_dance.specs.Chosen.{IsSelection};
 ghost use Rattle.xcc_dance.specs.Found.{IsFoundFrom};
 ghost use Rattle.match_census.specs.Looks.{AreLooks};
-ghost use Rattle.match_census.specs.Numbers.{AreMoreThan, HasExtensions};
 ghost use Rattle.match_census.specs.Branches.{AreSelections, HaveTogether, HaveMoreTogether, IsSplit};
+ghost use Rattle.match_census.specs.Extensions.{HasExtensions};
 
 use crate::branches::Branch;
 use crate::counting::count_below;

@@ -6,10 +6,10 @@ use Rattle.match_puzzle.specs.ArrangementFaults.{IsArrangementFault}
 use Rattle.match_puzzle.specs.declared.faults.ArrangementFault.{ArrangementFault}
 use Rattle.match_puzzle.specs.Prefix.{Prefix}
 use Rattle.match_puzzle.specs.declared.placements.Placement.{Placement}
+use Rattle.match_puzzle.specs.Numbers.{AreMoreThan}
 use Rattle.puzzle_symmetry.specs.Complete.{IsCompleteList}
 use Rattle.puzzle_symmetry.specs.Reached.{IsReached}
 use Rattle.puzzle_symmetry.specs.declared.faults.SymmetryFault.{SymmetryFault}
-use Rattle.symmetry_orbits.specs.Expansion.{AreMoreThan}
 use Rattle.symmetry_orbits.specs.Orbits.{IsInOrbit}
 use Rattle.cert_check.specs.Answer.{Occurs}
 use Rattle.cert_check.specs.Setting.{Question}

@@ -32,3 +32,6 @@ pub mod SplitListings
 pub mod FitSizeLemmas
 pub mod PlacingLemmas
 pub mod KeptCountLemmas
+pub mod NumberLemmas
+pub mod EqualTileLemmas
+pub mod TileExchange

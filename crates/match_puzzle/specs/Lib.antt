@@ -4,6 +4,8 @@ pub mod Colours
 pub mod PuzzleFaults
 pub mod Arrangement
 pub mod ArrangementFaults
+pub mod Numbers
+pub mod EqualTiles
 pub mod Prefix
 pub mod PrefixFaults
 pub mod Fitting

@@ -5,6 +5,7 @@ mod arrangement_faults;
 mod arrangements;
 mod behind;
 mod borders;
+mod equal_tiles;
 mod faults;
 mod fit_counts;
 mod fit_rows;

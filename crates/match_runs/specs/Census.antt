@@ -2,13 +2,13 @@
 use Rattle.std.specs.Prelude.{◌≡◌, ◌≤◌, ◌++◌, ◌∷◌, [], ◌⊎◌, ℕ, List, None, Ok, codes, decimal, length}
 use Rattle.match_puzzle.specs.Arrangement.{IsArrangement, HasArrangements}
 use Rattle.match_puzzle.specs.Puzzle.{Task}
+use Rattle.match_puzzle.specs.Numbers.{AreMoreThan}
 use Rattle.match_text.specs.Puzzles.{PuzzleReads}
 use Rattle.match_text.specs.Spelling.{line_text}
 use Rattle.match_show.specs.Facts.{number_line}
 use Rattle.xcc_form.specs.Options.{Compiled, HasTooManyEntries}
 use Rattle.match_census.specs.Branches.{WeightedBranch, HaveTogether, IsSplit, IsTotal, every}
 use Rattle.match_census.specs.Hash.{hash_of}
-use Rattle.match_census.specs.Numbers.{AreMoreThan}
 use Rattle.match_crew.specs.declared.faults.SolveFault.TheVariants as solves
 use Rattle.command_words.specs.Parts.{number_in, parts_with}
 use Rattle.command_words.specs.declared.orders.Part.{Part}

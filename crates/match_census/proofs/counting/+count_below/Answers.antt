@@ -1,15 +1,16 @@
-use Rattle.std.proofs.Common.{◌≤◌, ◌-◌, ◌*◌, ◌/◌, ℕ, None, Some, MatchOption, IfSome, arith, refl, ap, ◌∙◌, subst}
+use Rattle.std.proofs.Common.{◌≤◌, ◌-◌, ℕ, None, Some, MatchOption, IfSome, arith, refl, ap, ◌∙◌, subst}
+use Rattle.match_puzzle.specs.Numbers.{AreSoMany, AreMoreThan}
+use Rattle.match_puzzle.proofs.NumberLemmas.{more_than_fewer}
 use Rattle.xcc_form.specs.Options.{cover_of}
 use Rattle.xcc_dance.specs.Clashes.{IsOpenAt}
 use Rattle.xcc_dance.specs.Chosen.{Selection, AreAllCovered, IsToBranchOn, with_option}
 use Rattle.xcc_dance.specs.Found.{IsFoundFrom}
 use Rattle.xcc_dance.proofs.GrowingLemmas.{next_open}
-use Rattle.match_census.specs.Numbers.{AreSoMany, AreMoreThan, HasExtensions}
-use Rattle.match_census.proofs.NumberLemmas.{more_than_fewer}
 use Rattle.match_census.specs.Looks.{IsPassed, IsWeight}
 use Rattle.match_census.proofs.ExtensionLemmas.{IsNextOrLast, one_extension}
 use Rattle.match_census.proofs.LookLemmas.{IsFoundUnder, none_under, passed_under, one_more_under, more_under, all_under}
 use Rattle.match_census.proofs.TotalLemmas.{within_share}
+use Rattle.match_census.specs.Extensions.{HasExtensions}
 use Rattle.match_census.proofs.counting.+count_below.Goals as goal
 
 -- What `branch_item` says.

@@ -1,9 +1,10 @@
 use Rattle.std.proofs.Common.{◌++◌, IfOk, MatchOption, arith, sym, subst}
+use Rattle.match_puzzle.specs.Numbers.{AreMoreThan}
 use Rattle.xcc_dance.specs.Chosen.{Selection, IsSelection}
 use Rattle.xcc_dance.specs.Found.{IsFoundFrom}
 use Rattle.match_census.specs.Looks.{AreLooks}
-use Rattle.match_census.specs.Numbers.{AreMoreThan, HasExtensions}
 use Rattle.match_census.proofs.PickingLemmas.{none_picked, one_picked, picked_is_open, picked_chosen}
+use Rattle.match_census.specs.Extensions.{HasExtensions}
 use Rattle.match_census.proofs.totals.+count_with.Goals as goal
 
 pub choose-requires : goal.choose-requires

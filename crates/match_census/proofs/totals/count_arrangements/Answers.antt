@@ -1,7 +1,7 @@
-use Rattle.std.proofs.Common.{IfOk, MatchOption, ap, sym, subst}
+use Rattle.std.proofs.Common.{IfOk, MatchOption, sym, subst}
 use Rattle.match_puzzle.specs.Arrangement.{IsArrangement, HasArrangements}
+use Rattle.match_puzzle.specs.Numbers.{AreMoreThan}
 use Rattle.xcc_dance.specs.Chosen.{Selection}
-use Rattle.match_census.specs.Numbers.{AreMoreThan}
 use Rattle.match_census.specs.Looks.{AreLooks}
 use Rattle.match_census.specs.Branches.{AreSelections, HaveTogether, HaveMoreTogether}
 use Rattle.match_census.proofs.TotalLemmas.{told_of_split}

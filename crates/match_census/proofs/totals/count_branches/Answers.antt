@@ -1,12 +1,13 @@
 use Rattle.std.proofs.Common.{◌≤◌, ◌-◌, ◌/◌, ◌++◌, MatchOption, IfSome, ap, ◌∙◌, subst, arith}
 use Rattle.std.proofs.lemmas.List.{take_all}
 use Rattle.match_board.proofs.ListLemmas.{contains_at}
+use Rattle.match_puzzle.specs.Numbers.{AreMoreThan}
 use Rattle.xcc_dance.specs.Chosen.{Selection}
 use Rattle.xcc_dance.specs.Found.{IsFoundFrom}
-use Rattle.match_census.specs.Numbers.{AreMoreThan, HasExtensions}
 use Rattle.match_census.specs.Branches.{HaveTogether}
 use Rattle.match_census.proofs.BranchLemmas.{read_at, chosen_for, selection_for}
 use Rattle.match_census.proofs.TotalLemmas.{within_share, one_more_taken, more_than_share}
+use Rattle.match_census.specs.Extensions.{HasExtensions}
 use Rattle.match_census.proofs.totals.count_branches.Goals as goal
 
 pub count_with-requires-clause-selection : goal.count_with-requires-clause-selection

@@ -2,8 +2,8 @@ use Rattle.std.proofs.Common.{◌≡◌, ◌⊎◌, ◌≤◌, ℕ, List, Option
 use Rattle.std.proofs.lemmas.Result.{err_from_is_err_and}
 use Rattle.match_puzzle.specs.Puzzle.{Task}
 use Rattle.match_puzzle.specs.Arrangement.{IsArrangement, HasArrangements}
+use Rattle.match_puzzle.specs.Numbers.{AreMoreThan}
 use Rattle.command_words.specs.declared.orders.Extent.TheVariants as extents
-use Rattle.match_census.specs.Numbers.{AreMoreThan}
 use Rattle.match_show.specs.Facts.{number_line}
 use Rattle.match_runs.specs.Census.{CountsUpTo, CountsMore}
 use Rattle.match_runs.proofs.CensusLemmas.{compile_fails}

@@ -5,7 +5,7 @@ use Rattle.std.proofs.lemmas.Option.{none-some}
 use Rattle.match_board.proofs.ListLemmas.{contains_none, contains_at}
 use Rattle.match_puzzle.specs.declared.placements.Placement.{Placement}
 use Rattle.match_puzzle.specs.Arrangement.{AreDistinct}
-use Rattle.match_census.specs.Numbers.{AreSoMany, AreMoreThan}
+use Rattle.match_puzzle.specs.Numbers.{AreSoMany, AreMoreThan}
 
 -- ---- different things
 
@@ -16,7 +16,7 @@ at_either (y ∷ xs) ys zero x at = inl at
 at_either (y ∷ xs) ys (suc i) x at = ⊎_elim (λ l. inl l) (λ r. let e = r.1 in inr (r.0, omega (arith, e), r.2)) (at_either xs ys i x at)
 
 -- different things, and others that are different
-distinct_both : {X : Type 0} (xs ys : List X) → AreDistinct xs → AreDistinct ys → ((x : X) → Contains xs x → Contains ys x → ⊥) → AreDistinct (xs ++ ys)
+pub distinct_both : {X : Type 0} (xs ys : List X) → AreDistinct xs → AreDistinct ys → ((x : X) → Contains xs x → Contains ys x → ⊥) → AreDistinct (xs ++ ys)
 distinct_both xs ys once once' apart i j x at at' =
     ⊎_elim
     (λ l. ⊎_elim (λ m. once i j x l m) (λ n. absurd (apart x (contains_at xs i x l) (contains_at ys n.0 x n.2))) (at_either xs ys j x at'))

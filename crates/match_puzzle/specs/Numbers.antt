@@ -2,10 +2,8 @@
 use Rattle.std.specs.Prelude.{◌≡◌, ◌<◌, ◌↔◌, ℕ, List, Contains, length}
 use Rattle.match_puzzle.specs.Arrangement.{AreDistinct}
 use Rattle.match_puzzle.specs.declared.placements.Placement.{Placement}
-use Rattle.xcc_dance.specs.Chosen.{Selection}
-use Rattle.xcc_dance.specs.Found.{IsFoundFrom}
 
--- So many arrangements are like this: there is a list of just these, each once, and this is its length.
+-- So many different arrangements are like this: there is a list of just these, each once, and this is its length.
 pub record AreSoMany (Is : List Placement → Type 0) (count : ℕ) : Type 0 where
   pub all : List (List Placement)
   pub just : (a : List Placement) → Contains all a ↔ Is a
@@ -18,7 +16,3 @@ pub record AreMoreThan (most : ℕ) (Is : List Placement → Type 0) : Type 0 wh
   pub once : AreDistinct found
   pub more : most < length found
   pub each : (a : List Placement) → Contains found a → Is a
-
--- So many arrangements have all chosen options.
-abbrev pub HasExtensions : Selection → (count : ℕ) → Type 0
-HasExtensions s count = AreSoMany (IsFoundFrom s) count
