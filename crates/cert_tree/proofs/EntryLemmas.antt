@@ -1,13 +1,13 @@
 -- Reading entries up to a word, one after the other, as a loop does.
 use Rattle.std.proofs.Common.{◌≡◌, ℕ, zero, suc, Bool, true, false, not, List, [], ◌∷◌, Result, Ok, Err, refl, ap, subst}
 use Rattle.std.specs.Str.{bytes_eq}
-use Rattle.match_text.specs.declared.faults.TextFault.{TextFault}
-use Rattle.match_text.specs.declared.faults.TextKind.{TextKind}
-use Rattle.match_text.specs.declared.faults.TextKind.TheVariants.{Limit}
-use Rattle.match_text.specs.Words.{◌>>=◌}
-use Rattle.match_text.specs.Place.{Place, fail, judged, word_from, word_by}
-use Rattle.match_text.proofs.CutLemmas.{place, ok_is}
-use Rattle.match_text.proofs.LoopLemmas.{with_front, err_is, ReadsEntries}
+use Rattle.text_words.specs.declared.faults.TextFault.{TextFault}
+use Rattle.text_words.specs.declared.faults.TextKind.{TextKind}
+use Rattle.text_words.specs.declared.faults.TextKind.TheVariants.{Limit}
+use Rattle.text_words.specs.Words.{◌>>=◌}
+use Rattle.text_words.specs.Place.{Place, fail, judged, word_from, word_by}
+use Rattle.text_words.proofs.CutLemmas.{place, ok_is}
+use Rattle.text_words.proofs.LoopLemmas.{with_front, err_is, ReadsEntries}
 use Rattle.cert_tree.specs.Entries.{goes_on, entries_before_in, before_from, entries_before}
 
 module _ {X : Type 0} (stop : List ℕ) (test : List ℕ → Result X TextKind) where

@@ -3,8 +3,8 @@ use Rattle.std.proofs.Common.{◌≡◌, ◌≢◌, ℕ, Bool, true, false, List
 use Rattle.std.specs.Prelude.{MatchBool}
 use Rattle.std.specs.List.Sorted.{IsPermutation}
 use Rattle.std.proofs.lemmas.List.Sorted.{length_permutation}
-use Rattle.match_text.specs.declared.faults.TextFault.{TextFault}
-use Rattle.match_text.specs.Laws.{ReadsSpellingsAlone, ReadsEachSpelling}
+use Rattle.text_words.specs.declared.faults.TextFault.{TextFault}
+use Rattle.text_words.specs.Laws.{ReadsSpellingsAlone, ReadsEachSpelling}
 use Rattle.puzzle_symmetry.specs.declared.lines.SymmetryLine.{SymmetryLine}
 use Rattle.cert_tree.specs.declared.faults.AssembleFault.{AssembleFault}
 use Rattle.cert_tree.specs.declared.faults.AssembleFault.TheVariants as assemble

@@ -11,18 +11,18 @@ use Rattle.std.proofs.lemmas.Bool.{ne_eqb}
 use Rattle.std.proofs.lemmas.Slice.Eq.{bytes_eq-Decides}
 use Rattle.match_puzzle.specs.declared.placements.Pair.{Pair}
 use Rattle.puzzle_symmetry.specs.declared.lines.SymmetryLine.{SymmetryLine}
-use Rattle.match_text.specs.declared.ranges.Ranges.{Ranges}
-use Rattle.match_text.specs.Ranges.{AreRanges}
-use Rattle.match_text.specs.declared.faults.TextKind.{TextKind}
-use Rattle.match_text.specs.declared.faults.TextKind.TheVariants.{Word, Number}
-use Rattle.match_text.specs.Bytes.{cut_at}
-use Rattle.match_text.specs.Words.{fixed_in, number_in, colour_in, pair_in, or_word}
-use Rattle.match_text.specs.Place.{Read, ◌>>=◌, give, word_by, entries}
-use Rattle.match_text.specs.Spelling.{colour_word, placement_word}
-use Rattle.match_text.proofs.CutLemmas.{CutsShort, cuts_bind, cuts_give, cuts_word, cuts_entries, cuts_line}
-use Rattle.match_text.proofs.WordLemmas.{Spells, after_word, judged_ok, judged_ok_is, judged_bind, or_word_is, cut_parts, cut_dot, own, spells_number, has_no, decimal_lacks, last_fits, clean-decimal, clean-append, clean-placement, is_clean, are_clean}
+use Rattle.text_words.specs.declared.ranges.Ranges.{Ranges}
+use Rattle.text_words.specs.Ranges.{AreRanges}
+use Rattle.text_words.specs.declared.faults.TextKind.{TextKind}
+use Rattle.text_words.specs.declared.faults.TextKind.TheVariants.{Word, Number}
+use Rattle.text_words.specs.Bytes.{cut_at}
+use Rattle.text_words.specs.Words.{fixed_in, number_in, colour_in, pair_in, or_word}
+use Rattle.text_words.specs.Place.{Read, ◌>>=◌, give, word_by, entries}
+use Rattle.text_words.specs.Spelling.{colour_word, placement_word}
+use Rattle.text_words.proofs.CutLemmas.{CutsShort, cuts_bind, cuts_give, cuts_word, cuts_entries, cuts_line}
+use Rattle.text_words.proofs.WordLemmas.{Spells, after_word, judged_ok, judged_ok_is, judged_bind, or_word_is, cut_parts, cut_dot, own, spells_number, has_no, decimal_lacks, last_fits, clean-decimal, clean-append, clean-placement, is_clean, are_clean}
 use Rattle.match_text.proofs.ColourLemmas.{spells_colour, clean-colour}
-use Rattle.match_text.proofs.LineLemmas.{TakesRest, TakesLines, takes_word, takes_then_rest, takes_all, takes_line}
+use Rattle.text_words.proofs.LineLemmas.{TakesRest, TakesLines, takes_word, takes_then_rest, takes_all, takes_line}
 use Rattle.cert_tree.specs.Certificate.{Piece}
 use Rattle.cert_tree.specs.CertificateText.{mirrored_in, symmetry_line, lemma_line}
 use Rattle.cert_tree.specs.CertificateSpelling.{mirrored_word, symmetry_words, pair_word, lemma_words, IsSymmetryWithin, IsPairWithin, IsLemmaWithin}

@@ -2,14 +2,14 @@
 use Rattle.std.proofs.Common.{◌≡◌, ℕ, zero, suc, ◌+◌, ◌<◌, ◌≤◌, List, [], ◌∷◌, ◌++◌, Some, Result, Ok, Err, length, get_or, drop, slice_get, refl, sym, ap, subst, ◌∙◌, append_assoc, arith}
 use Rattle.std.proofs.lemmas.List.{append-nil}
 use Rattle.std.proofs.Math.ListN.{drop_of_length-le}
-use Rattle.match_text.specs.declared.faults.TextFault.{TextFault}
-use Rattle.match_text.specs.declared.faults.ReadFault.{ReadFault}
-use Rattle.match_text.specs.declared.faults.ReadFault.TheVariants as faults
-use Rattle.match_text.specs.declared.ranges.Ranges.{Ranges}
-use Rattle.match_text.specs.Ranges.{ranges_of}
-use Rattle.match_text.specs.Place.{Place, Read, Fails, Reads, Says, closing, give, go_on, skip_lines, start, times, value_of}
-use Rattle.match_text.proofs.LoopLemmas.{with_front, with_front-nil}
-use Rattle.match_text.proofs.RangesLemmas.{are_ranges}
+use Rattle.text_words.specs.declared.faults.TextFault.{TextFault}
+use Rattle.text_words.specs.declared.faults.ReadFault.{ReadFault}
+use Rattle.text_words.specs.declared.faults.ReadFault.TheVariants as faults
+use Rattle.text_words.specs.declared.ranges.Ranges.{Ranges}
+use Rattle.text_words.specs.Ranges.{ranges_of}
+use Rattle.text_words.specs.Place.{Place, Read, Fails, Reads, Says, closing, give, go_on, skip_lines, start, times, value_of}
+use Rattle.text_words.proofs.LoopLemmas.{with_front, with_front-nil}
+use Rattle.text_words.proofs.RangesLemmas.{are_ranges}
 use Rattle.cert_tree.specs.declared.parts.CutCertificate.{CutCertificate}
 use Rattle.cert_tree.specs.declared.parts.LemmaPart.{LemmaPart}
 use Rattle.cert_tree.specs.Certificate.{Piece}

@@ -7,18 +7,18 @@ use Rattle.std.proofs.lemmas.List.{length-map}
 use Rattle.match_board.specs.First.{IsFirst}
 use Rattle.match_puzzle.proofs.Prefixes.{inside}
 use Rattle.match_board.proofs.ListLemmas.{all_by_place}
-use Rattle.match_text.specs.declared.faults.TextFault.{TextFault}
-use Rattle.match_text.specs.declared.faults.TextKind.TheVariants.{Ends}
-use Rattle.match_text.specs.declared.ranges.Ranges.{Ranges}
-use Rattle.match_text.specs.declared.ranges.TheConstants.{SECOND}
-use Rattle.match_text.specs.Ranges.{AreRanges, ranges_of}
-use Rattle.match_text.specs.Bytes.{line_ends}
-use Rattle.match_text.specs.Place.{Says, fail}
+use Rattle.text_words.specs.declared.faults.TextFault.{TextFault}
+use Rattle.text_words.specs.declared.faults.TextKind.TheVariants.{Ends}
+use Rattle.text_words.specs.declared.ranges.Ranges.{Ranges}
+use Rattle.text_words.specs.declared.ranges.TheConstants.{SECOND}
+use Rattle.text_words.specs.Ranges.{AreRanges, ranges_of}
+use Rattle.text_words.specs.Bytes.{line_ends}
+use Rattle.text_words.specs.Place.{Says, fail}
 use Rattle.cert_tree.specs.declared.certificates.Lemma.{Lemma}
 use Rattle.cert_tree.specs.declared.flat_lemmas.LemmaSpan.{LemmaSpan}
 use Rattle.cert_tree.specs.declared.faults.AssembleFault.{AssembleFault}
 use Rattle.cert_tree.specs.declared.faults.AssembleFault.TheVariants.{Stranger, Double, Missing, Memory}
-use Rattle.match_text.specs.declared.faults.ReadFault.{ReadFault}
+use Rattle.text_words.specs.declared.faults.ReadFault.{ReadFault}
 use Rattle.cert_tree.specs.declared.faults.CertTextFault.{CertTextFault}
 use Rattle.cert_tree.specs.Faults.{of_assembly}
 use Rattle.cert_tree.specs.Certificate.{Contents, Piece, piece_of, piece_number}

@@ -2,15 +2,15 @@
 use Rattle.std.proofs.Common.{◌≡◌, ℕ, zero, suc, ◌+◌, ◌-◌, ◌<◌, List, [], ◌∷◌, ◌++◌, Some, Result, Ok, Err, true, false, inl, inr, is_err, refl, sym, ap, subst, ◌∙◌, append_assoc, arith}
 use Rattle.std.specs.List.{join_with_byte}
 use Rattle.std.proofs.lemmas.List.{append-nil}
-use Rattle.match_text.specs.declared.faults.TextFault.{TextFault}
-use Rattle.match_text.specs.declared.ranges.Ranges.{Ranges}
-use Rattle.match_text.specs.Ranges.{AreRanges}
-use Rattle.match_text.specs.Bytes.{cut_at, line_ends, words_of}
-use Rattle.match_text.specs.Place.{Place, Read, ◌>>=◌, Gives, give, next_line, skip_line, skip_lines, times}
-use Rattle.match_text.specs.Spelling.{line_text, text_of}
-use Rattle.match_text.proofs.CutLemmas.{CutsShort, bind_ok, cuts_next_line, ok_is, place, runs_out}
-use Rattle.match_text.proofs.WordLemmas.{are_clean}
-use Rattle.match_text.proofs.LineLemmas.{TakesLines, cut_join}
+use Rattle.text_words.specs.declared.faults.TextFault.{TextFault}
+use Rattle.text_words.specs.declared.ranges.Ranges.{Ranges}
+use Rattle.text_words.specs.Ranges.{AreRanges}
+use Rattle.text_words.specs.Bytes.{cut_at, line_ends, words_of}
+use Rattle.text_words.specs.Place.{Place, Read, ◌>>=◌, Gives, give, next_line, skip_line, skip_lines, times}
+use Rattle.text_words.specs.Spelling.{line_text, text_of}
+use Rattle.text_words.proofs.CutLemmas.{CutsShort, bind_ok, cuts_next_line, ok_is, place, runs_out}
+use Rattle.text_words.proofs.WordLemmas.{are_clean}
+use Rattle.text_words.proofs.LineLemmas.{TakesLines, cut_join}
 use Rattle.cert_tree.specs.Certificate.{Piece}
 use Rattle.cert_tree.specs.CertificateText.{lemma_line}
 use Rattle.cert_tree.specs.CertificateSpelling.{IsLemmaWithin, lemma_words}

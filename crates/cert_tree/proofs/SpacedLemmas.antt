@@ -2,8 +2,8 @@
 use Rattle.std.proofs.Common.{◌≡◌, ℕ, List, [], ◌∷◌, ◌++◌, map, refl, ap, ◌∙◌, append_assoc, codes}
 use Rattle.std.specs.Fmt.{decimal}
 use Rattle.puzzle_symmetry.specs.declared.lines.SymmetryLine.{SymmetryLine}
-use Rattle.match_text.specs.Spelling.{line_text, spaced, colour_word}
-use Rattle.match_text.proofs.WritingLemmas.{spaced-append, line_text-cons}
+use Rattle.text_words.specs.Spelling.{line_text, spaced, colour_word}
+use Rattle.text_words.proofs.WritingLemmas.{spaced-append, line_text-cons}
 use Rattle.cert_tree.specs.Certificate.{Piece}
 use Rattle.cert_tree.specs.TreeSpelling.{tree_words}
 use Rattle.cert_tree.specs.CertificateSpelling.{mirrored_word, symmetry_words, pair_word, lemma_words}

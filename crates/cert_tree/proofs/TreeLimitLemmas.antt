@@ -2,8 +2,8 @@
 use Rattle.std.proofs.Common.{◌≡◌, ◌≢◌, ℕ, zero, suc, ◌+◌, ◌-◌, ◌<◌, ◌≤◌, Bool, true, false, List, length, get_or, drop, refl, sym, subst, arith}
 use Rattle.std.specs.Prelude.{MatchBool}
 use Rattle.match_puzzle.specs.declared.items.Item.{Item}
-use Rattle.match_text.specs.declared.ranges.Ranges.{Ranges}
-use Rattle.match_text.specs.Ranges.{AreRanges}
+use Rattle.text_words.specs.declared.ranges.Ranges.{Ranges}
+use Rattle.text_words.specs.Ranges.{AreRanges}
 use Rattle.cert_tree.specs.declared.nodes.Node.{Node}
 use Rattle.cert_tree.specs.Tree.{Tree, Forest, branch, dead, found, same, image, none, more, tree_of, forest_of, IsNarrow, AreNarrow}
 use Rattle.cert_tree.specs.TreeSpelling.{IsItemWithin, IsTreeWithin, AreTreesWithin, AreChildrenWithin}

@@ -5,12 +5,12 @@ use Rattle.std.specs.Prelude.{OnOk}
 use Rattle.std.proofs.lemmas.List.{append-nil}
 use Rattle.match_puzzle.specs.declared.items.Item.{Item}
 use Rattle.match_puzzle.specs.declared.items.Item.TheVariants as items
-use Rattle.match_text.specs.declared.ranges.Ranges.{Ranges}
-use Rattle.match_text.specs.declared.faults.TextFault.{TextFault}
-use Rattle.match_text.specs.declared.faults.ReadFault.{ReadFault}
-use Rattle.match_text.specs.declared.faults.ReadFault.TheVariants as faults
-use Rattle.match_text.specs.Words.{number_in}
-use Rattle.match_text.specs.Place.{Place, Read, Reads, go_on, ◌>>=◌, give, word_by, times}
+use Rattle.text_words.specs.declared.ranges.Ranges.{Ranges}
+use Rattle.text_words.specs.declared.faults.TextFault.{TextFault}
+use Rattle.text_words.specs.declared.faults.ReadFault.{ReadFault}
+use Rattle.text_words.specs.declared.faults.ReadFault.TheVariants as faults
+use Rattle.text_words.specs.Words.{number_in}
+use Rattle.text_words.specs.Place.{Place, Read, Reads, go_on, ◌>>=◌, give, word_by, times}
 use Rattle.cert_tree.specs.declared.heads.Head.{Head}
 use Rattle.cert_tree.specs.declared.heads.Head.TheVariants as heads
 use Rattle.cert_tree.specs.declared.tree_readers.NodeKind.{NodeKind}

@@ -6,14 +6,14 @@ use Rattle.std.specs.List.{AllByRecursion, flat_map}
 use Rattle.std.specs.Str.{bytes_eq}
 use Rattle.std.proofs.lemmas.Slice.Eq.{bytes_eq-Decides}
 use Rattle.match_puzzle.specs.declared.items.Item.TheVariants as items
-use Rattle.match_text.specs.declared.ranges.Ranges.{Ranges}
-use Rattle.match_text.specs.Ranges.{AreRanges}
-use Rattle.match_text.specs.declared.faults.TextKind.TheVariants.{Word, TooDeep}
-use Rattle.match_text.specs.Words.{number_in}
-use Rattle.match_text.specs.Place.{Place, Read, ◌>>=◌, give, fail, word_by, times}
-use Rattle.match_text.proofs.CutLemmas.{CutsShort, LineOnly, place, bind_ok, ok_is, cuts_bind, cuts_give, cuts_word, cuts_times, cuts_line_only}
-use Rattle.match_text.proofs.WordLemmas.{Spells, judged_ok, judged_ok_is, spells_number, last_fits}
-use Rattle.match_text.proofs.LineLemmas.{TakesWords, takes_word}
+use Rattle.text_words.specs.declared.ranges.Ranges.{Ranges}
+use Rattle.text_words.specs.Ranges.{AreRanges}
+use Rattle.text_words.specs.declared.faults.TextKind.TheVariants.{Word, TooDeep}
+use Rattle.text_words.specs.Words.{number_in}
+use Rattle.text_words.specs.Place.{Place, Read, ◌>>=◌, give, fail, word_by, times}
+use Rattle.text_words.proofs.CutLemmas.{CutsShort, LineOnly, place, bind_ok, ok_is, cuts_bind, cuts_give, cuts_word, cuts_times, cuts_line_only}
+use Rattle.text_words.proofs.WordLemmas.{Spells, judged_ok, judged_ok_is, spells_number, last_fits}
+use Rattle.text_words.proofs.LineLemmas.{TakesWords, takes_word}
 use Rattle.cert_tree.specs.declared.tree_readers.NodeKind.{NodeKind}
 use Rattle.cert_tree.specs.declared.tree_readers.NodeKind.TheVariants.{Cell, Tile, DeadCell, DeadTile, Found, Same, Image}
 use Rattle.cert_tree.specs.Tree.{Tree, Forest, branch, dead, found, same, image, none, more, count}

@@ -4,9 +4,9 @@ use Rattle.std.specs.Prelude.{MatchBool}
 use Rattle.match_board.specs.declared.limits.TheConstants.{MOST_LEMMAS}
 use Rattle.std.proofs.lemmas.Option.{slice_get_within}
 use Rattle.match_board.proofs.ListLemmas.{all_by_place, at_each_place}
-use Rattle.match_text.specs.Ranges.{IsVersion, ranges_of}
-use Rattle.match_text.specs.Spelling.{text_of, first_words, count_words, end_lines}
-use Rattle.match_text.proofs.WritingLemmas.{text_of-append}
+use Rattle.text_words.specs.Ranges.{IsVersion, ranges_of}
+use Rattle.text_words.specs.Spelling.{text_of, first_words, count_words, end_lines}
+use Rattle.text_words.proofs.WritingLemmas.{text_of-append}
 use Rattle.cert_tree.specs.Certificate.{Contents, piece_number, IsNumbered}
 use Rattle.cert_tree.specs.CertificateText.{Makes}
 use Rattle.cert_tree.specs.CertificateSpelling.{symmetry_words, lemma_words, certificate_spelling, front_spelling, lemma_lines}

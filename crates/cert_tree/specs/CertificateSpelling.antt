@@ -6,10 +6,9 @@ use Rattle.match_board.specs.declared.limits.TheConstants.{LAST_LEMMA}
 use Rattle.std.specs.List.{AllByRecursion}
 use Rattle.match_puzzle.specs.declared.placements.Pair.{Pair}
 use Rattle.puzzle_symmetry.specs.declared.lines.SymmetryLine.{SymmetryLine}
-use Rattle.match_text.specs.declared.ranges.Ranges.{Ranges}
-use Rattle.match_text.specs.Ranges.{IsVersion, ranges_of}
-use Rattle.match_text.specs.Spelling.{text_of, colour_word, placement_word, first_words, count_words, end_lines}
-use Rattle.match_text.specs.ListSpelling.{IsPlacementWithin}
+use Rattle.text_words.specs.declared.ranges.Ranges.{Ranges}
+use Rattle.text_words.specs.Ranges.{IsVersion, ranges_of, IsPlacementWithin}
+use Rattle.text_words.specs.Spelling.{text_of, colour_word, placement_word, first_words, count_words, end_lines}
 use Rattle.cert_tree.specs.Certificate.{Piece}
 use Rattle.cert_tree.specs.CertificateText.{Said}
 use Rattle.cert_tree.specs.TreeSpelling.{tree_words, IsTreeWithin}

@@ -4,15 +4,15 @@ use Rattle.match_board.specs.declared.limits.TheConstants.{LAST_SIDE, MOST_COLOU
 use Rattle.match_board.specs.declared.limits.TheConstants.{LAST_LEMMA}
 use Rattle.std.specs.Str.{bytes_eq}
 use Rattle.puzzle_symmetry.specs.declared.lines.SymmetryLine.{SymmetryLine}
-use Rattle.match_text.specs.declared.faults.TextFault.{TextFault}
-use Rattle.match_text.specs.declared.faults.TextKind.{TextKind}
-use Rattle.match_text.specs.declared.faults.TextKind.TheVariants.{Word}
-use Rattle.match_text.specs.declared.ranges.Ranges.{Ranges}
-use Rattle.match_text.specs.declared.ranges.TheConstants.{SECOND}
-use Rattle.match_text.specs.Ranges.{ranges_of}
-use Rattle.match_text.specs.Words.{fixed_in, number_in, colour_in, pair_in}
-use Rattle.match_text.specs.Place.{Read, ◌>>=◌, give, line_of, word_by, entries, opening, counted, closing, end_of_text}
-use Rattle.match_text.specs.Place.{times, start, value_of}
+use Rattle.text_words.specs.declared.faults.TextFault.{TextFault}
+use Rattle.text_words.specs.declared.faults.TextKind.{TextKind}
+use Rattle.text_words.specs.declared.faults.TextKind.TheVariants.{Word}
+use Rattle.text_words.specs.declared.ranges.Ranges.{Ranges}
+use Rattle.text_words.specs.declared.ranges.TheConstants.{SECOND}
+use Rattle.text_words.specs.Ranges.{ranges_of}
+use Rattle.text_words.specs.Words.{fixed_in, number_in, colour_in, pair_in}
+use Rattle.text_words.specs.Place.{Read, ◌>>=◌, give, line_of, word_by, entries, opening, counted, closing, end_of_text}
+use Rattle.text_words.specs.Place.{times, start, value_of}
 use Rattle.cert_tree.specs.declared.faults.AssembleFault.TheVariants.{Memory}
 use Rattle.cert_tree.specs.declared.faults.CertTextFault.{CertTextFault}
 use Rattle.cert_tree.specs.declared.faults.CertTextFault.TheVariants as faults

@@ -1,6 +1,6 @@
 -- Faults of what is read and made, as those of a document.
-use Rattle.match_text.specs.declared.faults.ReadFault.{ReadFault}
-use Rattle.match_text.specs.declared.faults.ReadFault.TheVariants as read
+use Rattle.text_words.specs.declared.faults.ReadFault.{ReadFault}
+use Rattle.text_words.specs.declared.faults.ReadFault.TheVariants as read
 use Rattle.cert_tree.specs.declared.faults.AssembleFault.{AssembleFault}
 use Rattle.cert_tree.specs.declared.faults.AssembleFault.TheVariants as assemble
 use Rattle.cert_tree.specs.declared.faults.CertTextFault.{CertTextFault}

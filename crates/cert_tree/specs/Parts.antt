@@ -1,9 +1,9 @@
 -- A certificate's text whose lemma lines are cut into parts, each read by itself.
 use Rattle.std.specs.Prelude.{◌≡◌, ◌<◌, ℕ, List, [], ◌∷◌, ◌++◌, Result, Ok, Err, Some, length, slice_get, slice_index_or}
-use Rattle.match_text.specs.declared.faults.TextFault.{TextFault}
-use Rattle.match_text.specs.declared.faults.ReadFault.{ReadFault}
-use Rattle.match_text.specs.Ranges.{ranges_of}
-use Rattle.match_text.specs.Place.{Place, Says, closing, times, value_of}
+use Rattle.text_words.specs.declared.faults.TextFault.{TextFault}
+use Rattle.text_words.specs.declared.faults.ReadFault.{ReadFault}
+use Rattle.text_words.specs.Ranges.{ranges_of}
+use Rattle.text_words.specs.Place.{Place, Says, closing, times, value_of}
 use Rattle.cert_tree.specs.declared.parts.CutCertificate.{CutCertificate}
 use Rattle.cert_tree.specs.declared.parts.LemmaPart.{LemmaPart}
 use Rattle.cert_tree.specs.Certificate.{Piece}

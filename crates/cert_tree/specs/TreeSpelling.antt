@@ -3,7 +3,7 @@ use Rattle.std.specs.Prelude.{◌≤◌, ℕ, zero, suc, List, [], ◌∷◌, �
 use Rattle.match_board.specs.declared.limits.TheConstants.{LAST_ARRANGEMENT, LAST_SYMMETRY, LAST_LEMMA}
 use Rattle.match_puzzle.specs.declared.items.Item.{Item}
 use Rattle.match_puzzle.specs.declared.items.Item.TheVariants as items
-use Rattle.match_text.specs.declared.ranges.Ranges.{Ranges}
+use Rattle.text_words.specs.declared.ranges.Ranges.{Ranges}
 use Rattle.cert_tree.specs.Tree.{Tree, Forest, branch, dead, found, same, image, none, more, count}
 
 -- a branch's letter and item

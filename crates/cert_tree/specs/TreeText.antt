@@ -3,12 +3,12 @@ use Rattle.std.specs.Prelude.{ℕ, zero, suc, List, [], ◌∷◌, Result, Ok, E
 use Rattle.match_board.specs.declared.limits.TheConstants.{LAST_ARRANGEMENT, LAST_SYMMETRY, LAST_LEMMA}
 use Rattle.std.specs.Str.{bytes_eq}
 use Rattle.match_puzzle.specs.declared.items.Item.TheVariants as items
-use Rattle.match_text.specs.declared.faults.TextFault.{TextFault}
-use Rattle.match_text.specs.declared.faults.TextKind.{TextKind}
-use Rattle.match_text.specs.declared.faults.TextKind.TheVariants.{Word, TooDeep}
-use Rattle.match_text.specs.declared.ranges.Ranges.{Ranges}
-use Rattle.match_text.specs.Words.{number_in}
-use Rattle.match_text.specs.Place.{Place, Read, ◌>>=◌, give, fail, word_by, times}
+use Rattle.text_words.specs.declared.faults.TextFault.{TextFault}
+use Rattle.text_words.specs.declared.faults.TextKind.{TextKind}
+use Rattle.text_words.specs.declared.faults.TextKind.TheVariants.{Word, TooDeep}
+use Rattle.text_words.specs.declared.ranges.Ranges.{Ranges}
+use Rattle.text_words.specs.Words.{number_in}
+use Rattle.text_words.specs.Place.{Place, Read, ◌>>=◌, give, fail, word_by, times}
 use Rattle.cert_tree.specs.declared.tree_readers.NodeKind.{NodeKind}
 use Rattle.cert_tree.specs.declared.tree_readers.NodeKind.TheVariants.{Cell, Tile, DeadCell, DeadTile, Found, Same}
 use Rattle.cert_tree.specs.declared.tree_readers.NodeKind.TheVariants.{Image}

@@ -6,9 +6,9 @@ ghost use Rattle.cert_tree.specs.CertificateSpelling.{IsLemmaWithin};
 
 use crate::certificates::Lemma;
 use crate::conversions::{flat_lemmas, owned_lemma};
-use match_text::SECOND;
 use std::alloc::{AllocError, Global};
 use std::slice::from_ref;
+use text_words::SECOND;
 
 impl Lemma {
     /// An equal lemma, by a recursion that is as deep as the tree.

@@ -5,8 +5,8 @@ ghost use Rattle.cert_tree.specs.declared.faults.AssembleFault.TheVariants as as
 ghost use Rattle.cert_tree.specs.declared.faults.CertTextFault.TheVariants as texts;
 ghost use Rattle.cert_tree.specs.Faults.{of_certificate_text, of_assembly};
 
-use match_text::{ReadFault, TextFault};
 use std::alloc::{AllocError, AllocFailed};
+use text_words::{ReadFault, TextFault};
 use thiserror::Error;
 
 /// Why lemmas make no certificate, in the order in which it is looked for; each names its least number.

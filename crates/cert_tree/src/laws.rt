@@ -1,13 +1,13 @@
 //! Laws of texts and of heads: nothing is done here, and the contracts say what holds.
 
-ghost use Rattle.match_text.specs.Laws.{ReadsWhatIsSpelled};
+ghost use Rattle.text_words.specs.Laws.{ReadsWhatIsSpelled};
 ghost use Rattle.cert_tree.specs.CertificateText.{lemma_of, certificate_of};
 ghost use Rattle.cert_tree.specs.CertificateSpelling.{lemma_spelling, certificate_spelling, IsLemmaWithin};
 ghost use Rattle.cert_tree.specs.CertificateSpelling.{IsCertificateWithin};
 ghost use Rattle.cert_tree.specs.Laws.{MakesOneInAnyOrder};
 ghost use Rattle.cert_tree.specs.HeadLaws.{HaveOneReading, AreReadBack, AreOfTheirTrees};
 
-use match_text::SECOND;
+use text_words::SECOND;
 
 /// The laws of lemmas and their texts; it does nothing.
 pub fn lemma_laws()

@@ -32,7 +32,7 @@ impl Model for PackedLemma {
 
 impl PackedLemma {
     ghost use Rattle.std.specs.Prelude.{◌≡◌, IfOk};
-    ghost use Rattle.match_text.specs.declared.ranges.TheConstants.{SECOND};
+    ghost use Rattle.text_words.specs.declared.ranges.TheConstants.{SECOND};
     ghost use Rattle.cert_tree.specs.Certificate.{flat_piece, piece_of};
     ghost use Rattle.cert_tree.specs.CertificateSpelling.{IsLemmaWithin};
 

@@ -3,13 +3,13 @@
 ghost use Rattle.std.specs.Prelude.{◌≡◌, ◌+◌, ◌<◌, ◌≤◌, ◌^◌, ℕ, List, Contains, Ok, Err, IfOk, IfErr, IfSome, OnOk};
 ghost use Rattle.std.specs.Prelude.{◌++◌};
 ghost use Rattle.std.specs.Prelude.{length, take, drop};
-ghost use Rattle.match_text.specs.Ranges.{IsVersion, AreRanges};
-ghost use Rattle.match_text.specs.Words.{Judges};
-ghost use Rattle.match_text.specs.Place.{Fails, Gives, Reads, Says, fail, times, word_by};
+ghost use Rattle.text_words.specs.Ranges.{IsVersion, AreRanges};
+ghost use Rattle.text_words.specs.Words.{Judges};
+ghost use Rattle.text_words.specs.Place.{Fails, Gives, Reads, Says, fail, times, word_by};
 ghost use Rattle.cert_tree.specs.Certificate.{Piece, piece_of};
 ghost use Rattle.cert_tree.specs.Spans.{piece_in, IsSpan};
-ghost use Rattle.match_text.specs.declared.faults.TextKind.TheVariants as kinds;
-ghost use Rattle.match_text.specs.Bytes.{line_ends};
+ghost use Rattle.text_words.specs.declared.faults.TextKind.TheVariants as kinds;
+ghost use Rattle.text_words.specs.Bytes.{line_ends};
 ghost use Rattle.cert_tree.specs.Lines.{said_of};
 ghost use Rattle.cert_tree.specs.CertificateText.{Said, mirrored_in, symmetry_line, lemma_line, lemma_text, lemma_of};
 ghost use Rattle.cert_tree.specs.CertificateText.{certificate_text, certificate_of, lemmas_then_end, Makes};
@@ -28,11 +28,11 @@ use crate::heads::Head;
 use crate::tree_readers::tree;
 use match_board::limits::{LAST_LEMMA, LAST_SIDE, MOST_LEMMAS, MOST_SYMMETRIES};
 use match_puzzle::Pair;
-use match_text::{
-    Asked, FaultPlace, Ranges, ReadFault, SECOND, Scan, TextFault, TextKind, ranges_of,
-};
 use puzzle_symmetry::{Images, SymmetryLine};
 use std::alloc::Global;
+use text_words::{
+    Asked, FaultPlace, Ranges, ReadFault, SECOND, Scan, TextFault, TextKind, ranges_of,
+};
 
 fn mirrored_word(word: &[u8]) -> Result<bool, TextKind>
     ensures { Judges (λ mirrored. mirrored) result (mirrored_in word.now) }
@@ -46,7 +46,7 @@ fn mirrored_word(word: &[u8]) -> Result<bool, TextKind>
     Err(TextKind::Word)
 }
 
-#[tactic(auto, unfolding(match_text::specs::Place::word_by))]
+#[tactic(auto, unfolding(text_words::specs::Place::word_by))]
 fn mirrored(scan: &mut Scan) -> Result<bool, TextFault>
     ensures { Gives (λ mirrored. mirrored) result scan.new (word_by mirrored_in scan.old) }
 {

@@ -2,7 +2,7 @@
 
 ghost use Rattle.std.specs.Prelude.{◌≡◌, ◌<◌, ◌≤◌, ◌^◌, ◌++◌, ◌∷◌, [], ℕ, Ok, length, map, decimal, IfOk, OnOk};
 ghost use Rattle.std.specs.List.{AllByRecursion};
-ghost use Rattle.match_text.specs.Spelling.{line_text, text_of, spaced, colour_word};
+ghost use Rattle.text_words.specs.Spelling.{line_text, text_of, spaced, colour_word};
 ghost use Rattle.cert_tree.specs.Certificate.{piece_of, flat_piece};
 ghost use Rattle.cert_tree.specs.HeadSpelling.{head_words};
 ghost use Rattle.std.specs.List.{flat_map};
@@ -20,10 +20,11 @@ use crate::heads::Head;
 use crate::within_limits::first_version;
 use match_board::limits::MOST_COLOURS;
 use match_puzzle::Pair;
-use match_text::{SECOND, character, put_end, put_number, put_number_line, put_placement};
+use match_text::put_placement;
 use puzzle_symmetry::SymmetryLine;
 use std::alloc::{AllocError, Global};
 use std::slice::from_ref;
+use text_words::{SECOND, character, put_end, put_number, put_number_line};
 
 // The number behind these bytes.
 fn put_behind(text: &mut Vec<u8>, bytes: &[u8], number: u32) -> Result<(), AllocError>
@@ -34,7 +35,7 @@ fn put_behind(text: &mut Vec<u8>, bytes: &[u8], number: u32) -> Result<(), Alloc
 }
 
 // A head, each word behind a space.
-#[tactic(auto, unfolding(match_text::specs::Spelling::spaced))]
+#[tactic(auto, unfolding(text_words::specs::Spelling::spaced))]
 fn put_head(text: &mut Vec<u8>, head: Head) -> Result<(), AllocError>
     ensures { OnOk result (text.new.items ≡ text.old.items ++ spaced (head_words head)) }
 {
@@ -59,7 +60,7 @@ fn put_head(text: &mut Vec<u8>, head: Head) -> Result<(), AllocError>
 }
 
 // A tree's words are those of its heads.
-#[tactic(auto, unfolding(match_text::specs::Spelling::spaced))]
+#[tactic(auto, unfolding(text_words::specs::Spelling::spaced))]
 fn put_heads(text: &mut Vec<u8>, heads: &[Head]) -> Result<(), AllocError>
     ensures { OnOk result (text.new.items ≡ text.old.items ++ spaced (flat_map head_words heads.now)) }
 {
@@ -78,7 +79,7 @@ pub fn put_pair(text: &mut Vec<u8>, pair: Pair) -> Result<(), AllocError>
     put_placement(text, pair.placement)
 }
 
-#[tactic(auto, unfolding(match_text::specs::Spelling::spaced))]
+#[tactic(auto, unfolding(text_words::specs::Spelling::spaced))]
 fn put_pairs(text: &mut Vec<u8>, pairs: &[Pair]) -> Result<(), AllocError>
     ensures { OnOk result (text.new.items ≡ text.old.items ++ spaced (map pair_word pairs.now)) }
 {
@@ -109,7 +110,7 @@ fn put_lemmas(text: &mut Vec<u8>, lemmas: &Lemmas) -> Result<(), AllocError>
     Ok(())
 }
 
-#[tactic(auto, unfolding(match_text::specs::Spelling::spaced))]
+#[tactic(auto, unfolding(text_words::specs::Spelling::spaced))]
 fn put_numbers(text: &mut Vec<u8>, numbers: &[u16]) -> Result<(), AllocError>
     ensures { OnOk result (text.new.items ≡ text.old.items ++ spaced (map decimal numbers.now)) }
 {
@@ -119,7 +120,7 @@ fn put_numbers(text: &mut Vec<u8>, numbers: &[u16]) -> Result<(), AllocError>
     Ok(())
 }
 
-#[tactic(auto, unfolding(match_text::specs::Spelling::spaced))]
+#[tactic(auto, unfolding(text_words::specs::Spelling::spaced))]
 fn put_colours(text: &mut Vec<u8>, colours: &[u8]) -> Result<(), AllocError>
     requires { AllByRecursion (λ colour. colour < MOST_COLOURS) colours.now }
     ensures { OnOk result (text.new.items ≡ text.old.items ++ spaced (map colour_word colours.now)) }

@@ -1,17 +1,17 @@
 //! Trees are read, node by node in preorder.
 
 ghost use Rattle.std.specs.Prelude.{◌≡◌, ◌+◌, ◌<◌, ◌≤◌, ◌^◌, ◌++◌, Err, OnOk, length, drop};
-ghost use Rattle.match_text.specs.declared.ranges.Ranges.{Ranges as RangesOf};
-ghost use Rattle.match_text.specs.Ranges.{AreRanges};
-ghost use Rattle.match_text.specs.Words.{Judges};
-ghost use Rattle.match_text.specs.Place.{Gives, Reads, times, word_by};
+ghost use Rattle.text_words.specs.declared.ranges.Ranges.{Ranges as RangesOf};
+ghost use Rattle.text_words.specs.Ranges.{AreRanges};
+ghost use Rattle.text_words.specs.Words.{Judges};
+ghost use Rattle.text_words.specs.Place.{Gives, Reads, times, word_by};
 ghost use Rattle.cert_tree.specs.Heads.{trees_in, first, AreOfTree};
 ghost use Rattle.cert_tree.specs.TreeText.{node_kind_in, tree_by};
 ghost use Rattle.cert_tree.specs.HeadReading.{most_of, rest_by, head_by, ReadsOnto, ReadAllOnto};
 
 use crate::heads::Head;
 use match_board::limits::{LAST_ARRANGEMENT, LAST_LEMMA, LAST_SYMMETRY};
-use match_text::{Asked, Ranges, ReadFault, Scan, TextFault, TextKind};
+use text_words::{Asked, Ranges, ReadFault, Scan, TextFault, TextKind};
 
 // The kinds of node that have a letter.
 #[derive(Clone, Copy)]
@@ -43,7 +43,7 @@ fn node_kind_word(word: &[u8]) -> Result<NodeKind, TextKind>
     }
 }
 
-#[tactic(auto, unfolding(match_text::specs::Place::word_by))]
+#[tactic(auto, unfolding(text_words::specs::Place::word_by))]
 fn node_kind(scan: &mut Scan) -> Result<NodeKind, TextFault>
     ensures { Gives (λ kind. kind) result scan.new (word_by node_kind_in scan.old) }
 {

@@ -16,9 +16,9 @@ use crate::flat_lemmas::{FlatLemma, LemmaSpan, Lemmas};
 use crate::heads::Head;
 use match_board::limits::{MOST_ARRANGEMENTS, MOST_LEMMAS};
 use match_puzzle::Pair;
-use match_text::SECOND;
 use puzzle_symmetry::SymmetryLine;
 use std::alloc::{AllocError, Global};
+use text_words::SECOND;
 
 // A number below the count, counted from the other end; another one as it is.
 fn turned_number(count: u32, number: u32) -> u32

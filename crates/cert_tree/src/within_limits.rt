@@ -2,7 +2,7 @@
 
 ghost use Rattle.std.specs.Prelude.{◌≡◌, ◌≢◌, ◌<◌, ◌≤◌, ℕ, List, Ok, IsTrue, MatchBool, length, map};
 ghost use Rattle.std.specs.List.{AllByRecursion};
-ghost use Rattle.match_text.specs.Ranges.{IsVersion, ranges_of};
+ghost use Rattle.text_words.specs.Ranges.{IsVersion, ranges_of};
 ghost use Rattle.cert_tree.specs.Tree.{tree_of, forest_of, count, none};
 ghost use Rattle.cert_tree.specs.Certificate.{piece_of, flat_piece};
 ghost use Rattle.cert_tree.specs.Heads.{first, front, past};
@@ -24,8 +24,8 @@ use match_board::limits::{
     MOST_SYMMETRIES,
 };
 use match_puzzle::Pair;
-use match_text::{Ranges, SECOND, ranges_of};
 use puzzle_symmetry::SymmetryLine;
+use text_words::{Ranges, SECOND, ranges_of};
 
 // Stops below the last level.
 #[cycle(limits)]
@@ -273,7 +273,7 @@ impl Lemma {
 
 impl PackedLemma {
     ghost use Rattle.std.specs.Prelude.{MatchBool};
-    ghost use Rattle.match_text.specs.declared.ranges.TheConstants.{SECOND};
+    ghost use Rattle.text_words.specs.declared.ranges.TheConstants.{SECOND};
     ghost use Rattle.cert_tree.specs.CertificateSpelling.{IsLemmaWithin};
     ghost use Rattle.cert_tree.specs.TreeSpelling.{IsTreeWithin};
 
@@ -311,7 +311,7 @@ impl Certificate {
 
 impl Lemmas {
     ghost use Rattle.std.specs.Prelude.{◌≤◌, MatchBool, length};
-    ghost use Rattle.match_text.specs.Ranges.{IsVersion, ranges_of};
+    ghost use Rattle.text_words.specs.Ranges.{IsVersion, ranges_of};
     ghost use Rattle.cert_tree.specs.CertificateSpelling.{AreWithinBetween};
 
     /// Whether each lemma from this number up to the other, which is left out, has a spelling in the version.

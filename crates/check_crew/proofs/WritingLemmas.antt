@@ -7,8 +7,8 @@ use Rattle.std.proofs.lemmas.List.{append-nil, take_all, take_more}
 use Rattle.std.proofs.lemmas.List.Concat.{flat_map-append}
 use Rattle.match_board.proofs.ListLemmas.{member_at}
 use Rattle.match_board.proofs.Listings.{lt_or_le}
-use Rattle.match_text.specs.Ranges.{ranges_of}
-use Rattle.match_text.specs.Spelling.{text_of}
+use Rattle.text_words.specs.Ranges.{ranges_of}
+use Rattle.text_words.specs.Spelling.{text_of}
 use Rattle.cert_tree.specs.Certificate.{Piece}
 use Rattle.cert_tree.specs.CertificateSpelling.{lemma_lines, AreWithinBetween}
 use Rattle.check_crew.specs.LemmaParts.{part_start, AreCut, AreOfParts, AreLines, TellsOfLimits}

@@ -2,7 +2,7 @@
 use Rattle.std.specs.Prelude.{◌≡◌, ◌≤◌, ◌<◌, ◌+◌, ◌-◌, ℕ, List, Bool, Vec, MatchBool, length, slice_index_or}
 use Rattle.std.specs.declared.alloc.Global.{Global}
 use Rattle.match_board.specs.declared.limits.TheConstants.{MOST_LEMMAS}
-use Rattle.match_text.specs.Ranges.{ranges_of}
+use Rattle.text_words.specs.Ranges.{ranges_of}
 use Rattle.cert_tree.specs.Certificate.{Piece}
 use Rattle.cert_tree.specs.CertificateSpelling.{AreLinesBetween, AreWithinBetween}
 

@@ -4,9 +4,9 @@ use Rattle.std.specs.declared.alloc.Global.{Global}
 use Rattle.match_puzzle.specs.declared.placements.Placement.{Placement}
 use Rattle.match_text.specs.ListSpelling.{IsListWithin, list_spelling}
 use Rattle.match_text.specs.Lists.{list_of}
-use Rattle.match_text.specs.Place.{Says}
-use Rattle.match_text.specs.declared.faults.ReadFault.{ReadFault}
-use Rattle.match_text.specs.declared.ranges.TheConstants.{FIRST, SECOND}
+use Rattle.text_words.specs.Place.{Says}
+use Rattle.text_words.specs.declared.faults.ReadFault.{ReadFault}
+use Rattle.text_words.specs.declared.ranges.TheConstants.{FIRST, SECOND}
 use Rattle.cert_tree.specs.Certificate.{Contents}
 use Rattle.cert_tree.specs.CertificateSpelling.{certificate_spelling, IsCertificateWithin}
 use Rattle.cert_tree.specs.Writing.{said_by}

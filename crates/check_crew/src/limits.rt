@@ -2,7 +2,7 @@
 
 ghost use Rattle.std.specs.Prelude.{◌≤◌, IfOk, MatchBool, length};
 ghost use Rattle.match_board.specs.declared.limits.TheConstants.{MOST_WORKERS};
-ghost use Rattle.match_text.specs.Ranges.{IsVersion};
+ghost use Rattle.text_words.specs.Ranges.{IsVersion};
 ghost use Rattle.cert_tree.specs.CertificateSpelling.{IsCertificateWithin};
 ghost use Rattle.cert_tree.specs.Writing.{said_by};
 ghost use Rattle.check_crew.specs.LemmaParts.{AreCut, AreOfParts, TellsOfLimits};
@@ -23,7 +23,7 @@ struct Limits<'a, 'p> {
 
 impl<'a, 'p> Work for Limits<'a, 'p> {
     ghost use Rattle.std.specs.Prelude.{◌+◌};
-    ghost use Rattle.match_text.specs.Ranges.{IsVersion};
+    ghost use Rattle.text_words.specs.Ranges.{IsVersion};
     ghost use Rattle.check_crew.specs.LemmaParts.{TellsOfLimits, IsPart, part_start};
 
     type R = bool;

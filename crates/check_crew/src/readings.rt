@@ -2,9 +2,9 @@
 
 ghost use Rattle.std.specs.Prelude.{◌≡◌, ◌+◌, ◌<◌, ◌≤◌, ◌^◌, ℕ, Ok, IfOk, length, take};
 ghost use Rattle.match_board.specs.declared.limits.TheConstants.{MOST_LEMMAS, MOST_WORKERS};
-ghost use Rattle.match_text.specs.Bytes.{line_ends};
-ghost use Rattle.match_text.specs.Place.{fail};
-ghost use Rattle.match_text.specs.declared.faults.TextKind.TheVariants as kinds;
+ghost use Rattle.text_words.specs.Bytes.{line_ends};
+ghost use Rattle.text_words.specs.Place.{fail};
+ghost use Rattle.text_words.specs.declared.faults.TextKind.TheVariants as kinds;
 ghost use Rattle.cert_tree.specs.CertificateSpelling.{certificate_spelling, IsCertificateWithin};
 ghost use Rattle.cert_tree.specs.CertificateText.{CertificateGives, Makes, Said, certificate_of};
 ghost use Rattle.cert_tree.specs.Parts.{AreRead, IsReadAt};
@@ -12,10 +12,10 @@ ghost use Rattle.cert_tree.specs.Writing.{said_by};
 
 use crate::orders::run_from_last;
 use cert_tree::{CertTextFault, Certificate, LemmaPart, Lemmas, cut_certificate, read_certificate};
-use match_text::ReadFault;
 use std::alloc::{AllocError, Global};
 use std::thread::Threads;
 use steal_crew::Work;
+use text_words::ReadFault;
 
 // A text of fewer bytes is read by one thread, which is done before others would have started.
 const LEAST_SHARED: usize = 1 << 20;

@@ -4,7 +4,7 @@ ghost use Rattle.std.specs.Prelude.{◌+◌, ◌<◌, ◌≤◌, ◌^◌, IfOk, 
 ghost use Rattle.std.specs.Thread.{IsSync};
 ghost use Rattle.match_board.specs.declared.limits.TheConstants.{MOST_WORKERS};
 ghost use Rattle.match_text.specs.ListSpelling.{IsListWithin};
-ghost use Rattle.match_text.specs.declared.ranges.TheConstants.{SECOND};
+ghost use Rattle.text_words.specs.declared.ranges.TheConstants.{SECOND};
 ghost use Rattle.cert_tree.specs.CertificateSpelling.{IsCertificateWithin};
 ghost use Rattle.cert_tree.specs.CertificateText.{CertificateGives, certificate_of};
 ghost use Rattle.cert_tree.specs.Writing.{said_by};

@@ -1,5 +1,5 @@
 ghost use Rattle.std.specs.Prelude.{◌≡◌, ◌<◌, ◌≤◌, ◌+◌, All, IfOk, length, vec_len};
-ghost use Rattle.match_text.specs.declared.ranges.TheConstants.{SECOND};
+ghost use Rattle.text_words.specs.declared.ranges.TheConstants.{SECOND};
 ghost use Rattle.cert_tree.specs.Certificate.{piece_of};
 ghost use Rattle.cert_tree.specs.CertificateSpelling.{IsLemmaWithin};
 ghost use Rattle.piece_desk.specs.Desks.{IsOf};

@@ -1,7 +1,7 @@
 //! The words of faults, most of which no text brings about.
 
 use match_board::{BoardFault, TileFault, TilesFault};
-use match_text::{TextFault, TextKind};
+use text_words::{TextFault, TextKind};
 use std::test::Fail;
 use xcc_form::{CompileFault, FormFault};
 

@@ -5,7 +5,7 @@ ghost use Rattle.match_puzzle.specs.declared.placements.Pair.{Pair as PlacedPair
 ghost use Rattle.match_puzzle.specs.declared.placements.Placement.{Placement};
 ghost use Rattle.steal_crew.specs.LiveHands.{Gave};
 ghost use Rattle.match_puzzle.specs.Arrangement.{IsArrangement, AreArrangements};
-ghost use Rattle.match_text.specs.declared.ranges.TheConstants.{SECOND};
+ghost use Rattle.text_words.specs.declared.ranges.TheConstants.{SECOND};
 ghost use Rattle.cert_tree.specs.CertificateSpelling.{IsLemmaWithin};
 ghost use Rattle.cert_tree.specs.TreeSpelling.{IsTreeWithin};
 ghost use Rattle.match_crew.specs.Solving.{IsOutcomeOf, IsTreeWithinWith};

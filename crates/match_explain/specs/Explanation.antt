@@ -7,7 +7,7 @@ use Rattle.match_puzzle.specs.Fitting.{AreFitting}
 use Rattle.match_puzzle.specs.declared.items.Item.{Item}
 use Rattle.match_puzzle.specs.declared.items.Item.TheVariants as items
 use Rattle.match_puzzle.specs.declared.placements.Pair.{Pair}
-use Rattle.match_text.specs.Spelling.{spaced}
+use Rattle.text_words.specs.Spelling.{spaced}
 use Rattle.cert_tree.specs.Certificate.{Piece}
 use Rattle.cert_tree.specs.CertificateSpelling.{pair_word}
 use Rattle.cert_tree.specs.Tree.{Tree, branch, dead, found, same, image}

@@ -1,8 +1,9 @@
 //! Documents whose texts are read by lines.
 
 use cert_tree::certificate_fault_place;
-use match_text::{FaultPlace, list_fault_place, puzzle_fault_place};
+use match_text::{list_fault_place, puzzle_fault_place};
 use std::alloc::{AllocError, Global};
+use text_words::FaultPlace;
 
 // The most bytes of a text that is read.
 pub(crate) const LONGEST: usize = 0xffff_fff0;

@@ -2,7 +2,7 @@
 
 use crate::documents::Document;
 use crate::spots::Spot;
-use match_text::Asked;
+use text_words::Asked;
 
 // What a line of the document looks like that begins with this word; none where that is told by the word alone.
 pub(crate) fn form_of(document: Document, opening: &[u8]) -> Option<&'static str> {

@@ -3,7 +3,7 @@
 ghost use Rattle.std.specs.Prelude.{◌≡◌, ◌≢◌, ◌++◌, ◌∷◌, IfOk, OnOk, length, map};
 ghost use Rattle.match_board.specs.Board.{cell_count};
 ghost use Rattle.match_puzzle.specs.Fitting.{IsItem};
-ghost use Rattle.match_text.specs.Spelling.{spaced};
+ghost use Rattle.text_words.specs.Spelling.{spaced};
 ghost use Rattle.cert_tree.specs.CertificateSpelling.{pair_word};
 ghost use Rattle.cert_tree.specs.Heads.{first, put};
 ghost use Rattle.cert_tree.specs.Tree.{Forest, none};
@@ -127,7 +127,7 @@ fn write_fitting(alloc: Global, partial: &Partial<'_>, item: Item) -> Result<Vec
 }
 
 // The pairs, each behind a space.
-#[tactic(auto, unfolding(match_text::specs::Spelling::spaced))]
+#[tactic(auto, unfolding(text_words::specs::Spelling::spaced))]
 fn put_pairs(text: &mut Vec<u8>, mut pairs: FittingPairs) -> Result<(), AllocError>
     ensures { OnOk result (text.new.items ≡ text.old.items ++ spaced (map pair_word pairs)) }
 {

@@ -7,7 +7,7 @@ ghost use Rattle.match_board.specs.declared.limits.TheConstants.{MOST_COLOURS};
 use match_board::Figure;
 use match_board::limits::MOST_COLOURS;
 use match_puzzle::{Placement, Puzzle};
-use match_text::character;
+use text_words::character;
 
 // A side of a cell, as faults name it.
 #[derive(Clone, Copy)]

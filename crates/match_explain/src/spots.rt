@@ -1,8 +1,8 @@
 //! Words of a text, by their lines and their numbers there.
 
 use crate::documents::Document;
-use match_text::FaultPlace;
 use std::alloc::{AllocError, Global};
+use text_words::FaultPlace;
 
 // So many bytes of a word are shown.
 const MOST_SHOWN: usize = 200;

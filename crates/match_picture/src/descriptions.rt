@@ -3,8 +3,8 @@
 ghost use Rattle.std.specs.Prelude.{◌<◌, All, length};
 
 use match_puzzle::{Placement, Puzzle};
-use match_text::character;
 use std::alloc::{AllocError, Global};
+use text_words::character;
 
 /// Each tile with its colours.
 pub fn describe_tiles(alloc: Global, puzzle: &Puzzle) -> Result<String, AllocError> {

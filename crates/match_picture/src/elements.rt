@@ -12,8 +12,8 @@ use crate::forms::{side_of, sides};
 use crate::palette::{fill, is_dark};
 use crate::sites::Site;
 use match_puzzle::Puzzle;
-use match_text::character;
 use std::alloc::{AllocError, Global};
+use text_words::character;
 
 /// Writes the lines as a group with these attributes, or nothing where there are none.
 pub fn put_group(text: &mut Vec<u8>, attributes: &[u8], lines: &[u8]) -> Result<(), AllocError>

@@ -10,9 +10,9 @@ use crate::edges::{edge_of, edge_path};
 use crate::elements::fill_of;
 use crate::forms::side_of;
 use crate::sites::Site;
-use itoa::Buffer;
 use match_puzzle::{Placement, Puzzle};
 use std::alloc::{AllocError, Global};
+use text_words::put_number;
 
 /// The parts of tiles, so turned, each at the site of its place in the list: a line for each tile.
 pub fn part_lines(
@@ -97,15 +97,8 @@ pub fn begin_element(
     let mut text = Vec::from_slice(alloc, b"<path fill=\"#")?;
     text.extend_from_slice(&fill_of(puzzle, colour))?;
     text.extend_from_slice(b"\" d=\"M")?;
-    put_coordinate(&mut text, at.x)?;
+    put_number(&mut text, at.x)?;
     text.push(b' ')?;
-    put_coordinate(&mut text, at.y)?;
+    put_number(&mut text, at.y)?;
     Ok(text)
-}
-
-fn put_coordinate(text: &mut Vec<u8>, number: u64) -> Result<(), AllocError>
-    ensures { OnOk result (text.new.items ≡ text.old.items ++ decimal number) }
-{
-    let mut buffer = Buffer::new();
-    text.extend_from_slice(buffer.format(number).as_bytes())
 }

@@ -7,7 +7,7 @@ use Rattle.clap.specs.declared.error.kind.ErrorKind.TheVariants.{DisplayHelp, Di
 use Rattle.command_words.specs.Commands.{whole_app}
 use Rattle.command_words.specs.Orders.{IsOrder}
 use Rattle.command_words.specs.declared.orders.Order.{Order}
-use Rattle.match_text.specs.Spelling.{line_text}
+use Rattle.text_words.specs.Spelling.{line_text}
 use Rattle.byte_streams.specs.Moves.{FrontOf, Writing}
 use Rattle.match_program.specs.Exits.{fault_exit}
 use Rattle.match_runs.specs.FaultText.{fault_line, memory_words}

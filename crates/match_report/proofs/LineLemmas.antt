@@ -2,8 +2,8 @@
 use Rattle.std.proofs.Common.{◌≡◌, ℕ, List, [], ◌∷◌, ◌++◌, refl, sym, ap, ◌∙◌, append_assoc, map, length, decimal, codes, arith}
 use Rattle.std.specs.List.{join_with_byte}
 use Rattle.std.proofs.lemmas.List.{append-nil}
-use Rattle.match_text.specs.Spelling.{spaced}
-use Rattle.match_text.proofs.WritingLemmas.{spaced-append, line_text-cons}
+use Rattle.text_words.specs.Spelling.{spaced}
+use Rattle.text_words.proofs.WritingLemmas.{spaced-append, line_text-cons}
 use Rattle.match_report.specs.Line.{path_text, dotted}
 
 -- one word more

@@ -2,8 +2,8 @@
 use Rattle.std.proofs.Common.{◌≡◌, ◌<◌, ◌≤◌, ◌+◌, ◌++◌, ℕ, List, [], length, get_or, map, refl, ap, ap₂, sym, subst, ◌∙◌, arith}
 use Rattle.std.specs.List.{enumerate_from}
 use Rattle.std.proofs.lemmas.List.FromFn.{get_or-enumerate_from, length-enumerate_from}
-use Rattle.match_text.specs.Spelling.{line_text, text_of}
-use Rattle.match_text.proofs.WritingLemmas.{first_lines, lines_more, all_lines}
+use Rattle.text_words.specs.Spelling.{line_text, text_of}
+use Rattle.text_words.proofs.WritingLemmas.{first_lines, lines_more, all_lines}
 
 module _ {X : Type 0} (words_of : ℕ × X → List (List ℕ)) (xs : List X) where
   -- the lines of the first i

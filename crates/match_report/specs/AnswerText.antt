@@ -13,7 +13,7 @@ use Rattle.cert_check.specs.declared.faults.Fault.{Fault}
 use Rattle.cert_check.specs.declared.faults.Fault.TheVariants as faults
 use Rattle.cert_check.specs.declared.faults.Answer.{Answer}
 use Rattle.cert_check.specs.declared.faults.Answer.TheVariants.{Complete, Refused}
-use Rattle.match_text.specs.Spelling.{colour_word, line_text}
+use Rattle.text_words.specs.Spelling.{colour_word, line_text}
 use Rattle.match_report.specs.Line.{path_text}
 
 unfoldable pub arrangement_fault_words : ArrangementFault → List (List ℕ)

@@ -4,7 +4,7 @@ use Rattle.std.specs.List.{enumerate_from, range_with_len}
 use Rattle.match_board.specs.Board.{side_count}
 use Rattle.match_puzzle.specs.Puzzle.{Task, colour_of}
 use Rattle.match_puzzle.specs.declared.placements.Placement.{Placement}
-use Rattle.match_text.specs.Spelling.{text_of, placement_word, tile_word}
+use Rattle.text_words.specs.Spelling.{text_of, placement_word, tile_word}
 
 -- the colours that a placed tile shows, by side
 abbrev pub colours_shown : Task → Placement → List ℕ

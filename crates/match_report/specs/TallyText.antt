@@ -1,7 +1,7 @@
 -- How it is printed which worker took what.
 use Rattle.std.specs.Prelude.{ℕ, List, ◌∷◌, map, codes, decimal}
 use Rattle.std.specs.List.{enumerate_from}
-use Rattle.match_text.specs.Spelling.{text_of}
+use Rattle.text_words.specs.Spelling.{text_of}
 
 -- the words of a worker with its number, and then the numbers that it took
 abbrev pub worker_words : ℕ × List ℕ → List (List ℕ)

@@ -1,16 +1,16 @@
 //! How an answer is printed.
 
 ghost use Rattle.std.specs.Prelude.{◌≡◌, ◌++◌, [], ◌∷◌, decimal, IfOk, OnOk};
-ghost use Rattle.match_text.specs.Spelling.{spaced};
+ghost use Rattle.text_words.specs.Spelling.{spaced};
 ghost use Rattle.match_report.specs.AnswerText.{HasLine, HasWords, answer_line, fault_words, node_fault_words};
 ghost use Rattle.match_report.specs.AnswerText.{arrangement_fault_words, symmetry_fault_words, prefix_fault_words};
 
 use crate::lines::Line;
 use cert_check::{Answer, Fault, NodeFault};
 use match_puzzle::{ArrangementFault, PrefixFault};
-use match_text::character;
 use puzzle_symmetry::SymmetryFault;
 use std::alloc::{AllocError, Global};
+use text_words::character;
 
 #[tactic(auto, using(crate::proofs::LineLemmas::line_laws))]
 fn put_numbered(line: &mut Line, word: &[u8], number: u32) -> Result<(), AllocError>

@@ -2,12 +2,13 @@
 
 ghost use Rattle.std.specs.Prelude.{◌≡◌, ◌<◌, ◌++◌, IfOk, OnOk, length};
 ghost use Rattle.match_puzzle.specs.Arrangement.{IsArrangement};
-ghost use Rattle.match_text.specs.Spelling.{line_text, tile_word};
+ghost use Rattle.text_words.specs.Spelling.{line_text, tile_word};
 ghost use Rattle.match_report.specs.BoardText.{colours_shown, cell_words, board_text};
 
 use match_puzzle::{Placement, Puzzle};
-use match_text::{character, put_number, put_placement};
+use match_text::put_placement;
 use std::alloc::{AllocError, Global};
+use text_words::{character, put_number};
 
 // The colours that the placed tile shows, as a tile's word.
 fn put_shown(text: &mut Vec<u8>, puzzle: &Puzzle, placement: Placement) -> Result<(), AllocError>
@@ -20,7 +21,7 @@ fn put_shown(text: &mut Vec<u8>, puzzle: &Puzzle, placement: Placement) -> Resul
     Ok(())
 }
 
-#[tactic(auto, unfolding(match_text::specs::Spelling::line_text))]
+#[tactic(auto, unfolding(text_words::specs::Spelling::line_text))]
 fn put_cell(
     text: &mut Vec<u8>,
     puzzle: &Puzzle,
@@ -30,7 +31,7 @@ fn put_cell(
     requires { placement.tile < length puzzle.now.words }
     ensures { OnOk result (text.new.items ≡ text.old.items ++ line_text (cell_words puzzle.now (cell, placement))) }
 {
-    put_number(text, u32::from(cell))?;
+    put_number(text, u64::from(cell))?;
     text.push(b' ')?;
     put_placement(text, placement)?;
     text.push(b' ')?;

@@ -1,12 +1,12 @@
 //! Lines of words, as they are printed.
 
 ghost use Rattle.std.specs.Prelude.{◌≡◌, ◌++◌, ◌∷◌, [], ℕ, List, IfOk, OnOk, decimal};
-ghost use Rattle.match_text.specs.Spelling.{spaced};
+ghost use Rattle.text_words.specs.Spelling.{spaced};
 ghost use Rattle.match_report.specs.Line.{dotted, label, path_text};
 
-use itoa::Buffer;
 use std::alloc::{AllocError, Global};
 use std::marker::Model;
+use text_words::put_number;
 
 /// A line that is being written, seen as its bytes. Where memory is refused, a part of a word may
 /// have been written.
@@ -21,7 +21,7 @@ impl Model for Line {
     ghost view = { λ line. line.text.items };
 }
 
-#[tactic(auto, unfolding(match_text::specs::Spelling::spaced))]
+#[tactic(auto, unfolding(text_words::specs::Spelling::spaced))]
 impl Line {
     /// A line that begins with this word.
     pub fn new(alloc: Global, word: &[u8]) -> Result<Line, AllocError>
@@ -43,8 +43,8 @@ impl Line {
     pub fn number(&mut self, number: u32) -> Result<(), AllocError>
         ensures { OnOk result (self.new ≡ self.old ++ spaced (decimal number ∷ [])) }
     {
-        let mut buffer = Buffer::new();
-        self.word(buffer.format(number).as_bytes())
+        self.text.push(b' ')?;
+        put_number(&mut self.text, u64::from(number))
     }
 
     /// One number more, with a colon behind it.
@@ -80,10 +80,8 @@ impl Line {
     fn dotted_number(&mut self, number: u16) -> Result<(), AllocError>
         ensures { OnOk result (self.new ≡ self.old ++ 46 ∷ decimal number) }
     {
-        let mut buffer = Buffer::new();
         self.text.push(b'.')?;
-        self.text
-            .extend_from_slice(buffer.format(number).as_bytes())
+        put_number(&mut self.text, u64::from(number))
     }
 
     /// The LF that ends the line.

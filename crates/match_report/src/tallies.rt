@@ -1,12 +1,12 @@
 //! How it is printed which worker took what.
 
 ghost use Rattle.std.specs.Prelude.{◌≡◌, ◌<◌, ◌++◌, ◌^◌, IfOk, OnOk, decimal, length, map};
-ghost use Rattle.match_text.specs.Spelling.{line_text, spaced};
+ghost use Rattle.text_words.specs.Spelling.{line_text, spaced};
 ghost use Rattle.match_report.specs.TallyText.{worker_words, tally_text};
 
-use match_text::put_number;
 use std::alloc::{AllocError, Global};
 use std::marker::Model;
+use text_words::put_number;
 
 /// The numbers that a worker took, in the order of taking.
 #[derive(Debug, Drop)]
@@ -39,13 +39,13 @@ impl Taken {
 }
 
 // Numbers with a space before each.
-#[tactic(auto, unfolding(match_text::specs::Spelling::spaced))]
+#[tactic(auto, unfolding(text_words::specs::Spelling::spaced))]
 fn put_numbers(text: &mut Vec<u8>, numbers: &[u32]) -> Result<(), AllocError>
     ensures { OnOk result (text.new.items ≡ text.old.items ++ spaced (map decimal numbers.now)) }
 {
     for number in numbers {
         text.push(b' ')?;
-        put_number(text, *number)?;
+        put_number(text, u64::from(*number))?;
     }
     Ok(())
 }
@@ -54,7 +54,7 @@ fn put_worker(text: &mut Vec<u8>, worker: u32, taken: &Taken) -> Result<(), Allo
     ensures { OnOk result (text.new.items ≡ text.old.items ++ line_text (worker_words (worker, taken.now))) }
 {
     text.extend_from_slice(b"worker ")?;
-    put_number(text, worker)?;
+    put_number(text, u64::from(worker))?;
     text.extend_from_slice(b" took")?;
     put_numbers(text, taken.numbers())?;
     text.push(b'\n')?;

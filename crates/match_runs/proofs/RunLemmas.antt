@@ -15,9 +15,10 @@ use Rattle.puzzle_symmetry.specs.declared.faults.SymmetryFault.{SymmetryFault}
 use Rattle.puzzle_symmetry.specs.declared.faults.SymmetryFault.TheVariants as symmetries
 use Rattle.puzzle_symmetry.proofs.FaultLemmas.{few_colours}
 use Rattle.puzzle_symmetry.proofs.Reaching.{reached_is}
-use Rattle.match_text.specs.ListSpelling.{IsPlacementWithin, IsRowWithin, IsListWithin}
-use Rattle.match_text.specs.declared.ranges.TheConstants.{SECOND}
-use Rattle.match_text.specs.declared.faults.TextFault.{TextFault}
+use Rattle.match_text.specs.ListSpelling.{IsRowWithin, IsListWithin}
+use Rattle.text_words.specs.declared.ranges.TheConstants.{SECOND}
+use Rattle.text_words.specs.declared.faults.TextFault.{TextFault}
+use Rattle.text_words.specs.Ranges.{IsPlacementWithin}
 use Rattle.cert_tree.specs.Certificate.{Contents, Piece}
 use Rattle.cert_tree.specs.CertificateText.{Said, Makes, CertificateGives}
 use Rattle.cert_tree.specs.declared.faults.AssembleFault.{AssembleFault}

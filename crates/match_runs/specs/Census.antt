@@ -4,7 +4,7 @@ use Rattle.match_puzzle.specs.Arrangement.{IsArrangement, HasArrangements}
 use Rattle.match_puzzle.specs.Puzzle.{Task}
 use Rattle.match_puzzle.specs.Numbers.{AreMoreThan}
 use Rattle.match_text.specs.Puzzles.{PuzzleReads}
-use Rattle.match_text.specs.Spelling.{line_text}
+use Rattle.text_words.specs.Spelling.{line_text}
 use Rattle.match_show.specs.Facts.{number_line}
 use Rattle.xcc_form.specs.Options.{Compiled, HasTooManyEntries}
 use Rattle.match_census.specs.Branches.{WeightedBranch, HaveTogether, IsSplit, IsTotal, every}

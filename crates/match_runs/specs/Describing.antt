@@ -5,11 +5,11 @@ use Rattle.match_puzzle.specs.Puzzle.{Task}
 use Rattle.match_puzzle.specs.Prefix.{empty_prefix}
 use Rattle.match_text.specs.Puzzles.{PuzzleReads}
 use Rattle.match_text.specs.declared.faults.PuzzleTextFault.TheVariants as puzzles
-use Rattle.match_text.specs.declared.ranges.TheConstants.{SECOND}
+use Rattle.text_words.specs.declared.ranges.TheConstants.{SECOND}
 use Rattle.match_picture.specs.Pictures.{IsPuzzlePicture}
 use Rattle.match_show.specs.Drawing.{IsDrawing}
 use Rattle.match_show.specs.Facts.{IsEstimateLine, IsFacts, number_line}
-use Rattle.match_text.specs.Spelling.{line_text}
+use Rattle.text_words.specs.Spelling.{line_text}
 use Rattle.xcc_form.specs.Options.{Compiled, HasTooManyEntries, IsCompiled, entries_of}
 use Rattle.puzzle_symmetry.specs.Symmetry.{IsSymmetry}
 use Rattle.puzzle_symmetry.specs.declared.lines.SymmetryLine.{SymmetryLine}

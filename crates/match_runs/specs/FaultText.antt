@@ -6,13 +6,13 @@ use Rattle.match_board.specs.declared.classes.TilesFault.{TilesFault}
 use Rattle.match_board.specs.declared.classes.TilesFault.TheVariants as tile_lists
 use Rattle.match_puzzle.specs.declared.faults.PuzzleFault.{PuzzleFault}
 use Rattle.match_puzzle.specs.declared.faults.PuzzleFault.TheVariants as puzzles
-use Rattle.match_text.specs.declared.faults.TextKind.{TextKind}
-use Rattle.match_text.specs.declared.faults.TextKind.TheVariants as kinds
-use Rattle.match_text.specs.declared.faults.TextFault.{TextFault}
+use Rattle.text_words.specs.declared.faults.TextKind.{TextKind}
+use Rattle.text_words.specs.declared.faults.TextKind.TheVariants as kinds
+use Rattle.text_words.specs.declared.faults.TextFault.{TextFault}
 use Rattle.match_text.specs.declared.faults.PuzzleTextFault.{PuzzleTextFault}
 use Rattle.match_text.specs.declared.faults.PuzzleTextFault.TheVariants as puzzle_text
-use Rattle.match_text.specs.declared.faults.ReadFault.{ReadFault}
-use Rattle.match_text.specs.declared.faults.ReadFault.TheVariants as list_text
+use Rattle.text_words.specs.declared.faults.ReadFault.{ReadFault}
+use Rattle.text_words.specs.declared.faults.ReadFault.TheVariants as list_text
 use Rattle.cert_tree.specs.declared.faults.AssembleFault.{AssembleFault}
 use Rattle.cert_tree.specs.declared.faults.AssembleFault.TheVariants as assemblies
 use Rattle.cert_tree.specs.declared.faults.CertTextFault.{CertTextFault}
@@ -32,7 +32,7 @@ use Rattle.byte_streams.specs.declared.faults.InputFault.TheVariants as inputs
 use Rattle.match_runs.specs.declared.faults.RunFault.{RunFault}
 use Rattle.match_runs.specs.declared.faults.RunFault.TheVariants.{Read, TooLong, Puzzle, List as Listing, Certificate, NoArrangement, Arrangement}
 use Rattle.match_runs.specs.declared.faults.RunFault.TheVariants.{Solve, Expand, Tiles, Write, Memory}
-use Rattle.match_text.specs.Spelling.{line_text}
+use Rattle.text_words.specs.Spelling.{line_text}
 use Rattle.match_report.specs.Line.{label}
 use Rattle.match_report.specs.AnswerText.{arrangement_fault_words}
 

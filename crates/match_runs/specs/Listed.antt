@@ -7,7 +7,7 @@ use Rattle.match_puzzle.specs.declared.placements.Placement.{Placement}
 use Rattle.match_show.specs.Arrangement.{IsDrawnArrangement}
 use Rattle.match_text.specs.Lists.{list_of}
 use Rattle.match_text.specs.Puzzles.{PuzzleReads}
-use Rattle.match_text.specs.declared.faults.ReadFault.TheVariants as lists
+use Rattle.text_words.specs.declared.faults.ReadFault.TheVariants as lists
 use Rattle.byte_streams.specs.declared.documents.TwoTexts.{TwoTexts}
 use Rattle.match_runs.specs.Describing.{DescribeFails}
 use Rattle.match_runs.specs.declared.faults.RunFault.{RunFault}

@@ -2,7 +2,7 @@
 
 ghost use Rattle.std.specs.Prelude.{◌≡◌, ◌∷◌, [], IfOk, decimal};
 ghost use Rattle.match_puzzle.specs.Puzzle.{IsPuzzle};
-ghost use Rattle.match_text.specs.Spelling.{line_text};
+ghost use Rattle.text_words.specs.Spelling.{line_text};
 ghost use Rattle.byte_streams.specs.Moves.{reading_of, writing_of};
 ghost use Rattle.byte_streams.specs.Origins.{one_source};
 ghost use Rattle.byte_streams.specs.Targets.{one_sink};
@@ -22,8 +22,9 @@ use match_puzzle::{Partial, Puzzle};
 use match_report::Line;
 use match_show::{write_drawing, write_estimate, write_facts};
 use match_symmetry::suggest;
-use match_text::{put_number_line, read_puzzle};
+use match_text::read_puzzle;
 use std::alloc::{AllocError, Global};
+use text_words::put_number_line;
 use xcc_form::{CompileFault, compile};
 
 /// What is written of a puzzle.
@@ -123,7 +124,7 @@ fn option_lines(alloc: Global, options: u32, items: u32) -> Result<Vec<u8>, Allo
     ensures { IfOk result (λ text. text.items ≡ options_text options items) }
 {
     let mut text = Vec::new(alloc);
-    put_number_line(&mut text, b"options", options)?;
+    put_number_line(&mut text, b"options", u64::from(options))?;
     let items = ratio_line(alloc, b"items", items, b"of", MOST_ENTRIES as u32)?;
     text.extend_from_slice(&items)?;
     Ok(text)

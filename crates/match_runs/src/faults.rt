@@ -1,7 +1,7 @@
 //! What may go wrong with a run, and how that is printed.
 
 ghost use Rattle.std.specs.Prelude.{◌≡◌, ◌++◌, ◌∷◌, [], codes, decimal, IfOk};
-ghost use Rattle.match_text.specs.Spelling.{line_text};
+ghost use Rattle.text_words.specs.Spelling.{line_text};
 ghost use Rattle.match_report.specs.Line.{label};
 ghost use Rattle.match_runs.specs.FaultText.{document_word, kind_word, board_fault_word, memory_words, fault_line};
 ghost use Rattle.match_runs.specs.FaultText.{text_fault_words, puzzle_fault_words, puzzle_text_fault_words};
@@ -18,8 +18,9 @@ use match_board::{BoardFault, TilesFault};
 use match_crew::SolveFault;
 use match_puzzle::{ArrangementFault, PuzzleFault};
 use match_report::{ExpandFault, Line, put_arrangement_fault};
-use match_text::{ListTextFault, PuzzleTextFault, TextFault, TextKind};
+use match_text::{ListTextFault, PuzzleTextFault};
 use std::alloc::{AllocError, Global};
+use text_words::{TextFault, TextKind};
 use xcc_form::CompileFault;
 
 /// Why a run stopped.

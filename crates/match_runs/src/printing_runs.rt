@@ -265,7 +265,7 @@ fn write_count(alloc: Global, counted: Count, symmetries: u64) -> Result<Vec<u8>
     Ok(text)
 }
 
-#[tactic(auto, unfolding(match_text::specs::Spelling::text_of, match_text::specs::Spelling::line_text))]
+#[tactic(auto, unfolding(text_words::specs::Spelling::text_of, text_words::specs::Spelling::line_text))]
 pub(crate) fn put_count_line(text: &mut Vec<u8>, word: &[u8], number: u64) -> Result<(), AllocError>
     ensures { OnOk result (text.new.items ≡ text.old.items ++ number_line word.now number) }
 {

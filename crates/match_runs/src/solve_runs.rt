@@ -2,7 +2,7 @@
 
 ghost use Rattle.std.specs.Prelude.{◌≡◌, ◌≤◌, IfOk, length};
 ghost use Rattle.match_text.specs.ListSpelling.{IsListWithin};
-ghost use Rattle.match_text.specs.declared.ranges.TheConstants.{SECOND};
+ghost use Rattle.text_words.specs.declared.ranges.TheConstants.{SECOND};
 ghost use Rattle.match_puzzle.specs.Arrangement.{AreArrangements};
 ghost use Rattle.byte_streams.specs.Moves.{reading_of, writing_of};
 ghost use Rattle.byte_streams.specs.Origins.{one_source};
@@ -25,10 +25,11 @@ use match_board::limits::MOST_WORKERS;
 use match_crew::{Solved, Unwatched, solve_watched, write_texts_with};
 use match_puzzle::{Arrangement, Puzzle};
 use match_report::{Taken, write_board, write_tally};
-use match_text::{put_number_line, read_puzzle};
+use match_text::read_puzzle;
 use std::alloc::{AllocError, Global};
 use std::sync::Wait;
 use std::thread::Threads;
+use text_words::put_number_line;
 
 /// By what a puzzle is searched.
 #[derive(Clone, Copy, PartialEq, Eq, Debug)]
@@ -180,8 +181,8 @@ fn report_on(
         ≡ report_text puzzle.now listed.now (length certificate.now.lemmas) shares.now) }
 {
     let mut text = Vec::new(alloc);
-    put_number_line(&mut text, b"found", listed.len() as u32)?;
-    put_number_line(&mut text, b"lemmas", certificate.lemmas().len() as u32)?;
+    put_number_line(&mut text, b"found", listed.len() as u64)?;
+    put_number_line(&mut text, b"lemmas", certificate.lemmas().len() as u64)?;
     text.extend_from_slice(&write_tally(alloc, shares)?)?;
     text.extend_from_slice(&board_of_first(alloc, puzzle, listed)?)?;
     Ok(text)

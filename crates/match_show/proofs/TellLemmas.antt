@@ -7,7 +7,7 @@ use Rattle.std.proofs.lemmas.List.{append_cancel_left}
 use Rattle.match_board.specs.Board.{side_count}
 use Rattle.match_puzzle.proofs.Prefixes.{inside}
 use Rattle.match_puzzle.specs.Prefix.{Layout}
-use Rattle.match_text.specs.Spelling.{colour_character}
+use Rattle.text_words.specs.Spelling.{colour_character}
 use Rattle.match_show.specs.declared.faces.Face.{Face}
 use Rattle.match_show.specs.declared.squares.Part.{Part}
 use Rattle.match_show.specs.declared.squares.Part.TheVariants.{Top, Middle, Bottom}

@@ -4,7 +4,7 @@ use Rattle.match_board.specs.Board.{side_count}
 use Rattle.match_puzzle.specs.Puzzle.{Task, HasRule, colour_of}
 use Rattle.match_puzzle.specs.Prefix.{Layout, Has, IsFree}
 use Rattle.match_puzzle.specs.declared.placements.Placement.{Placement}
-use Rattle.match_text.specs.Spelling.{colour_character}
+use Rattle.text_words.specs.Spelling.{colour_character}
 use Rattle.match_show.specs.declared.faces.Face.{Face}
 
 -- The sign at a side of an empty cell: the colour that the border asks of it, or a space where it asks none.

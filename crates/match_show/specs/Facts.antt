@@ -5,7 +5,7 @@ use Rattle.std.specs.List.{flat_map, range_with_len}
 use Rattle.match_board.specs.Board.{cell_count, IsBorderOrder}
 use Rattle.match_puzzle.specs.Puzzle.{Task, BorderRule, free, one, each}
 use Rattle.match_puzzle.specs.Colours.{IsColourCount}
-use Rattle.match_text.specs.Spelling.{colour_character, count_words, text_of}
+use Rattle.text_words.specs.Spelling.{colour_character, count_words, text_of}
 
 abbrev pub is_colour : (colour other : ℕ) → Bool
 is_colour colour other = other == colour

@@ -3,11 +3,11 @@
 ghost use Rattle.std.specs.Prelude.{◌≡◌, ◌<◌, ℕ, slice_index};
 ghost use Rattle.match_board.specs.Board.{cell_count, side_count};
 ghost use Rattle.match_puzzle.specs.Puzzle.{IsPuzzle, IsLegal, colour_of};
-ghost use Rattle.match_text.specs.Spelling.{colour_character};
+ghost use Rattle.text_words.specs.Spelling.{colour_character};
 ghost use Rattle.match_show.specs.Face.{IsFace, IsRuleSign};
 
 use match_puzzle::{Partial, Placement, Puzzle};
-use match_text::character;
+use text_words::character;
 
 /// What is seen of a cell: its number, whether it is marked, the tile that stands there, and a sign at each side.
 #[derive(Clone, Copy, Debug)]

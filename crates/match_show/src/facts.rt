@@ -6,12 +6,11 @@ ghost use Rattle.match_board.specs.Tile.{word};
 ghost use Rattle.match_puzzle.specs.Puzzle.{Task, IsPuzzle, rule_of};
 ghost use Rattle.match_show.specs.Facts.{IsFacts, border_count, tile_count, colour_line, is_colour, is_rule};
 
-use itoa::Buffer;
 use match_board::Tile;
 use match_board::limits::{MOST_COLOURS, MOST_TILES};
 use match_puzzle::{Border, Puzzle};
-use match_text::{character, put_number_line};
 use std::alloc::{AllocError, Global};
+use text_words::{character, put_number, put_number_line};
 
 /// Facts of a puzzle: the lines `cells N`, `tiles N` and `colours N`, and for each colour C, from 0 on, a line
 /// `colour C: N on the border, N on tiles` with how many outer sides ask for it, and how many sides of tiles have it.
@@ -24,10 +23,10 @@ pub fn write_facts(alloc: Global, puzzle: &Puzzle) -> Result<Vec<u8>, AllocError
     let mut text = Vec::new(alloc);
     let board = puzzle.board();
     let colours = puzzle.colours();
-    put_number_line(&mut text, b"cells", u32::from(board.cells()))?;
+    put_number_line(&mut text, b"cells", u64::from(board.cells()))?;
     // a puzzle has as many tiles as cells
-    put_number_line(&mut text, b"tiles", u32::from(board.cells()))?;
-    put_number_line(&mut text, b"colours", u32::from(colours))?;
+    put_number_line(&mut text, b"tiles", u64::from(board.cells()))?;
+    put_number_line(&mut text, b"colours", u64::from(colours))?;
     put_colour_lines(&mut text, puzzle, board.border_len(), colours)?;
     Ok(text)
 }
@@ -63,18 +62,10 @@ fn put_colour_line(
     text.extend_from_slice(b"colour ")?;
     text.push(character(colour))?;
     text.extend_from_slice(b": ")?;
-    put_count(text, on_border(puzzle.border(), outer, colour))?;
+    put_number(text, on_border(puzzle.border(), outer, colour) as u64)?;
     text.extend_from_slice(b" on the border, ")?;
-    put_count(text, on_tiles(puzzle.tiles(), colour))?;
+    put_number(text, on_tiles(puzzle.tiles(), colour) as u64)?;
     text.extend_from_slice(b" on tiles\n")?;
-    Ok(())
-}
-
-fn put_count(text: &mut Vec<u8>, count: usize) -> Result<(), AllocError>
-    ensures { OnOk result (text.new.items ≡ text.old.items ++ decimal count) }
-{
-    let mut buffer = Buffer::new();
-    text.extend_from_slice(buffer.format(count).as_bytes())?;
     Ok(())
 }
 

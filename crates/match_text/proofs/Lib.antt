@@ -1,13 +1,4 @@
-pub mod RangesLemmas
-pub mod BytesLemmas
-pub mod FrontLemmas
-pub mod LoopLemmas
-pub mod WordLemmas
-pub mod CutLemmas
-pub mod LineLemmas
 pub mod ListLemmas
-pub mod TextLaws
-pub mod WritingLemmas
 pub mod ColourLemmas
 pub mod ShapeLemmas
 pub mod BoardLineLemmas

@@ -1,9 +1,9 @@
 -- Each puzzle is within the limits of its text.
 use Rattle.std.proofs.Common.{Bool, ◌≡◌, ◌⊎◌, ◌<◌, ◌≤◌, ◌+◌, ◌*◌, ℕ, zero, suc, List, [], ◌∷◌, All, length, get_or, Option, Some, None, arith, refl, sym, subst, inl, inr, ⊎_elim}
 use Rattle.match_board.specs.declared.limits.TheConstants.{MOST_PLAIN_CELLS, MOST_PLACES, MOST_LENGTH, MOST_COLOURS}
-use Rattle.match_text.specs.declared.ranges.Ranges.{Ranges}
-use Rattle.match_text.specs.Ranges.{IsVersion, ranges_of, AreRanges}
-use Rattle.match_text.proofs.RangesLemmas.{are_ranges, second_is}
+use Rattle.text_words.specs.declared.ranges.Ranges.{Ranges}
+use Rattle.text_words.specs.Ranges.{IsVersion, ranges_of, AreRanges}
+use Rattle.text_words.proofs.RangesLemmas.{are_ranges, second_is}
 use Rattle.std.specs.Prelude.{slice_get, slice_index_or}
 use Rattle.std.specs.List.{AllByRecursion}
 use Rattle.std.proofs.lemmas.List.{get_or_default}

@@ -1,10 +1,10 @@
 -- What reading a puzzle comes to.
 use Rattle.std.proofs.Common.{◌≡◌, ◌<◌, ◌≤◌, ◌+◌, ◌^◌, ℕ, List, length, take, Result, Ok, Err, sym, ap, subst, ◌∙◌, arith, ⊎_elim}
 use Rattle.match_board.specs.declared.limits.TheConstants.{MOST_COLOURS}
-use Rattle.match_text.specs.declared.ranges.Ranges.{Ranges}
-use Rattle.match_text.specs.Ranges.{ranges_of, AreRanges}
+use Rattle.text_words.specs.declared.ranges.Ranges.{Ranges}
+use Rattle.text_words.specs.Ranges.{ranges_of, AreRanges}
 use Rattle.match_puzzle.specs.Mates.{IsOfVersion}
-use Rattle.match_text.proofs.RangesLemmas.{are_ranges}
+use Rattle.text_words.proofs.RangesLemmas.{are_ranges}
 use Rattle.std.specs.Prelude.{IfOk}
 use Rattle.match_board.specs.declared.boards.BoardFault.{BoardFault}
 use Rattle.match_board.specs.declared.boards.BoardFault.TheVariants.{Empty, TooLarge}
@@ -12,18 +12,18 @@ use Rattle.match_puzzle.specs.Puzzle.{Task, BorderRule, free, one, each, IsPuzzl
 use Rattle.match_puzzle.specs.PuzzleFaults.{PuzzleFails}
 use Rattle.match_puzzle.specs.declared.faults.PuzzleFault.{PuzzleFault}
 use Rattle.match_puzzle.specs.declared.faults.PuzzleFault.TheVariants as puzzle
-use Rattle.match_text.specs.declared.faults.TextFault.{TextFault}
-use Rattle.match_text.specs.declared.faults.TextKind.TheVariants.{Ends}
+use Rattle.text_words.specs.declared.faults.TextFault.{TextFault}
+use Rattle.text_words.specs.declared.faults.TextKind.TheVariants.{Ends}
 use Rattle.match_text.specs.declared.faults.PuzzleTextFault.{PuzzleTextFault}
 use Rattle.match_text.specs.declared.faults.PuzzleTextFault.TheVariants as faults
-use Rattle.match_text.specs.Bytes.{line_ends}
-use Rattle.match_text.specs.Place.{fail}
+use Rattle.text_words.specs.Bytes.{line_ends}
+use Rattle.text_words.specs.Place.{fail}
 use Rattle.match_text.specs.Puzzles.{puzzle_of, BoardFails, PuzzleReads, PuzzleGives}
 use Rattle.match_text.specs.PuzzleSpelling.{puzzle_spelling, IsFigureWithin, IsBorderWithin, IsTaskWithin}
 use Rattle.match_board.specs.Board.{IsPlain}
 use Rattle.match_board.specs.declared.figures.Figure.{Figure}
 use Rattle.match_board.specs.declared.figures.Figure.TheVariants.{Rectangle, Triangle, Hexagon, Shape}
-use Rattle.match_text.proofs.CutLemmas.{ok_is}
+use Rattle.text_words.proofs.CutLemmas.{ok_is}
 use Rattle.match_text.proofs.PuzzleLemmas.{puzzle_found, puzzle_only, puzzle_short}
 use Rattle.match_text.proofs.LimitLemmas.{puzzle_within}
 use Rattle.match_puzzle.proofs.MateLemmas.{not_without}

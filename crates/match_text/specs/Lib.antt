@@ -1,11 +1,5 @@
-pub mod Bytes
-pub mod Ranges
-pub mod Words
-pub mod Place
 pub mod Lists
 pub mod Puzzles
 pub mod Faults
-pub mod Spelling
 pub mod ListSpelling
 pub mod PuzzleSpelling
-pub mod Laws

@@ -1,12 +1,12 @@
 -- The spelling of a list of arrangements in each version.
 use Rattle.std.specs.Prelude.{ℕ, ◌<◌, ◌≤◌, List, [], ◌∷◌, ◌++◌, length, map, codes}
-use Rattle.match_board.specs.declared.limits.TheConstants.{LAST_TURN, MOST_ARRANGEMENTS}
+use Rattle.match_board.specs.declared.limits.TheConstants.{MOST_ARRANGEMENTS}
 use Rattle.std.specs.List.{AllByRecursion}
 use Rattle.match_puzzle.specs.declared.placements.Placement.{Placement}
-use Rattle.match_text.specs.declared.ranges.Ranges.{Ranges}
-use Rattle.match_text.specs.Ranges.{IsVersion, ranges_of}
+use Rattle.text_words.specs.declared.ranges.Ranges.{Ranges}
+use Rattle.text_words.specs.Ranges.{IsVersion, ranges_of, IsPlacementWithin}
 use Rattle.match_text.specs.Lists.{ListSaid}
-use Rattle.match_text.specs.Spelling.{text_of, placement_word, first_words, count_words, end_lines}
+use Rattle.text_words.specs.Spelling.{text_of, placement_word, first_words, count_words, end_lines}
 
 abbrev pub arrangement_words : List Placement → List (List ℕ)
 arrangement_words row = map placement_word row
@@ -25,9 +25,6 @@ abbrev pub said_spelling : ListSaid → List ℕ
 said_spelling said = list_spelling said.version said.rows
 
 -- ---- what has a spelling
-
-abbrev pub IsPlacementWithin : Ranges → Placement → Type 0
-IsPlacementWithin ranges p = (p.tile ≤ ranges.last_cell) × (p.turn ≤ LAST_TURN)
 
 -- at least one placement
 abbrev pub IsRowWithin : Ranges → List Placement → Type 0

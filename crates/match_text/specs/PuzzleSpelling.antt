@@ -8,9 +8,9 @@ use Rattle.match_board.specs.declared.figures.Figure.TheVariants.{Rectangle, Tri
 use Rattle.match_board.specs.Board.{MarksItsPlaces}
 use Rattle.match_puzzle.specs.Mates.{Mating, IsOfVersion}
 use Rattle.match_puzzle.specs.Puzzle.{Task, BorderRule, free, one, each}
-use Rattle.match_text.specs.declared.ranges.Ranges.{Ranges}
-use Rattle.match_text.specs.Ranges.{ranges_of}
-use Rattle.match_text.specs.Spelling.{text_of, colour_word, rule_word, tile_word, first_words, count_words, end_lines}
+use Rattle.text_words.specs.declared.ranges.Ranges.{Ranges}
+use Rattle.text_words.specs.Ranges.{ranges_of}
+use Rattle.text_words.specs.Spelling.{text_of, colour_word, rule_word, tile_word, first_words, count_words, end_lines}
 
 abbrev pub mates_words : List ℕ → List (List ℕ)
 mates_words mates = codes "mates" ∷ map colour_word mates

@@ -14,10 +14,10 @@ use Rattle.match_board.specs.declared.boards.BoardFault.TheVariants.{Empty, TooL
 use Rattle.match_puzzle.specs.Mates.{Mating, unmated, mated, mating_of}
 use Rattle.match_puzzle.specs.Puzzle.{Task, BorderRule, free, one, each, rule_of, IsPuzzle}
 use Rattle.match_puzzle.specs.PuzzleFaults.{PuzzleFails, puzzle_rank}
-use Rattle.match_text.specs.declared.faults.TextFault.{TextFault}
-use Rattle.match_text.specs.declared.faults.TextKind.{TextKind}
-use Rattle.match_text.specs.declared.faults.TextKind.TheVariants.{Word}
-use Rattle.match_text.specs.declared.faults.ReadFault.{ReadFault}
+use Rattle.text_words.specs.declared.faults.TextFault.{TextFault}
+use Rattle.text_words.specs.declared.faults.TextKind.{TextKind}
+use Rattle.text_words.specs.declared.faults.TextKind.TheVariants.{Word}
+use Rattle.text_words.specs.declared.faults.ReadFault.{ReadFault}
 use Rattle.match_text.specs.declared.faults.PuzzleTextFault.{PuzzleTextFault}
 use Rattle.match_text.specs.declared.faults.PuzzleTextFault.TheVariants as faults
 use Rattle.match_text.specs.declared.puzzles.BoardKind.{BoardKind}
@@ -27,11 +27,11 @@ use Rattle.match_text.specs.declared.puzzles.BoardLine.TheVariants as lines
 use Rattle.match_text.specs.declared.puzzles.BorderKind.{BorderKind}
 use Rattle.match_text.specs.declared.puzzles.BorderKind.TheVariants as kinds
 use Rattle.match_text.specs.declared.puzzles.PuzzleText as code
-use Rattle.match_text.specs.declared.ranges.Ranges.{Ranges}
-use Rattle.match_text.specs.Ranges.{ranges_of}
-use Rattle.match_text.specs.Words.{fixed_in, number_in, marks_in, colour_in, rule_in, tile_in}
-use Rattle.match_text.specs.Place.{Place, Read, ◌>>=◌, give, line_of, word_by, entries, some_entries, opening, counted}
-use Rattle.match_text.specs.Place.{closing, times, start, value_of, Fails}
+use Rattle.text_words.specs.declared.ranges.Ranges.{Ranges}
+use Rattle.text_words.specs.Ranges.{ranges_of}
+use Rattle.text_words.specs.Words.{fixed_in, number_in, marks_in, colour_in, rule_in, tile_in}
+use Rattle.text_words.specs.Place.{Place, Read, ◌>>=◌, give, line_of, word_by, entries, some_entries, opening, counted}
+use Rattle.text_words.specs.Place.{closing, times, start, value_of, Fails}
 
 -- ---- the board
 

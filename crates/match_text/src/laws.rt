@@ -1,6 +1,6 @@
 //! Laws of texts: nothing is done here, and the contracts say what holds.
 
-ghost use Rattle.match_text.specs.Laws.{ReadsWhatIsSpelled};
+ghost use Rattle.text_words.specs.Laws.{ReadsWhatIsSpelled};
 ghost use Rattle.match_text.specs.Lists.{list_said};
 ghost use Rattle.match_text.specs.ListSpelling.{said_spelling, IsSaidWithin};
 ghost use Rattle.match_text.specs.Puzzles.{puzzle_of};

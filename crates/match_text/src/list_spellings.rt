@@ -4,15 +4,15 @@ ghost use Rattle.std.specs.Prelude.{◌≡◌, ◌≢◌, ◌<◌, ◌≤◌, �
 ghost use Rattle.std.specs.Prelude.{IfOk, OnOk, MatchBool};
 ghost use Rattle.std.specs.List.{list_all, AllByRecursion};
 ghost use Rattle.match_text.specs.Lists.{list_of};
-ghost use Rattle.match_text.specs.Spelling.{line_text, text_of, space_before, placement_word};
-ghost use Rattle.match_text.specs.ListSpelling.{arrangement_words, list_head, list_spelling, IsPlacementWithin};
+ghost use Rattle.text_words.specs.Spelling.{line_text, text_of, space_before, placement_word};
+ghost use Rattle.text_words.specs.Ranges.{IsPlacementWithin};
+ghost use Rattle.match_text.specs.ListSpelling.{arrangement_words, list_head, list_spelling};
 ghost use Rattle.match_text.specs.ListSpelling.{IsRowWithin, IsListWithin};
 
-use crate::ranges::{FIRST, Ranges, SECOND};
-use crate::spellings::{put_end, put_number, put_number_line};
 use match_board::limits::{LAST_TURN, MOST_ARRANGEMENTS};
 use match_puzzle::{Arrangement, Placement};
 use std::alloc::{AllocError, Global};
+use text_words::{FIRST, Ranges, SECOND, put_end, put_number, put_number_line};
 
 fn is_placement_within(ranges: &Ranges, placement: &Placement) -> bool
     ensures { MatchBool result (IsPlacementWithin ranges.now placement.now)
@@ -65,9 +65,9 @@ pub fn list_within_limits(list: &[Arrangement]) -> bool
 pub fn put_placement(text: &mut Vec<u8>, placement: Placement) -> Result<(), AllocError>
     ensures { OnOk result (text.new.items ≡ text.old.items ++ placement_word placement) }
 {
-    put_number(text, u32::from(placement.tile))?;
+    put_number(text, u64::from(placement.tile))?;
     text.push(b'.')?;
-    put_number(text, u32::from(placement.turn))?;
+    put_number(text, u64::from(placement.turn))?;
     Ok(())
 }
 
@@ -82,7 +82,7 @@ fn put_next(text: &mut Vec<u8>, index: usize, placement: Placement) -> Result<()
     Ok(())
 }
 
-#[tactic(auto, unfolding(crate::specs::Spelling::line_text))]
+#[tactic(auto, unfolding(text_words::specs::Spelling::line_text))]
 fn put_row(text: &mut Vec<u8>, row: &[Placement]) -> Result<(), AllocError>
     ensures { OnOk result (text.new.items ≡ text.old.items ++ line_text (arrangement_words row.now)) }
 {
@@ -108,8 +108,8 @@ fn list_text(alloc: Global, version: u8, list: &[Arrangement]) -> Result<Vec<u8>
     ensures { IfOk result (λ text. text.items ≡ list_spelling version list.now) }
 {
     let mut text = Vec::new(alloc);
-    put_number_line(&mut text, b"list", u32::from(version))?;
-    put_number_line(&mut text, b"arrangements", list.len() as u32)?;
+    put_number_line(&mut text, b"list", u64::from(version))?;
+    put_number_line(&mut text, b"arrangements", list.len() as u64)?;
     put_rows(&mut text, list)?;
     put_end(&mut text)?;
     Ok(text)

@@ -1,23 +1,21 @@
 //! Lists of arrangements are read.
 
 ghost use Rattle.std.specs.Prelude.{◌≡◌, ◌+◌, ◌<◌, ◌^◌, ℕ, List, Ok, Err, IfOk, IfSome, length, take};
-ghost use Rattle.match_text.specs.Ranges.{AreRanges};
-ghost use Rattle.match_text.specs.declared.ranges.TheConstants.{SECOND};
-ghost use Rattle.match_text.specs.Words.{placement_in};
-ghost use Rattle.match_text.specs.Place.{Reads, Says, entries, some_entries, times, fail};
+ghost use Rattle.text_words.specs.Ranges.{AreRanges};
+ghost use Rattle.text_words.specs.declared.ranges.TheConstants.{SECOND};
+ghost use Rattle.text_words.specs.Words.{placement_in};
+ghost use Rattle.text_words.specs.Place.{Reads, Says, entries, some_entries, times, fail};
 ghost use Rattle.match_puzzle.specs.declared.placements.Placement.{Placement as PlacementOf};
-ghost use Rattle.match_text.specs.Bytes.{line_ends};
-ghost use Rattle.match_text.specs.declared.faults.TextKind.TheVariants as kinds;
+ghost use Rattle.text_words.specs.Bytes.{line_ends};
+ghost use Rattle.text_words.specs.declared.faults.TextKind.TheVariants as kinds;
 ghost use Rattle.match_text.specs.ListSpelling.{list_spelling, IsListWithin, IsSpelledIn};
 ghost use Rattle.match_text.specs.Lists.{arrangement_line, list_text, list_of, list_said, said_of};
 
-use crate::asked::FaultPlace;
-use crate::faults::{ListTextFault, ReadFault};
-use crate::ranges::{Ranges, ranges_of};
-use crate::scans::Scan;
+use crate::faults::ListTextFault;
 use match_board::limits::MOST_ARRANGEMENTS;
 use match_puzzle::{Arrangement, Placement};
 use std::alloc::Global;
+use text_words::{FaultPlace, Ranges, ReadFault, Scan, ranges_of};
 
 // The bytes of a line of two placements.
 const SHORT_LINE: usize = 8;
@@ -44,7 +42,7 @@ fn placements(scan: &mut Scan, ranges: &Ranges, row: &mut Vec<Placement>) -> Res
     Ok(())
 }
 
-#[tactic(auto, unfolding(crate::specs::Place::some_entries))]
+#[tactic(auto, unfolding(text_words::specs::Place::some_entries))]
 fn some_placements(
     scan: &mut Scan,
     ranges: &Ranges,

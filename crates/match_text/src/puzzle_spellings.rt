@@ -9,52 +9,52 @@ ghost use Rattle.match_board.specs.Tile.{word as colours_of};
 ghost use Rattle.match_puzzle.specs.Mates.{mating_of};
 ghost use Rattle.match_puzzle.specs.Puzzle.{rule_of, each, one, free};
 ghost use Rattle.match_text.specs.Puzzles.{PuzzleReads};
-ghost use Rattle.match_text.specs.Spelling.{line_text, text_of, colour_character, colour_word, rule_word};
-ghost use Rattle.match_text.specs.Spelling.{tile_word};
+ghost use Rattle.text_words.specs.Spelling.{line_text, text_of, colour_character, colour_word, rule_word};
+ghost use Rattle.text_words.specs.Spelling.{tile_word};
 ghost use Rattle.match_text.specs.PuzzleSpelling.{mark_character, row_words, row_lines, board_lines};
 ghost use Rattle.match_text.specs.PuzzleSpelling.{board_words, turns_words, border_words, tile_words, puzzle_spelling};
 ghost use Rattle.match_text.specs.PuzzleSpelling.{IsRuleWithin, AreRulesWithin, mates_words, mates_lines};
 
-use crate::spellings::{character, put_end, put_number, put_number_line};
 use match_board::limits::MOST_COLOURS;
 use match_board::{Board, Figure, Tile};
 use match_puzzle::{Border, Puzzle};
 use std::alloc::{AllocError, Global};
+use text_words::{character, put_end, put_number, put_number_line};
 
-#[tactic(auto, unfolding(crate::specs::Spelling::text_of, crate::specs::Spelling::line_text))]
+#[tactic(auto, unfolding(text_words::specs::Spelling::text_of, text_words::specs::Spelling::line_text))]
 fn put_rectangle(text: &mut Vec<u8>, width: u16, height: u16) -> Result<(), AllocError>
     ensures { OnOk result (text.new.items ≡ text.old.items ++ text_of (board_words (Rectangle width height) ∷ [])) }
 {
     text.extend_from_slice(b"board rect ")?;
-    put_number(text, u32::from(width))?;
+    put_number(text, u64::from(width))?;
     text.push(b' ')?;
-    put_number(text, u32::from(height))?;
+    put_number(text, u64::from(height))?;
     text.push(b'\n')?;
     Ok(())
 }
 
-#[tactic(auto, unfolding(crate::specs::Spelling::text_of, crate::specs::Spelling::line_text))]
+#[tactic(auto, unfolding(text_words::specs::Spelling::text_of, text_words::specs::Spelling::line_text))]
 fn put_triangle(text: &mut Vec<u8>, size: u16) -> Result<(), AllocError>
     ensures { OnOk result (text.new.items ≡ text.old.items ++ text_of (board_words (Triangle size) ∷ [])) }
 {
-    put_number_line(text, b"board triangle", u32::from(size))
+    put_number_line(text, b"board triangle", u64::from(size))
 }
 
-#[tactic(auto, unfolding(crate::specs::Spelling::text_of, crate::specs::Spelling::line_text))]
+#[tactic(auto, unfolding(text_words::specs::Spelling::text_of, text_words::specs::Spelling::line_text))]
 fn put_hexagon(text: &mut Vec<u8>, size: u16) -> Result<(), AllocError>
     ensures { OnOk result (text.new.items ≡ text.old.items ++ text_of (board_words (Hexagon size) ∷ [])) }
 {
-    put_number_line(text, b"board hexagon", u32::from(size))
+    put_number_line(text, b"board hexagon", u64::from(size))
 }
 
-#[tactic(auto, unfolding(crate::specs::Spelling::text_of, crate::specs::Spelling::line_text))]
+#[tactic(auto, unfolding(text_words::specs::Spelling::text_of, text_words::specs::Spelling::line_text))]
 fn put_shape(text: &mut Vec<u8>, width: u16, height: u16) -> Result<(), AllocError>
     ensures { OnOk result (text.new.items ≡ text.old.items ++ text_of (board_words (Shape width height []) ∷ [])) }
 {
     text.extend_from_slice(b"board shape ")?;
-    put_number(text, u32::from(width))?;
+    put_number(text, u64::from(width))?;
     text.push(b' ')?;
-    put_number(text, u32::from(height))?;
+    put_number(text, u64::from(height))?;
     text.push(b'\n')?;
     Ok(())
 }
@@ -68,7 +68,7 @@ fn put_marks(text: &mut Vec<u8>, row: &[bool]) -> Result<(), AllocError>
     Ok(())
 }
 
-#[tactic(auto, unfolding(crate::specs::Spelling::line_text))]
+#[tactic(auto, unfolding(text_words::specs::Spelling::line_text))]
 fn put_row(text: &mut Vec<u8>, row: &[bool]) -> Result<(), AllocError>
     ensures { OnOk result (text.new.items ≡ text.old.items ++ line_text (row_words row.now)) }
 {
@@ -111,7 +111,7 @@ fn put_board(text: &mut Vec<u8>, board: &Board) -> Result<(), AllocError>
     }
 }
 
-#[tactic(auto, unfolding(crate::specs::Spelling::text_of, crate::specs::Spelling::line_text))]
+#[tactic(auto, unfolding(text_words::specs::Spelling::text_of, text_words::specs::Spelling::line_text))]
 fn put_turns(text: &mut Vec<u8>, turns: bool) -> Result<(), AllocError>
     ensures { OnOk result (text.new.items ≡ text.old.items ++ text_of (turns_words turns ∷ [])) }
 {
@@ -123,7 +123,7 @@ fn put_turns(text: &mut Vec<u8>, turns: bool) -> Result<(), AllocError>
     Ok(())
 }
 
-#[tactic(auto, unfolding(crate::specs::Spelling::text_of, crate::specs::Spelling::line_text))]
+#[tactic(auto, unfolding(text_words::specs::Spelling::text_of, text_words::specs::Spelling::line_text))]
 fn put_free(text: &mut Vec<u8>) -> Result<(), AllocError>
     ensures { OnOk result (text.new.items ≡ text.old.items ++ text_of (border_words free ∷ [])) }
 {
@@ -131,7 +131,7 @@ fn put_free(text: &mut Vec<u8>) -> Result<(), AllocError>
     Ok(())
 }
 
-#[tactic(auto, unfolding(crate::specs::Spelling::text_of, crate::specs::Spelling::line_text))]
+#[tactic(auto, unfolding(text_words::specs::Spelling::text_of, text_words::specs::Spelling::line_text))]
 fn put_one(text: &mut Vec<u8>, colour: u8) -> Result<(), AllocError>
     requires { colour < MOST_COLOURS }
     ensures { OnOk result (text.new.items ≡ text.old.items ++ text_of (border_words (one colour) ∷ [])) }
@@ -199,7 +199,7 @@ fn put_mates(text: &mut Vec<u8>, mates: &[u8]) -> Result<(), AllocError>
 }
 
 // The line of the mates, if the version has one.
-#[tactic(auto, unfolding(crate::specs::Spelling::text_of))]
+#[tactic(auto, unfolding(text_words::specs::Spelling::text_of))]
 fn put_mating(text: &mut Vec<u8>, version: u8, mates: &[u8]) -> Result<(), AllocError>
     requires { AllByRecursion (λ colour. colour < MOST_COLOURS) mates.now }
     ensures { OnOk result (text.new.items ≡ text.old.items ++ text_of (mates_lines (mating_of version mates.now))) }
@@ -220,7 +220,7 @@ pub fn put_colours(text: &mut Vec<u8>, tile: &Tile) -> Result<(), AllocError>
     Ok(())
 }
 
-#[tactic(auto, unfolding(crate::specs::Spelling::line_text))]
+#[tactic(auto, unfolding(text_words::specs::Spelling::line_text))]
 fn put_tile(text: &mut Vec<u8>, tile: &Tile) -> Result<(), AllocError>
     ensures { OnOk result (text.new.items ≡ text.old.items ++ line_text (tile_words (colours_of tile.now))) }
 {
@@ -247,12 +247,12 @@ pub fn write_puzzle(alloc: Global, puzzle: &Puzzle) -> Result<Vec<u8>, AllocErro
     let mut text = Vec::new(alloc);
     let board = puzzle.board();
     let tiles = puzzle.tiles();
-    put_number_line(&mut text, b"match", u32::from(puzzle.version()))?;
+    put_number_line(&mut text, b"match", u64::from(puzzle.version()))?;
     put_board(&mut text, board)?;
     put_turns(&mut text, puzzle.turns())?;
     put_border(&mut text, puzzle.border())?;
     put_mating(&mut text, puzzle.version(), puzzle.mates())?;
-    put_number_line(&mut text, b"tiles", tiles.len() as u32)?;
+    put_number_line(&mut text, b"tiles", tiles.len() as u64)?;
     put_tiles(&mut text, tiles)?;
     put_end(&mut text)?;
     Ok(text)

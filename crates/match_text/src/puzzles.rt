@@ -8,27 +8,26 @@ ghost use Rattle.match_board.specs.First.{IsFirst};
 ghost use Rattle.match_puzzle.specs.Mates.{mating_of, IsOfVersion};
 ghost use Rattle.match_puzzle.specs.Puzzle.{Task, IsPuzzle, IsShortRule, rule_of};
 ghost use Rattle.match_puzzle.specs.PuzzleFaults.{PuzzleFails, puzzle_rank};
-ghost use Rattle.match_text.specs.declared.faults.TextKind.TheVariants as kinds;
-ghost use Rattle.match_text.specs.Bytes.{line_ends};
-ghost use Rattle.match_text.specs.Ranges.{IsVersion};
+ghost use Rattle.text_words.specs.declared.faults.TextKind.TheVariants as kinds;
+ghost use Rattle.text_words.specs.Bytes.{line_ends};
+ghost use Rattle.text_words.specs.Ranges.{IsVersion};
 ghost use Rattle.match_text.specs.PuzzleSpelling.{puzzle_spelling, IsTaskWithin};
-ghost use Rattle.match_text.specs.Words.{Judges, number_in, marks_in, is_cell, colour_in, rule_in};
-ghost use Rattle.match_text.specs.Place.{Gives, Reads, Says, times, entries, some_entries, word_by, fail};
+ghost use Rattle.text_words.specs.Words.{Judges, number_in, marks_in, is_cell, colour_in, rule_in};
+ghost use Rattle.text_words.specs.Place.{Gives, Reads, Says, times, entries, some_entries, word_by, fail};
 ghost use Rattle.match_text.specs.Puzzles.{board_kind_in, board_size, board_line, turns_in, turns_line, border_kind_in};
 ghost use Rattle.match_text.specs.Puzzles.{border_rule, border_line, tile_line, puzzle_text, puzzle_of, view_of};
 ghost use Rattle.match_text.specs.Puzzles.{row_line, shape_rows, board_rows, figure_of, HasItsMarks, AddsRow};
 ghost use Rattle.match_text.specs.Puzzles.{BoardFails, mates_line, mating_part};
 ghost use Rattle.match_text.specs.Puzzles.{PuzzleReads, PuzzleGives};
 
-use crate::asked::{Asked, FaultPlace};
-use crate::faults::{PuzzleTextFault, ReadFault, TextFault, TextKind};
-use crate::ranges::{Ranges, ranges_of};
-use crate::scans::Scan;
-use crate::words::row_word;
+use crate::faults::PuzzleTextFault;
 use match_board::limits::{MOST_COLOURS, MOST_LENGTH, MOST_PLACES};
 use match_board::{Board, BoardFault, Figure, Tile};
 use match_puzzle::{Border, BorderRules, Puzzle, PuzzleFault};
 use std::alloc::{AllocError, Global};
+use text_words::{
+    Asked, FaultPlace, Ranges, ReadFault, Scan, TextFault, TextKind, ranges_of, row_word,
+};
 
 /// What a text says of a puzzle. There may be no such puzzle.
 #[derive(Drop)]
@@ -101,7 +100,7 @@ fn board_kind_word(word: &[u8], version: u8) -> Result<BoardKind, TextKind>
     Err(TextKind::Word)
 }
 
-#[tactic(auto, unfolding(crate::specs::Place::word_by))]
+#[tactic(auto, unfolding(text_words::specs::Place::word_by))]
 fn board_kind(scan: &mut Scan, version: u8) -> Result<BoardKind, TextFault>
     ensures { Gives (λ kind. kind) result scan.new (word_by (board_kind_in version) scan.old) }
 {
@@ -237,7 +236,7 @@ fn turns_word(word: &[u8]) -> Result<bool, TextKind>
     Err(TextKind::Word)
 }
 
-#[tactic(auto, unfolding(crate::specs::Place::word_by))]
+#[tactic(auto, unfolding(text_words::specs::Place::word_by))]
 fn turns_rule(scan: &mut Scan) -> Result<bool, TextFault>
     ensures { Gives (λ turns. turns) result scan.new (word_by turns_in scan.old) }
 {
@@ -272,7 +271,7 @@ fn border_kind_word(word: &[u8]) -> Result<BorderKind, TextKind>
     Err(TextKind::Word)
 }
 
-#[tactic(auto, unfolding(crate::specs::Place::word_by))]
+#[tactic(auto, unfolding(text_words::specs::Place::word_by))]
 fn border_kind(scan: &mut Scan) -> Result<BorderKind, TextFault>
     ensures { Gives (λ kind. kind) result scan.new (word_by border_kind_in scan.old) }
 {
@@ -294,7 +293,7 @@ fn rules(alloc: Global, scan: &mut Scan, ranges: &Ranges) -> Result<Vec<Option<u
     Ok(rules)
 }
 
-#[tactic(auto, unfolding(crate::specs::Place::some_entries))]
+#[tactic(auto, unfolding(text_words::specs::Place::some_entries))]
 fn some_rules(alloc: Global, scan: &mut Scan, ranges: &Ranges) -> Result<Vec<Option<u8>>, ReadFault>
     ensures { Reads (λ rules. rules.items) result scan.new (some_entries ranges.now.most_rules rule_in scan.old) }
 {

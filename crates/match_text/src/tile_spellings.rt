@@ -2,14 +2,14 @@
 
 ghost use Rattle.std.specs.Prelude.{◌≡◌, ◌++◌, ◌∷◌, [], map, IfOk, OnOk};
 ghost use Rattle.match_board.specs.Tile.{word as colours_of};
-ghost use Rattle.match_text.specs.Spelling.{line_text, text_of};
+ghost use Rattle.text_words.specs.Spelling.{line_text, text_of};
 ghost use Rattle.match_text.specs.PuzzleSpelling.{lone_tile_words, tiles_spelling};
 
 use crate::puzzle_spellings::put_colours;
 use match_board::Tile;
 use std::alloc::{AllocError, Global};
 
-#[tactic(auto, unfolding(crate::specs::Spelling::line_text))]
+#[tactic(auto, unfolding(text_words::specs::Spelling::line_text))]
 fn put_lone_tile(text: &mut Vec<u8>, tile: &Tile) -> Result<(), AllocError>
     ensures { OnOk result (text.new.items ≡ text.old.items ++ line_text (lone_tile_words (colours_of tile.now))) }
 {

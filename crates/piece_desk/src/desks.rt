@@ -11,18 +11,18 @@ use boxcar::tag::Tag;
 use boxcar::{Iter, Keeps, Pushed, Vec as Places};
 use cert_tree::{AssembleFault, Certificate, FlatLemma, Lemma, PackedLemma, assemble_turned};
 use match_board::limits::{MOST_ARRANGEMENTS, MOST_LEMMAS};
-use match_text::SECOND;
 use puzzle_symmetry::SymmetryLine;
 use std::alloc::{AllocError, Global};
 use std::marker::Model;
 use std::sync::Wait;
+use text_words::SECOND;
 
 // Each lemma on a desk is within the limits of its text.
 struct Within;
 
 impl Keeps<Lemma> for Within {
     ghost use Rattle.cert_tree.specs.Certificate.{piece_of};
-    ghost use Rattle.match_text.specs.declared.ranges.TheConstants.{SECOND};
+    ghost use Rattle.text_words.specs.declared.ranges.TheConstants.{SECOND};
     ghost use Rattle.cert_tree.specs.CertificateSpelling.{IsLemmaWithin};
 
     ghost holds = { λ _ _ lemma. IsLemmaWithin SECOND (piece_of lemma) };
@@ -52,7 +52,7 @@ impl Model for Receipt {
     ghost view = { λ receipt. receipt.token };
 
     ghost use Rattle.cert_tree.specs.Certificate.{piece_of};
-    ghost use Rattle.match_text.specs.declared.ranges.TheConstants.{SECOND};
+    ghost use Rattle.text_words.specs.declared.ranges.TheConstants.{SECOND};
     ghost use Rattle.cert_tree.specs.CertificateSpelling.{IsLemmaWithin};
 
     ghost invariant = { λ receipt. IsLemmaWithin SECOND (piece_of receipt.token.value) };
@@ -165,7 +165,7 @@ fn lend_all(alloc: Global, packed: &[PackedLemma]) -> Result<Vec<FlatLemma<'_>>,
 impl<'a> Iterator for Shown<'a> {
     type Item = &'a Lemma;
 
-    ghost use Rattle.match_text.specs.declared.ranges.TheConstants.{SECOND};
+    ghost use Rattle.text_words.specs.declared.ranges.TheConstants.{SECOND};
 
     ghost next_gives = { λ old item new. IfSome item (λ lemma. IsLemmaWithin SECOND (lent_piece lemma))
         × (places_left new ≤ places_left old)

@@ -1,7 +1,7 @@
 //! Desks of lemmas that lie flat, and receipts of what was posted there.
 
 ghost use Rattle.std.specs.Prelude.{All, ◌≡◌, ◌<◌, ◌≤◌, ◌^◌, Ok, Err, IfOk, IfErr, length, map};
-ghost use Rattle.match_text.specs.declared.ranges.TheConstants.{SECOND};
+ghost use Rattle.text_words.specs.declared.ranges.TheConstants.{SECOND};
 ghost use Rattle.cert_tree.specs.Certificate.{flat_piece};
 ghost use Rattle.cert_tree.specs.CertificateSpelling.{IsLemmaWithin};
 ghost use Rattle.cert_tree.specs.TurnedAssembly.{AssemblesTurned};
@@ -11,17 +11,17 @@ use boxcar::tag::Tag;
 use boxcar::{Keeps, Pushed, Vec as Places};
 use cert_tree::{AssembleFault, Certificate, FlatLemma, PackedLemma, assemble_turned};
 use match_board::limits::{MOST_ARRANGEMENTS, MOST_LEMMAS};
-use match_text::SECOND;
 use puzzle_symmetry::SymmetryLine;
 use std::alloc::{AllocError, Global};
 use std::marker::Model;
 use std::sync::Wait;
+use text_words::SECOND;
 
 // Each lemma on a desk is within the limits of its text.
 struct PackedWithin;
 
 impl Keeps<PackedLemma> for PackedWithin {
-    ghost use Rattle.match_text.specs.declared.ranges.TheConstants.{SECOND};
+    ghost use Rattle.text_words.specs.declared.ranges.TheConstants.{SECOND};
     ghost use Rattle.cert_tree.specs.CertificateSpelling.{IsLemmaWithin};
 
     ghost holds = { λ _ _ lemma. IsLemmaWithin SECOND lemma };
@@ -50,7 +50,7 @@ impl Model for FlatReceipt {
 
     ghost view = { λ receipt. receipt.token };
 
-    ghost use Rattle.match_text.specs.declared.ranges.TheConstants.{SECOND};
+    ghost use Rattle.text_words.specs.declared.ranges.TheConstants.{SECOND};
     ghost use Rattle.cert_tree.specs.CertificateSpelling.{IsLemmaWithin};
 
     ghost invariant = { λ receipt. IsLemmaWithin SECOND receipt.token.value };

@@ -5,7 +5,8 @@ use match_board::BoardFault;
 use match_crew::SolveFault;
 use match_puzzle::PuzzleFault;
 use match_runs::{Document, RunFault, fault_text};
-use match_text::{ListTextFault, PuzzleTextFault, TextFault, TextKind};
+use match_text::{ListTextFault, PuzzleTextFault};
+use text_words::{TextFault, TextKind};
 use std::test::Fail;
 
 fn in_list(kind: TextKind) -> RunFault {

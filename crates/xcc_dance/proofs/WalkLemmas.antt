@@ -5,7 +5,7 @@ use Rattle.match_board.specs.declared.limits.TheConstants.{MOST_CELLS, MOST_CHIL
 use Rattle.match_puzzle.specs.declared.placements.Placement.{Placement}
 use Rattle.xcc_form.specs.Options.{cover_of}
 use Rattle.xcc_form.specs.Correspondence.{IsSolutionOf}
-use Rattle.match_text.specs.declared.ranges.TheConstants.{SECOND}
+use Rattle.text_words.specs.declared.ranges.TheConstants.{SECOND}
 use Rattle.match_puzzle.specs.Fitting.{IsNumberOf}
 use Rattle.match_puzzle.specs.declared.items.Item.{Item}
 use Rattle.cert_tree.specs.Tree.{Tree, Forest, branch, dead, found, none, more, count}

@@ -2,7 +2,7 @@
 use Rattle.std.specs.Prelude.{◌≡◌, ◌⊎◌, ◌≤◌, ◌+◌, ◌-◌, ◌*◌, ◌++◌, ℕ, List, Some, Contains, length, slice_get}
 use Rattle.match_board.specs.declared.limits.TheConstants.{MOST_ARRANGEMENTS, MOST_CELLS, MOST_CHILDREN}
 use Rattle.match_puzzle.specs.declared.placements.Placement.{Placement}
-use Rattle.match_text.specs.declared.ranges.TheConstants.{SECOND}
+use Rattle.text_words.specs.declared.ranges.TheConstants.{SECOND}
 use Rattle.cert_tree.specs.Heads.{heads_of, heads_in}
 use Rattle.cert_tree.specs.Tree.{Tree, Forest, count}
 use Rattle.cert_tree.specs.TreeSpelling.{IsTreeWithin, AreTreesWithin}

@@ -1,8 +1,8 @@
 use Rattle.std.proofs.Common.{◌<◌, ◌≤◌, length, sym, ◌∙◌, arith, codes}
 use Rattle.std.proofs.lemmas.Result.{err_from_is_err_and}
-use Rattle.match_text.specs.declared.faults.ReadFault.TheVariants as faults
-use Rattle.match_text.specs.Words.{number_in}
-use Rattle.match_text.proofs.LoopLemmas.{none_read, one_read, entry_fails, too_many, all_read, word_shorter}
+use Rattle.text_words.specs.declared.faults.ReadFault.TheVariants as faults
+use Rattle.text_words.specs.Words.{number_in}
+use Rattle.text_words.proofs.LoopLemmas.{none_read, one_read, entry_fails, too_many, all_read, word_shorter}
 use Rattle.cert_tree.specs.Entries.{entries_before}
 use Rattle.cert_tree.proofs.EntryLemmas.{reads_before}
 use Rattle.cert_tree.proofs.entries.cell_images.Goals as goal

@@ -1,6 +1,6 @@
 use Rattle.std.proofs.Common.{length, codes}
-use Rattle.match_text.specs.Words.{number_in}
-use Rattle.match_text.proofs.LoopLemmas.{AreRead}
+use Rattle.text_words.specs.Words.{number_in}
+use Rattle.text_words.proofs.LoopLemmas.{AreRead}
 use Rattle.cert_tree.specs.Entries.{entries_before}
 use Rattle.cert_tree.proofs.entries.cell_images.Given as goal
 

@@ -1,7 +1,7 @@
 use Rattle.std.proofs.Common.{length, codes}
 use Rattle.match_board.specs.declared.limits.TheConstants.{MOST_COLOURS}
-use Rattle.match_text.specs.Words.{colour_in}
-use Rattle.match_text.proofs.LoopLemmas.{AreRead}
+use Rattle.text_words.specs.Words.{colour_in}
+use Rattle.text_words.proofs.LoopLemmas.{AreRead}
 use Rattle.cert_tree.specs.Entries.{entries_before}
 use Rattle.cert_tree.proofs.entries.colour_images.Given as goal
 

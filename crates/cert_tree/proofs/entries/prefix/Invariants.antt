@@ -1,8 +1,8 @@
 use Rattle.std.proofs.Common.{◌≡◌, ◌++◌, List, length, codes}
 use Rattle.match_puzzle.specs.declared.placements.Pair.{Pair}
-use Rattle.match_text.specs.Words.{pair_in}
+use Rattle.text_words.specs.Words.{pair_in}
 use Rattle.cert_tree.specs.Entries.{entries_before}
-use Rattle.match_text.proofs.LoopLemmas.{AreRead}
+use Rattle.text_words.proofs.LoopLemmas.{AreRead}
 use Rattle.cert_tree.proofs.entries.prefix.Given as goal
 
 -- These pairs were read, and are behind the old ones.

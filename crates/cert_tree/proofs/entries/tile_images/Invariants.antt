@@ -1,7 +1,7 @@
 use Rattle.std.proofs.Common.{length}
-use Rattle.match_text.specs.Words.{number_in}
-use Rattle.match_text.specs.Place.{entries}
-use Rattle.match_text.proofs.LoopLemmas.{AreRead}
+use Rattle.text_words.specs.Words.{number_in}
+use Rattle.text_words.specs.Place.{entries}
+use Rattle.text_words.proofs.LoopLemmas.{AreRead}
 use Rattle.cert_tree.proofs.entries.tile_images.Given as goal
 
 abbrev pub invariant-loop-scan : goal.invariant-loop-scan

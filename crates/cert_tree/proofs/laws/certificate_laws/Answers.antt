@@ -1,4 +1,4 @@
-use Rattle.match_text.proofs.TextLaws.{reads_what_is_spelled}
+use Rattle.text_words.proofs.TextLaws.{reads_what_is_spelled}
 use Rattle.cert_tree.specs.CertificateText.{certificate_of}
 use Rattle.cert_tree.specs.CertificateSpelling.{certificate_spelling, IsCertificateWithin}
 use Rattle.cert_tree.proofs.CertificateTextLemmas.{certificate_found, certificate_only, certificate_short}

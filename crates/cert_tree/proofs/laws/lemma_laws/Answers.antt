@@ -1,5 +1,5 @@
-use Rattle.match_text.specs.declared.ranges.TheConstants.{SECOND}
-use Rattle.match_text.proofs.TextLaws.{reads_what_is_spelled}
+use Rattle.text_words.specs.declared.ranges.TheConstants.{SECOND}
+use Rattle.text_words.proofs.TextLaws.{reads_what_is_spelled}
 use Rattle.cert_tree.specs.CertificateText.{lemma_of}
 use Rattle.cert_tree.specs.CertificateSpelling.{lemma_spelling, IsLemmaWithin}
 use Rattle.cert_tree.proofs.CertificateTextLemmas.{lemma_found, lemma_only, lemma_short}

@@ -1,6 +1,6 @@
 use Rattle.std.proofs.Common.{◌∙◌, ap, subst, sym}
 use Rattle.std.proofs.lemmas.Result.{err_from_is_err_and}
-use Rattle.match_text.specs.Place.{Fails, Place}
+use Rattle.text_words.specs.Place.{Fails, Place}
 use Rattle.cert_tree.specs.declared.parts.CutCertificate.{CutCertificate}
 use Rattle.cert_tree.specs.CertificateText.{certificate_text}
 use Rattle.cert_tree.proofs.PartLemmas.{cut_is, fault_before}

@@ -1,7 +1,7 @@
 use Rattle.std.proofs.Common.{◌≡◌, ◌+◌, ◌-◌, ◌≤◌, Ok, length, ap, arith, subst, sym, ◌∙◌}
 use Rattle.std.proofs.lemmas.List.{length_push}
-use Rattle.match_text.specs.Ranges.{ranges_of}
-use Rattle.match_text.specs.Place.{Place, skip_lines, times}
+use Rattle.text_words.specs.Ranges.{ranges_of}
+use Rattle.text_words.specs.Place.{Place, skip_lines, times}
 use Rattle.cert_tree.specs.CertificateText.{lemma_line}
 use Rattle.cert_tree.specs.Parts.{parts_say}
 use Rattle.cert_tree.specs.declared.parts.LemmaPart.{LemmaPart}

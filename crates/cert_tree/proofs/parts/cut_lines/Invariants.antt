@@ -1,6 +1,6 @@
 use Rattle.std.proofs.Common.{◌≡◌, ◌+◌, ◌≤◌, length}
-use Rattle.match_text.specs.Ranges.{ranges_of}
-use Rattle.match_text.specs.Place.{times}
+use Rattle.text_words.specs.Ranges.{ranges_of}
+use Rattle.text_words.specs.Place.{times}
 use Rattle.cert_tree.specs.CertificateText.{lemma_line}
 use Rattle.cert_tree.specs.Parts.{parts_say}
 use Rattle.cert_tree.proofs.PartLemmas.{followed}

@@ -1,5 +1,5 @@
 use Rattle.std.proofs.Common.{◌≡◌, ◌-◌, ◌≤◌, Ok}
-use Rattle.match_text.specs.Place.{skip_lines}
+use Rattle.text_words.specs.Place.{skip_lines}
 use Rattle.cert_tree.proofs.parts.skip_part.Given as goal
 
 -- So many lines were gone past.

@@ -1,6 +1,6 @@
 use Rattle.std.proofs.Common.{◌≡◌, ◌-◌, map}
-use Rattle.match_text.specs.Place.{times}
-use Rattle.match_text.proofs.LoopLemmas.{with_front}
+use Rattle.text_words.specs.Place.{times}
+use Rattle.text_words.proofs.LoopLemmas.{with_front}
 use Rattle.cert_tree.specs.Spans.{piece_in, AreSpans}
 use Rattle.cert_tree.specs.CertificateText.{lemma_line}
 use Rattle.cert_tree.proofs.readers.read_lemmas.Given as goal

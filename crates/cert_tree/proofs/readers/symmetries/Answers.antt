@@ -1,8 +1,8 @@
 use Rattle.std.proofs.Common.{◌+◌, ◌-◌, arith}
 use Rattle.std.proofs.lemmas.Result.{err_from_is_err_and}
-use Rattle.match_text.specs.Place.{times}
+use Rattle.text_words.specs.Place.{times}
 use Rattle.cert_tree.specs.CertificateText.{symmetry_line}
-use Rattle.match_text.proofs.LoopLemmas.{times_goes_on, times_fail, times_done}
+use Rattle.text_words.proofs.LoopLemmas.{times_goes_on, times_fail, times_done}
 use Rattle.cert_tree.proofs.readers.symmetries.Goals as goal
 
 pub returns-in_err-line : goal.returns-in_err-line

@@ -1,7 +1,7 @@
 use Rattle.std.proofs.Common.{◌≡◌, ◌-◌}
-use Rattle.match_text.specs.Place.{times}
+use Rattle.text_words.specs.Place.{times}
 use Rattle.cert_tree.specs.CertificateText.{symmetry_line}
-use Rattle.match_text.proofs.LoopLemmas.{with_front}
+use Rattle.text_words.proofs.LoopLemmas.{with_front}
 use Rattle.cert_tree.proofs.readers.symmetries.Given as goal
 
 abbrev pub invariant-loop : goal.invariant-loop

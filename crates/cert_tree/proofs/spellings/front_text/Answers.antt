@@ -1,5 +1,5 @@
 use Rattle.std.proofs.Common.{refl}
-use Rattle.match_text.specs.Ranges.{ranges_of}
+use Rattle.text_words.specs.Ranges.{ranges_of}
 use Rattle.cert_tree.specs.CertificateSpelling.{AreColourImagesWithin, IsSymmetryWithin}
 use Rattle.cert_tree.proofs.WiderLemmas.{each_within}
 use Rattle.cert_tree.proofs.spellings.front_text.Goals as goal

@@ -1,5 +1,5 @@
 use Rattle.std.proofs.Common.{◌≡◌, ◌++◌, map, take}
-use Rattle.match_text.specs.Spelling.{spaced, colour_word}
+use Rattle.text_words.specs.Spelling.{spaced, colour_word}
 use Rattle.cert_tree.proofs.spellings.put_colours.Given as goal
 
 abbrev pub invariant-loop-colour : goal.invariant-loop-colour

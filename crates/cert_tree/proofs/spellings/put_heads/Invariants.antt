@@ -1,6 +1,6 @@
 use Rattle.std.proofs.Common.{◌≡◌, ◌++◌, drop}
 use Rattle.std.specs.List.{flat_map}
-use Rattle.match_text.specs.Spelling.{spaced}
+use Rattle.text_words.specs.Spelling.{spaced}
 use Rattle.cert_tree.specs.HeadSpelling.{head_words}
 use Rattle.cert_tree.proofs.spellings.put_heads.Given as goal
 

@@ -1,5 +1,5 @@
 use Rattle.std.proofs.Common.{◌<◌, length, ◌∙◌, arith}
-use Rattle.match_text.proofs.WritingLemmas.{no_line, one_line, all_lines}
+use Rattle.text_words.proofs.WritingLemmas.{no_line, one_line, all_lines}
 use Rattle.cert_tree.specs.Certificate.{flat_piece}
 use Rattle.cert_tree.specs.CertificateSpelling.{lemma_words}
 use Rattle.cert_tree.proofs.SpanLemmas.{read_at}

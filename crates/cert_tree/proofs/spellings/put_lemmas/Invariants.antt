@@ -1,5 +1,5 @@
 use Rattle.std.proofs.Common.{◌≡◌, ◌++◌}
-use Rattle.match_text.proofs.WritingLemmas.{first_lines}
+use Rattle.text_words.proofs.WritingLemmas.{first_lines}
 use Rattle.cert_tree.specs.CertificateSpelling.{lemma_words}
 use Rattle.cert_tree.proofs.spellings.put_lemmas.Given as goal
 

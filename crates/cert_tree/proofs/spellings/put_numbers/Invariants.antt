@@ -1,6 +1,6 @@
 use Rattle.std.proofs.Common.{◌≡◌, ◌++◌, map, take}
 use Rattle.std.specs.Fmt.{decimal}
-use Rattle.match_text.specs.Spelling.{spaced}
+use Rattle.text_words.specs.Spelling.{spaced}
 use Rattle.cert_tree.proofs.spellings.put_numbers.Given as goal
 
 abbrev pub invariant-loop-number : goal.invariant-loop-number

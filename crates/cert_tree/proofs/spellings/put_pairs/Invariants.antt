@@ -1,5 +1,5 @@
 use Rattle.std.proofs.Common.{◌≡◌, ◌++◌, map, take}
-use Rattle.match_text.specs.Spelling.{spaced}
+use Rattle.text_words.specs.Spelling.{spaced}
 use Rattle.cert_tree.specs.CertificateSpelling.{pair_word}
 use Rattle.cert_tree.proofs.spellings.put_pairs.Given as goal
 

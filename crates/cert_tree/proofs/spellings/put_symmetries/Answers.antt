@@ -1,5 +1,5 @@
 use Rattle.std.proofs.Common.{arith}
-use Rattle.match_text.proofs.WritingLemmas.{no_line, one_line}
+use Rattle.text_words.proofs.WritingLemmas.{no_line, one_line}
 use Rattle.cert_tree.specs.CertificateSpelling.{symmetry_words}
 use Rattle.cert_tree.proofs.spellings.put_symmetries.Goals as goal
 

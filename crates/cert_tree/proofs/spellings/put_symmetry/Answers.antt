@@ -1,6 +1,6 @@
 use Rattle.std.proofs.Common.{◌≡◌, ◌++◌, ◌∷◌, [], map, sym, ap, ◌∙◌, refl, codes}
 use Rattle.std.specs.Fmt.{decimal}
-use Rattle.match_text.specs.Spelling.{spaced, colour_word}
+use Rattle.text_words.specs.Spelling.{spaced, colour_word}
 use Rattle.cert_tree.specs.CertificateSpelling.{mirrored_word}
 use Rattle.cert_tree.proofs.SpacedLemmas.{symmetry_parts, ten_parts}
 use Rattle.cert_tree.proofs.spellings.put_symmetry.Goals as goal

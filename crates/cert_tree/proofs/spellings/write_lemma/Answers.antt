@@ -1,8 +1,8 @@
 use Rattle.std.proofs.Common.{sym, ap, ◌∙◌}
-use Rattle.match_text.specs.declared.ranges.TheConstants.{SECOND}
-use Rattle.match_text.proofs.RangesLemmas.{second_are}
-use Rattle.match_text.specs.Spelling.{line_text}
-use Rattle.match_text.proofs.WritingLemmas.{line_alone}
+use Rattle.text_words.specs.declared.ranges.TheConstants.{SECOND}
+use Rattle.text_words.proofs.RangesLemmas.{second_are}
+use Rattle.text_words.specs.Spelling.{line_text}
+use Rattle.text_words.proofs.WritingLemmas.{line_alone}
 use Rattle.cert_tree.specs.Tree.{tree_of}
 use Rattle.cert_tree.specs.Certificate.{Piece, piece_of, flat_piece}
 use Rattle.cert_tree.specs.CertificateText.{lemma_of}

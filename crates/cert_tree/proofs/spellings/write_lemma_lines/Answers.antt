@@ -1,6 +1,6 @@
 use Rattle.std.proofs.Common.{◌<◌, ◌++◌, length, take, append_assoc, ap, sym, ◌∙◌, arith}
-use Rattle.match_text.specs.Spelling.{line_text}
-use Rattle.match_text.proofs.WritingLemmas.{lines_more}
+use Rattle.text_words.specs.Spelling.{line_text}
+use Rattle.text_words.proofs.WritingLemmas.{lines_more}
 use Rattle.cert_tree.specs.Certificate.{flat_piece}
 use Rattle.cert_tree.specs.CertificateSpelling.{lemma_words, lemma_lines}
 use Rattle.cert_tree.proofs.SpanLemmas.{read_at}

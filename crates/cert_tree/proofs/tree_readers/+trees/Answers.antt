@@ -1,7 +1,7 @@
 use Rattle.std.proofs.Common.{◌+◌, ◌-◌, ◌++◌, ◌∷◌, [], refl, sym, subst, arith}
 use Rattle.std.proofs.lemmas.Result.{err_from_is_err_and}
-use Rattle.match_text.specs.Place.{times}
-use Rattle.match_text.proofs.LoopLemmas.{times_goes_on, times_fail, times_done}
+use Rattle.text_words.specs.Place.{times}
+use Rattle.text_words.proofs.LoopLemmas.{times_goes_on, times_fail, times_done}
 use Rattle.cert_tree.specs.HeadReading.{ReadsOnto, ReadAllOnto}
 use Rattle.cert_tree.specs.TreeText.{tree_by}
 use Rattle.cert_tree.proofs.TreeReadingLemmas.{tree_by-head, tree_by-fault, node_onto, pushed}

@@ -2,8 +2,8 @@ use Rattle.std.proofs.Common.{◌≡◌, ◌+◌, ◌-◌, ◌*◌, ◌++◌, Li
 use Rattle.cert_tree.specs.Tree.{Tree}
 use Rattle.cert_tree.specs.Heads.{heads_in}
 use Rattle.cert_tree.specs.TreeText.{forest, tree_by}
-use Rattle.match_text.specs.Place.{times}
-use Rattle.match_text.proofs.LoopLemmas.{with_front}
+use Rattle.text_words.specs.Place.{times}
+use Rattle.text_words.proofs.LoopLemmas.{with_front}
 use Rattle.cert_tree.proofs.tree_readers.+trees.Given as goal
 
 -- the children of a node have one level less

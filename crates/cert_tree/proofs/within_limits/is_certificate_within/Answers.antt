@@ -1,6 +1,6 @@
 use Rattle.std.proofs.Common.{ℕ, List, length, subst}
 use Rattle.std.specs.Prelude.{MatchBool}
-use Rattle.match_text.specs.declared.ranges.Ranges.{Ranges}
+use Rattle.text_words.specs.declared.ranges.Ranges.{Ranges}
 use Rattle.cert_tree.specs.Certificate.{Piece}
 use Rattle.cert_tree.specs.CertificateSpelling.{AreSymmetriesWithin, AreWithinBetween}
 use Rattle.cert_tree.proofs.WholeLemmas.{whole_within}

@@ -1,5 +1,5 @@
 use Rattle.std.proofs.Common.{List, length, subst}
-use Rattle.match_text.specs.Ranges.{ranges_of}
+use Rattle.text_words.specs.Ranges.{ranges_of}
 use Rattle.cert_tree.specs.Certificate.{Piece}
 use Rattle.cert_tree.specs.CertificateSpelling.{AreSymmetriesWithin}
 use Rattle.cert_tree.proofs.WholeLemmas.{whole_within}

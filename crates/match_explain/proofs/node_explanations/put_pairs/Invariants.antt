@@ -1,5 +1,5 @@
 use Rattle.std.proofs.Common.{◌≡◌, ◌++◌, length, map}
-use Rattle.match_text.specs.Spelling.{spaced}
+use Rattle.text_words.specs.Spelling.{spaced}
 use Rattle.cert_tree.specs.CertificateSpelling.{pair_word}
 use Rattle.match_explain.proofs.node_explanations.put_pairs.Given as goal
 

@@ -1,5 +1,5 @@
 use Rattle.std.proofs.Common.{inr}
-use Rattle.match_text.specs.Spelling.{line_text}
+use Rattle.text_words.specs.Spelling.{line_text}
 use Rattle.match_program.proofs.word_runs.tell.Goals as goal
 
 pub returns-in-Err : goal.returns-in-Err

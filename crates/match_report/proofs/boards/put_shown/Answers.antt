@@ -3,7 +3,7 @@ use Rattle.std.specs.List.{range_with_len}
 use Rattle.std.proofs.lemmas.List.{map-append}
 use Rattle.std.proofs.lemmas.List.FromFn.{map-range_with_len_more}
 use Rattle.match_puzzle.specs.Puzzle.{colour_of}
-use Rattle.match_text.specs.Spelling.{colour_character, tile_word}
+use Rattle.text_words.specs.Spelling.{colour_character, tile_word}
 use Rattle.match_report.proofs.boards.put_shown.Goals as goal
 
 pub loop-side-preserved : goal.loop-side-preserved

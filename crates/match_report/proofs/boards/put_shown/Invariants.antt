@@ -1,7 +1,7 @@
 use Rattle.std.proofs.Common.{◌≡◌, ◌++◌, map}
 use Rattle.std.specs.List.{range_with_len}
 use Rattle.match_puzzle.specs.Puzzle.{colour_of}
-use Rattle.match_text.specs.Spelling.{tile_word}
+use Rattle.text_words.specs.Spelling.{tile_word}
 use Rattle.match_report.proofs.boards.put_shown.Given as goal
 
 abbrev pub invariant-loop-side : goal.invariant-loop-side

@@ -1,6 +1,6 @@
 use Rattle.std.proofs.Common.{◌≡◌, ◌<◌, ◌+◌, ◌∷◌, [], ◌++◌, length, get_or, map, decimal, take, sym, ap, ◌∙◌, append_assoc, arith}
 use Rattle.std.proofs.lemmas.List.{map-append, take_more}
-use Rattle.match_text.specs.Spelling.{spaced}
+use Rattle.text_words.specs.Spelling.{spaced}
 use Rattle.match_report.proofs.LineLemmas.{spaced-more}
 use Rattle.match_report.proofs.tallies.put_numbers.Goals as goal
 

@@ -1,5 +1,5 @@
 use Rattle.std.proofs.Common.{◌≡◌, ◌++◌, map, decimal, take}
-use Rattle.match_text.specs.Spelling.{spaced}
+use Rattle.text_words.specs.Spelling.{spaced}
 use Rattle.match_report.proofs.tallies.put_numbers.Given as goal
 
 abbrev pub invariant-loop-number : goal.invariant-loop-number

@@ -1,6 +1,6 @@
 use Rattle.std.proofs.Common.{◌≡◌, ◌∷◌, [], ◌++◌, ℕ, List, map, decimal, codes, append_assoc, refl}
-use Rattle.match_text.specs.Spelling.{line_text, spaced}
-use Rattle.match_text.proofs.WritingLemmas.{joined_spaced}
+use Rattle.text_words.specs.Spelling.{line_text, spaced}
+use Rattle.text_words.proofs.WritingLemmas.{joined_spaced}
 use Rattle.match_report.proofs.tallies.put_worker.Goals as goal
 
 -- a line, as it is written

@@ -1,5 +1,5 @@
 use Rattle.std.proofs.Common.{◌≡◌, ◌++◌, length, sym, ap, ◌∙◌, arith}
-use Rattle.match_text.specs.Spelling.{line_text}
+use Rattle.text_words.specs.Spelling.{line_text}
 use Rattle.match_report.specs.TallyText.{worker_words, tally_text}
 use Rattle.match_report.proofs.NumberedLemmas.{numbered_lines, numbered_all, numbered_more, numbered_none}
 use Rattle.match_report.proofs.tallies.write_tally.Goals as goal

@@ -1,5 +1,5 @@
 use Rattle.std.proofs.Common.{◌≡◌, ◌∙◌, ◌∷◌, [], IfOk, List, ℕ, codes, decimal, subst}
-use Rattle.match_text.specs.Spelling.{line_text}
+use Rattle.text_words.specs.Spelling.{line_text}
 use Rattle.match_runs.proofs.census_runs.write_part.Goals as goal
 
 pub returns : goal.returns

@@ -4,7 +4,7 @@ use Rattle.match_board.specs.declared.limits.TheConstants.{MOST_ARRANGEMENTS}
 use Rattle.match_puzzle.specs.declared.placements.Placement.{Placement}
 use Rattle.puzzle_symmetry.specs.Motion.{Motion}
 use Rattle.match_text.specs.ListSpelling.{IsListWithin}
-use Rattle.match_text.specs.declared.ranges.TheConstants.{SECOND}
+use Rattle.text_words.specs.declared.ranges.TheConstants.{SECOND}
 use Rattle.puzzle_symmetry.specs.Complete.{IsCompleteList}
 use Rattle.cert_check.specs.Setting.{Question, motions_of}
 use Rattle.symmetry_orbits.specs.Closure.{AddsEach}

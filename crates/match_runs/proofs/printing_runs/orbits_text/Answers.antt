@@ -4,7 +4,7 @@ use Rattle.match_board.specs.declared.limits.TheConstants.{MOST_ARRANGEMENTS}
 use Rattle.match_puzzle.specs.Puzzle.{Task}
 use Rattle.match_puzzle.specs.declared.placements.Placement.{Placement}
 use Rattle.match_text.specs.ListSpelling.{IsListWithin}
-use Rattle.match_text.specs.declared.ranges.TheConstants.{SECOND}
+use Rattle.text_words.specs.declared.ranges.TheConstants.{SECOND}
 use Rattle.puzzle_symmetry.specs.Motion.{line_of}
 use Rattle.puzzle_symmetry.specs.declared.lines.SymmetryLine.{SymmetryLine}
 use Rattle.cert_check.specs.Setting.{Question}

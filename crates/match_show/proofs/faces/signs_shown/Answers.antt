@@ -1,6 +1,6 @@
 use Rattle.std.proofs.Common.{◌≢◌, ◌<◌, length, ap, ◌∙◌, below_more, get_or-set_other, arith, length-set}
 use Rattle.std.proofs.lemmas.Grind.{get_or-set_at}
-use Rattle.match_text.specs.Spelling.{colour_character}
+use Rattle.text_words.specs.Spelling.{colour_character}
 use Rattle.match_show.proofs.faces.signs_shown.Goals as goal
 
 pub loop-side-preserved : goal.loop-side-preserved

@@ -1,6 +1,6 @@
 use Rattle.std.proofs.Common.{◌≡◌, ◌<◌, ℕ, get_or, length}
 use Rattle.match_puzzle.specs.Puzzle.{colour_of}
-use Rattle.match_text.specs.Spelling.{colour_character}
+use Rattle.text_words.specs.Spelling.{colour_character}
 use Rattle.match_show.proofs.faces.signs_shown.Given as goal
 
 abbrev pub invariant-loop-side : goal.invariant-loop-side

@@ -1,6 +1,6 @@
 use Rattle.std.proofs.Common.{◌<◌, length, append_assoc, arith}
-use Rattle.match_text.specs.Spelling.{placement_word}
-use Rattle.match_text.proofs.WritingLemmas.{words_more}
+use Rattle.text_words.specs.Spelling.{placement_word}
+use Rattle.text_words.proofs.WritingLemmas.{words_more}
 use Rattle.match_text.proofs.list_spellings.put_row.Goals as goal
 
 pub loop-index-preserved : goal.loop-index-preserved

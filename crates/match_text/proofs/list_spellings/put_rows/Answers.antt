@@ -1,7 +1,7 @@
 use Rattle.std.proofs.Common.{◌++◌, ap, ◌∙◌, arith}
-use Rattle.match_text.specs.Spelling.{line_text}
+use Rattle.text_words.specs.Spelling.{line_text}
 use Rattle.match_text.specs.ListSpelling.{arrangement_words}
-use Rattle.match_text.proofs.WritingLemmas.{no_line, one_line}
+use Rattle.text_words.proofs.WritingLemmas.{no_line, one_line}
 use Rattle.match_text.proofs.list_spellings.put_rows.Goals as goal
 
 pub loop-row-init : goal.loop-row-init

@@ -1,6 +1,6 @@
 use Rattle.std.proofs.Common.{◌≡◌, ◌++◌}
 use Rattle.match_text.specs.ListSpelling.{arrangement_words}
-use Rattle.match_text.proofs.WritingLemmas.{first_lines}
+use Rattle.text_words.proofs.WritingLemmas.{first_lines}
 use Rattle.match_text.proofs.list_spellings.put_rows.Given as goal
 
 abbrev pub invariant-loop-row : goal.invariant-loop-row

@@ -1,8 +1,8 @@
 use Rattle.std.proofs.Common.{◌+◌, ◌-◌, arith}
 use Rattle.std.proofs.lemmas.Result.{err_from_is_err_and}
-use Rattle.match_text.specs.Place.{times}
+use Rattle.text_words.specs.Place.{times}
 use Rattle.match_text.specs.Lists.{arrangement_line}
-use Rattle.match_text.proofs.LoopLemmas.{times_goes_on, times_fail, times_done}
+use Rattle.text_words.proofs.LoopLemmas.{times_goes_on, times_fail, times_done}
 use Rattle.match_text.proofs.lists.arrangements.Goals as goal
 
 pub returns-in_err-arrangement : goal.returns-in_err-arrangement

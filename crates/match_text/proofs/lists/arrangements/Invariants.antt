@@ -1,7 +1,7 @@
 use Rattle.std.proofs.Common.{◌≡◌, ◌-◌}
-use Rattle.match_text.specs.Place.{times}
+use Rattle.text_words.specs.Place.{times}
 use Rattle.match_text.specs.Lists.{arrangement_line}
-use Rattle.match_text.proofs.LoopLemmas.{with_front}
+use Rattle.text_words.proofs.LoopLemmas.{with_front}
 use Rattle.match_text.proofs.lists.arrangements.Given as goal
 
 abbrev pub invariant-loop : goal.invariant-loop

@@ -1,8 +1,8 @@
 use Rattle.std.proofs.Common.{◌≡◌, ◌<◌, ◌∷◌, [], ◌++◌, length, take, slice_index, sym, ap, ◌∙◌, append_assoc, arith}
 use Rattle.match_board.specs.Tile.{word}
 use Rattle.match_board.proofs.TurnsLemmas.{shown-none}
-use Rattle.match_text.specs.Spelling.{colour_character, tile_word}
-use Rattle.match_text.proofs.WritingLemmas.{colours_more}
+use Rattle.text_words.specs.Spelling.{colour_character, tile_word}
+use Rattle.text_words.proofs.WritingLemmas.{colours_more}
 use Rattle.match_text.proofs.puzzle_spellings.put_colours.Goals as goal
 
 pub loop-side-preserved : goal.loop-side-preserved

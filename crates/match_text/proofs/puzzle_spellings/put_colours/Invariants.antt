@@ -1,6 +1,6 @@
 use Rattle.std.proofs.Common.{◌≡◌, ◌++◌, take}
 use Rattle.match_board.specs.Tile.{word}
-use Rattle.match_text.specs.Spelling.{tile_word}
+use Rattle.text_words.specs.Spelling.{tile_word}
 use Rattle.match_text.proofs.puzzle_spellings.put_colours.Given as goal
 
 abbrev pub invariant-loop-side : goal.invariant-loop-side

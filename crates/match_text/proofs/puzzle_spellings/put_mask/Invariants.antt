@@ -1,5 +1,5 @@
 use Rattle.std.proofs.Common.{◌≡◌, ◌≤◌, ◌-◌, ◌*◌, ◌++◌, length}
-use Rattle.match_text.specs.Spelling.{text_of}
+use Rattle.text_words.specs.Spelling.{text_of}
 use Rattle.match_text.specs.PuzzleSpelling.{row_lines}
 use Rattle.match_text.proofs.puzzle_spellings.put_mask.Given as goal
 

@@ -1,8 +1,8 @@
 use Rattle.std.proofs.Common.{◌≡◌, ◌<◌, ◌∷◌, [], ◌++◌, length, map, take, get_or, sym, ap, ◌∙◌, append_assoc, codes, arith}
 use Rattle.std.specs.List.{join_with_byte}
 use Rattle.std.proofs.lemmas.List.{take_all}
-use Rattle.match_text.specs.Spelling.{line_text, colour_word}
-use Rattle.match_text.proofs.WritingLemmas.{line_alone, mates_more}
+use Rattle.text_words.specs.Spelling.{line_text, colour_word}
+use Rattle.text_words.proofs.WritingLemmas.{line_alone, mates_more}
 use Rattle.match_text.proofs.puzzle_spellings.put_mates.Goals as goal
 
 pub loop-mate-preserved : goal.loop-mate-preserved

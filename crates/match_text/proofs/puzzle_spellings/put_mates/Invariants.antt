@@ -1,6 +1,6 @@
 use Rattle.std.proofs.Common.{◌≡◌, ◌++◌, ◌∷◌, codes, map, take}
 use Rattle.std.specs.List.{join_with_byte}
-use Rattle.match_text.specs.Spelling.{colour_word}
+use Rattle.text_words.specs.Spelling.{colour_word}
 use Rattle.match_text.proofs.puzzle_spellings.put_mates.Given as goal
 
 abbrev pub invariant-loop-mate : goal.invariant-loop-mate

@@ -1,8 +1,8 @@
 use Rattle.std.proofs.Common.{◌≡◌, ◌<◌, ◌∷◌, [], ◌++◌, None, length, map, take, get_or, sym, ap, ◌∙◌, append_assoc, codes, arith}
 use Rattle.std.specs.List.{join_with_byte}
 use Rattle.std.proofs.lemmas.List.{take_all}
-use Rattle.match_text.specs.Spelling.{line_text, rule_word}
-use Rattle.match_text.proofs.WritingLemmas.{line_alone, rules_more}
+use Rattle.text_words.specs.Spelling.{line_text, rule_word}
+use Rattle.text_words.proofs.WritingLemmas.{line_alone, rules_more}
 use Rattle.match_text.proofs.puzzle_spellings.put_rules.Goals as goal
 
 pub loop-rule-preserved : goal.loop-rule-preserved

@@ -1,6 +1,6 @@
 use Rattle.std.proofs.Common.{◌≡◌, ◌++◌, ◌∷◌, codes, map, take}
 use Rattle.std.specs.List.{join_with_byte}
-use Rattle.match_text.specs.Spelling.{rule_word}
+use Rattle.text_words.specs.Spelling.{rule_word}
 use Rattle.match_text.proofs.puzzle_spellings.put_rules.Given as goal
 
 abbrev pub invariant-loop-rule : goal.invariant-loop-rule

@@ -1,6 +1,6 @@
 use Rattle.std.proofs.Common.{refl, append_assoc}
 use Rattle.std.proofs.lemmas.List.{append-nil}
-use Rattle.match_text.specs.Spelling.{line_text, text_of}
+use Rattle.text_words.specs.Spelling.{line_text, text_of}
 use Rattle.match_text.proofs.puzzle_spellings.put_shape.Goals as goal
 
 pub returns : goal.returns

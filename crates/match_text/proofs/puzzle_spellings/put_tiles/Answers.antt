@@ -2,9 +2,9 @@ use Rattle.std.proofs.Common.{◌++◌, ℕ, List, sym, ap, ◌∙◌, arith}
 use Rattle.std.proofs.lemmas.Simd.{map-map}
 use Rattle.match_board.specs.Tile.{word}
 use Rattle.match_board.specs.declared.tiles.Tile.{Tile}
-use Rattle.match_text.specs.Spelling.{text_of}
+use Rattle.text_words.specs.Spelling.{text_of}
 use Rattle.match_text.specs.PuzzleSpelling.{tile_words}
-use Rattle.match_text.proofs.WritingLemmas.{no_line, one_line, all_lines}
+use Rattle.text_words.proofs.WritingLemmas.{no_line, one_line, all_lines}
 use Rattle.match_text.proofs.puzzle_spellings.put_tiles.Goals as goal
 
 abbrev words : Tile → List (List ℕ)

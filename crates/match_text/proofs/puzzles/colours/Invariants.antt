@@ -1,8 +1,8 @@
 use Rattle.std.proofs.Common.{length}
 use Rattle.match_board.specs.declared.limits.TheConstants.{MOST_COLOURS}
-use Rattle.match_text.specs.Words.{colour_in}
-use Rattle.match_text.specs.Place.{entries}
-use Rattle.match_text.proofs.LoopLemmas.{AreRead}
+use Rattle.text_words.specs.Words.{colour_in}
+use Rattle.text_words.specs.Place.{entries}
+use Rattle.text_words.proofs.LoopLemmas.{AreRead}
 use Rattle.match_text.proofs.puzzles.colours.Given as goal
 
 abbrev pub invariant-loop-scan : goal.invariant-loop-scan

@@ -1,5 +1,5 @@
 use Rattle.std.proofs.Common.{◌≡◌, ◌++◌, map, take}
-use Rattle.match_text.specs.Words.{is_cell}
+use Rattle.text_words.specs.Words.{is_cell}
 use Rattle.match_text.proofs.puzzles.put_marks.Given as goal
 
 abbrev pub invariant-loop-character : goal.invariant-loop-character

@@ -1,9 +1,9 @@
 use Rattle.std.proofs.Common.{◌<◌, ◌≤◌, length, arith}
 use Rattle.std.proofs.lemmas.Result.{err_from_is_err_and}
-use Rattle.match_text.specs.declared.faults.ReadFault.TheVariants as faults
-use Rattle.match_text.specs.Words.{rule_in}
-use Rattle.match_text.specs.Place.{entries}
-use Rattle.match_text.proofs.LoopLemmas.{reads_rest, none_read, one_read, entry_fails, too_many, all_read, word_shorter}
+use Rattle.text_words.specs.declared.faults.ReadFault.TheVariants as faults
+use Rattle.text_words.specs.Words.{rule_in}
+use Rattle.text_words.specs.Place.{entries}
+use Rattle.text_words.proofs.LoopLemmas.{reads_rest, none_read, one_read, entry_fails, too_many, all_read, word_shorter}
 use Rattle.match_text.proofs.puzzles.rules.Goals as goal
 
 pub loop-scan-init : goal.loop-scan-init

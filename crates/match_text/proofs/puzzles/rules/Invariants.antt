@@ -1,7 +1,7 @@
 use Rattle.std.proofs.Common.{length}
-use Rattle.match_text.specs.Words.{rule_in}
-use Rattle.match_text.specs.Place.{entries}
-use Rattle.match_text.proofs.LoopLemmas.{AreRead}
+use Rattle.text_words.specs.Words.{rule_in}
+use Rattle.text_words.specs.Place.{entries}
+use Rattle.text_words.proofs.LoopLemmas.{AreRead}
 use Rattle.match_text.proofs.puzzles.rules.Given as goal
 
 abbrev pub invariant-loop-scan : goal.invariant-loop-scan

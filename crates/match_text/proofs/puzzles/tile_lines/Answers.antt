@@ -2,10 +2,10 @@ use Rattle.std.proofs.Common.{◌+◌, ◌-◌, map, arith}
 use Rattle.std.proofs.lemmas.Result.{err_from_is_err_and}
 use Rattle.std.proofs.lemmas.List.{map_push}
 use Rattle.match_board.specs.Tile.{word}
-use Rattle.match_text.specs.declared.faults.ReadFault.TheVariants as faults
-use Rattle.match_text.specs.Place.{times}
+use Rattle.text_words.specs.declared.faults.ReadFault.TheVariants as faults
+use Rattle.text_words.specs.Place.{times}
 use Rattle.match_text.specs.Puzzles.{tile_line}
-use Rattle.match_text.proofs.LoopLemmas.{times_goes_on, times_fail, times_done}
+use Rattle.text_words.proofs.LoopLemmas.{times_goes_on, times_fail, times_done}
 use Rattle.match_text.proofs.puzzles.tile_lines.Goals as goal
 
 pub returns-in_err-tile : goal.returns-in_err-tile

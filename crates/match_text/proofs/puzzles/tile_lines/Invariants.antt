@@ -1,8 +1,8 @@
 use Rattle.std.proofs.Common.{◌≡◌, ◌-◌, map}
 use Rattle.match_board.specs.Tile.{word}
-use Rattle.match_text.specs.Place.{times}
+use Rattle.text_words.specs.Place.{times}
 use Rattle.match_text.specs.Puzzles.{tile_line}
-use Rattle.match_text.proofs.LoopLemmas.{with_front}
+use Rattle.text_words.proofs.LoopLemmas.{with_front}
 use Rattle.match_text.proofs.puzzles.tile_lines.Given as goal
 
 abbrev pub invariant-loop : goal.invariant-loop

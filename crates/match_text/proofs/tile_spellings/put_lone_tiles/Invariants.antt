@@ -1,7 +1,7 @@
 use Rattle.std.proofs.Common.{◌≡◌, ◌++◌}
 use Rattle.match_board.specs.Tile.{word}
 use Rattle.match_text.specs.PuzzleSpelling.{lone_tile_words}
-use Rattle.match_text.proofs.WritingLemmas.{first_lines}
+use Rattle.text_words.proofs.WritingLemmas.{first_lines}
 use Rattle.match_text.proofs.tile_spellings.put_lone_tiles.Given as goal
 
 abbrev pub invariant-loop-tile : goal.invariant-loop-tile

@@ -1,5 +1,5 @@
 use Rattle.std.proofs.Common.{◌≡◌, All, map, take}
-use Rattle.match_text.specs.declared.ranges.TheConstants.{SECOND}
+use Rattle.text_words.specs.declared.ranges.TheConstants.{SECOND}
 use Rattle.cert_tree.specs.Certificate.{flat_piece}
 use Rattle.cert_tree.specs.CertificateSpelling.{IsLemmaWithin}
 use Rattle.piece_desk.proofs.desks.lend_all.Given as goal

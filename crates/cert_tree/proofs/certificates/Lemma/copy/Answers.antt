@@ -1,6 +1,6 @@
 use Rattle.std.proofs.Common.{◌≡◌, subst}
-use Rattle.match_text.specs.declared.ranges.TheConstants.{SECOND}
-use Rattle.match_text.proofs.RangesLemmas.{second_are}
+use Rattle.text_words.specs.declared.ranges.TheConstants.{SECOND}
+use Rattle.text_words.proofs.RangesLemmas.{second_are}
 use Rattle.std.specs.Prelude.{IfOk}
 use Rattle.cert_tree.specs.Tree.{tree_of}
 use Rattle.cert_tree.specs.Certificate.{Piece, piece_of, flat_piece}

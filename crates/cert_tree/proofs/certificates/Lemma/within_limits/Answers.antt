@@ -1,4 +1,4 @@
-use Rattle.match_text.specs.declared.ranges.TheConstants.{SECOND}
+use Rattle.text_words.specs.declared.ranges.TheConstants.{SECOND}
 use Rattle.cert_tree.specs.Certificate.{piece_of}
 use Rattle.cert_tree.specs.CertificateText.{lemma_of}
 use Rattle.cert_tree.specs.CertificateSpelling.{lemma_spelling, IsLemmaWithin}

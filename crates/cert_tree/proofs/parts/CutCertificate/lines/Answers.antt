@@ -1,6 +1,6 @@
 use Rattle.std.proofs.Common.{◌≡◌, Ok, List, subst}
 use Rattle.std.proofs.lemmas.Result.{err_from_is_err_and}
-use Rattle.match_text.specs.Place.{Fails}
+use Rattle.text_words.specs.Place.{Fails}
 use Rattle.cert_tree.specs.declared.parts.LemmaPart.{LemmaPart}
 use Rattle.cert_tree.specs.Parts.{parts_say}
 use Rattle.cert_tree.proofs.PartLemmas.{end_fails, whole_fails, whole_says}

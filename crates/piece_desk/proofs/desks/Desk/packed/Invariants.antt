@@ -1,5 +1,5 @@
 use Rattle.std.proofs.Common.{◌≡◌, All, map, take}
-use Rattle.match_text.specs.declared.ranges.TheConstants.{SECOND}
+use Rattle.text_words.specs.declared.ranges.TheConstants.{SECOND}
 use Rattle.cert_tree.specs.CertificateSpelling.{IsLemmaWithin}
 use Rattle.piece_desk.specs.Desks.{posted_piece}
 use Rattle.piece_desk.proofs.desks.Desk.packed.Given as goal

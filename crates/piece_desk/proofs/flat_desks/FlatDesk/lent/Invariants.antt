@@ -1,6 +1,6 @@
 use Rattle.std.proofs.Common.{◌≡◌, All, map, take}
 use Rattle.cert_tree.specs.Certificate.{flat_piece}
-use Rattle.match_text.specs.declared.ranges.TheConstants.{SECOND}
+use Rattle.text_words.specs.declared.ranges.TheConstants.{SECOND}
 use Rattle.cert_tree.specs.CertificateSpelling.{IsLemmaWithin}
 use Rattle.piece_desk.specs.FlatDesks.{flat_posted}
 use Rattle.piece_desk.proofs.flat_desks.FlatDesk.lent.Given as goal

@@ -1,5 +1,5 @@
 use Rattle.std.proofs.Common.{◌≡◌, ◌+◌, Contains, ◌++◌, ◌-◌, MatchBool, arith, ap, sym, ◌∙◌, subst, ⊎_elim, refl}
-use Rattle.match_text.specs.declared.ranges.TheConstants.{SECOND}
+use Rattle.text_words.specs.declared.ranges.TheConstants.{SECOND}
 use Rattle.match_board.proofs.Listings.{contains_none}
 use Rattle.cert_tree.specs.Heads.{heads_of}
 use Rattle.cert_tree.specs.Tree.{Tree}

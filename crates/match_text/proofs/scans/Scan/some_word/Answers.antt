@@ -1,7 +1,0 @@
-use Rattle.std.proofs.Common.{arith}
-use Rattle.std.proofs.lemmas.Grind.{common_steps}
-use Rattle.match_text.proofs.FrontLemmas.{some_at_word}
-use Rattle.match_text.proofs.scans.Scan.some_word.Goals as goal
-
-pub returns-in-Some : goal.returns-in-Some
-returns-in-Some c = some_at_word c.args.self.now c.in-Some.field-0.now (grind (arith, common_steps))

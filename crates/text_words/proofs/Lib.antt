@@ -1,0 +1,9 @@
+pub mod RangesLemmas
+pub mod BytesLemmas
+pub mod FrontLemmas
+pub mod LoopLemmas
+pub mod WordLemmas
+pub mod CutLemmas
+pub mod LineLemmas
+pub mod TextLaws
+pub mod WritingLemmas

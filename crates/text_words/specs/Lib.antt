@@ -1,0 +1,6 @@
+pub mod Bytes
+pub mod Ranges
+pub mod Words
+pub mod Place
+pub mod Spelling
+pub mod Laws

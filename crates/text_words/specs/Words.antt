@@ -1,0 +1,117 @@
+-- What a word has to be, and what is wrong with one that isn't.
+use Rattle.std.specs.Prelude.{◌≡◌, ℕ, zero, suc, codes, ◌-◌, List, [], ◌∷◌, length, Option, Some, None, Result, Ok, Err}
+use Rattle.std.specs.Prelude.{map, Bool, ◌&&◌, ◌||◌, nat_lt, nat_le, ◌==◌, if◌then◌else◌, slice_index}
+use Rattle.match_board.specs.declared.limits.TheConstants.{LAST_TURN}
+use Rattle.std.specs.List.{list_all}
+use Rattle.std.specs.Str.{all_ascii_digits, bytes_eq}
+use Rattle.std.specs.Str.Parse.{digits_value}
+use Rattle.match_puzzle.specs.declared.placements.Pair.{Pair}
+use Rattle.match_puzzle.specs.declared.placements.Placement.{Placement}
+use Rattle.text_words.specs.declared.faults.TextKind.{TextKind}
+use Rattle.text_words.specs.declared.faults.TextKind.TheVariants.{Word, Number, Limit, Version}
+use Rattle.text_words.specs.declared.ranges.Ranges.{Ranges}
+use Rattle.text_words.specs.Bytes.{cut_at}
+
+infixl 10 ◌>>=◌
+abbrev pub ◌>>=◌ : {A B : Type 0} → Result A TextKind → (A → Result B TextKind) → Result B TextKind
+(Ok x) >>= f = f x
+(Err e) >>= f = Err e
+
+-- a Word where there is nothing to go on with
+abbrev pub or_word : {A : Type 0} → Option A → Result A TextKind
+or_word (Some x) = Ok x
+or_word None = Err Word
+
+-- the word and no other
+abbrev pub fixed_in : List ℕ → List ℕ → Result (Unit {0}) TextKind
+fixed_in wanted word = if bytes_eq word wanted then Ok tt else Err Word
+
+-- the version of a text
+abbrev pub version_in : List ℕ → Result ℕ TextKind
+version_in word =
+    if bytes_eq word (codes "1") then Ok 1 else (if bytes_eq word (codes "2") then Ok 2 else Err Version)
+
+-- one or more decimal digits, with no zero before another digit
+abbrev pub is_number : List ℕ → Bool
+is_number word =
+    nat_lt 0 (length word) && (all_ascii_digits word && (nat_lt 48 (slice_index word 0) || length word == 1))
+
+-- a number from least to most
+unfoldable pub number_in : ℕ → ℕ → List ℕ → Result ℕ TextKind
+number_in least most word =
+    if is_number word
+    then (if nat_le least (digits_value 10 word) && nat_le (digits_value 10 word) most
+    then Ok (digits_value 10 word) else Err Limit)
+    else Err Number
+
+-- the colour that a digit or a small letter stands for
+abbrev pub colour_of : ℕ → Option ℕ
+colour_of c =
+    if nat_le 48 c && nat_le c 57 then Some (c - 48) else (if nat_le 97 c && nat_le c 122 then Some (c - 87) else None)
+
+-- a colour's character, and nothing more
+unfoldable pub colour_in : List ℕ → Result ℕ TextKind
+colour_in [] = Err Word
+colour_in (c ∷ []) = or_word (colour_of c)
+colour_in (c ∷ d ∷ word) = Err Word
+
+-- a colour for each character
+abbrev pub colours_in : List ℕ → Result (List ℕ) TextKind
+colours_in [] = Ok []
+colours_in (c ∷ word) = do
+  colour ← or_word (colour_of c)
+  colours ← colours_in word
+  Ok (colour ∷ colours)
+
+-- a tile's three or four sides in order, a colour for each
+unfoldable pub tile_in : List ℕ → Result (List ℕ) TextKind
+tile_in word = if length word == 3 || length word == 4 then colours_in word else Err Word
+
+-- a character of a row: `#` for a cell, or `.` for a place without one
+abbrev pub is_cell : ℕ → Bool
+is_cell c = c == 35
+
+abbrev pub is_mark : ℕ → Bool
+is_mark c = is_cell c || c == 46
+
+-- a row of so many places: which of them have a cell
+unfoldable pub marks_in : ℕ → List ℕ → Result (List Bool) TextKind
+marks_in width word = if length word == width && list_all is_mark word then Ok (map is_cell word) else Err Word
+
+-- what is asked of a border pair: a colour, or nothing, which is a dash
+unfoldable pub rule_in : List ℕ → Result (Option ℕ) TextKind
+rule_in word = if bytes_eq word (codes "-") then Ok None else (do
+  colour ← colour_in word
+  Ok (Some colour))
+
+-- a tile and how often it is turned, with a dot between
+unfoldable pub placement_in : Ranges → List ℕ → Result Placement TextKind
+placement_in ranges word = do
+  parts ← or_word (cut_at 46 word)
+  tile ← number_in 0 ranges.last_cell parts.0
+  turn ← number_in 0 LAST_TURN parts.1
+  Ok (record { tile = tile; turn = turn })
+
+-- a cell, with a colon before the tile and its turn
+unfoldable pub pair_in : Ranges → List ℕ → Result Pair TextKind
+pair_in ranges word = do
+  parts ← or_word (cut_at 58 word)
+  placed ← or_word (cut_at 46 parts.1)
+  cell ← number_in 0 ranges.last_cell parts.0
+  tile ← number_in 0 ranges.last_cell placed.0
+  turn ← number_in 0 LAST_TURN placed.1
+  Ok (record { cell = cell; placement = record { tile = tile; turn = turn } })
+
+-- each of these words is an entry, and there are at most so many
+unfoldable pub entries_in : {X : Type 0} → ℕ → (List ℕ → Result X TextKind) → List (List ℕ) → Result (List X) TextKind
+entries_in room test [] = Ok []
+entries_in zero test (word ∷ others) = Err Limit
+entries_in (suc room) test (word ∷ others) = do
+  x ← test word
+  xs ← entries_in room test others
+  Ok (x ∷ xs)
+
+-- What a call returned, seen by view, is what the word is.
+abbrev pub Judges : {X Y : Type 0} → (X → Y) → Result X TextKind → Result Y TextKind → Type 0
+Judges view (Ok x) judgement = judgement ≡ Ok (view x)
+Judges view (Err e) judgement = judgement ≡ Err e

@@ -1,0 +1,16 @@
+//! Texts of lines and words: what stands at a place of one, and how one is written. No puzzle is made here.
+#![tactic(auto)]
+
+mod asked;
+mod faults;
+mod ranges;
+mod scans;
+mod spellings;
+mod words;
+
+pub use asked::{Asked, FaultPlace};
+pub use faults::{ReadFault, TextFault, TextKind};
+pub use ranges::{FIRST, Ranges, SECOND, ranges_of};
+pub use scans::Scan;
+pub use spellings::{character, put_end, put_number, put_number_line};
+pub use words::row_word;
