@@ -6,9 +6,7 @@ use Rattle.std.proofs.lemmas.List.{map-append, length-map, length-reverse, rever
 use Rattle.std.proofs.lemmas.List.Elements.{All-nil, All-cons, All-append}
 use Rattle.std.proofs.lemmas.Option.{slice_get_within, slice_get-get_or, get_or_from_slice_get}
 use Rattle.std.proofs.Math.Seq.{take-length, drop-length, take-append_seam, drop-append_seam}
-use Rattle.match_board.specs.declared.limits.TheConstants.{MOST_ARRANGEMENTS, MOST_LEMMAS}
-use Rattle.text_words.specs.declared.ranges.Ranges.{Ranges}
-use Rattle.text_words.specs.declared.ranges.TheConstants.{SECOND}
+use Rattle.match_board.specs.declared.limits.TheConstants.{MOST_ARRANGEMENTS, MOST_CELLS, MOST_LEMMAS}
 use Rattle.match_puzzle.specs.declared.items.Item.{Item}
 use Rattle.match_puzzle.specs.declared.items.Item.TheVariants as items
 use Rattle.puzzle_symmetry.specs.declared.lines.SymmetryLine.{SymmetryLine}
@@ -17,14 +15,13 @@ use Rattle.cert_tree.specs.declared.faults.AssembleFault.{AssembleFault}
 use Rattle.cert_tree.specs.declared.faults.AssembleFault.TheVariants.{Stranger, Double, Missing, Memory}
 use Rattle.cert_tree.specs.Tree.{Tree, Forest, branch, dead, found, same, image, none, more, count}
 use Rattle.cert_tree.specs.Heads.{branch_head, dead_head, heads_of, heads_in}
-use Rattle.cert_tree.specs.TreeSpelling.{IsTreeWithin, AreTreesWithin}
+use Rattle.cert_tree.specs.Limits.{IsTreeWithin, AreTreesWithin, IsLemmaWithin}
 use Rattle.cert_tree.specs.Certificate.{Piece, piece_number, IsNumbered}
-use Rattle.cert_tree.specs.CertificateSpelling.{IsLemmaWithin}
 use Rattle.cert_tree.specs.Assembly.{IsAssembly, Assembles}
 use Rattle.cert_tree.specs.TurnedAssembly.{turned_tree, turned_forest, turned_piece, AssemblesTurned}
 use Rattle.cert_tree.specs.Turning.{turned_head, IsFoundUpTo}
 use Rattle.cert_tree.proofs.AssemblyLemmas.{assembled_all}
-use Rattle.cert_tree.proofs.ReadingLemmas.{piece_at}
+use Rattle.cert_tree.proofs.PieceLemmas.{piece_at}
 
 -- ---- the heads of a turned tree are its turned heads
 
@@ -74,18 +71,18 @@ alone : (head : Head) → Below head → All Below (head ∷ [])
 alone head is = All-cons Below head [] is (All-nil Below)
 
 mutual
-  pub found_below : (ranges : Ranges) (room : ℕ) (tree : Tree) → IsTreeWithin ranges room tree → All Below (heads_of tree)
-  found_below ranges zero tree fits = absurd fits
-  found_below ranges (suc room) (branch item children) fits =
-      All-cons Below (branch_head item (count children)) (heads_in children) (branch_below MOST_ARRANGEMENTS item (count children)) (found_below_in ranges room children fits.3)
-  found_below ranges (suc room) (dead item) fits = alone (dead_head item) (dead_below MOST_ARRANGEMENTS item)
-  found_below ranges (suc room) (found number) fits = alone _ (omega (arith, fits))
-  found_below ranges (suc room) (same lemma) fits = alone _ tt
-  found_below ranges (suc room) (image lemma symmetry) fits = alone _ tt
+  pub found_below : (cells room : ℕ) (tree : Tree) → IsTreeWithin cells room tree → All Below (heads_of tree)
+  found_below cells zero tree fits = absurd fits
+  found_below cells (suc room) (branch item children) fits =
+      All-cons Below (branch_head item (count children)) (heads_in children) (branch_below MOST_ARRANGEMENTS item (count children)) (found_below_in cells room children fits.3)
+  found_below cells (suc room) (dead item) fits = alone (dead_head item) (dead_below MOST_ARRANGEMENTS item)
+  found_below cells (suc room) (found number) fits = alone _ (omega (arith, fits))
+  found_below cells (suc room) (same lemma) fits = alone _ tt
+  found_below cells (suc room) (image lemma symmetry) fits = alone _ tt
 
-  found_below_in : (ranges : Ranges) (room : ℕ) (trees : Forest) → AreTreesWithin ranges room trees → All Below (heads_in trees)
-  found_below_in ranges room none fits = All-nil Below
-  found_below_in ranges room (more tree trees) fits = All-append Below (heads_of tree) (heads_in trees) (found_below ranges room tree fits.0) (found_below_in ranges room trees fits.1)
+  found_below_in : (cells room : ℕ) (trees : Forest) → AreTreesWithin cells room trees → All Below (heads_in trees)
+  found_below_in cells room none fits = All-nil Below
+  found_below_in cells room (more tree trees) fits = All-append Below (heads_of tree) (heads_in trees) (found_below cells room tree fits.0) (found_below_in cells room trees fits.1)
 
 -- ---- the elements from a place on, one after the other
 
@@ -153,7 +150,7 @@ turned_at count first ys n x at =
     (y.0, y.1, y.2, lt)
 
 -- A certificate may be made of them.
-pub turned_numbered : (count : ℕ) (first : List ℕ) (symmetries : List SymmetryLine) (pieces ys : List Piece) → count ≤ MOST_LEMMAS → length symmetries < 2 ^ 32 → All (IsLemmaWithin SECOND) pieces → IsAssembly piece_number count pieces ys
+pub turned_numbered : (count : ℕ) (first : List ℕ) (symmetries : List SymmetryLine) (pieces ys : List Piece) → count ≤ MOST_LEMMAS → length symmetries < 2 ^ 32 → All (IsLemmaWithin MOST_CELLS) pieces → IsAssembly piece_number count pieces ys
     → IsNumbered (record { symmetries = symmetries; lemmas = reverse (map (turned_piece count first) ys) })
 turned_numbered count first symmetries pieces ys few few_symmetries within is = record {
   numbered = λ n x at.
@@ -166,7 +163,7 @@ turned_numbered count first symmetries pieces ys few few_symmetries within is = 
   few_symmetries = few_symmetries;
   prefixes = λ n x at.
       let y = turned_at count first ys n x at in
-      let fits = assembled_all piece_number (IsLemmaWithin SECOND) count pieces ys within is (length ys - 1 - n) y.0 y.1 in
+      let fits = assembled_all piece_number (IsLemmaWithin MOST_CELLS) count pieces ys within is (length ys - 1 - n) y.0 y.1 in
       let same = ap (λ (p : Piece). length p.prefix) y.2 in
       omega (arith, same, fits.few_pairs);
 }

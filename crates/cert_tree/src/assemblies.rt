@@ -203,9 +203,11 @@ fn assembled(
     in_order(alloc, count, pieces)
 }
 
-// The certificate of these symmetries, whose lemma i is the only piece with number i. Pairs and heads stay where they
-// lie.
-pub(crate) fn assemble_flat(
+/// The same as [`assemble`], of pieces that lie flat: their pairs and heads stay where they lie.
+///
+/// An `Err` is the first fault in the order of [`AssembleFault`], with its least number; `Memory` only where memory is
+/// refused. On an `Err` all are dropped.
+pub fn assemble_flat(
     alloc: Global,
     count: u32,
     symmetries: Vec<SymmetryLine>,

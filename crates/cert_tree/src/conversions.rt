@@ -147,15 +147,20 @@ fn first_children(
     Ok(Children::new(nodes))
 }
 
-/// The same lemma with nodes that own their children, by a recursion that is as deep as the tree.
-pub(crate) fn owned_lemma(alloc: Global, flat: &FlatLemma<'_>) -> Result<Lemma, AllocError>
-    ensures { IfOk result (λ lemma. piece_of lemma ≡ flat_piece flat.now) }
-{
-    let prefix = Pairs::new(Vec::from_slice(alloc, flat.prefix)?);
-    let tree = first_node(alloc, &mut flat.tree.trees())?;
-    Ok(Lemma {
-        number: flat.number,
-        prefix,
-        tree,
-    })
+impl<'a> FlatLemma<'a> {
+    ghost use Rattle.std.specs.Prelude.{◌≡◌, IfOk};
+    ghost use Rattle.cert_tree.specs.Certificate.{piece_of, flat_piece};
+
+    /// An equal lemma of nodes that own their children, by a recursion that is as deep as the tree.
+    pub fn to_lemma(&self, alloc: Global) -> Result<Lemma, AllocError>
+        ensures { IfOk result (λ lemma. piece_of lemma ≡ flat_piece self.now) }
+    {
+        let prefix = Pairs::new(Vec::from_slice(alloc, self.prefix)?);
+        let tree = first_node(alloc, &mut self.tree.trees())?;
+        Ok(Lemma {
+            number: self.number,
+            prefix,
+            tree,
+        })
+    }
 }

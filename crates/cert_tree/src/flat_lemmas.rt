@@ -16,9 +16,9 @@ pub(crate) struct Block {
     pub(crate) heads: Vec<Head>,
 }
 
-/// In which block a lemma lies, and where among its pairs and heads.
+/// Where a lemma lies among pairs and heads: in which block of them, and from where to where.
 #[derive(Clone, Copy)]
-pub(crate) struct LemmaSpan {
+pub struct LemmaSpan {
     pub(crate) number: u32,
     pub(crate) block: usize,
     pub(crate) pairs_start: usize,
@@ -71,15 +71,15 @@ impl Lemmas {
     ghost use Rattle.cert_tree.specs.Certificate.{flat_piece};
     ghost use Rattle.cert_tree.specs.Spans.{piece_at, piece_in, ArePlaced, AreSpans};
 
-    // No lemmas.
-    pub(crate) fn none(alloc: Global) -> Lemmas
+    /// No lemmas.
+    pub fn none(alloc: Global) -> Lemmas
         ensures { result ≡ [] }
     {
         Lemmas::of_blocks(Vec::new(alloc), Vec::new(alloc))
     }
 
-    // The lemmas that lie there, in one block.
-    pub(crate) fn of(
+    /// The lemmas that lie there, in order.
+    pub fn of(
         pairs: Vec<Pair>,
         heads: Vec<Head>,
         spans: Vec<LemmaSpan>,
@@ -108,8 +108,8 @@ impl Lemmas {
         (self.blocks, self.spans)
     }
 
-    // These lemmas, and then those. Pairs and heads stay where they lie.
-    pub(crate) fn with(self, others: Lemmas) -> Result<Lemmas, AllocError>
+    /// These lemmas, and then those. Pairs and heads stay where they lie.
+    pub fn with(self, others: Lemmas) -> Result<Lemmas, AllocError>
         ensures { IfOk result (λ all. all ≡ self ++ others) }
     {
         let (mut blocks, mut spans) = self.apart();
@@ -143,8 +143,8 @@ impl<'a> FlatLemma<'a> {
     ghost use Rattle.cert_tree.specs.Certificate.{flat_piece};
     ghost use Rattle.cert_tree.specs.Spans.{piece_in, LiesIn};
 
-    // The lemma that lies there.
-    pub(crate) fn of(pairs: &'a [Pair], heads: &'a [Head], span: LemmaSpan) -> FlatLemma<'a>
+    /// The lemma that lies there.
+    pub fn of(pairs: &'a [Pair], heads: &'a [Head], span: LemmaSpan) -> FlatLemma<'a>
         requires { LiesIn pairs.now heads.now span }
         ensures { flat_piece result ≡ piece_in pairs.now heads.now span }
     {
@@ -161,8 +161,8 @@ impl LemmaSpan {
     ghost use Rattle.cert_tree.specs.Heads.{trees_in, first, AreOfTree};
     ghost use Rattle.cert_tree.specs.Spans.{CanMove, moved_by, piece_in, IsSpan};
 
-    // Where a lemma lies whose pairs and heads are those from here on.
-    pub(crate) fn of_last(
+    /// Where a lemma lies whose pairs and heads are those from these places on.
+    pub fn of_last(
         number: u32,
         pairs: &[Pair],
         pairs_start: usize,

@@ -65,8 +65,8 @@ impl<'a> FlatTree<'a> {
         FlatTree { heads }
     }
 
-    // The heads of its nodes.
-    pub(crate) fn heads(&self) -> &'a [Head]
+    /// The heads of its nodes, in preorder.
+    pub fn heads(&self) -> &'a [Head]
         ensures { result.now ≡ heads_of self.now }
     {
         self.heads

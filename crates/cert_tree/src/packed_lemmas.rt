@@ -32,9 +32,9 @@ impl Model for PackedLemma {
 
 impl PackedLemma {
     ghost use Rattle.std.specs.Prelude.{◌≡◌, IfOk};
-    ghost use Rattle.text_words.specs.declared.ranges.TheConstants.{SECOND};
+    ghost use Rattle.match_board.specs.declared.limits.TheConstants.{MOST_CELLS};
     ghost use Rattle.cert_tree.specs.Certificate.{flat_piece, piece_of};
-    ghost use Rattle.cert_tree.specs.CertificateSpelling.{IsLemmaWithin};
+    ghost use Rattle.cert_tree.specs.Limits.{IsLemmaWithin};
 
     /// The lemma with this number, these pairs and this tree.
     pub fn new(number: u32, pairs: Vec<Pair>, tree: PackedTree) -> PackedLemma
@@ -49,7 +49,7 @@ impl PackedLemma {
 
     /// An equal lemma that lies flat, laid out by a loop over the nodes.
     pub fn of(alloc: Global, lemma: &Lemma) -> Result<PackedLemma, AllocError>
-        requires { IsLemmaWithin SECOND (piece_of lemma.now) }
+        requires { IsLemmaWithin MOST_CELLS (piece_of lemma.now) }
         ensures { IfOk result (λ packed. packed ≡ piece_of lemma.now) }
     {
         let pairs = Vec::from_slice(alloc, lemma.prefix.as_slice())?;

@@ -3,7 +3,7 @@
 ghost use Rattle.std.specs.Prelude.{◌≡◌, ◌<◌, ◌≤◌, ◌^◌, ◌++◌, Ok, Err, All, IfOk, IfErr, IsErrOf, OnOk, length, map};
 ghost use Rattle.std.specs.Prelude.{reverse, take, drop};
 ghost use Rattle.cert_tree.specs.Certificate.{flat_piece, piece_number};
-ghost use Rattle.cert_tree.specs.CertificateSpelling.{IsLemmaWithin};
+ghost use Rattle.cert_tree.specs.Limits.{IsLemmaWithin};
 ghost use Rattle.cert_tree.specs.Spans.{piece_in, IsSpan};
 ghost use Rattle.cert_tree.specs.Assembly.{HaveNoStranger};
 ghost use Rattle.cert_tree.specs.TurnedAssembly.{turned_number as number_of_turned, turned_piece, AssemblesTurned};
@@ -14,11 +14,10 @@ use crate::certificates::Certificate;
 use crate::faults::AssembleFault;
 use crate::flat_lemmas::{FlatLemma, LemmaSpan, Lemmas};
 use crate::heads::Head;
-use match_board::limits::{MOST_ARRANGEMENTS, MOST_LEMMAS};
+use match_board::limits::{MOST_ARRANGEMENTS, MOST_CELLS, MOST_LEMMAS};
 use match_puzzle::Pair;
 use puzzle_symmetry::SymmetryLine;
 use std::alloc::{AllocError, Global};
-use text_words::SECOND;
 
 // A number below the count, counted from the other end; another one as it is.
 fn turned_number(count: u32, number: u32) -> u32
@@ -72,7 +71,7 @@ fn put_turned(
 ) -> Result<LemmaSpan, AllocError>
     requires number { lemma.now.number < length first.now }
     requires first { All (λ n. n ≤ MOST_ARRANGEMENTS) first.now }
-    requires within { IsLemmaWithin SECOND (flat_piece lemma.now) }
+    requires within { IsLemmaWithin MOST_CELLS (flat_piece lemma.now) }
     ensures span { IfOk result (IsSpan pairs.new.items heads.new.items) }
     ensures lemma { IfOk result
         (λ span. piece_in pairs.new.items heads.new.items span ≡ turned_piece count first.now (flat_piece lemma.now)) }
@@ -97,7 +96,7 @@ fn turned_lemmas(
 ) -> Result<Lemmas, AllocError>
     requires numbers { All (λ lemma. lemma.number < length first.now) lemmas.now }
     requires first { All (λ n. n ≤ MOST_ARRANGEMENTS) first.now }
-    requires within { All (λ lemma. IsLemmaWithin SECOND (flat_piece lemma)) lemmas.now }
+    requires within { All (λ lemma. IsLemmaWithin MOST_CELLS (flat_piece lemma)) lemmas.now }
     ensures { IfOk result
         (λ turned. turned ≡ reverse (map (turned_piece count first.now) (map flat_piece lemmas.now))) }
 {
@@ -133,7 +132,7 @@ pub fn assemble_turned(
     requires many { length first.now ≡ count }
     requires first { All (λ n. n ≤ MOST_ARRANGEMENTS) first.now }
     requires symmetries { length symmetries.items < 2 ^ 32 }
-    requires within { All (λ piece. IsLemmaWithin SECOND (flat_piece piece)) pieces.items }
+    requires within { All (λ piece. IsLemmaWithin MOST_CELLS (flat_piece piece)) pieces.items }
     ensures symmetries { IfOk result (λ certificate. certificate.symmetries ≡ symmetries.items) }
     ensures lemmas { IfOk result (λ certificate. AssemblesTurned count first.now
         (map flat_piece pieces.entry.items) (Ok certificate.lemmas)) }

@@ -1,51 +1,40 @@
-//! Which lemmas and certificates are within the limits of a version of their texts.
+//! Which lemmas are within the limits of a board that has at most so many cells.
 
-ghost use Rattle.std.specs.Prelude.{◌≡◌, ◌≢◌, ◌<◌, ◌≤◌, ℕ, List, Ok, IsTrue, MatchBool, length, map};
+ghost use Rattle.std.specs.Prelude.{◌≡◌, ◌≢◌, ◌≤◌, IsTrue, MatchBool};
 ghost use Rattle.std.specs.List.{AllByRecursion};
-ghost use Rattle.text_words.specs.Ranges.{IsVersion, ranges_of};
 ghost use Rattle.cert_tree.specs.Tree.{tree_of, forest_of, count, none};
 ghost use Rattle.cert_tree.specs.Certificate.{piece_of, flat_piece};
 ghost use Rattle.cert_tree.specs.Heads.{first, front, past};
-ghost use Rattle.cert_tree.specs.CertificateText.{lemma_of, certificate_of};
-ghost use Rattle.cert_tree.specs.TreeSpelling.{IsTreeWithin, AreTreesWithin, AreChildrenWithin};
-ghost use Rattle.cert_tree.specs.CertificateSpelling.{AreImagesWithin, AreColourImagesWithin, IsSymmetryWithin};
-ghost use Rattle.cert_tree.specs.CertificateSpelling.{AreSymmetriesWithin, AreWithinBetween};
-ghost use Rattle.cert_tree.specs.CertificateSpelling.{IsPairWithin, IsLemmaWithin, IsCertificateWithin};
-ghost use Rattle.cert_tree.specs.Writing.{said_by};
+ghost use Rattle.cert_tree.specs.Limits.{IsTreeWithin, AreTreesWithin, AreChildrenWithin, IsPairWithin, IsLemmaWithin};
 
-use crate::certificates::{Certificate, Lemma};
-use crate::flat_lemmas::{FlatLemma, Lemmas};
+use crate::certificates::Lemma;
+use crate::flat_lemmas::FlatLemma;
 use crate::flat_trees::Trees;
 use crate::heads::Head;
 use crate::nodes::Node;
 use crate::packed_lemmas::PackedLemma;
-use match_board::limits::{
-    LAST_ARRANGEMENT, LAST_LEMMA, LAST_SIDE, LAST_SYMMETRY, LAST_TURN, MOST_COLOURS,
-    MOST_SYMMETRIES,
-};
+use match_board::limits::{LAST_ARRANGEMENT, LAST_LEMMA, LAST_SYMMETRY, LAST_TURN, MOST_CELLS};
 use match_puzzle::Pair;
-use puzzle_symmetry::SymmetryLine;
-use text_words::{Ranges, SECOND, ranges_of};
 
 // Stops below the last level.
 #[cycle(limits)]
 #[tactic(auto, using(crate::proofs::TreeLemmas::tree_laws))]
-fn is_node_within(ranges: &Ranges, node: &Node, room: u16) -> bool
-    ensures { MatchBool result (IsTreeWithin ranges.now room (tree_of node.now))
-        (IsTreeWithin ranges.now room (tree_of node.now) → ⊥) }
+fn is_node_within(cells: u16, node: &Node, room: u32) -> bool
+    ensures { MatchBool result (IsTreeWithin cells room (tree_of node.now))
+        (IsTreeWithin cells room (tree_of node.now) → ⊥) }
 {
     if room == 0 {
         return false;
     }
     match node {
         Node::Cell { cell, children } => {
-            *cell <= ranges.last_cell && are_children_within(ranges, children.as_slice(), room - 1)
+            *cell < cells && are_children_within(cells, children.as_slice(), room - 1)
         }
         Node::Tile { tile, children } => {
-            *tile <= ranges.last_cell && are_children_within(ranges, children.as_slice(), room - 1)
+            *tile < cells && are_children_within(cells, children.as_slice(), room - 1)
         }
-        Node::DeadCell(cell) => *cell <= ranges.last_cell,
-        Node::DeadTile(tile) => *tile <= ranges.last_cell,
+        Node::DeadCell(cell) => *cell < cells,
+        Node::DeadTile(tile) => *tile < cells,
         Node::Found(number) => *number <= LAST_ARRANGEMENT,
         Node::Same(lemma) => *lemma <= LAST_LEMMA,
         Node::Image { lemma, symmetry } => *lemma <= LAST_LEMMA && *symmetry <= LAST_SYMMETRY,
@@ -53,59 +42,58 @@ fn is_node_within(ranges: &Ranges, node: &Node, room: u16) -> bool
 }
 
 #[cycle(limits)]
-fn are_children_within(ranges: &Ranges, nodes: &[Node], room: u16) -> bool
-    ensures { MatchBool result (AreChildrenWithin ranges.now room (forest_of nodes.now))
-        (AreChildrenWithin ranges.now room (forest_of nodes.now) → ⊥) }
+fn are_children_within(cells: u16, nodes: &[Node], room: u32) -> bool
+    ensures { MatchBool result (AreChildrenWithin cells room (forest_of nodes.now))
+        (AreChildrenWithin cells room (forest_of nodes.now) → ⊥) }
 {
     let count = nodes.len();
-    let most = ranges.most_children as usize;
-    count > 0 && (count <= most && are_nodes_within(ranges, nodes, room))
+    let most = 4 * usize::from(cells);
+    count > 0 && (count <= most && are_nodes_within(cells, nodes, room))
 }
 
 #[cycle(limits)]
-fn are_nodes_within(ranges: &Ranges, nodes: &[Node], room: u16) -> bool
-    ensures { MatchBool result (AreTreesWithin ranges.now room (forest_of nodes.now))
-        (AreTreesWithin ranges.now room (forest_of nodes.now) → ⊥) }
+fn are_nodes_within(cells: u16, nodes: &[Node], room: u32) -> bool
+    ensures { MatchBool result (AreTreesWithin cells room (forest_of nodes.now))
+        (AreTreesWithin cells room (forest_of nodes.now) → ⊥) }
 {
     for node in nodes {
-        if !is_node_within(ranges, node, room) {
+        if !is_node_within(cells, node, room) {
             return false;
         }
     }
     true
 }
 
-fn is_pair_within(ranges: &Ranges, pair: &Pair) -> bool
-    ensures { MatchBool result (IsPairWithin ranges.now pair.now) (IsPairWithin ranges.now pair.now → ⊥) }
+fn is_pair_within(cells: u16, pair: &Pair) -> bool
+    ensures { MatchBool result (IsPairWithin cells pair.now) (IsPairWithin cells pair.now → ⊥) }
 {
-    let last = ranges.last_cell;
-    pair.cell <= last && (pair.placement.tile <= last && pair.placement.turn <= LAST_TURN)
+    pair.cell < cells && (pair.placement.tile < cells && pair.placement.turn <= LAST_TURN)
 }
 
-fn are_pairs_within(ranges: &Ranges, pairs: &[Pair]) -> bool
-    ensures { MatchBool result (AllByRecursion (IsPairWithin ranges.now) pairs.now)
-        (AllByRecursion (IsPairWithin ranges.now) pairs.now → ⊥) }
+fn are_pairs_within(cells: u16, pairs: &[Pair]) -> bool
+    ensures { MatchBool result (AllByRecursion (IsPairWithin cells) pairs.now)
+        (AllByRecursion (IsPairWithin cells) pairs.now → ⊥) }
 {
-    pairs.iter().all(|pair| is_pair_within(ranges, pair))
+    pairs.iter().all(|pair| is_pair_within(cells, pair))
 }
 
-fn is_lemma_within(ranges: &Ranges, lemma: &Lemma) -> bool
-    ensures { MatchBool result (IsLemmaWithin ranges.now (piece_of lemma.now))
-        (IsLemmaWithin ranges.now (piece_of lemma.now) → ⊥) }
+fn is_lemma_within(cells: u16, lemma: &Lemma) -> bool
+    ensures { MatchBool result (IsLemmaWithin cells (piece_of lemma.now))
+        (IsLemmaWithin cells (piece_of lemma.now) → ⊥) }
 {
     let pairs = lemma.prefix.as_slice();
     lemma.number <= LAST_LEMMA
-        && (pairs.len() <= usize::from(ranges.most_cells)
-            && (are_pairs_within(ranges, pairs)
-                && is_node_within(ranges, &lemma.tree, ranges.most_levels)))
+        && (pairs.len() <= usize::from(cells)
+            && (are_pairs_within(cells, pairs)
+                && is_node_within(cells, &lemma.tree, u32::from(cells) + 1)))
 }
 
 // The same of the first tree, which is then gone past.
 #[cycle(flat_limits)]
-fn is_first_within(ranges: &Ranges, trees: &mut Trees<'_>, room: u16) -> bool
+fn is_first_within(cells: u16, trees: &mut Trees<'_>, room: u32) -> bool
     requires { trees.old ≢ none }
-    ensures within { MatchBool result (IsTreeWithin ranges.now room (first trees.old))
-        (IsTreeWithin ranges.now room (first trees.old) → ⊥) }
+    ensures within { MatchBool result (IsTreeWithin cells room (first trees.old))
+        (IsTreeWithin cells room (first trees.old) → ⊥) }
     ensures past { IsTrue result → trees.new ≡ past 1 trees.old }
 {
     if room == 0 {
@@ -113,13 +101,13 @@ fn is_first_within(ranges: &Ranges, trees: &mut Trees<'_>, room: u16) -> bool
     }
     match trees.next() {
         Head::Cell { cell, children } => {
-            cell <= ranges.last_cell && are_first_within(ranges, trees, room - 1, children)
+            cell < cells && are_first_within(cells, trees, room - 1, children)
         }
         Head::Tile { tile, children } => {
-            tile <= ranges.last_cell && are_first_within(ranges, trees, room - 1, children)
+            tile < cells && are_first_within(cells, trees, room - 1, children)
         }
-        Head::DeadCell(cell) => cell <= ranges.last_cell,
-        Head::DeadTile(tile) => tile <= ranges.last_cell,
+        Head::DeadCell(cell) => cell < cells,
+        Head::DeadTile(tile) => tile < cells,
         Head::Found(number) => number <= LAST_ARRANGEMENT,
         Head::Same(lemma) => lemma <= LAST_LEMMA,
         Head::Image { symmetry, lemma } => lemma <= LAST_LEMMA && symmetry <= LAST_SYMMETRY,
@@ -128,208 +116,76 @@ fn is_first_within(ranges: &Ranges, trees: &mut Trees<'_>, room: u16) -> bool
 
 // The same of the first so many trees, as the children of a branch.
 #[cycle(flat_limits)]
-fn are_first_within(ranges: &Ranges, trees: &mut Trees<'_>, room: u16, children: u32) -> bool
+fn are_first_within(cells: u16, trees: &mut Trees<'_>, room: u32, children: u32) -> bool
     requires { children ≤ count trees.old }
-    ensures within { MatchBool result (AreChildrenWithin ranges.now room (front children trees.old))
-        (AreChildrenWithin ranges.now room (front children trees.old) → ⊥) }
+    ensures within { MatchBool result (AreChildrenWithin cells room (front children trees.old))
+        (AreChildrenWithin cells room (front children trees.old) → ⊥) }
     ensures past { IsTrue result → trees.new ≡ past children trees.old }
 {
     if children == 0 {
         return false;
     }
-    if children > ranges.most_children {
+    let most = 4 * u32::from(cells);
+    if children > most {
         return false;
     }
     for _ in 0..children {
-        if !is_first_within(ranges, trees, room) {
+        if !is_first_within(cells, trees, room) {
             return false;
         }
     }
     true
-}
-
-fn is_flat_lemma_within(ranges: &Ranges, lemma: &FlatLemma<'_>) -> bool
-    ensures { MatchBool result (IsLemmaWithin ranges.now (flat_piece lemma.now))
-        (IsLemmaWithin ranges.now (flat_piece lemma.now) → ⊥) }
-{
-    lemma.number <= LAST_LEMMA
-        && (lemma.prefix.len() <= usize::from(ranges.most_cells)
-            && (are_pairs_within(ranges, lemma.prefix)
-                && is_first_within(ranges, &mut lemma.tree.trees(), ranges.most_levels)))
-}
-
-fn are_lemmas_within(ranges: &Ranges, lemmas: &Lemmas, first: usize, last: usize) -> bool
-    requires { (first ≤ last) × (last ≤ length lemmas.now) }
-    ensures { MatchBool result (AreWithinBetween ranges.now lemmas.now first last)
-        (AreWithinBetween ranges.now lemmas.now first last → ⊥) }
-{
-    for number in first..last {
-        if !is_flat_lemma_within(ranges, &lemmas.at(number)) {
-            return false;
-        }
-    }
-    true
-}
-
-fn are_numbers_within(last: u16, numbers: &[u16]) -> bool
-    ensures { MatchBool result (AllByRecursion (λ n. n ≤ last) numbers.now)
-        (AllByRecursion (λ n. n ≤ last) numbers.now → ⊥) }
-{
-    numbers.iter().all(|number| *number <= last)
-}
-
-fn are_colours_within(colours: &[u8]) -> bool
-    ensures { MatchBool result (AllByRecursion (λ n. n < MOST_COLOURS) colours.now)
-        (AllByRecursion (λ n. n < MOST_COLOURS) colours.now → ⊥) }
-{
-    colours.iter().all(|colour| *colour < MOST_COLOURS)
-}
-
-fn are_images_within(ranges: &Ranges, images: &[u16]) -> bool
-    ensures { MatchBool result (AreImagesWithin ranges.now images.now)
-        (AreImagesWithin ranges.now images.now → ⊥) }
-{
-    images.len() <= usize::from(ranges.most_cells) && are_numbers_within(ranges.last_cell, images)
-}
-
-fn are_colour_images_within(images: &[u8]) -> bool
-    ensures { MatchBool result (AreColourImagesWithin images.now) (AreColourImagesWithin images.now → ⊥) }
-{
-    images.len() <= usize::from(MOST_COLOURS) && are_colours_within(images)
-}
-
-fn is_symmetry_within(ranges: &Ranges, line: &SymmetryLine) -> bool
-    ensures { MatchBool result (IsSymmetryWithin ranges.now line.now) (IsSymmetryWithin ranges.now line.now → ⊥) }
-{
-    line.shift <= LAST_SIDE
-        && (are_images_within(ranges, line.cells.as_slice())
-            && (are_colour_images_within(line.colours.as_slice())
-                && are_images_within(ranges, line.tiles.as_slice())))
-}
-
-fn are_symmetries_within(ranges: &Ranges, lines: &[SymmetryLine]) -> bool
-    ensures { MatchBool result (AllByRecursion (IsSymmetryWithin ranges.now) lines.now)
-        (AllByRecursion (IsSymmetryWithin ranges.now) lines.now → ⊥) }
-{
-    for line in lines {
-        if !is_symmetry_within(ranges, line) {
-            return false;
-        }
-    }
-    true
-}
-
-fn are_few_symmetries_within(ranges: &Ranges, lines: &[SymmetryLine]) -> bool
-    ensures { MatchBool result (AreSymmetriesWithin ranges.now lines.now)
-        (AreSymmetriesWithin ranges.now lines.now → ⊥) }
-{
-    lines.len() <= usize::from(MOST_SYMMETRIES) && are_symmetries_within(ranges, lines)
-}
-
-// What is short is looked at first: the symmetries, and of each lemma its prefix.
-fn is_certificate_within(version: u8, certificate: &Certificate) -> bool
-    requires { IsVersion version }
-    ensures { MatchBool result (IsCertificateWithin (said_by version certificate.now))
-        (IsCertificateWithin (said_by version certificate.now) → ⊥) }
-{
-    let ranges = ranges_of(version);
-    let lemmas = certificate.lemmas();
-    are_few_symmetries_within(&ranges, certificate.symmetries())
-        && are_lemmas_within(&ranges, lemmas, 0, lemmas.len())
-}
-
-/// The first version in which the certificate has a spelling, told by one walk over it.
-pub fn first_version(certificate: &Certificate) -> u8
-    requires { IsCertificateWithin (said_by 2 certificate.now) }
-    ensures within { IsCertificateWithin (said_by result certificate.now) }
-    ensures first { IsCertificateWithin (said_by 1 certificate.now) → result ≡ 1 }
-    ensures second { (IsCertificateWithin (said_by 1 certificate.now) → ⊥) → result ≡ 2 }
-{
-    if is_certificate_within(1, certificate) {
-        1
-    } else {
-        2
-    }
 }
 
 impl Lemma {
-    ghost use Rattle.std.specs.Prelude.{◌≡◌, ◌≢◌, ℕ, List, Ok, MatchBool};
+    ghost use Rattle.std.specs.Prelude.{MatchBool};
+    ghost use Rattle.match_board.specs.declared.limits.TheConstants.{MOST_CELLS};
     ghost use Rattle.cert_tree.specs.Certificate.{piece_of};
-    ghost use Rattle.cert_tree.specs.CertificateText.{lemma_of};
-    ghost use Rattle.cert_tree.specs.CertificateSpelling.{IsLemmaWithin};
+    ghost use Rattle.cert_tree.specs.Limits.{IsLemmaWithin};
 
-    /// Whether the lemma has a spelling: a number, and numbers of lemmas and of listed arrangements, below 1,000,000;
-    /// numbers of symmetries below 1,024, and turns below 4; and cells, tiles, pairs, children and levels within the
-    /// ranges of version 2. It looks no deeper into the tree than that, and takes no memory.
+    /// Whether the lemma is within the limits of every board, as one of a text is: numbers of lemmas and of listed
+    /// arrangements are below 1,000,000, numbers of symmetries below 1,024, and turns below 4; cells and tiles below
+    /// 256, with at most 256 pairs, 1,024 children of a branch and 257 levels. It looks no deeper into the tree than
+    /// that, and takes no memory.
     pub fn within_limits(&self) -> bool
-        ensures within { MatchBool result (IsLemmaWithin SECOND (piece_of self.now))
-            (IsLemmaWithin SECOND (piece_of self.now) → ⊥) }
-        ensures spelled { MatchBool result ((text : List ℕ) × (lemma_of text ≡ Ok (piece_of self.now)))
-            ((text : List ℕ) → lemma_of text ≢ Ok (piece_of self.now)) }
+        ensures { MatchBool result (IsLemmaWithin MOST_CELLS (piece_of self.now))
+            (IsLemmaWithin MOST_CELLS (piece_of self.now) → ⊥) }
     {
-        is_lemma_within(&SECOND, self)
+        is_lemma_within(MOST_CELLS, self)
+    }
+}
+
+impl<'a> FlatLemma<'a> {
+    ghost use Rattle.std.specs.Prelude.{MatchBool};
+    ghost use Rattle.cert_tree.specs.Certificate.{flat_piece};
+    ghost use Rattle.cert_tree.specs.Limits.{IsLemmaWithin};
+
+    /// Whether the lemma is within the limits of a board that has at most so many cells. It takes no memory.
+    pub fn is_within(&self, cells: u16) -> bool
+        ensures { MatchBool result (IsLemmaWithin cells (flat_piece self.now))
+            (IsLemmaWithin cells (flat_piece self.now) → ⊥) }
+    {
+        self.number <= LAST_LEMMA
+            && (self.prefix.len() <= usize::from(cells)
+                && (are_pairs_within(cells, self.prefix)
+                    && is_first_within(cells, &mut self.tree.trees(), u32::from(cells) + 1)))
     }
 }
 
 impl PackedLemma {
     ghost use Rattle.std.specs.Prelude.{MatchBool};
-    ghost use Rattle.text_words.specs.declared.ranges.TheConstants.{SECOND};
-    ghost use Rattle.cert_tree.specs.CertificateSpelling.{IsLemmaWithin};
-    ghost use Rattle.cert_tree.specs.TreeSpelling.{IsTreeWithin};
+    ghost use Rattle.match_board.specs.declared.limits.TheConstants.{MOST_CELLS, MOST_LEVELS};
+    ghost use Rattle.cert_tree.specs.Limits.{IsTreeWithin, IsLemmaWithin};
 
-    /// Whether the lemma has a spelling, where its tree is known to be within the limits: number and prefix alone are
+    /// Whether the lemma is within the limits of every board, where its tree is known to be: number and prefix alone are
     /// looked at.
     pub fn prefix_within_limits(&self) -> bool
-        requires { IsTreeWithin SECOND SECOND.most_levels self.now.tree }
-        ensures { MatchBool result (IsLemmaWithin SECOND self.now) (IsLemmaWithin SECOND self.now → ⊥) }
+        requires { IsTreeWithin MOST_CELLS MOST_LEVELS self.now.tree }
+        ensures { MatchBool result (IsLemmaWithin MOST_CELLS self.now) (IsLemmaWithin MOST_CELLS self.now → ⊥) }
     {
         let lemma = self.lend();
         lemma.number <= LAST_LEMMA
-            && (lemma.prefix.len() <= usize::from(SECOND.most_cells)
-                && are_pairs_within(&SECOND, lemma.prefix))
+            && (lemma.prefix.len() <= usize::from(MOST_CELLS)
+                && are_pairs_within(MOST_CELLS, lemma.prefix))
     }
-}
-
-impl Certificate {
-    ghost use Rattle.std.specs.Prelude.{◌≡◌, ◌≢◌, ℕ, List, Ok, MatchBool};
-    ghost use Rattle.cert_tree.specs.CertificateText.{certificate_of};
-    ghost use Rattle.cert_tree.specs.CertificateSpelling.{IsCertificateWithin};
-    ghost use Rattle.cert_tree.specs.Writing.{said_by};
-
-    /// Whether the certificate has a spelling: up to 1,024 symmetries, with shifts below 4, up to 36 colours below 36,
-    /// and cells and tiles within the ranges of version 2; and lemmas that each have one. It takes no memory.
-    pub fn within_limits(&self) -> bool
-        ensures within { MatchBool result (IsCertificateWithin (said_by 2 self.now))
-            (IsCertificateWithin (said_by 2 self.now) → ⊥) }
-        ensures spelled { MatchBool result
-            ((version : ℕ) × (text : List ℕ) × (certificate_of text ≡ Ok (said_by version self.now)))
-            ((version : ℕ) (text : List ℕ) → certificate_of text ≢ Ok (said_by version self.now)) }
-    {
-        is_certificate_within(2, self)
-    }
-}
-
-impl Lemmas {
-    ghost use Rattle.std.specs.Prelude.{◌≤◌, MatchBool, length};
-    ghost use Rattle.text_words.specs.Ranges.{IsVersion, ranges_of};
-    ghost use Rattle.cert_tree.specs.CertificateSpelling.{AreWithinBetween};
-
-    /// Whether each lemma from this number up to the other, which is left out, has a spelling in the version.
-    pub fn within_limits(&self, version: u8, first: usize, last: usize) -> bool
-        requires version { IsVersion version }
-        requires numbers { (first ≤ last) × (last ≤ length self.now) }
-        ensures { MatchBool result (AreWithinBetween (ranges_of version) self.now first last)
-            (AreWithinBetween (ranges_of version) self.now first last → ⊥) }
-    {
-        are_lemmas_within(&ranges_of(version), self, first, last)
-    }
-}
-
-/// Whether there are at most 1,024 symmetries, each of which has a spelling in the version.
-pub fn are_symmetries_within_limits(version: u8, lines: &[SymmetryLine]) -> bool
-    requires { IsVersion version }
-    ensures { MatchBool result (AreSymmetriesWithin (ranges_of version) lines.now)
-        (AreSymmetriesWithin (ranges_of version) lines.now → ⊥) }
-{
-    are_few_symmetries_within(&ranges_of(version), lines)
 }

@@ -2,7 +2,8 @@
 
 ghost use Rattle.std.specs.Prelude.{◌<◌, ◌^◌, IfOk, OnOk, length};
 
-use cert_tree::{Certificate, read_certificate};
+use cert_text::read_certificate;
+use cert_tree::Certificate;
 use match_puzzle::{Arrangement, Puzzle};
 use match_text::{read_list, read_puzzle};
 use std::alloc::{AllocError, Global};

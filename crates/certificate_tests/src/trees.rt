@@ -1,9 +1,10 @@
 //! Certificates are read and written.
 
 use crate::texts::{certificate_of, joined};
-use cert_tree::{
-    certificate_laws, head_laws, lemma_laws, read_lemma, write_certificate, write_lemma,
+use cert_text::{
+    WithinLimits, certificate_laws, lemma_laws, read_lemma, write_certificate, write_lemma,
 };
+use cert_tree::head_laws;
 use sample_puzzles::{TURNING_TRIANGLE_CERTIFICATE, TWIN_TILES_CERTIFICATE};
 use std::alloc::{AllocError, Global};
 use std::test::Fail;

@@ -10,7 +10,7 @@ use Rattle.match_board.proofs.Listings.{lt_or_le}
 use Rattle.text_words.specs.Ranges.{ranges_of}
 use Rattle.text_words.specs.Spelling.{text_of}
 use Rattle.cert_tree.specs.Certificate.{Piece}
-use Rattle.cert_tree.specs.CertificateSpelling.{lemma_lines, AreWithinBetween}
+use Rattle.cert_text.specs.CertificateSpelling.{lemma_lines, AreWithinBetween}
 use Rattle.check_crew.specs.LemmaParts.{part_start, AreCut, AreOfParts, AreLines, TellsOfLimits}
 
 -- ---- lines

@@ -4,7 +4,7 @@ use Rattle.std.specs.declared.alloc.Global.{Global}
 use Rattle.match_board.specs.declared.limits.TheConstants.{MOST_LEMMAS}
 use Rattle.text_words.specs.Ranges.{ranges_of}
 use Rattle.cert_tree.specs.Certificate.{Piece}
-use Rattle.cert_tree.specs.CertificateSpelling.{AreLinesBetween, AreWithinBetween}
+use Rattle.cert_text.specs.CertificateSpelling.{AreLinesBetween, AreWithinBetween}
 
 -- where the part with this number begins, of those that begin there
 abbrev pub part_start : (starts : List ℕ) → (number : ℕ) → ℕ

@@ -8,8 +8,8 @@ use Rattle.text_words.specs.Place.{Says}
 use Rattle.text_words.specs.declared.faults.ReadFault.{ReadFault}
 use Rattle.text_words.specs.declared.ranges.TheConstants.{FIRST, SECOND}
 use Rattle.cert_tree.specs.Certificate.{Contents}
-use Rattle.cert_tree.specs.CertificateSpelling.{certificate_spelling, IsCertificateWithin}
-use Rattle.cert_tree.specs.Writing.{said_by}
+use Rattle.cert_text.specs.CertificateSpelling.{certificate_spelling, IsCertificateWithin}
+use Rattle.cert_text.specs.Writing.{said_by}
 
 -- What was read of a list's text: the list that it spells, which can be written, or its first fault.
 abbrev pub IsListRead : (text : List ℕ) → Result (Vec (List Placement) Global) ReadFault → Type 0

@@ -3,13 +3,14 @@
 ghost use Rattle.std.specs.Prelude.{◌≤◌, IfOk, MatchBool, length};
 ghost use Rattle.match_board.specs.declared.limits.TheConstants.{MOST_WORKERS};
 ghost use Rattle.text_words.specs.Ranges.{IsVersion};
-ghost use Rattle.cert_tree.specs.CertificateSpelling.{IsCertificateWithin};
-ghost use Rattle.cert_tree.specs.Writing.{said_by};
+ghost use Rattle.cert_text.specs.CertificateSpelling.{IsCertificateWithin};
+ghost use Rattle.cert_text.specs.Writing.{said_by};
 ghost use Rattle.check_crew.specs.LemmaParts.{AreCut, AreOfParts, TellsOfLimits};
 
 use crate::lemma_parts::LemmaParts;
 use crate::orders::run_from_last;
-use cert_tree::{Certificate, Lemmas, are_symmetries_within_limits};
+use cert_text::{are_lemmas_within_limits, are_symmetries_within_limits};
+use cert_tree::{Certificate, Lemmas};
 use std::alloc::{AllocError, Global};
 use std::thread::Threads;
 use steal_crew::Work;
@@ -35,7 +36,7 @@ impl<'a, 'p> Work for Limits<'a, 'p> {
 
     fn one(&self, number: u32) -> Result<bool, AllocError> {
         let (first, last) = self.parts.bounds(number);
-        Ok(self.parts.lemmas.within_limits(self.version, first, last))
+        Ok(are_lemmas_within_limits(self.version, self.parts.lemmas, first, last))
     }
 }
 
@@ -85,7 +86,7 @@ fn are_lemmas_within<R: Threads + Sync>(
 {
     match LemmaParts::cut(alloc, lemmas, workers)? {
         Some(parts) => are_parts_within(rt, alloc, version, &parts, workers),
-        None => Ok(lemmas.within_limits(version, 0, lemmas.len())),
+        None => Ok(are_lemmas_within_limits(version, lemmas, 0, lemmas.len())),
     }
 }
 

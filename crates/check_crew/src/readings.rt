@@ -5,13 +5,14 @@ ghost use Rattle.match_board.specs.declared.limits.TheConstants.{MOST_LEMMAS, MO
 ghost use Rattle.text_words.specs.Bytes.{line_ends};
 ghost use Rattle.text_words.specs.Place.{fail};
 ghost use Rattle.text_words.specs.declared.faults.TextKind.TheVariants as kinds;
-ghost use Rattle.cert_tree.specs.CertificateSpelling.{certificate_spelling, IsCertificateWithin};
-ghost use Rattle.cert_tree.specs.CertificateText.{CertificateGives, Makes, Said, certificate_of};
-ghost use Rattle.cert_tree.specs.Parts.{AreRead, IsReadAt};
-ghost use Rattle.cert_tree.specs.Writing.{said_by};
+ghost use Rattle.cert_text.specs.CertificateSpelling.{certificate_spelling, IsCertificateWithin};
+ghost use Rattle.cert_text.specs.CertificateText.{CertificateGives, Makes, Said, certificate_of};
+ghost use Rattle.cert_text.specs.Parts.{AreRead, IsReadAt};
+ghost use Rattle.cert_text.specs.Writing.{said_by};
 
 use crate::orders::run_from_last;
-use cert_tree::{CertTextFault, Certificate, LemmaPart, Lemmas, cut_certificate, read_certificate};
+use cert_text::{CertTextFault, LemmaPart, cut_certificate, read_certificate};
+use cert_tree::{Certificate, Lemmas};
 use std::alloc::{AllocError, Global};
 use std::thread::Threads;
 use steal_crew::Work;

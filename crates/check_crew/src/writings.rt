@@ -2,15 +2,16 @@
 
 ghost use Rattle.std.specs.Prelude.{◌≡◌, ◌≤◌, ℕ, Ok, IfOk, length};
 ghost use Rattle.match_board.specs.declared.limits.TheConstants.{MOST_WORKERS};
-ghost use Rattle.cert_tree.specs.CertificateSpelling.{certificate_spelling, IsCertificateWithin};
-ghost use Rattle.cert_tree.specs.CertificateText.{Makes, certificate_of};
-ghost use Rattle.cert_tree.specs.Writing.{said_by};
+ghost use Rattle.cert_text.specs.CertificateSpelling.{certificate_spelling, IsCertificateWithin};
+ghost use Rattle.cert_text.specs.CertificateText.{Makes, certificate_of};
+ghost use Rattle.cert_text.specs.Writing.{said_by};
 ghost use Rattle.check_crew.specs.LemmaParts.{AreCut, AreLines, AreOfParts};
 
 use crate::lemma_parts::LemmaParts;
 use crate::limits::within_limits_with;
 use crate::orders::run_from_last;
-use cert_tree::{Certificate, join_certificate, write_certificate, write_lemma_lines};
+use cert_text::{join_certificate, write_certificate, write_lemma_lines};
+use cert_tree::Certificate;
 use std::alloc::{AllocError, Global};
 use std::thread::Threads;
 use steal_crew::Work;

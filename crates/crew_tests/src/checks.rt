@@ -1,7 +1,7 @@
 ghost use Rattle.std.specs.Prelude.{◌≤◌};
 
 use cert_check::Answer;
-use cert_tree::read_certificate;
+use cert_text::read_certificate;
 use match_board::limits::MOST_WORKERS;
 use match_crew::{Gate, check_with};
 use sample_puzzles::{turning_triangle, turning_triangle_list};

@@ -1,10 +1,11 @@
 ghost use Rattle.std.specs.Prelude.{◌≡◌, ◌<◌, ◌≤◌, ◌+◌, All, IfOk, length, vec_len};
-ghost use Rattle.text_words.specs.declared.ranges.TheConstants.{SECOND};
+ghost use Rattle.match_board.specs.declared.limits.TheConstants.{MOST_CELLS};
 ghost use Rattle.cert_tree.specs.Certificate.{piece_of};
-ghost use Rattle.cert_tree.specs.CertificateSpelling.{IsLemmaWithin};
+ghost use Rattle.cert_tree.specs.Limits.{IsLemmaWithin};
 ghost use Rattle.piece_desk.specs.Desks.{IsOf};
 
-use cert_tree::{AssembleFault, Lemma, Node, Pairs, read_lemma, write_certificate, write_lemma};
+use cert_text::{WithinLimits, read_lemma, write_certificate, write_lemma};
+use cert_tree::{AssembleFault, Lemma, Node, Pairs};
 use piece_desk::{Desk, Receipt};
 use sample_puzzles::{
     TWIN_TILES_AFTER_FIVE, TWIN_TILES_CERTIFICATE, TWIN_TILES_FROM_THE_ROOT, exchange_of_twins,
@@ -34,7 +35,7 @@ fn post_at_last<R: Wait>(
     lemma: Lemma,
     text: &[u8],
 ) -> Result<Receipt, Fail>
-    requires { IsLemmaWithin SECOND (piece_of lemma) }
+    requires { IsLemmaWithin MOST_CELLS (piece_of lemma) }
     ensures { IfOk result (IsOf desk.now) }
 {
     let same = match desk.post(rt, lemma) {

@@ -1,16 +1,16 @@
 -- What a solve of a puzzle comes to.
 use Rattle.std.specs.Prelude.{◌≡◌, ◌≤◌, ℕ, List, All, Vec, length}
 use Rattle.std.specs.declared.alloc.Global.{Global}
-use Rattle.match_board.specs.declared.limits.TheConstants.{MOST_ARRANGEMENTS, MOST_LEMMAS}
+use Rattle.match_board.specs.declared.limits.TheConstants.{MOST_ARRANGEMENTS, MOST_CELLS, MOST_LEMMAS, MOST_LEVELS}
 use Rattle.match_puzzle.specs.Puzzle.{Task}
 use Rattle.match_puzzle.specs.declared.placements.Placement.{Placement}
 use Rattle.match_text.specs.ListSpelling.{IsListWithin}
 use Rattle.text_words.specs.declared.ranges.TheConstants.{SECOND}
 use Rattle.cert_tree.specs.Certificate.{Contents}
-use Rattle.cert_tree.specs.CertificateSpelling.{IsCertificateWithin}
 use Rattle.cert_tree.specs.Tree.{Tree}
-use Rattle.cert_tree.specs.TreeSpelling.{IsTreeWithin}
-use Rattle.cert_tree.specs.Writing.{said_by}
+use Rattle.cert_tree.specs.Limits.{IsTreeWithin}
+use Rattle.cert_text.specs.CertificateSpelling.{IsCertificateWithin}
+use Rattle.cert_text.specs.Writing.{said_by}
 use Rattle.match_puzzle.specs.Arrangement.{AreArrangements}
 use Rattle.steal_crew.specs.Counts.{total, times, once_below}
 use Rattle.piece_desk.specs.FlatDesks.{IsOfFlat}
@@ -29,7 +29,7 @@ solve_of_compile compile.Memory = solve.Memory
 
 -- Where no more was found than may be listed, the tree is within the limits of a lemma's text.
 abbrev pub IsTreeWithinWith : (found : List (List Placement)) → Tree → Type 0
-IsTreeWithinWith found tree = length found ≤ MOST_ARRANGEMENTS → IsTreeWithin SECOND SECOND.most_levels tree
+IsTreeWithinWith found tree = length found ≤ MOST_ARRANGEMENTS → IsTreeWithin MOST_CELLS MOST_LEVELS tree
 
 -- Its lemma is on the desk, and what it found are arrangements; or the branch was given up.
 abbrev pub IsOutcomeOf : Task → FlatDesk → Searched → Type 0

@@ -5,9 +5,8 @@ ghost use Rattle.match_puzzle.specs.declared.placements.Pair.{Pair as PlacedPair
 ghost use Rattle.match_puzzle.specs.declared.placements.Placement.{Placement};
 ghost use Rattle.steal_crew.specs.LiveHands.{Gave};
 ghost use Rattle.match_puzzle.specs.Arrangement.{IsArrangement, AreArrangements};
-ghost use Rattle.text_words.specs.declared.ranges.TheConstants.{SECOND};
-ghost use Rattle.cert_tree.specs.CertificateSpelling.{IsLemmaWithin};
-ghost use Rattle.cert_tree.specs.TreeSpelling.{IsTreeWithin};
+ghost use Rattle.match_board.specs.declared.limits.TheConstants.{MOST_CELLS, MOST_LEVELS};
+ghost use Rattle.cert_tree.specs.Limits.{IsLemmaWithin, IsTreeWithin};
 ghost use Rattle.match_crew.specs.Solving.{IsOutcomeOf, IsTreeWithinWith};
 
 use crate::branches::{OpenBranch, fit_in_turn, rising_by_cell};
@@ -134,8 +133,8 @@ impl<'a, T: Wait, W: Watch> Searches<'a, T, W> {
         pairs: &[Pair],
         tree: PackedTree,
     ) -> Result<Option<PackedLemma>, AllocError>
-        requires { IsTreeWithin SECOND SECOND.most_levels tree }
-        ensures { IfOk result (λ o. IfSome o (IsLemmaWithin SECOND)) }
+        requires { IsTreeWithin MOST_CELLS MOST_LEVELS tree }
+        ensures { IfOk result (λ o. IfSome o (IsLemmaWithin MOST_CELLS)) }
     {
         let prefix = rising_by_cell(self.shared.alloc, pairs)?;
         let lemma = PackedLemma::new(number, prefix, tree);

@@ -6,8 +6,8 @@ ghost use Rattle.match_board.specs.declared.limits.TheConstants.{MOST_DEPTH, MOS
 ghost use Rattle.match_puzzle.specs.Arrangement.{IsArrangement, AreArrangements};
 ghost use Rattle.match_puzzle.specs.declared.placements.Placement.{Placement};
 ghost use Rattle.puzzle_symmetry.specs.Symmetry.{IsSymmetry};
-ghost use Rattle.cert_tree.specs.CertificateSpelling.{IsCertificateWithin};
-ghost use Rattle.cert_tree.specs.Writing.{said_by};
+ghost use Rattle.cert_text.specs.CertificateSpelling.{IsCertificateWithin};
+ghost use Rattle.cert_text.specs.Writing.{said_by};
 ghost use Rattle.piece_desk.specs.FlatDesks.{IsOfFlat};
 ghost use Rattle.xcc_form.specs.Options.{HasTooManyEntries};
 ghost use Rattle.match_crew.specs.Solving.{IsOutcomeOf, IsSearchedBy, IsSolvedBy};

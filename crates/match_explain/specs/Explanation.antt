@@ -9,8 +9,8 @@ use Rattle.match_puzzle.specs.declared.items.Item.TheVariants as items
 use Rattle.match_puzzle.specs.declared.placements.Pair.{Pair}
 use Rattle.text_words.specs.Spelling.{spaced}
 use Rattle.cert_tree.specs.Certificate.{Piece}
-use Rattle.cert_tree.specs.CertificateSpelling.{pair_word}
 use Rattle.cert_tree.specs.Tree.{Tree, branch, dead, found, same, image}
+use Rattle.cert_text.specs.CertificateSpelling.{pair_word}
 use Rattle.cert_check.specs.Derivation.{start_of}
 use Rattle.cert_check.specs.Setting.{Question, setting_at}
 use Rattle.cert_check.specs.TreeFaults.{IsNodeFault}

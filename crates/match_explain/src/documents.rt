@@ -1,6 +1,6 @@
 //! Documents whose texts are read by lines.
 
-use cert_tree::certificate_fault_place;
+use cert_text::certificate_fault_place;
 use match_text::{list_fault_place, puzzle_fault_place};
 use std::alloc::{AllocError, Global};
 use text_words::FaultPlace;

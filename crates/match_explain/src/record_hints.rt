@@ -2,7 +2,8 @@
 
 use crate::documents::{Document, LONGEST};
 use crate::text_hints::text_hint;
-use cert_tree::{AssembleFault, CertTextFault, LemmaLines, read_lemma_lines};
+use cert_text::{CertTextFault, LemmaLines, read_lemma_lines};
+use cert_tree::AssembleFault;
 use match_text::ListTextFault;
 use std::alloc::{AllocError, Global};
 

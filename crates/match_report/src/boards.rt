@@ -6,9 +6,8 @@ ghost use Rattle.text_words.specs.Spelling.{line_text, tile_word};
 ghost use Rattle.match_report.specs.BoardText.{colours_shown, cell_words, board_text};
 
 use match_puzzle::{Placement, Puzzle};
-use match_text::put_placement;
 use std::alloc::{AllocError, Global};
-use text_words::{character, put_number};
+use text_words::{character, put_number, put_placement};
 
 // The colours that the placed tile shows, as a tile's word.
 fn put_shown(text: &mut Vec<u8>, puzzle: &Puzzle, placement: Placement) -> Result<(), AllocError>

@@ -11,8 +11,8 @@ use Rattle.match_symmetry.specs.Suggestions.{HasLeastShift}
 use Rattle.puzzle_symmetry.specs.Symmetry.{IsPermutation, IsSymmetry}
 use Rattle.puzzle_symmetry.specs.declared.lines.SymmetryLine.{SymmetryLine}
 use Rattle.puzzle_symmetry.proofs.FaultLemmas.{few_colours}
-use Rattle.cert_tree.specs.CertificateSpelling.{AreColourImagesWithin, AreImagesWithin, IsSymmetryWithin}
-use Rattle.cert_tree.proofs.WiderLemmas.{each_within}
+use Rattle.cert_text.specs.CertificateSpelling.{AreColourImagesWithin, AreImagesWithin, IsSymmetryWithin}
+use Rattle.cert_text.proofs.WiderLemmas.{each_within}
 
 each_at : (P : ℕ → Type 0) (images : List ℕ) → ((i : ℕ) → i < length images → P (slice_index images i)) → AllByRecursion P images
 each_at P [] at = tt

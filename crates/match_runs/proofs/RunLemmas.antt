@@ -18,11 +18,11 @@ use Rattle.puzzle_symmetry.proofs.Reaching.{reached_is}
 use Rattle.match_text.specs.ListSpelling.{IsRowWithin, IsListWithin}
 use Rattle.text_words.specs.declared.ranges.TheConstants.{SECOND}
 use Rattle.text_words.specs.declared.faults.TextFault.{TextFault}
-use Rattle.text_words.specs.Ranges.{IsPlacementWithin}
+use Rattle.text_words.specs.Within.{IsPlacementWithin}
 use Rattle.cert_tree.specs.Certificate.{Contents, Piece}
-use Rattle.cert_tree.specs.CertificateText.{Said, Makes, CertificateGives}
 use Rattle.cert_tree.specs.declared.faults.AssembleFault.{AssembleFault}
-use Rattle.cert_tree.specs.declared.faults.CertTextFault.TheVariants.{Text, Assemble}
+use Rattle.cert_text.specs.CertificateText.{Said, Makes, CertificateGives}
+use Rattle.cert_text.specs.declared.faults.CertTextFault.TheVariants.{Text, Assemble}
 use Rattle.cert_check.specs.Setting.{Question, motions_of}
 use Rattle.puzzle_symmetry.specs.Complete.{AreSymmetries, IsCompleteList}
 use Rattle.cert_check.specs.Answer.{IsAnswer}

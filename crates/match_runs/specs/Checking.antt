@@ -8,9 +8,9 @@ use Rattle.match_text.specs.declared.faults.PuzzleTextFault.TheVariants as puzzl
 use Rattle.text_words.specs.declared.faults.ReadFault.TheVariants as lists
 use Rattle.cert_tree.specs.Certificate.{piece_number}
 use Rattle.cert_tree.specs.Assembly.{Assembles, IsAssembly}
-use Rattle.cert_tree.specs.CertificateText.{Said, certificate_of}
 use Rattle.cert_tree.specs.declared.faults.AssembleFault.TheVariants as assemblies
-use Rattle.cert_tree.specs.declared.faults.CertTextFault.TheVariants as certificates
+use Rattle.cert_text.specs.CertificateText.{Said, certificate_of}
+use Rattle.cert_text.specs.declared.faults.CertTextFault.TheVariants as certificates
 use Rattle.cert_check.specs.Setting.{Question}
 use Rattle.puzzle_symmetry.specs.Complete.{IsCompleteList}
 use Rattle.cert_check.specs.Answer.{IsAnswer, IsSound}

@@ -15,8 +15,8 @@ use Rattle.text_words.specs.declared.faults.ReadFault.{ReadFault}
 use Rattle.text_words.specs.declared.faults.ReadFault.TheVariants as list_text
 use Rattle.cert_tree.specs.declared.faults.AssembleFault.{AssembleFault}
 use Rattle.cert_tree.specs.declared.faults.AssembleFault.TheVariants as assemblies
-use Rattle.cert_tree.specs.declared.faults.CertTextFault.{CertTextFault}
-use Rattle.cert_tree.specs.declared.faults.CertTextFault.TheVariants as cert_text
+use Rattle.cert_text.specs.declared.faults.CertTextFault.{CertTextFault}
+use Rattle.cert_text.specs.declared.faults.CertTextFault.TheVariants as cert_text
 use Rattle.symmetry_orbits.specs.declared.expansions.ExpandFault.{ExpandFault}
 use Rattle.symmetry_orbits.specs.declared.expansions.ExpandFault.TheVariants as expansions
 use Rattle.match_crew.specs.declared.faults.SolveFault.{SolveFault}

@@ -15,7 +15,7 @@ use crate::faults::{RunFault, words_line};
 use crate::hints::{HintedFault, hint_on};
 use crate::running::run_by;
 use byte_streams::{Document, MadeText, OneSink, OneSource, Sink, Source, Text};
-use cert_tree::write_symmetries;
+use cert_text::write_symmetries;
 use match_board::limits::MOST_ENTRIES;
 use match_picture::write_puzzle_picture;
 use match_puzzle::{Partial, Puzzle};

@@ -13,7 +13,8 @@ ghost use Rattle.match_runs.specs.FaultText.{run_of_compile, run_of_expand, run_
 ghost use Rattle.match_runs.specs.FaultText.{solve_fault_words};
 
 use byte_streams::{Document, Failed, FileFault, InputFault};
-use cert_tree::{AssembleFault, CertTextFault};
+use cert_text::CertTextFault;
+use cert_tree::AssembleFault;
 use match_board::{BoardFault, TilesFault};
 use match_crew::SolveFault;
 use match_puzzle::{ArrangementFault, PuzzleFault};

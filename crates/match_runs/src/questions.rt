@@ -7,13 +7,14 @@ ghost use Rattle.byte_streams.specs.Documents.{AreShort};
 ghost use Rattle.byte_streams.specs.LentTexts.{texts_of};
 ghost use Rattle.match_text.specs.Lists.{list_of};
 ghost use Rattle.match_text.specs.Puzzles.{PuzzleReads};
-ghost use Rattle.cert_tree.specs.CertificateText.{CertificateGives, certificate_of};
+ghost use Rattle.cert_text.specs.CertificateText.{CertificateGives, certificate_of};
 ghost use Rattle.match_runs.specs.Checking.{CheckFails, Spells};
 
 use crate::faults::RunFault;
 use byte_streams::Documents;
 use cert_check::Question;
-use cert_tree::{CertTextFault, Certificate, read_certificate};
+use cert_text::{CertTextFault, read_certificate};
+use cert_tree::Certificate;
 use match_crew::{ReadTexts, read_texts_with};
 use match_puzzle::{Arrangement, Puzzle};
 use match_text::{read_list, read_puzzle};

@@ -1,5 +1,4 @@
 pub mod ListLemmas
-pub mod ColourLemmas
 pub mod ShapeLemmas
 pub mod BoardLineLemmas
 pub mod PuzzleLineLemmas

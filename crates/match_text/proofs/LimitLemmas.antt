@@ -4,6 +4,7 @@ use Rattle.match_board.specs.declared.limits.TheConstants.{MOST_PLAIN_CELLS, MOS
 use Rattle.text_words.specs.declared.ranges.Ranges.{Ranges}
 use Rattle.text_words.specs.Ranges.{IsVersion, ranges_of, AreRanges}
 use Rattle.text_words.proofs.RangesLemmas.{are_ranges, second_is}
+use Rattle.text_words.specs.Within.{IsRuleWithin, IsWordWithin}
 use Rattle.std.specs.Prelude.{slice_get, slice_index_or}
 use Rattle.std.specs.List.{AllByRecursion}
 use Rattle.std.proofs.lemmas.List.{get_or_default}
@@ -14,7 +15,7 @@ use Rattle.match_board.specs.declared.figures.Figure.{Figure}
 use Rattle.match_board.specs.declared.figures.Figure.TheVariants.{Rectangle, Triangle, Hexagon, Shape}
 use Rattle.match_board.proofs.Places.{above_in_rectangle, above_in_triangle, cells_in_hexagon, whole_row, left_of_later, met_place}
 use Rattle.match_puzzle.specs.Puzzle.{Task, BorderRule, free, one, each, IsPuzzle, IsAsLongAsBorder, StandsInRule}
-use Rattle.match_text.specs.PuzzleSpelling.{IsFigureWithin, IsRuleWithin, IsBorderWithin, IsWordWithin, AreRulesWithin, IsTaskWithin}
+use Rattle.match_text.specs.PuzzleSpelling.{IsFigureWithin, IsBorderWithin, AreRulesWithin, IsTaskWithin}
 
 -- ---- boards
 

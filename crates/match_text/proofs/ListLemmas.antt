@@ -16,7 +16,7 @@ use Rattle.text_words.specs.Place.{Place, Read, ◌>>=◌, give, fail, Says, som
 use Rattle.text_words.specs.declared.faults.TextFault.{TextFault}
 use Rattle.text_words.specs.declared.ranges.Ranges.{Ranges}
 use Rattle.text_words.specs.declared.ranges.TheConstants.{FIRST, SECOND}
-use Rattle.text_words.specs.Ranges.{ranges_of, AreRanges, IsPlacementWithin}
+use Rattle.text_words.specs.Ranges.{ranges_of, AreRanges}
 use Rattle.match_text.specs.Lists.{ListSaid, arrangement_line, list_text, list_said, rows_of, list_of}
 use Rattle.text_words.specs.Spelling.{text_of, placement_word, first_words, count_words, end_lines}
 use Rattle.match_text.specs.ListSpelling.{arrangement_words, list_head, list_lines, list_spelling, said_spelling, IsRowWithin, IsListWithin, IsSpelledIn, IsSaidWithin}
@@ -26,6 +26,7 @@ use Rattle.text_words.proofs.LineLemmas.{TakesLines, takes_line, takes_entries, 
 use Rattle.text_words.proofs.TextLaws.{reads_alone, reads_each, ends_where_cut}
 use Rattle.text_words.proofs.WritingLemmas.{text_of-append}
 use Rattle.text_words.proofs.RangesLemmas.{are_ranges, first_is, second_is}
+use Rattle.text_words.specs.Within.{IsPlacementWithin}
 
 takes_arrangement : (ranges : Ranges) → AreRanges ranges → TakesLines (arrangement_line ranges) (λ row. arrangement_words row ∷ []) (IsRowWithin ranges)
 unfolding arrangement_line

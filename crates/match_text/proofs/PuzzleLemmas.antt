@@ -11,7 +11,7 @@ use Rattle.text_words.specs.Laws.{ReadsSpellingsAlone, ReadsEachSpelling, EndsWh
 use Rattle.text_words.specs.Place.{Place, Read, ◌>>=◌, give, times, opening, counted, closing, start}
 use Rattle.match_text.specs.Puzzles.{mating_part, board_part, turns_line, border_line, tile_line, puzzle_text, puzzle_of}
 use Rattle.text_words.specs.Spelling.{text_of, first_words, count_words, end_lines}
-use Rattle.match_text.specs.PuzzleSpelling.{board_lines, IsFigureWithin, turns_words, border_words, tile_words, puzzle_lines, puzzle_spelling, IsBorderWithin, IsMatingWithin, IsWordWithin, IsTaskWithin, mates_lines}
+use Rattle.match_text.specs.PuzzleSpelling.{board_lines, IsFigureWithin, turns_words, border_words, tile_words, puzzle_lines, puzzle_spelling, IsBorderWithin, IsMatingWithin, IsTaskWithin, mates_lines}
 use Rattle.text_words.proofs.CutLemmas.{CutsShort, LeavesNothing, place, bind_ok, ok_is, cuts_bind, cuts_give, cuts_times, cuts_opening, cuts_counted, cuts_closing, leaves_closing, leaves_after}
 use Rattle.text_words.proofs.LineLemmas.{takes_opening, takes_counted, closing_is, closing_again, times_is, times_again, lines_then}
 use Rattle.match_text.proofs.BoardLineLemmas.{takes_board, cuts_board}
@@ -19,6 +19,7 @@ use Rattle.match_text.proofs.PuzzleLineLemmas.{mating_is, mating_again, cuts_mat
 use Rattle.text_words.proofs.RangesLemmas.{are_ranges}
 use Rattle.text_words.proofs.TextLaws.{reads_alone, reads_each, ends_where_cut}
 use Rattle.text_words.proofs.WritingLemmas.{text_of-append, eight_parts}
+use Rattle.text_words.specs.Within.{IsWordWithin}
 
 abbrev task : Figure → Bool → BorderRule → Mating → List (List ℕ) → Task
 task board turns border mating words = record { board = board; turns = turns; border = border; mating = mating; words = words }

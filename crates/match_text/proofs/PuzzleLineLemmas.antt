@@ -15,11 +15,12 @@ use Rattle.text_words.specs.Words.{fixed_in, colour_in, rule_in, tile_in}
 use Rattle.text_words.specs.Place.{Place, Read, ◌>>=◌, give, word_by, entries, some_entries}
 use Rattle.match_text.specs.Puzzles.{turns_in, turns_line, border_kind_in, border_rule, border_line, tile_line, mates_line, mated_part, mating_part}
 use Rattle.text_words.specs.Spelling.{text_of, colour_word, rule_word, tile_word}
-use Rattle.match_text.specs.PuzzleSpelling.{turns_word, turns_words, border_words, tile_words, IsRuleWithin, IsBorderWithin, IsMatingWithin, IsWordWithin, mates_words, mates_lines}
+use Rattle.match_text.specs.PuzzleSpelling.{turns_word, turns_words, border_words, tile_words, IsBorderWithin, IsMatingWithin, mates_words, mates_lines}
 use Rattle.text_words.proofs.CutLemmas.{CutsShort, place, bind_ok, ok_is, cuts_bind, cuts_give, cuts_word, cuts_entries, cuts_some_entries, cuts_word_line}
 use Rattle.text_words.proofs.WordLemmas.{Spells, judged_ok, judged_ok_is, spells_fixed, clean-words, is_clean, are_clean}
-use Rattle.match_text.proofs.ColourLemmas.{spells_colour, spells_rule, spells_tile, clean-colour, clean-rule, clean-tile}
+use Rattle.text_words.proofs.ColourLemmas.{spells_colour, spells_rule, spells_tile, clean-colour, clean-rule, clean-tile}
 use Rattle.text_words.proofs.LineLemmas.{TakesRest, TakesLines, takes_word, takes_then_rest, takes_choice, takes_all, takes_line, takes_same, takes_entries, takes_any_entries, takes_two_words}
+use Rattle.text_words.specs.Within.{IsRuleWithin, IsWordWithin}
 
 -- ---- turns
 

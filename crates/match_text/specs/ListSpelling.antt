@@ -4,9 +4,10 @@ use Rattle.match_board.specs.declared.limits.TheConstants.{MOST_ARRANGEMENTS}
 use Rattle.std.specs.List.{AllByRecursion}
 use Rattle.match_puzzle.specs.declared.placements.Placement.{Placement}
 use Rattle.text_words.specs.declared.ranges.Ranges.{Ranges}
-use Rattle.text_words.specs.Ranges.{IsVersion, ranges_of, IsPlacementWithin}
+use Rattle.text_words.specs.Ranges.{IsVersion, ranges_of}
 use Rattle.match_text.specs.Lists.{ListSaid}
 use Rattle.text_words.specs.Spelling.{text_of, placement_word, first_words, count_words, end_lines}
+use Rattle.text_words.specs.Within.{IsPlacementWithin}
 
 abbrev pub arrangement_words : List Placement → List (List ℕ)
 arrangement_words row = map placement_word row

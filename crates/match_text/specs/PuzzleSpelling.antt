@@ -10,6 +10,7 @@ use Rattle.match_puzzle.specs.Mates.{Mating, IsOfVersion}
 use Rattle.match_puzzle.specs.Puzzle.{Task, BorderRule, free, one, each}
 use Rattle.text_words.specs.declared.ranges.Ranges.{Ranges}
 use Rattle.text_words.specs.Ranges.{ranges_of}
+use Rattle.text_words.specs.Within.{IsRuleWithin, IsWordWithin}
 use Rattle.text_words.specs.Spelling.{text_of, colour_word, rule_word, tile_word, first_words, count_words, end_lines}
 
 abbrev pub mates_words : List ℕ → List (List ℕ)
@@ -102,10 +103,6 @@ IsFigureWithin version (Hexagon size) = size ≤ MOST_LENGTH
 IsFigureWithin version (Shape width height mask) =
     (version ≡ 2) × IsShapeLength width × IsShapeLength height × MarksItsPlaces (Shape width height mask)
 
-abbrev pub IsRuleWithin : Option ℕ → Type 0
-IsRuleWithin None = Unit {0}
-IsRuleWithin (Some colour) = colour < MOST_COLOURS
-
 -- There is each colour that the border asks for.
 abbrev pub AreRulesWithin : BorderRule → Type 0
 AreRulesWithin free = Unit {0}
@@ -122,10 +119,6 @@ IsBorderWithin ranges (each rules) =
 abbrev pub IsMatingWithin : Mating → Type 0
 IsMatingWithin m =
     IsOfVersion m × (length m.mates ≤ MOST_COLOURS) × AllByRecursion (λ colour. colour < MOST_COLOURS) m.mates
-
--- three or four colours
-abbrev pub IsWordWithin : List ℕ → Type 0
-IsWordWithin word = ((length word ≡ 3) ⊎ (length word ≡ 4)) × AllByRecursion (λ colour. colour < MOST_COLOURS) word
 
 -- The puzzle is within the limits of its text; there may be no such puzzle.
 pub record IsTaskWithin (p : Task) : Type 0 where

@@ -11,7 +11,7 @@ mod tile_spellings;
 
 pub use faults::{ListTextFault, PuzzleTextFault};
 pub use laws::{list_laws, puzzle_laws};
-pub use list_spellings::{list_within_limits, put_placement, write_list};
+pub use list_spellings::{list_within_limits, write_list};
 pub use lists::{list_fault_place, read_list};
 pub use puzzle_spellings::write_puzzle;
 pub use puzzles::{BoardLine, PuzzleText, puzzle_fault_place, read_puzzle, read_puzzle_text};

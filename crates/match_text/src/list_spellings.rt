@@ -5,14 +5,14 @@ ghost use Rattle.std.specs.Prelude.{IfOk, OnOk, MatchBool};
 ghost use Rattle.std.specs.List.{list_all, AllByRecursion};
 ghost use Rattle.match_text.specs.Lists.{list_of};
 ghost use Rattle.text_words.specs.Spelling.{line_text, text_of, space_before, placement_word};
-ghost use Rattle.text_words.specs.Ranges.{IsPlacementWithin};
+ghost use Rattle.text_words.specs.Within.{IsPlacementWithin};
 ghost use Rattle.match_text.specs.ListSpelling.{arrangement_words, list_head, list_spelling};
 ghost use Rattle.match_text.specs.ListSpelling.{IsRowWithin, IsListWithin};
 
 use match_board::limits::{LAST_TURN, MOST_ARRANGEMENTS};
 use match_puzzle::{Arrangement, Placement};
 use std::alloc::{AllocError, Global};
-use text_words::{FIRST, Ranges, SECOND, put_end, put_number, put_number_line};
+use text_words::{FIRST, Ranges, SECOND, put_end, put_number_line, put_placement};
 
 fn is_placement_within(ranges: &Ranges, placement: &Placement) -> bool
     ensures { MatchBool result (IsPlacementWithin ranges.now placement.now)
@@ -59,16 +59,6 @@ pub fn list_within_limits(list: &[Arrangement]) -> bool
         ((text : List ℕ) → list_of text ≢ Ok list.now) }
 {
     is_list_within(&SECOND, list)
-}
-
-/// Writes a placement.
-pub fn put_placement(text: &mut Vec<u8>, placement: Placement) -> Result<(), AllocError>
-    ensures { OnOk result (text.new.items ≡ text.old.items ++ placement_word placement) }
-{
-    put_number(text, u64::from(placement.tile))?;
-    text.push(b'.')?;
-    put_number(text, u64::from(placement.turn))?;
-    Ok(())
 }
 
 // The placement, behind a space if it isn't the first of its line.

@@ -11,9 +11,10 @@ ghost use Rattle.match_puzzle.specs.Puzzle.{rule_of, each, one, free};
 ghost use Rattle.match_text.specs.Puzzles.{PuzzleReads};
 ghost use Rattle.text_words.specs.Spelling.{line_text, text_of, colour_character, colour_word, rule_word};
 ghost use Rattle.text_words.specs.Spelling.{tile_word};
+ghost use Rattle.text_words.specs.Within.{IsRuleWithin};
 ghost use Rattle.match_text.specs.PuzzleSpelling.{mark_character, row_words, row_lines, board_lines};
 ghost use Rattle.match_text.specs.PuzzleSpelling.{board_words, turns_words, border_words, tile_words, puzzle_spelling};
-ghost use Rattle.match_text.specs.PuzzleSpelling.{IsRuleWithin, AreRulesWithin, mates_words, mates_lines};
+ghost use Rattle.match_text.specs.PuzzleSpelling.{AreRulesWithin, mates_words, mates_lines};
 
 use match_board::limits::MOST_COLOURS;
 use match_board::{Board, Figure, Tile};

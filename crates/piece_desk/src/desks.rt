@@ -3,29 +3,28 @@
 ghost use Rattle.std.specs.Prelude.{All, ◌≡◌, ◌<◌, ◌≤◌, ◌^◌, Ok, Err, IfOk, IfErr, IfSome, length, map};
 ghost use Rattle.std.specs.Iterator.{at_most};
 ghost use Rattle.cert_tree.specs.Certificate.{flat_piece, lent_piece, piece_of};
-ghost use Rattle.cert_tree.specs.CertificateSpelling.{IsLemmaWithin};
+ghost use Rattle.cert_tree.specs.Limits.{IsLemmaWithin};
 ghost use Rattle.cert_tree.specs.TurnedAssembly.{AssemblesTurned};
 ghost use Rattle.piece_desk.specs.Desks.{IsOf, lemma_of, posted_piece, places_left};
 
 use boxcar::tag::Tag;
 use boxcar::{Iter, Keeps, Pushed, Vec as Places};
 use cert_tree::{AssembleFault, Certificate, FlatLemma, Lemma, PackedLemma, assemble_turned};
-use match_board::limits::{MOST_ARRANGEMENTS, MOST_LEMMAS};
+use match_board::limits::{MOST_ARRANGEMENTS, MOST_CELLS, MOST_LEMMAS};
 use puzzle_symmetry::SymmetryLine;
 use std::alloc::{AllocError, Global};
 use std::marker::Model;
 use std::sync::Wait;
-use text_words::SECOND;
 
 // Each lemma on a desk is within the limits of its text.
 struct Within;
 
 impl Keeps<Lemma> for Within {
     ghost use Rattle.cert_tree.specs.Certificate.{piece_of};
-    ghost use Rattle.text_words.specs.declared.ranges.TheConstants.{SECOND};
-    ghost use Rattle.cert_tree.specs.CertificateSpelling.{IsLemmaWithin};
+    ghost use Rattle.match_board.specs.declared.limits.TheConstants.{MOST_CELLS};
+    ghost use Rattle.cert_tree.specs.Limits.{IsLemmaWithin};
 
-    ghost holds = { λ _ _ lemma. IsLemmaWithin SECOND (piece_of lemma) };
+    ghost holds = { λ _ _ lemma. IsLemmaWithin MOST_CELLS (piece_of lemma) };
 }
 
 /// Lemmas that threads put there for each other. None is ever taken away or changed.
@@ -52,10 +51,10 @@ impl Model for Receipt {
     ghost view = { λ receipt. receipt.token };
 
     ghost use Rattle.cert_tree.specs.Certificate.{piece_of};
-    ghost use Rattle.text_words.specs.declared.ranges.TheConstants.{SECOND};
-    ghost use Rattle.cert_tree.specs.CertificateSpelling.{IsLemmaWithin};
+    ghost use Rattle.match_board.specs.declared.limits.TheConstants.{MOST_CELLS};
+    ghost use Rattle.cert_tree.specs.Limits.{IsLemmaWithin};
 
-    ghost invariant = { λ receipt. IsLemmaWithin SECOND (piece_of receipt.token.value) };
+    ghost invariant = { λ receipt. IsLemmaWithin MOST_CELLS (piece_of receipt.token.value) };
 }
 
 /// A walk over lemmas that were posted.
@@ -75,7 +74,7 @@ impl Desk {
     ///
     /// A post takes no lock, but while another thread makes room for further lemmas it waits until there is room.
     pub fn post<R: Wait>(&self, rt: &R, lemma: Lemma) -> Result<Receipt, Lemma>
-        requires { IsLemmaWithin SECOND (piece_of lemma) }
+        requires { IsLemmaWithin MOST_CELLS (piece_of lemma) }
         ensures posted { IfOk result (λ receipt. IsOf self.now receipt × (lemma_of receipt ≡ lemma)) }
         ensures back { IfErr result (λ same. same ≡ lemma) }
     {
@@ -87,7 +86,7 @@ impl Desk {
     pub fn read<'a>(&'a self, receipt: &Receipt) -> &'a Lemma
         requires { IsOf self.now receipt.now }
         ensures lemma { result.now ≡ lemma_of receipt.now }
-        ensures within { IsLemmaWithin SECOND (piece_of result.now) }
+        ensures within { IsLemmaWithin MOST_CELLS (piece_of result.now) }
     {
         self.posted.value(&receipt.token)
     }
@@ -104,7 +103,7 @@ impl Desk {
     fn packed(&self, alloc: Global, receipts: &[Receipt]) -> Result<Vec<PackedLemma>, AllocError>
         requires { All (λ receipt. IsOf self.now receipt) receipts.now }
         ensures pieces { IfOk result (λ lemmas. lemmas.items ≡ map posted_piece receipts.now) }
-        ensures within { IfOk result (λ lemmas. All (IsLemmaWithin SECOND) lemmas.items) }
+        ensures within { IfOk result (λ lemmas. All (IsLemmaWithin MOST_CELLS) lemmas.items) }
     {
         let mut lemmas = Vec::with_capacity(alloc, receipts.len())?;
         for receipt in receipts {
@@ -151,9 +150,9 @@ impl Desk {
 
 // The lemmas, lent, in their order.
 fn lend_all(alloc: Global, packed: &[PackedLemma]) -> Result<Vec<FlatLemma<'_>>, AllocError>
-    requires { All (IsLemmaWithin SECOND) packed.now }
+    requires { All (IsLemmaWithin MOST_CELLS) packed.now }
     ensures pieces { IfOk result (λ lemmas. map flat_piece lemmas.items ≡ packed.now) }
-    ensures within { IfOk result (λ lemmas. All (λ lemma. IsLemmaWithin SECOND (flat_piece lemma)) lemmas.items) }
+    ensures within { IfOk result (λ lemmas. All (λ lemma. IsLemmaWithin MOST_CELLS (flat_piece lemma)) lemmas.items) }
 {
     let mut lemmas = Vec::with_capacity(alloc, packed.len())?;
     for lemma in packed {
@@ -165,9 +164,9 @@ fn lend_all(alloc: Global, packed: &[PackedLemma]) -> Result<Vec<FlatLemma<'_>>,
 impl<'a> Iterator for Shown<'a> {
     type Item = &'a Lemma;
 
-    ghost use Rattle.text_words.specs.declared.ranges.TheConstants.{SECOND};
+    ghost use Rattle.match_board.specs.declared.limits.TheConstants.{MOST_CELLS};
 
-    ghost next_gives = { λ old item new. IfSome item (λ lemma. IsLemmaWithin SECOND (lent_piece lemma))
+    ghost next_gives = { λ old item new. IfSome item (λ lemma. IsLemmaWithin MOST_CELLS (lent_piece lemma))
         × (places_left new ≤ places_left old)
         × IfSome item (λ _. places_left new < places_left old) };
 

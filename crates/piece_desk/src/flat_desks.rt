@@ -1,30 +1,29 @@
 //! Desks of lemmas that lie flat, and receipts of what was posted there.
 
 ghost use Rattle.std.specs.Prelude.{All, ◌≡◌, ◌<◌, ◌≤◌, ◌^◌, Ok, Err, IfOk, IfErr, length, map};
-ghost use Rattle.text_words.specs.declared.ranges.TheConstants.{SECOND};
+ghost use Rattle.match_board.specs.declared.limits.TheConstants.{MOST_CELLS};
 ghost use Rattle.cert_tree.specs.Certificate.{flat_piece};
-ghost use Rattle.cert_tree.specs.CertificateSpelling.{IsLemmaWithin};
+ghost use Rattle.cert_tree.specs.Limits.{IsLemmaWithin};
 ghost use Rattle.cert_tree.specs.TurnedAssembly.{AssemblesTurned};
 ghost use Rattle.piece_desk.specs.FlatDesks.{IsOfFlat, flat_posted};
 
 use boxcar::tag::Tag;
 use boxcar::{Keeps, Pushed, Vec as Places};
 use cert_tree::{AssembleFault, Certificate, FlatLemma, PackedLemma, assemble_turned};
-use match_board::limits::{MOST_ARRANGEMENTS, MOST_LEMMAS};
+use match_board::limits::{MOST_ARRANGEMENTS, MOST_CELLS, MOST_LEMMAS};
 use puzzle_symmetry::SymmetryLine;
 use std::alloc::{AllocError, Global};
 use std::marker::Model;
 use std::sync::Wait;
-use text_words::SECOND;
 
 // Each lemma on a desk is within the limits of its text.
 struct PackedWithin;
 
 impl Keeps<PackedLemma> for PackedWithin {
-    ghost use Rattle.text_words.specs.declared.ranges.TheConstants.{SECOND};
-    ghost use Rattle.cert_tree.specs.CertificateSpelling.{IsLemmaWithin};
+    ghost use Rattle.match_board.specs.declared.limits.TheConstants.{MOST_CELLS};
+    ghost use Rattle.cert_tree.specs.Limits.{IsLemmaWithin};
 
-    ghost holds = { λ _ _ lemma. IsLemmaWithin SECOND lemma };
+    ghost holds = { λ _ _ lemma. IsLemmaWithin MOST_CELLS lemma };
 }
 
 /// What [`Desk`](crate::Desk) is, of lemmas that lie flat, so that whoever posts one is done with its nodes.
@@ -50,10 +49,10 @@ impl Model for FlatReceipt {
 
     ghost view = { λ receipt. receipt.token };
 
-    ghost use Rattle.text_words.specs.declared.ranges.TheConstants.{SECOND};
-    ghost use Rattle.cert_tree.specs.CertificateSpelling.{IsLemmaWithin};
+    ghost use Rattle.match_board.specs.declared.limits.TheConstants.{MOST_CELLS};
+    ghost use Rattle.cert_tree.specs.Limits.{IsLemmaWithin};
 
-    ghost invariant = { λ receipt. IsLemmaWithin SECOND receipt.token.value };
+    ghost invariant = { λ receipt. IsLemmaWithin MOST_CELLS receipt.token.value };
 }
 
 impl FlatDesk {
@@ -67,7 +66,7 @@ impl FlatDesk {
     ///
     /// A post takes no lock, but while another thread makes room for further lemmas it waits until there is room.
     pub fn post<R: Wait>(&self, rt: &R, lemma: PackedLemma) -> Result<FlatReceipt, PackedLemma>
-        requires { IsLemmaWithin SECOND lemma }
+        requires { IsLemmaWithin MOST_CELLS lemma }
         ensures posted { IfOk result (λ receipt. IsOfFlat self.now receipt × (flat_posted receipt ≡ lemma)) }
         ensures back { IfErr result (λ same. same ≡ lemma) }
     {
@@ -79,7 +78,7 @@ impl FlatDesk {
     pub fn read<'a>(&'a self, receipt: &FlatReceipt) -> FlatLemma<'a>
         requires { IsOfFlat self.now receipt.now }
         ensures lemma { flat_piece result ≡ flat_posted receipt.now }
-        ensures within { IsLemmaWithin SECOND (flat_piece result) }
+        ensures within { IsLemmaWithin MOST_CELLS (flat_piece result) }
     {
         self.posted.value(&receipt.token).lend()
     }
@@ -92,7 +91,7 @@ impl FlatDesk {
     ) -> Result<Vec<FlatLemma<'a>>, AllocError>
         requires { All (λ receipt. IsOfFlat self.now receipt) receipts.now }
         ensures pieces { IfOk result (λ lemmas. map flat_piece lemmas.items ≡ map flat_posted receipts.now) }
-        ensures within { IfOk result (λ lemmas. All (λ lemma. IsLemmaWithin SECOND (flat_piece lemma)) lemmas.items) }
+        ensures within { IfOk result (λ lemmas. All (λ lemma. IsLemmaWithin MOST_CELLS (flat_piece lemma)) lemmas.items) }
     {
         let mut lemmas = Vec::with_capacity(alloc, receipts.len())?;
         for receipt in receipts {

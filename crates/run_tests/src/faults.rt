@@ -1,6 +1,7 @@
 //! The lines of faults.
 
-use cert_tree::{AssembleFault, CertTextFault};
+use cert_text::CertTextFault;
+use cert_tree::AssembleFault;
 use match_board::BoardFault;
 use match_crew::SolveFault;
 use match_puzzle::PuzzleFault;

@@ -7,3 +7,4 @@ pub mod CutLemmas
 pub mod LineLemmas
 pub mod TextLaws
 pub mod WritingLemmas
+pub mod ColourLemmas

@@ -2,7 +2,7 @@
 use Rattle.std.proofs.Common.{◌≡◌, ℕ, ◌^◌, ◌<◌, ◌≤◌, Bool, true, false, cond, eqb, not, ltb, leb, ◌&&◌, ◌||◌, List, [], ◌∷◌, ◌++◌, length, get_or, map, Option, Some, None, Result, Ok, Err, refl, sym, ap, subst, ◌∙◌, arith, codes, inl, inr, ⊎_elim}
 use Rattle.match_board.specs.declared.limits.TheConstants.{LAST_TURN}
 use Rattle.text_words.specs.declared.ranges.Ranges.{Ranges}
-use Rattle.text_words.specs.Ranges.{IsVersion, AreRanges, IsPlacementWithin}
+use Rattle.text_words.specs.Ranges.{IsVersion, AreRanges}
 use Rattle.text_words.specs.declared.faults.TextKind.{TextKind}
 use Rattle.std.specs.List.{AllByRecursion}
 use Rattle.std.specs.Fmt.{decimal}
@@ -16,6 +16,7 @@ use Rattle.match_puzzle.specs.declared.placements.Placement.{Placement}
 use Rattle.text_words.specs.Words.{◌>>=◌, fixed_in, version_in, is_number, number_in, placement_in, or_word}
 use Rattle.text_words.specs.Bytes.{onto, cut_at}
 use Rattle.text_words.specs.Spelling.{placement_word}
+use Rattle.text_words.specs.Within.{IsPlacementWithin}
 use Rattle.std.proofs.lemmas.Slice.Eq.{bytes_eq-Decides}
 
 -- A test passes the words that spell a value, and no others.

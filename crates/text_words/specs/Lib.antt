@@ -1,5 +1,6 @@
 pub mod Bytes
 pub mod Ranges
+pub mod Within
 pub mod Words
 pub mod Place
 pub mod Spelling

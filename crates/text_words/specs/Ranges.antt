@@ -1,7 +1,6 @@
 -- The versions of texts, and the ranges that their numbers have.
 use Rattle.std.specs.Prelude.{◌≡◌, ◌⊎◌, ◌≤◌, ◌+◌, ◌*◌, ◌==◌, if◌then◌else◌, ℕ}
-use Rattle.match_board.specs.declared.limits.TheConstants.{LAST_TURN, MOST_PLAIN_CELLS, MOST_CELLS}
-use Rattle.match_puzzle.specs.declared.placements.Placement.{Placement}
+use Rattle.match_board.specs.declared.limits.TheConstants.{MOST_PLAIN_CELLS, MOST_CELLS}
 use Rattle.text_words.specs.declared.ranges.Ranges.{Ranges}
 use Rattle.text_words.specs.declared.ranges.TheConstants.{FIRST, SECOND}
 
@@ -21,7 +20,3 @@ pub record AreRanges (ranges : Ranges) : Type 0 where
   pub rules : ranges.most_rules ≡ 4 * ranges.most_cells
   pub children : ranges.most_children ≡ 4 * ranges.most_cells
   pub levels : ranges.most_levels ≡ ranges.most_cells + 1
-
--- The placement's numbers are within the ranges.
-abbrev pub IsPlacementWithin : Ranges → Placement → Type 0
-IsPlacementWithin ranges p = (p.tile ≤ ranges.last_cell) × (p.turn ≤ LAST_TURN)

@@ -1,10 +1,11 @@
 //! Words and lines are written one after the other.
 
 ghost use Rattle.std.specs.Prelude.{◌≡◌, ◌++◌, ◌∷◌, [], ◌<◌, decimal, OnOk};
-ghost use Rattle.text_words.specs.Spelling.{colour_character, count_words, end_lines, first_words, text_of};
+ghost use Rattle.text_words.specs.Spelling.{colour_character, count_words, end_lines, placement_word, text_of};
 
 use itoa::Buffer;
 use match_board::limits::MOST_COLOURS;
+use match_puzzle::Placement;
 use std::alloc::AllocError;
 
 /// The character of a colour.
@@ -25,6 +26,16 @@ pub fn put_number(text: &mut Vec<u8>, number: u64) -> Result<(), AllocError>
 {
     let mut buffer = Buffer::new();
     text.extend_from_slice(buffer.format(number).as_bytes())?;
+    Ok(())
+}
+
+/// Writes a placement.
+pub fn put_placement(text: &mut Vec<u8>, placement: Placement) -> Result<(), AllocError>
+    ensures { OnOk result (text.new.items ≡ text.old.items ++ placement_word placement) }
+{
+    put_number(text, u64::from(placement.tile))?;
+    text.push(b'.')?;
+    put_number(text, u64::from(placement.turn))?;
     Ok(())
 }
 

@@ -5,11 +5,10 @@ use Rattle.match_board.specs.declared.limits.TheConstants.{MOST_CELLS, MOST_CHIL
 use Rattle.match_puzzle.specs.declared.placements.Placement.{Placement}
 use Rattle.xcc_form.specs.Options.{cover_of}
 use Rattle.xcc_form.specs.Correspondence.{IsSolutionOf}
-use Rattle.text_words.specs.declared.ranges.TheConstants.{SECOND}
 use Rattle.match_puzzle.specs.Fitting.{IsNumberOf}
 use Rattle.match_puzzle.specs.declared.items.Item.{Item}
 use Rattle.cert_tree.specs.Tree.{Tree, Forest, branch, dead, found, none, more, count}
-use Rattle.cert_tree.specs.TreeSpelling.{IsTreeWithin}
+use Rattle.cert_tree.specs.Limits.{IsTreeWithin}
 use Rattle.cert_tree.specs.Heads.{branch_head, heads_in, heads_of}
 use Rattle.cert_tree.specs.declared.heads.Head.{Head}
 use Rattle.cert_tree.proofs.HeadLemmas.{count-join}
@@ -132,7 +131,7 @@ module _ (start : Selection) where
         record {
           spent = omega (arith, total, spent, spent');
           numbers = all_more (length after.found.items) trees tree (all_up (length before.found.items) (length after.found.items) more' trees old.numbers) new.numbers;
-          within = λ few. within_more_trees (levels_below start) trees tree (old.within (omega (arith, few, more'))) (subst (λ n. IsTreeWithin SECOND n tree) levels (new.within few));
+          within = λ few. within_more_trees (levels_below start) trees tree (old.within (omega (arith, few, more'))) (subst (λ n. IsTreeWithin MOST_CELLS n tree) levels (new.within few));
           few = omega (arith, many, many', counted);
         }
 

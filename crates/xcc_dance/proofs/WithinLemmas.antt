@@ -3,35 +3,34 @@ use Rattle.std.proofs.Common.{◌<◌, ◌≤◌, ◌+◌, ◌*◌, ℕ, zero, s
 use Rattle.match_board.specs.declared.limits.TheConstants.{MOST_ARRANGEMENTS, MOST_CELLS, MOST_CHILDREN}
 use Rattle.match_puzzle.specs.declared.items.Item.{Item}
 use Rattle.match_puzzle.specs.declared.items.Item.TheVariants.{Cell, Tile}
-use Rattle.text_words.specs.declared.ranges.TheConstants.{SECOND}
 use Rattle.cert_tree.specs.Tree.{Tree, Forest, branch, dead, found, same, image, none, more, count}
-use Rattle.cert_tree.specs.TreeSpelling.{IsItemWithin, IsTreeWithin, AreTreesWithin}
+use Rattle.cert_tree.specs.Limits.{IsItemWithin, IsTreeWithin, AreTreesWithin}
 use Rattle.match_puzzle.specs.Fitting.{IsNumberOf}
 use Rattle.xcc_dance.proofs.GrowingLemmas.{with_last}
 
-one_level : (levels : ℕ) (tree : Tree) → IsTreeWithin SECOND (suc levels) tree → IsTreeWithin SECOND (levels + 1) tree
-one_level levels tree h = subst (λ n. IsTreeWithin SECOND n tree) (sym (add-one levels)) h
+one_level : (levels : ℕ) (tree : Tree) → IsTreeWithin MOST_CELLS (suc levels) tree → IsTreeWithin MOST_CELLS (levels + 1) tree
+one_level levels tree h = subst (λ n. IsTreeWithin MOST_CELLS n tree) (sym (add-one levels)) h
 
-pub found_within : (levels number n : ℕ) → number < n → n ≤ MOST_ARRANGEMENTS → IsTreeWithin SECOND (levels + 1) (found number)
+pub found_within : (levels number n : ℕ) → number < n → n ≤ MOST_ARRANGEMENTS → IsTreeWithin MOST_CELLS (levels + 1) (found number)
 found_within levels number n lt few = one_level levels (found number) (omega (arith, lt, few))
 
-item_within : (cells number : ℕ) (item : Item) → cells ≤ MOST_CELLS → number < 2 * cells → IsNumberOf cells number item → IsItemWithin SECOND item
+item_within : (cells number : ℕ) (item : Item) → cells ≤ MOST_CELLS → number < 2 * cells → IsNumberOf cells number item → IsItemWithin MOST_CELLS item
 item_within cells number (Cell cell) few lt of = let a = of.1 in omega (arith, few, a)
 item_within cells number (Tile tile) few lt of = omega (arith, few, lt, of)
 
-pub dead_within : (levels cells number : ℕ) (item : Item) → cells ≤ MOST_CELLS → number < 2 * cells → IsNumberOf cells number item → IsTreeWithin SECOND (levels + 1) (dead item)
+pub dead_within : (levels cells number : ℕ) (item : Item) → cells ≤ MOST_CELLS → number < 2 * cells → IsNumberOf cells number item → IsTreeWithin MOST_CELLS (levels + 1) (dead item)
 dead_within levels cells number item few lt is = one_level levels (dead item) (item_within cells number item few lt is)
 
-pub branch_within : (levels cells number : ℕ) (item : Item) (children : Forest) → cells ≤ MOST_CELLS → number < 2 * cells → 1 ≤ count children → count children ≤ MOST_CHILDREN → AreTreesWithin SECOND levels children → IsNumberOf cells number item → IsTreeWithin SECOND (levels + 1) (branch item children)
+pub branch_within : (levels cells number : ℕ) (item : Item) (children : Forest) → cells ≤ MOST_CELLS → number < 2 * cells → 1 ≤ count children → count children ≤ MOST_CHILDREN → AreTreesWithin MOST_CELLS levels children → IsNumberOf cells number item → IsTreeWithin MOST_CELLS (levels + 1) (branch item children)
 branch_within levels cells number item children few lt some most all is = one_level levels (branch item children) (item_within cells number item few lt is, some, most, all)
 
-pub within_more_trees : (levels : ℕ) (trees : Forest) (tree : Tree) → AreTreesWithin SECOND levels trees → IsTreeWithin SECOND levels tree → AreTreesWithin SECOND levels (with_last trees tree)
+pub within_more_trees : (levels : ℕ) (trees : Forest) (tree : Tree) → AreTreesWithin MOST_CELLS levels trees → IsTreeWithin MOST_CELLS levels tree → AreTreesWithin MOST_CELLS levels (with_last trees tree)
 within_more_trees levels none tree all one = (one, tt)
 within_more_trees levels (more t trees) tree all one = (all.0, within_more_trees levels trees tree all.1 one)
 
 mutual
   -- what is within so many levels is within more
-  pub deeper : (m n : ℕ) → m ≤ n → (t : Tree) → IsTreeWithin SECOND m t → IsTreeWithin SECOND n t
+  pub deeper : (m n : ℕ) → m ≤ n → (t : Tree) → IsTreeWithin MOST_CELLS m t → IsTreeWithin MOST_CELLS n t
   deeper zero n le t h = absurd h
   deeper (suc m) zero le t h = absurd (omega (arith, le))
   deeper (suc m) (suc n) le (branch item children) h = (h.0, h.1, h.2, all_deeper m n (omega (arith, le)) children h.3)
@@ -40,6 +39,6 @@ mutual
   deeper (suc m) (suc n) le (same lemma) h = h
   deeper (suc m) (suc n) le (image lemma symmetry) h = h
 
-  all_deeper : (m n : ℕ) → m ≤ n → (ts : Forest) → AreTreesWithin SECOND m ts → AreTreesWithin SECOND n ts
+  all_deeper : (m n : ℕ) → m ≤ n → (ts : Forest) → AreTreesWithin MOST_CELLS m ts → AreTreesWithin MOST_CELLS n ts
   all_deeper m n le none h = tt
   all_deeper m n le (more t ts) h = (deeper m n le t h.0, all_deeper m n le ts h.1)

@@ -1,11 +1,10 @@
 -- What a search comes to.
 use Rattle.std.specs.Prelude.{◌≡◌, ◌<◌, ◌≤◌, ℕ, Bool, true, false, List, Contains, length}
-use Rattle.match_board.specs.declared.limits.TheConstants.{MOST_ARRANGEMENTS, MOST_LEMMAS, MOST_SYMMETRIES}
+use Rattle.match_board.specs.declared.limits.TheConstants.{MOST_ARRANGEMENTS, MOST_CELLS, MOST_LEMMAS, MOST_LEVELS, MOST_SYMMETRIES}
 use Rattle.match_puzzle.specs.declared.placements.Placement.{Placement}
 use Rattle.match_puzzle.specs.declared.placements.Pair.{Pair}
-use Rattle.text_words.specs.declared.ranges.TheConstants.{SECOND}
 use Rattle.cert_tree.specs.Tree.{Tree, tree_of}
-use Rattle.cert_tree.specs.TreeSpelling.{IsTreeWithin}
+use Rattle.cert_tree.specs.Limits.{IsTreeWithin}
 use Rattle.xcc_form.specs.Options.{Compiled}
 use Rattle.xcc_dance.specs.Chosen.{Selection}
 use Rattle.xcc_dance.specs.Placing.{ArePairsOf, IsArrangementWith}
@@ -37,7 +36,7 @@ pub record IsSearched (x : Compiled) (prefix : List Pair) (tree : Tree) (found :
   pub found_are : (a : List Placement) → Contains found a → IsArrangementWith x.puzzle prefix a
   pub numbers : IsFoundBelow (length found) tree
   pub branch_nodes : branch_count tree ≡ branches
-  pub within : length found ≤ MOST_ARRANGEMENTS → IsTreeWithin SECOND SECOND.most_levels tree
+  pub within : length found ≤ MOST_ARRANGEMENTS → IsTreeWithin MOST_CELLS MOST_LEVELS tree
 
 -- All was found, and the engine is what it was, with link arrays each link and each size.
 abbrev pub IsDone : {S : Type 0} → (selection : S → Selection) → (before after : SearchState S) → List Pair → Tree

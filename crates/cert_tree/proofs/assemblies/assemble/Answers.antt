@@ -5,7 +5,7 @@ use Rattle.cert_tree.specs.Assembly.{HaveNoStranger, TellsLeast, how_often}
 use Rattle.cert_tree.specs.Certificate.{Piece, piece_number, piece_of}
 use Rattle.cert_tree.proofs.AssemblyLemmas.{first_stranger, no_strangers}
 use Rattle.cert_tree.proofs.ConversionLemmas.{short_pieces}
-use Rattle.cert_tree.proofs.ReadingLemmas.{tells_of_pieces}
+use Rattle.cert_tree.proofs.PieceLemmas.{tells_of_pieces}
 use Rattle.cert_tree.proofs.assemblies.assemble.Goals as goal
 use Rattle.cert_tree.proofs.assemblies.assemble.Goals.{After-least_stranger}
 

@@ -6,7 +6,7 @@ use Rattle.cert_tree.specs.Certificate.{Contents, Piece, IsNumbered, piece_numbe
 use Rattle.cert_tree.specs.Spans.{piece_at}
 use Rattle.cert_tree.specs.Assembly.{IsAssembly}
 use Rattle.cert_tree.proofs.AssemblyLemmas.{assembled_all}
-use Rattle.cert_tree.proofs.ReadingLemmas.{assembled_spans, assembled_lemmas}
+use Rattle.cert_tree.proofs.PieceLemmas.{assembled_spans, assembled_lemmas}
 use Rattle.cert_tree.proofs.assemblies.assemble_flat.Goals as goal
 use Rattle.cert_tree.proofs.assemblies.assemble_flat.Goals.{After-of_blocks-lemmas}
 

@@ -1,13 +1,13 @@
 use Rattle.std.proofs.Common.{◌≡◌, ◌≢◌, ◌≤◌, ◌<◌, List, None, length, map, reverse, ap, sym, subst, ◌∙◌}
 use Rattle.std.specs.Prelude.{All}
-use Rattle.text_words.specs.declared.ranges.TheConstants.{SECOND}
+use Rattle.match_board.specs.declared.limits.TheConstants.{MOST_CELLS}
 use Rattle.cert_tree.specs.declared.flat_lemmas.FlatLemma.{FlatLemma}
 use Rattle.cert_tree.specs.Assembly.{HaveNoStranger, IsAssembly, TellsLeast, how_often}
 use Rattle.cert_tree.specs.Certificate.{Contents, Piece, IsNumbered, flat_piece, piece_number}
-use Rattle.cert_tree.specs.CertificateSpelling.{IsLemmaWithin}
+use Rattle.cert_tree.specs.Limits.{IsLemmaWithin}
 use Rattle.cert_tree.specs.TurnedAssembly.{turned_piece}
 use Rattle.cert_tree.proofs.AssemblyLemmas.{first_stranger, no_strangers}
-use Rattle.cert_tree.proofs.ReadingLemmas.{tells_of_pieces, no_strangers_of, assembly_map}
+use Rattle.cert_tree.proofs.PieceLemmas.{tells_of_pieces, no_strangers_of, assembly_map}
 use Rattle.cert_tree.proofs.TurningLemmas.{turned_numbered, assembled_below, assembled_each, all_pieces}
 use Rattle.cert_tree.proofs.turnings.assemble_turned.Goals as goal
 use Rattle.cert_tree.proofs.turnings.assemble_turned.Goals.{After-least_stranger, After-turned_lemmas}
@@ -44,8 +44,8 @@ turned_lemmas-requires-clause-numbers c =
 
 pub turned_lemmas-requires-clause-within : goal.turned_lemmas-requires-clause-within
 turned_lemmas-requires-clause-within c =
-    subst (λ (lemmas : List FlatLemma). All (λ lemma. IsLemmaWithin SECOND (flat_piece lemma)) lemmas) (sym c.deref-2.ensures.value)
-    (assembled_each (λ (lemma : FlatLemma). lemma.number) (λ lemma. IsLemmaWithin SECOND (flat_piece lemma)) c.args.count c.args.pieces.items c.in_ok-lemmas.lemmas.items c.requires.within c.in_ok-lemmas.ensures.ok)
+    subst (λ (lemmas : List FlatLemma). All (λ lemma. IsLemmaWithin MOST_CELLS (flat_piece lemma)) lemmas) (sym c.deref-2.ensures.value)
+    (assembled_each (λ (lemma : FlatLemma). lemma.number) (λ lemma. IsLemmaWithin MOST_CELLS (flat_piece lemma)) c.args.count c.args.pieces.items c.in_ok-lemmas.lemmas.items c.requires.within c.in_ok-lemmas.ensures.ok)
 
 pub returns-in_err-lemmas-2-clause-memory : goal.returns-in_err-lemmas-2-clause-memory
 returns-in_err-lemmas-2-clause-memory c = λ _. none_past (goal.at.returns-in_err-lemmas-2-clause-memory c).After-least_stranger c.in_default.is
@@ -63,7 +63,7 @@ of-requires c =
     let turn = turned_piece c.args.count c.args.first.now in
     let made : c.in_ok-lemmas-2.lemmas ≡ reverse (map turn (sorted here)) = c.in_ok-lemmas-2.ensures ∙ ap (λ (ls : List FlatLemma). reverse (map turn (map flat_piece ls))) c.deref-2.ensures.value in
     subst (λ (lemmas : List Piece). IsNumbered (record { symmetries = c.args.symmetries.items; lemmas = lemmas })) (sym made)
-    (turned_numbered c.args.count c.args.first.now c.args.symmetries.items (map flat_piece c.args.pieces.items) (sorted here) c.requires.count c.requires.symmetries (all_pieces flat_piece (IsLemmaWithin SECOND) c.args.pieces.items c.requires.within) (assembly here))
+    (turned_numbered c.args.count c.args.first.now c.args.symmetries.items (map flat_piece c.args.pieces.items) (sorted here) c.requires.count c.requires.symmetries (all_pieces flat_piece (IsLemmaWithin MOST_CELLS) c.args.pieces.items c.requires.within) (assembly here))
 
 pub returns-clause-lemmas : goal.returns-clause-lemmas
 returns-clause-lemmas c =

@@ -1,7 +1,7 @@
 use Rattle.std.proofs.Common.{◌≡◌, ℕ, ◌++◌, List, length, drop, get_or, ap, sym, subst, ◌∙◌, arith}
 use Rattle.std.specs.Prelude.{All}
 use Rattle.match_board.specs.declared.limits.TheConstants.{MOST_ARRANGEMENTS}
-use Rattle.text_words.specs.declared.ranges.TheConstants.{SECOND}
+use Rattle.match_board.specs.declared.limits.TheConstants.{MOST_CELLS, MOST_LEVELS}
 use Rattle.match_puzzle.specs.declared.placements.Pair.{Pair}
 use Rattle.cert_tree.specs.declared.heads.Head.{Head}
 use Rattle.cert_tree.specs.Tree.{Tree}
@@ -25,7 +25,7 @@ turn_heads-requires-clause-found c =
     let start : c.len-heads_start.result ≡ length c.args.heads.now.items = omega (arith, c.len-heads_start.ensures, c.args.heads.now.ok.0) in
     let put : drop c.len-heads_start.result c.extend_from_slice-2.new.self.items ≡ heads_of tree = ap (λ n. drop n c.extend_from_slice-2.new.self.items) start
     ∙ behind_is c.args.heads.now.items c.extend_from_slice-2.new.self.items (heads_of tree) (put_behind c.args.heads.now.items c.extend_from_slice-2.new.self.items c.heads.result.now tree c.in_ok-extend_from_slice-2.ensures.items c.heads.ensures) in
-    subst (λ (hs : List Head). All (IsFoundUpTo MOST_ARRANGEMENTS) hs) (sym put) (found_below SECOND SECOND.most_levels tree c.requires.within.tree)
+    subst (λ (hs : List Head). All (IsFoundUpTo MOST_ARRANGEMENTS) hs) (sym put) (found_below MOST_CELLS MOST_LEVELS tree c.requires.within.tree)
 
 module _ (c : After-deref-2) where
   abbrev first : ℕ

@@ -1,6 +1,6 @@
 use Rattle.std.proofs.Common.{◌+◌, ◌*◌, drop}
 use Rattle.cert_tree.specs.Tree.{forest_of}
-use Rattle.cert_tree.specs.TreeSpelling.{AreTreesWithin}
+use Rattle.cert_tree.specs.Limits.{AreTreesWithin}
 use Rattle.cert_tree.proofs.within_limits.+limits.Given as goal
 
 -- a node of one level more asks for its children, and those for their nodes
@@ -15,6 +15,6 @@ decreases-are_nodes_within l = 3 * l.room + 1
 
 abbrev pub invariant-are_nodes_within-loop-node : goal.invariant-are_nodes_within-loop-node
 invariant-are_nodes_within-loop-node l = record {
-  back : AreTreesWithin l.ranges l.room (forest_of (drop l.node-index l.nodes)) → AreTreesWithin l.ranges l.room (forest_of l.nodes);
-  on : AreTreesWithin l.ranges l.room (forest_of l.nodes) → AreTreesWithin l.ranges l.room (forest_of (drop l.node-index l.nodes));
+  back : AreTreesWithin l.cells l.room (forest_of (drop l.node-index l.nodes)) → AreTreesWithin l.cells l.room (forest_of l.nodes);
+  on : AreTreesWithin l.cells l.room (forest_of l.nodes) → AreTreesWithin l.cells l.room (forest_of (drop l.node-index l.nodes));
 }

@@ -1,8 +1,8 @@
 use Rattle.std.proofs.Common.{List, length, subst}
 use Rattle.text_words.specs.Ranges.{ranges_of}
 use Rattle.cert_tree.specs.Certificate.{Piece}
-use Rattle.cert_tree.specs.CertificateSpelling.{AreSymmetriesWithin}
-use Rattle.cert_tree.proofs.WholeLemmas.{whole_within}
+use Rattle.cert_text.specs.CertificateSpelling.{AreSymmetriesWithin}
+use Rattle.cert_text.proofs.WholeLemmas.{whole_within}
 use Rattle.check_crew.specs.LemmaParts.{TellsOfLimits}
 use Rattle.check_crew.proofs.limits.within_limits_with.Goals as goal
 

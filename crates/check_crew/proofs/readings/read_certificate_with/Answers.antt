@@ -1,4 +1,4 @@
-use Rattle.cert_tree.proofs.ReadingLemmas.{certificate_found_of, certificate_within_of, certificate_only_of, certificate_cut_of}
+use Rattle.cert_text.proofs.ReadingLemmas.{certificate_found_of, certificate_within_of, certificate_only_of, certificate_cut_of}
 use Rattle.check_crew.proofs.readings.read_certificate_with.Goals as goal
 
 pub returns-clause-found : goal.returns-clause-found

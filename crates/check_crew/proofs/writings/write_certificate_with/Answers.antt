@@ -1,7 +1,7 @@
 use Rattle.std.proofs.Common.{◌≡◌, IfSome, Vec, ℕ, ap, subst, ◌∙◌}
 use Rattle.std.specs.declared.alloc.Global.{Global}
 use Rattle.std.specs.List.{flat_map}
-use Rattle.cert_tree.specs.CertificateSpelling.{lemma_lines}
+use Rattle.cert_text.specs.CertificateSpelling.{lemma_lines}
 use Rattle.check_crew.specs.LemmaParts.{AreCut}
 use Rattle.check_crew.proofs.WritingLemmas.{all_parts}
 use Rattle.check_crew.proofs.writings.write_certificate_with.Goals as goal

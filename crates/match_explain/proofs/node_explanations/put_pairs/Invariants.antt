@@ -1,6 +1,6 @@
 use Rattle.std.proofs.Common.{◌≡◌, ◌++◌, length, map}
 use Rattle.text_words.specs.Spelling.{spaced}
-use Rattle.cert_tree.specs.CertificateSpelling.{pair_word}
+use Rattle.cert_text.specs.CertificateSpelling.{pair_word}
 use Rattle.match_explain.proofs.node_explanations.put_pairs.Given as goal
 
 -- What is written, and what the pairs that are left will add, are all that is to be written.

@@ -1,5 +1,5 @@
 use Rattle.std.proofs.Common.{ap, arith, ◌∙◌}
-use Rattle.cert_tree.specs.CertificateSpelling.{symmetries_spelling}
+use Rattle.cert_text.specs.CertificateSpelling.{symmetries_spelling}
 use Rattle.match_runs.proofs.DescribingLemmas.{colours_within, lines_within}
 use Rattle.match_runs.proofs.description_runs.symmetries_text.Goals as goal
 

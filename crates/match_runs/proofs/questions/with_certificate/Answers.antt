@@ -3,9 +3,9 @@ use Rattle.std.proofs.lemmas.Result.{err_from_is_err_and}
 use Rattle.match_puzzle.specs.Puzzle.{Task}
 use Rattle.match_puzzle.specs.declared.placements.Placement.{Placement}
 use Rattle.match_text.specs.Lists.{list_of}
-use Rattle.cert_tree.specs.CertificateText.{CertificateGives, certificate_of}
-use Rattle.cert_tree.specs.declared.faults.CertTextFault.{CertTextFault}
-use Rattle.cert_tree.specs.declared.faults.CertTextFault.TheVariants as certificates
+use Rattle.cert_text.specs.CertificateText.{CertificateGives, certificate_of}
+use Rattle.cert_text.specs.declared.faults.CertTextFault.{CertTextFault}
+use Rattle.cert_text.specs.declared.faults.CertTextFault.TheVariants as certificates
 use Rattle.byte_streams.specs.Documents.{Texts}
 use Rattle.byte_streams.specs.LentTexts.{texts_of}
 use Rattle.match_runs.specs.declared.faults.RunFault.{RunFault}

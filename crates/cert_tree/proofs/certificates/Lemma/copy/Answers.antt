@@ -1,6 +1,5 @@
-use Rattle.std.proofs.Common.{◌≡◌, subst}
-use Rattle.text_words.specs.declared.ranges.TheConstants.{SECOND}
-use Rattle.text_words.proofs.RangesLemmas.{second_are}
+use Rattle.std.proofs.Common.{◌≡◌, subst, arith}
+use Rattle.match_board.specs.declared.limits.TheConstants.{MOST_CELLS, MOST_LEVELS}
 use Rattle.std.specs.Prelude.{IfOk}
 use Rattle.cert_tree.specs.Tree.{tree_of}
 use Rattle.cert_tree.specs.Certificate.{Piece, piece_of, flat_piece}
@@ -9,9 +8,9 @@ use Rattle.cert_tree.proofs.SpanLemmas.{alone_at, alone_narrow}
 use Rattle.cert_tree.proofs.certificates.Lemma.copy.Goals as goal
 
 pub flat_lemmas-requires : goal.flat_lemmas-requires
-flat_lemmas-requires c = alone_narrow c.from_ref.result.now c.args.self.now c.from_ref.ensures.value (narrow_within SECOND second_are SECOND.most_levels (tree_of c.args.self.now.tree) c.requires.tree)
+flat_lemmas-requires c = alone_narrow c.from_ref.result.now c.args.self.now c.from_ref.ensures.value (narrow_within MOST_CELLS (omega arith) MOST_LEVELS (tree_of c.args.self.now.tree) c.requires.tree)
 
 pub returns : goal.returns
 returns c =
     let same = alone_at c.in_ok-flat.flat c.from_ref.result.now c.args.self.now (flat_piece c.at.result) c.in_ok-flat.ensures c.from_ref.ensures.value c.at.ensures in
-    subst (λ (piece : Piece). IfOk c.owned_lemma.result (λ copy. piece_of copy ≡ piece)) same c.owned_lemma.ensures
+    subst (λ (piece : Piece). IfOk c.to_lemma.result (λ copy. piece_of copy ≡ piece)) same c.to_lemma.ensures

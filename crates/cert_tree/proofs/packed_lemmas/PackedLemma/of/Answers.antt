@@ -1,6 +1,5 @@
-use Rattle.std.proofs.Common.{◌≡◌, List, ap, refl, ◌∙◌}
-use Rattle.text_words.specs.declared.ranges.TheConstants.{SECOND}
-use Rattle.text_words.proofs.RangesLemmas.{second_are}
+use Rattle.std.proofs.Common.{◌≡◌, List, ap, refl, ◌∙◌, arith}
+use Rattle.match_board.specs.declared.limits.TheConstants.{MOST_CELLS, MOST_LEVELS}
 use Rattle.match_puzzle.specs.declared.placements.Pair.{Pair}
 use Rattle.cert_tree.specs.Tree.{Tree, tree_of}
 use Rattle.cert_tree.specs.Heads.{heads_of}
@@ -10,7 +9,7 @@ use Rattle.cert_tree.proofs.TreeLimitLemmas.{narrow_within}
 use Rattle.cert_tree.proofs.packed_lemmas.PackedLemma.of.Goals as goal
 
 pub put_node-requires : goal.put_node-requires
-put_node-requires c = narrow_within SECOND second_are SECOND.most_levels (tree_of c.args.lemma.now.tree) c.requires.tree
+put_node-requires c = narrow_within MOST_CELLS (omega arith) MOST_LEVELS (tree_of c.args.lemma.now.tree) c.requires.tree
 
 pub of-requires : goal.of-requires
 of-requires c =

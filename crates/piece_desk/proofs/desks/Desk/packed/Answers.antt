@@ -1,9 +1,9 @@
 use Rattle.std.proofs.Common.{◌≡◌, ◌+◌, ◌++◌, ◌∷◌, [], All, List, map, take, ap, sym, subst, ◌∙◌}
 use Rattle.std.proofs.lemmas.List.{take_more, map-append}
 use Rattle.std.proofs.lemmas.List.Elements.{All-nil, All-cons, All-append}
-use Rattle.text_words.specs.declared.ranges.TheConstants.{SECOND}
+use Rattle.match_board.specs.declared.limits.TheConstants.{MOST_CELLS}
 use Rattle.cert_tree.specs.Certificate.{Piece, piece_of}
-use Rattle.cert_tree.specs.CertificateSpelling.{IsLemmaWithin}
+use Rattle.cert_tree.specs.Limits.{IsLemmaWithin}
 use Rattle.piece_desk.specs.Desks.{posted_piece}
 use Rattle.piece_desk.specs.declared.desks.Receipt.{Receipt}
 use Rattle.piece_desk.proofs.desks.Desk.packed.Goals as goal
@@ -24,7 +24,7 @@ loop-receipt-preserved c =
           ∙ ap (λ (ps : List Piece). ps ++ lemma ∷ []) so_far.pieces
           ∙ ap (λ (p : Piece). map posted_piece (take i receipts) ++ p ∷ []) same
           ∙ sym (ap (map posted_piece) next ∙ map-append posted_piece (take i receipts) (receipt ∷ []));
-      within = subst (All (IsLemmaWithin SECOND)) (sym pushed)
-          (All-append (IsLemmaWithin SECOND) c.loop-receipt.lemmas.items (lemma ∷ []) so_far.within
-          (All-cons (IsLemmaWithin SECOND) lemma [] (subst (IsLemmaWithin SECOND) (sym c.in_ok-lemma.ensures) c.read.ensures.within) (All-nil (IsLemmaWithin SECOND))));
+      within = subst (All (IsLemmaWithin MOST_CELLS)) (sym pushed)
+          (All-append (IsLemmaWithin MOST_CELLS) c.loop-receipt.lemmas.items (lemma ∷ []) so_far.within
+          (All-cons (IsLemmaWithin MOST_CELLS) lemma [] (subst (IsLemmaWithin MOST_CELLS) (sym c.in_ok-lemma.ensures) c.read.ensures.within) (All-nil (IsLemmaWithin MOST_CELLS))));
     }

@@ -1,6 +1,6 @@
 use Rattle.std.proofs.Common.{◌≡◌, All, map, take}
-use Rattle.text_words.specs.declared.ranges.TheConstants.{SECOND}
-use Rattle.cert_tree.specs.CertificateSpelling.{IsLemmaWithin}
+use Rattle.match_board.specs.declared.limits.TheConstants.{MOST_CELLS}
+use Rattle.cert_tree.specs.Limits.{IsLemmaWithin}
 use Rattle.piece_desk.specs.Desks.{posted_piece}
 use Rattle.piece_desk.proofs.desks.Desk.packed.Given as goal
 
@@ -8,5 +8,5 @@ use Rattle.piece_desk.proofs.desks.Desk.packed.Given as goal
 abbrev pub invariant-loop-receipt : goal.invariant-loop-receipt
 invariant-loop-receipt l = record {
   pieces : l.lemmas.items ≡ map posted_piece (take l.receipt-index l.receipts);
-  within : All (IsLemmaWithin SECOND) l.lemmas.items;
+  within : All (IsLemmaWithin MOST_CELLS) l.lemmas.items;
 }

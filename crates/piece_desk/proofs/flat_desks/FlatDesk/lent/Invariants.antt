@@ -1,7 +1,7 @@
 use Rattle.std.proofs.Common.{◌≡◌, All, map, take}
 use Rattle.cert_tree.specs.Certificate.{flat_piece}
-use Rattle.text_words.specs.declared.ranges.TheConstants.{SECOND}
-use Rattle.cert_tree.specs.CertificateSpelling.{IsLemmaWithin}
+use Rattle.match_board.specs.declared.limits.TheConstants.{MOST_CELLS}
+use Rattle.cert_tree.specs.Limits.{IsLemmaWithin}
 use Rattle.piece_desk.specs.FlatDesks.{flat_posted}
 use Rattle.piece_desk.proofs.flat_desks.FlatDesk.lent.Given as goal
 
@@ -9,5 +9,5 @@ use Rattle.piece_desk.proofs.flat_desks.FlatDesk.lent.Given as goal
 abbrev pub invariant-loop-receipt : goal.invariant-loop-receipt
 invariant-loop-receipt l = record {
   pieces : map flat_piece l.lemmas.items ≡ map flat_posted (take l.receipt-index l.receipts);
-  within : All (λ lemma. IsLemmaWithin SECOND (flat_piece lemma)) l.lemmas.items;
+  within : All (λ lemma. IsLemmaWithin MOST_CELLS (flat_piece lemma)) l.lemmas.items;
 }

@@ -1,5 +1,5 @@
 use Rattle.std.proofs.Common.{◌≡◌, ◌+◌, Contains, ◌++◌, ◌-◌, MatchBool, arith, ap, sym, ◌∙◌, subst, ⊎_elim, refl}
-use Rattle.text_words.specs.declared.ranges.TheConstants.{SECOND}
+use Rattle.match_board.specs.declared.limits.TheConstants.{MOST_CELLS, MOST_LEVELS}
 use Rattle.match_board.proofs.Listings.{contains_none}
 use Rattle.cert_tree.specs.Heads.{heads_of}
 use Rattle.cert_tree.specs.Tree.{Tree}
@@ -79,7 +79,7 @@ returns-clause-outcome g c =
           (w.goes_on.found a h);
       numbers = t.numbers;
       branch_nodes = omega (arith, spent);
-      within = λ few. deeper (levels_below (selection s) + 1) SECOND.most_levels (omega arith) tree (t.within few);
+      within = λ few. deeper (levels_below (selection s) + 1) MOST_LEVELS (omega arith) tree (t.within few);
     } in (
       subst (λ (u : Tree). IsSearched (selection c.undo_all.new.self).compiled c.args.prefix.now u after.found.items (c.args.fuel - after.fuel)) (sym is) searched,
       engine,

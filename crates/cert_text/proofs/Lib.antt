@@ -1,0 +1,14 @@
+pub mod HeadSpellingLemmas
+pub mod TreeReadingLemmas
+pub mod EntryLemmas
+pub mod FieldLemmas
+pub mod TreeTextLemmas
+pub mod LemmaTextLemmas
+pub mod CertificateTextLemmas
+pub mod SkipLemmas
+pub mod PartLemmas
+pub mod WiderLemmas
+pub mod ReadingLemmas
+pub mod SpacedLemmas
+pub mod WholeLemmas
+pub mod LawLemmas

@@ -1,0 +1,12 @@
+pub mod Faults
+pub mod Entries
+pub mod TreeText
+pub mod HeadReading
+pub mod CertificateText
+pub mod TreeSpelling
+pub mod CertificateSpelling
+pub mod HeadSpelling
+pub mod Lines
+pub mod Parts
+pub mod Writing
+pub mod Laws

@@ -1,0 +1,22 @@
+//! Texts of lemmas and of certificates.
+#![tactic(auto)]
+
+mod entries;
+mod faults;
+mod laws;
+mod limits;
+mod parts;
+mod readers;
+mod spellings;
+mod tree_readers;
+
+pub use faults::{CertTextFault, LemmaTextFault};
+pub use laws::{certificate_laws, lemma_laws};
+pub use limits::{WithinLimits, are_lemmas_within_limits, are_symmetries_within_limits};
+pub use parts::{CutCertificate, LemmaPart, cut_certificate};
+pub use readers::{
+    LemmaLines, certificate_fault_place, read_certificate, read_lemma, read_lemma_lines,
+};
+pub use spellings::{
+    join_certificate, put_pair, write_certificate, write_lemma, write_lemma_lines, write_symmetries,
+};

@@ -1,0 +1,144 @@
+//! Which symmetries, lemmas and certificates have a spelling in a version of the texts.
+
+ghost use Rattle.std.specs.Prelude.{◌≡◌, ◌≢◌, ◌<◌, ◌≤◌, ℕ, List, Ok, MatchBool, length};
+ghost use Rattle.std.specs.List.{AllByRecursion};
+ghost use Rattle.text_words.specs.Ranges.{IsVersion, ranges_of};
+ghost use Rattle.cert_text.specs.CertificateText.{certificate_of};
+ghost use Rattle.cert_text.specs.CertificateSpelling.{AreImagesWithin, AreColourImagesWithin, IsSymmetryWithin};
+ghost use Rattle.cert_text.specs.CertificateSpelling.{AreSymmetriesWithin, AreWithinBetween, IsCertificateWithin};
+ghost use Rattle.cert_text.specs.Writing.{said_by};
+
+use cert_tree::{Certificate, Lemmas};
+use match_board::limits::{LAST_SIDE, MOST_COLOURS, MOST_SYMMETRIES};
+use puzzle_symmetry::SymmetryLine;
+use text_words::{Ranges, ranges_of};
+
+fn are_numbers_within(last: u16, numbers: &[u16]) -> bool
+    ensures { MatchBool result (AllByRecursion (λ n. n ≤ last) numbers.now)
+        (AllByRecursion (λ n. n ≤ last) numbers.now → ⊥) }
+{
+    numbers.iter().all(|number| *number <= last)
+}
+
+fn are_colours_within(colours: &[u8]) -> bool
+    ensures { MatchBool result (AllByRecursion (λ n. n < MOST_COLOURS) colours.now)
+        (AllByRecursion (λ n. n < MOST_COLOURS) colours.now → ⊥) }
+{
+    colours.iter().all(|colour| *colour < MOST_COLOURS)
+}
+
+fn are_images_within(ranges: &Ranges, images: &[u16]) -> bool
+    ensures { MatchBool result (AreImagesWithin ranges.now images.now)
+        (AreImagesWithin ranges.now images.now → ⊥) }
+{
+    images.len() <= usize::from(ranges.most_cells) && are_numbers_within(ranges.last_cell, images)
+}
+
+fn are_colour_images_within(images: &[u8]) -> bool
+    ensures { MatchBool result (AreColourImagesWithin images.now) (AreColourImagesWithin images.now → ⊥) }
+{
+    images.len() <= usize::from(MOST_COLOURS) && are_colours_within(images)
+}
+
+fn is_symmetry_within(ranges: &Ranges, line: &SymmetryLine) -> bool
+    ensures { MatchBool result (IsSymmetryWithin ranges.now line.now) (IsSymmetryWithin ranges.now line.now → ⊥) }
+{
+    line.shift <= LAST_SIDE
+        && (are_images_within(ranges, line.cells.as_slice())
+            && (are_colour_images_within(line.colours.as_slice())
+                && are_images_within(ranges, line.tiles.as_slice())))
+}
+
+fn are_symmetries_within(ranges: &Ranges, lines: &[SymmetryLine]) -> bool
+    ensures { MatchBool result (AllByRecursion (IsSymmetryWithin ranges.now) lines.now)
+        (AllByRecursion (IsSymmetryWithin ranges.now) lines.now → ⊥) }
+{
+    for line in lines {
+        if !is_symmetry_within(ranges, line) {
+            return false;
+        }
+    }
+    true
+}
+
+/// Whether there are at most 1,024 symmetries, each of which has a spelling in the version.
+pub fn are_symmetries_within_limits(version: u8, lines: &[SymmetryLine]) -> bool
+    requires { IsVersion version }
+    ensures { MatchBool result (AreSymmetriesWithin (ranges_of version) lines.now)
+        (AreSymmetriesWithin (ranges_of version) lines.now → ⊥) }
+{
+    lines.len() <= usize::from(MOST_SYMMETRIES) && are_symmetries_within(&ranges_of(version), lines)
+}
+
+fn are_lemmas_within(ranges: &Ranges, lemmas: &Lemmas, first: usize, last: usize) -> bool
+    requires { (first ≤ last) × (last ≤ length lemmas.now) }
+    ensures { MatchBool result (AreWithinBetween ranges.now lemmas.now first last)
+        (AreWithinBetween ranges.now lemmas.now first last → ⊥) }
+{
+    for number in first..last {
+        if !lemmas.at(number).is_within(ranges.most_cells) {
+            return false;
+        }
+    }
+    true
+}
+
+/// Whether each lemma from this number up to the other, which is left out, has a spelling in the version.
+pub fn are_lemmas_within_limits(version: u8, lemmas: &Lemmas, first: usize, last: usize) -> bool
+    requires version { IsVersion version }
+    requires numbers { (first ≤ last) × (last ≤ length lemmas.now) }
+    ensures { MatchBool result (AreWithinBetween (ranges_of version) lemmas.now first last)
+        (AreWithinBetween (ranges_of version) lemmas.now first last → ⊥) }
+{
+    are_lemmas_within(&ranges_of(version), lemmas, first, last)
+}
+
+// What is short is looked at first: the symmetries, and of each lemma its prefix.
+fn is_certificate_within(version: u8, certificate: &Certificate) -> bool
+    requires { IsVersion version }
+    ensures { MatchBool result (IsCertificateWithin (said_by version certificate.now))
+        (IsCertificateWithin (said_by version certificate.now) → ⊥) }
+{
+    let lemmas = certificate.lemmas();
+    are_symmetries_within_limits(version, certificate.symmetries())
+        && are_lemmas_within_limits(version, lemmas, 0, lemmas.len())
+}
+
+/// The first version in which the certificate has a spelling, told by one walk over it.
+pub fn first_version(certificate: &Certificate) -> u8
+    requires { IsCertificateWithin (said_by 2 certificate.now) }
+    ensures within { IsCertificateWithin (said_by result certificate.now) }
+    ensures first { IsCertificateWithin (said_by 1 certificate.now) → result ≡ 1 }
+    ensures second { (IsCertificateWithin (said_by 1 certificate.now) → ⊥) → result ≡ 2 }
+{
+    if is_certificate_within(1, certificate) {
+        1
+    } else {
+        2
+    }
+}
+
+/// A value that may be past the limits of its text.
+pub trait WithinLimits {
+    ghost fits: { Self → Type 0 };
+
+    /// Whether the value is within the limits, and so has a spelling.
+    fn within_limits(&self) -> bool
+        ensures { MatchBool result (fits self.now) (fits self.now → ⊥) };
+}
+
+impl WithinLimits for Certificate {
+    ghost fits = { λ certificate. IsCertificateWithin (said_by 2 certificate) };
+
+    /// Whether the certificate has a spelling: up to 1,024 symmetries, with shifts below 4, up to 36 colours below 36,
+    /// and cells and tiles within the ranges of version 2; and lemmas that each have one. It takes no memory.
+    fn within_limits(&self) -> bool
+        ensures within { MatchBool result (IsCertificateWithin (said_by 2 self.now))
+            (IsCertificateWithin (said_by 2 self.now) → ⊥) }
+        ensures spelled { MatchBool result
+            ((version : ℕ) × (text : List ℕ) × (certificate_of text ≡ Ok (said_by version self.now)))
+            ((version : ℕ) (text : List ℕ) → certificate_of text ≢ Ok (said_by version self.now)) }
+    {
+        is_certificate_within(2, self)
+    }
+}

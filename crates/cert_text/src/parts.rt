@@ -1,0 +1,180 @@
+//! A certificate's text whose lemma lines are cut into parts, each of which is read by itself.
+
+ghost use Rattle.std.specs.Prelude.{◌≡◌, ◌+◌, ◌<◌, ◌≤◌, ◌^◌, ℕ, List, Ok, IfOk, MatchResult, length};
+ghost use Rattle.text_words.specs.Ranges.{ranges_of};
+ghost use Rattle.text_words.specs.Place.{Place, Fails, Says, skip_lines, times};
+ghost use Rattle.cert_text.specs.CertificateText.{CertificateGives, certificate_of, lemma_line};
+ghost use Rattle.cert_text.specs.Lines.{said_of};
+ghost use Rattle.cert_text.specs.Parts.{AreRead, IsCutOf, cut_says, left_at, part_says, parts_say};
+
+use crate::faults::CertTextFault;
+use crate::readers::{Beginning, CertificateLines, made, read_beginning, read_lemmas};
+use cert_tree::{Certificate, Lemmas};
+use match_board::limits::MOST_LEMMAS;
+use std::alloc::{AllocError, Global};
+use text_words::{ReadFault, Scan, ranges_of};
+
+/// Some lemma lines of a certificate's text, one behind the other.
+#[derive(Drop)]
+pub struct LemmaPart<'a> {
+    pub(crate) version: u8,
+    // before the first of them
+    pub(crate) scan: Scan<'a>,
+    pub(crate) count: u32,
+}
+
+impl<'a> LemmaPart<'a> {
+    /// The lemmas, or the first fault of their lines, with the line's number in the whole text; `Memory` only where that
+    /// is refused. The part stays as it is.
+    pub fn read(&self, alloc: Global) -> Result<Lemmas, ReadFault>
+        ensures { Says (λ lemmas. lemmas) result (part_says self.now) }
+    {
+        let mut scan = self.scan.copy();
+        read_lemmas(alloc, &mut scan, &ranges_of(self.version), self.count)
+    }
+}
+
+/// A certificate's text whose lemma lines are cut into parts: so they can be read in any order, or at once.
+#[derive(Drop)]
+pub struct CutCertificate<'a> {
+    pub(crate) beginning: Beginning,
+    pub(crate) parts: Vec<LemmaPart<'a>>,
+    // behind the last of them
+    pub(crate) end: Scan<'a>,
+}
+
+// Goes past at least one line, and past further ones until they have `size` bytes, of at most so many. How many they
+// are: all, where the text has fewer.
+fn skip_part(scan: &mut Scan, most: u32, size: usize) -> u32
+    requires { 0 < most }
+    ensures some { 0 < result }
+    ensures few { result ≤ most }
+    ensures place { (place : Place) → skip_lines result scan.old ≡ Ok (tt, place) → place ≡ scan.new }
+{
+    let enough = scan.bytes_ahead().saturating_sub(size);
+    let mut lines = 0;
+    while lines < most {
+        if scan.skip_line().is_err() {
+            return most;
+        }
+        lines += 1;
+        if scan.bytes_ahead() <= enough {
+            break;
+        }
+    }
+    lines
+}
+
+// The lines of so many lemmas in parts of `size` bytes or more, but for the last one, and goes past them.
+fn cut_lines<'a>(
+    alloc: Global,
+    scan: &mut Scan<'a>,
+    version: u8,
+    count: u32,
+    size: usize,
+) -> Result<Vec<LemmaPart<'a>>, AllocError>
+    ensures says { IfOk result (λ parts.
+        left_at scan.new (parts_say parts.items) ≡ times count (lemma_line (ranges_of version)) scan.old) }
+    ensures few { IfOk result (λ parts. length parts.items ≤ count) }
+{
+    let mut parts = Vec::new(alloc);
+    let mut left = count;
+    while left > 0 {
+        let begin = scan.copy();
+        let lines = skip_part(scan, left, size);
+        parts.push(LemmaPart {
+            version,
+            scan: begin,
+            count: lines,
+        })?;
+        left -= lines;
+    }
+    Ok(parts)
+}
+
+/// Reads a certificate's text up to its lemmas, and cuts the lines of these into parts of at least `size` bytes each, but
+/// for the last one. An `Err` is the text's first fault, where it stands before the lemmas; `Memory` only where that is
+/// refused.
+///
+/// The lemma lines are gone past by their ends alone.
+pub fn cut_certificate(
+    alloc: Global,
+    text: &[u8],
+    size: usize,
+) -> Result<CutCertificate<'_>, ReadFault>
+    requires { length text.now + 1 < 2 ^ 32 }
+    ensures cut { MatchResult result (IsCutOf text.now) (λ fault. Fails fault (certificate_of text.now)) }
+    ensures few { IfOk result (λ cut. length cut.parts.items ≤ MOST_LEMMAS) }
+{
+    let mut scan = Scan::new(text);
+    let beginning = read_beginning(alloc, &mut scan)?;
+    let parts = cut_lines(alloc, &mut scan, beginning.version, beginning.count, size)?;
+    Ok(CutCertificate {
+        beginning,
+        parts,
+        end: scan,
+    })
+}
+
+// All lemmas in the order of the parts, or the first fault. What was read of a part stays where it lies.
+fn joined(
+    alloc: Global,
+    _parts: &[LemmaPart<'_>],
+    read: Vec<Result<Lemmas, ReadFault>>,
+) -> Result<Lemmas, ReadFault>
+    requires { AreRead _parts.now read.items }
+    ensures { Says (λ lemmas. lemmas) result (parts_say _parts.now) }
+{
+    let mut all = Lemmas::none(alloc);
+    for one in read {
+        all = all.with(one?)?;
+    }
+    Ok(all)
+}
+
+impl<'a> CutCertificate<'a> {
+    /// The parts, in the order of the text. There are at most as many as lemmas.
+    pub fn parts(&self) -> &[LemmaPart<'a>]
+        ensures { result.now ≡ self.now.parts.items }
+    {
+        &self.parts
+    }
+
+    // What the text says, of what was read of the parts.
+    fn lines(
+        self,
+        alloc: Global,
+        read: Vec<Result<Lemmas, ReadFault>>,
+    ) -> Result<CertificateLines, ReadFault>
+        requires { AreRead self.parts.items read.items }
+        ensures { Says said_of result (cut_says self.entry) }
+    {
+        let CutCertificate {
+            beginning,
+            parts,
+            mut end,
+        } = self;
+        let lemmas = joined(alloc, &parts, read)?;
+        end.closing()?;
+        Ok(CertificateLines {
+            version: beginning.version,
+            symmetries: beginning.symmetries,
+            lemmas,
+        })
+    }
+
+    /// The certificate, of what was read of the parts, in their order; or the text's first fault, or else that of its
+    /// lemmas, as of [`read_certificate`](crate::read_certificate); `Memory` where that is refused here or was to a part.
+    pub fn join(
+        self,
+        alloc: Global,
+        read: Vec<Result<Lemmas, ReadFault>>,
+    ) -> Result<Certificate, CertTextFault>
+        requires cut { (text : List ℕ) × IsCutOf text self }
+        requires read { AreRead self.parts.items read.items }
+        ensures { CertificateGives result (cut_says self.entry) }
+    {
+        let lines = self.lines(alloc, read)?;
+        made(alloc, lines)
+    }
+}

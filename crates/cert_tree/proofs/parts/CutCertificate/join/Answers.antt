@@ -1,7 +1,0 @@
-use Rattle.std.proofs.Common.{◌∙◌}
-use Rattle.cert_tree.specs.Lines.{said_of}
-use Rattle.cert_tree.proofs.CertificateTextLemmas.{certificate_found}
-use Rattle.cert_tree.proofs.parts.CutCertificate.join.Goals as goal
-
-pub made-requires : goal.made-requires
-made-requires c = (certificate_found c.requires.cut.0 (said_of c.in_ok-lines.lines) (c.requires.cut.1 ∙ c.in_ok-lines.ensures)).0

@@ -1,6 +1,0 @@
-use Rattle.cert_tree.specs.Lines.{said_of}
-use Rattle.cert_tree.proofs.CertificateTextLemmas.{certificate_found}
-use Rattle.cert_tree.proofs.readers.read_and_make.Goals as goal
-
-pub made-requires : goal.made-requires
-made-requires c = (certificate_found c.args.text.now (said_of c.in_ok-lines.lines) c.in_ok-lines.ensures).0

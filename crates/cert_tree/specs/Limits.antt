@@ -1,0 +1,45 @@
+-- Which trees and lemmas are within limits: those of a board that has at most so many cells, and as many tiles.
+use Rattle.std.specs.Prelude.{◌≤◌, ◌<◌, ◌+◌, ◌*◌, ℕ, zero, suc, length}
+use Rattle.match_board.specs.declared.limits.TheConstants.{LAST_ARRANGEMENT, LAST_LEMMA, LAST_SYMMETRY, LAST_TURN}
+use Rattle.std.specs.List.{AllByRecursion}
+use Rattle.match_puzzle.specs.declared.items.Item.{Item}
+use Rattle.match_puzzle.specs.declared.items.Item.TheVariants as items
+use Rattle.match_puzzle.specs.declared.placements.Pair.{Pair}
+use Rattle.cert_tree.specs.Tree.{Tree, Forest, branch, dead, found, same, image, none, more, count}
+use Rattle.cert_tree.specs.Certificate.{Piece}
+
+abbrev pub IsItemWithin : (cells : ℕ) → Item → Type 0
+IsItemWithin cells (items.Cell cell) = cell < cells
+IsItemWithin cells (items.Tile tile) = tile < cells
+
+abbrev mutual
+  -- The tree has at most so many levels, and its numbers are within the limits. A branch has at most four children for
+  -- each cell, or each tile.
+  pub IsTreeWithin : (cells room : ℕ) → Tree → Type 0
+  IsTreeWithin cells zero tree = ⊥
+  IsTreeWithin cells (suc room) (branch item children) =
+      IsItemWithin cells item × (1 ≤ count children) × (count children ≤ 4 * cells)
+      × AreTreesWithin cells room children
+  IsTreeWithin cells (suc room) (dead item) = IsItemWithin cells item
+  IsTreeWithin cells (suc room) (found number) = number ≤ LAST_ARRANGEMENT
+  IsTreeWithin cells (suc room) (same lemma) = lemma ≤ LAST_LEMMA
+  IsTreeWithin cells (suc room) (image lemma symmetry) = (lemma ≤ LAST_LEMMA) × (symmetry ≤ LAST_SYMMETRY)
+
+  pub AreTreesWithin : (cells room : ℕ) → Forest → Type 0
+  AreTreesWithin cells room none = Unit {0}
+  AreTreesWithin cells room (more tree trees) = IsTreeWithin cells room tree × AreTreesWithin cells room trees
+
+-- The same of the children of a branch, of which there is at least one.
+abbrev pub AreChildrenWithin : (cells room : ℕ) → Forest → Type 0
+AreChildrenWithin cells room children =
+    (1 ≤ count children) × (count children ≤ 4 * cells) × AreTreesWithin cells room children
+
+abbrev pub IsPairWithin : (cells : ℕ) → Pair → Type 0
+IsPairWithin cells x = (x.cell < cells) × (x.placement.tile < cells) × (x.placement.turn ≤ LAST_TURN)
+
+-- The lemma is within the limits. Its tree has a level for each cell, and one below them.
+pub record IsLemmaWithin (cells : ℕ) (piece : Piece) : Type 0 where
+  pub number : piece.number ≤ LAST_LEMMA
+  pub few_pairs : length piece.prefix ≤ cells
+  pub pairs : AllByRecursion (IsPairWithin cells) piece.prefix
+  pub tree : IsTreeWithin cells (cells + 1) piece.tree

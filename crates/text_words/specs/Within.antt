@@ -1,0 +1,19 @@
+-- What is within the limits of a word.
+use Rattle.std.specs.Prelude.{◌≡◌, ◌⊎◌, ◌<◌, ◌≤◌, ℕ, List, Option, Some, None, length}
+use Rattle.std.specs.List.{AllByRecursion}
+use Rattle.match_board.specs.declared.limits.TheConstants.{LAST_TURN, MOST_COLOURS}
+use Rattle.match_puzzle.specs.declared.placements.Placement.{Placement}
+use Rattle.text_words.specs.declared.ranges.Ranges.{Ranges}
+
+-- The tile's number is in the range, and the turn is one of four.
+abbrev pub IsPlacementWithin : Ranges → Placement → Type 0
+IsPlacementWithin ranges p = (p.tile ≤ ranges.last_cell) × (p.turn ≤ LAST_TURN)
+
+-- A rule of the border asks for nothing, or for a colour that there is.
+abbrev pub IsRuleWithin : Option ℕ → Type 0
+IsRuleWithin None = Unit {0}
+IsRuleWithin (Some colour) = colour < MOST_COLOURS
+
+-- three or four colours
+abbrev pub IsWordWithin : List ℕ → Type 0
+IsWordWithin word = ((length word ≡ 3) ⊎ (length word ≡ 4)) × AllByRecursion (λ colour. colour < MOST_COLOURS) word
