@@ -1,6 +1,6 @@
 -- What follows for texts and certificates from the laws of reading and of assembly.
-use Rattle.std.proofs.Common.{◌≡◌, ◌≢◌, ℕ, List, length, Result, Ok, Err, refl, sym, ap, subst, ◌∙◌}
-use Rattle.std.specs.Prelude.{◌↔◌}
+use Rattle.std.proofs.Common.{◌≡◌, ◌≢◌, ℕ, Bool, true, false, List, length, Result, Ok, Err, refl, sym, ap, subst, ◌∙◌}
+use Rattle.std.specs.Prelude.{MatchBool}
 use Rattle.std.specs.List.Sorted.{IsPermutation}
 use Rattle.std.proofs.lemmas.List.Sorted.{length_permutation}
 use Rattle.text_words.specs.declared.faults.TextFault.{TextFault}
@@ -18,8 +18,9 @@ use Rattle.cert_tree.proofs.OrderLemmas.{one_in_any_order}
 
 -- what is within the limits has a text, and nothing else
 pub spelled_by_limits : {X : Type 0} (read : List ℕ → Result X TextFault) (Within : X → Type 0) (spelling : X → List ℕ) → ReadsSpellingsAlone read Within spelling → ReadsEachSpelling read Within spelling
-    → (x : X) → Within x ↔ ((text : List ℕ) × (read text ≡ Ok x))
-spelled_by_limits read Within spelling alone each x = (λ is. (spelling x, each x is), λ said. (alone said.0 x said.1).0)
+    → (x : X) (b : Bool) → MatchBool b (Within x) (Within x → ⊥) → MatchBool b ((text : List ℕ) × (read text ≡ Ok x)) ((text : List ℕ) → read text ≢ Ok x)
+spelled_by_limits read Within spelling alone each x true is = (spelling x, each x is)
+spelled_by_limits read Within spelling alone each x false not = λ text e. not (alone text x e).0
 
 -- ---- lemmas in any order
 

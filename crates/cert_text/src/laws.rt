@@ -1,8 +1,6 @@
 //! Laws of texts: nothing is done here, and the contracts say what holds.
 
-ghost use Rattle.std.specs.Prelude.{◌≡◌, ◌↔◌, ℕ, List, Ok};
 ghost use Rattle.text_words.specs.Laws.{ReadsWhatIsSpelled};
-ghost use Rattle.cert_tree.specs.Certificate.{Piece};
 ghost use Rattle.cert_tree.specs.Limits.{IsLemmaWithin};
 ghost use Rattle.cert_text.specs.CertificateText.{lemma_of, certificate_of};
 ghost use Rattle.cert_text.specs.CertificateSpelling.{lemma_spelling, certificate_spelling, IsCertificateWithin};
@@ -11,11 +9,8 @@ ghost use Rattle.cert_text.specs.Laws.{MakesOneInAnyOrder};
 use match_board::limits::MOST_CELLS;
 
 /// The laws of lemmas and their texts; it does nothing.
-///
-/// The lemmas that are within limits are those that have a spelling.
 pub fn lemma_laws()
-    ensures reads { ReadsWhatIsSpelled lemma_of (IsLemmaWithin MOST_CELLS) lemma_spelling }
-    ensures limits { (piece : Piece) → IsLemmaWithin MOST_CELLS piece ↔ ((text : List ℕ) × (lemma_of text ≡ Ok piece)) }
+    ensures { ReadsWhatIsSpelled lemma_of (IsLemmaWithin MOST_CELLS) lemma_spelling }
 {}
 
 /// The laws of certificates and their texts; it does nothing.

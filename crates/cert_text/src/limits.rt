@@ -1,15 +1,17 @@
-//! Which symmetries, lemmas and certificates have a spelling in a version of the texts.
+//! Which symmetries, lemmas and certificates have a spelling.
 
 ghost use Rattle.std.specs.Prelude.{◌≡◌, ◌≢◌, ◌<◌, ◌≤◌, ℕ, List, Ok, MatchBool, length};
 ghost use Rattle.std.specs.List.{AllByRecursion};
 ghost use Rattle.text_words.specs.Ranges.{IsVersion, ranges_of};
-ghost use Rattle.cert_text.specs.CertificateText.{certificate_of};
+ghost use Rattle.cert_tree.specs.Certificate.{piece_of};
+ghost use Rattle.cert_tree.specs.Limits.{IsLemmaWithin};
+ghost use Rattle.cert_text.specs.CertificateText.{lemma_of, certificate_of};
 ghost use Rattle.cert_text.specs.CertificateSpelling.{AreImagesWithin, AreColourImagesWithin, IsSymmetryWithin};
 ghost use Rattle.cert_text.specs.CertificateSpelling.{AreSymmetriesWithin, AreWithinBetween, IsCertificateWithin};
 ghost use Rattle.cert_text.specs.Writing.{said_by};
 
-use cert_tree::{Certificate, Lemmas};
-use match_board::limits::{LAST_SIDE, MOST_COLOURS, MOST_SYMMETRIES};
+use cert_tree::{Certificate, Lemma, Lemmas};
+use match_board::limits::{LAST_SIDE, MOST_CELLS, MOST_COLOURS, MOST_SYMMETRIES};
 use puzzle_symmetry::SymmetryLine;
 use text_words::{Ranges, ranges_of};
 
@@ -125,6 +127,24 @@ pub trait WithinLimits {
     /// Whether the value is within the limits, and so has a spelling.
     fn within_limits(&self) -> bool
         ensures { MatchBool result (fits self.now) (fits self.now → ⊥) };
+}
+
+impl WithinLimits for Lemma {
+    ghost use Rattle.match_board.specs.declared.limits.TheConstants.{MOST_CELLS};
+
+    ghost fits = { λ lemma. IsLemmaWithin MOST_CELLS (piece_of lemma) };
+
+    /// Whether the lemma has a spelling: a number, and numbers of lemmas and of listed arrangements, below 1,000,000;
+    /// numbers of symmetries below 1,024, and turns below 4; and cells, tiles, pairs, children and levels within the
+    /// ranges of version 2. It looks no deeper into the tree than that, and takes no memory.
+    fn within_limits(&self) -> bool
+        ensures within { MatchBool result (IsLemmaWithin MOST_CELLS (piece_of self.now))
+            (IsLemmaWithin MOST_CELLS (piece_of self.now) → ⊥) }
+        ensures spelled { MatchBool result ((text : List ℕ) × (lemma_of text ≡ Ok (piece_of self.now)))
+            ((text : List ℕ) → lemma_of text ≢ Ok (piece_of self.now)) }
+    {
+        self.is_within(MOST_CELLS)
+    }
 }
 
 impl WithinLimits for Certificate {

@@ -77,17 +77,6 @@ fn are_pairs_within(cells: u16, pairs: &[Pair]) -> bool
     pairs.iter().all(|pair| is_pair_within(cells, pair))
 }
 
-fn is_lemma_within(cells: u16, lemma: &Lemma) -> bool
-    ensures { MatchBool result (IsLemmaWithin cells (piece_of lemma.now))
-        (IsLemmaWithin cells (piece_of lemma.now) → ⊥) }
-{
-    let pairs = lemma.prefix.as_slice();
-    lemma.number <= LAST_LEMMA
-        && (pairs.len() <= usize::from(cells)
-            && (are_pairs_within(cells, pairs)
-                && is_node_within(cells, &lemma.tree, u32::from(cells) + 1)))
-}
-
 // The same of the first tree, which is then gone past.
 #[cycle(flat_limits)]
 fn is_first_within(cells: u16, trees: &mut Trees<'_>, room: u32) -> bool
@@ -139,19 +128,22 @@ fn are_first_within(cells: u16, trees: &mut Trees<'_>, room: u32, children: u32)
 
 impl Lemma {
     ghost use Rattle.std.specs.Prelude.{MatchBool};
-    ghost use Rattle.match_board.specs.declared.limits.TheConstants.{MOST_CELLS};
     ghost use Rattle.cert_tree.specs.Certificate.{piece_of};
     ghost use Rattle.cert_tree.specs.Limits.{IsLemmaWithin};
 
-    /// Whether the lemma is within the limits of every board, as one of a text is: numbers of lemmas and of listed
-    /// arrangements are below 1,000,000, numbers of symmetries below 1,024, and turns below 4; cells and tiles below
-    /// 256, with at most 256 pairs, 1,024 children of a branch and 257 levels. It looks no deeper into the tree than
-    /// that, and takes no memory.
-    pub fn within_limits(&self) -> bool
-        ensures { MatchBool result (IsLemmaWithin MOST_CELLS (piece_of self.now))
-            (IsLemmaWithin MOST_CELLS (piece_of self.now) → ⊥) }
+    /// Whether the lemma is within the limits of a board that has at most so many cells: numbers of lemmas and of listed
+    /// arrangements are below 1,000,000, numbers of symmetries below 1,024, and turns below 4; cells and tiles are below
+    /// this number, which is also the most pairs; a branch has from 1 to 4 times as many children, and the tree at most
+    /// one level more. It looks no deeper into the tree than that, and takes no memory.
+    pub fn is_within(&self, cells: u16) -> bool
+        ensures { MatchBool result (IsLemmaWithin cells (piece_of self.now))
+            (IsLemmaWithin cells (piece_of self.now) → ⊥) }
     {
-        is_lemma_within(MOST_CELLS, self)
+        let pairs = self.prefix.as_slice();
+        self.number <= LAST_LEMMA
+            && (pairs.len() <= usize::from(cells)
+                && (are_pairs_within(cells, pairs)
+                    && is_node_within(cells, &self.tree, u32::from(cells) + 1)))
     }
 }
 
@@ -160,7 +152,7 @@ impl<'a> FlatLemma<'a> {
     ghost use Rattle.cert_tree.specs.Certificate.{flat_piece};
     ghost use Rattle.cert_tree.specs.Limits.{IsLemmaWithin};
 
-    /// Whether the lemma is within the limits of a board that has at most so many cells. It takes no memory.
+    /// The same as of a [`Lemma`](crate::Lemma).
     pub fn is_within(&self, cells: u16) -> bool
         ensures { MatchBool result (IsLemmaWithin cells (flat_piece self.now))
             (IsLemmaWithin cells (flat_piece self.now) → ⊥) }
@@ -177,8 +169,8 @@ impl PackedLemma {
     ghost use Rattle.match_board.specs.declared.limits.TheConstants.{MOST_CELLS, MOST_LEVELS};
     ghost use Rattle.cert_tree.specs.Limits.{IsTreeWithin, IsLemmaWithin};
 
-    /// Whether the lemma is within the limits of every board, where its tree is known to be: number and prefix alone are
-    /// looked at.
+    /// Whether the lemma is within the limits of a board of 256 cells, where its tree is known to be: number and prefix
+    /// alone are looked at.
     pub fn prefix_within_limits(&self) -> bool
         requires { IsTreeWithin MOST_CELLS MOST_LEVELS self.now.tree }
         ensures { MatchBool result (IsLemmaWithin MOST_CELLS self.now) (IsLemmaWithin MOST_CELLS self.now → ⊥) }

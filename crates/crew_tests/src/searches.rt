@@ -1,6 +1,6 @@
 //! The turning triangle, worked out by hand: the sizes of its items, its tree, how many are found, and what is cited.
 
-use cert_text::write_lemma;
+use cert_text::{WithinLimits, write_lemma};
 use cert_tree::{Lemma, Node, Pairs};
 use match_puzzle::Pair;
 use sample_puzzles::turning_triangle;

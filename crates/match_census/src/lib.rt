@@ -29,4 +29,4 @@ pub use looks::looks_of;
 pub use parts::part_of;
 pub use splits::{MOST_BRANCHES, split};
 pub use totals::count_arrangements;
-pub use watches::{CensusWatch, Unwatched};
+pub use watches::CensusWatch;

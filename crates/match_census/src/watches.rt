@@ -8,13 +8,3 @@ pub trait CensusWatch {
     /// One more of them is counted, and so many arrangements more, as often as it weighs.
     fn counted(&self, arrangements: u64);
 }
-
-/// Does nothing.
-#[derive(Drop)]
-pub struct Unwatched;
-
-impl CensusWatch for Unwatched {
-    fn begins(&self, _branches: usize) {}
-
-    fn counted(&self, _arrangements: u64) {}
-}

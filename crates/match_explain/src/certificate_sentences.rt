@@ -1,10 +1,11 @@
 //! What is wrong with a certificate's symmetries and prefixes, in words.
 
-use crate::sides::{CellSide, letter, why_not_turned};
+use crate::sides::{CellSide, why_not_turned};
 use cert_tree::Lemmas;
 use match_puzzle::{Pair, Placement, PrefixFault, Puzzle};
 use puzzle_symmetry::SymmetryFault;
 use std::alloc::{AllocError, Global};
+use text_words::letter;
 
 // What is wrong with a line that is no symmetry of the puzzle.
 pub(crate) fn symmetry_sentence(

@@ -1,8 +1,9 @@
 //! What is wrong with a listed arrangement, in words.
 
-use crate::sides::{CellSide, letter, why_not_turned};
+use crate::sides::{CellSide, why_not_turned};
 use match_puzzle::{ArrangementFault, Partial, Placement, Puzzle};
 use std::alloc::{AllocError, Global};
+use text_words::letter;
 
 // A puzzle and what is listed as an arrangement of it.
 #[derive(Drop)]

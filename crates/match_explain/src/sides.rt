@@ -5,9 +5,7 @@ ghost use Rattle.match_board.specs.Board.{cell_count, side_count};
 ghost use Rattle.match_board.specs.declared.limits.TheConstants.{MOST_COLOURS};
 
 use match_board::Figure;
-use match_board::limits::MOST_COLOURS;
 use match_puzzle::{Placement, Puzzle};
-use text_words::character;
 
 // A side of a cell, as faults name it.
 #[derive(Clone, Copy)]
@@ -76,15 +74,6 @@ impl CellSide {
         } else {
             None
         }
-    }
-}
-
-// The character of the colour.
-pub(crate) fn letter(colour: u32) -> char {
-    if colour < u32::from(MOST_COLOURS) {
-        char::from(character(colour as u8))
-    } else {
-        '?'
     }
 }
 

@@ -6,7 +6,7 @@ ghost use Rattle.match_runs.specs.Runs.{unhinted};
 
 use crate::faults::RunFault;
 use byte_streams::Documents;
-use match_explain::{certificate_hint, list_hint, puzzle_hint};
+use match_hints::{certificate_hint, list_hint, puzzle_hint};
 use std::alloc::{AllocError, Global};
 
 /// Why a run stopped, and what is told beside that, if anything is: what has to be changed in a text that has a fault, or

@@ -20,6 +20,15 @@ pub fn character(colour: u8) -> u8
     }
 }
 
+/// The character of a colour, for a sentence; `?` where there is no such colour.
+pub fn letter(colour: u32) -> char {
+    if colour < u32::from(MOST_COLOURS) {
+        char::from(character(colour as u8))
+    } else {
+        '?'
+    }
+}
+
 /// Writes a number.
 pub fn put_number(text: &mut Vec<u8>, number: u64) -> Result<(), AllocError>
     ensures { OnOk result (text.new.items ≡ text.old.items ++ decimal number) }

@@ -4,11 +4,7 @@ use Rattle.cert_tree.specs.Limits.{IsLemmaWithin}
 use Rattle.cert_text.specs.CertificateText.{lemma_of}
 use Rattle.cert_text.specs.CertificateSpelling.{lemma_spelling}
 use Rattle.cert_text.proofs.CertificateTextLemmas.{lemma_found, lemma_only, lemma_short}
-use Rattle.cert_text.proofs.LawLemmas.{spelled_by_limits}
 use Rattle.cert_text.proofs.laws.lemma_laws.Goals as goal
 
 pub returns : goal.returns
-returns c = record {
-  reads = reads_what_is_spelled lemma_of (IsLemmaWithin MOST_CELLS) lemma_spelling lemma_found lemma_only lemma_short;
-  limits = spelled_by_limits lemma_of (IsLemmaWithin MOST_CELLS) lemma_spelling lemma_found lemma_only;
-}
+returns c = reads_what_is_spelled lemma_of (IsLemmaWithin MOST_CELLS) lemma_spelling lemma_found lemma_only lemma_short

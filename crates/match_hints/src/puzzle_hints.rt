@@ -3,14 +3,13 @@
 ghost use Rattle.std.specs.Prelude.{◌≡◌};
 
 use crate::documents::{Document, LONGEST};
-use crate::sides::letter;
 use crate::text_hints::text_hint;
 use match_board::limits::{MOST_CELLS, MOST_PLACES, MOST_PLAIN_CELLS};
 use match_board::{Board, BoardFault, Tile};
 use match_puzzle::{Border, PuzzleFault};
 use match_text::{BoardLine, PuzzleText, PuzzleTextFault, read_puzzle_text};
 use std::alloc::{AllocError, Global};
-use text_words::character;
+use text_words::letter;
 
 /// What has to be changed in the text of a puzzle that has this fault, in one line: what has to stand at a place of the
 /// text, and what stands there, or which numbers don't go together. None where there is nothing to tell.
