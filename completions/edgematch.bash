@@ -15,7 +15,8 @@ _edgematch() {
       count) words="--workers --most --part --progress --help" ;;
       expand) words="--orbits --hints --help" ;;
       draw) words="--first --numbers --help" ;;
-      explain | show | symmetries | tiles) words="--help" ;;
+      tiles) words="--lines --help" ;;
+      explain | show | symmetries) words="--help" ;;
       help) words="check explain solve expand count show draw symmetries tiles help" ;;
     esac
   fi

@@ -32,3 +32,4 @@ complete -c edgematch -n "__fish_seen_subcommand_from count" -l progress -d "Tel
 complete -c edgematch -n "__fish_seen_subcommand_from draw" -x -l first -d "Draws a sheet of so many arrangements, from N on, 0 to 100; 0 draws N alone, large"
 complete -c edgematch -n "__fish_seen_subcommand_from draw" -l numbers -d "Writes the number of its tile on each cell"
 complete -c edgematch -n "__fish_seen_subcommand_from tiles" -f -a "3 4"
+complete -c edgematch -n "__fish_seen_subcommand_from tiles" -l lines -d "Prints them as lines of a puzzle's text: tile WORD"

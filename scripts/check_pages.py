@@ -94,7 +94,7 @@ def zsh_faults(commands, options):
         yield "commands"
     cases = {name: part for names, part in parts(text, r"^    ([\w |]+)\)$").items() for name in names.split(" | ")}
     for name in options:
-        found = re.findall(r"'(--\w+)\[(.*?)\](:[\w/]+:)?'", cases.get(name, ""))
+        found = re.findall(r"""(?<=['"])(--\w+)\[(.*?)\](:[\w/]+:)?(?=['"])""", cases.get(name, ""))
         if {option(long, number): said for long, said, number in found} != without_defaults(options[name]):
             yield f"the options of {name}"
 

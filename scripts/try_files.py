@@ -14,6 +14,7 @@ import stat
 import subprocess
 import sys
 import tempfile
+import termios
 import threading
 import time
 
@@ -333,6 +334,74 @@ def told_on_a_terminal(trial, words, given=b""):
     return run.returncode, told.replace(b"\r\n", b"\n")
 
 
+def typed_on_a_terminal(trial, words, given):
+    """The same where standard input is that terminal too, on which this is typed, with Ctrl-D at its end."""
+    seen, terminal = os.openpty()
+    # What is typed isn't shown.
+    settings = termios.tcgetattr(terminal)
+    settings[3] &= ~termios.ECHO
+    termios.tcsetattr(terminal, termios.TCSANOW, settings)
+    run = subprocess.Popen([trial.program, *words], stdin=terminal, stdout=subprocess.DEVNULL, stderr=terminal,
+                           cwd=trial.folder)
+    os.close(terminal)
+    os.write(seen, given + b"\x04")
+    status, told = run.wait(timeout=LONGEST), b""
+    with open(seen, "rb", buffering=0) as file:
+        try:
+            while part := file.read(4096):
+                told += part
+        except OSError:
+            pass
+    return status, told.replace(b"\r\n", b"\n")
+
+
+def what_is_awaited_on_a_terminal(trial):
+    """What is read from standard input is told to who types it, and nowhere else."""
+    trial.put("puzzle", SMALL)
+    trial.put("list", SMALL_LIST)
+    trial.put("certificate", SMALL_CERTIFICATE)
+    joined = SMALL + SMALL_LIST + SMALL_CERTIFICATE
+    of_three = b"a puzzle, its list and its certificate, joined,"
+    for words, documents, given in (
+            ("", of_three, joined), ("explain", of_three, joined), ("count", of_three, joined),
+            ("expand --orbits", of_three, joined), ("explain -", b"a puzzle", SMALL), ("count -", b"a puzzle", SMALL),
+            ("symmetries -", b"a puzzle", SMALL), ("show -", b"a puzzle", SMALL),
+            ("show - list", b"a puzzle", SMALL), ("draw puzzle -", b"a list", SMALL_LIST),
+            ("count puzzle list -", b"a certificate", SMALL_CERTIFICATE),
+    ):
+        line = b"edgematch reads " + documents + b" from standard input, to Ctrl-D; edgematch --help tells more\n"
+        trial.wants(f"{words}: told who types", (0, line), typed_on_a_terminal(trial, words.split(), given))
+        trial.wants(f"{words}: told who looks on", (0, b""), told_on_a_terminal(trial, words.split(), given))
+    trial.wants("told of files", (0, b""), typed_on_a_terminal(trial, ["explain", "puzzle"], b""))
+
+
+def names_of_standard_input(trial):
+    """A dash is standard input, be it a pipe, a file that was read in part, or closed; with a slash it is a file."""
+    trial.put("puzzle", SMALL)
+    trial.put("list", SMALL_LIST)
+    trial.put("-", SMALL)
+    count = [trial.program, "count", "-", "list", "certificate"]
+    trial.put("certificate", SMALL_CERTIFICATE)
+    counted = b"arrangements 1\npictures 1\norbits 1\nsymmetries 0\n"
+    how = {"capture_output": True, "cwd": trial.folder, "timeout": LONGEST, "check": False}
+    run = subprocess.run(count, input=SMALL, **how)
+    trial.wants("a pipe", (0, counted, b""), (run.returncode, run.stdout, run.stderr))
+    trial.put("behind", b"of another\n" + SMALL)
+    with open(trial.path("behind"), "rb", buffering=0) as file:
+        file.read(len(b"of another\n"))
+        run = subprocess.run(count, stdin=file, **how)
+    trial.wants("a file that was read in part", (0, counted, b""), (run.returncode, run.stdout, run.stderr))
+    run = subprocess.run(count, stdin=subprocess.DEVNULL, preexec_fn=lambda: os.close(0), **how)
+    trial.wants("closed", (2, b"", b"cannot read puzzle\n"), (run.returncode, run.stdout, run.stderr))
+    run = subprocess.run([trial.program, "explain", "./-"], stdin=subprocess.DEVNULL, **how)
+    trial.wants("with a slash", (0, b"puzzle: no fault\n", b""), (run.returncode, run.stdout, run.stderr))
+    for words in ("show - -", "draw - -", "explain - - certificate", "count - list -", "count puzzle - -"):
+        run = subprocess.run([trial.program, *words.split()], input=b"not read", **how)
+        trial.wants(f"{words}: status", (2, b""), (run.returncode, run.stdout))
+        trial.wants(f"{words}: told", b"error: - is standard input, and is read once: name other documents by their files",
+                    run.stderr.split(b"\n")[0])
+
+
 def reasons_on_a_terminal(trial):
     """Which file is refused, and why, is told in a second line on a terminal, and elsewhere the one line alone."""
     os.mkdir(trial.path("folder"))
@@ -391,7 +460,8 @@ def hints_on_a_terminal(trial):
 TRIALS = (
     new_files, modes, owners, links, links_in_a_circle, hard_links_of_the_puzzle, two_links_to_nothing, pipes, devices,
     a_full_disk, a_closed_pipe_for_the_report, a_stop_by_a_signal, two_at_once, a_fault_beside_another_solve,
-    closed_streams, a_closed_input, reasons_on_a_terminal, hints_on_a_terminal,
+    closed_streams, a_closed_input, reasons_on_a_terminal, hints_on_a_terminal, what_is_awaited_on_a_terminal,
+    names_of_standard_input,
 )
 
 

@@ -1,5 +1,7 @@
 -- What words of `count` ask of a search, and that some ask nothing.
-use Rattle.std.proofs.Common.{◌≡◌, ◌∙◌, List, Some, None, sym, subst, codes}
+use Rattle.std.proofs.Common.{◌≡◌, ◌≢◌, ◌∙◌, List, Option, Some, None, refl, sym, subst, codes}
+use Rattle.std.specs.Option.{option_map}
+use Rattle.std.specs.Str.Parse.{digits_value, without_leading_plus}
 use Rattle.clap.specs.Words.{Row, Text, first_of}
 use Rattle.command_words.specs.Orders.{IsExtent, IsOrderOf}
 use Rattle.command_words.specs.Parts.{IsPartText}
@@ -7,7 +9,8 @@ use Rattle.command_words.specs.declared.orders.Extent.{Extent}
 use Rattle.command_words.specs.declared.orders.Extent.TheVariants as extents
 use Rattle.command_words.specs.declared.orders.Order.{Order}
 use Rattle.command_words.specs.declared.orders.Part.{Part}
-use Rattle.command_words.proofs.ProgramLemmas.{no_count, none_is_some, some_is}
+use Rattle.command_words.proofs.MisfitLemmas.{no_count}
+use Rattle.command_words.proofs.ProgramLemmas.{none_is_some, some_is}
 
 module _ (rows : List Row) where
   -- a text that names no part
@@ -24,12 +27,14 @@ module _ (rows : List Row) where
 
   -- words that ask nothing of a search order nothing
   pub no_extent : ((extent : Extent) → IsExtent rows extent → ⊥) → (order : Order) → IsOrderOf (Some (codes "count", rows)) order → ⊥
-  no_extent none = no_count rows (λ files named all. none extents.All all) (λ extent list certificate is. none extent is)
+  no_extent none = no_count rows (λ given is all. none extents.All all) (λ puzzle extent alone is. none extent is)
 
-  -- a certificate without a list
-  pub no_list : (text : Text) → first_of (codes "LIST") rows ≡ None → first_of (codes "CERTIFICATE") rows ≡ Some text → (order : Order) → IsOrderOf (Some (codes "count", rows)) order → ⊥
-  no_list text list certificate = no_count rows (λ files named all. none_is_some (sym list ∙ named.list)) (λ extent alone uncertified is. none_is_some (sym uncertified ∙ certificate))
-
-  -- a list without a certificate
-  pub no_certificate : (text : Text) → first_of (codes "LIST") rows ≡ Some text → first_of (codes "CERTIFICATE") rows ≡ None → (order : Order) → IsOrderOf (Some (codes "count", rows)) order → ⊥
-  no_certificate text list certificate = no_count rows (λ files named all. none_is_some (sym certificate ∙ named.certificate)) (λ extent alone uncertified is. none_is_some (sym alone ∙ list))
+  -- a search of which something is asked is none of all
+  pub asks_some : (extent : Extent) → extent ≢ extents.All → IsExtent rows extent → IsExtent rows extents.All → ⊥
+  asks_some extents.All differs is all = differs refl
+  asks_some (extents.Most most) differs is all = none_of_number (first_of (codes "most") rows) all.0 is.0
+    where
+      none_of_number : (text : Option Text) → text ≡ None → option_map (λ text. digits_value 10 (without_leading_plus text)) text ≡ Some most → ⊥
+      none_of_number None e has = none_is_some has
+      none_of_number (Some text) e has = none_is_some (sym e)
+  asks_some (extents.Part part) differs is all = none_is_some (sym all.1 ∙ is.2)

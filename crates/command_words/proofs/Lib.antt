@@ -1,3 +1,5 @@
+pub mod CommandLemmas
 pub mod ExtentLemmas
 pub mod FaultlessWalk
+pub mod MisfitLemmas
 pub mod ProgramLemmas

@@ -29,7 +29,7 @@ use Rattle.command_words.specs.Commands.{whole_app}
 use Rattle.command_words.specs.Orders.{HasFiles, HasFlag, HasNumber, HasText, IsExtent, IsFaultOf, IsMisfit, IsOrder, IsOrderOf, IsRefused, MayHaveNumber, NameFiles, TellsOfMisfit}
 use Rattle.command_words.specs.declared.orders.Extent.{Extent}
 use Rattle.command_words.specs.declared.orders.Extent.TheVariants as extents
-use Rattle.command_words.specs.declared.orders.Files.{Files}
+use Rattle.command_words.specs.declared.places.Files.{Files}
 use Rattle.command_words.specs.declared.orders.Order.TheVariants as orders
 use Rattle.command_words.specs.declared.orders.Order.{Order}
 use Rattle.command_words.specs.declared.faults.WordsFault.{WordsFault}
@@ -323,11 +323,15 @@ parse_enters command m words is matches name rows named rowed =
     and_left true b e = refl
     and_left false b e = absurd cc
 
+-- a parse that has no fault is one of words without a fault
+pub faultless_of : (command : Command) (words : List Text) → app_of command ≡ whole_app → (is_simple_and_free (app_of command) ≡ true → fault_of (app_of command) words ≡ []) → fault_of whole_app words ≡ []
+faultless_of command words is none = ap (λ (a : App). fault_of a words) (sym is) ∙ none (is_free command is)
+
 -- a command that a parse entered has what it needs
 pub parse_has : (command : Command) (words : List Text) → app_of command ≡ whole_app → (is_simple_and_free (app_of command) ≡ true → fault_of (app_of command) words ≡ [])
     → (name : Text) (rows : List Row) → subcommand_of whole_app words ≡ Some (name, rows) → IsEntered name rows
 parse_has command words is none name rows enters =
-    program_has words (ap (λ (a : App). fault_of a words) (sym is) ∙ none (is_free command is)) name rows enters
+    program_has words (faultless_of command words is none) name rows enters
 
 -- the order of the words, by what they enter
 pub order_of : (words : List Text) (name : Text) (rows : List Row) (order : Order) → subcommand_of whole_app words ≡ Some (name, rows) → IsOrderOf (Some (name, rows)) order → IsOrder words order
@@ -417,61 +421,7 @@ differs name other ne = go (bytes_eq other name) refl
     go true is = absurd (ne (sym ((bytes_eq-Decides other name).0 is)))
     go false is = refl
 
--- ---- words of `count`
-
-differ : (name other : Text) → bytes_eq name other ≡ false → name ≡ other → ⊥
-differ name other differs_so is = true_is_false (sym ((bytes_eq-Decides name other).1 is) ∙ differs_so)
-
--- they give no order where they give no count by a list, and none by a search
-pub no_count : (rows : List Row) → ((files : Files) → NameFiles rows files → IsExtent rows extents.All → ⊥)
-    → ((extent : Extent) → first_of (codes "LIST") rows ≡ None → first_of (codes "CERTIFICATE") rows ≡ None → IsExtent rows extent → ⊥)
-    → (order : Order) → IsOrderOf (Some (codes "count", rows)) order → ⊥
-no_count rows listed searched orders.Joined is = is
-no_count rows listed searched (orders.Check files workers forks progress hints) is = differ (codes "count") (codes "check") refl is.0
-no_count rows listed searched (orders.Explain files) is = differ (codes "count") (codes "explain") refl is.0
-no_count rows listed searched (orders.ExplainPuzzle puzzle) is = differ (codes "count") (codes "explain") refl is.0
-no_count rows listed searched (orders.Solve files depth fuel workers keep progress hints) is = differ (codes "count") (codes "solve") refl is.0
-no_count rows listed searched (orders.Expand files orbits hints) is = differ (codes "count") (codes "expand") refl is.0
-no_count rows listed searched (orders.Count files) is = listed files is.1 is.2
-no_count rows listed searched (orders.Census puzzle extent workers progress) is = searched extent is.2 is.3 is.4
-no_count rows listed searched (orders.Show puzzle list) is = differ (codes "count") (codes "show") refl is.0
-no_count rows listed searched (orders.Draw puzzle list first numbers) is = differ (codes "count") (codes "draw") refl is.0
-no_count rows listed searched (orders.Symmetries puzzle) is = differ (codes "count") (codes "symmetries") refl is.0
-no_count rows listed searched (orders.Tiles sides colours) is = differ (codes "count") (codes "tiles") refl is.0
-
--- ---- words of `explain`
-
--- they give no order where they name no three files, and no puzzle alone
-pub no_explain : (rows : List Row) → ((files : Files) → NameFiles rows files → ⊥) → (first_of (codes "LIST") rows ≡ None → first_of (codes "CERTIFICATE") rows ≡ None → ⊥)
-    → (order : Order) → IsOrderOf (Some (codes "explain", rows)) order → ⊥
-no_explain rows listed alone orders.Joined is = is
-no_explain rows listed alone (orders.Check files workers forks progress hints) is = differ (codes "explain") (codes "check") refl is.0
-no_explain rows listed alone (orders.Explain files) is = listed files is.1
-no_explain rows listed alone (orders.ExplainPuzzle puzzle) is = alone is.2 is.3
-no_explain rows listed alone (orders.Solve files depth fuel workers keep progress hints) is = differ (codes "explain") (codes "solve") refl is.0
-no_explain rows listed alone (orders.Expand files orbits hints) is = differ (codes "explain") (codes "expand") refl is.0
-no_explain rows listed alone (orders.Count files) is = differ (codes "explain") (codes "count") refl is.0
-no_explain rows listed alone (orders.Census puzzle extent workers progress) is = differ (codes "explain") (codes "count") refl is.0
-no_explain rows listed alone (orders.Show puzzle list) is = differ (codes "explain") (codes "show") refl is.0
-no_explain rows listed alone (orders.Draw puzzle list first numbers) is = differ (codes "explain") (codes "draw") refl is.0
-no_explain rows listed alone (orders.Symmetries puzzle) is = differ (codes "explain") (codes "symmetries") refl is.0
-no_explain rows listed alone (orders.Tiles sides colours) is = differ (codes "explain") (codes "tiles") refl is.0
-
--- a certificate without a list
-pub no_list_explained : (rows : List Row) (text : Text) → first_of (codes "LIST") rows ≡ None → first_of (codes "CERTIFICATE") rows ≡ Some text → (order : Order) → IsOrderOf (Some (codes "explain", rows)) order → ⊥
-no_list_explained rows text list certificate = no_explain rows (λ files named. none_is_some (sym list ∙ named.list)) (λ alone uncertified. none_is_some (sym uncertified ∙ certificate))
-
--- a list without a certificate
-pub no_certificate_explained : (rows : List Row) (text : Text) → first_of (codes "LIST") rows ≡ Some text → first_of (codes "CERTIFICATE") rows ≡ None → (order : Order) → IsOrderOf (Some (codes "explain", rows)) order → ⊥
-no_certificate_explained rows text list certificate = no_explain rows (λ files named. none_is_some (sym certificate ∙ named.certificate)) (λ alone uncertified. none_is_some (sym alone ∙ list))
-
--- what is told of words of a command that give no order
-pub misfits_of : (name : Text) (rows : List Row) (fault : WordsFault) → TellsOfMisfit fault → ((order : Order) → IsOrderOf (Some (name, rows)) order → ⊥) → IsMisfit (Some (name, rows)) fault
-misfits_of name rows (Words error) tells none = (none, tells)
-misfits_of name rows Memory tells none = tt
-
-pub misfits : (rows : List Row) (fault : WordsFault) → TellsOfMisfit fault → ((order : Order) → IsOrderOf (Some (codes "count", rows)) order → ⊥) → IsMisfit (Some (codes "count", rows)) fault
-misfits rows = misfits_of (codes "count") rows
+-- ---- words that don't go together
 
 -- a fault of what the words enter is one of the words
 pub misfit_refused : (words : List Text) (name : Text) (rows : List Row) (fault : WordsFault) → subcommand_of whole_app words ≡ Some (name, rows) → IsMisfit (Some (name, rows)) fault → IsRefused words fault

@@ -55,6 +55,11 @@ with_puzzle app = with_rule app (wanted (codes "PUZZLE"))
 abbrev pub with_files : App → App
 with_files app = with_rules (with_puzzle app) (wanted (codes "LIST") ∷ wanted (codes "CERTIFICATE") ∷ [])
 
+-- three documents by where they stand, of which none has to be named
+abbrev pub with_places : App → App
+with_places app =
+    with_rules app (new_rule (codes "PUZZLE") ∷ new_rule (codes "LIST") ∷ new_rule (codes "CERTIFICATE") ∷ [])
+
 abbrev pub check_app : App
 check_app =
     with_rules (with_files (new_app (codes "check")))
@@ -65,8 +70,7 @@ check_app =
     ∷ [])
 
 abbrev pub explain_app : App
-explain_app =
-    with_rules (with_puzzle (new_app (codes "explain"))) (new_rule (codes "LIST") ∷ new_rule (codes "CERTIFICATE") ∷ [])
+explain_app = with_places (new_app (codes "explain"))
 
 abbrev pub solve_app : App
 solve_app =
@@ -80,14 +84,12 @@ solve_app =
     ∷ [])
 
 abbrev pub expand_app : App
-expand_app = with_rules (with_files (new_app (codes "expand"))) (flag (codes "orbits") ∷ flag (codes "hints") ∷ [])
+expand_app = with_rules (with_places (new_app (codes "expand"))) (flag (codes "orbits") ∷ flag (codes "hints") ∷ [])
 
 abbrev pub count_app : App
 count_app =
-    with_rules (with_puzzle (new_app (codes "count")))
-    (new_rule (codes "LIST")
-    ∷ new_rule (codes "CERTIFICATE")
-    ∷ optional_number (codes "workers") 1 MOST_WORKERS (codes "1")
+    with_rules (with_places (new_app (codes "count")))
+    (optional_number (codes "workers") 1 MOST_WORKERS (codes "1")
     ∷ optional_bound (codes "most")
     ∷ optional_text (codes "part")
     ∷ flag (codes "progress")
@@ -113,7 +115,7 @@ symmetries_app = with_puzzle (new_app (codes "symmetries"))
 abbrev pub tiles_app : App
 tiles_app =
     with_rules (new_app (codes "tiles"))
-    (wanted_number (codes "SIDES") 3 4 ∷ wanted_number (codes "COLOURS") 1 MOST_COLOURS ∷ [])
+    (wanted_number (codes "SIDES") 3 4 ∷ wanted_number (codes "COLOURS") 1 MOST_COLOURS ∷ flag (codes "lines") ∷ [])
 
 -- the commands, in the order of the help
 abbrev pub commands : List App

@@ -1,5 +1,5 @@
 -- What words order.
-use Rattle.std.specs.Prelude.{◌≡◌, ◌≢◌, ◌⊎◌, ℕ, Bool, List, Option, Some, None, codes, option_map, true}
+use Rattle.std.specs.Prelude.{◌≡◌, ◌≢◌, ◌⊎◌, ℕ, Bool, List, Option, Some, None, [], codes, option_map, true}
 use Rattle.std.specs.String.{string_bytes}
 use Rattle.std.specs.Str.Parse.{digits_value, without_leading_plus}
 use Rattle.clap.specs.Values.{bool_text}
@@ -10,12 +10,27 @@ use Rattle.command_words.specs.declared.faults.WordsFault.{WordsFault}
 use Rattle.command_words.specs.declared.faults.WordsFault.TheVariants.{Words, Memory}
 use Rattle.command_words.specs.declared.orders.Extent.{Extent}
 use Rattle.command_words.specs.declared.orders.Extent.TheVariants as extents
-use Rattle.command_words.specs.declared.orders.Files.{Files}
-use Rattle.command_words.specs.declared.orders.Listed.{Listed}
+use Rattle.command_words.specs.declared.places.Files.{Files}
+use Rattle.command_words.specs.declared.orders.Subject.{Subject}
+use Rattle.command_words.specs.declared.orders.Subject.TheVariants.{Board, Listed}
 use Rattle.command_words.specs.declared.orders.Order.{Order}
 use Rattle.command_words.specs.declared.orders.Order.TheVariants.{Joined, Check, Explain, ExplainPuzzle, Solve, Expand, Count, Census, Show, Draw, Symmetries, Tiles}
 use Rattle.command_words.specs.Commands.{whole_app}
 use Rattle.command_words.specs.Parts.{IsPartText}
+use Rattle.command_words.specs.Places.{certificate_place, input_name, list_of_two, list_place, puzzle_of_two, puzzle_place}
+use Rattle.command_words.specs.declared.places.Given.{Given}
+use Rattle.command_words.specs.declared.places.Given.TheVariants.{Apart}
+use Rattle.command_words.specs.declared.places.Given.TheVariants as given
+use Rattle.command_words.specs.declared.places.Place.{Place}
+use Rattle.command_words.specs.declared.places.Place.TheVariants.{File, Input}
+use Rattle.command_words.specs.declared.places.ThreePlaces.{ThreePlaces}
+use Rattle.command_words.specs.declared.places.ThreePlaces.TheVariants as three
+
+-- The command of this name was entered by words that `clap` takes, and these are its matches.
+pub record AreMatchesOf (name : Text) (rows : List Row) : Type 0 where
+  pub words : List Text
+  pub faultless : fault_of whole_app words ≡ []
+  pub enters : subcommand_of whole_app words ≡ Some (name, rows)
 
 -- the matches of a command have a text under this id
 abbrev pub HasText : Text → List Row → Type 0
@@ -47,17 +62,53 @@ pub record NameFiles (rows : List Row) (files : Files) : Type 0 where
   pub list : first_of (codes "LIST") rows ≡ Some (string_bytes files.list)
   pub certificate : first_of (codes "CERTIFICATE") rows ≡ Some (string_bytes files.certificate)
 
+-- Where the document stands that the matches of a command have under an id: on standard input where its word is `-`, or in
+-- the file of this name.
+abbrev pub IsPlace : Text → List Row → Place → Type 0
+IsPlace id rows Input = first_of id rows ≡ Some input_name
+IsPlace id rows (File name) =
+    (first_of id rows ≡ Some (string_bytes name)) × (string_bytes name ≢ input_name)
+
+-- where a puzzle, a list and a certificate stand
+pub record ArePlaces (rows : List Row) (places : ThreePlaces) : Type 0 where
+  pub puzzle : IsPlace (codes "PUZZLE") rows (puzzle_place places)
+  pub list : IsPlace (codes "LIST") rows (list_place places)
+  pub certificate : IsPlace (codes "CERTIFICATE") rows (certificate_place places)
+
+-- no document is named
+pub record NameNothing (rows : List Row) : Type 0 where
+  pub no_puzzle : first_of (codes "PUZZLE") rows ≡ None
+  pub no_list : first_of (codes "LIST") rows ≡ None
+  pub no_certificate : first_of (codes "CERTIFICATE") rows ≡ None
+
+-- a puzzle is named, and nothing else
+pub record NamesPuzzle (rows : List Row) (puzzle : Place) : Type 0 where
+  pub at : IsPlace (codes "PUZZLE") rows puzzle
+  pub no_list : first_of (codes "LIST") rows ≡ None
+  pub no_certificate : first_of (codes "CERTIFICATE") rows ≡ None
+
+-- how three documents are given: joined where none is named, or each where it is named
+abbrev pub IsGiven : List Row → Given → Type 0
+IsGiven rows given.Joined = NameNothing rows
+IsGiven rows (Apart places) = ArePlaces rows places
+
+-- The same of a command that reads standard input only where no document is named: `-` is a file too.
+abbrev pub IsGivenInFiles : List Row → Given → Type 0
+IsGivenInFiles rows given.Joined = NameNothing rows
+IsGivenInFiles rows (Apart (three.Files files)) = NameFiles rows files
+IsGivenInFiles rows given = ⊥
+
 -- the number that the matches of a command have under an id, a sign `+` before it or none; one that isn't given has its
 -- default
 abbrev pub number_of : Text → List Row → Option ℕ
 number_of id rows = option_map (λ text. digits_value 10 (without_leading_plus text)) (first_of id rows)
 
--- the list that the matches of a command name, and the number of an arrangement, or no list
-abbrev pub IsListed : List Row → Option Listed → Type 0
-IsListed rows None = first_of (codes "LIST") rows ≡ None
-IsListed rows (Some listed) =
-    (first_of (codes "LIST") rows ≡ Some (string_bytes listed.list))
-    × (number_of (codes "N") rows ≡ Some listed.number)
+-- a puzzle without a list, or one with a list and the number of an arrangement
+abbrev pub IsSubject : List Row → Subject → Type 0
+IsSubject rows (Board puzzle) = IsPlace (codes "PUZZLE") rows puzzle × (first_of (codes "LIST") rows ≡ None)
+IsSubject rows (Listed places number) =
+    IsPlace (codes "PUZZLE") rows (puzzle_of_two places) × IsPlace (codes "LIST") rows (list_of_two places)
+    × (number_of (codes "N") rows ≡ Some number)
 
 -- how far a search counts by the matches of `count`
 abbrev pub IsExtent : List Row → Extent → Type 0
@@ -74,34 +125,29 @@ IsOrderOf (Some (name, rows)) (Check files workers forks progress hints) =
     (name ≡ codes "check") × NameFiles rows files × (number_of (codes "workers") rows ≡ Some workers)
     × (number_of (codes "forks") rows ≡ Some forks) × IsFlagged (codes "progress") rows progress
     × IsFlagged (codes "hints") rows hints
-IsOrderOf (Some (name, rows)) (Explain files) = (name ≡ codes "explain") × NameFiles rows files
-IsOrderOf (Some (name, rows)) (ExplainPuzzle puzzle) =
-    (name ≡ codes "explain") × (first_of (codes "PUZZLE") rows ≡ Some (string_bytes puzzle))
-    × (first_of (codes "LIST") rows ≡ None) × (first_of (codes "CERTIFICATE") rows ≡ None)
+IsOrderOf (Some (name, rows)) (Explain given) = (name ≡ codes "explain") × IsGiven rows given
+IsOrderOf (Some (name, rows)) (ExplainPuzzle puzzle) = (name ≡ codes "explain") × NamesPuzzle rows puzzle
 IsOrderOf (Some (name, rows)) (Solve files depth fuel workers keep progress hints) =
     (name ≡ codes "solve") × NameFiles rows files × (number_of (codes "depth") rows ≡ Some depth)
     × (number_of (codes "fuel") rows ≡ Some fuel) × (number_of (codes "workers") rows ≡ Some workers)
     × IsFlagged (codes "keep") rows keep × IsFlagged (codes "progress") rows progress
     × IsFlagged (codes "hints") rows hints
-IsOrderOf (Some (name, rows)) (Expand files orbits hints) =
-    (name ≡ codes "expand") × NameFiles rows files × IsFlagged (codes "orbits") rows orbits
+IsOrderOf (Some (name, rows)) (Expand given orbits hints) =
+    (name ≡ codes "expand") × IsGivenInFiles rows given × IsFlagged (codes "orbits") rows orbits
     × IsFlagged (codes "hints") rows hints
-IsOrderOf (Some (name, rows)) (Count files) =
-    (name ≡ codes "count") × NameFiles rows files × IsExtent rows extents.All
+IsOrderOf (Some (name, rows)) (Count given) = (name ≡ codes "count") × IsGiven rows given × IsExtent rows extents.All
 IsOrderOf (Some (name, rows)) (Census puzzle extent workers progress) =
-    (name ≡ codes "count") × (first_of (codes "PUZZLE") rows ≡ Some (string_bytes puzzle))
-    × (first_of (codes "LIST") rows ≡ None) × (first_of (codes "CERTIFICATE") rows ≡ None) × IsExtent rows extent
+    (name ≡ codes "count") × NamesPuzzle rows puzzle × IsExtent rows extent
     × (number_of (codes "workers") rows ≡ Some workers) × IsFlagged (codes "progress") rows progress
-IsOrderOf (Some (name, rows)) (Show puzzle listed) =
-    (name ≡ codes "show") × (first_of (codes "PUZZLE") rows ≡ Some (string_bytes puzzle)) × IsListed rows listed
-IsOrderOf (Some (name, rows)) (Draw puzzle listed first numbers) =
-    (name ≡ codes "draw") × (first_of (codes "PUZZLE") rows ≡ Some (string_bytes puzzle)) × IsListed rows listed
-    × (number_of (codes "first") rows ≡ Some first) × IsFlagged (codes "numbers") rows numbers
+IsOrderOf (Some (name, rows)) (Show subject) = (name ≡ codes "show") × IsSubject rows subject
+IsOrderOf (Some (name, rows)) (Draw subject first numbers) =
+    (name ≡ codes "draw") × IsSubject rows subject × (number_of (codes "first") rows ≡ Some first)
+    × IsFlagged (codes "numbers") rows numbers
 IsOrderOf (Some (name, rows)) (Symmetries puzzle) =
-    (name ≡ codes "symmetries") × (first_of (codes "PUZZLE") rows ≡ Some (string_bytes puzzle))
-IsOrderOf (Some (name, rows)) (Tiles sides colours) =
+    (name ≡ codes "symmetries") × IsPlace (codes "PUZZLE") rows puzzle
+IsOrderOf (Some (name, rows)) (Tiles sides colours lines) =
     (name ≡ codes "tiles") × (number_of (codes "SIDES") rows ≡ Some sides)
-    × (number_of (codes "COLOURS") rows ≡ Some colours)
+    × (number_of (codes "COLOURS") rows ≡ Some colours) × IsFlagged (codes "lines") rows lines
 IsOrderOf matches order = ⊥
 
 -- The words give the order, by what the program's commands make of them.

@@ -7,7 +7,7 @@ ghost use Rattle.command_words.specs.Commands.{IsLocal, flag, number_or_default,
 ghost use Rattle.command_words.specs.Commands.{optional_text, wanted, wanted_number};
 ghost use Rattle.command_words.specs.Commands.{check_app, count_app, draw_app, expand_app, explain_app, show_app};
 ghost use Rattle.command_words.specs.Commands.{solve_app, symmetries_app, tiles_app};
-ghost use Rattle.command_words.specs.Commands.{whole_app, with_files, with_puzzle};
+ghost use Rattle.command_words.specs.Commands.{whole_app, with_files, with_places, with_puzzle};
 
 use crate::numbers::MOST_DRAWN;
 use clap::builder::ValueParser;
@@ -24,7 +24,8 @@ const VERSION: &str = "0.1.0 (proved with rattle-kit-13f logic dac8208d650f15bf)
 
 const WITHOUT_COMMAND: &str = "\
 Without a command it reads a puzzle, a list and a certificate from standard input, one after the \
-other, and checks them.
+other, and checks them. So do explain, count and expand where no file is named. Of explain, count, show, \
+draw and symmetries one document may be named -, which is standard input; ./- is a file of that name.
 
 Exit status:
   0  done; of a check, the list is complete
@@ -89,6 +90,8 @@ the answer of check where it is refused.
 With --orbits it prints one of each orbit: of the arrangements of the list, in its order, those that the \
 symmetries take no earlier one of them to. How many there are is what count calls orbits.
 
+Without files it reads the three from standard input, one after the other.
+
 Exit status:
   0  every arrangement of the puzzle is printed, once; with --orbits one of each orbit
   1  the certificate does not show that the list is complete
@@ -102,7 +105,8 @@ Prints the answer of check, and where it is refused, why: a sentence, the line a
 the fault is, the board with what is placed there, and the pairs that fit where their number is told \
 wrongly. Where a text has a fault, standard error says what has to stand there, and what does.
 
-With a puzzle alone it prints puzzle: no fault, or says the same of its text.
+With a puzzle alone it prints puzzle: no fault, or says the same of its text. Without files it reads the \
+three from standard input, one after the other. One that is named - is standard input.
 
 Exit status:
   0  the list is complete; or the puzzle alone has no fault
@@ -131,6 +135,9 @@ With --part K/N it counts in part K of N of the search, and prints two lines: sp
 subtrees into which the search was split and a hash of them all, and part K/N arrangements M. Where all N \
 parts print the same line split, their numbers add up to how many arrangements the puzzle has.
 
+Without files it reads the three from standard input, one after the other. One that is named - is standard \
+input.
+
 With --progress a search says meanwhile how many of the subtrees are done, how many arrangements they have, \
 and about how long the others will take.
 
@@ -150,7 +157,7 @@ how many cells, tiles and colours there are, where each colour stands, and how l
 solve: how many options it has, each a tile at a cell as the border allows, and how many items these have.
 
 With a list it draws arrangement N of it in place of that. Where the list has no such arrangement, or \
-it is none of the puzzle's, that is said on standard error.
+it is none of the puzzle's, that is said on standard error. One of the files may be -, standard input.
 
 Exit status:
   0  the board is drawn, or the arrangement
@@ -165,7 +172,7 @@ K from N on; where the list has fewer from N on, it draws these. Without a list 
 with the colours that the border asks for, and each tile below.
 
 Where the list has no arrangement N, or one that is to be drawn is none of the puzzle's, that is said \
-on standard error, and nothing is printed. With --first or without a list --numbers changes nothing.
+on standard error, and nothing is printed. With --first or without a list --numbers changes nothing. One of the files may be -, standard input.
 
 Exit status:
   0  the picture is printed
@@ -175,14 +182,15 @@ Example:
   edgematch draw puzzle list 0 --numbers > picture.svg";
 
 const LISTED: &str = "\
-Prints a line for each tile, as it stands in a puzzle; at most 100.
+Prints a line for each tile, at most 100: its word, or with --lines the line that a puzzle has of it, \
+tile WORD.
 
 Example:
   edgematch tiles 4 3";
 
 const NAMED: &str = "\
 Prints the symmetries of the puzzle that solve would name, as the lines that a certificate has of \
-them.
+them. The file may be -, standard input.
 
 Exit status:
   0  the lines are printed
@@ -374,7 +382,7 @@ fn solve<'a>(alloc: Global) -> Result<Command<'a>, AllocError>
     Ok(command)
 }
 
-fn expand<'a>(alloc: Global) -> Result<Command<'a>, AllocError>
+pub(crate) fn expand<'a>(alloc: Global) -> Result<Command<'a>, AllocError>
     ensures app { IfOk result (λ c. app_of c ≡ expand_app) }
     ensures local { IfOk result IsLocal }
 {
@@ -384,7 +392,7 @@ fn expand<'a>(alloc: Global) -> Result<Command<'a>, AllocError>
         "Prints one arrangement of each orbit alone",
     );
     let hints = hints(alloc);
-    let command = of_files(
+    let command = of_places(
         alloc,
         "expand",
         "Checks a list, and prints every arrangement of the puzzle",
@@ -399,16 +407,29 @@ pub(crate) fn explain<'a>(alloc: Global) -> Result<Command<'a>, AllocError>
     ensures app { IfOk result (λ c. app_of c ≡ explain_app) }
     ensures local { IfOk result IsLocal }
 {
-    let list = optional_word(alloc, "LIST", "File of the list of arrangements");
-    let certificate = optional_word(alloc, "CERTIFICATE", "File of the certificate");
-    let command = of_puzzle(
+    of_places(
         alloc,
         "explain",
         "Checks a list, and says why it is refused, or what is wrong with a puzzle",
         EXPLAINED,
-    )?
-    .arg(list)?
-    .arg(certificate)?;
+    )
+}
+
+// The command of this name, with three documents of which none has to be named.
+fn of_places<'a>(
+    alloc: Global,
+    name: &'a str,
+    about: &'a str,
+    help: &'a str,
+) -> Result<Command<'a>, AllocError>
+    ensures app { IfOk result (λ c. app_of c ≡ with_places (new_app name.entry.now)) }
+    ensures local { IfOk result IsLocal }
+{
+    let command = Command::new(alloc, name).about(about).after_help(help);
+    let puzzle = optional_word(alloc, "PUZZLE", "File of the puzzle");
+    let list = optional_word(alloc, "LIST", "File of the list of arrangements");
+    let certificate = optional_word(alloc, "CERTIFICATE", "File of the certificate");
+    let command = command.arg(puzzle)?.arg(list)?.arg(certificate)?;
     Ok(command)
 }
 
@@ -440,8 +461,6 @@ pub(crate) fn count<'a>(alloc: Global) -> Result<Command<'a>, AllocError>
     ensures app { IfOk result (λ c. app_of c ≡ count_app) }
     ensures local { IfOk result IsLocal }
 {
-    let list = optional_word(alloc, "LIST", "File of the list of arrangements");
-    let certificate = optional_word(alloc, "CERTIFICATE", "File of the certificate");
     let workers = workers(alloc, "How many workers search at once, 1 to 64");
     let most = optional_bound(
         alloc,
@@ -456,14 +475,12 @@ pub(crate) fn count<'a>(alloc: Global) -> Result<Command<'a>, AllocError>
         "Counts in part K of N of the search, 1/N to N/N, of 1000000 parts at most",
     );
     let progress = progress(alloc);
-    let command = of_puzzle(
+    let command = of_places(
         alloc,
         "count",
         "Counts the arrangements of a puzzle, by a search or by a list that is checked",
         COUNTED,
     )?
-    .arg(list)?
-    .arg(certificate)?
     .arg(workers)?
     .arg(most)?
     .arg(part)?
@@ -504,11 +521,13 @@ fn arrangement_number<'a>(alloc: Global) -> Arg<'a>
     )
 }
 
-fn show<'a>(alloc: Global) -> Result<Command<'a>, AllocError>
+pub(crate) fn show<'a>(alloc: Global) -> Result<Command<'a>, AllocError>
     ensures app { IfOk result (λ c. app_of c ≡ show_app) }
     ensures local { IfOk result IsLocal }
 {
-    let list = Arg::new(alloc, "LIST").help(
+    let list = optional_word(
+        alloc,
+        "LIST",
         "File of a list of arrangements, of which one is drawn",
     );
     let number = arrangement_number(alloc);
@@ -540,7 +559,7 @@ fn first<'a>(alloc: Global) -> Arg<'a>
     .value_name("K")
 }
 
-fn draw<'a>(alloc: Global) -> Result<Command<'a>, AllocError>
+pub(crate) fn draw<'a>(alloc: Global) -> Result<Command<'a>, AllocError>
     ensures app { IfOk result (λ c. app_of c ≡ draw_app) }
     ensures local { IfOk result IsLocal }
 {
@@ -588,11 +607,17 @@ fn tiles<'a>(alloc: Global) -> Result<Command<'a>, AllocError>
         u64::from(MOST_COLOURS),
         "How many colours there are, 1 to 36",
     );
+    let lines = flag(
+        alloc,
+        "lines",
+        "Prints them as lines of a puzzle's text: tile WORD",
+    );
     let command = Command::new(alloc, "tiles")
         .about("Lists the tiles with so many sides and colours, each in one of its turns")
         .after_help(LISTED)
         .arg(sides)?
-        .arg(colours)?;
+        .arg(colours)?
+        .arg(lines)?;
     Ok(command)
 }
 

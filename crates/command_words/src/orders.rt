@@ -3,21 +3,7 @@
 use crate::numbers::{
     ArrangementNumber, Colours, Depth, Drawn, Forks, Fuel, OtherParts, Sides, Workers,
 };
-
-/// Three files by their names.
-#[derive(PartialEq, Eq, Debug, Drop)]
-pub struct Files {
-    pub puzzle: String,
-    pub list: String,
-    pub certificate: String,
-}
-
-/// A list by its file's name, and which arrangement of it is meant.
-#[derive(PartialEq, Eq, Debug, Drop)]
-pub struct Listed {
-    pub list: String,
-    pub number: ArrangementNumber,
-}
+use crate::places::{Files, Given, Place, TwoPlaces};
 
 /// A part of a search that is dealt to several, by how many parts come before it and behind it.
 #[derive(Clone, Copy, PartialEq, Eq, Debug)]
@@ -37,6 +23,18 @@ pub enum Extent {
     Part(Part),
 }
 
+/// What is shown or drawn.
+#[derive(PartialEq, Eq, Debug, Drop)]
+pub enum Subject {
+    /// The empty board of the puzzle that stands there.
+    Board(Place),
+    /// The arrangement of this number, of the puzzle and the list that stand there.
+    Listed {
+        places: TwoPlaces,
+        number: ArrangementNumber,
+    },
+}
+
 /// What words order.
 #[derive(PartialEq, Eq, Debug, Drop)]
 pub enum Order {
@@ -51,10 +49,10 @@ pub enum Order {
         progress: bool,
         hints: bool,
     },
-    /// To check the documents in these files, and to say why they are refused.
-    Explain(Files),
-    /// To say whether the text of the puzzle in its file has a fault.
-    ExplainPuzzle(String),
+    /// To check the documents that are given so, and to say why they are refused.
+    Explain(Given),
+    /// To say whether the text of the puzzle that stands there has a fault.
+    ExplainPuzzle(Place),
     /// To search for all arrangements of the puzzle in its file, and to make the files of their list and of a
     /// certificate; to keep what stands there until both are written, or not; to tell meanwhile how far it is, or not; to
     /// tell what has to be changed in a text that has a fault, as of a check, or not.
@@ -67,41 +65,37 @@ pub enum Order {
         progress: bool,
         hints: bool,
     },
-    /// To check the documents in these files, and to print all arrangements, or of these one of each orbit alone; to tell
-    /// what has to be changed in a text that has a fault, as of a check, or not.
+    /// To check the documents that are given so, joined or in files alone, and to print all arrangements, or of these one of
+    /// each orbit alone; to tell what has to be changed in a text that has a fault, as of a check, or not.
     Expand {
-        files: Files,
+        given: Given,
         orbits: bool,
         hints: bool,
     },
-    /// To check the documents in these files, and to count all arrangements.
-    Count(Files),
-    /// To count arrangements of the puzzle in its file by a search.
+    /// To check the documents that are given so, and to count all arrangements.
+    Count(Given),
+    /// To count arrangements of the puzzle that stands there by a search.
     Census {
-        puzzle: String,
+        puzzle: Place,
         extent: Extent,
         workers: Workers,
         progress: bool,
     },
-    /// To draw the board of the puzzle in its file, or the arrangement that is listed.
-    Show {
-        puzzle: String,
-        listed: Option<Listed>,
-    },
-    /// To draw the empty board of the puzzle in its file and its tiles as a picture, or the arrangement that is listed;
-    /// or a sheet of so many arrangements from that one on, where any are asked for; each tile's number on its cell, or
-    /// not.
+    /// To draw the empty board of a puzzle, or an arrangement that is listed.
+    Show(Subject),
+    /// To draw the empty board of a puzzle and its tiles as a picture, or an arrangement that is listed; or a sheet of so
+    /// many arrangements from that one on, where any are asked for; each tile's number on its cell, or not.
     Draw {
-        puzzle: String,
-        listed: Option<Listed>,
+        subject: Subject,
         first: Drawn,
         numbers: bool,
     },
-    /// To print symmetries of the puzzle in its file.
-    Symmetries(String),
-    /// To list the tiles of so many sides and colours.
+    /// To print symmetries of the puzzle that stands there.
+    Symmetries(Place),
+    /// To list the tiles of so many sides and colours; as lines of a puzzle's text, or by their words alone.
     Tiles {
         sides: Sides,
         colours: Colours,
+        lines: bool,
     },
 }

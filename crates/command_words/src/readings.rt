@@ -1,24 +1,39 @@
 //! Words are read.
 
-ghost use Rattle.std.specs.Prelude.{◌≡◌, Some, None, codes, map, IfOk, IfErr, MatchOption};
+ghost use Rattle.std.specs.Prelude.{◌≡◌, Some, codes, map, IfOk, IfErr, MatchOption};
 ghost use Rattle.std.specs.String.{string_bytes};
 ghost use Rattle.std.specs.Str.Parse.{digits_value, without_leading_plus};
 ghost use Rattle.clap.specs.Words.{IsUnsignedIn, first_of, found_of, kind_of, rows_of};
 ghost use Rattle.clap.specs.declared.error.kind.ErrorKind.TheVariants.{ArgumentConflict};
-ghost use Rattle.command_words.specs.Orders.{HasFiles, HasFlag, HasNumber, HasText, IsExtent, IsFlagged, IsListed};
-ghost use Rattle.command_words.specs.Orders.{IsMisfit, IsOrder, IsOrderOf, IsRefused, MayHaveNumber, NameFiles};
-ghost use Rattle.command_words.specs.Orders.{TellsOfMisfit, number_of};
+ghost use Rattle.command_words.specs.Orders.{AreMatchesOf, HasFiles, HasFlag, HasNumber, HasText, IsExtent, IsFlagged};
+ghost use Rattle.command_words.specs.Orders.{IsGiven, IsGivenInFiles, IsMisfit, IsOrder, IsOrderOf, IsPlace, IsRefused};
+ghost use Rattle.command_words.specs.Orders.{IsSubject, MayHaveNumber, NameFiles, TellsOfMisfit, number_of};
+ghost use Rattle.command_words.specs.Asked.{AreAskedFor, IsAsked, MayStandAt};
 ghost use Rattle.command_words.specs.Parts.{IsPartText};
 ghost use Rattle.command_words.specs.declared.orders.Extent.{Extent};
 ghost use Rattle.command_words.specs.declared.orders.Part.{Part};
+ghost use Rattle.command_words.specs.declared.orders.Subject.{Subject};
+ghost use Rattle.command_words.specs.declared.places.Given.{Given};
 
-use crate::commands::{count as count_command, explain as explain_command, program};
+use crate::commands::{
+    count as count_command, draw as draw_command, expand as expand_command,
+    explain as explain_command, program, show as show_command,
+};
 use crate::faults::WordsFault;
 use crate::numbers::Within;
-use crate::orders::{Extent, Files, Listed, Order, Part};
-use clap::ArgMatches;
+use crate::orders::{Extent, Order, Part, Subject};
+use crate::places::{Files, Given, Place, ThreePlaces, TwoPlaces};
 use clap::error::ErrorKind;
+use clap::{ArgMatches, Command};
 use std::alloc::{AllocError, Global};
+
+// Why words that name standard input twice order nothing.
+const READ_TWICE: &str =
+    "- is standard input, and is read once: name other documents by their files";
+
+// Why words that name a part of three documents order nothing.
+const NO_CERTIFICATE: &str =
+    "a list stands with its certificate: PUZZLE LIST CERTIFICATE, or PUZZLE alone";
 
 // The text under this id.
 fn text(alloc: Global, matches: &ArgMatches<'_>, id: &str) -> Result<String, AllocError>
@@ -70,123 +85,216 @@ fn files(alloc: Global, matches: &ArgMatches<'_>) -> Result<Files, AllocError>
     })
 }
 
+// Where the document stands that is named under this id, if one is.
+fn place_if_named(
+    alloc: Global,
+    matches: &ArgMatches<'_>,
+    id: &str,
+) -> Result<Option<Place>, AllocError>
+    ensures { IfOk result (MayStandAt id.now (rows_of (found_of matches.now))) }
+{
+    let Some(name) = matches.get_str(id) else {
+        return Ok(None);
+    };
+    if name == "-" {
+        return Ok(Some(Place::Input));
+    }
+    let file = String::from_str(alloc, name)?;
+    Ok(Some(Place::File(file)))
+}
+
+// Where the puzzle stands that is named.
+fn puzzle_place(alloc: Global, matches: &ArgMatches<'_>) -> Result<Place, AllocError>
+    requires { HasText (codes "PUZZLE") (rows_of (found_of matches.now)) }
+    ensures { IfOk result (IsPlace (codes "PUZZLE") (rows_of (found_of matches.now))) }
+{
+    let Some(place) = place_if_named(alloc, matches, "PUZZLE")? else {
+        unreachable!();
+    };
+    Ok(place)
+}
+
+// What words of `explain` or `count` ask of a puzzle, a list and a certificate.
+#[derive(Drop)]
+enum Asked {
+    // Of three documents.
+    Given(Given),
+    // Of a puzzle alone.
+    Puzzle(Place),
+    // Nothing, for this reason.
+    Nothing(&'static str),
+}
+
+// What the matches of `explain` or `count` ask.
+fn read_asked(alloc: Global, matches: &ArgMatches<'_>) -> Result<Asked, AllocError>
+    ensures { IfOk result (IsAsked (rows_of (found_of matches.now))) }
+{
+    let puzzle = place_if_named(alloc, matches, "PUZZLE")?;
+    let list = place_if_named(alloc, matches, "LIST")?;
+    let certificate = place_if_named(alloc, matches, "CERTIFICATE")?;
+    Ok(asked_for(puzzle, list, certificate))
+}
+
+// What is asked of documents that stand there, so far as they are named.
+fn asked_for(puzzle: Option<Place>, list: Option<Place>, certificate: Option<Place>) -> Asked
+    ensures { AreAskedFor puzzle list certificate result }
+{
+    match (puzzle, list, certificate) {
+        (None, None, None) => Asked::Given(Given::Joined),
+        (Some(puzzle), None, None) => Asked::Puzzle(puzzle),
+        (Some(puzzle), Some(list), Some(certificate)) => {
+            match ThreePlaces::new(puzzle, list, certificate) {
+                Some(places) => Asked::Given(Given::Apart(places)),
+                None => Asked::Nothing(READ_TWICE),
+            }
+        }
+        (_, Some(_), None) => Asked::Nothing(NO_CERTIFICATE),
+        (_, _, Some(_)) => Asked::Nothing("a certificate stands behind a puzzle and a list"),
+    }
+}
+
+// Three documents in their files, or joined where none is named; nothing where but some are.
+fn given_in_files(alloc: Global, matches: &ArgMatches<'_>) -> Result<Option<Given>, AllocError>
+    ensures { IfOk result (λ given. MatchOption given
+        ((any : Given) → IsGivenInFiles (rows_of (found_of matches.now)) any → ⊥)
+        (IsGivenInFiles (rows_of (found_of matches.now)))) }
+{
+    let puzzle = matches.get_str("PUZZLE");
+    let list = matches.get_str("LIST");
+    let certificate = matches.get_str("CERTIFICATE");
+    match (puzzle, list, certificate) {
+        (None, None, None) => Ok(Some(Given::Joined)),
+        (Some(puzzle), Some(list), Some(certificate)) => {
+            let puzzle = String::from_str(alloc, puzzle)?;
+            let list = String::from_str(alloc, list)?;
+            let certificate = String::from_str(alloc, certificate)?;
+            let files = Files {
+                puzzle,
+                list,
+                certificate,
+            };
+            Ok(Some(Given::Apart(ThreePlaces::Files(files))))
+        }
+        (Some(_), None, _) => Ok(None),
+        (Some(_), Some(_), None) => Ok(None),
+        (None, Some(_), _) => Ok(None),
+        (None, None, Some(_)) => Ok(None),
+    }
+}
+
+// A puzzle alone, or what is listed; none where both the puzzle and the list stand on standard input.
+fn read_subject(alloc: Global, matches: &ArgMatches<'_>) -> Result<Option<Subject>, AllocError>
+    requires puzzle { HasText (codes "PUZZLE") (rows_of (found_of matches.now)) }
+    requires number { HasNumber (codes "N") 0 999999 (rows_of (found_of matches.now)) }
+    ensures { IfOk result (λ subject. MatchOption subject
+        ((any : Subject) → IsSubject (rows_of (found_of matches.now)) any → ⊥)
+        (IsSubject (rows_of (found_of matches.now)))) }
+{
+    let puzzle = puzzle_place(alloc, matches)?;
+    let Some(list) = place_if_named(alloc, matches, "LIST")? else {
+        return Ok(Some(Subject::Board(puzzle)));
+    };
+    let Some(places) = TwoPlaces::new(puzzle, list) else {
+        return Ok(None);
+    };
+    let number = number(matches, "N");
+    Ok(Some(Subject::Listed { places, number }))
+}
+
+// What is told of words of this command that don't go together.
+fn misfit(command: Result<Command<'_>, AllocError>, name: &str, reason: &str) -> WordsFault
+    ensures { TellsOfMisfit result }
+{
+    match misfit_error(command, name, reason) {
+        Ok(error) => WordsFault::Words(error),
+        Err(_) => WordsFault::Memory,
+    }
+}
+
+fn misfit_error(
+    command: Result<Command<'_>, AllocError>,
+    name: &str,
+    reason: &str,
+) -> Result<clap::Error, AllocError>
+    ensures { IfOk result (λ error. kind_of error ≡ ArgumentConflict) }
+{
+    let mut command = command?.bin_name(name)?;
+    command.error(ErrorKind::ArgumentConflict, reason)
+}
+
 fn check(alloc: Global, matches: &ArgMatches<'_>) -> Result<Order, AllocError>
-    requires files { HasFiles (rows_of (found_of matches.now)) }
-    requires workers { HasNumber (codes "workers") 1 64 (rows_of (found_of matches.now)) }
-    requires forks { HasNumber (codes "forks") 0 6 (rows_of (found_of matches.now)) }
-    requires progress { HasFlag (codes "progress") (rows_of (found_of matches.now)) }
-    requires hints { HasFlag (codes "hints") (rows_of (found_of matches.now)) }
+    requires { AreMatchesOf (codes "check") (rows_of (found_of matches.now)) }
     ensures { IfOk result (IsOrderOf (Some (codes "check", rows_of (found_of matches.now)))) }
 {
     let files = files(alloc, matches)?;
     let workers = number(matches, "workers");
+    let forks = number(matches, "forks");
+    let progress = flag(matches, "progress");
+    let hints = flag(matches, "hints");
     Ok(Order::Check {
         files,
         workers,
-        forks: number(matches, "forks"),
-        progress: flag(matches, "progress"),
-        hints: flag(matches, "hints"),
+        forks,
+        progress,
+        hints,
     })
 }
 
 fn solve(alloc: Global, matches: &ArgMatches<'_>) -> Result<Order, AllocError>
-    requires files { HasFiles (rows_of (found_of matches.now)) }
-    requires depth { HasNumber (codes "depth") 0 3 (rows_of (found_of matches.now)) }
-    requires fuel { HasNumber (codes "fuel") 1 1000000 (rows_of (found_of matches.now)) }
-    requires workers { HasNumber (codes "workers") 1 64 (rows_of (found_of matches.now)) }
-    requires keep { HasFlag (codes "keep") (rows_of (found_of matches.now)) }
-    requires progress { HasFlag (codes "progress") (rows_of (found_of matches.now)) }
-    requires hints { HasFlag (codes "hints") (rows_of (found_of matches.now)) }
+    requires { AreMatchesOf (codes "solve") (rows_of (found_of matches.now)) }
     ensures { IfOk result (IsOrderOf (Some (codes "solve", rows_of (found_of matches.now)))) }
 {
     let files = files(alloc, matches)?;
+    let depth = number(matches, "depth");
+    let fuel = number(matches, "fuel");
     let workers = number(matches, "workers");
+    let keep = flag(matches, "keep");
+    let progress = flag(matches, "progress");
+    let hints = flag(matches, "hints");
     Ok(Order::Solve {
         files,
-        depth: number(matches, "depth"),
-        fuel: number(matches, "fuel"),
+        depth,
+        fuel,
         workers,
-        keep: flag(matches, "keep"),
-        progress: flag(matches, "progress"),
-        hints: flag(matches, "hints"),
+        keep,
+        progress,
+        hints,
     })
 }
 
-fn expand(alloc: Global, matches: &ArgMatches<'_>) -> Result<Order, AllocError>
-    requires files { HasFiles (rows_of (found_of matches.now)) }
-    requires orbits { HasFlag (codes "orbits") (rows_of (found_of matches.now)) }
-    requires hints { HasFlag (codes "hints") (rows_of (found_of matches.now)) }
-    ensures { IfOk result (IsOrderOf (Some (codes "expand", rows_of (found_of matches.now)))) }
+fn expand(alloc: Global, matches: &ArgMatches<'_>) -> Result<Order, WordsFault>
+    requires { AreMatchesOf (codes "expand") (rows_of (found_of matches.now)) }
+    ensures order { IfOk result (IsOrderOf (Some (codes "expand", rows_of (found_of matches.now)))) }
+    ensures refused { IfErr result (IsMisfit (Some (codes "expand", rows_of (found_of matches.now)))) }
 {
-    let files = files(alloc, matches)?;
-    Ok(Order::Expand {
-        files,
-        orbits: flag(matches, "orbits"),
-        hints: flag(matches, "hints"),
-    })
-}
-
-// Of three documents, where all are named, or of a puzzle, where it is alone.
-fn explain(alloc: Global, matches: &ArgMatches<'_>) -> Result<Order, WordsFault>
-    requires { HasText (codes "PUZZLE") (rows_of (found_of matches.now)) }
-    ensures order { IfOk result (IsOrderOf (Some (codes "explain", rows_of (found_of matches.now)))) }
-    ensures refused { IfErr result (IsMisfit (Some (codes "explain", rows_of (found_of matches.now)))) }
-{
-    if let Some(list) = matches.get_str("LIST") {
-        return explain_listed(alloc, matches, list);
-    }
-    explain_alone(alloc, matches)
-}
-
-// What is wrong with a puzzle.
-fn explain_alone(alloc: Global, matches: &ArgMatches<'_>) -> Result<Order, WordsFault>
-    requires puzzle { HasText (codes "PUZZLE") (rows_of (found_of matches.now)) }
-    requires alone { first_of (codes "LIST") (rows_of (found_of matches.now)) ≡ None }
-    ensures order { IfOk result (IsOrderOf (Some (codes "explain", rows_of (found_of matches.now)))) }
-    ensures refused { IfErr result (IsMisfit (Some (codes "explain", rows_of (found_of matches.now)))) }
-{
-    let None = matches.get_str("CERTIFICATE") else {
-        return Err(explain_misfit(alloc, "a certificate stands behind its list"));
-    };
-    Ok(Order::ExplainPuzzle(text(alloc, matches, "PUZZLE")?))
-}
-
-// Why this list and its certificate are refused.
-fn explain_listed(alloc: Global, matches: &ArgMatches<'_>, list: &str) -> Result<Order, WordsFault>
-    requires puzzle { HasText (codes "PUZZLE") (rows_of (found_of matches.now)) }
-    requires list { first_of (codes "LIST") (rows_of (found_of matches.now)) ≡ Some list.now }
-    ensures order { IfOk result (IsOrderOf (Some (codes "explain", rows_of (found_of matches.now)))) }
-    ensures refused { IfErr result (IsMisfit (Some (codes "explain", rows_of (found_of matches.now)))) }
-{
-    let Some(certificate) = matches.get_str("CERTIFICATE") else {
-        return Err(explain_misfit(
-            alloc,
-            "a list stands with its certificate: PUZZLE LIST CERTIFICATE, or PUZZLE alone",
+    let Some(given) = given_in_files(alloc, matches)? else {
+        return Err(misfit(
+            expand_command(alloc),
+            "edgematch expand",
+            "three files are named, PUZZLE LIST CERTIFICATE, or none",
         ));
     };
-    let puzzle = text(alloc, matches, "PUZZLE")?;
-    let list = String::from_str(alloc, list)?;
-    let certificate = String::from_str(alloc, certificate)?;
-    Ok(Order::Explain(Files {
-        puzzle,
-        list,
-        certificate,
-    }))
+    let orbits = flag(matches, "orbits");
+    let hints = flag(matches, "hints");
+    Ok(Order::Expand {
+        given,
+        orbits,
+        hints,
+    })
 }
 
-// The list and the number, if a list is named.
-fn listed(alloc: Global, matches: &ArgMatches<'_>) -> Result<Option<Listed>, AllocError>
-    requires { HasNumber (codes "N") 0 999999 (rows_of (found_of matches.now)) }
-    ensures { IfOk result (IsListed (rows_of (found_of matches.now))) }
+// Of three documents, or of a puzzle, where it is alone.
+fn explain(alloc: Global, matches: &ArgMatches<'_>) -> Result<Order, WordsFault>
+    ensures order { IfOk result (IsOrderOf (Some (codes "explain", rows_of (found_of matches.now)))) }
+    ensures refused { IfErr result (IsMisfit (Some (codes "explain", rows_of (found_of matches.now)))) }
 {
-    let Some(list) = matches.get_str("LIST") else {
-        return Ok(None);
-    };
-    let list = String::from_str(alloc, list)?;
-    Ok(Some(Listed {
-        list,
-        number: number(matches, "N"),
-    }))
+    match read_asked(alloc, matches)? {
+        Asked::Given(given) => Ok(Order::Explain(given)),
+        Asked::Puzzle(puzzle) => Ok(Order::ExplainPuzzle(puzzle)),
+        Asked::Nothing(reason) => {
+            Err(misfit(explain_command(alloc), "edgematch explain", reason))
+        }
+    }
 }
 
 // The part of a search that the text names, as `3/8`.
@@ -238,167 +346,117 @@ fn long_number(text: &str) -> u64
     number
 }
 
-// A count by a list and its certificate, where both are named, or by a search, where neither is.
+// A count by a list and its certificate, or by a search, where a puzzle is alone.
 fn count(alloc: Global, matches: &ArgMatches<'_>) -> Result<Order, WordsFault>
-    requires puzzle { HasText (codes "PUZZLE") (rows_of (found_of matches.now)) }
-    requires workers { HasNumber (codes "workers") 1 64 (rows_of (found_of matches.now)) }
-    requires progress { HasFlag (codes "progress") (rows_of (found_of matches.now)) }
-    requires most { MayHaveNumber (codes "most") 0 18446744073709551615 (rows_of (found_of matches.now)) }
+    requires { AreMatchesOf (codes "count") (rows_of (found_of matches.now)) }
     ensures order { IfOk result (IsOrderOf (Some (codes "count", rows_of (found_of matches.now)))) }
     ensures refused { IfErr result (IsMisfit (Some (codes "count", rows_of (found_of matches.now)))) }
 {
     let Some(extent) = extent(matches) else {
         return Err(misfit(
-            alloc,
+            count_command(alloc),
+            "edgematch count",
             "--part is 1/N to N/N, of 1000000 parts at most, and stands without --most",
         ));
     };
-    match matches.get_str("LIST") {
-        None => census(alloc, matches, extent),
-        Some(list) => count_listed(alloc, matches, list, extent),
+    match read_asked(alloc, matches)? {
+        Asked::Given(given) => count_given(alloc, matches, given, extent),
+        Asked::Puzzle(puzzle) => {
+            let workers = number(matches, "workers");
+            let progress = flag(matches, "progress");
+            Ok(Order::Census {
+                puzzle,
+                extent,
+                workers,
+                progress,
+            })
+        }
+        Asked::Nothing(reason) => Err(misfit(count_command(alloc), "edgematch count", reason)),
     }
 }
 
-// A count by a search.
-fn census(alloc: Global, matches: &ArgMatches<'_>, extent: Extent) -> Result<Order, WordsFault>
-    requires puzzle { HasText (codes "PUZZLE") (rows_of (found_of matches.now)) }
-    requires workers { HasNumber (codes "workers") 1 64 (rows_of (found_of matches.now)) }
-    requires progress { HasFlag (codes "progress") (rows_of (found_of matches.now)) }
-    requires alone { first_of (codes "LIST") (rows_of (found_of matches.now)) ≡ None }
-    requires extent { IsExtent (rows_of (found_of matches.now)) extent }
-    ensures order { IfOk result (IsOrderOf (Some (codes "count", rows_of (found_of matches.now)))) }
-    ensures refused { IfErr result (IsMisfit (Some (codes "count", rows_of (found_of matches.now)))) }
-{
-    let None = matches.get_str("CERTIFICATE") else {
-        return Err(misfit(alloc, "a certificate stands behind its list"));
-    };
-    let puzzle = text(alloc, matches, "PUZZLE")?;
-    let workers = number(matches, "workers");
-    Ok(Order::Census {
-        puzzle,
-        extent,
-        workers,
-        progress: flag(matches, "progress"),
-    })
-}
-
-// A count by this list and its certificate.
-fn count_listed(
+// A count by these documents.
+fn count_given(
     alloc: Global,
-    matches: &ArgMatches<'_>,
-    list: &str,
+    _matches: &ArgMatches<'_>,
+    given: Given,
     extent: Extent,
 ) -> Result<Order, WordsFault>
-    requires puzzle { HasText (codes "PUZZLE") (rows_of (found_of matches.now)) }
-    requires list { first_of (codes "LIST") (rows_of (found_of matches.now)) ≡ Some list.now }
-    requires extent { IsExtent (rows_of (found_of matches.now)) extent }
-    ensures order { IfOk result (IsOrderOf (Some (codes "count", rows_of (found_of matches.now)))) }
-    ensures refused { IfErr result (IsMisfit (Some (codes "count", rows_of (found_of matches.now)))) }
+    requires given { IsGiven (rows_of (found_of _matches.now)) given }
+    requires extent { IsExtent (rows_of (found_of _matches.now)) extent }
+    ensures order { IfOk result (IsOrderOf (Some (codes "count", rows_of (found_of _matches.now)))) }
+    ensures refused { IfErr result (IsMisfit (Some (codes "count", rows_of (found_of _matches.now)))) }
 {
-    let Some(certificate) = matches.get_str("CERTIFICATE") else {
-        return Err(misfit(
-            alloc,
-            "a list stands with its certificate: PUZZLE LIST CERTIFICATE, or PUZZLE alone",
-        ));
-    };
     let Extent::All = extent else {
         return Err(misfit(
-            alloc,
+            count_command(alloc),
+            "edgematch count",
             "--most and --part are of a search: they stand with PUZZLE alone",
         ));
     };
-    let puzzle = text(alloc, matches, "PUZZLE")?;
-    let list = String::from_str(alloc, list)?;
-    let certificate = String::from_str(alloc, certificate)?;
-    Ok(Order::Count(Files {
-        puzzle,
-        list,
-        certificate,
-    }))
+    Ok(Order::Count(given))
 }
 
-// What is told of words of `count` that don't go together.
-fn misfit(alloc: Global, message: &str) -> WordsFault
-    ensures { TellsOfMisfit result }
+fn show(alloc: Global, matches: &ArgMatches<'_>) -> Result<Order, WordsFault>
+    requires { AreMatchesOf (codes "show") (rows_of (found_of matches.now)) }
+    ensures order { IfOk result (IsOrderOf (Some (codes "show", rows_of (found_of matches.now)))) }
+    ensures refused { IfErr result (IsMisfit (Some (codes "show", rows_of (found_of matches.now)))) }
 {
-    match misfit_error(alloc, message) {
-        Ok(error) => WordsFault::Words(error),
-        Err(_) => WordsFault::Memory,
-    }
+    let Some(subject) = read_subject(alloc, matches)? else {
+        return Err(misfit(show_command(alloc), "edgematch show", READ_TWICE));
+    };
+    Ok(Order::Show(subject))
 }
 
-fn misfit_error(alloc: Global, message: &str) -> Result<clap::Error, AllocError>
-    ensures { IfOk result (λ error. kind_of error ≡ ArgumentConflict) }
+fn draw(alloc: Global, matches: &ArgMatches<'_>) -> Result<Order, WordsFault>
+    requires { AreMatchesOf (codes "draw") (rows_of (found_of matches.now)) }
+    ensures order { IfOk result (IsOrderOf (Some (codes "draw", rows_of (found_of matches.now)))) }
+    ensures refused { IfErr result (IsMisfit (Some (codes "draw", rows_of (found_of matches.now)))) }
 {
-    let mut command = count_command(alloc)?.bin_name("edgematch count")?;
-    command.error(ErrorKind::ArgumentConflict, message)
-}
-
-// What is told of words of `explain` that don't go together.
-fn explain_misfit(alloc: Global, message: &str) -> WordsFault
-    ensures { TellsOfMisfit result }
-{
-    match explain_misfit_error(alloc, message) {
-        Ok(error) => WordsFault::Words(error),
-        Err(_) => WordsFault::Memory,
-    }
-}
-
-fn explain_misfit_error(alloc: Global, message: &str) -> Result<clap::Error, AllocError>
-    ensures { IfOk result (λ error. kind_of error ≡ ArgumentConflict) }
-{
-    let mut command = explain_command(alloc)?.bin_name("edgematch explain")?;
-    command.error(ErrorKind::ArgumentConflict, message)
-}
-
-fn show(alloc: Global, matches: &ArgMatches<'_>) -> Result<Order, AllocError>
-    requires puzzle { HasText (codes "PUZZLE") (rows_of (found_of matches.now)) }
-    requires number { HasNumber (codes "N") 0 999999 (rows_of (found_of matches.now)) }
-    ensures { IfOk result (IsOrderOf (Some (codes "show", rows_of (found_of matches.now)))) }
-{
-    let puzzle = text(alloc, matches, "PUZZLE")?;
-    let listed = listed(alloc, matches)?;
-    Ok(Order::Show { puzzle, listed })
-}
-
-fn draw(alloc: Global, matches: &ArgMatches<'_>) -> Result<Order, AllocError>
-    requires puzzle { HasText (codes "PUZZLE") (rows_of (found_of matches.now)) }
-    requires number { HasNumber (codes "N") 0 999999 (rows_of (found_of matches.now)) }
-    requires first { HasNumber (codes "first") 0 100 (rows_of (found_of matches.now)) }
-    requires numbers { HasFlag (codes "numbers") (rows_of (found_of matches.now)) }
-    ensures { IfOk result (IsOrderOf (Some (codes "draw", rows_of (found_of matches.now)))) }
-{
-    let puzzle = text(alloc, matches, "PUZZLE")?;
-    let listed = listed(alloc, matches)?;
+    let Some(subject) = read_subject(alloc, matches)? else {
+        return Err(misfit(draw_command(alloc), "edgematch draw", READ_TWICE));
+    };
+    let first = number(matches, "first");
+    let numbers = flag(matches, "numbers");
     Ok(Order::Draw {
-        puzzle,
-        listed,
-        first: number(matches, "first"),
-        numbers: flag(matches, "numbers"),
+        subject,
+        first,
+        numbers,
     })
 }
 
+fn symmetries(alloc: Global, matches: &ArgMatches<'_>) -> Result<Order, AllocError>
+    requires { AreMatchesOf (codes "symmetries") (rows_of (found_of matches.now)) }
+    ensures { IfOk result (IsOrderOf (Some (codes "symmetries", rows_of (found_of matches.now)))) }
+{
+    Ok(Order::Symmetries(puzzle_place(alloc, matches)?))
+}
+
 fn tiles(matches: &ArgMatches<'_>) -> Order
-    requires sides { HasNumber (codes "SIDES") 3 4 (rows_of (found_of matches.now)) }
-    requires colours { HasNumber (codes "COLOURS") 1 36 (rows_of (found_of matches.now)) }
+    requires { AreMatchesOf (codes "tiles") (rows_of (found_of matches.now)) }
     ensures { IsOrderOf (Some (codes "tiles", rows_of (found_of matches.now))) result }
 {
+    let sides = number(matches, "SIDES");
+    let colours = number(matches, "COLOURS");
+    let lines = flag(matches, "lines");
     Order::Tiles {
-        sides: number(matches, "SIDES"),
-        colours: number(matches, "COLOURS"),
+        sides,
+        colours,
+        lines,
     }
 }
 
 /// What the words after the program's name order.
 ///
 /// Words that name no command order what no words do. `Words` where they are wrong or ask for help,
-/// by the program's commands as `clap` reads them, or where `count` or `explain` has a list without its certificate, or
-/// `count` has these beside what a search is asked; then the error says why.
+/// by the program's commands as `clap` reads them, or don't go together, and then the error says why: `count`, `explain` or
+/// `expand` has but some of three documents, `count` has these beside what a search is asked, or two documents are to be
+/// read from standard input.
 pub fn order(alloc: Global, words: &[String]) -> Result<Order, WordsFault>
     ensures order { IfOk result (IsOrder (map string_bytes words.now)) }
 
-    // Words that `clap` takes are refused for want of memory, or since those of `count` or `explain` don't go together, and
-    // others by a kind that it has for them.
+    // Words that `clap` takes are refused for want of memory, or since they don't go together, and others by a kind that
+    // it has for them.
     ensures refused { IfErr result (IsRefused (map string_bytes words.now)) }
 {
     let matches = program(alloc)?.try_get_matches_from(words)?;
@@ -409,11 +467,11 @@ pub fn order(alloc: Global, words: &[String]) -> Result<Order, WordsFault>
         "check" => Ok(check(alloc, matches)?),
         "explain" => explain(alloc, matches),
         "solve" => Ok(solve(alloc, matches)?),
-        "expand" => Ok(expand(alloc, matches)?),
+        "expand" => expand(alloc, matches),
         "count" => count(alloc, matches),
-        "show" => Ok(show(alloc, matches)?),
-        "draw" => Ok(draw(alloc, matches)?),
-        "symmetries" => Ok(Order::Symmetries(text(alloc, matches, "PUZZLE")?)),
+        "show" => show(alloc, matches),
+        "draw" => draw(alloc, matches),
+        "symmetries" => Ok(symmetries(alloc, matches)?),
         "tiles" => Ok(tiles(matches)),
         // `clap` answers the words of `help` itself, by an error.
         _ => unreachable!(),

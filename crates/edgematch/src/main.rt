@@ -87,16 +87,19 @@ fn run<R: Threads + Wait + Sync + RandomSource + Clock + Eprint>(
         Ok(words) => {
             let errors = rt.stderr();
             let terminal = errors.is_terminal();
+            let input = rt.stdin();
+            let typed = input.is_terminal();
             run_words(
                 threads,
                 rt.alloc(),
                 &words,
                 &mut System::new(rt),
                 &mut Streams {
-                    input: &mut Input::new(rt.stdin()),
+                    input: &mut Input::new(input),
                     output: &mut Output::new(rt.stdout()),
                     errors: &mut Output::new(errors),
                     terminal,
+                    typed,
                 },
             )
         }

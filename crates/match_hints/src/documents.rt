@@ -1,12 +1,10 @@
 //! Documents whose texts are read by lines.
 
 use cert_text::certificate_fault_place;
+use match_board::limits::MOST_BYTES;
 use match_text::{list_fault_place, puzzle_fault_place};
 use std::alloc::{AllocError, Global};
 use text_words::FaultPlace;
-
-// The most bytes of a text that is read.
-pub(crate) const LONGEST: usize = 0xffff_fff0;
 
 // A document whose text is read by lines.
 #[derive(Clone, Copy, PartialEq, Eq, Debug)]
@@ -27,7 +25,7 @@ impl Document {
 
     // Where the text has its first fault; none where it has none, is too long to be read, or memory is refused.
     pub(crate) fn fault_place(self, alloc: Global, text: &[u8]) -> Option<FaultPlace<'_>> {
-        if text.len() > LONGEST {
+        if text.len() > MOST_BYTES as usize {
             return None;
         }
         match self {

@@ -2,9 +2,9 @@
 
 ghost use Rattle.std.specs.Prelude.{◌≡◌};
 
-use crate::documents::{Document, LONGEST};
+use crate::documents::Document;
 use crate::text_hints::text_hint;
-use match_board::limits::{MOST_CELLS, MOST_PLACES, MOST_PLAIN_CELLS};
+use match_board::limits::{MOST_BYTES, MOST_CELLS, MOST_PLACES, MOST_PLAIN_CELLS};
 use match_board::{Board, BoardFault, Tile};
 use match_puzzle::{Border, PuzzleFault};
 use match_text::{BoardLine, PuzzleText, PuzzleTextFault, read_puzzle_text};
@@ -43,7 +43,7 @@ struct Said {
 
 // What this text says; none where it has a fault, or memory is refused.
 fn said_in(alloc: Global, text: &[u8]) -> Option<Said> {
-    if text.len() > LONGEST {
+    if text.len() > MOST_BYTES as usize {
         return None;
     }
     let text = read_puzzle_text(alloc, text).ok()?;

@@ -1,9 +1,10 @@
 //! What is wrong with the text of a list or of a certificate, in one line.
 
-use crate::documents::{Document, LONGEST};
+use crate::documents::Document;
 use crate::text_hints::text_hint;
 use cert_text::{CertTextFault, LemmaLines, read_lemma_lines};
 use cert_tree::AssembleFault;
+use match_board::limits::MOST_BYTES;
 use match_text::ListTextFault;
 use std::alloc::{AllocError, Global};
 
@@ -44,7 +45,7 @@ fn numbers_hint(
     text: &[u8],
     fault: AssembleFault,
 ) -> Result<Option<String>, AllocError> {
-    if text.len() > LONGEST {
+    if text.len() > MOST_BYTES as usize {
         return Ok(None);
     }
     let Some(lines) = read_lemma_lines(alloc, text) else {

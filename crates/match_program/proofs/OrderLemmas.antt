@@ -1,23 +1,27 @@
 -- What an order comes to, by the run that it makes and the files that it opens.
-use Rattle.std.proofs.Common.{◌≡◌, ◌∙◌, ℕ, List, Result, length, inr, refl, sym, subst}
+use Rattle.std.proofs.Common.{◌≡◌, ◌∙◌, ℕ, List, Result, Ok, Err, length, inr, refl, sym, subst}
 use Rattle.match_report.specs.AnswerText.{answer_line}
 use Rattle.byte_streams.specs.Documents.{Texts}
 use Rattle.byte_streams.specs.Moves.{Writing}
-use Rattle.byte_streams.specs.Origins.{Origin, one_source, two_sources}
-use Rattle.byte_streams.specs.Targets.{one_sink}
+use Rattle.byte_streams.specs.Origins.{Origin, one_source}
+use Rattle.byte_streams.specs.Targets.{Target, one_sink}
 use Rattle.byte_streams.specs.declared.documents.TwoTexts.{TwoTexts}
 use Rattle.byte_streams.specs.declared.faults.Document.TheVariants as documents
 use Rattle.byte_streams.specs.declared.faults.InputFault.{InputFault}
 use Rattle.byte_streams.specs.declared.files.FileSystem.{Ghosts as FileMembers}
 use Rattle.byte_streams.specs.declared.sources.Source.{Ghosts as SourceMembers}
-use Rattle.command_words.specs.declared.orders.Files.{Files}
+use Rattle.command_words.specs.declared.places.Files.{Files}
 use Rattle.cert_check.specs.Setting.{Question}
 use Rattle.cert_check.specs.declared.faults.Answer.{Answer}
 use Rattle.cert_check.specs.declared.faults.Answer.TheVariants as answers
 use Rattle.match_runs.specs.Checking.{Answers, CheckGives, SpellCompleteList}
 use Rattle.match_runs.specs.Statuses.{status_of}
 use Rattle.match_program.specs.Exits.{status_exit}
-use Rattle.match_program.specs.FileOrigins.{AllOpened, Opened, one_file, read_from, read_from_all, three_files, two_files}
+use Rattle.match_program.specs.FileOrigins.{AllOpened, Opened, read_from_all, three_files}
+use Rattle.match_program.specs.PlaceOrigins.{AllOpenedAt, BothOpened, OpenedAt, one_place, read_all_at, read_at, read_both, three_places, two_places}
+use Rattle.command_words.specs.declared.places.Place.{Place}
+use Rattle.command_words.specs.declared.places.ThreePlaces.{ThreePlaces}
+use Rattle.command_words.specs.declared.places.TwoPlaces.{TwoPlaces}
 use Rattle.match_runs.specs.Listed.{DrawFails, DrawsListed}
 use Rattle.match_program.specs.OrderRuns.{EndsBy, ThenDone}
 use Rattle.match_runs.specs.Printing.{Prints, PrintingGives}
@@ -74,31 +78,36 @@ module _ (output : Writing) where
   then_done from from' gives fails gave stopped result run =
       over from from' gives (ThenDone gives) fails (one_sink output) (λ e. Done) gave stopped (λ t m e g. (g, refl)) result run
 
-  module _ {S R W : Type 0} (system : FileMembers S R W) (source : SourceMembers R) (at : S) where
-    -- of the file of a puzzle that is described
-    pub over_puzzle : (gives : List ℕ → List ℕ → Unit {0} → Type 0) (fails : List ℕ → RunFault → Type 0) (name : List ℕ) (file : Opened system source at name) (result : Result (Unit {0}) RunFault)
-        → Runs (one_source documents.Puzzle (read_from system source at name file)) gives fails (one_sink output) result
-        → Runs (one_file system source at name) (ThenDone gives) fails (one_sink output) (ended (λ e. Done) result)
-    over_puzzle gives fails name file result run =
-        then_done (one_source documents.Puzzle (read_from system source at name file)) (one_file system source at name) gives fails (λ t gave. (file, gave)) (λ f stops. inr (file, stops)) result run
+  module _ {S R W I : Type 0} (system : FileMembers S R W) (source : SourceMembers R) (input : SourceMembers I) (at : S) (given : I) where
+    -- of a puzzle that stands there
+    pub over_place : (gives : List ℕ → List ℕ → Unit {0} → Type 0) (fails : List ℕ → RunFault → Type 0) (place : Place) (reader : OpenedAt system source input at given place) (result : Result (Unit {0}) RunFault)
+        → Runs (one_source documents.Puzzle (read_at system source input at given place reader)) gives fails (one_sink output) result
+        → Runs (one_place system source input at given place) (ThenDone gives) fails (one_sink output) (ended (λ e. Done) result)
+    over_place gives fails place reader result run =
+        then_done (one_source documents.Puzzle (read_at system source input at given place reader)) (one_place system source input at given place) gives fails (λ t gave. (reader, gave)) (λ f stops. inr (reader, stops)) result run
 
-    -- of the files of a puzzle and a list
-    pub over_two : (gives : TwoTexts → List ℕ → Unit {0} → Type 0) (fails : TwoTexts → RunFault → Type 0)
-        → (puzzle list : List ℕ) (first : Opened system source at puzzle) (second : Opened system source at list) (result : Result (Unit {0}) RunFault)
-        → Runs (two_sources (read_from system source at puzzle first) (read_from system source at list second)) gives fails (one_sink output) result
-        → Runs (two_files system source at puzzle list) (ThenDone gives) fails (one_sink output) (ended (λ e. Done) result)
-    over_two gives fails puzzle list first second result run =
-        then_done (two_sources (read_from system source at puzzle first) (read_from system source at list second)) (two_files system source at puzzle list)
-        gives fails (λ t gave. (first, second, gave)) (λ f stops. inr (first, second, stops)) result run
+    -- of a puzzle and a list
+    pub over_two : (gives : TwoTexts → List ℕ → Unit {0} → Type 0) (fails : TwoTexts → RunFault → Type 0) (two : TwoPlaces) (both : BothOpened system source input at given two) (result : Result (Unit {0}) RunFault)
+        → Runs (read_both system source input at given two both) gives fails (one_sink output) result
+        → Runs (two_places system source input at given two) (ThenDone gives) fails (one_sink output) (ended (λ e. Done) result)
+    over_two gives fails two both result run =
+        then_done (read_both system source input at given two both) (two_places system source input at given two) gives fails (λ t gave. (both, gave)) (λ f stops. inr (both, stops)) result run
 
     -- and by the number that is drawn
-    pub over_drawn : (number given : ℕ) → given ≡ number
-        → (puzzle list : List ℕ) (first : Opened system source at puzzle) (second : Opened system source at list) (result : Result (Unit {0}) RunFault)
-        → Runs (two_sources (read_from system source at puzzle first) (read_from system source at list second)) (DrawsListed given) (DrawFails given) (one_sink output) result
-        → Runs (two_files system source at puzzle list) (ThenDone (DrawsListed number)) (DrawFails number) (one_sink output) (ended (λ e. Done) result)
-    over_drawn number given same puzzle list first second result run =
-        subst (λ (n : ℕ). Runs (two_files system source at puzzle list) (ThenDone (DrawsListed n)) (DrawFails n) (one_sink output) (ended (λ e. Done) result)) same
-        (over_two (DrawsListed given) (DrawFails given) puzzle list first second result run)
+    pub over_drawn : (number drawn : ℕ) → drawn ≡ number → (two : TwoPlaces) (both : BothOpened system source input at given two) (result : Result (Unit {0}) RunFault)
+        → Runs (read_both system source input at given two both) (DrawsListed drawn) (DrawFails drawn) (one_sink output) result
+        → Runs (two_places system source input at given two) (ThenDone (DrawsListed number)) (DrawFails number) (one_sink output) (ended (λ e. Done) result)
+    over_drawn number drawn same two both result run =
+        subst (λ (n : ℕ). Runs (two_places system source input at given two) (ThenDone (DrawsListed n)) (DrawFails n) (one_sink output) (ended (λ e. Done) result)) same
+        (over_two (DrawsListed drawn) (DrawFails drawn) two both result run)
+
+    -- of three documents, whatever is given of them and however that ends
+    pub over_places : {M E : Type 0} (gives : Texts → M → E → Type 0) (fails : Texts → RunFault → Type 0) (to : Target M) (three : ThreePlaces) (all : AllOpenedAt system source input at given three) (result : Result E RunFault)
+        → Runs (read_all_at system source input at given three all) gives fails to result → Runs (three_places system source input at given three) gives fails to result
+    over_places gives fails to three all (Ok e) run =
+        over (read_all_at system source input at given three all) (three_places system source input at given three) gives gives fails to (λ e. e) (λ t gave. (all, gave)) (λ f stops. inr (all, stops)) (λ t m e g. g) (Ok e) run
+    over_places gives fails to three all (Err fault) run =
+        over (read_all_at system source input at given three all) (three_places system source input at given three) gives gives fails to (λ e. e) (λ t gave. (all, gave)) (λ f stops. inr (all, stops)) (λ t m e g. g) (Err fault) run
 
 -- a reader of the file of a name, as it was opened and as it is later
 abbrev pub opened_as : {S R W : Type 0} (system : FileMembers S R W) (source : SourceMembers R) (at : S) (name given : List ℕ) (opened later : R)

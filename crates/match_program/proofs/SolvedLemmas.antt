@@ -11,7 +11,7 @@ use Rattle.byte_streams.specs.declared.faults.InputFault.TheVariants as inputs
 use Rattle.byte_streams.specs.declared.files.FileSystem.{Ghosts as FileMembers}
 use Rattle.byte_streams.specs.declared.outputs.Products.{Products}
 use Rattle.byte_streams.specs.declared.sources.Source.{Ghosts as SourceMembers}
-use Rattle.command_words.specs.declared.orders.Files.{Files}
+use Rattle.command_words.specs.declared.places.Files.{Files}
 use Rattle.match_program.specs.FileOrigins.{Opened, one_file, read_from}
 use Rattle.match_program.specs.OrderRuns.{SolveOf, ThenDone}
 use Rattle.match_runs.specs.Runs.{Runs}

@@ -3,15 +3,14 @@ use Rattle.std.specs.Prelude.{◌≡◌, ◌⊎◌, ℕ, List, [], ◌∷◌}
 use Rattle.std.specs.String.{string_bytes}
 use Rattle.byte_streams.specs.Documents.{Texts}
 use Rattle.byte_streams.specs.Moves.{Reading, reading_of}
-use Rattle.byte_streams.specs.Origins.{Origin, one_source, three_sources, two_sources}
-use Rattle.byte_streams.specs.declared.documents.TwoTexts.{TwoTexts}
+use Rattle.byte_streams.specs.Origins.{Origin, one_source, three_sources}
 use Rattle.byte_streams.specs.declared.faults.Document.{Document}
 use Rattle.byte_streams.specs.declared.faults.Document.TheVariants as documents
 use Rattle.byte_streams.specs.declared.faults.InputFault.{InputFault}
 use Rattle.byte_streams.specs.declared.faults.InputFault.TheVariants as inputs
 use Rattle.byte_streams.specs.declared.files.FileSystem.{Ghosts as FileMembers}
 use Rattle.byte_streams.specs.declared.sources.Source.{Ghosts as SourceMembers}
-use Rattle.command_words.specs.declared.orders.Files.{Files}
+use Rattle.command_words.specs.declared.places.Files.{Files}
 
 -- a document, and the name of its file
 pub record Filed : Type 0 where
@@ -53,18 +52,6 @@ module _ {S R W : Type 0} (system : FileMembers S R W) (source : SourceMembers R
     Stopped = λ fault.
         FailsToOpen (filed documents.Puzzle name ∷ []) fault
         ⊎ ((file : Opened name) × (one_source documents.Puzzle (read_from name file)).Stopped fault);
-  }
-
-  -- The files of a puzzle and a list.
-  abbrev pub two_files : (puzzle list : List ℕ) → Origin TwoTexts
-  two_files puzzle list = record {
-    Gave = λ texts.
-        (first : Opened puzzle) × (second : Opened list)
-        × (two_sources (read_from puzzle first) (read_from list second)).Gave texts;
-    Stopped = λ fault.
-        FailsToOpen (filed documents.Puzzle puzzle ∷ filed documents.List list ∷ []) fault
-        ⊎ ((first : Opened puzzle) × (second : Opened list)
-        × (two_sources (read_from puzzle first) (read_from list second)).Stopped fault);
   }
 
   -- readers of the files of a puzzle, a list and a certificate

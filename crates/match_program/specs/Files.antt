@@ -1,7 +1,7 @@
 -- The files of an order, by their names.
 use Rattle.std.specs.Prelude.{◌≢◌}
 use Rattle.std.specs.String.{string_bytes}
-use Rattle.command_words.specs.declared.orders.Files.{Files}
+use Rattle.command_words.specs.declared.places.Files.{Files}
 
 -- The three files have three names.
 pub record HaveDifferentNames (files : Files) : Type 0 where

@@ -1,7 +1,9 @@
+pub mod DocumentReaders
 pub mod Exits
 pub mod FileOrigins
 pub mod Files
 pub mod OrderRuns
+pub mod PlaceOrigins
 pub mod SameStreams
 pub mod SolvedFiles
 pub mod WordRuns

@@ -1,12 +1,14 @@
 -- What an order comes to.
-use Rattle.std.specs.Prelude.{◌≡◌, ◌⊎◌, ℕ, Bool, true, false, List, Option, Some, None, Result, Err}
+use Rattle.std.specs.Prelude.{◌≡◌, ◌⊎◌, ℕ, Bool, true, false, List, Result, Err}
 use Rattle.std.specs.String.{string_bytes}
 use Rattle.command_words.specs.declared.orders.Extent.{Extent}
-use Rattle.command_words.specs.declared.orders.Listed.{Listed}
+use Rattle.command_words.specs.declared.orders.Subject.{Subject}
+use Rattle.command_words.specs.declared.orders.Subject.TheVariants.{Board, Listed}
+use Rattle.command_words.specs.declared.places.Place.{Place}
 use Rattle.command_words.specs.declared.orders.Order.{Order}
 use Rattle.command_words.specs.declared.orders.Order.TheVariants.{Joined, Check, Explain, ExplainPuzzle, Solve, Expand, Count, Census, Show, Draw, Symmetries, Tiles}
 use Rattle.byte_streams.specs.Documents.{Texts}
-use Rattle.byte_streams.specs.Moves.{Reading, Writing}
+use Rattle.byte_streams.specs.Moves.{Writing, reading_of}
 use Rattle.byte_streams.specs.Origins.{Origin, joined_source, no_source}
 use Rattle.byte_streams.specs.Targets.{Target, one_sink}
 use Rattle.byte_streams.specs.declared.files.FileSystem.{Ghosts as FileMembers}
@@ -16,14 +18,15 @@ use Rattle.match_runs.specs.Census.{CensusFails, CensusGives}
 use Rattle.match_runs.specs.Checking.{CheckFails, CheckGives, SpellCompleteList}
 use Rattle.match_runs.specs.Describing.{Describes, DescribeFails}
 use Rattle.match_program.specs.Exits.{status_exit}
-use Rattle.match_program.specs.FileOrigins.{one_file, three_files, two_files}
+use Rattle.match_program.specs.FileOrigins.{one_file, three_files}
 use Rattle.match_runs.specs.Listed.{DrawFails, DrawsListed}
 use Rattle.match_runs.specs.Pictures.{DrawsPicture, PictureFails}
 use Rattle.match_runs.specs.Printing.{PrintingFails, PrintingGives}
 use Rattle.match_runs.specs.Runs.{Runs}
+use Rattle.match_program.specs.PlaceOrigins.{given_documents, one_place, two_places}
 use Rattle.match_program.specs.SolvedFiles.{solved_files}
 use Rattle.match_runs.specs.Solving.{SolveFails, SolveGives}
-use Rattle.match_runs.specs.Tiles.{TilesFail, TilesGive}
+use Rattle.match_runs.specs.Tiles.{TileLinesGive, TilesFail, TilesGive}
 use Rattle.match_runs.specs.declared.description_runs.Description.{Description}
 use Rattle.match_runs.specs.declared.description_runs.Description.TheVariants as descriptions
 use Rattle.match_runs.specs.declared.printing_runs.Printing.{Printing}
@@ -71,9 +74,11 @@ abbrev pub CensusOf : Extent → Origin (List ℕ) → Writing → Result Exit R
 CensusOf extent from output result =
     Runs from (ThenDone (CensusGives extent)) (CensusFails extent) (one_sink output) result
 
--- What comes of a list of tiles.
-abbrev pub TilesOf : (sides colours : ℕ) → Writing → Result Exit RunFault → Type 0
-TilesOf sides colours output result =
+-- What comes of a list of tiles: by lines of a puzzle's text, or by their words.
+abbrev pub TilesOf : (sides colours : ℕ) (lines : Bool) → Writing → Result Exit RunFault → Type 0
+TilesOf sides colours true output result =
+    Runs no_source (ThenDone (TileLinesGive sides colours)) (TilesFail sides colours) (one_sink output) result
+TilesOf sides colours false output result =
     Runs no_source (ThenDone (TilesGive sides colours)) (TilesFail sides colours) (one_sink output) result
 
 -- What a solve comes to. It is not begun where two of the files are one, or one can't be made.
@@ -83,47 +88,50 @@ SolveOf workers from to result =
 
 -- ---- orders
 
-module _ {S R W : Type 0} (system : FileMembers S R W) (source : SourceMembers R) (old : S) where
-  -- What comes of showing the puzzle in the file of this name: its board, or an arrangement of a list on it.
-  abbrev pub ShowOf : (puzzle : List ℕ) → Option Listed → Writing → Result Exit RunFault → Type 0
-  ShowOf puzzle None output result =
-      DescriptionOf descriptions.Board (one_file system source old puzzle) output result
-  ShowOf puzzle (Some listed) output result =
-      Runs (two_files system source old puzzle (string_bytes listed.list)) (ThenDone (DrawsListed listed.number))
-      (DrawFails listed.number) (one_sink output) result
+module _ {S R W I : Type 0} (system : FileMembers S R W) (source : SourceMembers R) (input : SourceMembers I) (old : S) (given : I)
+  where
+    -- What comes of showing the puzzle that stands there: its board, or an arrangement of a list on it.
+    abbrev pub ShowOf : Subject → Writing → Result Exit RunFault → Type 0
+    ShowOf (Board puzzle) output result =
+        DescriptionOf descriptions.Board (one_place system source input old given puzzle) output result
+    ShowOf (Listed places number) output result =
+        Runs (two_places system source input old given places) (ThenDone (DrawsListed number)) (DrawFails number)
+        (one_sink output) result
 
-  -- What comes of a picture of the puzzle in the file of this name: of its empty board and its tiles, or of what is
-  -- listed.
-  abbrev pub PictureOf : (puzzle : List ℕ) → Option Listed → (first : ℕ) → Writing → Result Exit RunFault → Type 0
-  PictureOf puzzle None first output result =
-      DescriptionOf descriptions.Picture (one_file system source old puzzle) output result
-  PictureOf puzzle (Some listed) first output result =
-      Runs (two_files system source old puzzle (string_bytes listed.list)) (ThenDone (DrawsPicture listed.number first))
-      (PictureFails listed.number first) (one_sink output) result
+    -- What comes of a picture of the puzzle that stands there: of its empty board and its tiles, or of what is listed.
+    abbrev pub PictureOf : Subject → (first : ℕ) → Writing → Result Exit RunFault → Type 0
+    PictureOf (Board puzzle) first output result =
+        DescriptionOf descriptions.Picture (one_place system source input old given puzzle) output result
+    PictureOf (Listed places number) first output result =
+        Runs (two_places system source input old given places) (ThenDone (DrawsPicture number first))
+        (PictureFails number first) (one_sink output) result
 
-  module _ (new : S) (input : Reading) (output : Writing) where
-    -- What an order comes to. No order does anything to a file but a solve.
-    abbrev pub RunOf : Order → Result Exit RunFault → Type 0
-    RunOf Joined result = (new ≡ old) × CheckOf (joined_source input) output result
-    RunOf (Check files workers forks progress hints) result =
-        (new ≡ old) × CheckOf (three_files system source old files) output result
-    RunOf (Explain files) result =
-        (new ≡ old) × PrintingOf printings.Explanation (three_files system source old files) output result
-    RunOf (ExplainPuzzle puzzle) result =
-        (new ≡ old) × DescriptionOf descriptions.NoFault (one_file system source old (string_bytes puzzle)) output result
-    RunOf (Expand files orbits hints) result =
-        (new ≡ old) × PrintingOf (list_printed orbits) (three_files system source old files) output result
-    RunOf (Count files) result =
-        (new ≡ old) × PrintingOf printings.Count (three_files system source old files) output result
-    RunOf (Census puzzle extent workers progress) result =
-        (new ≡ old) × CensusOf extent (one_file system source old (string_bytes puzzle)) output result
-    RunOf (Solve files depth fuel workers keep progress hints) result =
-        SolveOf workers (one_file system source old (string_bytes files.puzzle))
-        (solved_files files system.does old new output) result
-    RunOf (Show puzzle listed) result = (new ≡ old) × ShowOf (string_bytes puzzle) listed output result
-    RunOf (Draw puzzle listed first numbers) result =
-        (new ≡ old) × PictureOf (string_bytes puzzle) listed first output result
-    RunOf (Symmetries puzzle) result =
-        (new ≡ old)
-        × DescriptionOf descriptions.Symmetries (one_file system source old (string_bytes puzzle)) output result
-    RunOf (Tiles sides colours) result = (new ≡ old) × TilesOf sides colours output result
+    -- by files in a later state, standard input as it is later, and what was written
+    module _ (new : S) (later : I) (output : Writing) where
+      -- What an order comes to. No order does anything to a file but a solve.
+      abbrev pub RunOf : Order → Result Exit RunFault → Type 0
+      RunOf Joined result = (new ≡ old) × CheckOf (joined_source (reading_of input given later)) output result
+      RunOf (Check files workers forks progress hints) result =
+          (new ≡ old) × CheckOf (three_files system source old files) output result
+      RunOf (Explain documents) result =
+          (new ≡ old)
+          × PrintingOf printings.Explanation (given_documents system source input old given later documents) output result
+      RunOf (ExplainPuzzle puzzle) result =
+          (new ≡ old) × DescriptionOf descriptions.NoFault (one_place system source input old given puzzle) output result
+      RunOf (Expand documents orbits hints) result =
+          (new ≡ old)
+          × PrintingOf (list_printed orbits) (given_documents system source input old given later documents) output result
+      RunOf (Count documents) result =
+          (new ≡ old)
+          × PrintingOf printings.Count (given_documents system source input old given later documents) output result
+      RunOf (Census puzzle extent workers progress) result =
+          (new ≡ old) × CensusOf extent (one_place system source input old given puzzle) output result
+      RunOf (Solve files depth fuel workers keep progress hints) result =
+          SolveOf workers (one_file system source old (string_bytes files.puzzle))
+          (solved_files files system.does old new output) result
+      RunOf (Show subject) result = (new ≡ old) × ShowOf subject output result
+      RunOf (Draw subject first numbers) result = (new ≡ old) × PictureOf subject first output result
+      RunOf (Symmetries puzzle) result =
+          (new ≡ old)
+          × DescriptionOf descriptions.Symmetries (one_place system source input old given puzzle) output result
+      RunOf (Tiles sides colours lines) result = (new ≡ old) × TilesOf sides colours lines output result

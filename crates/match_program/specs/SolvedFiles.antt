@@ -5,7 +5,7 @@ use Rattle.byte_streams.specs.Deeds.{AllLeave, Deed, Did, IsFileOf, Stands, did_
 use Rattle.byte_streams.specs.Moves.{FrontOf, Takes, Writing}
 use Rattle.byte_streams.specs.Targets.{Target}
 use Rattle.byte_streams.specs.declared.outputs.Products.{Products}
-use Rattle.command_words.specs.declared.orders.Files.{Files}
+use Rattle.command_words.specs.declared.places.Files.{Files}
 use Rattle.match_program.specs.Files.{HaveDifferentNames}
 use Rattle.match_program.specs.declared.made_files.MadeFiles.{MadeFiles}
 

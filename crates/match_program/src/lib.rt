@@ -2,6 +2,7 @@
 //! told meanwhile.
 #![tactic(auto)]
 
+mod document_readers;
 mod exits;
 mod files;
 mod made_files;

@@ -1,30 +1,36 @@
 //! Runs of orders: over which files each runs, and the exit status.
 
-ghost use Rattle.std.specs.Prelude.{◌≡◌, IfOk, IfErr, Some};
+ghost use Rattle.std.specs.Prelude.{◌≡◌, IfOk, IfErr, false, true};
 ghost use Rattle.std.specs.String.{string_bytes};
 ghost use Rattle.byte_streams.specs.Moves.{reading_of, writing_of};
-ghost use Rattle.byte_streams.specs.Origins.{joined_source};
+ghost use Rattle.byte_streams.specs.Origins.{joined_source, three_sources};
+ghost use Rattle.command_words.specs.declared.orders.Subject.TheVariants.{Listed};
 ghost use Rattle.match_program.specs.FileOrigins.{CantOpen, all_three, one_file, three_files};
 ghost use Rattle.match_program.specs.OrderRuns.{CensusOf, CheckOf, DescriptionOf, PictureOf, PrintingOf, RunOf, ShowOf};
 ghost use Rattle.match_program.specs.OrderRuns.{SolveOf, TilesOf, list_printed};
+ghost use Rattle.match_program.specs.PlaceOrigins.{given_documents, one_place, three_places};
 ghost use Rattle.match_runs.specs.Runs.{unhinted};
 ghost use Rattle.match_program.specs.SameStreams.{AreSameStreams};
 ghost use Rattle.match_program.specs.SolvedFiles.{solved_files};
 
+use crate::document_readers::{ThreeReaders, TwoReaders, open_place, open_three, open_two};
 use crate::exits::Exit;
 use crate::files::{are_apart, hint_on, open};
 use crate::made_files::{MadeFiles, make_both, put_both, remove_both};
 use crate::progress::{CensusProgress, CheckProgress, SolveProgress};
 use crate::streams::Streams;
 use byte_streams::{
-    Document, FileSystem, OneSink, OneSource, Sink, Source, ThreeSinks, ThreeSources,
+    Document, FileSystem, JoinedSource, OneSink, OneSource, Sink, Source, ThreeSinks, ThreeSources,
 };
 use check_crew::Open;
-use command_words::{Colours, Drawn, Extent, Files, Forks, Listed, Order, Sides, Workers};
+use command_words::{
+    ArrangementNumber, Colours, Drawn, Extent, Files, Forks, Given, Order, Place, Sides, Subject,
+    ThreePlaces, TwoPlaces, Workers,
+};
 use match_runs::{
-    CensusPlan, CheckPlan, Description, HintedFault, PicturePlan, Printing, RunFault, SearchPlan,
-    Watched, run_census, run_check_watched, run_description, run_joined_watched, run_listed,
-    run_picture, run_printing, run_solve_watched, run_tiles,
+    CensusPlan, CheckPlan, Description, HintedFault, PicturePlan, Printing, PrintingPlan, RunFault,
+    SearchPlan, Watched, run_census, run_check_watched, run_description, run_joined_watched,
+    run_listed, run_picture, run_printing, run_solve_watched, run_tile_lines, run_tiles,
 };
 use std::alloc::Global;
 use std::random::RandomSource;
@@ -35,10 +41,10 @@ use std::time::Clock;
 /// Does what is ordered, and says how the program ends where no fault came: `Done`, or `Refused` where a list is not
 /// shown to be complete.
 ///
-/// The files of an order are all opened before one is read: the puzzle's, the list's, the certificate's. `Read` of
-/// the first that can't be opened. A solve opens the puzzle's and makes the other two beside their names; where two of
-/// the three are one, or one can't be made, `Write`. What it made is put under the names once all is written, the list
-/// first, and after a fault it is removed.
+/// The files of an order are all opened before one is read: the puzzle's, the list's, the certificate's. `Read` of the
+/// first that can't be opened. A document that stands on standard input is read from there in its turn. A solve opens the
+/// puzzle's and makes the other two beside their names; where two of the three are one, or one can't be made, `Write`.
+/// What it made is put under the names once all is written, the list first, and after a fault it is removed.
 ///
 /// A hint says why a file is refused, or what has to be changed in a text that has a fault. Memory for it may be refused. A
 /// check and a solve make none of a text where it isn't asked for and nobody reads it on a terminal.
@@ -57,9 +63,8 @@ pub fn run_order<
 ) -> Result<Exit, HintedFault>
     ensures same { AreSameStreams streams.old streams.new }
     ensures errors { streams.new.errors.now ≡ streams.old.errors.now }
-    ensures run { RunOf S.FileSystem S.Reader.Source system.old system.new
-        (reading_of I.Source streams.old.input.now streams.new.input.now)
-        (writing_of W.Sink streams.old.output.now streams.new.output.now) order.now (unhinted result) }
+    ensures run { RunOf S.FileSystem S.Reader.Source I.Source system.old streams.old.input.now system.new
+        streams.new.input.now (writing_of W.Sink streams.old.output.now streams.new.output.now) order.now (unhinted result) }
 {
     match order {
         Order::Joined => {
@@ -107,33 +112,46 @@ pub fn run_order<
             };
             solve(rt, alloc, &order, system, streams.output)
         }
-        Order::Explain(files) => {
+        Order::Explain(given) => {
             let order = PrintingOrder {
-                files,
-                printing: Printing::Explanation,
+                given,
+                plan: PrintingPlan {
+                    printing: Printing::Explanation,
+                    hints: true,
+                },
             };
-            print_all(rt, alloc, &order, system, streams.output)
+            print(rt, alloc, &order, system, streams.input, streams.output)
         }
         Order::ExplainPuzzle(puzzle) => {
-            describe(alloc, puzzle, Description::NoFault, system, streams.output)
+            let order = DescriptionOrder {
+                puzzle,
+                description: Description::NoFault,
+            };
+            describe(alloc, &order, system, streams.input, streams.output)
         }
         Order::Expand {
-            files,
+            given,
             orbits,
-            hints: _,
+            hints,
         } => {
             let order = PrintingOrder {
-                files,
-                printing: listing_of(*orbits),
+                given,
+                plan: PrintingPlan {
+                    printing: listing_of(*orbits),
+                    hints: are_told(*hints, streams.terminal),
+                },
             };
-            print_all(rt, alloc, &order, system, streams.output)
+            print(rt, alloc, &order, system, streams.input, streams.output)
         }
-        Order::Count(files) => {
+        Order::Count(given) => {
             let order = PrintingOrder {
-                files,
-                printing: Printing::Count,
+                given,
+                plan: PrintingPlan {
+                    printing: Printing::Count,
+                    hints: true,
+                },
             };
-            print_all(rt, alloc, &order, system, streams.output)
+            print(rt, alloc, &order, system, streams.input, streams.output)
         }
         Order::Census {
             puzzle,
@@ -147,32 +165,33 @@ pub fn run_order<
                 workers: *workers,
                 progress: *progress,
             };
-            count_by_search(rt, alloc, &order, system, streams.output)
+            count_by_search(rt, alloc, &order, system, streams.input, streams.output)
         }
-        Order::Show { puzzle, listed } => show(alloc, puzzle, listed, system, streams.output),
+        Order::Show(subject) => show(alloc, subject, system, streams.input, streams.output),
         Order::Draw {
-            puzzle,
-            listed,
+            subject,
             first,
             numbers,
         } => {
             let order = PictureOrder {
-                puzzle,
+                subject,
                 first: *first,
                 numbers: *numbers,
             };
-            picture(alloc, &order, listed, system, streams.output)
+            picture(alloc, &order, system, streams.input, streams.output)
         }
         Order::Symmetries(puzzle) => {
-            describe(
-                alloc,
+            let order = DescriptionOrder {
                 puzzle,
-                Description::Symmetries,
-                system,
-                streams.output,
-            )
+                description: Description::Symmetries,
+            };
+            describe(alloc, &order, system, streams.input, streams.output)
         }
-        Order::Tiles { sides, colours } => list_tiles(alloc, *sides, *colours, streams.output),
+        Order::Tiles {
+            sides,
+            colours,
+            lines,
+        } => list_tiles(alloc, *sides, *colours, *lines, streams.output),
     }
 }
 
@@ -204,35 +223,12 @@ fn check_joined<I: Source, W: Sink, R: Threads + Sync>(
     Ok(Exit::of_status(status))
 }
 
-// The files of three documents.
-#[derive(Drop)]
-struct Opened<R> {
-    puzzle: R,
-    list: R,
-    certificate: R,
-}
-
-impl<R: Source> Opened<R> {
-    // The files as sources.
-    fn sources(&mut self) -> ThreeSources<'_, '_, '_, R, R, R>
-        ensures puzzle { result.puzzle.now ≡ self.old.puzzle }
-        ensures list { result.list.now ≡ self.old.list }
-        ensures certificate { result.certificate.now ≡ self.old.certificate }
-    {
-        ThreeSources {
-            puzzle: &mut self.puzzle,
-            list: &mut self.list,
-            certificate: &mut self.certificate,
-        }
-    }
-}
-
 // Opens all three files before any is read.
 fn open_all<S: FileSystem>(
     alloc: Global,
     system: &S,
     files: &Files,
-) -> Result<Opened<S::Reader>, HintedFault>
+) -> Result<ThreeReaders<S::Reader>, HintedFault>
     ensures puzzle { IfOk result (λ opened. S.opens system.now (string_bytes files.now.puzzle) opened.puzzle) }
     ensures list { IfOk result (λ opened. S.opens system.now (string_bytes files.now.list) opened.list) }
     ensures certificate { IfOk result (λ opened.
@@ -241,7 +237,7 @@ fn open_all<S: FileSystem>(
         × CantOpen S.FileSystem S.Reader.Source system.now (all_three files.now) document
         × (hinted.fault ≡ RunFault.Read document)) }
 {
-    Ok(Opened {
+    Ok(ThreeReaders {
         puzzle: open(alloc, system, &files.puzzle, Document::Puzzle)?,
         list: open(alloc, system, &files.list, Document::List)?,
         certificate: open(alloc, system, &files.certificate, Document::Certificate)?,
@@ -380,8 +376,8 @@ fn hint_on_writing<S: FileSystem>(
 // What is printed that is ordered, of three documents.
 #[derive(Clone, Copy)]
 struct PrintingOrder<'a> {
-    files: &'a Files,
-    printing: Printing,
+    given: &'a Given,
+    plan: PrintingPlan,
 }
 
 // The list of one arrangement of each orbit, or of all.
@@ -396,64 +392,156 @@ fn listing_of(orbits: bool) -> Printing
 }
 
 // As a check, and prints all arrangements or one of each orbit, or how many they are, or why the list is refused.
-fn print_all<S: FileSystem, W: Sink, R: RandomSource>(
+fn print<S: FileSystem, I: Source, W: Sink, R: RandomSource>(
     rt: &R,
     alloc: Global,
     order: &PrintingOrder<'_>,
     system: &S,
+    input: &mut I,
     output: &mut W,
 ) -> Result<Exit, HintedFault>
-    ensures { PrintingOf order.now.printing (three_files S.FileSystem S.Reader.Source system.now order.now.files.now)
+    ensures { PrintingOf order.now.plan.printing
+        (given_documents S.FileSystem S.Reader.Source I.Source system.now input.old input.new order.now.given.now)
         (writing_of W.Sink output.old output.new) (unhinted result) }
 {
-    let mut opened = open_all(alloc, system, order.files)?;
+    match order.given {
+        Given::Joined => print_joined(rt, alloc, order.plan, input, output),
+        Given::Apart(places) => {
+            let order = ApartOrder {
+                places,
+                plan: order.plan,
+            };
+            print_apart(rt, alloc, &order, system, input, output)
+        }
+    }
+}
+
+// The same of documents that are joined on standard input.
+fn print_joined<I: Source, W: Sink, R: RandomSource>(
+    rt: &R,
+    alloc: Global,
+    plan: PrintingPlan,
+    input: &mut I,
+    output: &mut W,
+) -> Result<Exit, HintedFault>
+    ensures { PrintingOf plan.printing (joined_source (reading_of I.Source input.old input.new))
+        (writing_of W.Sink output.old output.new) (unhinted result) }
+{
     let status = run_printing(
         rt,
         alloc,
-        order.printing,
-        &mut opened.sources(),
+        plan,
+        &mut JoinedSource { input },
         &mut OneSink { sink: output },
     )?;
     Ok(Exit::of_status(status))
 }
 
-fn describe<S: FileSystem, W: Sink>(
+// What is printed of documents that stand apart.
+#[derive(Clone, Copy)]
+struct ApartOrder<'a> {
+    places: &'a ThreePlaces,
+    plan: PrintingPlan,
+}
+
+// The same of documents that stand apart.
+fn print_apart<S: FileSystem, I: Source, W: Sink, R: RandomSource>(
+    rt: &R,
     alloc: Global,
-    name: &str,
-    description: Description,
+    order: &ApartOrder<'_>,
     system: &S,
+    input: &mut I,
     output: &mut W,
 ) -> Result<Exit, HintedFault>
-    ensures { DescriptionOf description (one_file S.FileSystem S.Reader.Source system.now name.now)
+    ensures { PrintingOf order.now.plan.printing
+        (three_places S.FileSystem S.Reader.Source I.Source system.now input.old order.now.places.now)
         (writing_of W.Sink output.old output.new) (unhinted result) }
 {
-    let mut puzzle = open(alloc, system, name, Document::Puzzle)?;
-    run_description(alloc, &mut puzzle, description, output)?;
+    let ThreeReaders {
+        mut puzzle,
+        mut list,
+        mut certificate,
+    } = open_three(alloc, order.places, system, input)?;
+    print_read(
+        rt,
+        alloc,
+        order.plan,
+        &mut puzzle,
+        &mut list,
+        &mut certificate,
+        output,
+    )
+}
+
+// The same of documents that are read from these sources.
+fn print_read<D: Source, W: Sink, R: RandomSource>(
+    rt: &R,
+    alloc: Global,
+    plan: PrintingPlan,
+    puzzle: &mut D,
+    list: &mut D,
+    certificate: &mut D,
+    output: &mut W,
+) -> Result<Exit, HintedFault>
+    ensures { PrintingOf plan.printing (three_sources (reading_of D.Source puzzle.old puzzle.new)
+        (reading_of D.Source list.old list.new) (reading_of D.Source certificate.old certificate.new))
+        (writing_of W.Sink output.old output.new) (unhinted result) }
+{
+    let mut inputs = ThreeSources {
+        puzzle,
+        list,
+        certificate,
+    };
+    let status = run_printing(rt, alloc, plan, &mut inputs, &mut OneSink { sink: output })?;
+    Ok(Exit::of_status(status))
+}
+
+// What is ordered of a puzzle alone.
+#[derive(Clone, Copy)]
+struct DescriptionOrder<'a> {
+    puzzle: &'a Place,
+    description: Description,
+}
+
+fn describe<S: FileSystem, I: Source, W: Sink>(
+    alloc: Global,
+    order: &DescriptionOrder<'_>,
+    system: &S,
+    input: &mut I,
+    output: &mut W,
+) -> Result<Exit, HintedFault>
+    ensures { DescriptionOf order.now.description
+        (one_place S.FileSystem S.Reader.Source I.Source system.now input.old order.now.puzzle.now)
+        (writing_of W.Sink output.old output.new) (unhinted result) }
+{
+    let mut puzzle = open_place(alloc, order.puzzle, system, input)?;
+    run_description(alloc, &mut puzzle, order.description, output)?;
     Ok(Exit::Done)
 }
 
 // A count by a search that is ordered.
 #[derive(Clone, Copy)]
 struct CensusOrder<'a> {
-    puzzle: &'a String,
+    puzzle: &'a Place,
     extent: Extent,
     workers: Workers,
     progress: bool,
 }
 
-// Counts arrangements of the puzzle in its file.
-fn count_by_search<S: FileSystem, W: Sink, R: Threads + Sync + Clock + Eprint>(
+// Counts arrangements of the puzzle.
+fn count_by_search<S: FileSystem, I: Source, W: Sink, R: Threads + Sync + Clock + Eprint>(
     rt: &R,
     alloc: Global,
     order: &CensusOrder<'_>,
     system: &S,
+    input: &mut I,
     output: &mut W,
 ) -> Result<Exit, HintedFault>
     ensures { CensusOf order.now.extent
-        (one_file S.FileSystem S.Reader.Source system.now (string_bytes order.now.puzzle.now))
+        (one_place S.FileSystem S.Reader.Source I.Source system.now input.old order.now.puzzle.now)
         (writing_of W.Sink output.old output.new) (unhinted result) }
 {
-    let mut puzzle = open(alloc, system, order.puzzle, Document::Puzzle)?;
+    let mut puzzle = open_place(alloc, order.puzzle, system, input)?;
     let plan = CensusPlan {
         extent: order.extent,
         workers: order.workers,
@@ -463,84 +551,126 @@ fn count_by_search<S: FileSystem, W: Sink, R: Threads + Sync + Clock + Eprint>(
     Ok(Exit::Done)
 }
 
-// The board of the puzzle in the file of this name, or the arrangement that is listed.
-fn show<S: FileSystem, W: Sink>(
+// The board of the puzzle, or the arrangement that is listed.
+fn show<S: FileSystem, I: Source, W: Sink>(
     alloc: Global,
-    name: &str,
-    listed: &Option<Listed>,
+    subject: &Subject,
     system: &S,
+    input: &mut I,
     output: &mut W,
 ) -> Result<Exit, HintedFault>
-    ensures { ShowOf S.FileSystem S.Reader.Source system.now name.now listed.now
+    ensures { ShowOf S.FileSystem S.Reader.Source I.Source system.now input.old subject.now
         (writing_of W.Sink output.old output.new) (unhinted result) }
 {
-    match listed {
-        None => describe(alloc, name, Description::Board, system, output),
-        Some(listed) => draw(alloc, name, listed, system, output),
+    match subject {
+        Subject::Board(puzzle) => {
+            let order = DescriptionOrder {
+                puzzle,
+                description: Description::Board,
+            };
+            describe(alloc, &order, system, input, output)
+        }
+        Subject::Listed { places, number } => {
+            let order = ListedOrder {
+                places,
+                number: *number,
+            };
+            draw(alloc, &order, system, input, output)
+        }
     }
 }
 
-// Draws the listed arrangement of the number, of the list in its file.
-fn draw<S: FileSystem, W: Sink>(
+// Which arrangement of a list is drawn.
+#[derive(Clone, Copy)]
+struct ListedOrder<'a> {
+    places: &'a TwoPlaces,
+    number: ArrangementNumber,
+}
+
+// Draws the listed arrangement of the number.
+fn draw<S: FileSystem, I: Source, W: Sink>(
     alloc: Global,
-    name: &str,
-    listed: &Listed,
+    order: &ListedOrder<'_>,
     system: &S,
+    input: &mut I,
     output: &mut W,
 ) -> Result<Exit, HintedFault>
-    ensures { ShowOf S.FileSystem S.Reader.Source system.now name.now (Some listed.now)
-        (writing_of W.Sink output.old output.new) (unhinted result) }
+    ensures { ShowOf S.FileSystem S.Reader.Source I.Source system.now input.old
+        (Listed order.now.places.now order.now.number) (writing_of W.Sink output.old output.new) (unhinted result) }
 {
-    let mut puzzle = open(alloc, system, name, Document::Puzzle)?;
-    let mut list = open(alloc, system, &listed.list, Document::List)?;
-    run_listed(alloc, &mut puzzle, &mut list, listed.number.get(), output)?;
+    let TwoReaders {
+        mut puzzle,
+        mut list,
+    } = open_two(alloc, order.places, system, input)?;
+    run_listed(alloc, &mut puzzle, &mut list, order.number.get(), output)?;
     Ok(Exit::Done)
 }
 
 // A picture that is ordered.
 #[derive(Clone, Copy)]
 struct PictureOrder<'a> {
-    puzzle: &'a String,
+    subject: &'a Subject,
     first: Drawn,
     numbers: bool,
 }
 
 // A picture of the puzzle's empty board and its tiles, or of what is listed.
-fn picture<S: FileSystem, W: Sink>(
+fn picture<S: FileSystem, I: Source, W: Sink>(
     alloc: Global,
     order: &PictureOrder<'_>,
-    listed: &Option<Listed>,
     system: &S,
+    input: &mut I,
     output: &mut W,
 ) -> Result<Exit, HintedFault>
-    ensures { PictureOf S.FileSystem S.Reader.Source system.now (string_bytes order.now.puzzle.now) listed.now
+    ensures { PictureOf S.FileSystem S.Reader.Source I.Source system.now input.old order.now.subject.now
         order.now.first (writing_of W.Sink output.old output.new) (unhinted result) }
 {
-    match listed {
-        None => describe(alloc, order.puzzle, Description::Picture, system, output),
-        Some(listed) => picture_listed(alloc, order, listed, system, output),
+    match order.subject {
+        Subject::Board(puzzle) => {
+            let order = DescriptionOrder {
+                puzzle,
+                description: Description::Picture,
+            };
+            describe(alloc, &order, system, input, output)
+        }
+        Subject::Listed { places, number } => {
+            let order = ListedPictureOrder {
+                places,
+                plan: PicturePlan {
+                    number: *number,
+                    first: order.first,
+                    numbers: order.numbers,
+                },
+            };
+            picture_listed(alloc, &order, system, input, output)
+        }
     }
 }
 
-// A picture of what is listed, of the list in its file.
-fn picture_listed<S: FileSystem, W: Sink>(
+// What of a list is drawn as a picture.
+#[derive(Clone, Copy)]
+struct ListedPictureOrder<'a> {
+    places: &'a TwoPlaces,
+    plan: PicturePlan,
+}
+
+// A picture of what is listed.
+fn picture_listed<S: FileSystem, I: Source, W: Sink>(
     alloc: Global,
-    order: &PictureOrder<'_>,
-    listed: &Listed,
+    order: &ListedPictureOrder<'_>,
     system: &S,
+    input: &mut I,
     output: &mut W,
 ) -> Result<Exit, HintedFault>
-    ensures { PictureOf S.FileSystem S.Reader.Source system.now (string_bytes order.now.puzzle.now) (Some listed.now)
-        order.now.first (writing_of W.Sink output.old output.new) (unhinted result) }
+    ensures { PictureOf S.FileSystem S.Reader.Source I.Source system.now input.old
+        (Listed order.now.places.now order.now.plan.number) order.now.plan.first
+        (writing_of W.Sink output.old output.new) (unhinted result) }
 {
-    let plan = PicturePlan {
-        number: listed.number,
-        first: order.first,
-        numbers: order.numbers,
-    };
-    let mut puzzle = open(alloc, system, order.puzzle, Document::Puzzle)?;
-    let mut list = open(alloc, system, &listed.list, Document::List)?;
-    run_picture(alloc, &mut puzzle, &mut list, plan, output)?;
+    let TwoReaders {
+        mut puzzle,
+        mut list,
+    } = open_two(alloc, order.places, system, input)?;
+    run_picture(alloc, &mut puzzle, &mut list, order.plan, output)?;
     Ok(Exit::Done)
 }
 
@@ -548,9 +678,37 @@ fn list_tiles<W: Sink>(
     alloc: Global,
     sides: Sides,
     colours: Colours,
+    lines: bool,
     output: &mut W,
 ) -> Result<Exit, HintedFault>
-    ensures { TilesOf sides colours (writing_of W.Sink output.old output.new) (unhinted result) }
+    ensures { TilesOf sides colours lines (writing_of W.Sink output.old output.new) (unhinted result) }
+{
+    if lines {
+        list_tile_lines(alloc, sides, colours, output)
+    } else {
+        list_tile_words(alloc, sides, colours, output)
+    }
+}
+
+fn list_tile_lines<W: Sink>(
+    alloc: Global,
+    sides: Sides,
+    colours: Colours,
+    output: &mut W,
+) -> Result<Exit, HintedFault>
+    ensures { TilesOf sides colours true (writing_of W.Sink output.old output.new) (unhinted result) }
+{
+    run_tile_lines(alloc, sides, colours, output)?;
+    Ok(Exit::Done)
+}
+
+fn list_tile_words<W: Sink>(
+    alloc: Global,
+    sides: Sides,
+    colours: Colours,
+    output: &mut W,
+) -> Result<Exit, HintedFault>
+    ensures { TilesOf sides colours false (writing_of W.Sink output.old output.new) (unhinted result) }
 {
     run_tiles(alloc, sides, colours, output)?;
     Ok(Exit::Done)

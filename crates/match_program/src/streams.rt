@@ -11,4 +11,6 @@ pub struct Streams<'i, 'o, 'e, I: Source, W: Sink, E: Sink> {
     /// Whether somebody reads the errors on a terminal, who is told too why a file is refused, and what has to be changed
     /// in a text that has a fault.
     pub terminal: bool,
+    /// Whether somebody types the input on a terminal, who is told what is read from there where errors are read on one.
+    pub typed: bool,
 }

@@ -4,7 +4,7 @@ ghost use Rattle.std.specs.Prelude.{◌≡◌, map};
 ghost use Rattle.std.specs.String.{string_bytes};
 ghost use Rattle.clap.specs.Words.{kind_of};
 ghost use Rattle.clap.specs.declared.error.Error.{Error};
-ghost use Rattle.byte_streams.specs.Moves.{reading_of, writing_of};
+ghost use Rattle.byte_streams.specs.Moves.{writing_of};
 ghost use Rattle.match_program.specs.Exits.{fault_exit};
 ghost use Rattle.match_program.specs.OrderRuns.{RunOf};
 ghost use Rattle.match_program.specs.SameStreams.{AreSameStreams};
@@ -14,7 +14,7 @@ use crate::exits::Exit;
 use crate::order_runs::run_order;
 use crate::streams::Streams;
 use byte_streams::{FileSystem, Sink, Source, write_whole};
-use command_words::{Order, WordsFault, order};
+use command_words::{Given, Order, Place, Subject, ThreePlaces, TwoPlaces, WordsFault, order};
 use match_runs::{HintedFault, RunFault, fault_text};
 use std::alloc::Global;
 use std::random::RandomSource;
@@ -41,8 +41,8 @@ pub fn run_words<
     streams: &mut Streams<'_, '_, '_, I, W, E>,
 ) -> Exit
     ensures same { AreSameStreams streams.old streams.new }
-    ensures run { WordsGive (map string_bytes words.now) (RunOf S.FileSystem S.Reader.Source system.old system.new
-        (reading_of I.Source streams.old.input.now streams.new.input.now)
+    ensures run { WordsGive (map string_bytes words.now) (RunOf S.FileSystem S.Reader.Source I.Source system.old
+        streams.old.input.now system.new streams.new.input.now
         (writing_of W.Sink streams.old.output.now streams.new.output.now)) (system.new ≡ system.old)
         (writing_of W.Sink streams.old.output.now streams.new.output.now)
         (writing_of E.Sink streams.old.errors.now streams.new.errors.now) result }
@@ -68,11 +68,13 @@ fn carry_out<
     streams: &mut Streams<'_, '_, '_, I, W, E>,
 ) -> Exit
     ensures same { AreSameStreams streams.old streams.new }
-    ensures run { CarriesOut (RunOf S.FileSystem S.Reader.Source system.old system.new
-        (reading_of I.Source streams.old.input.now streams.new.input.now)
-        (writing_of W.Sink streams.old.output.now streams.new.output.now) order.now)
+    ensures run { CarriesOut (RunOf S.FileSystem S.Reader.Source I.Source system.old streams.old.input.now system.new
+        streams.new.input.now (writing_of W.Sink streams.old.output.now streams.new.output.now) order.now)
         (writing_of E.Sink streams.old.errors.now streams.new.errors.now) result }
 {
+    if streams.terminal && streams.typed {
+        tell_what_is_read(rt, order);
+    }
     match run_order(rt, alloc, order, system, streams) {
         Ok(exit) => exit,
         Err(hinted) => {
@@ -96,8 +98,7 @@ fn is_always_told(order: &Order, fault: &RunFault) -> bool {
         }
         Order::Explain(_) | Order::ExplainPuzzle(_) | Order::Count(_) | Order::Census { .. } =>
             true,
-        Order::Show { .. } | Order::Draw { .. } | Order::Symmetries(_) | Order::Tiles { .. } =>
-            true,
+        Order::Show(_) | Order::Draw { .. } | Order::Symmetries(_) | Order::Tiles { .. } => true,
     }
 }
 
@@ -109,6 +110,68 @@ fn tell_hint<R: Eprint>(rt: &R, order: &Order, hinted: &HintedFault, terminal: b
     }
     if let Some(hint) = hint {
         let _ = rt.eprintln(hint);
+    }
+}
+
+// Tells who types what is read from standard input, if anything is.
+fn tell_what_is_read<R: Eprint>(rt: &R, order: &Order) {
+    if let Some(documents) = read_from_input(order) {
+        let _ = eprintln!(rt;
+            "edgematch reads {documents} from standard input, to Ctrl-D; edgematch --help tells more"
+        );
+    }
+}
+
+// Which documents of the order are read from standard input.
+fn read_from_input(order: &Order) -> Option<&'static str> {
+    match order {
+        Order::Joined
+        | Order::Explain(Given::Joined)
+        | Order::Expand {
+            given: Given::Joined,
+            ..
+        }
+        | Order::Count(Given::Joined) => Some("a puzzle, its list and its certificate, joined,"),
+        Order::Explain(Given::Apart(places)) | Order::Count(Given::Apart(places)) => {
+            one_of_three(places)
+        }
+        Order::ExplainPuzzle(place)
+        | Order::Census { puzzle: place, .. }
+        | Order::Symmetries(place) => { puzzle_alone(place) }
+        Order::Show(subject) | Order::Draw { subject, .. } => one_of_subject(subject),
+        Order::Check { .. } | Order::Solve { .. } | Order::Expand { .. } | Order::Tiles { .. } =>
+            None,
+    }
+}
+
+const PUZZLE: &str = "a puzzle";
+
+const LIST: &str = "a list";
+
+fn puzzle_alone(place: &Place) -> Option<&'static str> {
+    match place {
+        Place::Input => Some(PUZZLE),
+        Place::File(_) => None,
+    }
+}
+
+fn one_of_subject(subject: &Subject) -> Option<&'static str> {
+    match subject {
+        Subject::Board(place) => puzzle_alone(place),
+        Subject::Listed { places, .. } => match places {
+            TwoPlaces::Files { .. } => None,
+            TwoPlaces::PuzzleOnInput { .. } => Some(PUZZLE),
+            TwoPlaces::ListOnInput { .. } => Some(LIST),
+        },
+    }
+}
+
+fn one_of_three(places: &ThreePlaces) -> Option<&'static str> {
+    match places {
+        ThreePlaces::Files(_) => None,
+        ThreePlaces::PuzzleOnInput { .. } => Some(PUZZLE),
+        ThreePlaces::ListOnInput { .. } => Some(LIST),
+        ThreePlaces::CertificateOnInput { .. } => Some("a certificate"),
     }
 }
 

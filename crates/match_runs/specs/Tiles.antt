@@ -1,8 +1,9 @@
 -- What a list of tiles prints.
-use Rattle.std.specs.Prelude.{◌≡◌, ◌≤◌, ℕ, List, length}
+use Rattle.std.specs.Prelude.{◌≡◌, ◌≤◌, ℕ, List, length, map}
 use Rattle.match_board.specs.declared.limits.TheConstants.{MOST_CLASSES}
 use Rattle.match_board.specs.Turns.{AreLeastWords, HasMoreLeastWords}
-use Rattle.match_text.specs.PuzzleSpelling.{tiles_spelling}
+use Rattle.match_text.specs.PuzzleSpelling.{tile_words, tiles_spelling}
+use Rattle.text_words.specs.Spelling.{text_of}
 use Rattle.match_runs.specs.declared.faults.RunFault.{RunFault}
 use Rattle.match_runs.specs.declared.faults.RunFault.TheVariants as runs
 
@@ -14,6 +15,11 @@ AreTileWords sides colours words = AreLeastWords sides colours words × (length 
 abbrev pub TilesGive : (sides colours : ℕ) → (nothing : Unit {0}) → (text : List ℕ) → (ends : Unit {0}) → Type 0
 TilesGive sides colours nothing text ends =
     (words : List (List ℕ)) × AreTileWords sides colours words × (text ≡ tiles_spelling words)
+
+-- The same tiles by lines, as a puzzle's text has them.
+abbrev pub TileLinesGive : (sides colours : ℕ) → (nothing : Unit {0}) → (text : List ℕ) → (ends : Unit {0}) → Type 0
+TileLinesGive sides colours nothing text ends =
+    (words : List (List ℕ)) × AreTileWords sides colours words × (text ≡ text_of (map tile_words words))
 
 -- What a fault says of the tiles: there are more than are listed, or it is want of memory.
 abbrev pub TilesFail : (sides colours : ℕ) → (nothing : Unit {0}) → RunFault → Type 0

@@ -5,9 +5,15 @@ use crate::hints::hint_on;
 use crate::solve_runs::SearchPlan;
 use match_board::limits::{MOST_BYTES, MOST_DEPTH, MOST_FUEL};
 use match_crew::SolveFault;
+use match_puzzle::Puzzle;
 use match_show::{Estimate, estimate_of};
+use match_symmetry::suggest;
 use match_text::read_puzzle;
 use std::alloc::Global;
+
+const GREATER_DEPTH: &str = "a greater depth may help, up to --depth 3";
+
+const NO_LIST: &str = "a list has at most 1000000: edgematch count PUZZLE counts without one";
 
 /// What may help where a solve of this puzzle's text had this fault: what has to be changed in the text, or how many
 /// arrangements may be expected, and what can be done then. None where there is nothing to tell, or memory for it is
@@ -20,14 +26,19 @@ pub(crate) fn solve_hint(
 ) -> Option<String> {
     match fault {
         RunFault::Solve(SolveFault::GaveUp) | RunFault::Solve(SolveFault::Full) => {
-            expectation(alloc, puzzle, plan)
+            expectation(alloc, puzzle, plan, fault)
         }
         _ => hint_on(alloc, puzzle, b"", fault),
     }
 }
 
 // How many arrangements may be expected of the puzzle, and what may help.
-fn expectation(alloc: Global, puzzle: &[u8], plan: &SearchPlan) -> Option<String> {
+fn expectation(
+    alloc: Global,
+    puzzle: &[u8],
+    plan: &SearchPlan,
+    fault: &RunFault,
+) -> Option<String> {
     // What was read is no longer.
     if puzzle.len() > MOST_BYTES as usize {
         return None;
@@ -35,18 +46,44 @@ fn expectation(alloc: Global, puzzle: &[u8], plan: &SearchPlan) -> Option<String
     let puzzle = read_puzzle(alloc, puzzle).ok()?;
     let estimate = estimate_of(alloc, &puzzle).ok()?;
     let number = estimate.to_text(alloc).ok()?;
-    let advice = advice(estimate, plan);
+    let advice = match fault {
+        RunFault::Solve(SolveFault::Full) => advice_on_many(alloc, &puzzle, plan),
+        _ => advice_on_fuel(estimate, plan),
+    };
     format!(in alloc; "arrangements by an estimate: {number}; {advice}").ok()
 }
 
-// What may help.
-fn advice(estimate: Estimate, plan: &SearchPlan) -> &'static str {
+// What may help where there are too many arrangements for a list: a greater depth, which leaves out images of others, where
+// the puzzle has symmetries. Fuel can't help.
+fn advice_on_many(alloc: Global, puzzle: &Puzzle, plan: &SearchPlan) -> &'static str {
+    if may_be_deeper(plan) && has_symmetries(alloc, puzzle) {
+        GREATER_DEPTH
+    } else {
+        NO_LIST
+    }
+}
+
+// Whether a search of the puzzle finds symmetries to cite by. Not where memory is refused.
+fn has_symmetries(alloc: Global, puzzle: &Puzzle) -> bool {
+    match suggest(alloc, puzzle) {
+        Ok(lines) => !lines.is_empty(),
+        Err(_) => false,
+    }
+}
+
+// Whether a greater depth than this may be asked for.
+fn may_be_deeper(plan: &SearchPlan) -> bool {
+    plan.depth.get() < u32::from(MOST_DEPTH)
+}
+
+// What may help where the fuel ran out.
+fn advice_on_fuel(estimate: Estimate, plan: &SearchPlan) -> &'static str {
     if estimate.is_over_a_list() {
-        "a list has at most 1000000: edgematch count PUZZLE counts without one"
+        NO_LIST
     } else if plan.fuel.get() < MOST_FUEL {
         "more fuel may help, up to --fuel 1000000"
-    } else if plan.depth.get() < u32::from(MOST_DEPTH) {
-        "a greater depth may help, up to --depth 3"
+    } else if may_be_deeper(plan) {
+        GREATER_DEPTH
     } else {
         "edgematch count PUZZLE counts without a list and without fuel"
     }

@@ -17,7 +17,7 @@ ghost use Rattle.match_runs.specs.Census.{part_word, split_line};
 ghost use Rattle.match_runs.specs.Runs.{MadeOf, Runs, unhinted};
 
 use crate::faults::RunFault;
-use crate::hints::{HintedFault, hint_on};
+use crate::hints::{HintedFault, hint_on, with_hint};
 use crate::printing_runs::put_count_line;
 use crate::running::run_by;
 use byte_streams::{Document, MadeText, OneSink, OneSource, Sink, Source, Text};
@@ -84,10 +84,8 @@ pub fn run_census<P: Source, W: Sink, R: Threads + Sync, T: CensusWatch + Sync>(
         }
         made
     };
-    match run_by(alloc, &mut inputs, make, &mut OneSink { sink: writer }) {
-        Ok(()) => Ok(()),
-        Err(fault) => Err(HintedFault { fault, hint }),
-    }
+    let ended = run_by(alloc, &mut inputs, make, &mut OneSink { sink: writer });
+    with_hint(ended, hint)
 }
 
 // What is printed of the puzzle that the text spells.

@@ -9,7 +9,7 @@ ghost use Rattle.match_runs.specs.Checking.{CheckFails, CheckGives};
 ghost use Rattle.match_runs.specs.Runs.{MadeOf, Runs, unhinted};
 
 use crate::faults::RunFault;
-use crate::hints::{HintedFault, hint_of};
+use crate::hints::{HintedFault, hint_of, with_hint, without_hint};
 use crate::questions::read_question_with;
 use crate::running::run_by;
 use crate::statuses::Status;
@@ -62,16 +62,14 @@ pub fn run_check<P: Source, L: Source, C: Source, W: Sink, R: Threads + Sync>(
         watch: &Open,
         hints: false,
     };
-    match run_check_watched(
+    let ended = run_check_watched(
         rt,
         alloc,
         &check,
         &mut inputs,
         &mut OneSink { sink: writer },
-    ) {
-        Ok(status) => Ok(status),
-        Err(hinted) => Err(hinted.fault),
-    }
+    );
+    without_hint(ended)
 }
 
 /// The same, over whatever the documents come from and the answer goes to, and the watch is told while it runs. Where a
@@ -104,10 +102,8 @@ pub fn run_check_watched<
         }
         made
     };
-    match run_by(alloc, inputs, make, outputs) {
-        Ok(status) => Ok(status),
-        Err(fault) => Err(HintedFault { fault, hint }),
-    }
+    let ended = run_by(alloc, inputs, make, outputs);
+    with_hint(ended, hint)
 }
 
 /// Reads a puzzle, a list and a certificate, joined, to the end, and writes the answer to them and nothing else. The
@@ -132,10 +128,8 @@ pub fn run_joined<S: Source, W: Sink, R: Threads + Sync>(
         watch: &Open,
         hints: false,
     };
-    match run_joined_watched(rt, alloc, &check, reader, writer) {
-        Ok(status) => Ok(status),
-        Err(hinted) => Err(hinted.fault),
-    }
+    let ended = run_joined_watched(rt, alloc, &check, reader, writer);
+    without_hint(ended)
 }
 
 /// The same, with a watch and hints as [`run_check_watched`] has them.

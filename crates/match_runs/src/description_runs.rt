@@ -12,7 +12,7 @@ ghost use Rattle.match_runs.specs.Describing.{options_text};
 ghost use Rattle.match_runs.specs.Runs.{MadeOf, Runs, unhinted};
 
 use crate::faults::{RunFault, words_line};
-use crate::hints::{HintedFault, hint_on};
+use crate::hints::{HintedFault, hint_on, with_hint};
 use crate::running::run_by;
 use byte_streams::{Document, MadeText, OneSink, OneSource, Sink, Source, Text};
 use cert_text::write_symmetries;
@@ -70,10 +70,8 @@ pub fn run_description<P: Source, W: Sink>(
         }
         made
     };
-    match run_by(alloc, &mut inputs, make, &mut OneSink { sink: writer }) {
-        Ok(()) => Ok(()),
-        Err(fault) => Err(HintedFault { fault, hint }),
-    }
+    let ended = run_by(alloc, &mut inputs, make, &mut OneSink { sink: writer });
+    with_hint(ended, hint)
 }
 
 // What is written of the puzzle that the text spells.

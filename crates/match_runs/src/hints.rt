@@ -9,8 +9,8 @@ use byte_streams::Documents;
 use match_hints::{certificate_hint, list_hint, puzzle_hint};
 use std::alloc::{AllocError, Global};
 
-/// Why a run stopped, and what is told beside that, if anything is: what has to be changed in a text that has a fault, or
-/// why a file is refused. Nothing depends on the hint.
+/// Why a run stopped, and what is told beside that, if anything is: what has to be changed in a text that has a fault, what
+/// may help where a puzzle was not solved, or why a file is refused. Nothing depends on the hint.
 #[derive(Drop)]
 pub struct HintedFault {
     pub fault: RunFault,
@@ -43,6 +43,19 @@ pub(crate) fn without_hint<E>(ended: Result<E, HintedFault>) -> Result<E, RunFau
     match ended {
         Ok(ends) => Ok(ends),
         Err(hinted) => Err(hinted.fault),
+    }
+}
+
+/// What a run came to, with this hint beside its fault.
+pub(crate) fn with_hint<E>(
+    ended: Result<E, RunFault>,
+    hint: Option<String>,
+) -> Result<E, HintedFault>
+    ensures { unhinted result ≡ ended }
+{
+    match ended {
+        Ok(ends) => Ok(ends),
+        Err(fault) => Err(HintedFault { fault, hint }),
     }
 }
 

@@ -7,7 +7,7 @@ ghost use Rattle.match_runs.specs.Listed.{DrawFails, DrawsListed};
 ghost use Rattle.match_runs.specs.Runs.{MadeOf, Runs, unhinted};
 
 use crate::faults::RunFault;
-use crate::hints::{HintedFault, hint_on};
+use crate::hints::{HintedFault, hint_on, with_hint};
 use crate::running::run_by;
 use byte_streams::{MadeText, OneSink, Sink, Source, TwoSources, TwoTexts};
 use match_show::write_arrangement;
@@ -41,15 +41,13 @@ pub fn run_listed<P: Source, L: Source, W: Sink>(
         }
         made
     };
-    match run_by(
+    let ended = run_by(
         alloc,
         &mut TwoSources { puzzle, list },
         make,
         &mut OneSink { sink: writer },
-    ) {
-        Ok(()) => Ok(()),
-        Err(fault) => Err(HintedFault { fault, hint }),
-    }
+    );
+    with_hint(ended, hint)
 }
 
 // The board with the listed arrangement of this number on it.

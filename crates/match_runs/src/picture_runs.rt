@@ -10,7 +10,7 @@ ghost use Rattle.match_runs.specs.Pictures.{PictureFails, to_be_drawn};
 ghost use Rattle.match_runs.specs.Runs.{MadeOf, Runs, unhinted};
 
 use crate::faults::RunFault;
-use crate::hints::{HintedFault, hint_on};
+use crate::hints::{HintedFault, hint_on, with_hint};
 use crate::running::run_by;
 use byte_streams::{MadeText, OneSink, Sink, Source, TwoSources, TwoTexts};
 use command_words::{ArrangementNumber, Drawn};
@@ -58,15 +58,13 @@ pub fn run_picture<P: Source, L: Source, W: Sink>(
         }
         made
     };
-    match run_by(
+    let ended = run_by(
         alloc,
         &mut TwoSources { puzzle, list },
         make,
         &mut OneSink { sink: writer },
-    ) {
-        Ok(()) => Ok(()),
-        Err(fault) => Err(HintedFault { fault, hint }),
-    }
+    );
+    with_hint(ended, hint)
 }
 
 // The picture of what the texts spell.

@@ -19,7 +19,7 @@ ghost use Rattle.match_runs.specs.Printing.{PrintingFails, PrintingGives};
 ghost use Rattle.match_runs.specs.Runs.{MadeOf, Runs, unhinted};
 
 use crate::faults::RunFault;
-use crate::hints::{HintedFault, hint_of};
+use crate::hints::{HintedFault, hint_of, with_hint, without_hint};
 use crate::questions::read_question;
 use crate::random_fold::RandomFold;
 use crate::repetitions::distinct_symmetries;
@@ -50,6 +50,13 @@ pub enum Printing {
     Explanation,
 }
 
+/// What is printed, and whether a hint is wanted beside the fault of a text.
+#[derive(Clone, Copy)]
+pub struct PrintingPlan {
+    pub printing: Printing,
+    pub hints: bool,
+}
+
 /// Reads a puzzle, a list and a certificate, each to its end and in this order, and checks them. Where
 /// the list is complete, writes the list of all arrangements of the puzzle, each once: the listed ones
 /// and then their images, in the order of the closure. Where it is refused, writes the answer. The
@@ -75,16 +82,12 @@ pub fn run_expand<P: Source, L: Source, C: Source, W: Sink, R: RandomSource>(
         list,
         certificate,
     };
-    match run_printing(
-        rt,
-        alloc,
-        Printing::All,
-        &mut inputs,
-        &mut OneSink { sink: writer },
-    ) {
-        Ok(status) => Ok(status),
-        Err(hinted) => Err(hinted.fault),
-    }
+    let plan = PrintingPlan {
+        printing: Printing::All,
+        hints: false,
+    };
+    let ended = run_printing(rt, alloc, plan, &mut inputs, &mut OneSink { sink: writer });
+    without_hint(ended)
 }
 
 /// As [`run_expand`], over whatever the documents come from and the text goes to, and prints the list of all
@@ -95,8 +98,8 @@ pub fn run_expand<P: Source, L: Source, C: Source, W: Sink, R: RandomSource>(
 /// cell; `orbits K`, how many where those count once that the certificate's symmetries take into each other; and
 /// `symmetries S`, how many the certificate names.
 ///
-/// `Expand` where over 1,000,000 are to be listed; of orbits, where so many are in one. Where a text has a fault, a hint is
-/// given of what has to be changed there, if memory isn't refused to it.
+/// `Expand` where over 1,000,000 are to be listed; of orbits, where so many are in one. Where a hint is wanted and a text
+/// has a fault, it says what has to be changed there, if memory isn't refused to it.
 pub fn run_printing<
     I: Inputs<Texts = OwnedDocuments>,
     O: Outputs<Made = MadeText>,
@@ -104,30 +107,28 @@ pub fn run_printing<
 >(
     rt: &R,
     alloc: Global,
-    printing: Printing,
+    plan: PrintingPlan,
     inputs: &mut I,
     outputs: &mut O,
 ) -> Result<Status, HintedFault>
     ensures inputs { I.same inputs.old inputs.new }
     ensures outputs { O.same outputs.old outputs.new }
-    ensures run { Runs (I.reads inputs.old inputs.new) (PrintingGives printing) (PrintingFails printing)
+    ensures run { Runs (I.reads inputs.old inputs.new) (PrintingGives plan.printing) (PrintingFails plan.printing)
         (O.writes outputs.old outputs.new) (unhinted result) }
 {
     let mut hint = None;
     let make = |texts: &OwnedDocuments| -> Result<(MadeText, Status), RunFault>
-        ensures { MadeOf (PrintingGives printing) (PrintingFails printing) texts.now result }
+        ensures { MadeOf (PrintingGives plan.printing) (PrintingFails plan.printing) texts.now result }
     {
         let documents = texts.lend();
-        let made = printing_of(rt, alloc, &documents, printing);
-        if let Err(fault) = &made {
+        let made = printing_of(rt, alloc, &documents, plan.printing);
+        if let (true, Err(fault)) = (plan.hints, &made) {
             hint = hint_of(alloc, &documents, fault);
         }
         made
     };
-    match run_by(alloc, inputs, make, outputs) {
-        Ok(status) => Ok(status),
-        Err(fault) => Err(HintedFault { fault, hint }),
-    }
+    let ended = run_by(alloc, inputs, make, outputs);
+    with_hint(ended, hint)
 }
 
 // What is printed of the documents.

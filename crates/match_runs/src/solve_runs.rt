@@ -13,7 +13,7 @@ ghost use Rattle.match_runs.specs.Solving.{SolveFails, SolveGives, first_board, 
 
 use crate::advice::solve_hint;
 use crate::faults::RunFault;
-use crate::hints::{HintedFault, without_hint};
+use crate::hints::{HintedFault, with_hint, without_hint};
 use crate::running::run_by;
 use crate::watches::{SolveWatch, Watched};
 use byte_streams::{
@@ -117,10 +117,8 @@ pub fn run_solve_watched<
         }
         made
     };
-    match run_by(alloc, inputs, make, outputs) {
-        Ok(()) => Ok(()),
-        Err(fault) => Err(HintedFault { fault, hint }),
-    }
+    let ended = run_by(alloc, inputs, make, outputs);
+    with_hint(ended, hint)
 }
 
 // What is made of a puzzle's text.

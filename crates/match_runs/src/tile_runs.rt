@@ -1,18 +1,23 @@
 //! Lists of tiles.
 
+ghost use Rattle.std.specs.Prelude.{◌≡◌, ◌++◌, IfOk, OnOk, map};
+ghost use Rattle.match_board.specs.Tile.{word as colours_of};
+ghost use Rattle.match_text.specs.PuzzleSpelling.{tile_words};
+ghost use Rattle.text_words.specs.Spelling.{line_text, text_of};
 ghost use Rattle.byte_streams.specs.Moves.{writing_of};
 ghost use Rattle.byte_streams.specs.Origins.{no_source};
 ghost use Rattle.byte_streams.specs.Targets.{one_sink};
 ghost use Rattle.match_runs.specs.Runs.{MadeOf, Runs};
-ghost use Rattle.match_runs.specs.Tiles.{TilesFail, TilesGive};
+ghost use Rattle.match_runs.specs.Tiles.{TileLinesGive, TilesFail, TilesGive};
 
 use crate::faults::RunFault;
 use crate::running::run_by;
 use byte_streams::{MadeText, NoSource, OneSink, Sink};
 use command_words::{Colours, Sides};
-use match_board::all_tiles;
+use match_board::{Tile, all_tiles};
 use match_text::write_tiles;
-use std::alloc::Global;
+use std::alloc::{AllocError, Global};
+use std::slice::from_ref;
 
 /// Writes a tile for each class of tiles that turn into each other, with so many sides and colours:
 /// its least word, rising, one on each line, as they stand in a puzzle's text.
@@ -32,6 +37,51 @@ pub fn run_tiles<W: Sink>(
         ensures { MadeOf (TilesGive sides colours) (TilesFail sides colours) _nothing.now result }
     { tiles_text(alloc, sides, colours) };
     run_by(alloc, &mut NoSource, make, &mut OneSink { sink: writer })
+}
+
+/// The same tiles, each as the line that a puzzle's text has of it.
+pub fn run_tile_lines<W: Sink>(
+    alloc: Global,
+    sides: Sides,
+    colours: Colours,
+    writer: &mut W,
+) -> Result<(), RunFault>
+    ensures { Runs no_source (TileLinesGive sides colours) (TilesFail sides colours)
+        (one_sink (writing_of W.Sink writer.old writer.new)) result }
+{
+    let make = |_nothing: &()| -> Result<(MadeText, ()), RunFault>
+        ensures { MadeOf (TileLinesGive sides colours) (TilesFail sides colours) _nothing.now result }
+    { lines_text(alloc, sides, colours) };
+    run_by(alloc, &mut NoSource, make, &mut OneSink { sink: writer })
+}
+
+// The lines of the tiles.
+fn lines_text(alloc: Global, sides: Sides, colours: Colours) -> Result<(MadeText, ()), RunFault>
+    ensures { MadeOf (TileLinesGive sides colours) (TilesFail sides colours) tt result }
+{
+    let tiles = all_tiles(alloc, sides.get() as u8, colours.get() as u8)?;
+    let text = write_tile_lines(alloc, &tiles)?;
+    Ok((MadeText::new(text), ()))
+}
+
+fn write_tile_lines(alloc: Global, tiles: &[Tile]) -> Result<Vec<u8>, AllocError>
+    ensures { IfOk result (λ text. text.items ≡ text_of (map tile_words (map colours_of tiles.now))) }
+{
+    let mut text = Vec::new(alloc);
+    for tile in tiles {
+        put_tile_line(alloc, &mut text, tile)?;
+    }
+    Ok(text)
+}
+
+#[tactic(auto, unfolding(match_text::specs::PuzzleSpelling::tiles_spelling, text_words::specs::Spelling::text_of, text_words::specs::Spelling::line_text))]
+fn put_tile_line(alloc: Global, text: &mut Vec<u8>, tile: &Tile) -> Result<(), AllocError>
+    ensures { OnOk result (text.new.items ≡ text.old.items ++ line_text (tile_words (colours_of tile.now))) }
+{
+    let word = write_tiles(alloc, from_ref(tile))?;
+    text.extend_from_slice(b"tile ")?;
+    text.extend_from_slice(&word)?;
+    Ok(())
 }
 
 // The words of the tiles.

@@ -7,8 +7,8 @@ use match_crew::SolveFault;
 use match_puzzle::PuzzleFault;
 use match_runs::{Document, RunFault, fault_text};
 use match_text::{ListTextFault, PuzzleTextFault};
-use text_words::{TextFault, TextKind};
 use std::test::Fail;
+use text_words::{TextFault, TextKind};
 
 fn in_list(kind: TextKind) -> RunFault {
     RunFault::List(ListTextFault::Text(TextFault { line: 4, kind }))

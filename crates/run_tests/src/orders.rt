@@ -64,6 +64,7 @@ fn exit_of<R: Threads + Wait + Sync + RandomSource + Clock + Eprint>(
         output: &mut output,
         errors: &mut errors,
         terminal: false,
+        typed: false,
     };
     let exit = run_order(rt, alloc, &order, &mut system, &mut streams)?;
     Ok(exit)

@@ -2,7 +2,7 @@ use Rattle.std.proofs.Common.{◌∷◌, [], ℕ, List, inl, inr, refl, subst, s
 use Rattle.std.specs.String.{string_bytes}
 use Rattle.byte_streams.specs.Deeds.{AllLeave, Deed, did_make, did_put}
 use Rattle.byte_streams.specs.declared.outputs.Products.{Products}
-use Rattle.command_words.specs.declared.orders.Files.{Files}
+use Rattle.command_words.specs.declared.places.Files.{Files}
 use Rattle.match_program.specs.Files.{HaveDifferentNames}
 use Rattle.match_program.specs.SolvedFiles.{FilesStand, IsUndone}
 use Rattle.match_program.proofs.made_files.nothing_is_lost.Goals as goal

@@ -1,0 +1,255 @@
+-- Words of a command that give no order.
+use Rattle.std.proofs.Common.{◌≡◌, ◌≢◌, ◌∙◌, true, false, List, Option, Some, None, inl, inr, refl, sym, subst, codes}
+use Rattle.std.specs.Str.{bytes_eq}
+use Rattle.std.proofs.lemmas.Slice.Eq.{bytes_eq-Decides}
+use Rattle.clap.specs.Words.{Row, Text, first_of}
+use Rattle.command_words.specs.Asked.{AreAskedFor, IsAsked, MayStandAt}
+use Rattle.command_words.specs.Orders.{ArePlaces, IsExtent, IsGiven, IsGivenInFiles, IsMisfit, IsOrderOf, IsPlace, IsSubject, NameFiles, NameNothing, NamesPuzzle, TellsOfMisfit}
+use Rattle.command_words.specs.Places.{AreTwoOnInput, certificate_place, list_of_two, list_place, puzzle_of_two, puzzle_place}
+use Rattle.command_words.specs.declared.faults.WordsFault.{WordsFault}
+use Rattle.command_words.specs.declared.faults.WordsFault.TheVariants.{Words, Memory}
+use Rattle.command_words.specs.declared.orders.Extent.{Extent}
+use Rattle.command_words.specs.declared.orders.Extent.TheVariants as extents
+use Rattle.command_words.specs.declared.orders.Order.{Order}
+use Rattle.command_words.specs.declared.orders.Order.TheVariants as orders
+use Rattle.command_words.specs.declared.orders.Subject.{Subject}
+use Rattle.command_words.specs.declared.orders.Subject.TheVariants.{Board, Listed}
+use Rattle.command_words.specs.declared.places.Files.{Files}
+use Rattle.command_words.specs.declared.places.Given.{Given}
+use Rattle.command_words.specs.declared.places.Given.TheVariants.{Joined, Apart}
+use Rattle.command_words.specs.declared.places.Place.{Place}
+use Rattle.command_words.specs.declared.places.Place.TheVariants.{File, Input}
+use Rattle.command_words.specs.declared.places.ThreePlaces.{ThreePlaces}
+use Rattle.command_words.specs.declared.places.ThreePlaces.TheVariants as three
+use Rattle.command_words.specs.declared.places.TwoPlaces.{TwoPlaces}
+use Rattle.command_words.specs.declared.places.TwoPlaces.TheVariants as two
+use Rattle.command_words.specs.declared.readings.Asked.{Asked}
+use Rattle.command_words.specs.declared.readings.Asked.TheVariants as asked
+use Rattle.command_words.proofs.ProgramLemmas.{none_is_some, some_is}
+
+true_is_false : true ≡ false → ⊥
+true_is_false e = absurd cc
+
+differ : (name other : Text) → bytes_eq name other ≡ false → name ≡ other → ⊥
+differ name other differs_so is = true_is_false (sym ((bytes_eq-Decides name other).1 is) ∙ differs_so)
+
+-- ---- orders of a command
+
+-- none where there is no count by a list, and none by a search
+pub no_count : (rows : List Row) → ((given : Given) → IsGiven rows given → IsExtent rows extents.All → ⊥)
+    → ((puzzle : Place) (extent : Extent) → NamesPuzzle rows puzzle → IsExtent rows extent → ⊥)
+    → (order : Order) → IsOrderOf (Some (codes "count", rows)) order → ⊥
+no_count rows listed searched orders.Joined is = is
+no_count rows listed searched (orders.Check files workers forks progress hints) is = differ (codes "count") (codes "check") refl is.0
+no_count rows listed searched (orders.Explain given) is = differ (codes "count") (codes "explain") refl is.0
+no_count rows listed searched (orders.ExplainPuzzle puzzle) is = differ (codes "count") (codes "explain") refl is.0
+no_count rows listed searched (orders.Solve files depth fuel workers keep progress hints) is = differ (codes "count") (codes "solve") refl is.0
+no_count rows listed searched (orders.Expand given orbits hints) is = differ (codes "count") (codes "expand") refl is.0
+no_count rows listed searched (orders.Count given) is = listed given is.1 is.2
+no_count rows listed searched (orders.Census puzzle extent workers progress) is = searched puzzle extent is.1 is.2
+no_count rows listed searched (orders.Show subject) is = differ (codes "count") (codes "show") refl is.0
+no_count rows listed searched (orders.Draw subject first numbers) is = differ (codes "count") (codes "draw") refl is.0
+no_count rows listed searched (orders.Symmetries puzzle) is = differ (codes "count") (codes "symmetries") refl is.0
+no_count rows listed searched (orders.Tiles sides colours lines) is = differ (codes "count") (codes "tiles") refl is.0
+
+-- none where three documents are not given, and no puzzle alone
+pub no_explain : (rows : List Row) → ((given : Given) → IsGiven rows given → ⊥) → ((puzzle : Place) → NamesPuzzle rows puzzle → ⊥)
+    → (order : Order) → IsOrderOf (Some (codes "explain", rows)) order → ⊥
+no_explain rows listed alone orders.Joined is = is
+no_explain rows listed alone (orders.Check files workers forks progress hints) is = differ (codes "explain") (codes "check") refl is.0
+no_explain rows listed alone (orders.Explain given) is = listed given is.1
+no_explain rows listed alone (orders.ExplainPuzzle puzzle) is = alone puzzle is.1
+no_explain rows listed alone (orders.Solve files depth fuel workers keep progress hints) is = differ (codes "explain") (codes "solve") refl is.0
+no_explain rows listed alone (orders.Expand given orbits hints) is = differ (codes "explain") (codes "expand") refl is.0
+no_explain rows listed alone (orders.Count given) is = differ (codes "explain") (codes "count") refl is.0
+no_explain rows listed alone (orders.Census puzzle extent workers progress) is = differ (codes "explain") (codes "count") refl is.0
+no_explain rows listed alone (orders.Show subject) is = differ (codes "explain") (codes "show") refl is.0
+no_explain rows listed alone (orders.Draw subject first numbers) is = differ (codes "explain") (codes "draw") refl is.0
+no_explain rows listed alone (orders.Symmetries puzzle) is = differ (codes "explain") (codes "symmetries") refl is.0
+no_explain rows listed alone (orders.Tiles sides colours lines) is = differ (codes "explain") (codes "tiles") refl is.0
+
+-- none where three documents are not given
+pub no_expand : (rows : List Row) → ((given : Given) → IsGivenInFiles rows given → ⊥)
+    → (order : Order) → IsOrderOf (Some (codes "expand", rows)) order → ⊥
+no_expand rows none orders.Joined is = is
+no_expand rows none (orders.Check files workers forks progress hints) is = differ (codes "expand") (codes "check") refl is.0
+no_expand rows none (orders.Explain given) is = differ (codes "expand") (codes "explain") refl is.0
+no_expand rows none (orders.ExplainPuzzle puzzle) is = differ (codes "expand") (codes "explain") refl is.0
+no_expand rows none (orders.Solve files depth fuel workers keep progress hints) is = differ (codes "expand") (codes "solve") refl is.0
+no_expand rows none (orders.Expand given orbits hints) is = none given is.1
+no_expand rows none (orders.Count given) is = differ (codes "expand") (codes "count") refl is.0
+no_expand rows none (orders.Census puzzle extent workers progress) is = differ (codes "expand") (codes "count") refl is.0
+no_expand rows none (orders.Show subject) is = differ (codes "expand") (codes "show") refl is.0
+no_expand rows none (orders.Draw subject first numbers) is = differ (codes "expand") (codes "draw") refl is.0
+no_expand rows none (orders.Symmetries puzzle) is = differ (codes "expand") (codes "symmetries") refl is.0
+no_expand rows none (orders.Tiles sides colours lines) is = differ (codes "expand") (codes "tiles") refl is.0
+
+-- none where nothing is to be shown
+pub no_show : (rows : List Row) → ((subject : Subject) → IsSubject rows subject → ⊥)
+    → (order : Order) → IsOrderOf (Some (codes "show", rows)) order → ⊥
+no_show rows none orders.Joined is = is
+no_show rows none (orders.Check files workers forks progress hints) is = differ (codes "show") (codes "check") refl is.0
+no_show rows none (orders.Explain given) is = differ (codes "show") (codes "explain") refl is.0
+no_show rows none (orders.ExplainPuzzle puzzle) is = differ (codes "show") (codes "explain") refl is.0
+no_show rows none (orders.Solve files depth fuel workers keep progress hints) is = differ (codes "show") (codes "solve") refl is.0
+no_show rows none (orders.Expand given orbits hints) is = differ (codes "show") (codes "expand") refl is.0
+no_show rows none (orders.Count given) is = differ (codes "show") (codes "count") refl is.0
+no_show rows none (orders.Census puzzle extent workers progress) is = differ (codes "show") (codes "count") refl is.0
+no_show rows none (orders.Show subject) is = none subject is.1
+no_show rows none (orders.Draw subject first numbers) is = differ (codes "show") (codes "draw") refl is.0
+no_show rows none (orders.Symmetries puzzle) is = differ (codes "show") (codes "symmetries") refl is.0
+no_show rows none (orders.Tiles sides colours lines) is = differ (codes "show") (codes "tiles") refl is.0
+
+-- none where nothing is to be drawn
+pub no_draw : (rows : List Row) → ((subject : Subject) → IsSubject rows subject → ⊥)
+    → (order : Order) → IsOrderOf (Some (codes "draw", rows)) order → ⊥
+no_draw rows none orders.Joined is = is
+no_draw rows none (orders.Check files workers forks progress hints) is = differ (codes "draw") (codes "check") refl is.0
+no_draw rows none (orders.Explain given) is = differ (codes "draw") (codes "explain") refl is.0
+no_draw rows none (orders.ExplainPuzzle puzzle) is = differ (codes "draw") (codes "explain") refl is.0
+no_draw rows none (orders.Solve files depth fuel workers keep progress hints) is = differ (codes "draw") (codes "solve") refl is.0
+no_draw rows none (orders.Expand given orbits hints) is = differ (codes "draw") (codes "expand") refl is.0
+no_draw rows none (orders.Count given) is = differ (codes "draw") (codes "count") refl is.0
+no_draw rows none (orders.Census puzzle extent workers progress) is = differ (codes "draw") (codes "count") refl is.0
+no_draw rows none (orders.Show subject) is = differ (codes "draw") (codes "show") refl is.0
+no_draw rows none (orders.Draw subject first numbers) is = none subject is.1
+no_draw rows none (orders.Symmetries puzzle) is = differ (codes "draw") (codes "symmetries") refl is.0
+no_draw rows none (orders.Tiles sides colours lines) is = differ (codes "draw") (codes "tiles") refl is.0
+
+-- files of which but some are named
+pub but_some : (rows : List Row) → (NameNothing rows → ⊥) → ((files : Files) → NameFiles rows files → ⊥) → (any : Given) → IsGivenInFiles rows any → ⊥
+but_some rows nothing all Joined is = nothing is
+but_some rows nothing all (Apart (three.Files files)) is = all files is
+but_some rows nothing all (Apart places) is = is
+
+pub named_at : (rows : List Row) (id : Text) (text : Text) → first_of id rows ≡ Some text → first_of id rows ≡ None → ⊥
+named_at rows id text is none = none_is_some (sym none ∙ is)
+
+-- what is told of words of a command that give no order
+pub misfits : (name : Text) (rows : List Row) (fault : WordsFault) → TellsOfMisfit fault → ((order : Order) → IsOrderOf (Some (name, rows)) order → ⊥) → IsMisfit (Some (name, rows)) fault
+misfits name rows (Words error) tells none = (none, tells)
+misfits name rows Memory tells none = tt
+
+-- ---- places
+
+file_is_input : {name : _} → File name ≡ Input → ⊥
+file_is_input e = absurd cc
+
+module _ (rows : List Row) where
+  named : (id : Text) (place : Place) → IsPlace id rows place → first_of id rows ≡ None → ⊥
+  named id Input is none = none_is_some (sym none ∙ is)
+  named id (File name) is none = none_is_some (sym none ∙ is.0)
+
+  on_input : (id : Text) (place other : Place) → IsPlace id rows place → IsPlace id rows other → place ≡ Input → other ≡ Input
+  on_input id Input Input is so e = refl
+  on_input id Input (File name) is so e = absurd (so.1 (some_is (sym so.0 ∙ is)))
+  on_input id (File name) other is so e = absurd (file_is_input e)
+
+  -- a puzzle and a list
+  two_once : (places : TwoPlaces) → puzzle_of_two places ≡ Input → list_of_two places ≡ Input → ⊥
+  two_once (two.Files puzzle list) first second = file_is_input first
+  two_once (two.PuzzleOnInput list) first second = file_is_input second
+  two_once (two.ListOnInput puzzle) first second = file_is_input first
+
+  pub no_subject : (puzzle list : Place) → IsPlace (codes "PUZZLE") rows puzzle → IsPlace (codes "LIST") rows list → puzzle ≡ Input → list ≡ Input
+      → (subject : Subject) → IsSubject rows subject → ⊥
+  no_subject puzzle list first second one other (Board place) is = named (codes "LIST") list second is.1
+  no_subject puzzle list first second one other (Listed places number) is =
+      two_once places (on_input (codes "PUZZLE") puzzle (puzzle_of_two places) first is.0 one) (on_input (codes "LIST") list (list_of_two places) second is.1 other)
+
+  -- a puzzle, a list and a certificate
+  three_once : (places : ThreePlaces) → AreTwoOnInput (puzzle_place places) (list_place places) (certificate_place places) → ⊥
+  three_once (three.Files files) (inl is) = file_is_input is.0
+  three_once (three.Files files) (inr (inl is)) = file_is_input is.0
+  three_once (three.Files files) (inr (inr is)) = file_is_input is.0
+  three_once (three.PuzzleOnInput list certificate) (inl is) = file_is_input is.1
+  three_once (three.PuzzleOnInput list certificate) (inr (inl is)) = file_is_input is.1
+  three_once (three.PuzzleOnInput list certificate) (inr (inr is)) = file_is_input is.0
+  three_once (three.ListOnInput puzzle certificate) (inl is) = file_is_input is.0
+  three_once (three.ListOnInput puzzle certificate) (inr (inl is)) = file_is_input is.0
+  three_once (three.ListOnInput puzzle certificate) (inr (inr is)) = file_is_input is.1
+  three_once (three.CertificateOnInput puzzle list) (inl is) = file_is_input is.0
+  three_once (three.CertificateOnInput puzzle list) (inr (inl is)) = file_is_input is.0
+  three_once (three.CertificateOnInput puzzle list) (inr (inr is)) = file_is_input is.0
+
+  module _ (puzzle list certificate : Place) (first : IsPlace (codes "PUZZLE") rows puzzle) (second : IsPlace (codes "LIST") rows list) (third : IsPlace (codes "CERTIFICATE") rows certificate) where
+    at_puzzle : (places : ThreePlaces) → ArePlaces rows places → puzzle ≡ Input → puzzle_place places ≡ Input
+    at_puzzle places is = on_input (codes "PUZZLE") puzzle (puzzle_place places) first is.puzzle
+
+    at_list : (places : ThreePlaces) → ArePlaces rows places → list ≡ Input → list_place places ≡ Input
+    at_list places is = on_input (codes "LIST") list (list_place places) second is.list
+
+    at_certificate : (places : ThreePlaces) → ArePlaces rows places → certificate ≡ Input → certificate_place places ≡ Input
+    at_certificate places is = on_input (codes "CERTIFICATE") certificate (certificate_place places) third is.certificate
+
+    twice : AreTwoOnInput puzzle list certificate → (given : Given) → IsGiven rows given → ⊥
+    twice both Joined is = named (codes "PUZZLE") puzzle first is.no_puzzle
+    twice (inl both) (Apart places) is = three_once places (inl (at_puzzle places is both.0, at_list places is both.1))
+    twice (inr (inl both)) (Apart places) is = three_once places (inr (inl (at_puzzle places is both.0, at_certificate places is both.1)))
+    twice (inr (inr both)) (Apart places) is = three_once places (inr (inr (at_list places is both.0, at_certificate places is both.1)))
+
+  -- what is named, and is not there, or is there, and is not named
+  unlisted : (puzzle list certificate : Option Place) → MayStandAt (codes "PUZZLE") rows puzzle → MayStandAt (codes "LIST") rows list → MayStandAt (codes "CERTIFICATE") rows certificate
+      → (reason : _) → AreAskedFor puzzle list certificate (asked.Nothing reason) → IsAsked rows (asked.Nothing reason)
+  unlisted None None None first second third reason is = absurd is
+  unlisted (Some puzzle) None None first second third reason is = absurd is
+  unlisted (Some puzzle) (Some list) (Some certificate) first second third reason is =
+      (twice puzzle list certificate first second third is, λ place alone. named (codes "LIST") list second alone.no_list)
+  unlisted (Some puzzle) (Some list) None first second third reason is = (given, λ place alone. named (codes "LIST") list second alone.no_list)
+    where
+      given : (any : Given) → IsGiven rows any → ⊥
+      given Joined is = named (codes "LIST") list second is.no_list
+      given (Apart places) is = named (codes "CERTIFICATE") (certificate_place places) is.certificate third
+  unlisted (Some puzzle) None (Some certificate) first second third reason is = (given, λ place alone. named (codes "CERTIFICATE") certificate third alone.no_certificate)
+    where
+      given : (any : Given) → IsGiven rows any → ⊥
+      given Joined is = named (codes "CERTIFICATE") certificate third is.no_certificate
+      given (Apart places) is = named (codes "LIST") (list_place places) is.list second
+  unlisted None (Some list) certificate first second third reason is = (given, λ place alone. named (codes "LIST") list second alone.no_list)
+    where
+      given : (any : Given) → IsGiven rows any → ⊥
+      given Joined is = named (codes "LIST") list second is.no_list
+      given (Apart places) is = named (codes "PUZZLE") (puzzle_place places) is.puzzle first
+  unlisted None None (Some certificate) first second third reason is = (given, λ place alone. named (codes "CERTIFICATE") certificate third alone.no_certificate)
+    where
+      given : (any : Given) → IsGiven rows any → ⊥
+      given Joined is = named (codes "CERTIFICATE") certificate third is.no_certificate
+      given (Apart places) is = named (codes "PUZZLE") (puzzle_place places) is.puzzle first
+
+  pub asked_in : (puzzle list certificate : Option Place) → MayStandAt (codes "PUZZLE") rows puzzle → MayStandAt (codes "LIST") rows list → MayStandAt (codes "CERTIFICATE") rows certificate
+      → (what : Asked) → AreAskedFor puzzle list certificate what → IsAsked rows what
+  asked_in puzzle list certificate first second third (asked.Nothing reason) is = unlisted puzzle list certificate first second third reason is
+  asked_in None None None first second third (asked.Given Joined) is = record { no_puzzle = first; no_list = second; no_certificate = third }
+  asked_in (Some puzzle) None None first second third (asked.Puzzle place) is = record { at = subst (IsPlace (codes "PUZZLE") rows) (sym is) first; no_list = second; no_certificate = third }
+  asked_in (Some puzzle) (Some list) (Some certificate) first second third (asked.Given (Apart places)) is = record {
+    puzzle = subst (IsPlace (codes "PUZZLE") rows) (sym is.0) first;
+    list = subst (IsPlace (codes "LIST") rows) (sym is.1) second;
+    certificate = subst (IsPlace (codes "CERTIFICATE") rows) (sym is.2) third;
+  }
+  asked_in None None None first second third (asked.Given (Apart places)) is = absurd is
+  asked_in None None None first second third (asked.Puzzle place) is = absurd is
+  asked_in None None (Some certificate) first second third (asked.Given Joined) is = absurd is
+  asked_in None None (Some certificate) first second third (asked.Given (Apart places)) is = absurd is
+  asked_in None None (Some certificate) first second third (asked.Puzzle place) is = absurd is
+  asked_in None (Some list) None first second third (asked.Given Joined) is = absurd is
+  asked_in None (Some list) None first second third (asked.Given (Apart places)) is = absurd is
+  asked_in None (Some list) None first second third (asked.Puzzle place) is = absurd is
+  asked_in None (Some list) (Some certificate) first second third (asked.Given Joined) is = absurd is
+  asked_in None (Some list) (Some certificate) first second third (asked.Given (Apart places)) is = absurd is
+  asked_in None (Some list) (Some certificate) first second third (asked.Puzzle place) is = absurd is
+  asked_in (Some puzzle) None None first second third (asked.Given Joined) is = absurd is
+  asked_in (Some puzzle) None None first second third (asked.Given (Apart places)) is = absurd is
+  asked_in (Some puzzle) None (Some certificate) first second third (asked.Given Joined) is = absurd is
+  asked_in (Some puzzle) None (Some certificate) first second third (asked.Given (Apart places)) is = absurd is
+  asked_in (Some puzzle) None (Some certificate) first second third (asked.Puzzle place) is = absurd is
+  asked_in (Some puzzle) (Some list) None first second third (asked.Given Joined) is = absurd is
+  asked_in (Some puzzle) (Some list) None first second third (asked.Given (Apart places)) is = absurd is
+  asked_in (Some puzzle) (Some list) None first second third (asked.Puzzle place) is = absurd is
+  asked_in (Some puzzle) (Some list) (Some certificate) first second third (asked.Given Joined) is = absurd is
+  asked_in (Some puzzle) (Some list) (Some certificate) first second third (asked.Puzzle place) is = absurd is
+
+  -- ---- a count by a list, of which a search is asked something
+
+  pub no_search : (given : Given) (extent : Extent) → IsGiven rows given → IsExtent rows extent → (IsExtent rows extents.All → ⊥) → (order : Order) → IsOrderOf (Some (codes "count", rows)) order → ⊥
+  no_search Joined extent is asks some = no_count rows (λ other so all. some all) (λ place more alone so. named (codes "PUZZLE") place alone.at is.no_puzzle)
+  no_search (Apart places) extent is asks some = no_count rows (λ other so all. some all) (λ place more alone so. named (codes "LIST") (list_place places) is.list alone.no_list)

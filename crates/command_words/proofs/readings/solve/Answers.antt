@@ -1,0 +1,25 @@
+use Rattle.std.proofs.Common.{arith}
+use Rattle.clap.specs.Words.{found_of, rows_of}
+use Rattle.command_words.proofs.CommandLemmas.{solve_depth, solve_files, solve_fuel, solve_hints, solve_keep, solve_progress, solve_workers}
+use Rattle.command_words.proofs.readings.solve.Goals as goal
+
+pub files-requires : goal.files-requires
+files-requires c = solve_files (rows_of (found_of c.args.matches.now)) c.requires
+
+pub number-depth-requires : goal.number-depth-requires
+number-depth-requires c = (omega arith, solve_depth (rows_of (found_of c.args.matches.now)) c.requires)
+
+pub number-fuel-requires : goal.number-fuel-requires
+number-fuel-requires c = (omega arith, solve_fuel (rows_of (found_of c.args.matches.now)) c.requires)
+
+pub number-workers-requires : goal.number-workers-requires
+number-workers-requires c = (omega arith, solve_workers (rows_of (found_of c.args.matches.now)) c.requires)
+
+pub flag-keep-requires : goal.flag-keep-requires
+flag-keep-requires c = solve_keep (rows_of (found_of c.args.matches.now)) c.requires
+
+pub flag-progress-requires : goal.flag-progress-requires
+flag-progress-requires c = solve_progress (rows_of (found_of c.args.matches.now)) c.requires
+
+pub flag-hints-requires : goal.flag-hints-requires
+flag-hints-requires c = solve_hints (rows_of (found_of c.args.matches.now)) c.requires

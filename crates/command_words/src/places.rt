@@ -1,0 +1,102 @@
+//! Where documents stand: in files, or on standard input.
+
+ghost use Rattle.std.specs.Prelude.{◌≡◌, MatchOption};
+ghost use Rattle.command_words.specs.Places.{AreTwoOnInput, certificate_place, list_of_two, list_place, puzzle_of_two};
+ghost use Rattle.command_words.specs.Places.{puzzle_place};
+ghost use Rattle.command_words.specs.declared.places.Place.TheVariants.{Input};
+
+/// Three files by their names.
+#[derive(PartialEq, Eq, Debug, Drop)]
+pub struct Files {
+    pub puzzle: String,
+    pub list: String,
+    pub certificate: String,
+}
+
+/// Where a document stands.
+#[derive(PartialEq, Eq, Debug, Drop)]
+pub enum Place {
+    /// On standard input, which nothing else of the order is read from.
+    Input,
+    /// In the file of this name.
+    File(String),
+}
+
+/// Where a puzzle and a list stand: on standard input one of them at most.
+#[derive(PartialEq, Eq, Debug, Drop)]
+pub enum TwoPlaces {
+    /// In these files.
+    Files { puzzle: String, list: String },
+    /// The puzzle on standard input, and the list in this file.
+    PuzzleOnInput { list: String },
+    /// The list on standard input, and the puzzle in this file.
+    ListOnInput { puzzle: String },
+}
+
+impl TwoPlaces {
+    // A puzzle and a list that stand there; none where both stand on standard input.
+    pub(crate) fn new(puzzle: Place, list: Place) -> Option<TwoPlaces>
+        ensures { MatchOption result ((puzzle ≡ Input) × (list ≡ Input))
+            (λ places. (puzzle_of_two places ≡ puzzle) × (list_of_two places ≡ list)) }
+    {
+        match (puzzle, list) {
+            (Place::File(puzzle), Place::File(list)) => Some(TwoPlaces::Files { puzzle, list }),
+            (Place::Input, Place::File(list)) => Some(TwoPlaces::PuzzleOnInput { list }),
+            (Place::File(puzzle), Place::Input) => Some(TwoPlaces::ListOnInput { puzzle }),
+            (Place::Input, Place::Input) => None,
+        }
+    }
+}
+
+/// Where a puzzle, a list and a certificate stand: on standard input one of them at most.
+#[derive(PartialEq, Eq, Debug, Drop)]
+pub enum ThreePlaces {
+    /// In these files.
+    Files(Files),
+    /// The puzzle on standard input, and the others in these files.
+    PuzzleOnInput { list: String, certificate: String },
+    /// The list on standard input, and the others in these files.
+    ListOnInput { puzzle: String, certificate: String },
+    /// The certificate on standard input, and the others in these files.
+    CertificateOnInput { puzzle: String, list: String },
+}
+
+impl ThreePlaces {
+    // A puzzle, a list and a certificate that stand there; none where two of them stand on standard input.
+    pub(crate) fn new(puzzle: Place, list: Place, certificate: Place) -> Option<ThreePlaces>
+        ensures { MatchOption result (AreTwoOnInput puzzle list certificate) (λ places. (puzzle_place places ≡ puzzle)
+            × (list_place places ≡ list) × (certificate_place places ≡ certificate)) }
+    {
+        match (puzzle, list, certificate) {
+            (Place::File(puzzle), Place::File(list), Place::File(certificate)) => {
+                Some(ThreePlaces::Files(Files {
+                    puzzle,
+                    list,
+                    certificate,
+                }))
+            }
+            (Place::Input, Place::File(list), Place::File(certificate)) => {
+                Some(ThreePlaces::PuzzleOnInput { list, certificate })
+            }
+            (Place::File(puzzle), Place::Input, Place::File(certificate)) => {
+                Some(ThreePlaces::ListOnInput {
+                    puzzle,
+                    certificate,
+                })
+            }
+            (Place::File(puzzle), Place::File(list), Place::Input) => {
+                Some(ThreePlaces::CertificateOnInput { puzzle, list })
+            }
+            _ => None,
+        }
+    }
+}
+
+/// How a puzzle, a list and a certificate are given.
+#[derive(PartialEq, Eq, Debug, Drop)]
+pub enum Given {
+    /// Joined, on standard input.
+    Joined,
+    /// Each by itself, where these places say.
+    Apart(ThreePlaces),
+}

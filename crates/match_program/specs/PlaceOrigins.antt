@@ -1,0 +1,128 @@
+-- Texts that come from where documents stand: from files, or from standard input.
+use Rattle.std.specs.Prelude.{◌≡◌, ◌⊎◌, ℕ, List, [], ◌∷◌}
+use Rattle.std.specs.String.{string_bytes}
+use Rattle.byte_streams.specs.Documents.{Texts}
+use Rattle.byte_streams.specs.Moves.{Reading, reading_of}
+use Rattle.byte_streams.specs.Origins.{Origin, joined_source, one_source, three_sources, two_sources}
+use Rattle.byte_streams.specs.declared.documents.TwoTexts.{TwoTexts}
+use Rattle.byte_streams.specs.declared.faults.Document.{Document}
+use Rattle.byte_streams.specs.declared.faults.Document.TheVariants as documents
+use Rattle.byte_streams.specs.declared.faults.InputFault.{InputFault}
+use Rattle.byte_streams.specs.declared.faults.InputFault.TheVariants as inputs
+use Rattle.byte_streams.specs.declared.files.FileSystem.{Ghosts as FileMembers}
+use Rattle.byte_streams.specs.declared.sources.Source.{Ghosts as SourceMembers}
+use Rattle.command_words.specs.Places.{certificate_place, list_of_two, list_place, puzzle_of_two, puzzle_place}
+use Rattle.command_words.specs.declared.places.Given.{Given}
+use Rattle.command_words.specs.declared.places.Given.TheVariants.{Joined, Apart}
+use Rattle.command_words.specs.declared.places.Place.{Place}
+use Rattle.command_words.specs.declared.places.Place.TheVariants as places
+use Rattle.command_words.specs.declared.places.ThreePlaces.{ThreePlaces}
+use Rattle.command_words.specs.declared.places.TwoPlaces.{TwoPlaces}
+use Rattle.match_program.specs.DocumentReaders.{IsOfFile, ended_in, errors_in, left_in}
+use Rattle.match_program.specs.declared.document_readers.DocumentReader.{DocumentReader}
+use Rattle.match_program.specs.declared.document_readers.DocumentReader.TheVariants as readers
+
+-- a document, and where it stands
+pub record Placed : Type 0 where
+  pub document : Document
+  pub place : Place
+
+abbrev pub placed : Document → Place → Placed
+placed document place = record { document = document; place = place }
+
+abbrev pub both_placed : TwoPlaces → List Placed
+both_placed two = placed documents.Puzzle (puzzle_of_two two) ∷ placed documents.List (list_of_two two) ∷ []
+
+abbrev pub all_placed : ThreePlaces → List Placed
+all_placed three =
+    placed documents.Puzzle (puzzle_place three) ∷ placed documents.List (list_place three)
+    ∷ placed documents.Certificate (certificate_place three) ∷ []
+
+-- by files in a state, and by standard input as it was
+module _ {S R W I : Type 0} (system : FileMembers S R W) (file : SourceMembers R) (input : SourceMembers I) (at : S) (given : I)
+  where
+    -- The reader is of the document that stands there, with nothing read of it: of its file, just opened, or of standard
+    -- input.
+    abbrev pub Opens : Place → DocumentReader R I → Type 0
+    Opens (places.File name) reader = IsOfFile system at (string_bytes name) reader
+    Opens places.Input (readers.Input reader) = reader.now ≡ given
+    Opens places.Input (readers.File reader) = ⊥
+
+    -- a reader of what stands there, as it was just opened, and as it is later
+    pub record OpenedAt (place : Place) : Type 0 where
+      pub opened : DocumentReader R I
+      pub later : DocumentReader R I
+      pub is_opened : Opens place opened
+
+    abbrev pub read_at : (place : Place) → OpenedAt place → Reading
+    read_at place reader = record {
+      before = left_in file input reader.opened;
+      after = left_in file input reader.later;
+      ended = ended_in file input reader.later;
+      errors_before = errors_in file input reader.opened;
+      errors_after = errors_in file input reader.later;
+      Untouched = reader.later ≡ reader.opened;
+    }
+
+    -- The document stands in a file that can't be opened.
+    abbrev pub Refuses : Place → Type 0
+    Refuses (places.File name) = system.refuses at (string_bytes name)
+    Refuses places.Input = ⊥
+
+    -- The file of the document can't be opened; those before it were.
+    abbrev pub CantOpenAt : List Placed → Document → Type 0
+    CantOpenAt [] of = ⊥
+    CantOpenAt (p ∷ rest) of = ((of ≡ p.document) × Refuses p.place) ⊎ (OpenedAt p.place × CantOpenAt rest of)
+
+    -- A file can't be opened, and so can't be read.
+    abbrev pub FailsToOpenAt : List Placed → InputFault → Type 0
+    FailsToOpenAt all (inputs.Read of) = CantOpenAt all of
+    FailsToOpenAt all fault = ⊥
+
+    -- A puzzle that stands there.
+    abbrev pub one_place : Place → Origin (List ℕ)
+    one_place place = record {
+      Gave = λ text. (reader : OpenedAt place) × (one_source documents.Puzzle (read_at place reader)).Gave text;
+      Stopped = λ fault.
+          FailsToOpenAt (placed documents.Puzzle place ∷ []) fault
+          ⊎ ((reader : OpenedAt place) × (one_source documents.Puzzle (read_at place reader)).Stopped fault);
+    }
+
+    -- readers of a puzzle and a list
+    pub record BothOpened (two : TwoPlaces) : Type 0 where
+      pub puzzle : OpenedAt (puzzle_of_two two)
+      pub list : OpenedAt (list_of_two two)
+
+    abbrev pub read_both : (two : TwoPlaces) → BothOpened two → Origin TwoTexts
+    read_both two both = two_sources (read_at _ both.puzzle) (read_at _ both.list)
+
+    -- A puzzle and a list that stand there.
+    abbrev pub two_places : TwoPlaces → Origin TwoTexts
+    two_places two = record {
+      Gave = λ texts. (both : BothOpened two) × (read_both two both).Gave texts;
+      Stopped = λ fault.
+          FailsToOpenAt (both_placed two) fault ⊎ ((both : BothOpened two) × (read_both two both).Stopped fault);
+    }
+
+    -- readers of a puzzle, a list and a certificate
+    pub record AllOpenedAt (three : ThreePlaces) : Type 0 where
+      pub puzzle : OpenedAt (puzzle_place three)
+      pub list : OpenedAt (list_place three)
+      pub certificate : OpenedAt (certificate_place three)
+
+    abbrev pub read_all_at : (three : ThreePlaces) → AllOpenedAt three → Origin Texts
+    read_all_at three all = three_sources (read_at _ all.puzzle) (read_at _ all.list) (read_at _ all.certificate)
+
+    -- A puzzle, a list and a certificate that stand there.
+    abbrev pub three_places : ThreePlaces → Origin Texts
+    three_places three = record {
+      Gave = λ texts. (all : AllOpenedAt three) × (read_all_at three all).Gave texts;
+      Stopped = λ fault.
+          FailsToOpenAt (all_placed three) fault
+          ⊎ ((all : AllOpenedAt three) × (read_all_at three all).Stopped fault);
+    }
+
+    -- The same, or joined on standard input, which is this later.
+    abbrev pub given_documents : (later : I) → Given → Origin Texts
+    given_documents later Joined = joined_source (reading_of input given later)
+    given_documents later (Apart three) = three_places three
