@@ -68,7 +68,7 @@ LIMITS = {
     "crates/match_census/README.md": ["at most {MOST_BRANCHES} branches"],
     "crates/match_crew/README.md": [
         "at most {MOST_PLANNED} branches",
-        "At most {MOST_ITEMS} items",
+        "At most {MOST_PLANS} items",
         "under {FEW_NODES} nodes",
         "after {LONG} children",
     ],

@@ -14,9 +14,6 @@ use rand_xoshiro::Xoshiro256PlusPlus;
 use std::alloc::{AllocError, Global};
 use xcc_dance::{OpenOptions, open_option, option_behind, uncovered_item};
 
-// What the random numbers begin with. It is always the same, so that a solve can be repeated.
-const SEED: u64 = 1975;
-
 // The lemmas that a search may cite: those numbered above its own.
 #[derive(Clone, Copy)]
 pub struct Citable<'a> {
@@ -45,6 +42,42 @@ impl<'a> Citable<'a> {
     }
 }
 
+// How many dives were made, and how many options were chosen on them.
+#[derive(Clone, Copy)]
+pub struct Effort {
+    dives: u64,
+    choices: u64,
+}
+
+impl Effort {
+    pub fn none() -> Effort {
+        Effort {
+            dives: 0,
+            choices: 0,
+        }
+    }
+
+    // What one dive takes, before any was made: it goes through half the cells.
+    pub fn guessed(cells: u16) -> Effort {
+        Effort {
+            dives: 1,
+            choices: u64::from(cells) / 2,
+        }
+    }
+
+    pub fn add(&mut self, other: Effort) {
+        self.dives = self.dives.saturating_add(other.dives);
+        self.choices = self.choices.saturating_add(other.choices);
+    }
+
+    // How many dives below each of so many lemmas go with about so many choices, where they take as much as these.
+    pub fn dives_for_each(&self, lemmas: u64, choices: u64) -> u64 {
+        let dives = choices.saturating_mul(self.dives);
+        let for_one = self.choices.max(1).saturating_mul(lemmas.max(1));
+        (dives / for_one.max(1)).max(1)
+    }
+}
+
 // What dives are made with.
 #[derive(Drop)]
 pub struct Dives {
@@ -53,28 +86,23 @@ pub struct Dives {
     placed: Vec<Pair>,
     // the most levels that a tree has
     levels: u16,
-    // how many dives were made, and how many options were chosen on them; at first a guess
-    made: u64,
-    choices: u64,
+    effort: Effort,
 }
 
 impl Dives {
-    // Dives for a puzzle of so many cells.
-    pub fn new(alloc: Global, cells: u16) -> Dives {
+    // Dives for a puzzle of so many cells, whose random numbers begin with this seed.
+    pub fn new(alloc: Global, cells: u16, seed: u64) -> Dives {
         Dives {
-            random: Xoshiro256PlusPlus::seed_from_u64(SEED),
+            random: Xoshiro256PlusPlus::seed_from_u64(seed),
             placed: Vec::new(alloc),
             levels: cells,
-            made: 1,
-            choices: u64::from(cells) / 2,
+            effort: Effort::none(),
         }
     }
 
-    // How many dives below each of so many lemmas go with about so many choices, by what the dives so far took.
-    pub fn each_of(&self, lemmas: u64, choices: u64) -> u64 {
-        let dives = choices.saturating_mul(self.made);
-        let for_one = self.choices.max(1).saturating_mul(lemmas.max(1));
-        (dives / for_one.max(1)).max(1)
+    // What the dives so far took.
+    pub fn effort(&self) -> Effort {
+        self.effort
     }
 
     // How many nodes there are below these pairs, by so many dives; none where one of them doesn't fit.
@@ -110,7 +138,7 @@ impl Dives {
     ) -> Result<u64, AllocError>
         ensures { engine.new ≡ engine.old }
     {
-        self.made = self.made.saturating_add(dives);
+        self.effort.add(Effort { dives, choices: 0 });
         let mut sum: u64 = 0;
         for _ in 0..dives {
             let nodes = self.dive(engine, citable, self.levels)?;
@@ -143,7 +171,10 @@ impl Dives {
             1
         } else {
             engine.choose(option)?;
-            self.choices = self.choices.saturating_add(1);
+            self.effort.add(Effort {
+                dives: 0,
+                choices: 1,
+            });
             let nodes = self.dive(engine, citable, levels - 1);
             engine.undo();
             nodes?

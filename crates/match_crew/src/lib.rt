@@ -6,6 +6,7 @@ mod branches;
 mod choices;
 mod dives;
 mod faults;
+mod guesses;
 mod images;
 mod items;
 mod orbits;

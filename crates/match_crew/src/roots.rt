@@ -1,15 +1,19 @@
 //! The item at the root, where a guess of the work that it leaves can tell a better one.
 
+ghost use Rattle.std.specs.Prelude.{◌≡◌, ◌≤◌};
+ghost use Rattle.match_board.specs.declared.limits.TheConstants.{MOST_WORKERS};
 ghost use Rattle.xcc_form.specs.Options.{cover_of};
 ghost use Rattle.xcc_dance.specs.Chosen.{IsUncovered};
 
-use crate::dives::{Citable, Dives};
+use crate::dives::Effort;
+use crate::guesses::{Guesses, MOST_PLANS, plans_by};
 use crate::images::image_of_pair;
-use crate::items::ItemRule;
 use crate::orbits::Orbits;
 use crate::plans::{Plan, Planner};
+use match_board::limits::MOST_WORKERS;
 use match_puzzle::Pair;
 use std::alloc::{AllocError, Global};
+use std::thread::Threads;
 use xcc_dance::{OpenOptions, OpenSets};
 
 // So many choices tell whether another item is looked for.
@@ -22,9 +26,6 @@ const FEW_NODES: u64 = 10_000;
 const NODES_OF_ONE_TIME: u64 = 1 << 20;
 
 const MOST_TIMES: u64 = 16;
-
-// The most items that are compared.
-const MOST_ITEMS: usize = 24;
 
 // How many choices are made for each item at first.
 const ITEM_CHOICES: u64 = 256;
@@ -49,54 +50,36 @@ struct Ranked {
 
 // What items at the root are compared by.
 #[derive(Drop)]
-struct Comparison<'a> {
+struct Comparison<'a, R: Threads + Sync> {
+    rt: &'a R,
+    workers: u8,
     planner: Planner<'a>,
     engine: OpenSets<'a>,
-    dives: Dives,
+    // what the dives so far took; at first a guess
+    effort: Effort,
+    // how many guesses of plans were made
+    round: u8,
     // how many times as many choices are made
     times: u64,
+    ghost some: { 1 ≤ workers },
+    ghost few: { workers ≤ MOST_WORKERS },
 }
 
-impl<'a> Comparison<'a> {
-    // The planner that takes this item at the root.
-    fn planner_by(&self, item: u32) -> Planner<'a> {
-        let mut planner = self.planner;
-        planner.item_rule = ItemRule::at_root(item);
-        planner
-    }
-
-    // How many nodes the lemmas of a plan have together, by dives with about so many choices.
-    fn guess(&mut self, plan: &Plan, choices: u64) -> Result<u64, AllocError> {
-        let choices = choices.saturating_mul(self.times);
-        let each = self.dives.each_of(plan.prefixes.len() as u64, choices);
-        let mut nodes = self.guess_at_root(plan, each)?;
-        let mut lemma: u32 = 0;
-        for prefix in &plan.prefixes {
-            lemma = lemma.saturating_add(1);
-            let citable = Citable::above(&plan.images, lemma, prefix);
-            let below = self
-                .dives
-                .nodes_below(&mut self.engine, prefix, &citable, each)?;
-            nodes = nodes.saturating_add(below);
-        }
-        Ok(nodes)
-    }
-
-    // How many nodes the lemma of the root has, with so many dives below each child that no other lemma stands for.
-    fn guess_at_root(&mut self, plan: &Plan, dives: u64) -> Result<u64, AllocError> {
-        let mut planner = self.planner;
-        planner.item_rule = plan.item_rule;
-        let citable = Citable::above(&plan.images, 0, &[]);
-        let mut nodes: u64 = 0;
-        for child in planner.children(&[])? {
-            let below = match plan.images.cite_any(&child, 0) {
-                Some(_) => 1,
-                None => self
-                    .dives
-                    .nodes_below(&mut self.engine, &child, &citable, dives)?,
-            };
-            nodes = nodes.saturating_add(below);
-        }
+impl<'a, R: Threads + Sync> Comparison<'a, R> {
+    // How many nodes the lemmas of each of these plans have together, by dives with about so many choices for each.
+    fn guess(&mut self, plans: &[Plan], choices: u64) -> Result<Vec<u64>, AllocError>
+        ensures { self.new.workers ≡ self.old.workers }
+    {
+        let guesses = Guesses {
+            planner: self.planner,
+            plans,
+            choices: choices.saturating_mul(self.times),
+            effort: self.effort,
+            round: self.round,
+        };
+        let (nodes, effort) = guesses.guess(self.rt, self.workers)?;
+        self.effort.add(effort);
+        self.round = self.round.wrapping_add(1);
         Ok(nodes)
     }
 
@@ -112,7 +95,7 @@ impl<'a> Comparison<'a> {
             }
             next = self.engine.next_item(Some(item));
         }
-        best_of(self.planner.alloc, ranked, MOST_ITEMS)
+        best_of(self.planner.alloc, ranked, MOST_PLANS)
     }
 
     // How many options an item has that are no images of each other.
@@ -167,10 +150,9 @@ impl<'a> Comparison<'a> {
 
     // The better half of these items, by plans of one level and about so many choices for each.
     fn better_half(&mut self, items: &[u32], choices: u64) -> Result<Vec<u32>, AllocError> {
+        let plans = plans_by(self.rt, self.planner, items, 1, self.workers)?;
         let mut ranked = Vec::new(self.planner.alloc);
-        for item in items {
-            let plan = self.planner_by(*item).plan(1)?;
-            let by = self.guess(&plan, choices)?;
+        for (item, by) in items.iter().zip(self.guess(&plans, choices)?) {
             ranked.push(Ranked { by, item: *item })?;
         }
         best_of(self.planner.alloc, ranked, (items.len() / 2).max(FINALISTS))
@@ -178,11 +160,11 @@ impl<'a> Comparison<'a> {
 
     // The plan by the item of these whose plan is guessed to have least.
     fn best_plan(&mut self, items: &[u32], depth: u8) -> Result<Option<Plan>, AllocError> {
+        let plans = plans_by(self.rt, self.planner, items, depth, self.workers)?;
+        let guesses = self.guess(&plans, PLAN_CHOICES)?;
         let mut best = None;
         let mut least = u64::MAX;
-        for item in items {
-            let plan = self.planner_by(*item).plan(depth)?;
-            let nodes = self.guess(&plan, PLAN_CHOICES)?;
+        for (plan, nodes) in plans.into_iter().zip(guesses) {
             if nodes < least {
                 least = nodes;
                 best = Some(plan);
@@ -191,11 +173,29 @@ impl<'a> Comparison<'a> {
         Ok(best)
     }
 
-    // Whether a plan is guessed to have less than two thirds of another's nodes.
-    fn is_much_less(&mut self, plan: &Plan, than: &Plan) -> Result<bool, AllocError> {
-        let most = self.guess(than, LAST_CHOICES)?;
-        let nodes = self.guess(plan, LAST_CHOICES)?;
-        Ok(nodes.saturating_mul(3) < most.saturating_mul(2))
+    // The other plan, if it is guessed to have less than two thirds of this one's nodes, or else this one.
+    fn better_of(&mut self, plan: Plan, other: Plan) -> Result<Plan, AllocError> {
+        let mut plans = Vec::new(self.planner.alloc);
+        plans.push(plan)?;
+        plans.push(other)?;
+        let is_better = match self.guess(&plans, LAST_CHOICES)?.as_slice() {
+            [most, nodes] => nodes.saturating_mul(3) < most.saturating_mul(2),
+            _ => false,
+        };
+        plans.truncate(if is_better { 2 } else { 1 });
+        match plans.pop() {
+            Some(plan) => Ok(plan),
+            None => unreachable!(),
+        }
+    }
+
+    // The best plan by an item other than this one, if there is any.
+    fn other_plan(&mut self, than: u32, depth: u8) -> Result<Option<Plan>, AllocError> {
+        let planner = self.planner;
+        let mut orbits = Orbits::new(planner.alloc, planner.xcc, planner.symmetries)?;
+        let items = self.other_items(than, &mut orbits)?;
+        let few = self.few_of(items)?;
+        self.best_plan(&few, depth)
     }
 }
 
@@ -221,29 +221,38 @@ fn goes_lower(is_cell: bool, pair: Pair, image: Pair) -> bool {
 }
 
 // A plan of at most `depth` levels, which is at most 3. Where the planner's rule takes an item of its own at the root,
-// it may be by another item, with which there are guessed to be much fewer nodes.
-pub fn plan_by_dives(planner: Planner<'_>, depth: u8) -> Result<Plan, AllocError> {
+// it may be by another item, with which there are guessed to be much fewer nodes. The plan is the same for any number of
+// workers.
+pub fn plan_by_dives<R: Threads + Sync>(
+    rt: &R,
+    planner: Planner<'_>,
+    depth: u8,
+    workers: u8,
+) -> Result<Plan, AllocError>
+    requires workers { (1 ≤ workers) × (workers ≤ MOST_WORKERS) }
+{
     let plan = planner.plan(depth)?;
     let Some(item) = planner.item_rule.root() else {
         return Ok(plan);
     };
     let mut comparison = Comparison {
+        rt,
+        workers: 1,
         planner,
         engine: OpenSets::new(planner.alloc, planner.xcc)?,
-        dives: Dives::new(planner.alloc, planner.xcc.cells()),
+        effort: Effort::guessed(planner.xcc.cells()),
+        round: 0,
         times: 1,
     };
-    let nodes = comparison.guess(&plan, FIRST_CHOICES)?;
+    let guesses = comparison.guess(std::slice::from_ref(&plan), FIRST_CHOICES)?;
+    let nodes = guesses.first().copied().unwrap_or(0);
     if nodes < FEW_NODES {
         return Ok(plan);
     }
+    comparison.workers = workers;
     comparison.times = (nodes / NODES_OF_ONE_TIME).max(1).min(MOST_TIMES);
-    let mut orbits = Orbits::new(planner.alloc, planner.xcc, planner.symmetries)?;
-    let items = comparison.other_items(item, &mut orbits)?;
-    let few = comparison.few_of(items)?;
-    let Some(other) = comparison.best_plan(&few, depth)? else {
+    let Some(other) = comparison.other_plan(item, depth)? else {
         return Ok(plan);
     };
-    let is_better = comparison.is_much_less(&other, &plan)?;
-    Ok(if is_better { other } else { plan })
+    comparison.better_of(plan, other)
 }

@@ -266,7 +266,7 @@ pub fn solve_watched<R: Threads + Wait + Sync, W: Watch + Sync>(
         symmetries: &symmetries,
         item_rule,
     };
-    let plan = plan_by_dives(planner, depth)?;
+    let plan = plan_by_dives(rt, planner, depth, workers)?;
     let desk = FlatDesk::new(alloc)?;
     let shared = Shared {
         alloc,

@@ -5,7 +5,7 @@ use Rattle.xcc_dance.proofs.GrowingLemmas.{left_after}
 use Rattle.match_crew.proofs.roots.Comparison.orbits_of.Given as goal
 
 abbrev pub invariant-loop-next : goal.invariant-loop-next
-invariant-loop-next l = IfSome l.next (IsOpenAt (cover_of l.self.engine.compiled) l.self.engine.chosen l.item)
+invariant-loop-next g l = IfSome l.next (IsOpenAt (cover_of l.self.engine.compiled) l.self.engine.chosen l.item)
 
 abbrev pub decreases-loop-next : goal.decreases-loop-next
-decreases-loop-next l = left_after (length (cover_of l.self.engine.compiled).options) l.next
+decreases-loop-next g l = left_after (length (cover_of l.self.engine.compiled).options) l.next
