@@ -1,0 +1,84 @@
+//! Certificates are read and written.
+
+use crate::texts::{certificate_of, joined};
+use cert_text::{
+    WithinLimits, certificate_laws, lemma_laws, read_lemma, write_certificate, write_lemma,
+};
+use cert_tree::head_laws;
+use std::alloc::{AllocError, Global};
+use std::test::Fail;
+use test_samples::{TURNING_TRIANGLE_CERTIFICATE, TWIN_TILES_CERTIFICATE};
+
+// Each kind of node, and a symmetry with a mirror and colours that are letters.
+const EACH_NODE: &[u8] =
+    b"certificate 1\nsymmetries 2\nsymmetry 3 - cells colours z a tiles\nsymmetry 0 + cells 99 colours tiles 99\nlemmas 2\nlemma 0 prefix 99:99.3 0:0.0 tree t 99 2 c 99 3 d 99 e 99 f 999999 s 999999\nlemma 1 prefix tree i 999999 1023\nend\n";
+
+const ONE_CELL: &[u8] =
+    b"certificate 1\nsymmetries 0\nlemmas 1\nlemma 0 prefix tree c 0 1 f 0\nend\n";
+
+const ONE_CELL_IN_VERSION_2: &[u8] =
+    b"certificate 2\nsymmetries 0\nlemmas 1\nlemma 0 prefix tree c 0 1 f 0\nend\n";
+
+const VERSION_1: &[u8] = b"certificate 1\n";
+
+const VERSION_2: &[u8] = b"certificate 2\n";
+
+// Numbers that version 2 alone has.
+const PAST_VERSION_1: [&[u8]; 3] = [
+    b"certificate 2\nsymmetries 0\nlemmas 1\nlemma 0 prefix tree d 100\nend\n",
+    b"certificate 2\nsymmetries 1\nsymmetry 0 + cells 255 colours tiles 255\nlemmas 0\nend\n",
+    b"certificate 2\nsymmetries 0\nlemmas 1\nlemma 0 prefix 255:255.3 tree t 255 1 e 255\nend\n",
+];
+
+// A certificate with this first line, of a tree of so many branches below one another and a leaf.
+fn deep(alloc: Global, first_line: &[u8], branches: u32) -> Result<Vec<u8>, AllocError> {
+    joined(
+        alloc,
+        &[
+            (first_line, 1),
+            (b"symmetries 0\nlemmas 1\nlemma 0 prefix tree", 1),
+            (b" c 0 1", branches),
+            (b" f 0\nend\n", 1),
+        ],
+    )
+}
+
+// What is written of the certificate that the text says.
+fn written(alloc: Global, text: &[u8]) -> Result<Vec<u8>, Fail> {
+    let certificate = certificate_of(alloc, text)?;
+    if !certificate.within_limits() {
+        return Err(Fail::from("what was read can't be written"));
+    }
+    Ok(write_certificate(alloc, &certificate)?)
+}
+
+#[test]
+fn writes_certificates_that_were_read(rt: HostRuntime) -> Result<(), Fail> {
+    let alloc = rt.alloc();
+    for text in [
+        TWIN_TILES_CERTIFICATE,
+        TURNING_TRIANGLE_CERTIFICATE,
+        EACH_NODE,
+    ] {
+        assert!(rt; written(alloc, text)?.as_slice() == text);
+    }
+    for text in PAST_VERSION_1 {
+        assert!(rt; written(alloc, text)?.as_slice() == text);
+    }
+    // version 1 where it spells the certificate
+    assert!(rt; written(alloc, ONE_CELL_IN_VERSION_2)?.as_slice() == ONE_CELL);
+    let shallow = deep(alloc, VERSION_1, 100)?;
+    let text = deep(alloc, VERSION_2, 100)?;
+    assert!(rt; written(alloc, &text)?.as_slice() == shallow.as_slice());
+    for branches in [101, 256] {
+        let text = deep(alloc, VERSION_2, branches)?;
+        assert!(rt; written(alloc, &text)?.as_slice() == text.as_slice());
+    }
+    let line = b"lemma 1 prefix tree c 0 2 s 0 i 0 0\n".as_slice();
+    let lemma = read_lemma(alloc, line)?;
+    assert!(rt; write_lemma(alloc, &lemma)?.as_slice() == line);
+    certificate_laws();
+    lemma_laws();
+    head_laws();
+    Ok(())
+}

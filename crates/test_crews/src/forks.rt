@@ -1,0 +1,120 @@
+//! Trees in whose first levels the halves of a branch are walked at once.
+
+ghost use Rattle.std.specs.Prelude.{◌≤◌};
+
+use crate::meetings::Meeting;
+use cert_check::{Answer, NodeFault, Question, TreeFault, forked_tree_fault};
+use cert_text::read_certificate;
+use match_board::limits::MOST_FORKS;
+use match_crew::{Gate, check_with, solve_with};
+use match_text::read_puzzle;
+use std::alloc::Global;
+use std::sync::atomic::{AtomicU8, Ordering};
+use std::test::Fail;
+use std::thread::Threads;
+use test_samples::{turning_triangle, turning_triangle_list};
+
+// Seven equal squares in a row, which stand there in each order: the tree of all has 13,700 nodes, more than are walked
+// by one thread for being few.
+const SEVEN_SQUARES: &[u8] =
+    b"match 1\nboard rect 7 1\nturns no\nborder free\ntiles 7\ntile 0000\ntile 0000\ntile 0000\ntile 0000\ntile 0000\ntile 0000\ntile 0000\nend\n";
+
+// The two halves of one branch look for each other.
+#[derive(Drop)]
+struct Halves {
+    meeting: Meeting,
+    met: AtomicU8,
+}
+
+impl Gate for Halves {
+    fn enter(&self, _lemma: u32) {}
+
+    fn enter_half(&self, _lemma: u32, first: u32) {
+        if self.meeting.meets(first == 0) {
+            self.met.fetch_add(1, Ordering::SeqCst);
+        }
+    }
+}
+
+#[test]
+fn two_halves_of_a_tree_at_once(rt: HostRuntime) -> Result<(), Fail> {
+    let alloc = rt.alloc();
+    let puzzle = read_puzzle(alloc, SEVEN_SQUARES)?;
+    let solved = solve_with(&rt, alloc, &puzzle, 0, 1_000_000, 1)?;
+    if solved.list.len() != 5_040 {
+        return Err(Fail::new("another list"));
+    }
+    let halves = Halves {
+        meeting: Meeting::new(),
+        met: AtomicU8::new(0),
+    };
+    let answer = check_with(
+        &rt,
+        alloc,
+        &puzzle,
+        &solved.list,
+        &solved.certificate,
+        1,
+        1,
+        &halves,
+    )?;
+    assert!(rt; matches!(answer, Answer::Complete));
+    if halves.met.load(Ordering::SeqCst) != 2 {
+        return Err(Fail::new("no other thread came"));
+    }
+    Ok(())
+}
+
+// The turning triangle's lemmas, but that the first two of the root's children cite another lemma than those that fit,
+// and that the last has no fault.
+const WRONG_CHILDREN: &[u8] =
+    b"certificate 1\nsymmetries 1\nsymmetry 1 + cells 3 0 2 1 colours 0 1 2 3 tiles 0 1 2 3\nlemmas 3\nlemma 0 prefix 2:0.0 tree c 0 1 c 1 1 c 3 1 f 0\nlemma 1 prefix 2:0.2 tree i 0 0\nlemma 2 prefix tree t 0 3 s 1 s 1 s 1\nend\n";
+
+// What is found of the turning triangle's lemma with this number, where the certificate is this.
+fn fault_of<R: Threads + Sync>(
+    rt: &R,
+    alloc: Global,
+    certificate: &[u8],
+    lemma: u32,
+    forks: u8,
+) -> Result<Option<TreeFault>, Fail>
+    requires { forks ≤ MOST_FORKS }
+{
+    let puzzle = turning_triangle(alloc)?;
+    let listed = turning_triangle_list(alloc)?;
+    if certificate.len() > 1000 {
+        return Err(Fail::new("a long text"));
+    }
+    let certificate = read_certificate(alloc, certificate)?;
+    if listed.len() != 1 || certificate.lemmas().len() <= lemma as usize {
+        return Err(Fail::new("another question"));
+    }
+    let question = Question::new(&puzzle, &listed, &certificate);
+    let Ok(prepared) = question.prepare(alloc, question.list_fault())? else {
+        return Err(Fail::new("it is refused before the trees"));
+    };
+    let symmetries = prepared.symmetries();
+    Ok(forked_tree_fault(
+        rt,
+        alloc,
+        &puzzle,
+        &listed,
+        symmetries,
+        &certificate,
+        lemma,
+        forks,
+    )?)
+}
+
+#[test]
+fn the_first_of_several_faults(rt: HostRuntime) -> Result<(), Fail> {
+    for forks in 0..7 {
+        assert!(rt; fault_of(&rt, rt.alloc(), WRONG_CHILDREN, 0, forks)?.is_none());
+        let Some(found) = fault_of(&rt, rt.alloc(), WRONG_CHILDREN, 2, forks)? else {
+            return Err(Fail::new("it holds"));
+        };
+        assert!(rt; found.path.steps() == [0].as_slice(), "by {forks}");
+        assert!(rt; found.fault == NodeFault::NotWithin, "by {forks}");
+    }
+    Ok(())
+}

@@ -1,0 +1,59 @@
+//! Texts of puzzles and lists that are read, and written again.
+
+use crate::fixtures::{CORNER_SHAPE, MATED_PAIR, SIX_TRIANGLES, puzzle_of};
+use match_text::{list_laws, puzzle_laws, read_list, write_list, write_puzzle};
+use std::alloc::Global;
+use std::test::Fail;
+use test_samples::{
+    SQUARE_OF_FOUR, SQUARE_OF_FOUR_LIST, TURNING_TRIANGLE, TURNING_TRIANGLE_LIST, TWIN_TILES,
+    TWIN_TILES_LIST,
+};
+
+// A puzzle with a rule of its own for each of the border's four pairs.
+const ONE_CELL: &[u8] =
+    b"match 1\nboard rect 1 1\nturns yes\nborder each 9 - a z\ntiles 1\ntile 9aaz\nend\n";
+
+// A puzzle of version 2 in which each of the 36 colours has another as its mate.
+const EVERY_COLOUR_MATED: &[u8] =
+    b"match 2\nboard rect 1 1\nturns yes\nborder one z\nmates z y x w v u t s r q p o n m l k j i h g f e d c b a 9 8 7 6 5 4 3 2 1 0\ntiles 1\ntile zzzz\nend\n";
+
+// Rows of one to three placements.
+const UNEVEN_LIST: &[u8] = b"list 1\narrangements 3\n10.1 2.0\n3.3 4.2 50.0\n6.1\nend\n";
+
+// What is written of the list of a short text.
+fn list_again(alloc: Global, text: &[u8]) -> Result<Vec<u8>, Fail> {
+    if text.len() > 1000 {
+        return Err(Fail::from("too long"));
+    }
+    let list = read_list(alloc, text)?;
+    Ok(write_list(alloc, &list)?)
+}
+
+#[test]
+fn writes_what_was_read(rt: HostRuntime) -> Result<(), Fail> {
+    let alloc = rt.alloc();
+    for text in [
+        SQUARE_OF_FOUR,
+        TWIN_TILES,
+        TURNING_TRIANGLE,
+        ONE_CELL,
+        SIX_TRIANGLES,
+        MATED_PAIR,
+        EVERY_COLOUR_MATED,
+        CORNER_SHAPE,
+    ] {
+        let puzzle = puzzle_of(alloc, text)?;
+        assert!(rt; write_puzzle(alloc, &puzzle)?.as_slice() == text);
+    }
+    for text in [
+        SQUARE_OF_FOUR_LIST,
+        TWIN_TILES_LIST,
+        TURNING_TRIANGLE_LIST,
+        UNEVEN_LIST,
+    ] {
+        assert!(rt; list_again(alloc, text)?.as_slice() == text);
+    }
+    list_laws();
+    puzzle_laws();
+    Ok(())
+}
