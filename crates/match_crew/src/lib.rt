@@ -3,18 +3,11 @@
 #![tactic(auto)]
 
 mod branches;
-mod choices;
-mod dives;
 mod faults;
-mod guesses;
-mod images;
-mod items;
-mod orbits;
-mod plans;
-mod roots;
 mod searches;
 mod shared;
 mod solves;
+mod strategy;
 mod watches;
 
 pub use check_crew::{

@@ -10,8 +10,8 @@ ghost use Rattle.cert_tree.specs.Limits.{IsLemmaWithin, IsTreeWithin};
 ghost use Rattle.match_crew.specs.Solving.{IsOutcomeOf, IsTreeWithinWith};
 
 use crate::branches::{OpenBranch, fit_in_turn, rising_by_cell};
-use crate::choices::Choices;
 use crate::shared::Shared;
+use crate::strategy::choices::Choices;
 use crate::watches::{Counted, Met, Watch};
 use cert_tree::{PackedLemma, PackedTree};
 use match_board::limits::{MOST_ARRANGEMENTS, MOST_FUEL};

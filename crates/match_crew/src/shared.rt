@@ -1,6 +1,6 @@
 //! What all jobs share.
 
-use crate::plans::Plan;
+use crate::strategy::plans::Plan;
 use std::alloc::Global;
 use std::sync::atomic::{AtomicU64, Ordering};
 

@@ -14,11 +14,11 @@ ghost use Rattle.match_crew.specs.Solving.{IsOutcomeOf, IsSearchedBy, IsSolvedBy
 
 use crate::branches::OpenBranch;
 use crate::faults::SolveFault;
-use crate::items::ItemRule;
-use crate::plans::Planner;
-use crate::roots::plan_by_dives;
 use crate::searches::{Searched, Searches};
 use crate::shared::Shared;
+use crate::strategy::items::ItemRule;
+use crate::strategy::plans::Planner;
+use crate::strategy::roots::plan_by_dives;
 use crate::watches::{Unwatched, Watch};
 use cert_tree::{AssembleFault, Certificate};
 use check_crew::within_limits_with;

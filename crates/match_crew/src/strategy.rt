@@ -1,0 +1,11 @@
+//! Nothing here is promised: change it and measure. Which item a solve takes at the root, which lemmas it plans, and
+//! which of them a search cites, by guesses of the work that each leaves.
+
+pub mod choices;
+mod dives;
+mod guesses;
+pub mod images;
+pub mod items;
+mod orbits;
+pub mod plans;
+pub mod roots;

@@ -1,0 +1,142 @@
+//! What a job answers when it is asked for a child: it cites, gives away, or searches on.
+
+ghost use Rattle.std.specs.Prelude.{◌≡◌, IfOk, IfSome};
+ghost use Rattle.steal_crew.specs.LiveHands.{Gave};
+ghost use Rattle.xcc_dance.specs.Outcome.{IsCiteWithin};
+
+use crate::branches::OpenBranch;
+use crate::shared::Shared;
+use crate::strategy::images::Occupied;
+use crate::watches::{Met, Watch};
+use match_puzzle::Pair;
+use std::alloc::AllocError;
+use std::sync::atomic::Ordering;
+use steal_crew::Hand;
+use xcc_dance::{Cite, Cites};
+
+// After so many children a job looks whether others wait for work, and then at each sixteenth.
+const LONG: u32 = 1_000;
+
+// So many levels below its prefix a job gives children away.
+const LEVELS_GIVEN: usize = 6;
+
+// What a job is asked.
+#[derive(Drop)]
+pub struct Choices<'a, 'h, W: Watch> {
+    pub shared: &'a Shared<'a>,
+    pub watch: &'a W,
+    pub hand: &'a mut Hand<'h, OpenBranch>,
+    pub number: u32,
+    // how many pairs the job's prefix has
+    pub level: usize,
+    // whether that prefix holds an image of a later lemma, so that each child does
+    pub holds: bool,
+    // how many cells are to be filled
+    pub cells: usize,
+    // what it met: it was asked of each child
+    pub met: Met,
+    // whether it gives children away
+    pub gives: bool,
+}
+
+impl<'a, 'h, W: Watch> Choices<'a, 'h, W> {
+    // What is known to stand for the child.
+    fn known(&self, placed: &[Pair]) -> Option<Cite>
+        ensures { IfSome result IsCiteWithin }
+    {
+        let images = &self.shared.plan.images;
+        images.cite_child(placed, self.number, self.holds)
+    }
+
+    // Gives the branch away, and answers what stands for it then.
+    fn give(&mut self, pairs: &[Pair]) -> Result<Option<Cite>, AllocError>
+        ensures within { IfOk result (λ o. IfSome o IsCiteWithin) }
+        ensures same { self.new.hand.ghost_name ≡ self.old.hand.ghost_name }
+        ensures gave { Gave self.old.hand.now self.new.hand.now }
+    {
+        let pairs = pairs.to_vec(self.shared.alloc)?;
+        match self.hand.give(OpenBranch { pairs }) {
+            Ok(number) => {
+                self.shared.waiting.fetch_add(1, Ordering::Relaxed);
+                Ok(Some(Cite::Same(number)))
+            }
+            Err(_) => Ok(None),
+        }
+    }
+
+    // Gives the planned branches away, which then have the numbers from 1 on: nobody drew before.
+    fn give_planned(&mut self) -> Result<(), AllocError>
+        ensures same { self.new.hand.ghost_name ≡ self.old.hand.ghost_name }
+        ensures gave { Gave self.old.hand.now self.new.hand.now }
+    {
+        for prefix in &self.shared.plan.prefixes {
+            let _cite = self.give(prefix)?;
+        }
+        Ok(())
+    }
+
+    // Whether the child is to be given away: where little fuel is left, or others wait for work and no later lemma may
+    // still be cited below it.
+    fn is_to_give(&mut self, placed: &[Pair]) -> bool
+        ensures same { self.new.hand.ghost_name ≡ self.old.hand.ghost_name }
+        ensures gave { self.new.hand.now ≡ self.old.hand.now }
+    {
+        if self.shared.nearly_spent(self.met.children) {
+            return true;
+        }
+        if !self.gives && self.met.children >= LONG && self.met.children % 16 == 0 {
+            self.gives = self.shared.few_wait();
+        }
+        self.gives
+            && placed.len() <= self.level.saturating_add(LEVELS_GIVEN)
+            && !self.may_cite_below(placed)
+    }
+
+    // Whether a later lemma may still be cited below. It stands apart, so that its table of what is placed doesn't lie
+    // on the stack at each level of the search.
+    #[inline(never)]
+    fn may_cite_below(&self, placed: &[Pair]) -> bool {
+        let images = &self.shared.plan.images;
+        images.may_come(&Occupied::of(placed), self.number)
+    }
+}
+
+impl<'a, 'h, W: Watch> Cites for Choices<'a, 'h, W> {
+    ghost use Rattle.steal_crew.specs.LiveHands.{Gave};
+    ghost use Rattle.std.specs.Prelude.{◌≡◌, refl};
+    ghost use Rattle.std.proofs.Common.{◌∙◌};
+    ghost use Rattle.steal_crew.proofs.LiveHandLemmas.{gave_nothing, gave_both};
+
+    ghost takes = { λ _ _. Unit {0} };
+
+    ghost answers = { λ _ _ _. Unit {0} };
+
+    ghost moves = { λ c d. (d.hand.ghost_name ≡ c.hand.ghost_name) × Gave c.hand.now d.hand.now };
+
+    ghost stays = { λ c. (refl, gave_nothing c.hand.now) };
+
+    ghost goes_on = { λ c d e one two. (two.0 ∙ one.0, gave_both c.hand.now d.hand.now e.hand.now one.1 two.1) };
+
+    ghost takes_still = { λ _ _ _ _ _. tt };
+
+    ghost answers_still = { λ _ _ _ _ _ _. tt };
+
+    fn cite(&mut self, prefix: &[Pair]) -> Result<Option<Cite>, AllocError> {
+        if self.number == 0 && self.met.children == 0 {
+            self.give_planned()?;
+        }
+        self.met.child(self.watch);
+        if let Some(cite) = self.known(prefix) {
+            return Ok(Some(cite));
+        }
+        let given = if self.is_to_give(prefix) {
+            self.give(prefix)?
+        } else {
+            None
+        };
+        if given.is_none() && prefix.len() == self.cells {
+            self.met.arrangement();
+        }
+        Ok(given)
+    }
+}

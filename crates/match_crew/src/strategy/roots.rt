@@ -1,0 +1,258 @@
+//! The item at the root, where a guess of the work that it leaves can tell a better one.
+
+ghost use Rattle.std.specs.Prelude.{◌≡◌, ◌≤◌};
+ghost use Rattle.match_board.specs.declared.limits.TheConstants.{MOST_WORKERS};
+ghost use Rattle.xcc_form.specs.Options.{cover_of};
+ghost use Rattle.xcc_dance.specs.Chosen.{IsUncovered};
+
+use crate::strategy::dives::Effort;
+use crate::strategy::guesses::{Guesses, MOST_PLANS, plans_by};
+use crate::strategy::images::image_of_pair;
+use crate::strategy::orbits::Orbits;
+use crate::strategy::plans::{Plan, Planner};
+use match_board::limits::MOST_WORKERS;
+use match_puzzle::Pair;
+use std::alloc::{AllocError, Global};
+use std::thread::Threads;
+use xcc_dance::{OpenOptions, OpenSets};
+
+// So many choices tell whether another item is looked for.
+const FIRST_CHOICES: u64 = 4_096;
+
+// With fewer nodes none is looked for.
+const FEW_NODES: u64 = 10_000;
+
+// With more nodes than that so many times as many choices are made, up to the most.
+const NODES_OF_ONE_TIME: u64 = 1 << 20;
+
+const MOST_TIMES: u64 = 16;
+
+// How many choices are made for each item at first.
+const ITEM_CHOICES: u64 = 256;
+
+// For so few items whole plans are made, with so many choices for each.
+const FINALISTS: usize = 4;
+
+const PLAN_CHOICES: u64 = 4_096;
+
+// How many choices are made for the best of them, and for the plan that it is to replace.
+const LAST_CHOICES: u64 = 16_384;
+
+// Halving so often leaves few of the most items.
+const MOST_ROUNDS: u8 = 4;
+
+// An item, and what it is ranked by: less is better.
+#[derive(Clone, Copy)]
+struct Ranked {
+    by: u64,
+    item: u32,
+}
+
+// What items at the root are compared by.
+#[derive(Drop)]
+struct Comparison<'a, R: Threads + Sync> {
+    rt: &'a R,
+    workers: u8,
+    planner: Planner<'a>,
+    engine: OpenSets<'a>,
+    // what the dives so far took; at first a guess
+    effort: Effort,
+    // how many guesses of plans were made
+    round: u8,
+    // how many times as many choices are made
+    times: u64,
+    ghost some: { 1 ≤ workers },
+    ghost few: { workers ≤ MOST_WORKERS },
+}
+
+impl<'a, R: Threads + Sync> Comparison<'a, R> {
+    // How many nodes the lemmas of each of these plans have together, by dives with about so many choices for each.
+    fn guess(&mut self, plans: &[Plan], choices: u64) -> Result<Vec<u64>, AllocError>
+        ensures { self.new.workers ≡ self.old.workers }
+    {
+        let guesses = Guesses {
+            planner: self.planner,
+            plans,
+            choices: choices.saturating_mul(self.times),
+            effort: self.effort,
+            round: self.round,
+        };
+        let (nodes, effort) = guesses.guess(self.rt, self.workers)?;
+        self.effort.add(effort);
+        self.round = self.round.wrapping_add(1);
+        Ok(nodes)
+    }
+
+    // The items that may be taken in place of this one, as many as are compared: those with the fewest options, where
+    // options that are images of each other count once. Of items that symmetries take to each other it is the least.
+    fn other_items(&self, than: u32, orbits: &mut Orbits) -> Result<Vec<u32>, AllocError> {
+        let mut ranked = Vec::new(self.planner.alloc);
+        let mut next = self.engine.next_item(None);
+        while let Some(item) = next {
+            if item != than && self.is_least(item) {
+                let by = self.orbits_of(item, orbits);
+                ranked.push(Ranked { by, item })?;
+            }
+            next = self.engine.next_item(Some(item));
+        }
+        best_of(self.planner.alloc, ranked, MOST_PLANS)
+    }
+
+    // How many options an item has that are no images of each other.
+    fn orbits_of(&self, item: u32, orbits: &mut Orbits) -> u64
+        requires { IsUncovered (cover_of self.now.engine.compiled) self.now.engine.chosen item }
+    {
+        orbits.start();
+        let mut count: u64 = 0;
+        let mut next = self.engine.next_option(item, None);
+        while let Some(option) = next {
+            if orbits.meet(option) {
+                count = count.saturating_add(1);
+            }
+            next = self.engine.next_option(item, Some(option));
+        }
+        count
+    }
+
+    // Whether no symmetry takes the item to a lesser one. It looks where the first open option goes.
+    fn is_least(&self, item: u32) -> bool
+        requires { IsUncovered (cover_of self.now.engine.compiled) self.now.engine.chosen item }
+    {
+        let xcc = self.planner.xcc;
+        let Some(option) = self.engine.next_option(item, None) else {
+            return true;
+        };
+        let pair = self.engine.xcc().pair(option);
+        let is_cell = item < u32::from(xcc.cells());
+        for symmetry in self.planner.symmetries {
+            if let Some(image) = image_of_pair(symmetry, pair) {
+                if goes_lower(is_cell, pair, image) {
+                    return false;
+                }
+            }
+        }
+        true
+    }
+
+    // The few of these items for which plans of one level are guessed to have least.
+    fn few_of(&mut self, items: Vec<u32>) -> Result<Vec<u32>, AllocError> {
+        let mut few = items;
+        let mut choices = ITEM_CHOICES;
+        for _ in 0..MOST_ROUNDS {
+            if few.len() <= FINALISTS {
+                return Ok(few);
+            }
+            few = self.better_half(&few, choices)?;
+            choices = choices.saturating_mul(2);
+        }
+        Ok(few)
+    }
+
+    // The better half of these items, by plans of one level and about so many choices for each.
+    fn better_half(&mut self, items: &[u32], choices: u64) -> Result<Vec<u32>, AllocError> {
+        let plans = plans_by(self.rt, self.planner, items, 1, self.workers)?;
+        let mut ranked = Vec::new(self.planner.alloc);
+        for (item, by) in items.iter().zip(self.guess(&plans, choices)?) {
+            ranked.push(Ranked { by, item: *item })?;
+        }
+        best_of(self.planner.alloc, ranked, (items.len() / 2).max(FINALISTS))
+    }
+
+    // The plan by the item of these whose plan is guessed to have least.
+    fn best_plan(&mut self, items: &[u32], depth: u8) -> Result<Option<Plan>, AllocError> {
+        let plans = plans_by(self.rt, self.planner, items, depth, self.workers)?;
+        let guesses = self.guess(&plans, PLAN_CHOICES)?;
+        let mut best = None;
+        let mut least = u64::MAX;
+        for (plan, nodes) in plans.into_iter().zip(guesses) {
+            if nodes < least {
+                least = nodes;
+                best = Some(plan);
+            }
+        }
+        Ok(best)
+    }
+
+    // The other plan, if it is guessed to have less than two thirds of this one's nodes, or else this one.
+    fn better_of(&mut self, plan: Plan, other: Plan) -> Result<Plan, AllocError> {
+        let mut plans = Vec::new(self.planner.alloc);
+        plans.push(plan)?;
+        plans.push(other)?;
+        let is_better = match self.guess(&plans, LAST_CHOICES)?.as_slice() {
+            [most, nodes] => nodes.saturating_mul(3) < most.saturating_mul(2),
+            _ => false,
+        };
+        plans.truncate(if is_better { 2 } else { 1 });
+        match plans.pop() {
+            Some(plan) => Ok(plan),
+            None => unreachable!(),
+        }
+    }
+
+    // The best plan by an item other than this one, if there is any.
+    fn other_plan(&mut self, than: u32, depth: u8) -> Result<Option<Plan>, AllocError> {
+        let planner = self.planner;
+        let mut orbits = Orbits::new(planner.alloc, planner.xcc, planner.symmetries)?;
+        let items = self.other_items(than, &mut orbits)?;
+        let few = self.few_of(items)?;
+        self.best_plan(&few, depth)
+    }
+}
+
+// The best of these items, so many at most; of two that are as good the lesser one first.
+fn best_of(alloc: Global, ranked: Vec<Ranked>, most: usize) -> Result<Vec<u32>, AllocError> {
+    let mut ranked = ranked;
+    ranked.sort_unstable_by_key(|ranked| (ranked.by, ranked.item));
+    ranked.truncate(most);
+    let mut items = Vec::new(alloc);
+    for ranked in &ranked {
+        items.push(ranked.item)?;
+    }
+    Ok(items)
+}
+
+// Whether the image of a pair has a lesser cell, or else a lesser tile.
+fn goes_lower(is_cell: bool, pair: Pair, image: Pair) -> bool {
+    if is_cell {
+        image.cell < pair.cell
+    } else {
+        image.placement.tile < pair.placement.tile
+    }
+}
+
+// A plan of at most `depth` levels, which is at most 3. Where the planner's rule takes an item of its own at the root,
+// it may be by another item, with which there are guessed to be much fewer nodes. The plan is the same for any number of
+// workers.
+pub fn plan_by_dives<R: Threads + Sync>(
+    rt: &R,
+    planner: Planner<'_>,
+    depth: u8,
+    workers: u8,
+) -> Result<Plan, AllocError>
+    requires workers { (1 ≤ workers) × (workers ≤ MOST_WORKERS) }
+{
+    let plan = planner.plan(depth)?;
+    let Some(item) = planner.item_rule.root() else {
+        return Ok(plan);
+    };
+    let mut comparison = Comparison {
+        rt,
+        workers: 1,
+        planner,
+        engine: OpenSets::new(planner.alloc, planner.xcc)?,
+        effort: Effort::guessed(planner.xcc.cells()),
+        round: 0,
+        times: 1,
+    };
+    let guesses = comparison.guess(std::slice::from_ref(&plan), FIRST_CHOICES)?;
+    let nodes = guesses.first().copied().unwrap_or(0);
+    if nodes < FEW_NODES {
+        return Ok(plan);
+    }
+    comparison.workers = workers;
+    comparison.times = (nodes / NODES_OF_ONE_TIME).max(1).min(MOST_TIMES);
+    let Some(other) = comparison.other_plan(item, depth)? else {
+        return Ok(plan);
+    };
+    comparison.better_of(plan, other)
+}
