@@ -1,3 +1,4 @@
 mod WordLemmas
 pub mod OrderLemmas
 pub mod SolvedLemmas
+pub mod PlaceLemmas

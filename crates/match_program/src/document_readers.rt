@@ -1,6 +1,7 @@
 //! What documents are read from: their files, or standard input.
 
 ghost use Rattle.std.specs.Prelude.{◌≡◌, ◌∷◌, [], IfOk, IfErr};
+ghost use Rattle.std.specs.String.{string_bytes};
 ghost use Rattle.byte_streams.specs.declared.faults.Document.TheVariants as documents;
 ghost use Rattle.command_words.specs.Places.{certificate_place, list_of_two, list_place, puzzle_of_two, puzzle_place};
 ghost use Rattle.match_program.specs.DocumentReaders.{IsOfFile, ended_in, errors_in, left_in};
@@ -70,11 +71,12 @@ impl<R: Source> ThreeReaders<R> {
 fn file_reader<'i, S: FileSystem, I: Source>(
     alloc: Global,
     system: &S,
-    name: &str,
+    name: &String,
     document: Document,
 ) -> Result<DocumentReader<'i, S::Reader, I>, HintedFault>
-    ensures opened { IfOk result (IsOfFile S.FileSystem system.now name.now) }
-    ensures fault { IfErr result (λ hinted. (hinted.fault ≡ RunFault.Read document) × S.refuses system.now name.now) }
+    ensures opened { IfOk result (IsOfFile S.FileSystem system.now (string_bytes name.now)) }
+    ensures fault { IfErr result (λ hinted. (hinted.fault ≡ RunFault.Read document)
+        × S.refuses system.now (string_bytes name.now)) }
 {
     Ok(DocumentReader::File(open(alloc, system, name, document)?))
 }
@@ -93,7 +95,7 @@ pub(crate) fn open_place<'i, S: FileSystem, I: Source>(
         × (hinted.fault ≡ RunFault.Read document)) }
 {
     match place {
-        Place::File(name) => file_reader(alloc, system, name, Document::Puzzle),
+        Place::File(name) => Ok(file_reader(alloc, system, name, Document::Puzzle)?),
         Place::Input => Ok(DocumentReader::Input(input)),
     }
 }

@@ -114,13 +114,14 @@ pub fn run_order<
         }
         Order::Explain(given) => {
             let order = PrintingOrder {
-                given,
+                rt,
+                alloc,
                 plan: PrintingPlan {
                     printing: Printing::Explanation,
                     hints: true,
                 },
             };
-            print(rt, alloc, &order, system, streams.input, streams.output)
+            order.print(given, system, streams.input, streams.output)
         }
         Order::ExplainPuzzle(puzzle) => {
             let order = DescriptionOrder {
@@ -135,23 +136,25 @@ pub fn run_order<
             hints,
         } => {
             let order = PrintingOrder {
-                given,
+                rt,
+                alloc,
                 plan: PrintingPlan {
                     printing: listing_of(*orbits),
                     hints: are_told(*hints, streams.terminal),
                 },
             };
-            print(rt, alloc, &order, system, streams.input, streams.output)
+            order.print(given, system, streams.input, streams.output)
         }
         Order::Count(given) => {
             let order = PrintingOrder {
-                given,
+                rt,
+                alloc,
                 plan: PrintingPlan {
                     printing: Printing::Count,
                     hints: true,
                 },
             };
-            print(rt, alloc, &order, system, streams.input, streams.output)
+            order.print(given, system, streams.input, streams.output)
         }
         Order::Census {
             puzzle,
@@ -160,12 +163,13 @@ pub fn run_order<
             progress,
         } => {
             let order = CensusOrder {
-                puzzle,
+                rt,
+                alloc,
                 extent: *extent,
                 workers: *workers,
                 progress: *progress,
             };
-            count_by_search(rt, alloc, &order, system, streams.input, streams.output)
+            order.count(puzzle, system, streams.input, streams.output)
         }
         Order::Show(subject) => show(alloc, subject, system, streams.input, streams.output),
         Order::Draw {
@@ -373,13 +377,6 @@ fn hint_on_writing<S: FileSystem>(
     hint_on(alloc, &files.certificate, refusal)
 }
 
-// What is printed that is ordered, of three documents.
-#[derive(Clone, Copy)]
-struct PrintingOrder<'a> {
-    given: &'a Given,
-    plan: PrintingPlan,
-}
-
 // The list of one arrangement of each orbit, or of all.
 fn listing_of(orbits: bool) -> Printing
     ensures { result ≡ list_printed orbits }
@@ -391,109 +388,96 @@ fn listing_of(orbits: bool) -> Printing
     }
 }
 
-// As a check, and prints all arrangements or one of each orbit, or how many they are, or why the list is refused.
-fn print<S: FileSystem, I: Source, W: Sink, R: RandomSource>(
-    rt: &R,
+// A check that prints all arrangements or one of each orbit, or how many they are, or why the list is refused.
+#[derive(Clone, Copy)]
+struct PrintingOrder<'a, R> {
+    rt: &'a R,
     alloc: Global,
-    order: &PrintingOrder<'_>,
-    system: &S,
-    input: &mut I,
-    output: &mut W,
-) -> Result<Exit, HintedFault>
-    ensures { PrintingOf order.now.plan.printing
-        (given_documents S.FileSystem S.Reader.Source I.Source system.now input.old input.new order.now.given.now)
-        (writing_of W.Sink output.old output.new) (unhinted result) }
-{
-    match order.given {
-        Given::Joined => print_joined(rt, alloc, order.plan, input, output),
-        Given::Apart(places) => {
-            let order = ApartOrder {
-                places,
-                plan: order.plan,
-            };
-            print_apart(rt, alloc, &order, system, input, output)
+    plan: PrintingPlan,
+}
+
+impl<'a, R: RandomSource> PrintingOrder<'a, R> {
+    // Prints it of documents that are joined on standard input, or stand apart.
+    fn print<S: FileSystem, I: Source, W: Sink>(
+        &self,
+        given: &Given,
+        system: &S,
+        input: &mut I,
+        output: &mut W,
+    ) -> Result<Exit, HintedFault>
+        ensures { PrintingOf self.now.plan.printing
+            (given_documents S.FileSystem S.Reader.Source I.Source system.now input.old input.new given.now)
+            (writing_of W.Sink output.old output.new) (unhinted result) }
+    {
+        match given {
+            Given::Joined => self.print_joined(input, output),
+            Given::Apart(places) => self.print_apart(places, system, input, output),
         }
     }
-}
 
-// The same of documents that are joined on standard input.
-fn print_joined<I: Source, W: Sink, R: RandomSource>(
-    rt: &R,
-    alloc: Global,
-    plan: PrintingPlan,
-    input: &mut I,
-    output: &mut W,
-) -> Result<Exit, HintedFault>
-    ensures { PrintingOf plan.printing (joined_source (reading_of I.Source input.old input.new))
-        (writing_of W.Sink output.old output.new) (unhinted result) }
-{
-    let status = run_printing(
-        rt,
-        alloc,
-        plan,
-        &mut JoinedSource { input },
-        &mut OneSink { sink: output },
-    )?;
-    Ok(Exit::of_status(status))
-}
+    fn print_joined<I: Source, W: Sink>(
+        &self,
+        input: &mut I,
+        output: &mut W,
+    ) -> Result<Exit, HintedFault>
+        ensures { PrintingOf self.now.plan.printing (joined_source (reading_of I.Source input.old input.new))
+            (writing_of W.Sink output.old output.new) (unhinted result) }
+    {
+        let status = run_printing(
+            self.rt,
+            self.alloc,
+            self.plan,
+            &mut JoinedSource { input },
+            &mut OneSink { sink: output },
+        )?;
+        Ok(Exit::of_status(status))
+    }
 
-// What is printed of documents that stand apart.
-#[derive(Clone, Copy)]
-struct ApartOrder<'a> {
-    places: &'a ThreePlaces,
-    plan: PrintingPlan,
-}
+    fn print_apart<S: FileSystem, I: Source, W: Sink>(
+        &self,
+        places: &ThreePlaces,
+        system: &S,
+        input: &mut I,
+        output: &mut W,
+    ) -> Result<Exit, HintedFault>
+        ensures { PrintingOf self.now.plan.printing
+            (three_places S.FileSystem S.Reader.Source I.Source system.now input.old places.now)
+            (writing_of W.Sink output.old output.new) (unhinted result) }
+    {
+        let ThreeReaders {
+            mut puzzle,
+            mut list,
+            mut certificate,
+        } = open_three(self.alloc, places, system, input)?;
+        self.print_of(&mut puzzle, &mut list, &mut certificate, output)
+    }
 
-// The same of documents that stand apart.
-fn print_apart<S: FileSystem, I: Source, W: Sink, R: RandomSource>(
-    rt: &R,
-    alloc: Global,
-    order: &ApartOrder<'_>,
-    system: &S,
-    input: &mut I,
-    output: &mut W,
-) -> Result<Exit, HintedFault>
-    ensures { PrintingOf order.now.plan.printing
-        (three_places S.FileSystem S.Reader.Source I.Source system.now input.old order.now.places.now)
-        (writing_of W.Sink output.old output.new) (unhinted result) }
-{
-    let ThreeReaders {
-        mut puzzle,
-        mut list,
-        mut certificate,
-    } = open_three(alloc, order.places, system, input)?;
-    print_read(
-        rt,
-        alloc,
-        order.plan,
-        &mut puzzle,
-        &mut list,
-        &mut certificate,
-        output,
-    )
-}
-
-// The same of documents that are read from these sources.
-fn print_read<D: Source, W: Sink, R: RandomSource>(
-    rt: &R,
-    alloc: Global,
-    plan: PrintingPlan,
-    puzzle: &mut D,
-    list: &mut D,
-    certificate: &mut D,
-    output: &mut W,
-) -> Result<Exit, HintedFault>
-    ensures { PrintingOf plan.printing (three_sources (reading_of D.Source puzzle.old puzzle.new)
-        (reading_of D.Source list.old list.new) (reading_of D.Source certificate.old certificate.new))
-        (writing_of W.Sink output.old output.new) (unhinted result) }
-{
-    let mut inputs = ThreeSources {
-        puzzle,
-        list,
-        certificate,
-    };
-    let status = run_printing(rt, alloc, plan, &mut inputs, &mut OneSink { sink: output })?;
-    Ok(Exit::of_status(status))
+    // Prints it of three readers: what they lend to each other's lifetimes is told apart by a call.
+    fn print_of<D: Source, W: Sink>(
+        &self,
+        puzzle: &mut D,
+        list: &mut D,
+        certificate: &mut D,
+        output: &mut W,
+    ) -> Result<Exit, HintedFault>
+        ensures { PrintingOf self.now.plan.printing (three_sources (reading_of D.Source puzzle.old puzzle.new)
+            (reading_of D.Source list.old list.new) (reading_of D.Source certificate.old certificate.new))
+            (writing_of W.Sink output.old output.new) (unhinted result) }
+    {
+        let mut inputs = ThreeSources {
+            puzzle,
+            list,
+            certificate,
+        };
+        let status = run_printing(
+            self.rt,
+            self.alloc,
+            self.plan,
+            &mut inputs,
+            &mut OneSink { sink: output },
+        )?;
+        Ok(Exit::of_status(status))
+    }
 }
 
 // What is ordered of a puzzle alone.
@@ -521,34 +505,36 @@ fn describe<S: FileSystem, I: Source, W: Sink>(
 
 // A count by a search that is ordered.
 #[derive(Clone, Copy)]
-struct CensusOrder<'a> {
-    puzzle: &'a Place,
+struct CensusOrder<'a, R> {
+    rt: &'a R,
+    alloc: Global,
     extent: Extent,
     workers: Workers,
     progress: bool,
 }
 
-// Counts arrangements of the puzzle.
-fn count_by_search<S: FileSystem, I: Source, W: Sink, R: Threads + Sync + Clock + Eprint>(
-    rt: &R,
-    alloc: Global,
-    order: &CensusOrder<'_>,
-    system: &S,
-    input: &mut I,
-    output: &mut W,
-) -> Result<Exit, HintedFault>
-    ensures { CensusOf order.now.extent
-        (one_place S.FileSystem S.Reader.Source I.Source system.now input.old order.now.puzzle.now)
-        (writing_of W.Sink output.old output.new) (unhinted result) }
-{
-    let mut puzzle = open_place(alloc, order.puzzle, system, input)?;
-    let plan = CensusPlan {
-        extent: order.extent,
-        workers: order.workers,
-        watch: &CensusProgress::new(rt, order.progress),
-    };
-    run_census(rt, alloc, &mut puzzle, &plan, output)?;
-    Ok(Exit::Done)
+impl<'a, R: Threads + Sync + Clock + Eprint> CensusOrder<'a, R> {
+    // Counts arrangements of the puzzle.
+    fn count<S: FileSystem, I: Source, W: Sink>(
+        &self,
+        puzzle: &Place,
+        system: &S,
+        input: &mut I,
+        output: &mut W,
+    ) -> Result<Exit, HintedFault>
+        ensures { CensusOf self.now.extent
+            (one_place S.FileSystem S.Reader.Source I.Source system.now input.old puzzle.now)
+            (writing_of W.Sink output.old output.new) (unhinted result) }
+    {
+        let mut puzzle = open_place(self.alloc, puzzle, system, input)?;
+        let plan = CensusPlan {
+            extent: self.extent,
+            workers: self.workers,
+            watch: &CensusProgress::new(self.rt, self.progress),
+        };
+        run_census(self.rt, self.alloc, &mut puzzle, &plan, output)?;
+        Ok(Exit::Done)
+    }
 }
 
 // The board of the puzzle, or the arrangement that is listed.

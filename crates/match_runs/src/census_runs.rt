@@ -18,7 +18,6 @@ ghost use Rattle.match_runs.specs.Runs.{MadeOf, Runs, unhinted};
 
 use crate::faults::RunFault;
 use crate::hints::{HintedFault, hint_on, with_hint};
-use crate::printing_runs::put_count_line;
 use crate::running::run_by;
 use byte_streams::{Document, MadeText, OneSink, OneSource, Sink, Source, Text};
 use command_words::{Extent, Part, Workers};
@@ -33,6 +32,7 @@ use match_symmetry::{Symmetry, SymmetryFault, suggest};
 use match_text::read_puzzle;
 use std::alloc::{AllocError, Global};
 use std::thread::Threads;
+use text_words::put_number_line;
 use xcc_form::{Xcc, compile};
 
 // Into so many branches at least a search is split that may end early, where it has so many: enough for symmetries to
@@ -236,7 +236,7 @@ fn count_line(alloc: Global, word: &[u8], number: u64) -> Result<Vec<u8>, AllocE
     ensures { IfOk result (λ text. text.items ≡ number_line word.now number) }
 {
     let mut text = Vec::new(alloc);
-    put_count_line(&mut text, word, number)?;
+    put_number_line(&mut text, word, number)?;
     Ok(text)
 }
 

@@ -1,13 +1,12 @@
 //! Runs that print all arrangements, or why a list is refused.
 
-ghost use Rattle.std.specs.Prelude.{◌≡◌, ◌++◌, List, IfOk, IfErr, OnOk, length};
+ghost use Rattle.std.specs.Prelude.{◌≡◌, List, IfOk, IfErr, length};
 ghost use Rattle.match_puzzle.specs.Puzzle.{IsPuzzle};
 ghost use Rattle.match_puzzle.specs.declared.placements.Placement.{Placement};
 ghost use Rattle.puzzle_symmetry.specs.Complete.{IsCompleteList};
 ghost use Rattle.cert_check.specs.Answer.{IsAnswer};
 ghost use Rattle.cert_check.specs.declared.faults.Answer.TheVariants.{Complete, Refused};
 ghost use Rattle.match_report.specs.AnswerText.{answer_line};
-ghost use Rattle.match_show.specs.Facts.{number_line};
 ghost use Rattle.byte_streams.specs.Documents.{AreShort};
 ghost use Rattle.byte_streams.specs.LentTexts.{texts_of};
 ghost use Rattle.byte_streams.specs.Moves.{reading_of, writing_of};
@@ -29,13 +28,13 @@ use byte_streams::{
     Documents, Inputs, MadeText, OneSink, Outputs, OwnedDocuments, Sink, Source, ThreeSources,
 };
 use cert_check::{Answer, Fault, Open, Prepared, Question};
-use itoa::Buffer;
 use match_explain::write_explanation;
 use match_report::{expand, write_answer};
 use match_text::write_list;
 use std::alloc::{AllocError, Global};
 use std::random::RandomSource;
 use symmetry_orbits::{Count, count, counting_laws, first_of_each_orbit};
+use text_words::put_number_line;
 
 /// What is printed of a puzzle, a list and a certificate.
 #[derive(Clone, Copy, PartialEq, Eq, Debug)]
@@ -259,23 +258,11 @@ fn write_count(alloc: Global, counted: Count, symmetries: u64) -> Result<Vec<u8>
     ensures { IfOk result (λ text. text.items ≡ count_text counted symmetries) }
 {
     let mut text = Vec::new(alloc);
-    put_count_line(&mut text, b"arrangements", counted.arrangements)?;
-    put_count_line(&mut text, b"pictures", counted.pictures)?;
-    put_count_line(&mut text, b"orbits", counted.orbits)?;
-    put_count_line(&mut text, b"symmetries", symmetries)?;
+    put_number_line(&mut text, b"arrangements", counted.arrangements)?;
+    put_number_line(&mut text, b"pictures", counted.pictures)?;
+    put_number_line(&mut text, b"orbits", counted.orbits)?;
+    put_number_line(&mut text, b"symmetries", symmetries)?;
     Ok(text)
-}
-
-#[tactic(auto, unfolding(text_words::specs::Spelling::text_of, text_words::specs::Spelling::line_text))]
-pub(crate) fn put_count_line(text: &mut Vec<u8>, word: &[u8], number: u64) -> Result<(), AllocError>
-    ensures { OnOk result (text.new.items ≡ text.old.items ++ number_line word.now number) }
-{
-    let mut buffer = Buffer::new();
-    text.extend_from_slice(word)?;
-    text.push(b' ')?;
-    text.extend_from_slice(buffer.format(number).as_bytes())?;
-    text.push(b'\n')?;
-    Ok(())
 }
 
 // The list of one arrangement of each orbit, from a complete list.

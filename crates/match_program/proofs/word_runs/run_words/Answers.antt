@@ -1,6 +1,6 @@
 use Rattle.std.proofs.Common.{◌≡◌, inl, map, refl}
 use Rattle.std.specs.String.{string_bytes}
-use Rattle.byte_streams.specs.Moves.{reading_of, writing_of}
+use Rattle.byte_streams.specs.Moves.{writing_of}
 use Rattle.match_program.specs.OrderRuns.{RunOf}
 use Rattle.match_program.proofs.WordLemmas.{refused}
 use Rattle.match_program.proofs.word_runs.run_words.Goals as goal
@@ -12,6 +12,6 @@ pub returns-in-Err-clause-run : goal.returns-in-Err-clause-run
 returns-in-Err-clause-run g c =
     let output = writing_of g.W.Sink c.args.streams.now.output.now c.refuse.new.output in
     let errors = writing_of g.E.Sink c.args.streams.now.errors.now c.refuse.new.errors in
-    refused (map string_bytes c.args.words.now) (RunOf g.S.FileSystem g.S.Reader.Source c.args.system.now c.args.system.now (reading_of g.I.Source c.args.streams.now.input.now c.args.streams.now.input.now) output)
+    refused (map string_bytes c.args.words.now) (RunOf g.S.FileSystem g.S.Reader.Source g.I.Source c.args.system.now c.args.streams.now.input.now c.args.system.now c.args.streams.now.input.now output)
     (c.args.system.now ≡ c.args.system.now) refl output errors c.refuse.result
     c.in-Err.fault c.in-Err.ensures.refused c.refuse.ensures.memory c.refuse.ensures.words

@@ -12,5 +12,5 @@ loop-number-preserved c =
     let word = decimal (get_or numbers i 0) in
     let words : map decimal (take (i + 1) numbers) ≡ map decimal (take i numbers) ++ word ∷ [] = ap (map decimal) (take_more numbers i 0 lt) ∙ map-append decimal (take i numbers) (get_or numbers i 0 ∷ []) in
     let more = ap spaced words ∙ spaced-more (map decimal (take i numbers)) word in
-    c.in_ok-put_number.ensures ∙ ap (λ text. text ++ word) (c.in_ok-push.ensures.items ∙ ap (λ text. text ++ 32 ∷ []) c.loop-number.invariant) ∙ append_assoc (c.args.text.now.items ++ spaced (map decimal (take i numbers))) (32 ∷ []) word
+    c.in_ok-put_number.ensures ∙ ap (λ n. c.push.new.self.items ++ decimal n) c.from.ensures ∙ ap (λ text. text ++ word) (c.in_ok-push.ensures.items ∙ ap (λ text. text ++ 32 ∷ []) c.loop-number.invariant) ∙ append_assoc (c.args.text.now.items ++ spaced (map decimal (take i numbers))) (32 ∷ []) word
     ∙ append_assoc c.args.text.now.items (spaced (map decimal (take i numbers))) (32 ∷ word) ∙ ap (λ text. c.args.text.now.items ++ text) (sym more)

@@ -11,5 +11,5 @@ pub returns : goal.returns
 unfolding line_text
 returns c =
     let numbers = spaced (map decimal c.args.taken.now) in
-    rw (joined_spaced (codes "took") (map decimal c.args.taken.now), c.in_ok-push.ensures.items, c.in_ok-put_numbers.ensures, c.numbers.ensures, c.in_ok-extend_from_slice-2.ensures.items, c.in_ok-put_number.ensures, c.in_ok-extend_from_slice.ensures.items)
+    rw (joined_spaced (codes "took") (map decimal c.args.taken.now), c.in_ok-push.ensures.items, c.in_ok-put_numbers.ensures, c.numbers.ensures, c.in_ok-extend_from_slice-2.ensures.items, c.in_ok-put_number.ensures, c.from.ensures, c.in_ok-extend_from_slice.ensures.items)
     (parts c.args.text.now.items (codes "worker ") (decimal c.args.worker) (codes " took") numbers (10 ∷ []))

@@ -11,7 +11,7 @@ abbrev words : Tile → List (List ℕ)
 words tile = tile_words (word tile)
 
 pub loop-tile-init : goal.loop-tile-init
-loop-tile-init c = no_line words c.args.tiles.now []
+loop-tile-init c = c.new-text.ensures.items ∙ no_line words c.args.tiles.now []
 
 pub loop-tile-preserved : goal.loop-tile-preserved
 loop-tile-preserved c =

@@ -4,16 +4,17 @@ use Rattle.match_runs.specs.Printing.{PrintingFails, PrintingGives}
 use Rattle.match_runs.specs.Runs.{unhinted}
 use Rattle.match_program.specs.OrderRuns.{EndsBy}
 use Rattle.match_program.proofs.OrderLemmas.{over_places}
-use Rattle.match_program.proofs.order_runs.print_apart.Goals as goal
+use Rattle.match_program.proofs.order_runs.PrintingOrder.print_apart.Goals as goal
 
 pub returns : goal.returns
 returns g c =
-    let read = c.print_read.new in
+    let read = c.print_of.new in
     let opened = c.in_ok-puzzle.ensures in
-    over_places g.S.FileSystem g.S.Reader.Source g.I.Source c.args.system.now c.args.input.now (EndsBy (PrintingGives c.args.order.now.plan.printing)) (PrintingFails c.args.order.now.plan.printing)
-    (one_sink (writing_of g.W.Sink c.args.output.now c.print_read.new.output)) c.args.order.now.places.now
+    let printing = c.args.self.now.plan.printing in
+    over_places (writing_of g.W.Sink c.args.output.now c.print_of.new.output) g.S.FileSystem g.S.Reader.Source g.I.Source c.args.system.now c.args.input.now (EndsBy (PrintingGives printing)) (PrintingFails printing)
+    (one_sink (writing_of g.W.Sink c.args.output.now c.print_of.new.output)) c.args.places.now
     (record {
       puzzle = record { opened = c.in_ok-puzzle.field-0.puzzle; later = read.puzzle; is_opened = opened.puzzle };
       list = record { opened = c.in_ok-puzzle.field-0.list; later = read.list; is_opened = opened.list };
       certificate = record { opened = c.in_ok-puzzle.field-0.certificate; later = read.certificate; is_opened = opened.certificate };
-    }) (unhinted c.print_read.result) c.print_read.ensures
+    }) (unhinted c.print_of.result) c.print_of.ensures
