@@ -184,7 +184,12 @@ def commands():
     for example in sorted(set(os.listdir(EXAMPLES)) - {"gallery"}):
         files = [os.path.join(EXAMPLES, example, it) for it in ("puzzle", "list", "certificate")]
         joined = "".join(map(contents, files))
-        found.append(Command(f"program: {example}, joined", [program], joined))
+        for words in ("", "explain", "count", "expand --orbits"):
+            found.append(Command(f"program: {example}, joined {words}".rstrip(), [program, *words.split()], joined))
+        found.append(Command(f"program: {example}, show -", [program, "show", "-"], contents(files[0])))
+        for words in ("count", "count --workers 3", "count --most 3", "explain", "symmetries"):
+            command, *options = words.split()
+            found.append(Command(f"program: {example}, {words} PUZZLE", [program, command, files[0], *options]))
         for words in ("check", "check --workers 3 --forks 2", "expand"):
             command, *options = words.split()
             found.append(Command(f"program: {example}, {words}", [program, command, *files, *options]))
