@@ -367,7 +367,8 @@ def count(trial, way, expanded):
     every = arrangements_in(expanded.stdout)
     firsts = arrangements_in(trial.run(["expand", "--orbits", *trial.paths()]).stdout)
     listed = arrangements_in(trial.contents("list"))
-    places = [listed.index(it) for it in firsts if it in listed]
+    place_of = {it: place for place, it in enumerate(listed)}
+    places = [place_of[it] for it in firsts if it in place_of]
     if len(places) != len(firsts) or places != sorted(set(places)):
         trial.differs(f"{way}, expand --orbits", "what is listed, in its order", list_text(listed), list_text(firsts))
     pictures = pictures_of(trial.contents("puzzle"), every)
