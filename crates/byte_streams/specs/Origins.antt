@@ -1,6 +1,6 @@
 -- Where texts come from.
 use Rattle.std.specs.Prelude.{◌≡◌, ◌⊎◌, List, ℕ, [], ◌∷◌}
-use Rattle.match_board.specs.declared.limits.TheConstants.{MOST_BYTES}
+use Rattle.match_limits.specs.declared.TheConstants.{MOST_BYTES}
 use Rattle.byte_streams.specs.Documents.{Texts, texts_in}
 use Rattle.byte_streams.specs.Moves.{FailsToRead, Gives, Reading, ReadsAtMost, ReadsPast, ReadsToEnd}
 use Rattle.byte_streams.specs.declared.documents.TwoTexts.{TwoTexts}

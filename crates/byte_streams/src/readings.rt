@@ -1,13 +1,13 @@
 //! Documents that are read whole.
 
 ghost use Rattle.std.specs.Prelude.{◌<◌, IfErr, IfOk, length};
-ghost use Rattle.match_board.specs.declared.limits.TheConstants.{MOST_BYTES};
+ghost use Rattle.match_limits.specs.declared.TheConstants.{MOST_BYTES};
 ghost use Rattle.byte_streams.specs.Moves.{Gives, ReadFails, reading_of};
 
 use crate::faults::{Document, InputFault};
 use crate::sources::Source;
 use crate::texts::Text;
-use match_board::limits::MOST_BYTES;
+use match_limits::MOST_BYTES;
 use std::alloc::Global;
 
 // How many bytes are asked for at once.

@@ -1,7 +1,7 @@
 //! Texts that were read, and texts that are made.
 
 ghost use Rattle.std.specs.Prelude.{◌≡◌, ◌≤◌, length};
-ghost use Rattle.match_board.specs.declared.limits.TheConstants.{MOST_BYTES};
+ghost use Rattle.match_limits.specs.declared.TheConstants.{MOST_BYTES};
 
 use std::marker::Model;
 
@@ -13,7 +13,7 @@ pub struct Text {
 
 impl Model for Text {
     ghost use Rattle.std.specs.Prelude.{◌≤◌, List, ℕ, length};
-    ghost use Rattle.match_board.specs.declared.limits.TheConstants.{MOST_BYTES};
+    ghost use Rattle.match_limits.specs.declared.TheConstants.{MOST_BYTES};
 
     ghost Value = { List ℕ };
 

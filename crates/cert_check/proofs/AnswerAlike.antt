@@ -1,10 +1,11 @@
 -- Answers to questions on puzzles that differ in their versions and in their boards alone, which are alike.
 use Rattle.std.proofs.Common.{◌≡◌, ◌↔◌, ℕ, zero, suc, Bool, List, [], ◌∷◌, None, replicate, arith, ap, sym, ◌∙◌, subst, inl, inr, ⊎_elim}
 use Rattle.match_board.specs.Board.{AreAlike}
-use Rattle.match_board.specs.First.{Rank, IsFirst}
+use Rattle.match_limits.specs.First.{Rank, IsFirst}
 use Rattle.match_board.specs.declared.figures.Figure.{Figure}
 use Rattle.match_board.proofs.AlikeLemmas.{alike_turned, alike_border_pair, listing_alike, second_alike}
-use Rattle.match_puzzle.specs.Puzzle.{Task, BorderRule, mate_of}
+use Rattle.match_puzzle.specs.Puzzle.{Task, mate_of}
+use Rattle.match_board.specs.Borders.{BorderRule}
 use Rattle.match_puzzle.specs.Prefix.{Prefix, with_pairs, with_pair}
 use Rattle.match_puzzle.specs.PrefixFaults.{IsPairList, PrefixFails}
 use Rattle.match_puzzle.specs.ArrangementFaults.{ArrangementFails}

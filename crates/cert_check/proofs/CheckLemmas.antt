@@ -1,7 +1,7 @@
 -- What a check finds is the answer.
 use Rattle.std.proofs.Common.{◌≡◌, ◌⊎◌, ◌<◌, ◌≤◌, ◌∙◌, ℕ, zero, suc, List, [], ◌∷◌, Option, Some, slice_get, map, take, arith, inl, inr, ap, sym, refl, subst, ⊎_elim}
 use Rattle.std.proofs.lemmas.Bool.{cases_lt}
-use Rattle.match_board.specs.First.{Rank, AtMost, IsLeast, IsFirst}
+use Rattle.match_limits.specs.First.{Rank, AtMost, IsLeast, IsFirst}
 use Rattle.match_puzzle.specs.Puzzle.{Task}
 use Rattle.match_puzzle.specs.declared.placements.Pair.{Pair}
 use Rattle.puzzle_symmetry.specs.Motion.{Motion, line_of, motion_of, AreOfPuzzle}

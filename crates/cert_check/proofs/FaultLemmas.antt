@@ -2,9 +2,9 @@
 use Rattle.std.proofs.Common.{◌≡◌, ◌≢◌, ℕ, zero, suc, List, [], ◌∷◌, Option, Some, None, map, length, length-set, slice_get, ap, sym, ◌∙◌, refl, arith, subst, ⊎_elim}
 use Rattle.std.proofs.lemmas.Option.{slice_get_within}
 use Rattle.match_board.specs.Board.{cell_count}
-use Rattle.match_board.specs.First.{Rank, AtMost, IsFirst}
-use Rattle.match_board.specs.Listing.{ByKey}
-use Rattle.match_board.proofs.Listings.{by_key_asymmetric, same_listing}
+use Rattle.match_limits.specs.First.{Rank, AtMost, IsFirst}
+use Rattle.match_limits.specs.Listing.{ByKey}
+use Rattle.match_limits.proofs.Listings.{by_key_asymmetric, same_listing}
 use Rattle.match_puzzle.specs.Puzzle.{Task}
 use Rattle.match_puzzle.specs.Prefix.{Prefix, IsWithin, with_pair}
 use Rattle.match_puzzle.specs.Fitting.{FitsItem, AreFitting, IsOpen, item_key}
@@ -20,7 +20,7 @@ use Rattle.cert_tree.specs.Tree.{Tree, Forest, branch, dead, found, same, image,
 use Rattle.cert_check.specs.NodeRules.{IsBranch, IsDead, IsListedAt, IsCited, IsCitedByImage, Holds, EachHolds}
 use Rattle.cert_check.specs.TreeFaults.{ItemFails, ImageFails, NodeFails, node_rank, IsNodeFault, FailsAt, EachFails}
 use Rattle.match_puzzle.proofs.Prefixes.{inside}
-use Rattle.match_board.proofs.ListLemmas.{none≢some}
+use Rattle.match_limits.proofs.ListLemmas.{none≢some}
 use Rattle.cert_check.proofs.PrefixLemmas.{none_free}
 
 -- ---- what comes first

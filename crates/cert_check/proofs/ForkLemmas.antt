@@ -1,7 +1,7 @@
 -- Steps of a walk in halves.
 use Rattle.std.proofs.Common.{◌≡◌, ◌≢◌, ◌<◌, ◌≤◌, ◌+◌, ◌^◌, ℕ, zero, suc, List, [], ◌∷◌, Option, Some, None, MatchOption, length, drop, slice_get, ap, sym, ◌∙◌, refl, arith, subst, ⊎_elim}
 use Rattle.std.specs.Option.{option_or}
-use Rattle.match_board.proofs.Listings.{lt_or_le}
+use Rattle.match_limits.proofs.Listings.{lt_or_le}
 use Rattle.match_puzzle.specs.Puzzle.{Task}
 use Rattle.match_puzzle.specs.Prefix.{Prefix, Layout, Has, with_pair}
 use Rattle.match_puzzle.specs.Fitting.{Fits, FitsItem, AreFitting, IsItem}
@@ -17,7 +17,7 @@ use Rattle.cert_check.specs.Setting.{Setting}
 use Rattle.cert_check.specs.NodeRules.{IsBranch, Holds, EachHolds}
 use Rattle.cert_check.specs.TreeFaults.{FailsAt, EachFails}
 use Rattle.cert_check.specs.Walk.{Tells, HasChildren, ChildHolds, ChildFails, ChildrenHold, TellsOfChildren}
-use Rattle.match_board.proofs.ListLemmas.{none≢some, contains_at}
+use Rattle.match_limits.proofs.ListLemmas.{none≢some, contains_at}
 use Rattle.cert_check.proofs.FaultLemmas.{one_fitting}
 use Rattle.cert_check.proofs.WalkLemmas.{grown, shrunk, after_place, after_lift}
 

@@ -10,12 +10,12 @@ use Rattle.match_puzzle.specs.Prefix.{Prefix, Has, IsFree, Extends, with_pair, w
 use Rattle.match_puzzle.specs.declared.placements.Placement.{Placement}
 use Rattle.match_puzzle.specs.declared.placements.Pair.{Pair}
 use Rattle.match_puzzle.proofs.Prefixes.{inside}
-use Rattle.match_puzzle.proofs.Kept.{has_none}
+use Rattle.match_puzzle.proofs.UsedTiles.{has_none}
 use Rattle.puzzle_symmetry.specs.Images.{HasPairs}
 use Rattle.cert_tree.specs.Certificate.{Piece}
 use Rattle.cert_check.specs.Setting.{prefix_of}
 use Rattle.cert_check.specs.Derivation.{start_of, HasRoot}
-use Rattle.match_board.proofs.ListLemmas.{none≢some}
+use Rattle.match_limits.proofs.ListLemmas.{none≢some}
 
 length-with_pairs : (pairs : List Pair) (q : Prefix) → length (with_pairs pairs q) ≡ length q
 length-with_pairs [] q = refl

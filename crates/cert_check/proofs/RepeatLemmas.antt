@@ -17,7 +17,7 @@ use Rattle.std.proofs.lemmas.List.{get_or_default, length-append}
 use Rattle.std.proofs.lemmas.List.Sorted.{Contains-permutation, IsPermutation-sym}
 use Rattle.std.proofs.lemmas.Map.Keys.{IsDistinct-IsPermutation, IsDistinct-from_apart, apart_from_distinct, sorted_from_all_adjacent, Less-from_sorted}
 use Rattle.std.proofs.lemmas.Option.{slice_get_within, slice_get_read, get_or_from_slice_get}
-use Rattle.match_board.specs.First.{IsLeast}
+use Rattle.match_limits.specs.First.{IsLeast}
 use Rattle.match_puzzle.specs.Equality.{is_same}
 use Rattle.match_puzzle.specs.declared.placements.Placement.{Placement}
 use Rattle.match_puzzle.proofs.FittingLemmas.{same_placement}
@@ -27,7 +27,7 @@ use Rattle.match_puzzle.specs.Arrangement.{AreDistinct}
 use Rattle.cert_check.specs.Answer.{RepeatsEarlier}
 use Rattle.cert_check.specs.Repeats.{AreEqualAt, AreItsPlaces, key_of, placement_cmp, entry_cmp, keyed_cmp}
 use Rattle.cert_check.specs.declared.repeats.KeyedPlace.{KeyedPlace}
-use Rattle.match_board.proofs.ListLemmas.{none≢some, contains_at, member_at, place_of, pushed_place}
+use Rattle.match_limits.proofs.ListLemmas.{none≢some, contains_at, member_at, place_of, pushed_place}
 
 -- ---- the orders
 

@@ -25,9 +25,9 @@ use Rattle.cert_check.specs.Derivation.{start_of}
 use Rattle.puzzle_symmetry.specs.Complete.{AreSymmetries, IsCompleteList}
 use Rattle.cert_check.specs.Answer.{IsShown, AreCovered}
 use Rattle.match_puzzle.proofs.Prefixes.{inside, has_placed}
-use Rattle.match_puzzle.proofs.Kept.{has_none}
+use Rattle.match_puzzle.proofs.UsedTiles.{has_none}
 use Rattle.cert_check.proofs.PrefixLemmas.{start_long, free_or_filled, stands_in, has_of_stands, extends_pairs}
-use Rattle.match_board.proofs.ListLemmas.{none≢some, contains_none, contains_cons, contains_at, same_by_place, earlier_at}
+use Rattle.match_limits.proofs.ListLemmas.{none≢some, contains_none, contains_cons, contains_at, same_by_place, earlier_at}
 
 -- what an arrangement has at a free cell fits there
 fits_free : (p : Task) (q : Prefix) (a : List Placement) (cell : ℕ) (x : Placement) → IsArrangement p a → Extends a q → IsFree q cell → Stands a cell x → Fits p q cell x

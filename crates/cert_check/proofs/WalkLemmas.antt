@@ -1,6 +1,6 @@
 -- Steps of a walk.
 use Rattle.std.proofs.Common.{◌≡◌, ◌≢◌, ◌<◌, ◌≤◌, ◌+◌, ℕ, zero, suc, List, [], ◌∷◌, Option, Some, None, Contains, length, ap, sym, ◌∙◌, refl, arith, subst}
-use Rattle.match_board.specs.First.{IsFirst}
+use Rattle.match_limits.specs.First.{IsFirst}
 use Rattle.match_puzzle.specs.Puzzle.{Task}
 use Rattle.match_puzzle.specs.Prefix.{Prefix, Layout, Has, IsFree, with_pair, without_cell}
 use Rattle.match_puzzle.specs.Fitting.{FitsItem}

@@ -1,7 +1,7 @@
 -- What may be wrong with a tree at a prefix, and where.
 use Rattle.std.specs.Prelude.{◌≡◌, ◌≢◌, ◌⊎◌, ◌≤◌, ℕ, zero, suc, List, [], ◌∷◌, Some, length, map, slice_get}
 use Rattle.match_board.specs.Board.{cell_count}
-use Rattle.match_board.specs.First.{Rank, IsFirst, rank_by}
+use Rattle.match_limits.specs.First.{Rank, IsFirst, rank_by}
 use Rattle.match_puzzle.specs.Puzzle.{Task}
 use Rattle.match_puzzle.specs.Prefix.{Prefix, Has, IsFree, IsUsed, IsWithin, with_pair}
 use Rattle.match_puzzle.specs.Fitting.{AreFitting}

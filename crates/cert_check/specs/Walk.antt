@@ -1,6 +1,6 @@
 -- What a walk of a tree says.
 use Rattle.std.specs.Prelude.{◌≡◌, ◌<◌, ◌≤◌, ◌^◌, ℕ, List, [], ◌∷◌, Option, Some, None, MatchOption, length, slice_get}
-use Rattle.match_board.specs.First.{IsLeast}
+use Rattle.match_limits.specs.First.{IsLeast}
 use Rattle.match_puzzle.specs.Puzzle.{Task}
 use Rattle.match_puzzle.specs.Arrangement.{IsArrangement, AreArrangements, AreDistinct}
 use Rattle.match_puzzle.specs.ArrangementFaults.{IsArrangementFault}

@@ -11,12 +11,12 @@ ghost use Rattle.cert_check.specs.Walk.{Tells, TellsOfLemma};
 ghost use Rattle.match_puzzle.specs.Arrangement.{AreArrangements};
 ghost use Rattle.cert_check.specs.Answer.{IsAnswer, IsSound, IsCovering, OneAnswer};
 
+use cert_tree::{Certificate, FlatLemma};
 use crate::faults::{Answer, TreeFault};
 use crate::gates::Open;
 use crate::questions::Question;
 use crate::settings::Setting;
 use crate::walks::walk;
-use cert_tree::{Certificate, FlatLemma};
 use match_puzzle::{Arrangement, Partial, Puzzle};
 use puzzle_symmetry::Symmetry;
 use std::alloc::{AllocError, Global};

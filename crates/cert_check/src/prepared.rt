@@ -1,12 +1,12 @@
 //! Questions in which all is right but perhaps the trees.
 
+use cert_tree::FlatLemma;
 use crate::checks::lemma_fault;
 use crate::faults::{Answer, Fault, TreeFault};
 use crate::forks::Forker;
 use crate::gates::Gate;
 use crate::questions::Question;
 use crate::settings::Setting;
-use cert_tree::FlatLemma;
 use match_puzzle::Partial;
 use puzzle_symmetry::Symmetry;
 use std::alloc::{AllocError, Global};
@@ -40,7 +40,7 @@ impl<'a> Model for Prepared<'a> {
 
 impl<'a> Prepared<'a> {
     ghost use Rattle.std.specs.Prelude.{◌≡◌, ◌<◌, ◌≤◌, IfOk, length, slice_get};
-    ghost use Rattle.match_board.specs.declared.limits.TheConstants.{MOST_FORKS};
+    ghost use Rattle.match_limits.specs.declared.TheConstants.{MOST_FORKS};
     ghost use Rattle.cert_check.specs.Setting.{motions_of, setting_at};
     ghost use Rattle.cert_check.specs.Walk.{TellsOfLemma, TellsOfTrees};
     ghost use Rattle.match_puzzle.specs.Puzzle.{IsPuzzle};

@@ -39,8 +39,8 @@ impl<'a> Model for Question<'a> {
 
 impl<'a> Question<'a> {
     ghost use Rattle.std.specs.Prelude.{◌≡◌, ◌<◌, ◌≤◌, ◌^◌, IfOk, IfErr, OnErr, length};
-    ghost use Rattle.match_board.specs.First.{IsFirst};
-    ghost use Rattle.match_board.specs.declared.limits.TheConstants.{MOST_LEMMAS};
+    ghost use Rattle.match_limits.specs.First.{IsFirst};
+    ghost use Rattle.match_limits.specs.declared.TheConstants.{MOST_LEMMAS};
     ghost use Rattle.cert_check.specs.Setting.{question_of};
     ghost use Rattle.cert_check.specs.Walk.{TellsOfArrangements, TellsOfRepeats};
     ghost use Rattle.match_puzzle.specs.Arrangement.{AreArrangements};

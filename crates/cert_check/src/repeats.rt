@@ -2,7 +2,7 @@
 
 ghost use Rattle.std.specs.Prelude.{◌≡◌, ◌<◌, ◌^◌, ◌↔◌, IfOk, IsSorted, IsTrue, MatchOption, length, min, slice_get};
 ghost use Rattle.std.specs.Prelude.{option_copied};
-ghost use Rattle.match_board.specs.First.{IsLeast};
+ghost use Rattle.match_limits.specs.First.{IsLeast};
 ghost use Rattle.match_puzzle.specs.Arrangement.{AreDistinct};
 ghost use Rattle.cert_check.specs.Answer.{RepeatsEarlier};
 ghost use Rattle.cert_check.specs.Walk.{TellsOfRepeats};

@@ -7,10 +7,10 @@ ghost use Rattle.cert_tree.specs.Tree.{branch, count, none};
 ghost use Rattle.cert_tree.specs.Heads.{first, front, past};
 ghost use Rattle.cert_check.specs.Walk.{Tells, IsAtTop, below};
 
+use cert_tree::{Head, Trees};
 use crate::faults::{NodeFault, Path, TreeFault};
 use crate::node_faults::{branch_fault, dead_fault, found_fault, image_fault, same_fault};
 use crate::settings::Setting;
-use cert_tree::{Head, Trees};
 use match_puzzle::{FittingPairs, Item, Partial};
 use std::alloc::{AllocError, Global};
 

@@ -1,16 +1,16 @@
 -- The lemma and the certificate that are read are those that were written, and what was written is read again.
 use Rattle.std.proofs.Common.{◌≡◌, ℕ, List, [], ◌∷◌, ◌++◌, length, map, Ok, refl, sym, ap, subst, ◌∙◌, arith, codes}
-use Rattle.match_board.specs.declared.limits.TheConstants.{MOST_CELLS, MOST_SYMMETRIES, MOST_LEMMAS}
+use Rattle.match_limits.specs.declared.TheConstants.{MOST_CELLS, MOST_SYMMETRIES, MOST_LEMMAS}
 use Rattle.std.specs.List.{flat_map}
 use Rattle.std.proofs.lemmas.List.{append-nil}
 use Rattle.std.proofs.lemmas.List.Concat.{flat_map_single}
 use Rattle.puzzle_symmetry.specs.declared.lines.SymmetryLine.{SymmetryLine}
-use Rattle.text_words.specs.declared.ranges.TheConstants.{SECOND}
-use Rattle.text_words.specs.Ranges.{ranges_of}
+use Rattle.match_limits.specs.declared.ranges.TheConstants.{SECOND}
+use Rattle.match_limits.specs.Ranges.{ranges_of}
 use Rattle.text_words.specs.Laws.{ReadsSpellingsAlone, ReadsEachSpelling, EndsWhereCut}
 use Rattle.text_words.specs.Place.{Place, Read, ◌>>=◌, give, times, opening, counted, closing, end_of_text, start}
 use Rattle.text_words.specs.Spelling.{text_of, first_words, count_words, end_lines}
-use Rattle.text_words.proofs.RangesLemmas.{are_ranges, second_are}
+use Rattle.match_limits.proofs.RangesLemmas.{are_ranges, second_are}
 use Rattle.text_words.proofs.CutLemmas.{CutsShort, LeavesNothing, place, bind_ok, ok_is, cuts_bind, cuts_give, cuts_times, cuts_opening, cuts_counted, cuts_closing, cuts_end_of_text, leaves_closing, leaves_after, end_is_reached, end_leaves}
 use Rattle.text_words.proofs.LineLemmas.{TakesLines, takes_opening, takes_counted, closing_is, closing_again, times_is, times_again, lines_then}
 use Rattle.text_words.proofs.TextLaws.{reads_alone, reads_each, ends_where_cut}

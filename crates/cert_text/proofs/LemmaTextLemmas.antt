@@ -1,6 +1,6 @@
 -- The lines of symmetries and of lemmas: what is read is what was written, and what was written is read again.
 use Rattle.std.proofs.Common.{◌≡◌, ℕ, ◌+◌, ◌<◌, ◌≤◌, ◌^◌, Bool, true, false, cond, eqb, zero, suc, List, [], ◌∷◌, ◌++◌, length, map, Result, Ok, Err, refl, sym, ap, subst, ◌∙◌, arith, codes}
-use Rattle.match_board.specs.declared.limits.TheConstants.{LAST_SIDE, LAST_TURN, MOST_COLOURS, LAST_LEMMA}
+use Rattle.match_limits.specs.declared.TheConstants.{LAST_SIDE, LAST_TURN, MOST_COLOURS, LAST_LEMMA}
 use Rattle.std.specs.Fmt.{decimal}
 use Rattle.std.specs.List.{AllByRecursion}
 use Rattle.std.specs.Str.{bytes_eq}
@@ -11,8 +11,8 @@ use Rattle.std.proofs.lemmas.Bool.{ne_eqb}
 use Rattle.std.proofs.lemmas.Slice.Eq.{bytes_eq-Decides}
 use Rattle.match_puzzle.specs.declared.placements.Pair.{Pair}
 use Rattle.puzzle_symmetry.specs.declared.lines.SymmetryLine.{SymmetryLine}
-use Rattle.text_words.specs.declared.ranges.Ranges.{Ranges}
-use Rattle.text_words.specs.Ranges.{AreRanges}
+use Rattle.match_limits.specs.declared.ranges.Ranges.{Ranges}
+use Rattle.match_limits.specs.Ranges.{AreRanges}
 use Rattle.text_words.specs.declared.faults.TextKind.{TextKind}
 use Rattle.text_words.specs.declared.faults.TextKind.TheVariants.{Word, Number}
 use Rattle.text_words.specs.Bytes.{cut_at}

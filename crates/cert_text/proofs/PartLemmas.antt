@@ -5,11 +5,11 @@ use Rattle.std.proofs.Math.ListN.{drop_of_length-le}
 use Rattle.text_words.specs.declared.faults.TextFault.{TextFault}
 use Rattle.text_words.specs.declared.faults.ReadFault.{ReadFault}
 use Rattle.text_words.specs.declared.faults.ReadFault.TheVariants as faults
-use Rattle.text_words.specs.declared.ranges.Ranges.{Ranges}
-use Rattle.text_words.specs.Ranges.{ranges_of}
+use Rattle.match_limits.specs.declared.ranges.Ranges.{Ranges}
+use Rattle.match_limits.specs.Ranges.{ranges_of}
 use Rattle.text_words.specs.Place.{Place, Read, Fails, Reads, Says, closing, give, go_on, skip_lines, start, times, value_of}
 use Rattle.text_words.proofs.LoopLemmas.{with_front, with_front-nil}
-use Rattle.text_words.proofs.RangesLemmas.{are_ranges}
+use Rattle.match_limits.proofs.RangesLemmas.{are_ranges}
 use Rattle.cert_tree.specs.Certificate.{Piece}
 use Rattle.cert_text.specs.declared.parts.CutCertificate.{CutCertificate}
 use Rattle.cert_text.specs.declared.parts.LemmaPart.{LemmaPart}

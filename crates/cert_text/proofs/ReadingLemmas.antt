@@ -1,13 +1,13 @@
 -- What calls that read have returned, by the laws of the texts.
 use Rattle.std.proofs.Common.{◌≡◌, ℕ, ◌^◌, ◌≤◌, zero, suc, ◌+◌, ◌<◌, List, [], ◌∷◌, length, take, Result, Ok, Err, refl, sym, ap, subst, ◌∙◌, arith}
-use Rattle.match_board.specs.declared.limits.TheConstants.{MOST_CELLS, MOST_SYMMETRIES}
+use Rattle.match_limits.specs.declared.TheConstants.{MOST_CELLS, MOST_SYMMETRIES}
 use Rattle.std.specs.Prelude.{IfOk, All, Contains}
 use Rattle.std.specs.List.{AllByRecursion}
-use Rattle.match_board.proofs.ListLemmas.{all_by_place}
+use Rattle.match_limits.proofs.ListLemmas.{all_by_place}
 use Rattle.text_words.specs.declared.faults.TextFault.{TextFault}
 use Rattle.text_words.specs.declared.faults.TextKind.TheVariants.{Ends}
-use Rattle.text_words.specs.declared.ranges.Ranges.{Ranges}
-use Rattle.text_words.specs.Ranges.{AreRanges, ranges_of}
+use Rattle.match_limits.specs.declared.ranges.Ranges.{Ranges}
+use Rattle.match_limits.specs.Ranges.{AreRanges, ranges_of}
 use Rattle.text_words.specs.Bytes.{line_ends}
 use Rattle.text_words.specs.Place.{Says, fail}
 use Rattle.cert_tree.specs.declared.certificates.Lemma.{Lemma}

@@ -3,8 +3,8 @@ use Rattle.std.proofs.Common.{◌≡◌, ℕ, zero, suc, ◌+◌, ◌-◌, ◌<�
 use Rattle.std.specs.List.{join_with_byte}
 use Rattle.std.proofs.lemmas.List.{append-nil}
 use Rattle.text_words.specs.declared.faults.TextFault.{TextFault}
-use Rattle.text_words.specs.declared.ranges.Ranges.{Ranges}
-use Rattle.text_words.specs.Ranges.{AreRanges}
+use Rattle.match_limits.specs.declared.ranges.Ranges.{Ranges}
+use Rattle.match_limits.specs.Ranges.{AreRanges}
 use Rattle.text_words.specs.Bytes.{cut_at, line_ends, words_of}
 use Rattle.text_words.specs.Place.{Place, Read, ◌>>=◌, Gives, give, next_line, skip_line, skip_lines, times}
 use Rattle.text_words.specs.Spelling.{line_text, text_of}

@@ -1,10 +1,10 @@
 -- A certificate as the lemmas of its own text, and as a whole.
 use Rattle.std.proofs.Common.{◌≡◌, ◌≤◌, ℕ, Bool, true, false, List, [], ◌∷◌, ◌++◌, length, map, Ok, refl, ap, ◌∙◌, append_assoc, arith, codes}
 use Rattle.std.specs.Prelude.{MatchBool}
-use Rattle.match_board.specs.declared.limits.TheConstants.{MOST_LEMMAS}
+use Rattle.match_limits.specs.declared.TheConstants.{MOST_LEMMAS}
 use Rattle.std.proofs.lemmas.Option.{slice_get_within}
-use Rattle.match_board.proofs.ListLemmas.{all_by_place, at_each_place}
-use Rattle.text_words.specs.Ranges.{IsVersion, ranges_of}
+use Rattle.match_limits.proofs.ListLemmas.{all_by_place, at_each_place}
+use Rattle.match_limits.specs.Ranges.{IsVersion, ranges_of}
 use Rattle.text_words.specs.Spelling.{text_of, first_words, count_words, end_lines}
 use Rattle.text_words.proofs.WritingLemmas.{text_of-append}
 use Rattle.cert_tree.specs.Certificate.{Contents, piece_number, IsNumbered}

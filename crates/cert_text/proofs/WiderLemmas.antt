@@ -5,10 +5,10 @@ use Rattle.match_puzzle.specs.declared.items.Item.{Item}
 use Rattle.match_puzzle.specs.declared.items.Item.TheVariants as items
 use Rattle.match_puzzle.specs.declared.placements.Pair.{Pair}
 use Rattle.puzzle_symmetry.specs.declared.lines.SymmetryLine.{SymmetryLine}
-use Rattle.text_words.specs.declared.ranges.Ranges.{Ranges}
-use Rattle.text_words.specs.declared.ranges.TheConstants.{SECOND}
-use Rattle.text_words.specs.Ranges.{AreRanges, ranges_of}
-use Rattle.text_words.proofs.RangesLemmas.{are_ranges, second_is}
+use Rattle.match_limits.specs.declared.ranges.Ranges.{Ranges}
+use Rattle.match_limits.specs.declared.ranges.TheConstants.{SECOND}
+use Rattle.match_limits.specs.Ranges.{AreRanges, ranges_of}
+use Rattle.match_limits.proofs.RangesLemmas.{are_ranges, second_is}
 use Rattle.cert_tree.specs.Tree.{Tree, Forest, branch, dead, found, same, image, none, more}
 use Rattle.cert_tree.specs.Limits.{IsItemWithin, IsTreeWithin, AreTreesWithin, IsPairWithin, IsLemmaWithin}
 use Rattle.cert_tree.specs.Certificate.{Piece}

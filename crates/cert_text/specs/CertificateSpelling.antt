@@ -1,12 +1,12 @@
 -- The one spelling of a lemma, and of a certificate's symmetries and lemmas in their order.
 use Rattle.std.specs.Prelude.{◌≡◌, ◌≤◌, ◌<◌, ℕ, Bool, true, false, List, [], ◌∷◌, ◌++◌, Some, length, map, take, codes, decimal}
 use Rattle.std.specs.Prelude.{slice_get}
-use Rattle.match_board.specs.declared.limits.TheConstants.{LAST_SIDE, MOST_COLOURS, MOST_SYMMETRIES, MOST_LEMMAS}
+use Rattle.match_limits.specs.declared.TheConstants.{LAST_SIDE, MOST_COLOURS, MOST_SYMMETRIES, MOST_LEMMAS}
 use Rattle.std.specs.List.{AllByRecursion}
 use Rattle.match_puzzle.specs.declared.placements.Pair.{Pair}
 use Rattle.puzzle_symmetry.specs.declared.lines.SymmetryLine.{SymmetryLine}
-use Rattle.text_words.specs.declared.ranges.Ranges.{Ranges}
-use Rattle.text_words.specs.Ranges.{IsVersion, ranges_of}
+use Rattle.match_limits.specs.declared.ranges.Ranges.{Ranges}
+use Rattle.match_limits.specs.Ranges.{IsVersion, ranges_of}
 use Rattle.text_words.specs.Spelling.{text_of, colour_word, placement_word, first_words, count_words, end_lines}
 use Rattle.cert_tree.specs.Certificate.{Piece}
 use Rattle.cert_tree.specs.Limits.{IsLemmaWithin}

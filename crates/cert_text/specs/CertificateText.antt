@@ -1,15 +1,15 @@
 -- The texts of lemmas and of certificates.
 use Rattle.std.specs.Prelude.{◌≡◌, ◌≢◌, ℕ, List, Bool, true, false, Result, Ok, Err, codes, length, if◌then◌else◌}
-use Rattle.match_board.specs.declared.limits.TheConstants.{LAST_SIDE, MOST_COLOURS, MOST_SYMMETRIES, MOST_LEMMAS}
-use Rattle.match_board.specs.declared.limits.TheConstants.{LAST_LEMMA}
+use Rattle.match_limits.specs.declared.TheConstants.{LAST_SIDE, MOST_COLOURS, MOST_SYMMETRIES, MOST_LEMMAS}
+use Rattle.match_limits.specs.declared.TheConstants.{LAST_LEMMA}
 use Rattle.std.specs.Str.{bytes_eq}
 use Rattle.puzzle_symmetry.specs.declared.lines.SymmetryLine.{SymmetryLine}
 use Rattle.text_words.specs.declared.faults.TextFault.{TextFault}
 use Rattle.text_words.specs.declared.faults.TextKind.{TextKind}
 use Rattle.text_words.specs.declared.faults.TextKind.TheVariants.{Word}
-use Rattle.text_words.specs.declared.ranges.Ranges.{Ranges}
-use Rattle.text_words.specs.declared.ranges.TheConstants.{SECOND}
-use Rattle.text_words.specs.Ranges.{ranges_of}
+use Rattle.match_limits.specs.declared.ranges.Ranges.{Ranges}
+use Rattle.match_limits.specs.declared.ranges.TheConstants.{SECOND}
+use Rattle.match_limits.specs.Ranges.{ranges_of}
 use Rattle.text_words.specs.Words.{fixed_in, number_in, colour_in, pair_in}
 use Rattle.text_words.specs.Place.{Read, ◌>>=◌, give, line_of, word_by, entries, opening, counted, closing, end_of_text}
 use Rattle.text_words.specs.Place.{times, start, value_of}

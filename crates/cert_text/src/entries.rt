@@ -1,15 +1,15 @@
 //! Entries of a line, up to a word or to its end.
 
 ghost use Rattle.std.specs.Prelude.{◌≡◌, ◌+◌, ◌<◌, ◌++◌, codes, length, drop};
-ghost use Rattle.text_words.specs.Ranges.{AreRanges};
+ghost use Rattle.match_limits.specs.Ranges.{AreRanges};
 ghost use Rattle.text_words.specs.Words.{number_in, colour_in, pair_in};
 ghost use Rattle.text_words.specs.Place.{Gives, Reads, entries, word_by};
 ghost use Rattle.cert_text.specs.Entries.{goes_on, entries_before};
 
-use match_board::limits::MOST_COLOURS;
+use match_limits::{MOST_COLOURS, Ranges};
 use match_puzzle::Pair;
 use std::alloc::Global;
-use text_words::{Ranges, ReadFault, Scan, TextFault};
+use text_words::{ReadFault, Scan, TextFault};
 
 // Whether a further word stands there, other than this one.
 fn has_other(scan: &Scan, stop: &[u8]) -> bool

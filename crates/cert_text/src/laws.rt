@@ -6,7 +6,7 @@ ghost use Rattle.cert_text.specs.CertificateText.{lemma_of, certificate_of};
 ghost use Rattle.cert_text.specs.CertificateSpelling.{lemma_spelling, certificate_spelling, IsCertificateWithin};
 ghost use Rattle.cert_text.specs.Laws.{MakesOneInAnyOrder};
 
-use match_board::limits::MOST_CELLS;
+use match_limits::MOST_CELLS;
 
 /// The laws of lemmas and their texts; it does nothing.
 pub fn lemma_laws()

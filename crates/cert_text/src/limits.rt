@@ -2,7 +2,7 @@
 
 ghost use Rattle.std.specs.Prelude.{◌≡◌, ◌≢◌, ◌<◌, ◌≤◌, ℕ, List, Ok, MatchBool, length};
 ghost use Rattle.std.specs.List.{AllByRecursion};
-ghost use Rattle.text_words.specs.Ranges.{IsVersion, ranges_of};
+ghost use Rattle.match_limits.specs.Ranges.{IsVersion, ranges_of};
 ghost use Rattle.cert_tree.specs.Certificate.{piece_of};
 ghost use Rattle.cert_tree.specs.Limits.{IsLemmaWithin};
 ghost use Rattle.cert_text.specs.CertificateText.{lemma_of, certificate_of};
@@ -11,9 +11,8 @@ ghost use Rattle.cert_text.specs.CertificateSpelling.{AreSymmetriesWithin, AreWi
 ghost use Rattle.cert_text.specs.Writing.{said_by};
 
 use cert_tree::{Certificate, Lemma, Lemmas};
-use match_board::limits::{LAST_SIDE, MOST_CELLS, MOST_COLOURS, MOST_SYMMETRIES};
+use match_limits::{LAST_SIDE, MOST_CELLS, MOST_COLOURS, MOST_SYMMETRIES, Ranges, ranges_of};
 use puzzle_symmetry::SymmetryLine;
-use text_words::{Ranges, ranges_of};
 
 fn are_numbers_within(last: u16, numbers: &[u16]) -> bool
     ensures { MatchBool result (AllByRecursion (λ n. n ≤ last) numbers.now)
@@ -130,7 +129,7 @@ pub trait WithinLimits {
 }
 
 impl WithinLimits for Lemma {
-    ghost use Rattle.match_board.specs.declared.limits.TheConstants.{MOST_CELLS};
+    ghost use Rattle.match_limits.specs.declared.TheConstants.{MOST_CELLS};
 
     ghost fits = { λ lemma. IsLemmaWithin MOST_CELLS (piece_of lemma) };
 

@@ -1,18 +1,18 @@
 //! A certificate's text whose lemma lines are cut into parts, each of which is read by itself.
 
 ghost use Rattle.std.specs.Prelude.{◌≡◌, ◌+◌, ◌<◌, ◌≤◌, ◌^◌, ℕ, List, Ok, IfOk, MatchResult, length};
-ghost use Rattle.text_words.specs.Ranges.{ranges_of};
+ghost use Rattle.match_limits.specs.Ranges.{ranges_of};
 ghost use Rattle.text_words.specs.Place.{Place, Fails, Says, skip_lines, times};
 ghost use Rattle.cert_text.specs.CertificateText.{CertificateGives, certificate_of, lemma_line};
 ghost use Rattle.cert_text.specs.Lines.{said_of};
 ghost use Rattle.cert_text.specs.Parts.{AreRead, IsCutOf, cut_says, left_at, part_says, parts_say};
 
+use cert_tree::{Certificate, Lemmas};
 use crate::faults::CertTextFault;
 use crate::readers::{Beginning, CertificateLines, made, read_beginning, read_lemmas};
-use cert_tree::{Certificate, Lemmas};
-use match_board::limits::MOST_LEMMAS;
+use match_limits::{MOST_LEMMAS, ranges_of};
 use std::alloc::{AllocError, Global};
-use text_words::{ReadFault, Scan, ranges_of};
+use text_words::{ReadFault, Scan};
 
 /// Some lemma lines of a certificate's text, one behind the other.
 #[derive(Drop)]

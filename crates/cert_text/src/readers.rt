@@ -2,7 +2,7 @@
 
 ghost use Rattle.std.specs.Prelude.{◌≡◌, ◌+◌, ◌<◌, ◌≤◌, ◌^◌, ◌++◌, ℕ, Ok, Err, IfOk, IfErr, IfSome, OnOk};
 ghost use Rattle.std.specs.Prelude.{length, take, drop};
-ghost use Rattle.text_words.specs.Ranges.{AreRanges};
+ghost use Rattle.match_limits.specs.Ranges.{AreRanges};
 ghost use Rattle.text_words.specs.Words.{Judges};
 ghost use Rattle.text_words.specs.Place.{Fails, Gives, Reads, Says, fail, times, word_by};
 ghost use Rattle.text_words.specs.declared.faults.TextKind.TheVariants as kinds;
@@ -17,17 +17,15 @@ ghost use Rattle.cert_text.specs.CertificateText.{CertificateGives, Makes};
 ghost use Rattle.cert_text.specs.Writing.{said_by};
 ghost use Rattle.cert_text.specs.CertificateSpelling.{lemma_spelling, certificate_spelling, IsCertificateWithin};
 
+use cert_tree::{Certificate, FlatLemma, Head, Lemma, LemmaSpan, Lemmas, assemble_flat};
 use crate::entries::{cell_images, colour_images, prefix, tile_images};
 use crate::faults::{CertTextFault, LemmaTextFault};
 use crate::tree_readers::tree;
-use cert_tree::{Certificate, FlatLemma, Head, Lemma, LemmaSpan, Lemmas, assemble_flat};
-use match_board::limits::{LAST_LEMMA, LAST_SIDE, MOST_CELLS, MOST_LEMMAS, MOST_SYMMETRIES};
+use match_limits::{LAST_LEMMA, LAST_SIDE, MOST_CELLS, MOST_LEMMAS, MOST_SYMMETRIES, Ranges, SECOND, ranges_of};
 use match_puzzle::Pair;
 use puzzle_symmetry::{Images, SymmetryLine};
 use std::alloc::Global;
-use text_words::{
-    Asked, FaultPlace, Ranges, ReadFault, SECOND, Scan, TextFault, TextKind, ranges_of,
-};
+use text_words::{Asked, FaultPlace, ReadFault, Scan, TextFault, TextKind};
 
 fn mirrored_word(word: &[u8]) -> Result<bool, TextKind>
     ensures { Judges (λ mirrored. mirrored) result (mirrored_in word.now) }

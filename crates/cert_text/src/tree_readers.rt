@@ -1,8 +1,8 @@
 //! Trees are read, node by node in preorder.
 
 ghost use Rattle.std.specs.Prelude.{◌≡◌, ◌+◌, ◌<◌, ◌≤◌, ◌^◌, ◌++◌, Err, OnOk, length, drop};
-ghost use Rattle.text_words.specs.declared.ranges.Ranges.{Ranges as RangesOf};
-ghost use Rattle.text_words.specs.Ranges.{AreRanges};
+ghost use Rattle.match_limits.specs.declared.ranges.Ranges.{Ranges as RangesOf};
+ghost use Rattle.match_limits.specs.Ranges.{AreRanges};
 ghost use Rattle.text_words.specs.Words.{Judges};
 ghost use Rattle.text_words.specs.Place.{Gives, Reads, times, word_by};
 ghost use Rattle.cert_tree.specs.Heads.{trees_in, first, AreOfTree};
@@ -10,8 +10,8 @@ ghost use Rattle.cert_text.specs.TreeText.{node_kind_in, tree_by};
 ghost use Rattle.cert_text.specs.HeadReading.{most_of, rest_by, head_by, ReadsOnto, ReadAllOnto};
 
 use cert_tree::Head;
-use match_board::limits::{LAST_ARRANGEMENT, LAST_LEMMA, LAST_SYMMETRY};
-use text_words::{Asked, Ranges, ReadFault, Scan, TextFault, TextKind};
+use match_limits::{LAST_ARRANGEMENT, LAST_LEMMA, LAST_SYMMETRY, Ranges};
+use text_words::{Asked, ReadFault, Scan, TextFault, TextKind};
 
 // The kinds of node that have a letter.
 #[derive(Clone, Copy)]

@@ -3,7 +3,7 @@ use Rattle.std.proofs.Common.{◌≡◌, ◌≢◌, ◌≤◌, ◌<◌, ◌+◌,
 use Rattle.std.specs.Prelude.{All, Contains, slice_get}
 use Rattle.std.proofs.lemmas.List.Sums.{sum_by-cons, count_by_more_yes, count_by_more_no}
 use Rattle.std.proofs.lemmas.Bool.{ne_eqb, eq-eqb, cases_lt, cases_eq, lt-ltb, le-ltb}
-use Rattle.match_board.specs.First.{AtMost, IsLeast, IsFirst}
+use Rattle.match_limits.specs.First.{AtMost, IsLeast, IsFirst}
 use Rattle.cert_tree.specs.declared.faults.AssembleFault.TheVariants.{Stranger, Double, Missing, Memory}
 use Rattle.cert_tree.specs.Assembly.{how_often, IsOnly, HaveNoStranger, IsAssembly, AssemblyFails, assembly_rank, Assembles, TellsLeast}
 use Rattle.cert_tree.specs.Slots.{lesser_of, stranger_of, IsFilled, IsEntered, IsPut, IsTaken, IsFirstEmpty}

@@ -5,7 +5,7 @@ use Rattle.std.specs.List.Sorted.{IsPermutation}
 use Rattle.std.proofs.lemmas.List.Sorted.{IsPermutation-sym, sum_by-IsPermutation, All-permutation}
 use Rattle.std.proofs.lemmas.List.Elements.{All-contains_itself}
 use Rattle.std.proofs.lemmas.Bool.{cases_lt}
-use Rattle.match_board.specs.First.{AtMost, IsFirst}
+use Rattle.match_limits.specs.First.{AtMost, IsFirst}
 use Rattle.cert_tree.specs.declared.faults.AssembleFault.{AssembleFault}
 use Rattle.cert_tree.specs.declared.faults.AssembleFault.TheVariants.{Stranger, Double, Missing, Memory}
 use Rattle.cert_tree.specs.Assembly.{how_often, IsAssembly, AssemblyFails, assembly_rank, Assembles, IsSettled, IsOneInAnyOrder}

@@ -2,7 +2,7 @@
 use Rattle.std.proofs.Common.{◌≡◌, ◌≢◌, ℕ, ◌≤◌, zero, suc, List, [], ◌∷◌, Option, Some, map, Ok, Err, refl, sym, ap, subst, ◌∙◌, arith}
 use Rattle.std.specs.Prelude.{Contains, slice_get}
 use Rattle.std.proofs.lemmas.List.{length-map}
-use Rattle.match_board.specs.First.{IsFirst}
+use Rattle.match_limits.specs.First.{IsFirst}
 use Rattle.match_puzzle.proofs.Prefixes.{inside}
 use Rattle.cert_tree.specs.declared.flat_lemmas.Block.{Block}
 use Rattle.cert_tree.specs.declared.flat_lemmas.LemmaSpan.{LemmaSpan}

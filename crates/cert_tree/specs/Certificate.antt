@@ -1,7 +1,7 @@
 -- Certificates as plain data.
 use Rattle.std.specs.Prelude.{◌≡◌, ◌≤◌, ◌<◌, ◌^◌, ℕ, List, Some, length, slice_get}
 use Rattle.std.specs.Borrow.{Bor}
-use Rattle.match_board.specs.declared.limits.TheConstants.{MOST_LEMMAS}
+use Rattle.match_limits.specs.declared.TheConstants.{MOST_LEMMAS}
 use Rattle.match_puzzle.specs.declared.placements.Pair.{Pair}
 use Rattle.puzzle_symmetry.specs.declared.lines.SymmetryLine.{SymmetryLine}
 use Rattle.cert_tree.specs.declared.certificates.Lemma.{Lemma}

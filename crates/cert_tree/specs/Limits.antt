@@ -1,6 +1,6 @@
 -- Which trees and lemmas are within limits: those of a board that has at most so many cells, and as many tiles.
 use Rattle.std.specs.Prelude.{◌≤◌, ◌<◌, ◌+◌, ◌*◌, ℕ, zero, suc, length}
-use Rattle.match_board.specs.declared.limits.TheConstants.{LAST_ARRANGEMENT, LAST_LEMMA, LAST_SYMMETRY, LAST_TURN}
+use Rattle.match_limits.specs.declared.TheConstants.{LAST_ARRANGEMENT, LAST_LEMMA, LAST_SYMMETRY, LAST_TURN}
 use Rattle.std.specs.List.{AllByRecursion}
 use Rattle.match_puzzle.specs.declared.items.Item.{Item}
 use Rattle.match_puzzle.specs.declared.items.Item.TheVariants as items

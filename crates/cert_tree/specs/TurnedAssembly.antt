@@ -1,6 +1,6 @@
 -- Turned assembly: numbers that run upwards from the root are counted from the other end.
 use Rattle.std.specs.Prelude.{◌≡◌, ◌+◌, ◌-◌, ℕ, List, Result, Ok, Err, map, reverse, nat_lt, if◌then◌else◌, slice_index}
-use Rattle.match_board.specs.First.{IsFirst}
+use Rattle.match_limits.specs.First.{IsFirst}
 use Rattle.cert_tree.specs.declared.faults.AssembleFault.{AssembleFault}
 use Rattle.cert_tree.specs.declared.faults.AssembleFault.TheVariants.{Memory}
 use Rattle.cert_tree.specs.Tree.{Tree, Forest, branch, dead, found, same, image, none, more}

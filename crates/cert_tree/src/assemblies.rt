@@ -12,7 +12,7 @@ use crate::certificates::{Certificate, Lemma};
 use crate::conversions::flat_lemmas;
 use crate::faults::AssembleFault;
 use crate::flat_lemmas::{FlatLemma, LemmaSpan, Lemmas};
-use match_board::limits::MOST_LEMMAS;
+use match_limits::MOST_LEMMAS;
 use puzzle_symmetry::SymmetryLine;
 use std::alloc::{AllocError, Global};
 

@@ -6,7 +6,7 @@ ghost use Rattle.cert_tree.specs.Limits.{IsLemmaWithin};
 
 use crate::certificates::Lemma;
 use crate::conversions::flat_lemmas;
-use match_board::limits::MOST_CELLS;
+use match_limits::MOST_CELLS;
 use std::alloc::{AllocError, Global};
 use std::slice::from_ref;
 

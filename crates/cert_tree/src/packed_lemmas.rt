@@ -32,7 +32,7 @@ impl Model for PackedLemma {
 
 impl PackedLemma {
     ghost use Rattle.std.specs.Prelude.{◌≡◌, IfOk};
-    ghost use Rattle.match_board.specs.declared.limits.TheConstants.{MOST_CELLS};
+    ghost use Rattle.match_limits.specs.declared.TheConstants.{MOST_CELLS};
     ghost use Rattle.cert_tree.specs.Certificate.{flat_piece, piece_of};
     ghost use Rattle.cert_tree.specs.Limits.{IsLemmaWithin};
 

@@ -14,7 +14,7 @@ use crate::certificates::Certificate;
 use crate::faults::AssembleFault;
 use crate::flat_lemmas::{FlatLemma, LemmaSpan, Lemmas};
 use crate::heads::Head;
-use match_board::limits::{MOST_ARRANGEMENTS, MOST_CELLS, MOST_LEMMAS};
+use match_limits::{MOST_ARRANGEMENTS, MOST_CELLS, MOST_LEMMAS};
 use match_puzzle::Pair;
 use puzzle_symmetry::SymmetryLine;
 use std::alloc::{AllocError, Global};

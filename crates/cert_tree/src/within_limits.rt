@@ -13,7 +13,7 @@ use crate::flat_trees::Trees;
 use crate::heads::Head;
 use crate::nodes::Node;
 use crate::packed_lemmas::PackedLemma;
-use match_board::limits::{LAST_ARRANGEMENT, LAST_LEMMA, LAST_SYMMETRY, LAST_TURN, MOST_CELLS};
+use match_limits::{LAST_ARRANGEMENT, LAST_LEMMA, LAST_SYMMETRY, LAST_TURN, MOST_CELLS};
 use match_puzzle::Pair;
 
 // Stops below the last level.
@@ -166,7 +166,7 @@ impl<'a> FlatLemma<'a> {
 
 impl PackedLemma {
     ghost use Rattle.std.specs.Prelude.{MatchBool};
-    ghost use Rattle.match_board.specs.declared.limits.TheConstants.{MOST_CELLS, MOST_LEVELS};
+    ghost use Rattle.match_limits.specs.declared.TheConstants.{MOST_CELLS, MOST_LEVELS};
     ghost use Rattle.cert_tree.specs.Limits.{IsTreeWithin, IsLemmaWithin};
 
     /// Whether the lemma is within the limits of a board of 256 cells, where its tree is known to be: number and prefix

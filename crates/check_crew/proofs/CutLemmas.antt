@@ -1,7 +1,7 @@
 -- Where parts of lemmas begin, one behind the other.
 use Rattle.std.proofs.Common.{◌≡◌, ◌≤◌, ◌<◌, ◌+◌, ◌-◌, ◌++◌, ℕ, List, [], ◌∷◌, length, get_or, arith, refl, sym, ap, subst, ◌∙◌, ⊎_elim}
 use Rattle.std.proofs.lemmas.List.{length-append, get_or_append_left, get_or_push}
-use Rattle.match_board.proofs.Listings.{lt_or_le}
+use Rattle.match_limits.proofs.Listings.{lt_or_le}
 use Rattle.check_crew.specs.LemmaParts.{part_start, AreStarts}
 
 -- Parts begin there, at most at the lemma with this number.

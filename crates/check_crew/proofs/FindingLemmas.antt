@@ -9,7 +9,7 @@ use Rattle.cert_check.specs.Setting.{Question, setting_at}
 use Rattle.cert_check.specs.NodeRules.{Holds}
 use Rattle.cert_check.specs.Derivation.{start_of}
 use Rattle.cert_check.specs.Walk.{TellsOfLemma, TellsOfTrees}
-use Rattle.match_board.proofs.ListLemmas.{member_at}
+use Rattle.match_limits.proofs.ListLemmas.{member_at}
 use Rattle.check_crew.specs.Jobs.{Finding, fault_of, IsFinding, IsFirstFound}
 
 module _ (question : Question) (findings : List Finding) (long : length findings ≡ length question.lemmas) (each : Belongs (IsFinding question) findings) where

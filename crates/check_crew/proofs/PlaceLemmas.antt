@@ -4,7 +4,7 @@ use Rattle.std.specs.List.{AllZip}
 use Rattle.std.specs.Option.{option_map}
 use Rattle.rayon.specs.Lists.{first_true}
 use Rattle.match_puzzle.proofs.Prefixes.{inside}
-use Rattle.match_board.proofs.ListLemmas.{none≢some}
+use Rattle.match_limits.proofs.ListLemmas.{none≢some}
 
 module _ {X : Type 0} (R : X → Bool → Type 0) where
   -- At this place the answer is yes, and no at all before.

@@ -5,9 +5,9 @@ use Rattle.std.specs.List.{flat_map}
 use Rattle.std.proofs.lemmas.Option.{slice_get_within}
 use Rattle.std.proofs.lemmas.List.{append-nil, take_all, take_more}
 use Rattle.std.proofs.lemmas.List.Concat.{flat_map-append}
-use Rattle.match_board.proofs.ListLemmas.{member_at}
-use Rattle.match_board.proofs.Listings.{lt_or_le}
-use Rattle.text_words.specs.Ranges.{ranges_of}
+use Rattle.match_limits.proofs.ListLemmas.{member_at}
+use Rattle.match_limits.proofs.Listings.{lt_or_le}
+use Rattle.match_limits.specs.Ranges.{ranges_of}
 use Rattle.text_words.specs.Spelling.{text_of}
 use Rattle.cert_tree.specs.Certificate.{Piece}
 use Rattle.cert_text.specs.CertificateSpelling.{lemma_lines, AreWithinBetween}

@@ -1,7 +1,7 @@
 -- A job for each lemma.
 use Rattle.std.specs.Prelude.{◌≡◌, ◌<◌, ◌≤◌, ℕ, List, Option, Some, None, Box, length}
 use Rattle.std.specs.declared.alloc.Global.{Global}
-use Rattle.match_board.specs.declared.limits.TheConstants.{MOST_FORKS}
+use Rattle.match_limits.specs.declared.TheConstants.{MOST_FORKS}
 use Rattle.cert_check.specs.declared.faults.TreeFault.{TreeFault}
 use Rattle.cert_check.specs.Lists.{TellsOfAll}
 use Rattle.cert_check.specs.Setting.{Question}

@@ -1,8 +1,8 @@
 -- A certificate's lemmas in parts.
 use Rattle.std.specs.Prelude.{◌≡◌, ◌≤◌, ◌<◌, ◌+◌, ◌-◌, ℕ, List, Bool, Vec, MatchBool, length, slice_index_or}
 use Rattle.std.specs.declared.alloc.Global.{Global}
-use Rattle.match_board.specs.declared.limits.TheConstants.{MOST_LEMMAS}
-use Rattle.text_words.specs.Ranges.{ranges_of}
+use Rattle.match_limits.specs.declared.TheConstants.{MOST_LEMMAS}
+use Rattle.match_limits.specs.Ranges.{ranges_of}
 use Rattle.cert_tree.specs.Certificate.{Piece}
 use Rattle.cert_text.specs.CertificateSpelling.{AreLinesBetween, AreWithinBetween}
 

@@ -6,7 +6,7 @@ use Rattle.match_text.specs.ListSpelling.{IsListWithin, list_spelling}
 use Rattle.match_text.specs.Lists.{list_of}
 use Rattle.text_words.specs.Place.{Says}
 use Rattle.text_words.specs.declared.faults.ReadFault.{ReadFault}
-use Rattle.text_words.specs.declared.ranges.TheConstants.{FIRST, SECOND}
+use Rattle.match_limits.specs.declared.ranges.TheConstants.{FIRST, SECOND}
 use Rattle.cert_tree.specs.Certificate.{Contents}
 use Rattle.cert_text.specs.CertificateSpelling.{certificate_spelling, IsCertificateWithin}
 use Rattle.cert_text.specs.Writing.{said_by}

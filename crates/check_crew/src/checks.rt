@@ -2,9 +2,9 @@
 
 ghost use Rattle.std.specs.Prelude.{◌≡◌, ◌<◌, ◌≤◌, ◌^◌, IfOk, IfErr, OnErr, length};
 ghost use Rattle.std.specs.Thread.{IsSync};
-ghost use Rattle.match_board.specs.declared.limits.TheConstants.{MOST_WORKERS, MOST_FORKS};
+ghost use Rattle.match_limits.specs.declared.TheConstants.{MOST_WORKERS, MOST_FORKS};
 ghost use Rattle.cert_check.specs.Setting.{question_of};
-ghost use Rattle.match_board.specs.First.{IsFirst};
+ghost use Rattle.match_limits.specs.First.{IsFirst};
 ghost use Rattle.cert_check.specs.Walk.{TellsOfArrangements, TellsOfRepeats, TellsOfTrees};
 ghost use Rattle.match_puzzle.specs.Arrangement.{AreArrangements};
 ghost use Rattle.cert_check.specs.Answer.{IsAnswer, IsSound, IsCovering, Occurs, fault_rank};

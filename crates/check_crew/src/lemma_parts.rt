@@ -1,7 +1,7 @@
 //! A certificate's lemmas in parts, each of which is a job of a crew.
 
 ghost use Rattle.std.specs.Prelude.{◌≡◌, ◌≤◌, IfOk, length};
-ghost use Rattle.match_board.specs.declared.limits.TheConstants.{MOST_LEMMAS};
+ghost use Rattle.match_limits.specs.declared.TheConstants.{MOST_LEMMAS};
 ghost use Rattle.cert_tree.specs.Certificate.{Piece};
 ghost use Rattle.check_crew.specs.LemmaParts.{AreCut, AreStarts, IsPart, part_start};
 
@@ -53,7 +53,7 @@ pub(crate) struct LemmaParts<'a> {
 
 impl<'a> LemmaParts<'a> {
     ghost use Rattle.std.specs.Prelude.{◌≡◌, ◌<◌, ◌≤◌, ◌+◌, ℕ, IfOk, IfSome, length};
-    ghost use Rattle.match_board.specs.declared.limits.TheConstants.{MOST_LEMMAS};
+    ghost use Rattle.match_limits.specs.declared.TheConstants.{MOST_LEMMAS};
     ghost use Rattle.check_crew.specs.LemmaParts.{AreCut, IsPart, part_start};
 
     // Parts of about as many nodes each, for so many workers. None where they are soon gone through by one.

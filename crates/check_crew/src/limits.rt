@@ -1,8 +1,8 @@
 //! Whether a certificate is within the limits of its text, told by a crew.
 
 ghost use Rattle.std.specs.Prelude.{◌≤◌, IfOk, MatchBool, length};
-ghost use Rattle.match_board.specs.declared.limits.TheConstants.{MOST_WORKERS};
-ghost use Rattle.text_words.specs.Ranges.{IsVersion};
+ghost use Rattle.match_limits.specs.declared.TheConstants.{MOST_WORKERS};
+ghost use Rattle.match_limits.specs.Ranges.{IsVersion};
 ghost use Rattle.cert_text.specs.CertificateSpelling.{IsCertificateWithin};
 ghost use Rattle.cert_text.specs.Writing.{said_by};
 ghost use Rattle.check_crew.specs.LemmaParts.{AreCut, AreOfParts, TellsOfLimits};
@@ -24,7 +24,7 @@ struct Limits<'a, 'p> {
 
 impl<'a, 'p> Work for Limits<'a, 'p> {
     ghost use Rattle.std.specs.Prelude.{◌+◌};
-    ghost use Rattle.text_words.specs.Ranges.{IsVersion};
+    ghost use Rattle.match_limits.specs.Ranges.{IsVersion};
     ghost use Rattle.check_crew.specs.LemmaParts.{TellsOfLimits, IsPart, part_start};
 
     type R = bool;

@@ -1,7 +1,7 @@
 //! The order in which a crew does its jobs.
 
 ghost use Rattle.std.specs.Prelude.{◌≡◌, ◌≤◌, ◌<◌, ℕ, IfOk, vec_len};
-ghost use Rattle.match_board.specs.declared.limits.TheConstants.{MOST_LEMMAS, MOST_WORKERS};
+ghost use Rattle.match_limits.specs.declared.TheConstants.{MOST_LEMMAS, MOST_WORKERS};
 ghost use Rattle.steal_crew.specs.Results.{Belongs};
 
 use std::alloc::{AllocError, Global};

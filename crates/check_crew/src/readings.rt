@@ -1,7 +1,7 @@
 //! A certificate's text is read by a crew.
 
 ghost use Rattle.std.specs.Prelude.{◌≡◌, ◌+◌, ◌<◌, ◌≤◌, ◌^◌, ℕ, Ok, IfOk, length, take};
-ghost use Rattle.match_board.specs.declared.limits.TheConstants.{MOST_LEMMAS, MOST_WORKERS};
+ghost use Rattle.match_limits.specs.declared.TheConstants.{MOST_LEMMAS, MOST_WORKERS};
 ghost use Rattle.text_words.specs.Bytes.{line_ends};
 ghost use Rattle.text_words.specs.Place.{fail};
 ghost use Rattle.text_words.specs.declared.faults.TextKind.TheVariants as kinds;

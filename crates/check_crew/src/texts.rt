@@ -2,9 +2,9 @@
 
 ghost use Rattle.std.specs.Prelude.{◌+◌, ◌<◌, ◌≤◌, ◌^◌, IfOk, length};
 ghost use Rattle.std.specs.Thread.{IsSync};
-ghost use Rattle.match_board.specs.declared.limits.TheConstants.{MOST_WORKERS};
+ghost use Rattle.match_limits.specs.declared.TheConstants.{MOST_WORKERS};
 ghost use Rattle.match_text.specs.ListSpelling.{IsListWithin};
-ghost use Rattle.text_words.specs.declared.ranges.TheConstants.{SECOND};
+ghost use Rattle.match_limits.specs.declared.ranges.TheConstants.{SECOND};
 ghost use Rattle.cert_text.specs.CertificateSpelling.{IsCertificateWithin};
 ghost use Rattle.cert_text.specs.CertificateText.{CertificateGives, certificate_of};
 ghost use Rattle.cert_text.specs.Writing.{said_by};

@@ -1,7 +1,7 @@
 //! A certificate's text is written by a crew.
 
 ghost use Rattle.std.specs.Prelude.{◌≡◌, ◌≤◌, ℕ, Ok, IfOk, length};
-ghost use Rattle.match_board.specs.declared.limits.TheConstants.{MOST_WORKERS};
+ghost use Rattle.match_limits.specs.declared.TheConstants.{MOST_WORKERS};
 ghost use Rattle.cert_text.specs.CertificateSpelling.{certificate_spelling, IsCertificateWithin};
 ghost use Rattle.cert_text.specs.CertificateText.{Makes, certificate_of};
 ghost use Rattle.cert_text.specs.Writing.{said_by};

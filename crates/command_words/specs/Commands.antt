@@ -1,13 +1,13 @@
 -- The program's commands, as `clap` reads them.
 use Rattle.std.specs.Prelude.{◌≡◌, ℕ, List, true, false, [], ◌∷◌, Some, codes, fold}
-use Rattle.match_board.specs.declared.limits.TheConstants.{LAST_ARRANGEMENT, MOST_COLOURS, MOST_DEPTH, MOST_FORKS, MOST_FUEL, MOST_WORKERS}
+use Rattle.match_limits.specs.declared.TheConstants.{LAST_ARRANGEMENT, MOST_COLOURS, MOST_DEPTH, MOST_FORKS, MOST_FUEL, MOST_WORKERS}
 use Rattle.clap.specs.Words.{App, Rule, Text, new_app, new_rule, with_rule, with_subcommand}
 use Rattle.clap.specs.Simple.{on_top}
 use Rattle.clap.specs.declared.builder.action.ArgAction.TheVariants.{SetTrue}
 use Rattle.clap.specs.declared.builder.command.Command.{Command}
 use Rattle.clap.specs.declared.builder.command.Command.TheViews.{out-Command}
 use Rattle.clap.specs.declared.builder.value_parser.ValueParser.TheVariants as parsers
-use Rattle.command_words.specs.declared.numbers.TheConstants.{MOST_DRAWN}
+use Rattle.match_limits.specs.declared.TheConstants.{MOST_DRAWN}
 
 -- no argument of the command is one of its subcommands too
 abbrev pub IsLocal : Command → Type 0

@@ -1,7 +1,7 @@
 //! The program's commands, with their help.
 
 ghost use Rattle.std.specs.Prelude.{◌≡◌, IfOk, codes, false};
-ghost use Rattle.match_board.specs.declared.limits.TheConstants.{LAST_ARRANGEMENT, MOST_WORKERS};
+ghost use Rattle.match_limits.specs.declared.TheConstants.{LAST_ARRANGEMENT, MOST_WORKERS};
 ghost use Rattle.clap.specs.Words.{app_of, new_app, new_rule, rule_of};
 ghost use Rattle.command_words.specs.Commands.{IsLocal, flag, number_or_default, optional_bound, optional_number};
 ghost use Rattle.command_words.specs.Commands.{optional_text, wanted, wanted_number};
@@ -9,12 +9,9 @@ ghost use Rattle.command_words.specs.Commands.{check_app, count_app, draw_app, e
 ghost use Rattle.command_words.specs.Commands.{solve_app, symmetries_app, tiles_app};
 ghost use Rattle.command_words.specs.Commands.{whole_app, with_files, with_places, with_puzzle};
 
-use crate::numbers::MOST_DRAWN;
-use clap::builder::ValueParser;
 use clap::{Arg, ArgAction, Command};
-use match_board::limits::{
-    LAST_ARRANGEMENT, MOST_COLOURS, MOST_DEPTH, MOST_FORKS, MOST_FUEL, MOST_WORKERS,
-};
+use clap::builder::ValueParser;
+use match_limits::{LAST_ARRANGEMENT, MOST_COLOURS, MOST_DEPTH, MOST_DRAWN, MOST_FORKS, MOST_FUEL, MOST_WORKERS};
 use std::alloc::{AllocError, Global};
 
 const NAME: &str = "edgematch";

@@ -1,9 +1,9 @@
 -- Boards on which the same sides meet.
 use Rattle.std.proofs.Common.{◌≡◌, ◌<◌, ◌≤◌, ◌+◌, ◌*◌, ◌-◌, ℕ, zero, suc, Bool, true, false, List, length, replicate, arith, refl, sym, ◌∙◌}
 use Rattle.std.proofs.lemmas.List.{get_or_append_left, get_or-replicate, length-replicate}
-use Rattle.match_board.specs.Listing.{IsListing}
+use Rattle.match_limits.specs.Listing.{IsListing}
 use Rattle.match_board.specs.Board.{IsMarked, marks_from, cells_above, StandsAt, IsBoard, IsBorderPair, IsBorderOrder, AreAlike, mask_of, second_figure}
-use Rattle.match_board.specs.declared.limits.TheConstants.{MOST_PLACES}
+use Rattle.match_limits.specs.declared.TheConstants.{MOST_PLACES}
 use Rattle.match_board.specs.declared.figures.Figure.{Figure}
 use Rattle.match_board.specs.declared.figures.Figure.TheVariants.{Rectangle, Triangle, Hexagon, Shape}
 use Rattle.match_board.proofs.MaskLemmas.{mark_next, row_room}

@@ -1,8 +1,10 @@
--- How the border pairs are counted.
-use Rattle.std.proofs.Common.{◌≡◌, ◌+◌, ◌++◌, ◌∷◌, [], ℕ, List, length, length-append, arith, refl, ap, ◌∙◌, subst}
+-- The border pairs, and rules for them.
+use Rattle.std.proofs.Common.{◌≡◌, ◌+◌, ◌++◌, ◌∷◌, [], ℕ, List, Option, length, length-append, arith, refl, ap, sym, ◌∙◌, subst}
 use Rattle.match_board.specs.Board.{IsBorderPair, IsBorderBefore, IsBorderOrder, cell_count, side_count}
 use Rattle.match_board.specs.declared.figures.Figure.{Figure}
-use Rattle.match_board.proofs.Listings.{listing_none, listing_skip, listing_push, listing_row, listing_all}
+use Rattle.match_board.specs.Borders.{IsAsLongAsBorder, each}
+use Rattle.match_limits.specs.Listing.{ComesBefore}
+use Rattle.match_limits.proofs.Listings.{listing_none, listing_skip, listing_push, listing_row, listing_all, same_listing, comes_before_asymmetric}
 
 -- a pair of given parts
 as_pair : (x n : ℕ × ℕ) → x.0 ≡ n.0 → x.1 ≡ n.1 → x ≡ n
@@ -28,3 +30,11 @@ border_none s = listing_none (λ pair. pair) (λ pair. IsBorderPair s pair.0 pai
 
 pub border_all : (s : Figure) (pairs : List (ℕ × ℕ)) → IsBorderBefore s (cell_count s, 0) pairs → IsBorderOrder s pairs
 border_all s pairs h = listing_all (λ pair. pair) (λ pair. IsBorderPair s pair.0 pair.1) (cell_count s) pairs (λ x holds. holds.cell_in) h
+
+-- A list of rules is as long as the border exactly where it has as many as were counted.
+pub long_rules : (s : Figure) (rules : List (Option ℕ)) (count : ℕ) → (pairs : List (ℕ × ℕ)) × IsBorderOrder s pairs × (length pairs ≡ count) →
+    (length rules ≡ count → IsAsLongAsBorder s (each rules)) × (IsAsLongAsBorder s (each rules) → length rules ≡ count)
+long_rules s rules count all = (
+  λ e. (all.0, all.1, e ∙ sym all.2),
+  λ h. h.2 ∙ ap length (same_listing ComesBefore comes_before_asymmetric (λ n. IsBorderPair s n.0 n.1) h.0 all.0 h.1 all.1) ∙ all.2,
+)

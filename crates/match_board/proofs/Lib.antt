@@ -1,4 +1,3 @@
-pub mod Listings
 pub mod MaskLemmas
 pub mod Places
 pub mod BorderLemmas
@@ -9,5 +8,4 @@ pub mod HexagonLemmas
 pub mod WordLemmas
 pub mod DigitLemmas
 pub mod ClassLemmas
-pub mod OptionLemmas
-pub mod ListLemmas
+pub mod MateLemmas

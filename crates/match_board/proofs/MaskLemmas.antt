@@ -7,7 +7,7 @@ use Rattle.std.proofs.Math.Seq.{take-suc, set-append_seam}
 use Rattle.std.proofs.lemmas.List.{length-take}
 use Rattle.std.specs.Prelude.{slice_index_or}
 use Rattle.match_board.specs.Board.{IsMarked, marks_from, cells_above, cell_count, mask_of, shape_of, MarksItsPlaces, IsBoard, HasRoom}
-use Rattle.match_board.specs.declared.limits.TheConstants.{MOST_CELLS, MOST_PLACES}
+use Rattle.match_limits.specs.declared.TheConstants.{MOST_CELLS, MOST_PLACES}
 use Rattle.match_board.specs.declared.figures.Figure.TheVariants.{Shape}
 
 -- a place counts for one at most

@@ -3,8 +3,8 @@ use Rattle.std.specs.Prelude.{◌≡◌, ◌⊎◌, ◌<◌, ◌≤◌, ◌↔�
 use Rattle.std.specs.Prelude.{true, false, cond, min, length, replicate, slice_index_or}
 use Rattle.match_board.specs.declared.figures.Figure.{Figure}
 use Rattle.match_board.specs.declared.figures.Figure.TheVariants.{Rectangle, Triangle, Hexagon, Shape}
-use Rattle.match_board.specs.declared.limits.TheConstants.{MOST_CELLS, MOST_PLAIN_CELLS, MOST_PLACES}
-use Rattle.match_board.specs.Listing.{IsListing, ComesBefore, HoldsBefore}
+use Rattle.match_limits.specs.declared.TheConstants.{MOST_CELLS, MOST_PLAIN_CELLS, MOST_PLACES}
+use Rattle.match_limits.specs.Listing.{IsListing, ComesBefore, HoldsBefore}
 
 -- how many sides a cell has
 abbrev pub side_count : Figure → ℕ

@@ -1,5 +1,5 @@
-pub mod Listing
-pub mod First
 pub mod Board
 pub mod Tile
 pub mod Turns
+pub mod Borders
+pub mod Mates

@@ -1,7 +1,7 @@
 -- How a word of colours turns.
 use Rattle.std.specs.Prelude.{◌≡◌, ◌⊎◌, ◌<◌, ◌≤◌, ◌+◌, ◌*◌, ◌%◌, ◌^◌, ℕ, List, [], ◌∷◌, All, Contains, length}
 use Rattle.std.specs.Prelude.{slice_index, slice_index_or}
-use Rattle.match_board.specs.Listing.{IsListing}
+use Rattle.match_limits.specs.Listing.{IsListing}
 
 -- the colour on a side of a tile with this word, after so many turns
 unfoldable pub shown : List ℕ → (turn side : ℕ) → ℕ

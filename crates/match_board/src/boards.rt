@@ -6,8 +6,8 @@ ghost use Rattle.match_board.specs.Board.{IsBorderBefore, HasRoom, IsPlain, shap
 ghost use Rattle.match_board.specs.declared.figures.Figure.TheVariants.{Rectangle, Triangle, Hexagon};
 
 use crate::figures::Figure;
-use crate::limits::{MOST_CELLS, MOST_PLACES, MOST_PLAIN_CELLS};
 use crate::shapes;
+use match_limits::{MOST_CELLS, MOST_PLACES, MOST_PLAIN_CELLS};
 use std::marker::Model;
 use thiserror::Error;
 

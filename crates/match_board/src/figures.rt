@@ -4,8 +4,8 @@ ghost use Rattle.std.specs.Prelude.{◌≡◌, ◌<◌, ◌≤◌, ℕ, IfSome};
 ghost use Rattle.match_board.specs.Board.{cell_count, row_count, row_length, side_count, Meets, StandsAt, IsPlace};
 ghost use Rattle.match_board.specs.Board.{LiesAgainst, IsBoard, IsPlain, cells_left};
 
-use crate::limits::MOST_PLACES;
 use crate::{hexagons, rectangles, shapes, triangles};
+use match_limits::MOST_PLACES;
 
 /// The figure that a board covers, by its numbers of cells.
 #[derive(Clone, Copy, PartialEq, Eq, Debug)]

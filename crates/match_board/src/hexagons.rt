@@ -4,7 +4,7 @@ ghost use Rattle.std.specs.Prelude.{◌≡◌, ◌<◌, ◌≤◌, ◌+◌, ◌*
 ghost use Rattle.match_board.specs.Board.{row_length, IsPlace, PointsUp, PointsDown, LiesBelow, LiesAgainst};
 ghost use Rattle.match_board.specs.declared.figures.Figure.TheVariants.{Hexagon};
 
-use crate::limits::MOST_LENGTH;
+use match_limits::MOST_LENGTH;
 
 /// How many cells the row has.
 pub fn row_length(size: u16, row: u16) -> u16

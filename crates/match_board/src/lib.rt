@@ -1,19 +1,22 @@
-//! Boards and tiles of edge-matching puzzles.
+//! Boards, their borders, tiles, and mates of colours.
 #![tactic(auto)]
 
 mod boards;
+mod borders;
 mod classes;
 mod figures;
 mod hexagons;
 mod laws;
-pub mod limits;
+mod mates;
 mod rectangles;
 mod shapes;
 mod tiles;
 mod triangles;
 
 pub use boards::{Board, BoardFault};
+pub use borders::{Border, BorderRules};
 pub use classes::{TilesFault, all_tiles};
 pub use figures::Figure;
 pub use laws::{second_form_is_alike, shapes_are_known_by_their_cells};
+pub use mates::{broken_mate, mate_in};
 pub use tiles::{Tile, TileFault};

@@ -4,8 +4,8 @@ ghost use Rattle.std.specs.Prelude.{◌≡◌, ◌<◌, ◌≤◌, ◌+◌, ◌*
 ghost use Rattle.match_board.specs.Board.{marks_from, mask_of, IsMarked, IsPlace, LiesAgainst};
 ghost use Rattle.match_board.specs.declared.figures.Figure.TheVariants.{Shape};
 
-use crate::limits::{MOST_PLACES, MOST_PLAIN_CELLS};
 use crate::rectangles;
+use match_limits::{MOST_PLACES, MOST_PLAIN_CELLS};
 
 /// How many cells the mask has among so many places from the first on.
 pub fn marks(mask: &[bool], first: usize, more: usize) -> usize

@@ -4,7 +4,7 @@ ghost use Rattle.std.specs.Prelude.{◌≡◌, ◌<◌, ◌≤◌, ℕ, IfSome};
 ghost use Rattle.match_board.specs.Board.{IsPlace, LiesAgainst};
 ghost use Rattle.match_board.specs.declared.figures.Figure.TheVariants.{Triangle};
 
-use crate::limits::MOST_LENGTH;
+use match_limits::MOST_LENGTH;
 
 /// The place that a side of this place lies against, and its side there.
 pub fn beside(size: u16, row: u16, place: u16, side: u8) -> Option<(u16, u16, u8)>

@@ -7,7 +7,7 @@ use Rattle.std.proofs.lemmas.Grind.{div_ceil_times}
 use Rattle.std.proofs.Math.Seq.{take-add}
 use Rattle.std.proofs.lemmas.List.{take-append-drop, take_all}
 use Rattle.std.proofs.lemmas.List.Elements.{Contains-append_left, Contains-append_right}
-use Rattle.match_board.proofs.Listings.{lt_or_le}
+use Rattle.match_limits.proofs.Listings.{lt_or_le}
 use Rattle.xcc_form.specs.Options.{Compiled}
 use Rattle.match_census.specs.Branches.{WeightedBranch, HaveTogether, HaveMoreTogether, AreSelections, IsTotal}
 use Rattle.match_census.proofs.BranchLemmas.{together_join, together_cut}

@@ -2,8 +2,8 @@
 use Rattle.std.proofs.Common.{◌≡◌, ◌≢◌, ◌⊎◌, ◌<◌, ◌≤◌, ◌∷◌, [], ℕ, zero, suc, List, Option, None, Some, Contains, length, slice_get, get_or, arith, refl, ap, sym, ◌∙◌, subst, inl, inr, ⊎_elim}
 use Rattle.std.proofs.lemmas.Bool.Decides.{eqb_tells}
 use Rattle.std.proofs.lemmas.List.Elements.{Contains-append_right}
-use Rattle.match_board.proofs.ListLemmas.{none≢some, contains_none, contains_cons}
-use Rattle.match_board.proofs.Listings.{lt_or_le}
+use Rattle.match_limits.proofs.ListLemmas.{none≢some, contains_none, contains_cons}
+use Rattle.match_limits.proofs.Listings.{lt_or_le}
 use Rattle.match_puzzle.proofs.Prefixes.{inside}
 use Rattle.xcc_form.specs.ExactCover.{ItemSet, Cover, HasPrimary, HasColour}
 use Rattle.xcc_form.specs.declared.edges.Edge.{Edge}

@@ -1,6 +1,6 @@
 -- Branches that are dealt to parts.
 use Rattle.std.proofs.Common.{◌≡◌, ◌<◌, ◌≤◌, ◌-◌, ◌∷◌, [], ℕ, zero, suc, List, Contains, length, arith, refl, ap, ⊎_elim}
-use Rattle.match_board.proofs.ListLemmas.{contains_cons, contains_none}
+use Rattle.match_limits.proofs.ListLemmas.{contains_cons, contains_none}
 use Rattle.xcc_form.specs.Options.{Compiled}
 use Rattle.match_census.specs.Branches.{WeightedBranch, AreSelections, every}
 

@@ -2,7 +2,7 @@
 use Rattle.std.proofs.Common.{◌≡◌, ◌++◌, ◌∷◌, [], ℕ, List, Some, length, slice_get, append_assoc, arith, refl, ap, sym, ◌∙◌, subst}
 use Rattle.std.proofs.lemmas.List.{append-nil}
 use Rattle.std.proofs.lemmas.Option.{slice_get_within}
-use Rattle.match_board.proofs.ListLemmas.{contains_at, kept_left}
+use Rattle.match_limits.proofs.ListLemmas.{contains_at, kept_left}
 use Rattle.xcc_form.specs.Options.{Compiled, cover_of}
 use Rattle.xcc_form.proofs.OptionLemmas.{place_of}
 use Rattle.xcc_dance.specs.Clashes.{IsOpen}

@@ -5,9 +5,9 @@ use Rattle.std.proofs.Math.Seq.{drop-cons}
 use Rattle.std.proofs.lemmas.List.{take-append-drop}
 use Rattle.std.proofs.lemmas.List.Sums.{sum_by-cons, sum_by-append}
 use Rattle.std.proofs.lemmas.List.Elements.{Contains-append_right}
-use Rattle.match_board.proofs.ListLemmas.{taken_more}
+use Rattle.match_limits.proofs.ListLemmas.{taken_more}
 use Rattle.match_puzzle.specs.Arrangement.{IsArrangement, HasArrangements}
-use Rattle.match_puzzle.proofs.PlacedPairLemmas.{pushed_at}
+use Rattle.match_fits.proofs.PlacedPairLemmas.{pushed_at}
 use Rattle.match_puzzle.specs.Numbers.{AreMoreThan}
 use Rattle.xcc_form.specs.Options.{Compiled}
 use Rattle.xcc_dance.specs.Found.{IsFoundFrom}

@@ -2,7 +2,7 @@
 
 ghost use Rattle.std.specs.Prelude.{◌<◌, ◌≤◌, ◌*◌, ℕ, Option, IfOk, length, slice_index_or};
 ghost use Rattle.std.specs.Fork.{slice_chunk};
-ghost use Rattle.match_board.specs.declared.limits.TheConstants.{MOST_LEMMAS, MOST_WORKERS};
+ghost use Rattle.match_limits.specs.declared.TheConstants.{MOST_LEMMAS, MOST_WORKERS};
 ghost use Rattle.match_census.specs.Branches.{AreSelections, IsTotal};
 ghost use Rattle.match_census.specs.Looks.{AreLooks};
 

@@ -6,7 +6,7 @@ use Rattle.std.specs.List.{slice_get}
 use Rattle.match_puzzle.specs.Puzzle.{Task}
 use Rattle.match_puzzle.specs.Fitting.{Fits}
 use Rattle.match_puzzle.specs.declared.placements.Pair.{Pair}
-use Rattle.match_puzzle.specs.Placing.{prefix_of}
+use Rattle.match_fits.specs.Placing.{prefix_of}
 
 -- each of the first pairs fits those before it
 abbrev pub FitUpTo : Task → List Pair → ℕ → Type 0

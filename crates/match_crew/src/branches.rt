@@ -2,7 +2,7 @@
 
 ghost use Rattle.std.specs.Prelude.{◌≡◌, true, IfOk};
 ghost use Rattle.match_puzzle.specs.Fitting.{Fits};
-ghost use Rattle.match_puzzle.specs.Placing.{FitInTurn};
+ghost use Rattle.match_fits.specs.Placing.{FitInTurn};
 
 use match_puzzle::{Pair, Partial, Puzzle};
 use std::alloc::{AllocError, Global};

@@ -5,16 +5,16 @@ ghost use Rattle.match_puzzle.specs.declared.placements.Pair.{Pair as PlacedPair
 ghost use Rattle.match_puzzle.specs.declared.placements.Placement.{Placement};
 ghost use Rattle.steal_crew.specs.LiveHands.{Gave};
 ghost use Rattle.match_puzzle.specs.Arrangement.{IsArrangement, AreArrangements};
-ghost use Rattle.match_board.specs.declared.limits.TheConstants.{MOST_CELLS, MOST_LEVELS};
+ghost use Rattle.match_limits.specs.declared.TheConstants.{MOST_CELLS, MOST_LEVELS};
 ghost use Rattle.cert_tree.specs.Limits.{IsLemmaWithin, IsTreeWithin};
 ghost use Rattle.match_crew.specs.Solving.{IsOutcomeOf, IsTreeWithinWith};
 
+use cert_tree::{PackedLemma, PackedTree};
 use crate::branches::{OpenBranch, fit_in_turn, rising_by_cell};
 use crate::shared::Shared;
 use crate::strategy::choices::Choices;
 use crate::watches::{Counted, Met, Watch};
-use cert_tree::{PackedLemma, PackedTree};
-use match_board::limits::{MOST_ARRANGEMENTS, MOST_FUEL};
+use match_limits::{MOST_ARRANGEMENTS, MOST_FUEL};
 use match_puzzle::{Arrangement, Pair};
 use piece_desk::{FlatDesk, FlatReceipt};
 use std::alloc::AllocError;

@@ -2,7 +2,7 @@
 
 ghost use Rattle.std.specs.Prelude.{◌≡◌, ◌≢◌, ◌≤◌, ◌<◌, ◌+◌, ◌^◌, ◌++◌, ◌∷◌, [], All, IfOk, IfErr, IsErrOf, OnOk};
 ghost use Rattle.std.specs.Prelude.{length, vec_len};
-ghost use Rattle.match_board.specs.declared.limits.TheConstants.{MOST_DEPTH, MOST_FUEL, MOST_SYMMETRIES, MOST_WORKERS};
+ghost use Rattle.match_limits.specs.declared.TheConstants.{MOST_DEPTH, MOST_FUEL, MOST_SYMMETRIES, MOST_WORKERS};
 ghost use Rattle.match_puzzle.specs.Arrangement.{IsArrangement, AreArrangements};
 ghost use Rattle.match_puzzle.specs.declared.placements.Placement.{Placement};
 ghost use Rattle.puzzle_symmetry.specs.Symmetry.{IsSymmetry};
@@ -12,6 +12,8 @@ ghost use Rattle.piece_desk.specs.FlatDesks.{IsOfFlat};
 ghost use Rattle.xcc_form.specs.Options.{HasTooManyEntries};
 ghost use Rattle.match_crew.specs.Solving.{IsOutcomeOf, IsSearchedBy, IsSolvedBy};
 
+use cert_tree::{AssembleFault, Certificate};
+use check_crew::within_limits_with;
 use crate::branches::OpenBranch;
 use crate::faults::SolveFault;
 use crate::searches::{Searched, Searches};
@@ -20,9 +22,7 @@ use crate::strategy::items::ItemRule;
 use crate::strategy::plans::Planner;
 use crate::strategy::roots::plan_by_dives;
 use crate::watches::{Unwatched, Watch};
-use cert_tree::{AssembleFault, Certificate};
-use check_crew::within_limits_with;
-use match_board::limits::{MOST_ARRANGEMENTS, MOST_LEMMAS};
+use match_limits::{MOST_ARRANGEMENTS, MOST_LEMMAS};
 use match_puzzle::{Arrangement, Puzzle};
 use match_symmetry::suggest;
 use match_text::list_within_limits;

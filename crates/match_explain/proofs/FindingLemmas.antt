@@ -1,7 +1,7 @@
 -- Full boards, and what is reached by the orbits of their arrangements.
 use Rattle.std.proofs.Common.{◌≡◌, ◌∙◌, ℕ, zero, suc, List, [], ◌∷◌, Some, None, Contains, ap, arith, map, refl, subst, sym}
 use Rattle.std.proofs.lemmas.Option.{slice_get-get_or}
-use Rattle.match_board.proofs.ListLemmas.{none≢some}
+use Rattle.match_limits.proofs.ListLemmas.{none≢some}
 use Rattle.match_puzzle.specs.Arrangement.{IsArrangement, AreArrangements}
 use Rattle.match_puzzle.specs.Prefix.{Prefix}
 use Rattle.match_puzzle.specs.Puzzle.{Task, IsPuzzle}

@@ -1,7 +1,7 @@
 -- Items of which a node says wrongly how many pairs fit.
 use Rattle.std.proofs.Common.{◌≡◌, ◌<◌, ◌≤◌, ◌∙◌, ◌++◌, ℕ, List, [], ◌∷◌, Some, append_assoc, refl, length, slice_get, ⊎_elim, arith, subst, sym}
 use Rattle.match_board.specs.Board.{cell_count}
-use Rattle.match_board.proofs.Listings.{lt_or_le}
+use Rattle.match_limits.proofs.Listings.{lt_or_le}
 use Rattle.match_puzzle.specs.Prefix.{Prefix}
 use Rattle.match_puzzle.specs.Fitting.{IsItem}
 use Rattle.match_puzzle.specs.declared.items.Item.{Item}

@@ -1,6 +1,6 @@
 -- What the board at a node says of the list. Nothing is said of the tree.
 use Rattle.std.specs.Prelude.{◌≡◌, ◌++◌, ◌∷◌, ◌⊎◌, ℕ, List, [], Some, Contains, codes, map}
-use Rattle.match_board.specs.declared.limits.TheConstants.{MOST_ARRANGEMENTS}
+use Rattle.match_limits.specs.declared.TheConstants.{MOST_ARRANGEMENTS}
 use Rattle.match_puzzle.specs.Arrangement.{IsArrangement}
 use Rattle.match_puzzle.specs.ArrangementFaults.{IsArrangementFault}
 use Rattle.match_puzzle.specs.declared.faults.ArrangementFault.{ArrangementFault}

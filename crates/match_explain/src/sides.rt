@@ -2,7 +2,7 @@
 
 ghost use Rattle.std.specs.Prelude.{◌<◌, IfSome};
 ghost use Rattle.match_board.specs.Board.{cell_count, side_count};
-ghost use Rattle.match_board.specs.declared.limits.TheConstants.{MOST_COLOURS};
+ghost use Rattle.match_limits.specs.declared.TheConstants.{MOST_COLOURS};
 
 use match_board::Figure;
 use match_puzzle::{Placement, Puzzle};

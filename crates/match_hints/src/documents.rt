@@ -1,7 +1,7 @@
 //! Documents whose texts are read by lines.
 
 use cert_text::certificate_fault_place;
-use match_board::limits::MOST_BYTES;
+use match_limits::MOST_BYTES;
 use match_text::{list_fault_place, puzzle_fault_place};
 use std::alloc::{AllocError, Global};
 use text_words::FaultPlace;

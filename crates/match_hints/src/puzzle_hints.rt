@@ -4,8 +4,8 @@ ghost use Rattle.std.specs.Prelude.{◌≡◌};
 
 use crate::documents::Document;
 use crate::text_hints::text_hint;
-use match_board::limits::{MOST_BYTES, MOST_CELLS, MOST_PLACES, MOST_PLAIN_CELLS};
 use match_board::{Board, BoardFault, Tile};
+use match_limits::{MOST_BYTES, MOST_CELLS, MOST_PLACES, MOST_PLAIN_CELLS};
 use match_puzzle::{Border, PuzzleFault};
 use match_text::{BoardLine, PuzzleText, PuzzleTextFault, read_puzzle_text};
 use std::alloc::{AllocError, Global};

@@ -4,8 +4,9 @@ use crate::documents::{Document, with_line_feed};
 use crate::line_forms::{form_of, mistake};
 use crate::spots::{Spot, quoted};
 use crate::tree_spots::{NodeSpot, node_at};
+use match_limits::ranges_of;
 use std::alloc::{AllocError, Global};
-use text_words::{Asked, FaultPlace, TextKind, ranges_of};
+use text_words::{Asked, FaultPlace, TextKind};
 
 // Of the text of a document: what has to stand where it has its first fault, and what stands there, in one line.
 pub(crate) fn text_hint(

@@ -4,12 +4,13 @@ use Rattle.std.proofs.Math.Nat.{min_comm}
 use Rattle.match_board.specs.Board.{Meets, StandsAt, row_count, PointsUp, PointsDown, LiesBelow, LiesBefore, TrianglesLieBefore, SquaresLieBefore}
 use Rattle.match_board.specs.declared.figures.Figure.{Figure}
 use Rattle.match_board.specs.declared.figures.Figure.TheVariants.{Rectangle, Triangle, Hexagon, Shape}
-use Rattle.match_board.specs.declared.limits.TheConstants.{MOST_COLOURS}
+use Rattle.match_limits.specs.declared.TheConstants.{MOST_COLOURS}
 use Rattle.match_board.proofs.Places.{one_place}
 use Rattle.match_puzzle.specs.Arrangement.{IsArrangement}
 use Rattle.match_puzzle.specs.Puzzle.{Task, IsPuzzle, GoTogether, colour_of, mate_of}
 use Rattle.match_puzzle.specs.declared.placements.Placement.{Placement}
-use Rattle.match_puzzle.proofs.MateLemmas.{mate_back, small_mate, together_turned}
+use Rattle.match_board.proofs.MateLemmas.{mate_back}
+use Rattle.match_puzzle.proofs.TogetherLemmas.{small_mate, together_turned}
 use Rattle.match_show.specs.Triangles.{rows_in}
 use Rattle.match_picture.specs.Edges.{FitTogether, HasEdge}
 use Rattle.match_picture.specs.Elements.{fill_of}

@@ -2,7 +2,7 @@
 use Rattle.std.specs.Prelude.{◌≡◌, ◌≢◌, ◌⊎◌, ◌<◌, ◌+◌, ◌==◌, ℕ, List, [], Some, if◌then◌else◌, codes, length, slice_get, slice_index_or}
 use Rattle.match_board.specs.Board.{Meets}
 use Rattle.match_board.specs.declared.figures.Figure.{Figure}
-use Rattle.match_board.specs.declared.limits.TheConstants.{MOST_COLOURS}
+use Rattle.match_limits.specs.declared.TheConstants.{MOST_COLOURS}
 use Rattle.match_puzzle.specs.Arrangement.{IsArrangement}
 use Rattle.match_puzzle.specs.Puzzle.{Task, IsPuzzle, colour_of, mate_of}
 use Rattle.match_puzzle.specs.declared.placements.Placement.{Placement}

@@ -7,7 +7,7 @@ ghost use Rattle.match_picture.specs.Elements.{IsAtSide, IsBand};
 ghost use Rattle.match_picture.specs.Joined.{Grows, IsJoined, Wraps};
 ghost use Rattle.match_picture.specs.Pictures.{AreBandLines};
 ghost use Rattle.match_picture.specs.declared.sites.Site.{Site};
-ghost use Rattle.match_board.specs.declared.limits.TheConstants.{MOST_COLOURS};
+ghost use Rattle.match_limits.specs.declared.TheConstants.{MOST_COLOURS};
 
 use crate::canvases::{Canvas, Point};
 use crate::corners::{Corner, End, outer_corner};

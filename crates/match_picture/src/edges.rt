@@ -2,7 +2,7 @@
 
 ghost use Rattle.std.specs.Prelude.{◌<◌, IfOk};
 ghost use Rattle.std.specs.String.{string_bytes};
-ghost use Rattle.match_board.specs.declared.limits.TheConstants.{MOST_COLOURS};
+ghost use Rattle.match_limits.specs.declared.TheConstants.{MOST_COLOURS};
 ghost use Rattle.match_picture.specs.Edges.{HasArc, HasEdge, IsEdgePath};
 
 use crate::forms::{Form, Next, knob_radius, side_of};

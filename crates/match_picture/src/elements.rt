@@ -4,7 +4,7 @@ ghost use Rattle.std.specs.Prelude.{◌≡◌, ◌<◌, IfOk, OnOk};
 ghost use Rattle.std.specs.String.{string_bytes};
 ghost use Rattle.match_picture.specs.Elements.{SaysNumber, fill_of};
 ghost use Rattle.match_picture.specs.Joined.{IsWrapped};
-ghost use Rattle.match_board.specs.declared.limits.TheConstants.{MOST_COLOURS};
+ghost use Rattle.match_limits.specs.declared.TheConstants.{MOST_COLOURS};
 
 use crate::canvases::{Canvas, Point};
 use crate::edges::{Edge, edge_path};

@@ -2,7 +2,7 @@
 
 ghost use Rattle.std.specs.Prelude.{◌≡◌, ◌<◌, slice_index_or, []};
 
-use match_board::limits::MOST_COLOURS;
+use match_limits::MOST_COLOURS;
 
 // Fills in the order of the colours, in three hexadecimal digits. Any two of them can be told by who sees all colours and
 // by who doesn't; those of the first colours best.

@@ -1,7 +1,7 @@
 //! Parts of tiles and bands: what shows colours.
 
 ghost use Rattle.std.specs.Prelude.{◌≡◌, ◌<◌, ◌++◌, All, IfOk, OnOk, decimal, length};
-ghost use Rattle.match_board.specs.declared.limits.TheConstants.{MOST_COLOURS};
+ghost use Rattle.match_limits.specs.declared.TheConstants.{MOST_COLOURS};
 ghost use Rattle.match_picture.specs.Elements.{IsPartLine, IsAtSide, element_begin};
 ghost use Rattle.match_picture.specs.Pictures.{ArePartLines};
 

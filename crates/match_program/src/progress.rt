@@ -1,9 +1,9 @@
 //! How far a check, a solve or a count is, told on standard error.
 
 use check_crew::Gate;
-use match_board::limits::MOST_BYTES;
 use match_census::CensusWatch;
 use match_crew::{SolveFault, Watch};
+use match_limits::MOST_BYTES;
 use match_runs::{CheckWatch, RunFault, SolveWatch};
 use std::alloc::Global;
 use std::sync::atomic::{AtomicBool, AtomicU64, Ordering};

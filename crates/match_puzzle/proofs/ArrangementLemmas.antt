@@ -1,6 +1,6 @@
 -- The first fault of a list of placements.
 use Rattle.std.proofs.Common.{eqb, eq-eqb, ◌≡◌, ◌≢◌, ◌<◌, ◌+◌, ℕ, Bool, true, false, MatchBool, List, Option, length, set, get_or, arith, refl, sym, ap, ◌∙◌, subst, ⊎_elim}
-use Rattle.match_board.specs.declared.limits.TheConstants.{MOST_TILES}
+use Rattle.match_limits.specs.declared.TheConstants.{MOST_TILES}
 use Rattle.std.proofs.lemmas.Option.{slice_get-get_or, get_or_from_slice_get}
 use Rattle.std.proofs.lemmas.List.{get_or-set_same, get_or-set_other}
 use Rattle.std.proofs.lemmas.Bool.{eqb-true, false≢true}
@@ -9,15 +9,15 @@ use Rattle.match_puzzle.proofs.Prefixes.{inside}
 use Rattle.match_board.proofs.Places.{against_in_range, Meets-turned}
 use Rattle.match_board.specs.Board.{cell_count, side_count, Meets}
 use Rattle.match_board.specs.declared.figures.Figure.{Figure}
-use Rattle.match_board.specs.First.{IsLeast, IsLeastPair, AtMost}
+use Rattle.match_limits.specs.First.{IsLeast, IsLeastPair, AtMost}
 use Rattle.match_puzzle.specs.Puzzle.{Task, IsPuzzle, HasRule, GoTogether, colour_of, mate_of}
 use Rattle.match_puzzle.specs.Arrangement.{Stands, HaveTiles, AreLegal, StandOnce, ObeyBorder, MatchesEdgeAt, MatchEdges}
 use Rattle.match_puzzle.specs.ArrangementFaults.{ArrangementFails, arrangement_rank, IsArrangementFault, HasNoTileAt, HasNoTurnAt, RepeatsTileAt, BreaksBorderAt, BreaksEdgeAt}
 use Rattle.match_puzzle.specs.Tables.{IsSide}
 use Rattle.match_puzzle.specs.declared.tables.Side.TheVariants.{Border, Edge}
 use Rattle.match_puzzle.specs.declared.placements.Placement.{Placement}
-use Rattle.match_puzzle.proofs.MateLemmas.{together_turned}
-use Rattle.match_puzzle.proofs.FirstLemmas.{sooner, not_after_itself, not_after_number, not_after_pair}
+use Rattle.match_puzzle.proofs.TogetherLemmas.{together_turned}
+use Rattle.match_limits.proofs.FirstLemmas.{sooner, not_after_itself, not_after_number, not_after_pair}
 use Rattle.match_puzzle.specs.declared.faults.ArrangementFault.{ArrangementFault}
 use Rattle.match_puzzle.specs.declared.faults.ArrangementFault.TheVariants.{Length, TileRange, Turn, TileTwice, BorderBroken, EdgeBroken}
 
@@ -187,14 +187,6 @@ module _ (a : List Placement) where
       let w : NotBefore cell x.tile = subst (λ b. MatchBool b (StandsBefore cell x.tile) (NotBefore cell x.tile)) is (so_far x.tile lt) in
       let at : o.0 ≡ x = inside (sym o.3 ∙ here) in
       w o.1 o.2 o.4 o.5 (sym o.6 ∙ ap (λ (z : Placement). z.tile) at)
-
--- a test of two numbers that decides between two facts
-pub by_test : (m n : ℕ) (P Q : Type 0) → (m ≡ n → P) → (m ≢ n → Q) → MatchBool (eqb m n) P Q
-by_test m n P Q yes_case no_case = by_result (eqb m n) refl
-  where
-    by_result : (b : Bool) → eqb m n ≡ b → MatchBool b P Q
-    by_result true e = yes_case (eqb-true m n e)
-    by_result false e = no_case (λ same. false≢true (sym e ∙ eq-eqb m n same))
 
 -- a side that meets another is one of the cell's
 pub side_in_range : {s : Figure} {cell side cell' side' : ℕ} → Meets s cell side cell' side' → side < side_count s

@@ -1,11 +1,11 @@
 -- What each cell asks of those that it meets, four places to a cell.
 use Rattle.std.proofs.Common.{◌≡◌, ◌≢◌, ◌⊎◌, ◌<◌, ◌≤◌, ◌+◌, ◌*◌, ℕ, List, Some, None, length, set, get_or, replicate, arith, sym, ◌∙◌, subst, inl, inr, ⊎_elim}
-use Rattle.match_board.specs.declared.limits.TheConstants.{MOST_COLOURS}
+use Rattle.match_limits.specs.declared.TheConstants.{MOST_COLOURS}
 use Rattle.std.proofs.lemmas.Option.{slice_get_within}
 use Rattle.std.proofs.lemmas.List.{length-replicate}
 use Rattle.std.proofs.lemmas.Bool.Decides.{eqb_tells}
 use Rattle.match_board.specs.Board.{cell_count, side_count}
-use Rattle.match_board.proofs.Listings.{lt_or_le}
+use Rattle.match_limits.proofs.Listings.{lt_or_le}
 use Rattle.match_puzzle.specs.Puzzle.{Task, IsPuzzle, colour_of, mate_of}
 use Rattle.match_puzzle.specs.Prefix.{Prefix, Has, IsFree, with_pair}
 use Rattle.match_puzzle.specs.PlacementSets.{AsksColours}
@@ -13,7 +13,7 @@ use Rattle.match_puzzle.specs.Partials.{AreAsking}
 use Rattle.match_puzzle.specs.declared.placements.Placement.{Placement}
 use Rattle.match_puzzle.proofs.Words.{few_sides}
 use Rattle.match_puzzle.proofs.Prefixes.{slice_get-set_other, has_placed, has_new, has_lifted}
-use Rattle.match_puzzle.proofs.Kept.{has_none}
+use Rattle.match_puzzle.proofs.UsedTiles.{has_none}
 use Rattle.match_puzzle.proofs.FittingLemmas.{AsksBelow, outside_asks, border_asks, edge_asks}
 use Rattle.match_puzzle.proofs.TableLemmas.{rule_below}
 use Rattle.match_puzzle.proofs.ArrangementLemmas.{side_in_range}

@@ -1,14 +1,14 @@
 -- What fits at a cell.
 use Rattle.std.proofs.Common.{◌≡◌, ◌<◌, ◌≤◌, ◌+◌, ◌*◌, ◌/◌, ◌%◌, ◌∷◌, [], ◌↔◌, ℕ, zero, suc, List, Contains, Option, Some, None, IfSome, unwrap_or, length, map, get_or, IsTrue, eqb, eq-eqb, ◌^◌, bit_and, arith, refl, sym, ap, ◌∙◌, subst, inl, inr, ⊎_elim}
-use Rattle.match_board.proofs.OptionLemmas.{none_some}
-use Rattle.match_board.specs.declared.limits.TheConstants.{MOST_COLOURS}
+use Rattle.match_limits.proofs.OptionLemmas.{none_some}
+use Rattle.match_limits.specs.declared.TheConstants.{MOST_COLOURS}
 use Rattle.std.specs.Int.{bit_at}
 use Rattle.std.proofs.lemmas.Nat.Bits.{shr_and_one}
 use Rattle.std.proofs.lemmas.Bool.{eqb-true}
 use Rattle.std.proofs.lemmas.Bool.Decides.{eqb_tells}
 use Rattle.std.proofs.lemmas.List.{get_or-map, length-map}
 use Rattle.match_board.specs.Board.{side_count}
-use Rattle.match_board.specs.Listing.{IsListing, ByKey, ComesBefore}
+use Rattle.match_limits.specs.Listing.{IsListing, ByKey, ComesBefore}
 use Rattle.match_puzzle.specs.Puzzle.{Task, IsPuzzle, IsLegal, colour_of, mate_of}
 use Rattle.match_puzzle.specs.Prefix.{Prefix, Has, IsFree, IsUnused}
 use Rattle.match_puzzle.specs.Fitting.{Fits, FitsItem, AreFitting, AreAsAsked, IsAsked, item_key, tile_turn, turned_tile, numbered_pair}

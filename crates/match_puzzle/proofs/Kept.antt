@@ -5,50 +5,16 @@ use Rattle.std.proofs.lemmas.Nat.Bits.{bit_at-zero, bit_at-lt as bit_at_lt, same
 use Rattle.std.proofs.lemmas.List.{length-replicate}
 use Rattle.std.proofs.lemmas.Bool.Decides.{eqb_tells}
 use Rattle.match_board.specs.Board.{cell_count}
-use Rattle.match_board.specs.Listing.{IsListing}
+use Rattle.match_limits.specs.Listing.{IsListing}
 use Rattle.match_puzzle.specs.Puzzle.{Task, IsPuzzle, IsLegal}
 use Rattle.match_puzzle.specs.Prefix.{Prefix, Has, IsFree, IsUsed, IsUnused, with_pair}
-use Rattle.match_puzzle.specs.NumberSets.{IsGroup}
+use Rattle.match_limits.specs.NumberSets.{IsGroup}
 use Rattle.match_puzzle.specs.PlacementSets.{AreLegalNumbers, AreFreeNumbers, AreUnturnedLegal, numbered}
 use Rattle.match_puzzle.specs.Partials.{IsKept, AreAsking}
 use Rattle.match_puzzle.specs.declared.placements.Placement.{Placement}
 use Rattle.match_puzzle.proofs.FittingLemmas.{numbered_at}
-use Rattle.match_puzzle.proofs.Prefixes.{inside, slice_get-replicate, has_placed, has_new, has_still, has_lifted, has_kept}
-
-nothing_is_some : {X : Type 0} {x : X} → Some x ≡ None → ⊥
-nothing_is_some e = cc
-
-twice : {a b : Placement} → Some (Some a) ≡ Some (Some b) → a ≡ b
-twice e = cc
-
--- Nothing stands in an empty prefix.
-pub has_none : (n cell : ℕ) (x : Placement) → Has (replicate n None) cell x → ⊥
-has_none n cell x has = nothing_is_some (slice_get-replicate n cell None (Some x) has)
-
--- ---- which tiles are placed
-
-nowhere : {x : Option Placement} → None ≡ Some x → ⊥
-nowhere e = cc
-
--- a tile stands somewhere or nowhere
-pub used_or_unused : (q : Prefix) (tile : ℕ) → IsUsed q tile ⊎ IsUnused q tile
-used_or_unused [] tile = inr (λ cell x has same. nowhere has)
-used_or_unused (y ∷ q) tile = ⊎_elim (λ w. inl (suc w.0, w.1, w.2, w.3)) (λ none. at_first y none) (used_or_unused q tile)
-  where
-    at_first : (z : Option Placement) → IsUnused q tile → IsUsed (z ∷ q) tile ⊎ IsUnused (z ∷ q) tile
-    at_first None none = inr elsewhere
-      where
-        elsewhere : IsUnused (None ∷ q) tile
-        elsewhere zero x has same = nothing_is_some (sym (inside has))
-        elsewhere (suc cell) x has same = none cell x has same
-    at_first (Some z) none = ⊎_elim (λ e. inl (0, z, refl, e.1)) (λ ne. inr (elsewhere ne.1)) (eqb_tells z.tile tile)
-      where
-        elsewhere : z.tile ≢ tile → IsUnused (Some z ∷ q) tile
-        elsewhere ne zero x has same = ne (ap (λ (y : Placement). y.tile) (twice has) ∙ same)
-        elsewhere ne (suc cell) x has same = none cell x has same
-
-pub not_both : (q : Prefix) (tile : ℕ) → IsUsed q tile → IsUnused q tile → ⊥
-not_both q tile used unused = unused used.0 used.1 used.2 used.3
+use Rattle.match_puzzle.proofs.Prefixes.{has_placed, has_new, has_still, has_lifted, has_kept}
+use Rattle.match_puzzle.proofs.UsedTiles.{twice, has_none, used_or_unused, not_both}
 
 -- A tile is placed where none of its placements is free.
 module _ (p : Task) (q : Prefix) (numbers : List ℕ) (tile digits : ℕ) (free : AreFreeNumbers p q numbers) (unturned : AreUnturnedLegal p) (tile_in : tile < length p.words) (few : digits < 16) (group : IsGroup numbers tile digits) where

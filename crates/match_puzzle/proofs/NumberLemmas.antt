@@ -2,7 +2,7 @@
 use Rattle.std.proofs.Common.{◌≡◌, ◌⊎◌, ◌<◌, ◌+◌, ◌↔◌, ◌++◌, ◌∷◌, [], ℕ, zero, suc, List, Some, Contains, length, length-append, slice_get, arith, refl, subst, inl, inr, ⊎_elim}
 use Rattle.std.proofs.lemmas.List.Elements.{Contains-append_left, Contains-append_right, Contains-append_cases}
 use Rattle.std.proofs.lemmas.Option.{none-some}
-use Rattle.match_board.proofs.ListLemmas.{contains_none, contains_at}
+use Rattle.match_limits.proofs.ListLemmas.{contains_none, contains_at}
 use Rattle.match_puzzle.specs.declared.placements.Placement.{Placement}
 use Rattle.match_puzzle.specs.Arrangement.{AreDistinct}
 use Rattle.match_puzzle.specs.Numbers.{AreSoMany, AreMoreThan}

@@ -3,7 +3,7 @@ use Rattle.std.proofs.Common.{◌≡◌, ◌≢◌, ◌⊎◌, ◌<◌, ◌+◌,
 use Rattle.std.proofs.lemmas.Bool.Decides.{eqb_tells}
 use Rattle.std.proofs.lemmas.List.{length-replicate, get_or-replicate, take_more}
 use Rattle.std.proofs.lemmas.Option.{slice_get_within, slice_get-get_or, get_or_from_slice_get}
-use Rattle.match_board.proofs.OptionLemmas.{none_some}
+use Rattle.match_limits.proofs.OptionLemmas.{none_some}
 use Rattle.match_board.specs.Board.{cell_count}
 use Rattle.match_puzzle.specs.Puzzle.{Task}
 use Rattle.match_puzzle.specs.Prefix.{Prefix, Has, IsFree, IsUnused, empty_prefix, with_pair, with_pairs, without_cell}
@@ -11,7 +11,7 @@ use Rattle.match_puzzle.specs.PrefixFaults.{IsPairList}
 use Rattle.match_puzzle.specs.declared.placements.Placement.{Placement}
 use Rattle.match_puzzle.specs.declared.placements.Pair.{Pair}
 use Rattle.match_puzzle.proofs.Prefixes.{inside, has_new, lifted_is, slice_get-set_same, slice_get-set_other}
-use Rattle.match_puzzle.proofs.Kept.{has_none}
+use Rattle.match_puzzle.proofs.UsedTiles.{has_none}
 
 pub with_pairs-append : (xs ys : List Pair) (q : Prefix) → with_pairs (xs ++ ys) q ≡ with_pairs ys (with_pairs xs q)
 with_pairs-append [] ys q = refl

@@ -1,6 +1,6 @@
 -- Sets of placements, a group of four for each tile.
 use Rattle.std.proofs.Common.{◌≡◌, ◌⊎◌, ◌<◌, ◌≤◌, ◌+◌, ◌-◌, ◌*◌, ◌/◌, ◌%◌, ◌^◌, ℕ, zero, suc, List, [], Bool, true, false, MatchBool, All, Contains, length, get_or, lt-ltb, bit_or, arith, refl, ap, sym, ◌∙◌, subst, inl, inr, ⊎_elim}
-use Rattle.match_board.specs.declared.limits.TheConstants.{MOST_TILES}
+use Rattle.match_limits.specs.declared.TheConstants.{MOST_TILES}
 use Rattle.std.specs.Int.{bit_at, w8}
 use Rattle.std.proofs.lemmas.Bool.Decides.{eqb_tells}
 use Rattle.std.proofs.lemmas.Nat.{or_lt, one_shl, pow_below}
@@ -8,7 +8,7 @@ use Rattle.std.proofs.lemmas.Nat.Bits.{bit_at_ones, bit_at_ones_above, bit_at_se
 use Rattle.std.proofs.lemmas.Option.{slice_get-get_or}
 use Rattle.std.proofs.lemmas.List.{get_or_default, get_or_past}
 use borrow.Author.Tests.{ltb-true}
-use Rattle.match_board.specs.Listing.{IsListing}
+use Rattle.match_limits.specs.Listing.{IsListing}
 use Rattle.match_board.specs.Turns.{IsPeriod}
 use Rattle.match_board.proofs.TurnsLemmas.{whole_turn}
 use Rattle.match_puzzle.specs.Puzzle.{Task, IsPuzzle, IsLegal, colour_of, mate_of}
@@ -16,9 +16,9 @@ use Rattle.match_puzzle.specs.Fitting.{turned_tile}
 use Rattle.match_puzzle.specs.PlacementSets.{AreLegalNumbers, AreUnturnedLegal, AreColoursAfter, AreShownColours, ShowsColours, AreMatesShown, AsksColours}
 use Rattle.match_puzzle.specs.declared.placements.Placement.{Placement}
 use Rattle.match_puzzle.specs.Tables.{IsTurnCount, AreTurnCounts}
-use Rattle.match_puzzle.proofs.MateLemmas.{small_mate}
+use Rattle.match_puzzle.proofs.TogetherLemmas.{small_mate}
 use Rattle.match_puzzle.proofs.Words.{legal_by_count, some_sides, few_sides}
-use Rattle.match_board.proofs.Listings.{lt_or_le}
+use Rattle.match_limits.proofs.Listings.{lt_or_le}
 
 -- ---- groups, one after the other
 

@@ -1,11 +1,11 @@
 -- The first fault of a list of pairs.
 use Rattle.std.proofs.Common.{◌≡◌, ◌≢◌, ◌⊎◌, ◌<◌, ◌≤◌, ◌+◌, ℕ, zero, suc, Bool, true, false, List, Some, length, length-set, map, set, get_or, slice_get, arith, refl, sym, ap, ◌∙◌, subst, inl, inr, ⊎_elim}
-use Rattle.match_board.specs.declared.limits.TheConstants.{MOST_CELLS, MOST_TILES}
+use Rattle.match_limits.specs.declared.TheConstants.{MOST_CELLS, MOST_TILES}
 use Rattle.std.proofs.lemmas.Bool.Decides.{eqb_tells}
 use Rattle.std.proofs.lemmas.List.{length-map, get_or-map}
 use Rattle.std.proofs.lemmas.Option.{slice_get_within, slice_get-get_or, get_or_from_slice_get}
 use Rattle.match_board.specs.Board.{cell_count}
-use Rattle.match_board.specs.First.{AtMost}
+use Rattle.match_limits.specs.First.{AtMost}
 use Rattle.match_puzzle.specs.Puzzle.{Task, IsLegal, IsLegalTurn}
 use Rattle.match_puzzle.specs.Arrangement.{Stands}
 use Rattle.match_puzzle.specs.PrefixFaults.{IsPairList, PrefixFails, prefix_rank, IsPrefixFault, IsNextCell, IsNewTile}

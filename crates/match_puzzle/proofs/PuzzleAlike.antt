@@ -3,8 +3,9 @@ use Rattle.std.proofs.Common.{◌≡◌, ◌↔◌, ℕ, Bool, List, refl, ap, �
 use Rattle.match_board.specs.Board.{AreAlike}
 use Rattle.match_board.specs.declared.figures.Figure.{Figure}
 use Rattle.match_board.proofs.AlikeLemmas.{alike_turned, alike_border_pair, alike_border_order, second_alike, second_is_board}
-use Rattle.match_puzzle.specs.Mates.{mating_of}
-use Rattle.match_puzzle.specs.Puzzle.{Task, BorderRule, free, one, each, Asks, HasRule, IsLegal, IsAsLongAsBorder, IsPuzzle, colour_of, mate_of, second_form_of}
+use Rattle.match_board.specs.Mates.{mating_of}
+use Rattle.match_puzzle.specs.Puzzle.{Task, HasRule, IsLegal, IsPuzzle, colour_of, mate_of, second_form_of}
+use Rattle.match_board.specs.Borders.{BorderRule, free, one, each, Asks, IsAsLongAsBorder}
 use Rattle.match_puzzle.specs.Arrangement.{IsArrangement}
 use Rattle.match_puzzle.specs.Prefix.{Prefix}
 use Rattle.match_puzzle.specs.Fitting.{Fits}

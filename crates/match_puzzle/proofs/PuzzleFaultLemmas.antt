@@ -1,14 +1,15 @@
 -- The first fault of a puzzle.
 use Rattle.std.proofs.Common.{◌≡◌, ◌<◌, ℕ, false, length, arith}
-use Rattle.match_board.specs.declared.limits.TheConstants.{MOST_COLOURS}
+use Rattle.match_limits.specs.declared.TheConstants.{MOST_COLOURS}
 use Rattle.match_board.specs.Board.{cell_count, side_count}
-use Rattle.match_board.specs.First.{AtMost, IsFirst, IsLeast}
-use Rattle.match_puzzle.specs.Puzzle.{Task, word_of, StandsInRule, IsAsLongAsBorder}
+use Rattle.match_limits.specs.First.{AtMost, IsFirst, IsLeast}
+use Rattle.match_puzzle.specs.Puzzle.{Task, word_of}
+use Rattle.match_board.specs.Borders.{StandsInRule, IsAsLongAsBorder}
 use Rattle.match_puzzle.specs.PuzzleFaults.{PuzzleFails, puzzle_rank}
 use Rattle.match_puzzle.specs.declared.faults.PuzzleFault.{PuzzleFault}
 use Rattle.match_puzzle.specs.declared.faults.PuzzleFault.TheVariants.{FixedTriangles, TileCount, TileSides, BadColour}
 use Rattle.match_puzzle.specs.declared.faults.PuzzleFault.TheVariants.{BorderLength, Mates, Memory}
-use Rattle.match_puzzle.proofs.FirstLemmas.{sooner, not_after_number}
+use Rattle.match_limits.proofs.FirstLemmas.{sooner, not_after_number}
 
 -- a colour that there is not, where all before is right
 pub first_bad_colour : (p : Task) (place : ℕ) → (side_count p.board ≡ 3 → p.turns ≡ false → ⊥) → length p.words ≡ cell_count p.board →

@@ -1,24 +1,25 @@
 -- What is looked up.
 use Rattle.std.proofs.Common.{◌≡◌, ◌≢◌, ◌⊎◌, ◌<◌, ◌≤◌, ◌+◌, ◌++◌, ◌∷◌, [], ◌↔◌, ℕ, zero, suc, Bool, List, Option, Some, None, MatchBool, IfSome, Contains, All, length, map, get_or, set, slice_get, arith, refl, ap, sym, ◌∙◌, subst, inl, inr, ⊎_elim}
-use Rattle.match_board.proofs.OptionLemmas.{none_some}
-use Rattle.match_board.specs.declared.limits.TheConstants.{MOST_COLOURS}
+use Rattle.match_limits.proofs.OptionLemmas.{none_some}
+use Rattle.match_limits.specs.declared.TheConstants.{MOST_COLOURS}
 use Rattle.std.proofs.lemmas.List.{length-map}
 use Rattle.match_board.specs.Board.{cell_count, side_count, Meets, IsBorderPair, IsBorderOrder}
 use Rattle.match_board.specs.declared.figures.Figure.{Figure}
 use Rattle.match_board.specs.declared.tiles.Tile.{Tile}
-use Rattle.match_puzzle.specs.declared.borders.Border.{Border}
+use Rattle.match_board.specs.declared.borders.Border.{Border}
 use Rattle.match_board.specs.Tile.{word}
 use Rattle.match_board.specs.Turns.{IsPeriod}
-use Rattle.match_puzzle.specs.Mates.{Mating}
-use Rattle.match_puzzle.specs.Puzzle.{Task, BorderRule, free, one, each, task_of, rule_of, HasRule, Asks, AsksAt, StandsInRule, IsPuzzle, IsAsLongAsBorder}
+use Rattle.match_board.specs.Mates.{Mating}
+use Rattle.match_puzzle.specs.Puzzle.{Task, task_of, HasRule, IsPuzzle}
+use Rattle.match_board.specs.Borders.{BorderRule, free, one, each, rule_of, Asks, AsksAt, StandsInRule, IsAsLongAsBorder}
 use Rattle.match_puzzle.specs.Colours.{HasColour, IsColourCount}
 use Rattle.match_puzzle.specs.Tables.{IsSide, IsAskedAt, AreSides, IsTurnCount, IsNextNumber}
 use Rattle.match_puzzle.specs.declared.tables.CellSides.{CellSides}
 use Rattle.match_puzzle.proofs.Words.{tile_of_word, word_at}
 use Rattle.match_puzzle.specs.declared.tables.Side.TheVariants.{Border as TableBorder}
 use Rattle.std.proofs.lemmas.Option.{slice_get_within, get_or_from_slice_get}
-use Rattle.match_board.specs.Listing.{IsListing, ComesBefore, HoldsBefore}
-use Rattle.match_board.proofs.Listings.{After, in_front, first_before, listing_rest, same_listing, contains_none, comes_before_asymmetric, comes_before_trans, lt_or_le}
+use Rattle.match_limits.specs.Listing.{IsListing, ComesBefore, HoldsBefore}
+use Rattle.match_limits.proofs.Listings.{After, in_front, first_before, listing_rest, same_listing, contains_none, comes_before_asymmetric, comes_before_trans, lt_or_le}
 use Rattle.match_board.proofs.BorderLemmas.{border_next, inner_next, border_row, border_none}
 use Rattle.match_puzzle.proofs.Prefixes.{inside}
 
@@ -196,14 +197,6 @@ turn_count_is board turns border mating tiles i t n lt at is = subst (λ w. Matc
 pub words_coloured : (tiles : List Tile) (i : ℕ) → i < length (map word tiles) → All (λ colour. colour < MOST_COLOURS) (get_or (map word tiles) i [])
 unfolding word
 words_coloured tiles i lt = let at = word_there tiles i lt in subst (λ w. All (λ colour. colour < MOST_COLOURS) w) (sym at.2) at.0.in_range
-
--- A list of rules is as long as the border exactly where it has as many as were counted.
-pub long_rules : (s : Figure) (rules : List (Option ℕ)) (count : ℕ) → (pairs : List (ℕ × ℕ)) × IsBorderOrder s pairs × (length pairs ≡ count) →
-    (length rules ≡ count → IsAsLongAsBorder s (each rules)) × (IsAsLongAsBorder s (each rules) → length rules ≡ count)
-long_rules s rules count all = (
-  λ e. (all.0, all.1, e ∙ sym all.2),
-  λ h. h.2 ∙ ap length (same_listing ComesBefore comes_before_asymmetric (λ n. IsBorderPair s n.0 n.1) h.0 all.0 h.1 all.1) ∙ all.2,
-)
 
 -- Nothing stands in an empty table.
 pub in_empty_table : {X : Type 0} (i : ℕ) (x : X) → slice_get [] i ≡ Some x → ⊥

@@ -1,7 +1,7 @@
 -- What may be wrong with an arrangement.
 use Rattle.std.specs.Prelude.{◌≡◌, ◌≢◌, ◌<◌, ◌≤◌, ℕ, List, length}
 use Rattle.match_board.specs.Board.{cell_count, Meets}
-use Rattle.match_board.specs.First.{Rank, IsFirst, rank_by, rank_by_two, rank_by_three}
+use Rattle.match_limits.specs.First.{Rank, IsFirst, rank_by, rank_by_two, rank_by_three}
 use Rattle.match_puzzle.specs.Puzzle.{Task, colour_of, GoTogether, IsLegalTurn, HasRule}
 use Rattle.match_puzzle.specs.Arrangement.{Stands}
 use Rattle.match_puzzle.specs.declared.placements.Placement.{Placement}

@@ -1,6 +1,7 @@
 -- How many colours a puzzle has.
 use Rattle.std.specs.Prelude.{◌<◌, ◌≤◌, ◌⊎◌, ℕ, Contains, length}
-use Rattle.match_puzzle.specs.Puzzle.{Task, word_of, StandsInRule}
+use Rattle.match_puzzle.specs.Puzzle.{Task, word_of}
+use Rattle.match_board.specs.Borders.{StandsInRule}
 
 -- The colour is on a tile, in the border rule or in the list of mates.
 abbrev pub HasColour : Task → ℕ → Type 0

@@ -1,7 +1,7 @@
 -- What fits a prefix.
 use Rattle.std.specs.Prelude.{◌≡◌, ◌⊎◌, ◌<◌, ◌≤◌, ◌+◌, ◌/◌, ◌%◌, ℕ, List, Option, IfSome, length}
 use Rattle.match_board.specs.Board.{cell_count, Meets}
-use Rattle.match_board.specs.Listing.{IsListing, ByKey}
+use Rattle.match_limits.specs.Listing.{IsListing, ByKey}
 use Rattle.match_puzzle.specs.Puzzle.{Task, colour_of, mate_of, GoTogether, IsLegal, HasRule}
 use Rattle.match_puzzle.specs.Prefix.{Prefix, Has, IsFree, IsUnused}
 use Rattle.match_puzzle.specs.declared.placements.Placement.{Placement}
@@ -111,3 +111,8 @@ pub record IsNextFitting (p : Task) (q : Prefix) (item : Item) (after : Option P
 -- No pair that fits and settles the item comes after that one.
 abbrev pub IsLastFitting : Task → Prefix → Item → (after : Option Pair) → Type 0
 IsLastFitting p q item after = (y : Pair) → FitsItem p q item y → ComesAfterPair item after y → ⊥
+
+-- the place of the item in a table, where there are so many cells
+abbrev pub item_place : (cells : ℕ) → Item → ℕ
+item_place cells (Cell cell) = cell
+item_place cells (Tile tile) = cells + tile

@@ -1,4 +1,3 @@
-pub mod Mates
 pub mod Puzzle
 pub mod Colours
 pub mod PuzzleFaults
@@ -10,10 +9,6 @@ pub mod Prefix
 pub mod PrefixFaults
 pub mod Fitting
 pub mod Tables
-pub mod Partials
 pub mod Equality
-pub mod NumberSets
 pub mod PlacementSets
-pub mod Placing
-pub mod FitRows
-pub mod FitSizes
+pub mod Partials

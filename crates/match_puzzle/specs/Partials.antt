@@ -1,6 +1,6 @@
 -- What a partial arrangement keeps.
 use Rattle.std.specs.Prelude.{◌≡◌, ◌<◌, ◌≤◌, ◌+◌, ◌*◌, ℕ, List, length, slice_index}
-use Rattle.match_board.specs.declared.limits.TheConstants.{MOST_COLOURS}
+use Rattle.match_limits.specs.declared.TheConstants.{MOST_COLOURS}
 use Rattle.match_board.specs.Board.{cell_count, side_count}
 use Rattle.match_puzzle.specs.Puzzle.{Task, IsPuzzle, colour_of, mate_of}
 use Rattle.match_puzzle.specs.Prefix.{Prefix, Has, IsFree, IsPrefix}

@@ -1,11 +1,11 @@
 -- Sets of placements, by number: four turns to a tile.
 use Rattle.std.specs.Prelude.{◌≡◌, ◌<◌, ◌/◌, ◌%◌, ◌+◌, ◌*◌, ℕ, List, [], length, slice_index, slice_index_or}
-use Rattle.match_board.specs.declared.limits.TheConstants.{MOST_COLOURS}
-use Rattle.match_board.specs.Listing.{IsListing}
+use Rattle.match_limits.specs.declared.TheConstants.{MOST_COLOURS}
+use Rattle.match_limits.specs.Listing.{IsListing}
 use Rattle.match_board.specs.Turns.{shown}
 use Rattle.match_board.specs.Board.{side_count}
 use Rattle.match_puzzle.specs.Puzzle.{Task, IsLegal, colour_of, mate_of}
-use Rattle.match_puzzle.specs.Mates.{mate_in}
+use Rattle.match_board.specs.Mates.{mate_in}
 use Rattle.match_puzzle.specs.Prefix.{Prefix, IsUnused}
 use Rattle.match_puzzle.specs.declared.placements.Placement.{Placement}
 

@@ -1,9 +1,9 @@
 -- Pairs that are listed as a prefix.
 use Rattle.std.specs.Prelude.{◌≡◌, ◌⊎◌, ◌<◌, ◌≤◌, ◌+◌, ℕ, Bool, true, false, List, Option, Some, None, length}
 use Rattle.std.specs.Prelude.{slice_get, slice_index_or}
-use Rattle.match_board.specs.declared.limits.TheConstants.{MOST_CELLS, MOST_TILES}
+use Rattle.match_limits.specs.declared.TheConstants.{MOST_CELLS, MOST_TILES}
 use Rattle.match_board.specs.Board.{cell_count}
-use Rattle.match_board.specs.First.{Rank, IsFirst, rank_by_two}
+use Rattle.match_limits.specs.First.{Rank, IsFirst, rank_by_two}
 use Rattle.match_puzzle.specs.Puzzle.{Task, IsLegal, IsLegalTurn}
 use Rattle.match_puzzle.specs.declared.placements.Pair.{Pair}
 use Rattle.match_puzzle.specs.declared.faults.PrefixFault.{PrefixFault}

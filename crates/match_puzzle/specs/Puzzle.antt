@@ -1,7 +1,7 @@
 -- What a puzzle asks.
 use Rattle.std.specs.Prelude.{◌≡◌, ◌<◌, ◌^◌, ℕ, Bool, true, List, [], Option, Some, MatchBool, All, map, length}
 use Rattle.std.specs.Prelude.{slice_get, slice_index_or}
-use Rattle.match_board.specs.declared.limits.TheConstants.{MOST_COLOURS}
+use Rattle.match_limits.specs.declared.TheConstants.{MOST_COLOURS}
 use Rattle.match_board.specs.Board.{cell_count, side_count, IsBoard, IsShape, IsBorderPair, IsBorderOrder}
 use Rattle.match_board.specs.Board.{second_figure}
 use Rattle.match_board.specs.declared.figures.Figure.{Figure}
@@ -9,24 +9,10 @@ use Rattle.match_board.specs.declared.figures.Figure.TheVariants.{Rectangle, Tri
 use Rattle.match_board.specs.Turns.{shown, IsPeriod}
 use Rattle.match_board.specs.Tile.{word}
 use Rattle.match_board.specs.declared.tiles.Tile.{Tile}
-use Rattle.match_puzzle.specs.Mates.{Mating, IsMating, mate_in, unmated, mated}
-use Rattle.match_puzzle.specs.declared.borders.Border.{Border}
-use Rattle.match_puzzle.specs.declared.borders.Border.TheVariants.{Free, One, Each}
+use Rattle.match_board.specs.Mates.{Mating, IsMating, mate_in, unmated, mated}
+use Rattle.match_board.specs.declared.borders.Border.{Border}
+use Rattle.match_board.specs.declared.borders.Border.TheVariants.{Free, One, Each}
 use Rattle.match_puzzle.specs.declared.placements.Placement.{Placement}
-
--- what is asked of the border pairs
-pub data BorderRule : Type 0 where
-  -- nothing
-  free : BorderRule
-  -- this colour on each
-  one : (colour : ℕ) → BorderRule
-  -- a colour, or nothing, for each, in border order
-  each : (rules : List (Option ℕ)) → BorderRule
-
-abbrev pub rule_of : Border → BorderRule
-rule_of Free = free
-rule_of (One colour) = one colour
-rule_of (Each rules) = each rules
 
 -- a puzzle: its board, whether tiles may be turned, what the border asks, the mates of colours, and the tiles' words
 pub record Task : Type 0 where
@@ -65,30 +51,10 @@ pub record IsLegal (p : Task) (x : Placement) : Type 0 where
   pub tile : x.tile < length p.words
   pub turn : IsLegalTurn p x
 
--- what a border rule asks of a border pair
-abbrev pub Asks : Figure → BorderRule → (cell side colour : ℕ) → Type 0
-Asks s free cell side colour = ⊥
-Asks s (one c) cell side colour = colour ≡ c
-Asks s (each rules) cell side colour =
-    (pairs : List (ℕ × ℕ)) × IsBorderOrder s pairs × (number : ℕ)
-    × (slice_get pairs number ≡ Some (cell, side)) × (slice_get rules number ≡ Some (Some colour))
-
 -- the colour that the border asks of a side
 pub record HasRule (p : Task) (cell side colour : ℕ) : Type 0 where
   pub border_pair : IsBorderPair p.board cell side
   pub asked : Asks p.board p.border cell side colour
-
--- The colour stands in the border rule at this place.
-abbrev pub StandsInRule : BorderRule → (place colour : ℕ) → Type 0
-StandsInRule free place colour = ⊥
-StandsInRule (one c) place colour = (place ≡ 0) × (colour ≡ c)
-StandsInRule (each rules) place colour = slice_get rules place ≡ Some (Some colour)
-
--- A list of rules has one for each border pair.
-abbrev pub IsAsLongAsBorder : Figure → BorderRule → Type 0
-IsAsLongAsBorder s free = Unit {0}
-IsAsLongAsBorder s (one c) = Unit {0}
-IsAsLongAsBorder s (each rules) = (pairs : List (ℕ × ℕ)) × IsBorderOrder s pairs × (length rules ≡ length pairs)
 
 -- as many tiles as cells, with as many sides; triangles may be turned; colours that there are; a rule for each border
 -- pair; each colour the mate of its mate; version 2 where the board is a shape
@@ -124,15 +90,3 @@ second_form_of p = record {
   mating = mated p.mating.mates;
   words = p.words;
 }
-
--- The rule asks for the colour on the border pair with this number, in border order.
-abbrev pub AsksAt : BorderRule → (number colour : ℕ) → Type 0
-AsksAt free number colour = ⊥
-AsksAt (one c) number colour = colour ≡ c
-AsksAt (each rules) number colour = slice_get rules number ≡ Some (Some colour)
-
--- A list of rules has fewer than 2^32 entries.
-abbrev pub IsShortRule : BorderRule → Type 0
-IsShortRule free = Unit {0}
-IsShortRule (one c) = Unit {0}
-IsShortRule (each rules) = length rules < 2 ^ 32

@@ -1,24 +1,14 @@
 -- What may be wrong with a puzzle.
 use Rattle.std.specs.Prelude.{◌≡◌, ◌≢◌, ◌⊎◌, ◌<◌, ◌≤◌, ℕ, false, List, length}
-use Rattle.match_board.specs.declared.limits.TheConstants.{MOST_COLOURS}
+use Rattle.match_limits.specs.declared.TheConstants.{MOST_COLOURS}
 use Rattle.match_board.specs.Board.{cell_count, side_count}
-use Rattle.match_board.specs.First.{Rank, rank_by, rank_by_two}
-use Rattle.match_puzzle.specs.Mates.{mate_in}
-use Rattle.match_puzzle.specs.Puzzle.{Task, word_of, StandsInRule, IsAsLongAsBorder}
+use Rattle.match_limits.specs.First.{Rank, rank_by, rank_by_two}
+use Rattle.match_board.specs.Mates.{mate_in}
+use Rattle.match_puzzle.specs.Puzzle.{Task, word_of}
+use Rattle.match_board.specs.Borders.{StandsInRule, IsAsLongAsBorder}
 use Rattle.match_puzzle.specs.declared.faults.PuzzleFault.{PuzzleFault}
 use Rattle.match_puzzle.specs.declared.faults.PuzzleFault.TheVariants.{FixedTriangles, TileCount, TileSides, BadColour}
 use Rattle.match_puzzle.specs.declared.faults.PuzzleFault.TheVariants.{BorderLength, Mates, Memory}
-
--- The colour of the list has a mate that is not in the list, or has another mate.
-abbrev pub HasNoMateAt : List ℕ → ℕ → Type 0
-HasNoMateAt mates colour =
-    (colour < length mates)
-    × ((length mates ≤ mate_in mates colour) ⊎ (mate_in mates (mate_in mates colour) ≢ colour))
-
--- It is so of the colour, or this is the place after the last colour, and the list is longer.
-abbrev pub BreaksMatesAt : List ℕ → ℕ → Type 0
-BreaksMatesAt mates place =
-    HasNoMateAt mates place ⊎ ((place ≡ MOST_COLOURS) × (MOST_COLOURS < length mates))
 
 -- When a fault occurs; want of memory is none of the puzzle.
 abbrev pub PuzzleFails : Task → PuzzleFault → Type 0

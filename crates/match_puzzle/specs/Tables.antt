@@ -1,7 +1,7 @@
 -- What a puzzle keeps looked up.
 use Rattle.std.specs.Prelude.{◌≡◌, ◌⊎◌, ◌<◌, ◌≤◌, ◌+◌, ◌*◌, ◌↔◌, ℕ, List, None, Some, MatchBool, length, slice_get}
 use Rattle.std.specs.Prelude.{slice_index}
-use Rattle.match_board.specs.declared.limits.TheConstants.{MOST_COLOURS}
+use Rattle.match_limits.specs.declared.TheConstants.{MOST_COLOURS}
 use Rattle.match_puzzle.specs.declared.tables.TheConstants.{FIRST_PLACE}
 use Rattle.match_board.specs.Board.{cell_count, side_count, Meets, IsBorderPair, IsBorderBefore}
 use Rattle.match_board.specs.declared.figures.Figure.{Figure}

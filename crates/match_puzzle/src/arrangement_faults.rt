@@ -2,7 +2,7 @@
 
 ghost use Rattle.std.specs.Prelude.{◌≡◌, ◌≢◌, ◌<◌, ◌≤◌, ℕ, MatchOption, MatchBool, length};
 ghost use Rattle.match_board.specs.Board.{cell_count, side_count};
-ghost use Rattle.match_board.specs.First.{IsLeast, IsLeastPair};
+ghost use Rattle.match_limits.specs.First.{IsLeast, IsLeastPair};
 ghost use Rattle.match_puzzle.specs.Puzzle.{IsPuzzle, IsLegal, HasRule, colour_of};
 ghost use Rattle.match_puzzle.specs.Arrangement.{IsArrangement, MatchesEdgeAt, HaveTiles, AreLegal, StandOnce};
 ghost use Rattle.match_puzzle.specs.Arrangement.{ObeyBorder, MatchEdges};
@@ -13,7 +13,7 @@ use crate::faults::ArrangementFault;
 use crate::placements::Placement;
 use crate::puzzles::Puzzle;
 use crate::tables::Side;
-use match_board::limits::MOST_TILES;
+use match_limits::MOST_TILES;
 
 impl Puzzle {
     /// The first fault of a list of placements, one for each cell in order, or none where it is an arrangement.

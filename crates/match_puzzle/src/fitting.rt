@@ -3,7 +3,7 @@
 ghost use Rattle.std.specs.Prelude.{◌≡◌, ◌↔◌, ◌<◌, ◌≤◌, ◌/◌, ◌%◌, ℕ, List, IfOk, IfSome, IsTrue, Some, length};
 ghost use Rattle.std.specs.Int.{bit_at};
 ghost use Rattle.match_board.specs.Board.{cell_count, side_count};
-ghost use Rattle.match_board.specs.Listing.{IsListing, ByKey};
+ghost use Rattle.match_limits.specs.Listing.{IsListing, ByKey};
 ghost use Rattle.match_puzzle.specs.declared.placements.Placement.{Placement as Standing};
 ghost use Rattle.match_puzzle.specs.declared.placements.Pair.{Pair as StandingPair};
 ghost use Rattle.match_puzzle.specs.declared.items.Item.TheVariants as items;
@@ -12,10 +12,10 @@ ghost use Rattle.match_puzzle.specs.Fitting.{Fits, AreFitting, AreAsAsked, IsIte
 
 use crate::fitting_pairs::FittingPairs;
 use crate::items::Item;
-use crate::number_sets::{FixedSet, NumberSet};
 use crate::partials::Partial;
 use crate::placements::{Pair, Placement};
 use crate::puzzles::Puzzle;
+use match_limits::{FixedSet, NumberSet};
 use std::alloc::{AllocError, Global};
 
 impl<'a> Partial<'a> {
@@ -97,8 +97,8 @@ impl<'a> Partial<'a> {
         )
     }
 
-    // The placements that show what is asked on the side of the cell, by number; all where there is no such side.
-    pub(crate) fn as_asked(&self, cell: u16, side: u8) -> &FixedSet
+    /// The placements that show what is asked on the side of the cell, by number; all where there is no such side.
+    pub fn as_asked(&self, cell: u16, side: u8) -> &FixedSet
         requires cell { cell < cell_count self.now.puzzle.board }
         requires side { side < 4 }
         ensures { AreAsAsked self.now.puzzle self.now.placed cell side result.now }

@@ -1,10 +1,9 @@
 //! The pairs that fit and settle an item.
 
 use crate::items::Item;
-use crate::number_sets::NumberSet;
 use crate::partials::Partial;
 use crate::placements::{Pair, Placement};
-use match_board::limits::MOST_CHILDREN;
+use match_limits::{MOST_CHILDREN, NumberSet};
 use std::marker::Model;
 
 /// Pairs that settle one item, each of which can be placed: those that were not yet taken, in the item's order, at a

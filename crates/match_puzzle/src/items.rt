@@ -2,7 +2,7 @@
 
 ghost use Rattle.std.specs.Prelude.{◌≡◌, ◌<◌, ◌^◌};
 ghost use Rattle.match_puzzle.specs.Fitting.{IsNumberOf};
-ghost use Rattle.match_puzzle.specs.FitSizes.{item_place};
+ghost use Rattle.match_puzzle.specs.Fitting.{item_place};
 
 /// What each arrangement settles once: the tile of a cell, or the cell of a tile.
 /// These are the primary items of the exact cover (Knuth, TAOCP 4B, 7.2.2.1).

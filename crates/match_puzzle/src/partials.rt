@@ -7,12 +7,11 @@ ghost use Rattle.match_puzzle.specs.Puzzle.{colour_of};
 ghost use Rattle.match_puzzle.specs.Prefix.{IsWithin, Has};
 ghost use Rattle.match_puzzle.specs.Fitting.{IsAsked};
 
-use crate::number_sets::NumberSet;
 use crate::placement_sets::ANY_COLOUR;
 use crate::placements::{Pair, Placement};
 use crate::puzzles::Puzzle;
 use crate::tables::FIRST_PLACE;
-use match_board::limits::{MOST_CELLS, MOST_COLOURS};
+use match_limits::{MOST_CELLS, MOST_COLOURS, NumberSet};
 use std::alloc::{AllocError, Global};
 use std::marker::Model;
 
@@ -98,8 +97,8 @@ impl<'a> Partial<'a> {
         self.puzzle
     }
 
-    // The legal placements of tiles that are not placed, by number.
-    pub(crate) fn free(&self) -> &NumberSet
+    /// The legal placements of tiles that are not placed, by number.
+    pub fn free(&self) -> &NumberSet
         ensures { AreFreeNumbers self.now.puzzle self.now.placed result.now }
     {
         &self.free

@@ -2,15 +2,14 @@
 
 ghost use Rattle.std.specs.Prelude.{◌≡◌, ◌<◌, ◌≤◌, ◌/◌, ◌%◌, ℕ, All, IfOk, length, map, slice_index};
 ghost use Rattle.std.specs.Int.{bit_at};
-ghost use Rattle.match_board.specs.Listing.{IsListing};
+ghost use Rattle.match_limits.specs.Listing.{IsListing};
 ghost use Rattle.match_board.specs.Tile.{word};
 ghost use Rattle.match_puzzle.specs.PlacementSets.{Shows, AreShowing, AreShowingSets};
+ghost use Rattle.match_board.specs.Mates as listed;
 ghost use Rattle.match_puzzle.specs.PlacementSets.{AreColoursAfter, AreShownColours, AreMatesShown};
 
-use crate::mates::mates_table;
-use crate::number_sets::{FixedSet, NumberSet};
-use match_board::Tile;
-use match_board::limits::{MOST_COLOURS, MOST_TILES};
+use match_board::{Tile, mate_in};
+use match_limits::{FixedSet, MOST_COLOURS, MOST_TILES, NumberSet};
 use std::alloc::{AllocError, Global};
 
 /// What a puzzle keeps of its placements.
@@ -28,7 +27,7 @@ pub(crate) struct PlacementSets {
 }
 
 /// What stands for no colour in particular, where a colour is asked.
-pub(crate) const ANY_COLOUR: u8 = MOST_COLOURS;
+pub const ANY_COLOUR: u8 = MOST_COLOURS;
 
 // What each placement shows, by number.
 fn shown_table(alloc: Global, tiles: &[Tile]) -> Result<Vec<[u8; 4]>, AllocError>
@@ -150,4 +149,27 @@ impl PlacementSets {
             asked,
         })
     }
+}
+
+// The mates of what a table of placements shows.
+fn mates_table(alloc: Global, mates: &[u8], shown: &[[u8; 4]]) -> Result<Vec<[u8; 4]>, AllocError>
+    ensures { IfOk result (λ v. AreMatesShown mates.now shown.now v.items) }
+{
+    let mut table = Vec::with_capacity(alloc, shown.len())?;
+    for colours in shown {
+        table.push(mates_of(mates, *colours))?;
+    }
+    Ok(table)
+}
+
+// The mate of each of these colours.
+fn mates_of(mates: &[u8], colours: [u8; 4]) -> [u8; 4]
+    ensures { (side : ℕ) → side < 4 → slice_index result side ≡ listed.mate_in mates.now (slice_index colours side) }
+{
+    [
+        mate_in(mates, colours[0]),
+        mate_in(mates, colours[1]),
+        mate_in(mates, colours[2]),
+        mate_in(mates, colours[3]),
+    ]
 }

@@ -6,7 +6,7 @@ ghost use Rattle.match_puzzle.specs.PrefixFaults.{IsPairList, IsPrefixFault, Tel
 use crate::faults::PrefixFault;
 use crate::placements::Pair;
 use crate::puzzles::Puzzle;
-use match_board::limits::MOST_TILES;
+use match_limits::MOST_TILES;
 
 impl Puzzle {
     /// The first fault of a list of pairs, at its least place, or none where it is a prefix with cells rising.

@@ -3,20 +3,18 @@
 ghost use Rattle.std.specs.Prelude.{◌≡◌, ◌≢◌, ◌<◌, ◌≤◌, ◌↔◌, ◌^◌, ℕ, IfOk, IfErr, IsErrOf, IfSome, IsTrue, MatchOption};
 ghost use Rattle.std.specs.Prelude.{Some, length, map, []};
 ghost use Rattle.match_board.specs.Board.{cell_count, side_count, IsShape, Meets};
-ghost use Rattle.match_board.specs.First.{IsFirst};
-ghost use Rattle.match_puzzle.specs.Mates.{IsOfVersion, mating_of, mated};
-ghost use Rattle.match_puzzle.specs.Puzzle.{Task, task_of, rule_of, mating_for, second_form_of, IsPuzzle, IsShortRule};
+ghost use Rattle.match_limits.specs.First.{IsFirst};
+ghost use Rattle.match_board.specs.Mates.{IsOfVersion, mating_of, mated};
+ghost use Rattle.match_puzzle.specs.Puzzle.{Task, task_of, mating_for, second_form_of, IsPuzzle};
+ghost use Rattle.match_board.specs.Borders.{rule_of, IsShortRule};
 ghost use Rattle.match_puzzle.specs.PuzzleFaults.{PuzzleFails, puzzle_rank};
 
-use crate::borders::Border;
 use crate::faults::PuzzleFault;
-use crate::mates::{broken_mate, mate_in};
-use crate::number_sets::{FixedSet, NumberSet};
 use crate::placement_sets::{ANY_COLOUR, PlacementSets};
 use crate::placements::Placement;
 use crate::tables::{CellSides, Side, colour_count, odd_tile, sides_table, turn_counts};
-use match_board::limits::MOST_COLOURS;
-use match_board::{Board, Figure, Tile};
+use match_board::{Board, Border, Figure, Tile, broken_mate, mate_in};
+use match_limits::{FixedSet, MOST_COLOURS, NumberSet};
 use std::alloc::{AllocError, Global};
 use std::marker::Model;
 
@@ -37,7 +35,7 @@ pub struct Puzzle {
 }
 
 impl Model for Puzzle {
-    ghost use Rattle.match_puzzle.specs.Mates.{mating_of};
+    ghost use Rattle.match_board.specs.Mates.{mating_of};
     ghost use Rattle.match_puzzle.specs.Puzzle.{Task, task_of};
     ghost use Rattle.match_puzzle.specs.Tables.{IsMade};
 
@@ -54,7 +52,7 @@ impl Model for Puzzle {
 
 impl Puzzle {
     ghost use Rattle.match_board.specs.Tile.{word};
-    ghost use Rattle.match_puzzle.specs.Mates.{AreMates};
+    ghost use Rattle.match_board.specs.Mates.{AreMates};
     ghost use Rattle.match_puzzle.specs.Puzzle.{IsLegal, HasRule, colour_of, mate_of, word_of};
     ghost use Rattle.match_puzzle.specs.Colours.{IsColourCount};
     ghost use Rattle.match_puzzle.specs.Tables.{IsSide, IsAskedAt, IsTurnCount};
@@ -316,16 +314,16 @@ impl Puzzle {
         self.turn_counts[usize::from(tile)]
     }
 
-    // The legal placements, by number.
-    pub(crate) fn legal_numbers(&self) -> &NumberSet
+    /// The legal placements, by number.
+    pub fn legal_numbers(&self) -> &NumberSet
         ensures legal { AreLegalNumbers self.now result.now }
         ensures unturned { AreUnturnedLegal self.now }
     {
         &self.sets.legal
     }
 
-    // The placements that show on the side what is asked, by number.
-    pub(crate) fn showing(&self, asked: u8, side: u8) -> &FixedSet
+    /// The placements that show on the side what is asked, by number.
+    pub fn showing(&self, asked: u8, side: u8) -> &FixedSet
         requires asked { asked ≤ ANY_COLOUR }
         requires side { side < 4 }
         ensures { AreShowing self.now.words asked side result.now }
@@ -341,9 +339,9 @@ impl Puzzle {
         self.sets.shown[4 * usize::from(placement.tile) + usize::from(placement.turn)]
     }
 
-    // What the placement asks of those that it meets: the mate of the colour on each side, and something on a fourth
-    // that isn't there.
-    pub(crate) fn asked_by(&self, placement: Placement) -> [u8; 4]
+    /// What the placement asks of those that it meets: the mate of the colour on each side, and something on a fourth
+    /// that isn't there.
+    pub fn asked_by(&self, placement: Placement) -> [u8; 4]
         requires { IsLegal self.now placement }
         ensures { AsksColours self.now placement result }
     {

@@ -4,22 +4,22 @@ ghost use Rattle.std.specs.Prelude.{◌≡◌, ◌≢◌, ◌<◌, ◌≤◌, �
 ghost use Rattle.std.specs.Prelude.{Contains, None, Some, [], length, map, slice_get, slice_index_or};
 ghost use Rattle.match_board.specs.Board.{cell_count, side_count, IsBoard};
 ghost use Rattle.match_board.specs.declared.figures.Figure.{Figure};
-ghost use Rattle.match_board.specs.First.{IsLeast};
+ghost use Rattle.match_limits.specs.First.{IsLeast};
 ghost use Rattle.match_board.specs.Tile.{word};
 ghost use Rattle.match_board.specs.Turns.{IsPeriod};
 ghost use Rattle.match_board.specs.declared.tiles.Tile.{Tile as BoardTile};
-ghost use Rattle.match_puzzle.specs.declared.borders.Border.{Border as BorderRules};
-ghost use Rattle.match_puzzle.specs.Mates.{Mating, mating_of};
-ghost use Rattle.match_puzzle.specs.Puzzle.{Task, task_of, rule_of, StandsInRule, IsAsLongAsBorder};
+ghost use Rattle.match_board.specs.declared.borders.Border.{Border as BorderRules};
+ghost use Rattle.match_board.specs.Mates.{Mating, mating_of};
+ghost use Rattle.match_puzzle.specs.Puzzle.{Task, task_of};
+ghost use Rattle.match_board.specs.Borders.{rule_of, StandsInRule, IsAsLongAsBorder};
 ghost use Rattle.match_puzzle.specs.Colours.{IsColourCount};
 ghost use Rattle.match_puzzle.specs.Tables.{IsSide, AreSides, AreTurnCounts, IsNextNumber};
 ghost use Rattle.match_puzzle.specs.Tables.{place_asked, AreAskedAt};
 ghost use Rattle.match_puzzle.specs.declared.tables.Side.TheVariants as sides;
 
-use crate::borders::Border;
 use crate::placement_sets::ANY_COLOUR;
-use match_board::limits::MOST_COLOURS;
-use match_board::{Board, Tile};
+use match_board::{Board, Border, Tile};
+use match_limits::MOST_COLOURS;
 use std::alloc::{AllocError, Global};
 
 /// What a side of a cell is.

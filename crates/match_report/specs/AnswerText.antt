@@ -1,6 +1,6 @@
 -- How an answer is printed.
 use Rattle.std.specs.Prelude.{◌<◌, ℕ, List, [], ◌∷◌, codes, decimal}
-use Rattle.match_board.specs.declared.limits.TheConstants.{MOST_COLOURS}
+use Rattle.match_limits.specs.declared.TheConstants.{MOST_COLOURS}
 use Rattle.match_puzzle.specs.declared.faults.ArrangementFault.{ArrangementFault}
 use Rattle.match_puzzle.specs.declared.faults.ArrangementFault.TheVariants as arrangements
 use Rattle.match_puzzle.specs.declared.faults.PrefixFault.{PrefixFault}

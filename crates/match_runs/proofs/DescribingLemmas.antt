@@ -6,7 +6,7 @@ use Rattle.std.proofs.lemmas.List.Elements.{recursion_from_All}
 use Rattle.match_board.specs.Board.{cell_count}
 use Rattle.match_puzzle.specs.Puzzle.{IsPuzzle, Task}
 use Rattle.match_puzzle.proofs.Words.{few_sides}
-use Rattle.text_words.specs.declared.ranges.TheConstants.{SECOND}
+use Rattle.match_limits.specs.declared.ranges.TheConstants.{SECOND}
 use Rattle.match_symmetry.specs.Suggestions.{HasLeastShift}
 use Rattle.puzzle_symmetry.specs.Symmetry.{IsPermutation, IsSymmetry}
 use Rattle.puzzle_symmetry.specs.declared.lines.SymmetryLine.{SymmetryLine}

@@ -1,6 +1,6 @@
 -- What the parts of a run read.
 use Rattle.std.proofs.Common.{◌≡◌, ◌≤◌, ℕ, suc, List, [], ◌∷◌, Some, Result, Ok, Err, IsErrOf, Contains, length, map, slice_get, arith, refl, ap, sym, ◌∙◌, subst, ⊎_elim}
-use Rattle.match_board.specs.declared.limits.TheConstants.{MOST_ARRANGEMENTS}
+use Rattle.match_limits.specs.declared.TheConstants.{MOST_ARRANGEMENTS}
 use Rattle.std.specs.List.{AllByRecursion}
 use Rattle.std.proofs.lemmas.List.{length-map}
 use Rattle.match_puzzle.specs.Puzzle.{Task, IsPuzzle}
@@ -16,7 +16,7 @@ use Rattle.puzzle_symmetry.specs.declared.faults.SymmetryFault.TheVariants as sy
 use Rattle.puzzle_symmetry.proofs.FaultLemmas.{few_colours}
 use Rattle.puzzle_symmetry.proofs.Reaching.{reached_is}
 use Rattle.match_text.specs.ListSpelling.{IsRowWithin, IsListWithin}
-use Rattle.text_words.specs.declared.ranges.TheConstants.{SECOND}
+use Rattle.match_limits.specs.declared.ranges.TheConstants.{SECOND}
 use Rattle.text_words.specs.declared.faults.TextFault.{TextFault}
 use Rattle.text_words.specs.Within.{IsPlacementWithin}
 use Rattle.cert_tree.specs.Certificate.{Contents, Piece}
@@ -27,7 +27,7 @@ use Rattle.cert_check.specs.Setting.{Question, motions_of}
 use Rattle.puzzle_symmetry.specs.Complete.{AreSymmetries, IsCompleteList}
 use Rattle.cert_check.specs.Answer.{IsAnswer}
 use Rattle.puzzle_symmetry.proofs.MotionLemmas.{are_of_puzzle, lines_of}
-use Rattle.match_board.proofs.ListLemmas.{contains_at, contains_none, mapped_at, place_of}
+use Rattle.match_limits.proofs.ListLemmas.{contains_at, contains_none, mapped_at, place_of}
 use Rattle.cert_check.specs.declared.faults.Answer.{Answer}
 use Rattle.cert_check.specs.declared.faults.Answer.TheVariants.{Complete, Refused}
 use Rattle.cert_check.specs.declared.faults.Fault.TheVariants as checks

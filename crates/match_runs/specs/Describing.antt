@@ -1,11 +1,11 @@
 -- What is written of a puzzle that is described.
 use Rattle.std.specs.Prelude.{◌≡◌, ◌≤◌, ◌++◌, ◌⊎◌, ℕ, List, [], ◌∷◌, All, None, Ok, Err, codes, decimal, length}
-use Rattle.match_board.specs.declared.limits.TheConstants.{MOST_ENTRIES, MOST_SYMMETRIES}
+use Rattle.match_limits.specs.declared.TheConstants.{MOST_ENTRIES, MOST_SYMMETRIES}
 use Rattle.match_puzzle.specs.Puzzle.{Task}
 use Rattle.match_puzzle.specs.Prefix.{empty_prefix}
 use Rattle.match_text.specs.Puzzles.{PuzzleReads}
 use Rattle.match_text.specs.declared.faults.PuzzleTextFault.TheVariants as puzzles
-use Rattle.text_words.specs.declared.ranges.TheConstants.{SECOND}
+use Rattle.match_limits.specs.declared.ranges.TheConstants.{SECOND}
 use Rattle.match_picture.specs.Pictures.{IsPuzzlePicture}
 use Rattle.match_show.specs.Drawing.{IsDrawing}
 use Rattle.match_show.specs.Facts.{IsEstimateLine, IsFacts, number_line}

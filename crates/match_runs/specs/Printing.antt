@@ -1,6 +1,6 @@
 -- What is printed of three documents beside the line of their answer.
 use Rattle.std.specs.Prelude.{◌≡◌, ◌≤◌, ◌↔◌, ◌++◌, ℕ, List, Contains, codes, length}
-use Rattle.match_board.specs.declared.limits.TheConstants.{MOST_ARRANGEMENTS}
+use Rattle.match_limits.specs.declared.TheConstants.{MOST_ARRANGEMENTS}
 use Rattle.match_puzzle.specs.Arrangement.{IsArrangement, AreDistinct, HasArrangements}
 use Rattle.match_puzzle.specs.declared.placements.Placement.{Placement}
 use Rattle.check_crew.specs.Texts.{IsListText}

@@ -1,6 +1,6 @@
 -- What a list of tiles prints.
 use Rattle.std.specs.Prelude.{◌≡◌, ◌≤◌, ℕ, List, length, map}
-use Rattle.match_board.specs.declared.limits.TheConstants.{MOST_CLASSES}
+use Rattle.match_limits.specs.declared.TheConstants.{MOST_CLASSES}
 use Rattle.match_board.specs.Turns.{AreLeastWords, HasMoreLeastWords}
 use Rattle.match_text.specs.PuzzleSpelling.{tile_words, tiles_spelling}
 use Rattle.text_words.specs.Spelling.{text_of}

@@ -3,8 +3,8 @@
 use crate::faults::RunFault;
 use crate::hints::hint_on;
 use crate::solve_runs::SearchPlan;
-use match_board::limits::{MOST_BYTES, MOST_DEPTH, MOST_FUEL};
 use match_crew::SolveFault;
+use match_limits::{MOST_BYTES, MOST_DEPTH, MOST_FUEL};
 use match_puzzle::Puzzle;
 use match_show::{Estimate, estimate_of};
 use match_symmetry::suggest;

@@ -1,7 +1,7 @@
 //! What documents ask.
 
 ghost use Rattle.std.specs.Prelude.{◌≡◌, ◌≤◌, IfOk, IfErr, Ok, length};
-ghost use Rattle.match_board.specs.declared.limits.TheConstants.{MOST_ARRANGEMENTS, MOST_WORKERS};
+ghost use Rattle.match_limits.specs.declared.TheConstants.{MOST_ARRANGEMENTS, MOST_WORKERS};
 ghost use Rattle.match_puzzle.specs.Puzzle.{IsPuzzle};
 ghost use Rattle.byte_streams.specs.Documents.{AreShort};
 ghost use Rattle.byte_streams.specs.LentTexts.{texts_of};
@@ -33,7 +33,7 @@ pub struct OwnedQuestion {
 impl Model for OwnedQuestion {
     ghost use Rattle.std.specs.Prelude.{◌≤◌, length};
     ghost use Rattle.std.specs.Coded.{codes};
-    ghost use Rattle.match_board.specs.declared.limits.TheConstants.{MOST_ARRANGEMENTS};
+    ghost use Rattle.match_limits.specs.declared.TheConstants.{MOST_ARRANGEMENTS};
     ghost use Rattle.cert_tree.specs.contracts.heads.Head as head;
     ghost use Rattle.cert_tree.specs.HeadCode.{tree_code};
     ghost use Rattle.cert_check.specs.Setting.{Question, question_of};

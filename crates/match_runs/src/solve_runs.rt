@@ -2,7 +2,7 @@
 
 ghost use Rattle.std.specs.Prelude.{◌≡◌, ◌≤◌, IfOk, length};
 ghost use Rattle.match_text.specs.ListSpelling.{IsListWithin};
-ghost use Rattle.text_words.specs.declared.ranges.TheConstants.{SECOND};
+ghost use Rattle.match_limits.specs.declared.ranges.TheConstants.{SECOND};
 ghost use Rattle.match_puzzle.specs.Arrangement.{AreArrangements};
 ghost use Rattle.byte_streams.specs.Moves.{reading_of, writing_of};
 ghost use Rattle.byte_streams.specs.Origins.{one_source};
@@ -11,18 +11,15 @@ ghost use Rattle.byte_streams.specs.declared.faults.Document.TheVariants as docu
 ghost use Rattle.match_runs.specs.Runs.{MadeOf, Runs, unhinted};
 ghost use Rattle.match_runs.specs.Solving.{SolveFails, SolveGives, first_board, report_text, shares_of};
 
+use byte_streams::{Document, Inputs, MadeText, OneSource, Outputs, Products, Sink, Source, Text, ThreeSinks};
+use cert_tree::Certificate;
 use crate::advice::solve_hint;
 use crate::faults::RunFault;
 use crate::hints::{HintedFault, with_hint, without_hint};
 use crate::running::run_by;
 use crate::watches::{SolveWatch, Watched};
-use byte_streams::{
-    Document, Inputs, MadeText, OneSource, Outputs, Products, Sink, Source, Text, ThreeSinks,
-};
-use cert_tree::Certificate;
-use command_words::{Depth, Fuel, Workers};
-use match_board::limits::MOST_WORKERS;
 use match_crew::{Solved, Unwatched, solve_watched, write_texts_with};
+use match_limits::{Depth, Fuel, MOST_WORKERS, Workers};
 use match_puzzle::{Arrangement, Puzzle};
 use match_report::{Taken, write_board, write_tally};
 use match_text::read_puzzle;

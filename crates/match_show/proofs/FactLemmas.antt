@@ -4,7 +4,7 @@ use Rattle.std.specs.List.{flat_map, range_with_len}
 use Rattle.std.proofs.Math.Seq.{drop-cons}
 use Rattle.std.proofs.lemmas.List.Elements.{All-contains}
 use Rattle.std.proofs.lemmas.List.Sums.{sum_by-cons}
-use Rattle.match_board.specs.declared.limits.TheConstants.{MOST_COLOURS}
+use Rattle.match_limits.specs.declared.TheConstants.{MOST_COLOURS}
 use Rattle.match_puzzle.specs.Puzzle.{Task, IsPuzzle, word_of}
 use Rattle.match_puzzle.specs.Colours.{IsColourCount}
 

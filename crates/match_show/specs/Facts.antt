@@ -3,7 +3,8 @@ use Rattle.std.specs.Prelude.{◌≡◌, ◌==◌, ℕ, List, [], ◌∷◌, ◌
 use Rattle.std.specs.Prelude.{count_by, decimal, length, sum_by}
 use Rattle.std.specs.List.{flat_map, range_with_len}
 use Rattle.match_board.specs.Board.{cell_count, IsBorderOrder}
-use Rattle.match_puzzle.specs.Puzzle.{Task, BorderRule, free, one, each}
+use Rattle.match_puzzle.specs.Puzzle.{Task}
+use Rattle.match_board.specs.Borders.{BorderRule, free, one, each}
 use Rattle.match_puzzle.specs.Colours.{IsColourCount}
 use Rattle.text_words.specs.Spelling.{colour_character, count_words, text_of}
 

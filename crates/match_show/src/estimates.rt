@@ -4,7 +4,7 @@ ghost use Rattle.std.specs.Prelude.{◌<◌, IfOk};
 ghost use Rattle.match_board.specs.Board.{cell_count};
 ghost use Rattle.match_show.specs.Facts.{IsEstimateLine};
 
-use match_board::limits::MOST_COLOURS;
+use match_limits::MOST_COLOURS;
 use match_puzzle::Puzzle;
 use std::alloc::{AllocError, Global};
 

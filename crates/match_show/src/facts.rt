@@ -3,11 +3,12 @@
 ghost use Rattle.std.specs.Prelude.{◌≡◌, ◌++◌, ◌<◌, ◌≤◌, ◌^◌, IfOk, OnOk, count_by, decimal, length, map, sum_by};
 ghost use Rattle.std.specs.List.{flat_map, range_with_len};
 ghost use Rattle.match_board.specs.Tile.{word};
-ghost use Rattle.match_puzzle.specs.Puzzle.{Task, IsPuzzle, rule_of};
+ghost use Rattle.match_puzzle.specs.Puzzle.{Task, IsPuzzle};
+ghost use Rattle.match_board.specs.Borders.{rule_of};
 ghost use Rattle.match_show.specs.Facts.{IsFacts, border_count, tile_count, colour_line, is_colour, is_rule};
 
 use match_board::Tile;
-use match_board::limits::{MOST_COLOURS, MOST_TILES};
+use match_limits::{MOST_COLOURS, MOST_TILES};
 use match_puzzle::{Border, Puzzle};
 use std::alloc::{AllocError, Global};
 use text_words::{character, put_number, put_number_line};

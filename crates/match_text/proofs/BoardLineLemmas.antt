@@ -1,6 +1,6 @@
 -- The lines of a board: what is read is what was written, and what was written is read again.
 use Rattle.std.proofs.Common.{◌≡◌, ℕ, ◌≤◌, ◌*◌, Bool, true, false, cond, eqb, ◌&&◌, List, [], ◌∷◌, ◌++◌, length, Ok, Err, refl, sym, ap, subst, ◌∙◌, arith, codes}
-use Rattle.match_board.specs.declared.limits.TheConstants.{MOST_LENGTH, MOST_PLACES}
+use Rattle.match_limits.specs.declared.TheConstants.{MOST_LENGTH, MOST_PLACES}
 use Rattle.std.specs.Fmt.{decimal}
 use Rattle.std.specs.List.{flat_map, AllByRecursion}
 use Rattle.std.specs.Str.{bytes_eq}

@@ -1,9 +1,9 @@
 -- Each puzzle is within the limits of its text.
 use Rattle.std.proofs.Common.{Bool, ◌≡◌, ◌⊎◌, ◌<◌, ◌≤◌, ◌+◌, ◌*◌, ℕ, zero, suc, List, [], ◌∷◌, All, length, get_or, Option, Some, None, arith, refl, sym, subst, inl, inr, ⊎_elim}
-use Rattle.match_board.specs.declared.limits.TheConstants.{MOST_PLAIN_CELLS, MOST_PLACES, MOST_LENGTH, MOST_COLOURS}
-use Rattle.text_words.specs.declared.ranges.Ranges.{Ranges}
-use Rattle.text_words.specs.Ranges.{IsVersion, ranges_of, AreRanges}
-use Rattle.text_words.proofs.RangesLemmas.{are_ranges, second_is}
+use Rattle.match_limits.specs.declared.TheConstants.{MOST_PLAIN_CELLS, MOST_PLACES, MOST_LENGTH, MOST_COLOURS}
+use Rattle.match_limits.specs.declared.ranges.Ranges.{Ranges}
+use Rattle.match_limits.specs.Ranges.{IsVersion, ranges_of, AreRanges}
+use Rattle.match_limits.proofs.RangesLemmas.{are_ranges, second_is}
 use Rattle.text_words.specs.Within.{IsRuleWithin, IsWordWithin}
 use Rattle.std.specs.Prelude.{slice_get, slice_index_or}
 use Rattle.std.specs.List.{AllByRecursion}
@@ -14,7 +14,8 @@ use Rattle.match_board.proofs.MaskLemmas.{above_in_shape, marks_few}
 use Rattle.match_board.specs.declared.figures.Figure.{Figure}
 use Rattle.match_board.specs.declared.figures.Figure.TheVariants.{Rectangle, Triangle, Hexagon, Shape}
 use Rattle.match_board.proofs.Places.{above_in_rectangle, above_in_triangle, cells_in_hexagon, whole_row, left_of_later, met_place}
-use Rattle.match_puzzle.specs.Puzzle.{Task, BorderRule, free, one, each, IsPuzzle, IsAsLongAsBorder, StandsInRule}
+use Rattle.match_puzzle.specs.Puzzle.{Task, IsPuzzle}
+use Rattle.match_board.specs.Borders.{BorderRule, free, one, each, IsAsLongAsBorder, StandsInRule}
 use Rattle.match_text.specs.PuzzleSpelling.{IsFigureWithin, IsBorderWithin, AreRulesWithin, IsTaskWithin}
 
 -- ---- boards

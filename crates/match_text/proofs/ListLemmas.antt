@@ -1,6 +1,6 @@
 -- The list that is read is the one that was written, and what was written is read again.
 use Rattle.std.proofs.Common.{◌≡◌, ◌≢◌, ℕ, ◌+◌, ◌<◌, ◌≤◌, List, [], ◌∷◌, ◌++◌, length, take, map, Result, Ok, Err, refl, sym, ap, subst, ◌∙◌, append_assoc, arith, codes, inl, inr}
-use Rattle.match_board.specs.declared.limits.TheConstants.{MOST_ARRANGEMENTS}
+use Rattle.match_limits.specs.declared.TheConstants.{MOST_ARRANGEMENTS}
 use Rattle.std.specs.Prelude.{IfOk}
 use Rattle.std.specs.Global.{Vec}
 use Rattle.std.specs.List.{flat_map, AllByRecursion}
@@ -14,9 +14,9 @@ use Rattle.text_words.specs.Laws.{ReadsSpellingsAlone, ReadsEachSpelling, EndsWh
 use Rattle.text_words.specs.Words.{placement_in}
 use Rattle.text_words.specs.Place.{Place, Read, ◌>>=◌, give, fail, Says, some_entries, times, opening, counted, closing, start}
 use Rattle.text_words.specs.declared.faults.TextFault.{TextFault}
-use Rattle.text_words.specs.declared.ranges.Ranges.{Ranges}
-use Rattle.text_words.specs.declared.ranges.TheConstants.{FIRST, SECOND}
-use Rattle.text_words.specs.Ranges.{ranges_of, AreRanges}
+use Rattle.match_limits.specs.declared.ranges.Ranges.{Ranges}
+use Rattle.match_limits.specs.declared.ranges.TheConstants.{FIRST, SECOND}
+use Rattle.match_limits.specs.Ranges.{ranges_of, AreRanges}
 use Rattle.match_text.specs.Lists.{ListSaid, arrangement_line, list_text, list_said, rows_of, list_of}
 use Rattle.text_words.specs.Spelling.{text_of, placement_word, first_words, count_words, end_lines}
 use Rattle.match_text.specs.ListSpelling.{arrangement_words, list_head, list_lines, list_spelling, said_spelling, IsRowWithin, IsListWithin, IsSpelledIn, IsSaidWithin}
@@ -25,7 +25,7 @@ use Rattle.text_words.proofs.WordLemmas.{spells_placement, clean-row}
 use Rattle.text_words.proofs.LineLemmas.{TakesLines, takes_line, takes_entries, takes_opening, takes_counted, closing_is, closing_again, times_is, times_again, lines_then, lines_apart}
 use Rattle.text_words.proofs.TextLaws.{reads_alone, reads_each, ends_where_cut}
 use Rattle.text_words.proofs.WritingLemmas.{text_of-append}
-use Rattle.text_words.proofs.RangesLemmas.{are_ranges, first_is, second_is}
+use Rattle.match_limits.proofs.RangesLemmas.{are_ranges, first_is, second_is}
 use Rattle.text_words.specs.Within.{IsPlacementWithin}
 
 takes_arrangement : (ranges : Ranges) → AreRanges ranges → TakesLines (arrangement_line ranges) (λ row. arrangement_words row ∷ []) (IsRowWithin ranges)

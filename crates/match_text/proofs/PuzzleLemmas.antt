@@ -1,12 +1,13 @@
 -- The puzzle that is read is the one that was written, and what was written is read again.
 use Rattle.std.proofs.Common.{◌≡◌, ℕ, ◌≤◌, Bool, List, [], ◌∷◌, ◌++◌, length, map, Ok, refl, sym, ap, subst, ◌∙◌, arith, codes, ◌<◌, ◌^◌, inl, inr, ⊎_elim}
-use Rattle.text_words.specs.Ranges.{IsVersion, ranges_of}
+use Rattle.match_limits.specs.Ranges.{IsVersion, ranges_of}
 use Rattle.std.specs.List.{flat_map, AllByRecursion}
 use Rattle.std.proofs.lemmas.List.{append-nil}
 use Rattle.std.proofs.lemmas.List.Concat.{flat_map_single}
 use Rattle.match_board.specs.declared.figures.Figure.{Figure}
-use Rattle.match_puzzle.specs.Mates.{Mating}
-use Rattle.match_puzzle.specs.Puzzle.{Task, BorderRule}
+use Rattle.match_board.specs.Mates.{Mating}
+use Rattle.match_puzzle.specs.Puzzle.{Task}
+use Rattle.match_board.specs.Borders.{BorderRule}
 use Rattle.text_words.specs.Laws.{ReadsSpellingsAlone, ReadsEachSpelling, EndsWhereCut}
 use Rattle.text_words.specs.Place.{Place, Read, ◌>>=◌, give, times, opening, counted, closing, start}
 use Rattle.match_text.specs.Puzzles.{mating_part, board_part, turns_line, border_line, tile_line, puzzle_text, puzzle_of}
@@ -16,7 +17,7 @@ use Rattle.text_words.proofs.CutLemmas.{CutsShort, LeavesNothing, place, bind_ok
 use Rattle.text_words.proofs.LineLemmas.{takes_opening, takes_counted, closing_is, closing_again, times_is, times_again, lines_then}
 use Rattle.match_text.proofs.BoardLineLemmas.{takes_board, cuts_board}
 use Rattle.match_text.proofs.PuzzleLineLemmas.{mating_is, mating_again, cuts_mating, takes_turns, takes_border, takes_tile, cuts_turns, cuts_border, cuts_tile}
-use Rattle.text_words.proofs.RangesLemmas.{are_ranges}
+use Rattle.match_limits.proofs.RangesLemmas.{are_ranges}
 use Rattle.text_words.proofs.TextLaws.{reads_alone, reads_each, ends_where_cut}
 use Rattle.text_words.proofs.WritingLemmas.{text_of-append, eight_parts}
 use Rattle.text_words.specs.Within.{IsWordWithin}

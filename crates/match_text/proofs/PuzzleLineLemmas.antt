@@ -1,14 +1,14 @@
 -- The lines of a puzzle: what is read is what was written, and what was written is read again.
 use Rattle.std.proofs.Common.{inl, inr, sym, ⊎_elim, ◌≡◌, ℕ, ◌<◌, ◌≤◌, Bool, true, false, cond, eqb, List, [], ◌∷◌, ◌++◌, length, map, Ok, Err, refl, ap, subst, ◌∙◌, arith, codes}
-use Rattle.match_board.specs.declared.limits.TheConstants.{MOST_COLOURS}
+use Rattle.match_limits.specs.declared.TheConstants.{MOST_COLOURS}
 use Rattle.std.specs.List.{AllByRecursion}
 use Rattle.std.specs.Str.{bytes_eq}
 use Rattle.std.proofs.lemmas.Slice.Eq.{bytes_eq-Decides}
-use Rattle.match_puzzle.specs.Puzzle.{BorderRule, free, one, each}
+use Rattle.match_board.specs.Borders.{BorderRule, free, one, each}
 use Rattle.text_words.specs.declared.faults.TextKind.TheVariants.{Word}
-use Rattle.match_puzzle.specs.Mates.{Mating, unmated, mated, mating_of}
-use Rattle.text_words.specs.declared.ranges.Ranges.{Ranges}
-use Rattle.text_words.specs.Ranges.{IsVersion}
+use Rattle.match_board.specs.Mates.{Mating, unmated, mated, mating_of}
+use Rattle.match_limits.specs.declared.ranges.Ranges.{Ranges}
+use Rattle.match_limits.specs.Ranges.{IsVersion}
 use Rattle.match_text.specs.declared.puzzles.BorderKind.{BorderKind}
 use Rattle.match_text.specs.declared.puzzles.BorderKind.TheVariants as kinds
 use Rattle.text_words.specs.Words.{fixed_in, colour_in, rule_in, tile_in}

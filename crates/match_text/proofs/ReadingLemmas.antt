@@ -1,14 +1,15 @@
 -- What reading a puzzle comes to.
 use Rattle.std.proofs.Common.{◌≡◌, ◌<◌, ◌≤◌, ◌+◌, ◌^◌, ℕ, List, length, take, Result, Ok, Err, sym, ap, subst, ◌∙◌, arith, ⊎_elim}
-use Rattle.match_board.specs.declared.limits.TheConstants.{MOST_COLOURS}
-use Rattle.text_words.specs.declared.ranges.Ranges.{Ranges}
-use Rattle.text_words.specs.Ranges.{ranges_of, AreRanges}
-use Rattle.match_puzzle.specs.Mates.{IsOfVersion}
-use Rattle.text_words.proofs.RangesLemmas.{are_ranges}
+use Rattle.match_limits.specs.declared.TheConstants.{MOST_COLOURS}
+use Rattle.match_limits.specs.declared.ranges.Ranges.{Ranges}
+use Rattle.match_limits.specs.Ranges.{ranges_of, AreRanges}
+use Rattle.match_board.specs.Mates.{IsOfVersion}
+use Rattle.match_limits.proofs.RangesLemmas.{are_ranges}
 use Rattle.std.specs.Prelude.{IfOk}
 use Rattle.match_board.specs.declared.boards.BoardFault.{BoardFault}
 use Rattle.match_board.specs.declared.boards.BoardFault.TheVariants.{Empty, TooLarge}
-use Rattle.match_puzzle.specs.Puzzle.{Task, BorderRule, free, one, each, IsPuzzle, IsShortRule}
+use Rattle.match_puzzle.specs.Puzzle.{Task, IsPuzzle}
+use Rattle.match_board.specs.Borders.{BorderRule, free, one, each, IsShortRule}
 use Rattle.match_puzzle.specs.PuzzleFaults.{PuzzleFails}
 use Rattle.match_puzzle.specs.declared.faults.PuzzleFault.{PuzzleFault}
 use Rattle.match_puzzle.specs.declared.faults.PuzzleFault.TheVariants as puzzle
@@ -26,7 +27,7 @@ use Rattle.match_board.specs.declared.figures.Figure.TheVariants.{Rectangle, Tri
 use Rattle.text_words.proofs.CutLemmas.{ok_is}
 use Rattle.match_text.proofs.PuzzleLemmas.{puzzle_found, puzzle_only, puzzle_short}
 use Rattle.match_text.proofs.LimitLemmas.{puzzle_within}
-use Rattle.match_puzzle.proofs.MateLemmas.{not_without}
+use Rattle.match_board.proofs.MateLemmas.{not_without}
 
 -- ---- how much was read
 

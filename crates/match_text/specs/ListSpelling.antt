@@ -1,10 +1,10 @@
 -- The spelling of a list of arrangements in each version.
 use Rattle.std.specs.Prelude.{ℕ, ◌<◌, ◌≤◌, List, [], ◌∷◌, ◌++◌, length, map, codes}
-use Rattle.match_board.specs.declared.limits.TheConstants.{MOST_ARRANGEMENTS}
+use Rattle.match_limits.specs.declared.TheConstants.{MOST_ARRANGEMENTS}
 use Rattle.std.specs.List.{AllByRecursion}
 use Rattle.match_puzzle.specs.declared.placements.Placement.{Placement}
-use Rattle.text_words.specs.declared.ranges.Ranges.{Ranges}
-use Rattle.text_words.specs.Ranges.{IsVersion, ranges_of}
+use Rattle.match_limits.specs.declared.ranges.Ranges.{Ranges}
+use Rattle.match_limits.specs.Ranges.{IsVersion, ranges_of}
 use Rattle.match_text.specs.Lists.{ListSaid}
 use Rattle.text_words.specs.Spelling.{text_of, placement_word, first_words, count_words, end_lines}
 use Rattle.text_words.specs.Within.{IsPlacementWithin}

@@ -1,11 +1,11 @@
 -- The text of a list of arrangements.
 use Rattle.std.specs.Prelude.{ℕ, List, Result, Ok, Err, codes}
-use Rattle.match_board.specs.declared.limits.TheConstants.{MOST_ARRANGEMENTS}
+use Rattle.match_limits.specs.declared.TheConstants.{MOST_ARRANGEMENTS}
 use Rattle.match_puzzle.specs.declared.placements.Placement.{Placement}
 use Rattle.text_words.specs.declared.faults.TextFault.{TextFault}
 use Rattle.match_text.specs.declared.lists.ListText as code
-use Rattle.text_words.specs.declared.ranges.Ranges.{Ranges}
-use Rattle.text_words.specs.Ranges.{ranges_of}
+use Rattle.match_limits.specs.declared.ranges.Ranges.{Ranges}
+use Rattle.match_limits.specs.Ranges.{ranges_of}
 use Rattle.text_words.specs.Words.{placement_in}
 use Rattle.text_words.specs.Place.{Read, ◌>>=◌, give, line_of, some_entries, opening, counted, closing, times, start}
 use Rattle.text_words.specs.Place.{value_of}

@@ -1,15 +1,16 @@
 -- The one spelling of a puzzle.
 use Rattle.std.specs.Prelude.{◌≡◌, ◌⊎◌, ◌<◌, ◌≤◌, ◌==◌, if◌then◌else◌, ℕ, zero, suc, Bool, true, false, List, [], ◌∷◌}
 use Rattle.std.specs.Prelude.{◌++◌, Option, Some, None, length, map, take, drop, codes, decimal}
-use Rattle.match_board.specs.declared.limits.TheConstants.{MOST_LENGTH, MOST_PLACES, MOST_COLOURS}
+use Rattle.match_limits.specs.declared.TheConstants.{MOST_LENGTH, MOST_PLACES, MOST_COLOURS}
 use Rattle.std.specs.List.{AllByRecursion}
 use Rattle.match_board.specs.declared.figures.Figure.{Figure}
 use Rattle.match_board.specs.declared.figures.Figure.TheVariants.{Rectangle, Triangle, Hexagon, Shape}
 use Rattle.match_board.specs.Board.{MarksItsPlaces}
-use Rattle.match_puzzle.specs.Mates.{Mating, IsOfVersion}
-use Rattle.match_puzzle.specs.Puzzle.{Task, BorderRule, free, one, each}
-use Rattle.text_words.specs.declared.ranges.Ranges.{Ranges}
-use Rattle.text_words.specs.Ranges.{ranges_of}
+use Rattle.match_board.specs.Mates.{Mating, IsOfVersion}
+use Rattle.match_puzzle.specs.Puzzle.{Task}
+use Rattle.match_board.specs.Borders.{BorderRule, free, one, each}
+use Rattle.match_limits.specs.declared.ranges.Ranges.{Ranges}
+use Rattle.match_limits.specs.Ranges.{ranges_of}
 use Rattle.text_words.specs.Within.{IsRuleWithin, IsWordWithin}
 use Rattle.text_words.specs.Spelling.{text_of, colour_word, rule_word, tile_word, first_words, count_words, end_lines}
 

@@ -2,17 +2,18 @@
 use Rattle.std.specs.Prelude.{◌≡◌, ◌≤◌, ◌*◌, ◌==◌, ◌&&◌, ℕ, Bool, true, false, List, Result, Ok, Err, codes, map}
 use Rattle.std.specs.Prelude.{◌++◌, length, if◌then◌else◌}
 use Rattle.std.specs.List.{flat_map}
-use Rattle.match_board.specs.declared.limits.TheConstants.{MOST_LENGTH, MOST_PLACES, MOST_COLOURS}
+use Rattle.match_limits.specs.declared.TheConstants.{MOST_LENGTH, MOST_PLACES, MOST_COLOURS}
 use Rattle.std.specs.Str.{bytes_eq}
 use Rattle.match_board.specs.Board.{cell_count, HasRoom, IsBoard, shape_of}
 use Rattle.match_board.specs.declared.figures.Figure.{Figure}
 use Rattle.match_board.specs.declared.figures.Figure.TheVariants as figures
-use Rattle.match_board.specs.First.{IsFirst}
+use Rattle.match_limits.specs.First.{IsFirst}
 use Rattle.match_board.specs.Tile.{word}
 use Rattle.match_board.specs.declared.boards.BoardFault.{BoardFault}
 use Rattle.match_board.specs.declared.boards.BoardFault.TheVariants.{Empty, TooLarge}
-use Rattle.match_puzzle.specs.Mates.{Mating, unmated, mated, mating_of}
-use Rattle.match_puzzle.specs.Puzzle.{Task, BorderRule, free, one, each, rule_of, IsPuzzle}
+use Rattle.match_board.specs.Mates.{Mating, unmated, mated, mating_of}
+use Rattle.match_puzzle.specs.Puzzle.{Task, IsPuzzle}
+use Rattle.match_board.specs.Borders.{BorderRule, free, one, each, rule_of}
 use Rattle.match_puzzle.specs.PuzzleFaults.{PuzzleFails, puzzle_rank}
 use Rattle.text_words.specs.declared.faults.TextFault.{TextFault}
 use Rattle.text_words.specs.declared.faults.TextKind.{TextKind}
@@ -27,8 +28,8 @@ use Rattle.match_text.specs.declared.puzzles.BoardLine.TheVariants as lines
 use Rattle.match_text.specs.declared.puzzles.BorderKind.{BorderKind}
 use Rattle.match_text.specs.declared.puzzles.BorderKind.TheVariants as kinds
 use Rattle.match_text.specs.declared.puzzles.PuzzleText as code
-use Rattle.text_words.specs.declared.ranges.Ranges.{Ranges}
-use Rattle.text_words.specs.Ranges.{ranges_of}
+use Rattle.match_limits.specs.declared.ranges.Ranges.{Ranges}
+use Rattle.match_limits.specs.Ranges.{ranges_of}
 use Rattle.text_words.specs.Words.{fixed_in, number_in, marks_in, colour_in, rule_in, tile_in}
 use Rattle.text_words.specs.Place.{Place, Read, ◌>>=◌, give, line_of, word_by, entries, some_entries, opening, counted}
 use Rattle.text_words.specs.Place.{closing, times, start, value_of, Fails}

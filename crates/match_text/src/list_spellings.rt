@@ -9,10 +9,10 @@ ghost use Rattle.text_words.specs.Within.{IsPlacementWithin};
 ghost use Rattle.match_text.specs.ListSpelling.{arrangement_words, list_head, list_spelling};
 ghost use Rattle.match_text.specs.ListSpelling.{IsRowWithin, IsListWithin};
 
-use match_board::limits::{LAST_TURN, MOST_ARRANGEMENTS};
+use match_limits::{FIRST, LAST_TURN, MOST_ARRANGEMENTS, Ranges, SECOND};
 use match_puzzle::{Arrangement, Placement};
 use std::alloc::{AllocError, Global};
-use text_words::{FIRST, Ranges, SECOND, put_end, put_number_line, put_placement};
+use text_words::{put_end, put_number_line, put_placement};
 
 fn is_placement_within(ranges: &Ranges, placement: &Placement) -> bool
     ensures { MatchBool result (IsPlacementWithin ranges.now placement.now)

@@ -1,8 +1,8 @@
 //! Lists of arrangements are read.
 
 ghost use Rattle.std.specs.Prelude.{◌≡◌, ◌+◌, ◌<◌, ◌^◌, ℕ, List, Ok, Err, IfOk, IfSome, length, take};
-ghost use Rattle.text_words.specs.Ranges.{AreRanges};
-ghost use Rattle.text_words.specs.declared.ranges.TheConstants.{SECOND};
+ghost use Rattle.match_limits.specs.Ranges.{AreRanges};
+ghost use Rattle.match_limits.specs.declared.ranges.TheConstants.{SECOND};
 ghost use Rattle.text_words.specs.Words.{placement_in};
 ghost use Rattle.text_words.specs.Place.{Reads, Says, entries, some_entries, times, fail};
 ghost use Rattle.match_puzzle.specs.declared.placements.Placement.{Placement as PlacementOf};
@@ -12,10 +12,10 @@ ghost use Rattle.match_text.specs.ListSpelling.{list_spelling, IsListWithin, IsS
 ghost use Rattle.match_text.specs.Lists.{arrangement_line, list_text, list_of, list_said, said_of};
 
 use crate::faults::ListTextFault;
-use match_board::limits::MOST_ARRANGEMENTS;
+use match_limits::{MOST_ARRANGEMENTS, Ranges, ranges_of};
 use match_puzzle::{Arrangement, Placement};
 use std::alloc::Global;
-use text_words::{FaultPlace, Ranges, ReadFault, Scan, ranges_of};
+use text_words::{FaultPlace, ReadFault, Scan};
 
 // The bytes of a line of two placements.
 const SHORT_LINE: usize = 8;

@@ -6,8 +6,8 @@ ghost use Rattle.match_board.specs.declared.figures.Figure.{Figure};
 ghost use Rattle.match_board.specs.declared.figures.Figure.TheVariants.{Rectangle, Triangle, Hexagon, Shape};
 ghost use Rattle.match_board.specs.Board.{IsBoard};
 ghost use Rattle.match_board.specs.Tile.{word as colours_of};
-ghost use Rattle.match_puzzle.specs.Mates.{mating_of};
-ghost use Rattle.match_puzzle.specs.Puzzle.{rule_of, each, one, free};
+ghost use Rattle.match_board.specs.Mates.{mating_of};
+ghost use Rattle.match_board.specs.Borders.{rule_of, each, one, free};
 ghost use Rattle.match_text.specs.Puzzles.{PuzzleReads};
 ghost use Rattle.text_words.specs.Spelling.{line_text, text_of, colour_character, colour_word, rule_word};
 ghost use Rattle.text_words.specs.Spelling.{tile_word};
@@ -16,8 +16,8 @@ ghost use Rattle.match_text.specs.PuzzleSpelling.{mark_character, row_words, row
 ghost use Rattle.match_text.specs.PuzzleSpelling.{board_words, turns_words, border_words, tile_words, puzzle_spelling};
 ghost use Rattle.match_text.specs.PuzzleSpelling.{AreRulesWithin, mates_words, mates_lines};
 
-use match_board::limits::MOST_COLOURS;
 use match_board::{Board, Figure, Tile};
+use match_limits::MOST_COLOURS;
 use match_puzzle::{Border, Puzzle};
 use std::alloc::{AllocError, Global};
 use text_words::{character, put_end, put_number, put_number_line};

@@ -4,13 +4,14 @@ ghost use Rattle.std.specs.Prelude.{◌≡◌, ◌≢◌, ◌+◌, ◌*◌, ◌<
 ghost use Rattle.std.specs.Prelude.{length, map, take};
 ghost use Rattle.match_board.specs.Board.{IsBoard, IsPlain, shape_of};
 ghost use Rattle.match_board.specs.Tile.{word as tile_colours};
-ghost use Rattle.match_board.specs.First.{IsFirst};
-ghost use Rattle.match_puzzle.specs.Mates.{mating_of, IsOfVersion};
-ghost use Rattle.match_puzzle.specs.Puzzle.{Task, IsPuzzle, IsShortRule, rule_of};
+ghost use Rattle.match_limits.specs.First.{IsFirst};
+ghost use Rattle.match_board.specs.Mates.{mating_of, IsOfVersion};
+ghost use Rattle.match_puzzle.specs.Puzzle.{Task, IsPuzzle};
+ghost use Rattle.match_board.specs.Borders.{IsShortRule, rule_of};
 ghost use Rattle.match_puzzle.specs.PuzzleFaults.{PuzzleFails, puzzle_rank};
 ghost use Rattle.text_words.specs.declared.faults.TextKind.TheVariants as kinds;
 ghost use Rattle.text_words.specs.Bytes.{line_ends};
-ghost use Rattle.text_words.specs.Ranges.{IsVersion};
+ghost use Rattle.match_limits.specs.Ranges.{IsVersion};
 ghost use Rattle.match_text.specs.PuzzleSpelling.{puzzle_spelling, IsTaskWithin};
 ghost use Rattle.text_words.specs.Words.{Judges, number_in, marks_in, is_cell, colour_in, rule_in};
 ghost use Rattle.text_words.specs.Place.{Gives, Reads, Says, times, entries, some_entries, word_by, fail};
@@ -21,13 +22,11 @@ ghost use Rattle.match_text.specs.Puzzles.{BoardFails, mates_line, mating_part};
 ghost use Rattle.match_text.specs.Puzzles.{PuzzleReads, PuzzleGives};
 
 use crate::faults::PuzzleTextFault;
-use match_board::limits::{MOST_COLOURS, MOST_LENGTH, MOST_PLACES};
 use match_board::{Board, BoardFault, Figure, Tile};
+use match_limits::{MOST_COLOURS, MOST_LENGTH, MOST_PLACES, Ranges, ranges_of};
 use match_puzzle::{Border, BorderRules, Puzzle, PuzzleFault};
 use std::alloc::{AllocError, Global};
-use text_words::{
-    Asked, FaultPlace, Ranges, ReadFault, Scan, TextFault, TextKind, ranges_of, row_word,
-};
+use text_words::{Asked, FaultPlace, ReadFault, Scan, TextFault, TextKind, row_word};
 
 /// What a text says of a puzzle. There may be no such puzzle.
 #[derive(Drop)]

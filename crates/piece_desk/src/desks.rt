@@ -7,10 +7,10 @@ ghost use Rattle.cert_tree.specs.Limits.{IsLemmaWithin};
 ghost use Rattle.cert_tree.specs.TurnedAssembly.{AssemblesTurned};
 ghost use Rattle.piece_desk.specs.Desks.{IsOf, lemma_of, posted_piece, places_left};
 
-use boxcar::tag::Tag;
 use boxcar::{Iter, Keeps, Pushed, Vec as Places};
+use boxcar::tag::Tag;
 use cert_tree::{AssembleFault, Certificate, FlatLemma, Lemma, PackedLemma, assemble_turned};
-use match_board::limits::{MOST_ARRANGEMENTS, MOST_CELLS, MOST_LEMMAS};
+use match_limits::{MOST_ARRANGEMENTS, MOST_CELLS, MOST_LEMMAS};
 use puzzle_symmetry::SymmetryLine;
 use std::alloc::{AllocError, Global};
 use std::marker::Model;
@@ -21,7 +21,7 @@ struct Within;
 
 impl Keeps<Lemma> for Within {
     ghost use Rattle.cert_tree.specs.Certificate.{piece_of};
-    ghost use Rattle.match_board.specs.declared.limits.TheConstants.{MOST_CELLS};
+    ghost use Rattle.match_limits.specs.declared.TheConstants.{MOST_CELLS};
     ghost use Rattle.cert_tree.specs.Limits.{IsLemmaWithin};
 
     ghost holds = { λ _ _ lemma. IsLemmaWithin MOST_CELLS (piece_of lemma) };
@@ -51,7 +51,7 @@ impl Model for Receipt {
     ghost view = { λ receipt. receipt.token };
 
     ghost use Rattle.cert_tree.specs.Certificate.{piece_of};
-    ghost use Rattle.match_board.specs.declared.limits.TheConstants.{MOST_CELLS};
+    ghost use Rattle.match_limits.specs.declared.TheConstants.{MOST_CELLS};
     ghost use Rattle.cert_tree.specs.Limits.{IsLemmaWithin};
 
     ghost invariant = { λ receipt. IsLemmaWithin MOST_CELLS (piece_of receipt.token.value) };
@@ -164,7 +164,7 @@ fn lend_all(alloc: Global, packed: &[PackedLemma]) -> Result<Vec<FlatLemma<'_>>,
 impl<'a> Iterator for Shown<'a> {
     type Item = &'a Lemma;
 
-    ghost use Rattle.match_board.specs.declared.limits.TheConstants.{MOST_CELLS};
+    ghost use Rattle.match_limits.specs.declared.TheConstants.{MOST_CELLS};
 
     ghost next_gives = { λ old item new. IfSome item (λ lemma. IsLemmaWithin MOST_CELLS (lent_piece lemma))
         × (places_left new ≤ places_left old)

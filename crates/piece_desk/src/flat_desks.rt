@@ -1,16 +1,16 @@
 //! Desks of lemmas that lie flat, and receipts of what was posted there.
 
 ghost use Rattle.std.specs.Prelude.{All, ◌≡◌, ◌<◌, ◌≤◌, ◌^◌, Ok, Err, IfOk, IfErr, length, map};
-ghost use Rattle.match_board.specs.declared.limits.TheConstants.{MOST_CELLS};
+ghost use Rattle.match_limits.specs.declared.TheConstants.{MOST_CELLS};
 ghost use Rattle.cert_tree.specs.Certificate.{flat_piece};
 ghost use Rattle.cert_tree.specs.Limits.{IsLemmaWithin};
 ghost use Rattle.cert_tree.specs.TurnedAssembly.{AssemblesTurned};
 ghost use Rattle.piece_desk.specs.FlatDesks.{IsOfFlat, flat_posted};
 
-use boxcar::tag::Tag;
 use boxcar::{Keeps, Pushed, Vec as Places};
+use boxcar::tag::Tag;
 use cert_tree::{AssembleFault, Certificate, FlatLemma, PackedLemma, assemble_turned};
-use match_board::limits::{MOST_ARRANGEMENTS, MOST_CELLS, MOST_LEMMAS};
+use match_limits::{MOST_ARRANGEMENTS, MOST_CELLS, MOST_LEMMAS};
 use puzzle_symmetry::SymmetryLine;
 use std::alloc::{AllocError, Global};
 use std::marker::Model;
@@ -20,7 +20,7 @@ use std::sync::Wait;
 struct PackedWithin;
 
 impl Keeps<PackedLemma> for PackedWithin {
-    ghost use Rattle.match_board.specs.declared.limits.TheConstants.{MOST_CELLS};
+    ghost use Rattle.match_limits.specs.declared.TheConstants.{MOST_CELLS};
     ghost use Rattle.cert_tree.specs.Limits.{IsLemmaWithin};
 
     ghost holds = { λ _ _ lemma. IsLemmaWithin MOST_CELLS lemma };
@@ -49,7 +49,7 @@ impl Model for FlatReceipt {
 
     ghost view = { λ receipt. receipt.token };
 
-    ghost use Rattle.match_board.specs.declared.limits.TheConstants.{MOST_CELLS};
+    ghost use Rattle.match_limits.specs.declared.TheConstants.{MOST_CELLS};
     ghost use Rattle.cert_tree.specs.Limits.{IsLemmaWithin};
 
     ghost invariant = { λ receipt. IsLemmaWithin MOST_CELLS receipt.token.value };

@@ -14,7 +14,7 @@ use Rattle.steal_crew.proofs.CountLemmas.{total-append, total_set_at, times-snoc
 use Rattle.steal_crew.proofs.QueueRuleLemmas.{all_snoc, all_map, append_nil}
 use Rattle.steal_crew.proofs.BesideLemmas.{default, snoc_last, beside_at, beside_set, beside_more, beside_both, beside_less, beside_last}
 use Rattle.steal_crew.specs.QueueRule.{part_count}
-use Rattle.match_board.specs.declared.limits.TheConstants.{MOST_WORKERS}
+use Rattle.match_limits.specs.declared.TheConstants.{MOST_WORKERS}
 
 -- the numbers dealt to a queue
 

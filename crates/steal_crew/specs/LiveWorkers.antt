@@ -4,7 +4,7 @@ use Rattle.std.specs.Prelude.{Option, IsSomeAnd}
 use Rattle.std.specs.declared.alloc.Global.{Global}
 use Rattle.crossbeam_deque.specs.Injected.{injector_view, IsInjectorPassOf}
 use Rattle.crossbeam_deque.specs.declared.injector.Injector.{Injector}
-use Rattle.match_board.specs.declared.limits.TheConstants.{MOST_LEMMAS}
+use Rattle.match_limits.specs.declared.TheConstants.{MOST_LEMMAS}
 use Rattle.steal_crew.specs.declared.tickets.seats.TicketSeat.{TicketSeat}
 use Rattle.steal_crew.specs.declared.tickets.seats.AllDrawn.{AllDrawn}
 use Rattle.steal_crew.specs.declared.live.limits.TheConstants.{MOST_GIVEN}

@@ -4,7 +4,7 @@ use Rattle.std.specs.Prelude.{All, MatchBool}
 use mathlib.Core.Option.{some}
 use lib.ListN.{get_elem?}
 use Rattle.atomic_table.specs.Table.{State, Me, Step}
-use Rattle.match_board.specs.declared.limits.TheConstants.{MOST_WORKERS}
+use Rattle.match_limits.specs.declared.TheConstants.{MOST_WORKERS}
 use Rattle.steal_crew.specs.declared.tickets.rules.SeatView.{SeatView}
 use Rattle.steal_crew.specs.Counts.{total, times, once_below}
 

@@ -14,9 +14,9 @@ use crate::taking::work_at;
 use crate::tickets::AllDrawn;
 use crate::works::{Share, Station, Work};
 use crossbeam_deque::Pass;
-use match_board::limits::{MOST_LEMMAS, MOST_WORKERS};
-use std::alloc::{AllocError, Global};
+use match_limits::{MOST_LEMMAS, MOST_WORKERS};
 use std::thread;
+use std::alloc::{AllocError, Global};
 use std::thread::Threads;
 
 /// What a crew did.

@@ -6,7 +6,7 @@ ghost use Rattle.steal_crew.specs.Queues.{Owners, Places, IsStation, taken_by};
 use crate::queues::{Deals, Handle, Owner, Parts, View};
 use crate::works::Station;
 use crossbeam_deque::Pass;
-use match_board::limits::MOST_WORKERS;
+use match_limits::MOST_WORKERS;
 use std::alloc::{AllocError, Global};
 
 // Empty queues, and a handle for each.

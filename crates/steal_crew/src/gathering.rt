@@ -10,7 +10,7 @@ ghost use Rattle.steal_crew.specs.Queues.{AreSpent, Owners, Places, IsShare, Sho
 use crate::queues::{Handle, Owner, Parts, Takes, View, Whole};
 use crate::works::{Share, Work};
 use crossbeam_deque::Pass;
-use match_board::limits::MOST_WORKERS;
+use match_limits::MOST_WORKERS;
 use std::alloc::{AllocError, Global};
 
 // Takes in the places of one worker.

@@ -2,11 +2,11 @@
 
 ghost use Rattle.std.specs.Prelude.{◌≤◌};
 
-use crate::meetings::Meeting;
 use cert_check::{Answer, NodeFault, Question, TreeFault, forked_tree_fault};
 use cert_text::read_certificate;
-use match_board::limits::MOST_FORKS;
+use crate::meetings::Meeting;
 use match_crew::{Gate, check_with, solve_with};
+use match_limits::MOST_FORKS;
 use match_text::read_puzzle;
 use std::alloc::Global;
 use std::sync::atomic::{AtomicU8, Ordering};

@@ -1,9 +1,9 @@
 ghost use Rattle.std.specs.Prelude.{◌≡◌};
 ghost use Rattle.steal_crew.specs.Tickets.{source_of, seat_source};
 
-use match_board::limits::{MOST_LEMMAS, MOST_WORKERS};
-use std::test::Fail;
+use match_limits::{MOST_LEMMAS, MOST_WORKERS};
 use std::thread;
+use std::test::Fail;
 use steal_crew::{TicketSeat, Tickets};
 
 // Draws until none is left. There is room for all that is drawn.

@@ -1,6 +1,6 @@
 //! The limits.
 
-use match_board::limits;
+use match_limits;
 
 // The numbers are those of docs/FORMATS.md and of the README, but for those of entries and of fuel.
 const LIMITS: [(u32, u32); 26] = [

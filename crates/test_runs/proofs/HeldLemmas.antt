@@ -2,7 +2,7 @@
 use Rattle.std.proofs.Common.{◌≡◌, ◌∙◌, ◌++◌, List, ℕ, Option, Some, None, ap, drop, refl, subst}
 use Rattle.std.proofs.lemmas.List.{append-nil}
 use Rattle.std.specs.Io.KnownBytes.{Consumes, IsAtEnd}
-use Rattle.match_board.specs.declared.limits.TheConstants.{MOST_BYTES}
+use Rattle.match_limits.specs.declared.TheConstants.{MOST_BYTES}
 use Rattle.byte_streams.specs.Documents.{Texts, three}
 use Rattle.byte_streams.specs.Moves.{Gives, Reading}
 use Rattle.match_runs.specs.Checking.{SpellCompleteList}

@@ -1,18 +1,14 @@
 //! Checks over readers and a writer that fail, or that move little at once, and of files whose texts are known.
 
-use crate::outcomes::with_memory;
 use byte_streams::Fake;
-use command_words::{Forks, Workers};
+use crate::outcomes::with_memory;
+use match_limits::{Forks, Workers};
 use match_runs::{Document, Documents, RunFault, Status, run_check, run_joined};
 use std::alloc::{AllocError, Global};
 use std::process::Abort;
 use std::test::Fail;
 use std::thread::Threads;
-use test_samples::{
-    SQUARE_OF_FOUR, SQUARE_OF_FOUR_CERTIFICATE, SQUARE_OF_FOUR_LIST, TURNING_TRIANGLE,
-    TURNING_TRIANGLE_CERTIFICATE, TURNING_TRIANGLE_LIST, TWIN_TILES, TWIN_TILES_CERTIFICATE,
-    TWIN_TILES_LIST,
-};
+use test_samples::{SQUARE_OF_FOUR, SQUARE_OF_FOUR_CERTIFICATE, SQUARE_OF_FOUR_LIST, TURNING_TRIANGLE, TURNING_TRIANGLE_CERTIFICATE, TURNING_TRIANGLE_LIST, TWIN_TILES, TWIN_TILES_CERTIFICATE, TWIN_TILES_LIST};
 
 pub const SQUARE: Documents<'static> = Documents {
     puzzle: SQUARE_OF_FOUR,

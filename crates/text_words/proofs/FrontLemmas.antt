@@ -1,8 +1,8 @@
 -- What a line begins with: a word, or a number of one digit or two and a space.
 use Rattle.std.proofs.Common.{◌≡◌, ◌≢◌, ℕ, suc, ◌+◌, ◌-◌, ◌*◌, ◌<◌, ◌≤◌, ◌||◌, Bool, true, false, not, eqb, ltb, List, [], ◌∷◌, ◌++◌, length, get_or, position, take, drop, Option, Some, None, Ok, refl, sym, ◌∙◌, append_assoc, arith}
-use Rattle.match_board.specs.declared.limits.TheConstants.{LAST_TURN}
-use Rattle.text_words.specs.declared.ranges.Ranges.{Ranges}
-use Rattle.text_words.specs.Ranges.{AreRanges}
+use Rattle.match_limits.specs.declared.TheConstants.{LAST_TURN}
+use Rattle.match_limits.specs.declared.ranges.Ranges.{Ranges}
+use Rattle.match_limits.specs.Ranges.{AreRanges}
 use Rattle.std.specs.List.{onto_first}
 use Rattle.std.specs.Str.{bytes_eq}
 use Rattle.std.specs.Option.{is_some}

@@ -1,4 +1,3 @@
-pub mod RangesLemmas
 pub mod BytesLemmas
 pub mod FrontLemmas
 pub mod LoopLemmas

@@ -1,8 +1,8 @@
 -- Words that spell a value.
 use Rattle.std.proofs.Common.{◌≡◌, ℕ, ◌^◌, ◌<◌, ◌≤◌, Bool, true, false, cond, eqb, not, ltb, leb, ◌&&◌, ◌||◌, List, [], ◌∷◌, ◌++◌, length, get_or, map, Option, Some, None, Result, Ok, Err, refl, sym, ap, subst, ◌∙◌, arith, codes, inl, inr, ⊎_elim}
-use Rattle.match_board.specs.declared.limits.TheConstants.{LAST_TURN}
-use Rattle.text_words.specs.declared.ranges.Ranges.{Ranges}
-use Rattle.text_words.specs.Ranges.{IsVersion, AreRanges}
+use Rattle.match_limits.specs.declared.TheConstants.{LAST_TURN}
+use Rattle.match_limits.specs.declared.ranges.Ranges.{Ranges}
+use Rattle.match_limits.specs.Ranges.{IsVersion, AreRanges}
 use Rattle.text_words.specs.declared.faults.TextKind.{TextKind}
 use Rattle.std.specs.List.{AllByRecursion}
 use Rattle.std.specs.Fmt.{decimal}

@@ -1,5 +1,4 @@
 pub mod Bytes
-pub mod Ranges
 pub mod Within
 pub mod Words
 pub mod Place

@@ -1,9 +1,9 @@
 -- What is within the limits of a word.
 use Rattle.std.specs.Prelude.{◌≡◌, ◌⊎◌, ◌<◌, ◌≤◌, ℕ, List, Option, Some, None, length}
 use Rattle.std.specs.List.{AllByRecursion}
-use Rattle.match_board.specs.declared.limits.TheConstants.{LAST_TURN, MOST_COLOURS}
+use Rattle.match_limits.specs.declared.TheConstants.{LAST_TURN, MOST_COLOURS}
 use Rattle.match_puzzle.specs.declared.placements.Placement.{Placement}
-use Rattle.text_words.specs.declared.ranges.Ranges.{Ranges}
+use Rattle.match_limits.specs.declared.ranges.Ranges.{Ranges}
 
 -- The tile's number is in the range, and the turn is one of four.
 abbrev pub IsPlacementWithin : Ranges → Placement → Type 0

@@ -1,7 +1,7 @@
 -- What a word has to be, and what is wrong with one that isn't.
 use Rattle.std.specs.Prelude.{◌≡◌, ℕ, zero, suc, codes, ◌-◌, List, [], ◌∷◌, length, Option, Some, None, Result, Ok, Err}
 use Rattle.std.specs.Prelude.{map, Bool, ◌&&◌, ◌||◌, nat_lt, nat_le, ◌==◌, if◌then◌else◌, slice_index}
-use Rattle.match_board.specs.declared.limits.TheConstants.{LAST_TURN}
+use Rattle.match_limits.specs.declared.TheConstants.{LAST_TURN}
 use Rattle.std.specs.List.{list_all}
 use Rattle.std.specs.Str.{all_ascii_digits, bytes_eq}
 use Rattle.std.specs.Str.Parse.{digits_value}
@@ -9,7 +9,7 @@ use Rattle.match_puzzle.specs.declared.placements.Pair.{Pair}
 use Rattle.match_puzzle.specs.declared.placements.Placement.{Placement}
 use Rattle.text_words.specs.declared.faults.TextKind.{TextKind}
 use Rattle.text_words.specs.declared.faults.TextKind.TheVariants.{Word, Number, Limit, Version}
-use Rattle.text_words.specs.declared.ranges.Ranges.{Ranges}
+use Rattle.match_limits.specs.declared.ranges.Ranges.{Ranges}
 use Rattle.text_words.specs.Bytes.{cut_at}
 
 infixl 10 ◌>>=◌

@@ -3,14 +3,12 @@
 
 mod asked;
 mod faults;
-mod ranges;
 mod scans;
 mod spellings;
 mod words;
 
 pub use asked::{Asked, FaultPlace};
 pub use faults::{ReadFault, TextFault, TextKind};
-pub use ranges::{FIRST, Ranges, SECOND, ranges_of};
 pub use scans::Scan;
 pub use spellings::{character, letter, put_end, put_number, put_number_line, put_placement};
 pub use words::row_word;

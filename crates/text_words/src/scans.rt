@@ -5,7 +5,7 @@ ghost use Rattle.std.specs.Prelude.{IfOk};
 ghost use Rattle.std.specs.Option.{option_copied};
 ghost use Rattle.match_board.specs.Tile.{word as tile_colours};
 ghost use Rattle.text_words.specs.Bytes.{words_left};
-ghost use Rattle.text_words.specs.Ranges.{IsVersion, AreRanges};
+ghost use Rattle.match_limits.specs.Ranges.{IsVersion, AreRanges};
 ghost use Rattle.text_words.specs.Words.{fixed_in, version_in, number_in, colour_in, rule_in, tile_in, placement_in};
 ghost use Rattle.text_words.specs.Words.{pair_in};
 ghost use Rattle.text_words.specs.Place.{Place, start, first_word, other_words, without_word, judged, Gives, next_line};
@@ -13,12 +13,9 @@ ghost use Rattle.text_words.specs.Place.{end_of_line, end_of_text, skip_line, so
 
 use crate::asked::{Asked, FaultPlace};
 use crate::faults::{TextFault, TextKind};
-use crate::ranges::Ranges;
-use crate::words::{
-    after_word, colour_word, cut_line, fixed_word, front, number_word, pair_word, placement_word,
-    rule_word, short_number, short_placement, tile_word, version_word,
-};
+use crate::words::{after_word, colour_word, cut_line, fixed_word, front, number_word, pair_word, placement_word, rule_word, short_number, short_placement, tile_word, version_word};
 use match_board::Tile;
+use match_limits::Ranges;
 use match_puzzle::{Pair, Placement};
 use std::marker::Model;
 

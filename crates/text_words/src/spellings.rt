@@ -4,7 +4,7 @@ ghost use Rattle.std.specs.Prelude.{◌≡◌, ◌++◌, ◌∷◌, [], ◌<◌,
 ghost use Rattle.text_words.specs.Spelling.{colour_character, count_words, end_lines, placement_word, text_of};
 
 use itoa::Buffer;
-use match_board::limits::MOST_COLOURS;
+use match_limits::MOST_COLOURS;
 use match_puzzle::Placement;
 use std::alloc::AllocError;
 

@@ -7,16 +7,15 @@ ghost use Rattle.std.specs.List.{list_all, position};
 ghost use Rattle.std.specs.Str.Parse.{digits_value};
 ghost use Rattle.match_board.specs.Tile.{word as tile_colours};
 ghost use Rattle.text_words.specs.Bytes.{cut_at, words_of, words_left};
-ghost use Rattle.text_words.specs.declared.ranges.Ranges.{Ranges as RangesOf};
-ghost use Rattle.text_words.specs.Ranges.{IsVersion, AreRanges};
+ghost use Rattle.match_limits.specs.declared.ranges.Ranges.{Ranges as RangesOf};
+ghost use Rattle.match_limits.specs.Ranges.{IsVersion, AreRanges};
 ghost use Rattle.text_words.specs.Words.{Judges, fixed_in, version_in, is_number, number_in, or_word, colour_of};
 ghost use Rattle.text_words.specs.Words.{colour_in, rule_in, colours_in, tile_in, placement_in, pair_in, marks_in};
 ghost use Rattle.text_words.specs.Words.{is_cell, is_mark};
 
 use crate::faults::TextKind;
-use crate::ranges::Ranges;
 use match_board::Tile;
-use match_board::limits::{LAST_TURN, MOST_COLOURS};
+use match_limits::{LAST_TURN, MOST_COLOURS, Ranges};
 use match_puzzle::{Pair, Placement};
 use memchr::memchr;
 

@@ -3,8 +3,8 @@ use Rattle.std.proofs.Common.{◌≡◌, ◌≢◌, ◌⊎◌, ◌<◌, ℕ, zer
 use Rattle.std.proofs.lemmas.Bool.{cases_eq, cases_Bool, cond-true, cond-false}
 use Rattle.std.proofs.lemmas.List.{get_or_append_left, get_or_push}
 use Rattle.std.proofs.lemmas.List.Elements.{Contains-append_left, Contains-push, Contains-push_cases, Contains-get_or}
-use Rattle.match_board.specs.Listing.{IsListing}
-use Rattle.match_board.proofs.Listings.{contains_none, same_listing}
+use Rattle.match_limits.specs.Listing.{IsListing}
+use Rattle.match_limits.proofs.Listings.{contains_none, same_listing}
 use Rattle.xcc_dance.specs.NodeLists.{count}
 
 -- A number past all before it is added at the end.

@@ -7,7 +7,7 @@ use Rattle.xcc_dance.specs.NodeTables.{IsNodeTable, has, shown_by, start_of}
 use Rattle.xcc_dance.specs.NodeClashes.{NodeClashes, CoversItem, Excludes, NodesClash}
 use Rattle.xcc_dance.proofs.NodeWords.{HasNoChosenNode, IsFreeAt, HasChosenNode}
 use Rattle.xcc_dance.specs.Marks.{HidesJust}
-use Rattle.match_board.specs.Listing.{IsListing}
+use Rattle.match_limits.specs.Listing.{IsListing}
 use Rattle.xcc_form.proofs.ListingMore.{listing_same}
 use Rattle.xcc_dance.specs.declared.links.tables.Entry.{Entry}
 use Rattle.xcc_dance.proofs.HidingLemmas.{shown_true, shown_parts}

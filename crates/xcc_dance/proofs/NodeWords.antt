@@ -1,6 +1,6 @@
 -- Nodes of options that are open, and walks along the list of an item.
 use Rattle.std.specs.Prelude.{◌≡◌, ◌≢◌, ◌⊎◌, ◌<◌, ◌≤◌, ◌+◌, ◌-◌, ◌==◌, ℕ, true, cond, List, Contains, length, slice_index_or}
-use Rattle.match_board.specs.Listing.{IsListing}
+use Rattle.match_limits.specs.Listing.{IsListing}
 use Rattle.xcc_dance.specs.Rings.{item_of, option_of}
 use Rattle.xcc_dance.specs.NodeTables.{shown_by}
 use Rattle.xcc_dance.specs.NodeClashes.{NodesClash}

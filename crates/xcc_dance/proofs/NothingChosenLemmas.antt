@@ -4,7 +4,7 @@ use Rattle.std.proofs.lemmas.Bool.{cases_lt}
 use Rattle.std.proofs.lemmas.Bool.Decides.{eqb_tells}
 use Rattle.std.proofs.lemmas.List.{ext_get_or, get_or_past, nil_from_length}
 use Rattle.match_board.specs.Board.{cell_count}
-use Rattle.match_board.proofs.Listings.{contains_none}
+use Rattle.match_limits.proofs.Listings.{contains_none}
 use Rattle.xcc_form.specs.Options.{Choice, Compiled}
 use Rattle.xcc_form.proofs.OptionLemmas.{read_in}
 use Rattle.xcc_dance.specs.Rings.{no_link, no_entry, up_of, down_of, item_of, option_of}

@@ -4,9 +4,9 @@ use Rattle.std.proofs.Math.Seq.{take-append_seam, take-length}
 use Rattle.std.proofs.lemmas.List.{length-replicate}
 use Rattle.std.proofs.lemmas.Option.{slice_get_within, get_or_from_slice_get, none-some}
 use Rattle.match_board.specs.Board.{Meets, cell_count}
-use Rattle.match_board.specs.Listing.{ByKey}
+use Rattle.match_limits.specs.Listing.{ByKey}
 use Rattle.match_board.proofs.Places.{Meets-turned}
-use Rattle.match_board.proofs.Listings.{comes_before_asymmetric}
+use Rattle.match_limits.proofs.Listings.{comes_before_asymmetric}
 use Rattle.match_puzzle.specs.Puzzle.{Task, colour_of}
 use Rattle.match_puzzle.specs.Prefix.{Prefix, Has, IsFree, empty_prefix}
 use Rattle.match_puzzle.specs.Fitting.{Fits, FitsItem, AreFitting, Settles, item_key, tile_turn}
@@ -15,10 +15,10 @@ use Rattle.match_puzzle.specs.declared.items.Item.{Item}
 use Rattle.match_puzzle.specs.declared.items.Item.TheVariants.{Cell, Tile}
 use Rattle.match_puzzle.specs.declared.placements.Placement.{Placement}
 use Rattle.match_puzzle.specs.declared.placements.Pair.{Pair}
-use Rattle.match_puzzle.proofs.Kept.{has_none, used_or_unused}
-use Rattle.match_puzzle.proofs.MateLemmas.{together_turned}
-use Rattle.match_puzzle.proofs.ItemLemmas.{item_of, not_after, at_most}
-use Rattle.match_puzzle.proofs.PlacedPairLemmas.{fit_pushed, at_end}
+use Rattle.match_puzzle.proofs.UsedTiles.{has_none, used_or_unused}
+use Rattle.match_puzzle.proofs.TogetherLemmas.{together_turned}
+use Rattle.match_fits.proofs.ItemLemmas.{item_of, not_after, at_most}
+use Rattle.match_fits.proofs.PlacedPairLemmas.{fit_pushed, at_end}
 use Rattle.match_puzzle.proofs.PairLemmas.{has_of_pairs, free_of_pairs, free_in_empty, length-with_pairs}
 use Rattle.match_puzzle.proofs.Prefixes.{inside, free_or_has}
 use Rattle.xcc_form.specs.ExactCover.{HasPrimary}
@@ -29,7 +29,7 @@ use Rattle.xcc_form.proofs.PairsLemmas.{in_first, in_rest}
 use Rattle.xcc_dance.specs.Clashes.{IsPartialSolution, IsOpen, IsOpenAt}
 use Rattle.xcc_dance.specs.Chosen.{AreOpenAt, HasSize, IsUncovered, IsCovered}
 use Rattle.match_puzzle.specs.Fitting.{IsNumberOf}
-use Rattle.match_puzzle.specs.Placing.{prefix_of}
+use Rattle.match_fits.specs.Placing.{prefix_of}
 use Rattle.xcc_dance.specs.Placing.{ArePairsOf}
 use Rattle.xcc_dance.specs.FittingOptions.{AreOpenWhereFitting, AreOpenWhereSettling, AreOpenWhereListed, AreOpenInOrder, AreFittingInOrder, AreAsManyAsFitting, AreUncoveredWhereOpen, AreBranchedOnWhereFewest, StandAsPairs, AreFittingAt}
 use Rattle.xcc_dance.proofs.ItemLemmas.{share_cell, share_tile, cell_has, tile_has, is_item}

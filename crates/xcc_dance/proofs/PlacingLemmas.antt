@@ -6,14 +6,14 @@ use Rattle.std.proofs.lemmas.List.{length-replicate, length-take}
 use Rattle.match_board.specs.Board.{Meets}
 use Rattle.match_board.proofs.Places.{Meets-turned}
 use Rattle.match_puzzle.specs.Puzzle.{Task, colour_of, GoTogether}
-use Rattle.match_puzzle.proofs.MateLemmas.{together_turned}
+use Rattle.match_puzzle.proofs.TogetherLemmas.{together_turned}
 use Rattle.match_puzzle.specs.Prefix.{Prefix, Has, IsFree, empty_prefix, with_pair}
 use Rattle.match_puzzle.specs.declared.placements.Placement.{Placement}
 use Rattle.match_puzzle.specs.declared.placements.Pair.{Pair}
 use Rattle.match_puzzle.proofs.Prefixes.{inside, has_new, has_still}
-use Rattle.match_puzzle.proofs.PlacedPairLemmas.{pushed_at}
+use Rattle.match_fits.proofs.PlacedPairLemmas.{pushed_at}
 use Rattle.match_puzzle.proofs.PairLemmas.{has_of_pairs, free_of_pairs, free_in_empty, length-with_pairs, taken_at, next_pair}
-use Rattle.match_puzzle.proofs.Kept.{has_none}
+use Rattle.match_puzzle.proofs.UsedTiles.{has_none}
 use Rattle.match_board.specs.Board.{cell_count}
 use Rattle.xcc_form.specs.Options.{Compiled, IsCompiled, IsOptionPair, IsSideOf, IsShownEdge, colour_given, cover_of, primary_count}
 use Rattle.xcc_form.specs.Correspondence.{IsPairOf}
@@ -25,7 +25,7 @@ use Rattle.xcc_form.proofs.GivenLemmas.{given_alike, met}
 use Rattle.xcc_form.proofs.ShownLemmas.{shared_at}
 use Rattle.xcc_dance.specs.Clashes.{Clash, IsPartialSolution, IsOpen}
 use Rattle.xcc_dance.specs.Chosen.{Selection}
-use Rattle.match_puzzle.specs.Placing.{prefix_of, FitInTurn}
+use Rattle.match_fits.specs.Placing.{prefix_of, FitInTurn}
 use Rattle.xcc_dance.specs.Placing.{ArePairsOf, IsArrangementWith}
 use Rattle.xcc_dance.specs.Found.{IsFoundFrom}
 use Rattle.xcc_dance.proofs.ItemLemmas.{share_cell, share_tile, shares}

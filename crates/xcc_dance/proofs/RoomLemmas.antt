@@ -4,9 +4,9 @@ use Rattle.std.specs.List.{IsDistinct, list_any, AllByRecursion}
 use Rattle.std.proofs.lemmas.Map.Steps.{length-le_from_distinct_below}
 use Rattle.std.proofs.lemmas.Map.Keys.{IsDistinct-cons}
 use Rattle.std.proofs.lemmas.Bool.{eqb-true, false≢true}
-use Rattle.match_board.specs.declared.limits.TheConstants.{MOST_CELLS, MOST_CHILDREN, MOST_TILES}
+use Rattle.match_limits.specs.declared.TheConstants.{MOST_CELLS, MOST_CHILDREN, MOST_TILES}
 use Rattle.match_board.specs.Board.{cell_count}
-use Rattle.match_board.proofs.Listings.{lt_or_le}
+use Rattle.match_limits.proofs.Listings.{lt_or_le}
 use Rattle.match_puzzle.specs.declared.placements.Pair.{Pair}
 use Rattle.match_puzzle.proofs.FittingLemmas.{small_turn}
 use Rattle.xcc_form.specs.ExactCover.{HasPrimary}

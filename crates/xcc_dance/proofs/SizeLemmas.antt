@@ -2,9 +2,9 @@
 use Rattle.std.proofs.Common.{◌≡◌, ◌⊎◌, ◌<◌, ◌≤◌, ◌+◌, ◌++◌, ◌∷◌, [], ℕ, List, Option, None, Some, MatchOption, length, arith, ap, inl, inr, sym, ◌∙◌, subst, ⊎_elim}
 use Rattle.std.proofs.lemmas.Bool.Decides.{eqb_tells}
 use Rattle.std.proofs.lemmas.Option.{slice_get_within, get_or_from_slice_get}
-use Rattle.match_board.specs.declared.limits.TheConstants.{MOST_CHILDREN}
-use Rattle.match_board.specs.Listing.{IsListing}
-use Rattle.match_board.proofs.Listings.{lt_or_le, same_listing}
+use Rattle.match_limits.specs.declared.TheConstants.{MOST_CHILDREN}
+use Rattle.match_limits.specs.Listing.{IsListing}
+use Rattle.match_limits.proofs.Listings.{lt_or_le, same_listing}
 use Rattle.xcc_form.specs.ExactCover.{Cover}
 use Rattle.xcc_form.specs.Options.{Compiled, IsCompiled, cover_of}
 use Rattle.xcc_form.proofs.OptionLemmas.{contains_at}

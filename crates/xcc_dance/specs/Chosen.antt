@@ -1,6 +1,6 @@
 -- Chosen options of a compiled puzzle, and what to branch on.
 use Rattle.std.specs.Prelude.{◌≡◌, ◌⊎◌, ◌<◌, ◌≤◌, ◌-◌, ◌++◌, ◌∷◌, [], ℕ, zero, suc, List, Option, IfSome, Contains, length, take}
-use Rattle.match_board.specs.Listing.{IsListing}
+use Rattle.match_limits.specs.Listing.{IsListing}
 use Rattle.xcc_form.specs.ExactCover.{Cover, HasPrimary}
 use Rattle.xcc_form.specs.Options.{Compiled, IsCompiled, cover_of}
 use Rattle.xcc_dance.specs.Clashes.{IsPartialSolution, IsOpenAt}

@@ -1,10 +1,10 @@
 -- Open options, said of pairs: they are those whose pairs fit.
 use Rattle.std.specs.Prelude.{◌≡◌, ◌<◌, ◌↔◌, ℕ, List, Contains, length}
 use Rattle.match_board.specs.Board.{cell_count}
-use Rattle.match_board.specs.Listing.{ByKey}
+use Rattle.match_limits.specs.Listing.{ByKey}
 use Rattle.match_puzzle.specs.Fitting.{Fits, FitsItem, Settles, AreFitting, HasFewestFitting, IsNumberOf, item_key}
 use Rattle.match_puzzle.specs.Fitting as items
-use Rattle.match_puzzle.specs.Placing.{prefix_of}
+use Rattle.match_fits.specs.Placing.{prefix_of}
 use Rattle.match_puzzle.specs.declared.items.Item.{Item}
 use Rattle.match_puzzle.specs.declared.placements.Pair.{Pair}
 use Rattle.xcc_form.specs.Options.{Compiled, cover_of}

@@ -6,7 +6,8 @@ ghost use Rattle.xcc_dance.specs.Chosen.{IsUncovered};
 ghost use Rattle.xcc_dance.specs.Placing.{IsPairOfAny};
 
 use crate::open_options::OpenOptions;
-use match_puzzle::{FitCounts, Item, Pair};
+use match_fits::FitCounts;
+use match_puzzle::{Item, Pair};
 use std::alloc::{AllocError, Global};
 use std::marker::Model;
 use xcc_form::Xcc;

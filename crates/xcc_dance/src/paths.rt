@@ -6,12 +6,12 @@ ghost use Rattle.xcc_form.specs.Options.{IsCompiled, IsOptionPair, cover_of};
 ghost use Rattle.xcc_form.specs.Correspondence.{IsPairOf, IsSolutionOf};
 ghost use Rattle.xcc_dance.specs.Clashes.{IsOpen};
 ghost use Rattle.xcc_dance.specs.Chosen.{IsSelection, IsUncovered, AreAllCovered, with_option, before_any};
-ghost use Rattle.match_puzzle.specs.Placing.{FitInTurn};
+ghost use Rattle.match_fits.specs.Placing.{FitInTurn};
 ghost use Rattle.xcc_dance.specs.Placing.{ArePairsOf};
 
 use crate::chooses::Chooses;
 use crate::open_options::OpenOptions;
-use match_board::limits::MOST_CELLS;
+use match_limits::MOST_CELLS;
 use match_puzzle::{Arrangement, Pair};
 use std::alloc::{AllocError, Global};
 use std::marker::Model;

@@ -4,10 +4,11 @@ ghost use Rattle.std.specs.Prelude.{◌≡◌, ◌↔◌, ◌⊎◌, ◌≤◌, 
 ghost use Rattle.cert_tree.specs.Tree.{tree_of};
 ghost use Rattle.match_puzzle.specs.declared.placements.Pair.{Pair as Placed};
 ghost use Rattle.xcc_dance.specs.LinkStates.{selection_of};
-ghost use Rattle.match_puzzle.specs.Placing.{FitInTurn};
+ghost use Rattle.match_fits.specs.Placing.{FitInTurn};
 ghost use Rattle.xcc_dance.specs.Outcome.{IsOutcome, IsPackedOutcome, IsPackedSearchOf, IsSearchOf};
 ghost use Rattle.xcc_dance.specs.SearchTree.{picks_fewest};
 
+use cert_tree::{Node, PackedTree};
 use crate::chooses::{Chooses, FewestOptions};
 use crate::cites::Cites;
 use crate::faults::SearchFault;
@@ -16,8 +17,7 @@ use crate::open_options::OpenOptions;
 use crate::paths::SearchPath;
 use crate::progress::Progress;
 use crate::searching::walk;
-use cert_tree::{Node, PackedTree};
-use match_board::limits::MOST_FUEL;
+use match_limits::MOST_FUEL;
 use match_puzzle::{Arrangement, Pair};
 use std::alloc::{AllocError, Global};
 use std::marker::Model;

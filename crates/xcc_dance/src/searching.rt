@@ -6,19 +6,19 @@ ghost use Rattle.xcc_form.specs.Options.{cover_of};
 ghost use Rattle.cert_tree.specs.Heads.{heads_of};
 ghost use Rattle.cert_tree.specs.Tree.{Tree};
 ghost use Rattle.xcc_dance.specs.Chosen.{IsUncovered};
-ghost use Rattle.match_puzzle.specs.Placing.{FitInTurn};
+ghost use Rattle.match_fits.specs.Placing.{FitInTurn};
 ghost use Rattle.xcc_dance.specs.Found.{IsCitation};
 ghost use Rattle.xcc_dance.specs.Progress.{GoesOn, IsTreeOf, AreTreesOf, PutsTree, PutsTrees};
 ghost use Rattle.xcc_dance.specs.SearchTree.{IsSearchTree, IsChild, AreBranchesOf};
 ghost use Rattle.xcc_dance.specs.Unfinished.{IsNotCited, IsUnfinished, AreUnfinished};
 
+use cert_tree::Head;
 use crate::chooses::Chooses;
 use crate::cites::{Cite, Cites};
 use crate::open_options::OpenOptions;
 use crate::paths::SearchPath;
 use crate::progress::Progress;
-use cert_tree::Head;
-use match_board::limits::{MOST_CELLS, MOST_CHILDREN};
+use match_limits::{MOST_CELLS, MOST_CHILDREN};
 use match_puzzle::Item;
 use std::alloc::{AllocError, Global};
 

@@ -7,8 +7,8 @@ use Rattle.std.specs.Cmp.{first_so, second_so}
 use Rattle.std.proofs.lemmas.Bool.{eqb-true, false≢true}
 use Rattle.std.proofs.lemmas.Bool.Decides.{eqb_tells}
 use Rattle.match_board.specs.Board.{cell_count}
-use Rattle.match_board.specs.Listing.{IsListing}
-use Rattle.match_board.proofs.Listings.{same_listing}
+use Rattle.match_limits.specs.Listing.{IsListing}
+use Rattle.match_limits.proofs.Listings.{same_listing}
 use Rattle.match_puzzle.specs.Arrangement.{IsArrangement, Stands}
 use Rattle.match_puzzle.specs.declared.placements.Placement.{Placement}
 use Rattle.match_puzzle.specs.declared.placements.Pair.{Pair}

@@ -1,13 +1,13 @@
 -- A compiled puzzle is an exact cover, and the only one of its puzzle.
 use Rattle.std.proofs.Common.{◌≡◌, ◌<◌, ◌+◌, ◌%◌, ℕ, zero, suc, List, [], ◌∷◌, All, Some, length, slice_get, get_or, map, arith, refl, ap, sym, ◌∙◌, subst, ⊎_elim}
-use Rattle.match_board.specs.declared.limits.TheConstants.{MOST_COLOURS}
+use Rattle.match_limits.specs.declared.TheConstants.{MOST_COLOURS}
 use Rattle.std.proofs.lemmas.List.{get_or_past}
 use Rattle.std.proofs.lemmas.List.Elements.{All-get_or}
 use Rattle.std.proofs.lemmas.Option.{slice_get_within, get_or_from_slice_get, none-some}
 use Rattle.match_board.specs.Board.{cell_count}
 use Rattle.match_board.specs.Turns.{shown}
-use Rattle.match_board.specs.Listing.{IsListing, ByKey}
-use Rattle.match_board.proofs.Listings.{lt_or_le, same_listing, IsAsymmetric, by_key_asymmetric, comes_before_asymmetric}
+use Rattle.match_limits.specs.Listing.{IsListing, ByKey}
+use Rattle.match_limits.proofs.Listings.{lt_or_le, same_listing, IsAsymmetric, by_key_asymmetric, comes_before_asymmetric}
 use Rattle.match_puzzle.specs.Puzzle.{Task, IsPuzzle, IsLegal, word_of, colour_of}
 use Rattle.match_puzzle.specs.Fitting.{tile_turn}
 use Rattle.match_puzzle.specs.declared.placements.Placement.{Placement}

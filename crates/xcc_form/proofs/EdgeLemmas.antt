@@ -4,8 +4,8 @@ use Rattle.std.proofs.lemmas.Option.{none-some, some_pair_parts}
 use Rattle.match_board.specs.Board.{LiesBefore, StandsAt, Meets, cell_count, side_count}
 use Rattle.match_board.specs.declared.figures.Figure.{Figure}
 use Rattle.match_board.specs.declared.figures.Figure.TheVariants.{Rectangle, Triangle, Hexagon, Shape}
-use Rattle.match_board.specs.Listing.{IsListing, ByKey, HoldsBefore}
-use Rattle.match_board.proofs.Listings.{listing_push, listing_skip}
+use Rattle.match_limits.specs.Listing.{IsListing, ByKey, HoldsBefore}
+use Rattle.match_limits.proofs.Listings.{listing_push, listing_skip}
 use Rattle.match_board.proofs.Places.{one_place, StandsAt-in_range}
 use Rattle.match_puzzle.proofs.ArrangementLemmas.{side_in_range}
 use Rattle.xcc_form.specs.Options.{IsSharedEdge, least_place}

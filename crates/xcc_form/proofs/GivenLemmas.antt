@@ -4,9 +4,9 @@ use Rattle.std.proofs.lemmas.Bool.Decides.{eqb_tells}
 use Rattle.match_board.specs.Board.{Meets}
 use Rattle.match_board.specs.declared.figures.Figure.{Figure}
 use Rattle.match_board.proofs.Places.{Meets-turned}
-use Rattle.match_board.specs.declared.limits.TheConstants.{MOST_COLOURS}
+use Rattle.match_limits.specs.declared.TheConstants.{MOST_COLOURS}
 use Rattle.match_puzzle.specs.Puzzle.{Task, IsPuzzle, mate_of, GoTogether}
-use Rattle.match_puzzle.proofs.MateLemmas.{together_turned, small_mate}
+use Rattle.match_puzzle.proofs.TogetherLemmas.{together_turned, small_mate}
 use Rattle.xcc_form.specs.Options.{IsSideOf, colour_given}
 use Rattle.xcc_form.specs.declared.edges.SharedEdge.{SharedEdge}
 use Rattle.xcc_form.proofs.EdgeLemmas.{other_cell}

@@ -1,9 +1,9 @@
 -- The layout of options, as one more is added, and the options that it stands for.
 use Rattle.std.proofs.Common.{◌≡◌, ◌*◌, ◌<◌, ◌≤◌, ◌+◌, ◌-◌, ℕ, List, [], ◌∷◌, ◌++◌, Some, length, length-append, length-drop, slice_get, slice_range, get_or, take, drop, arith, refl, ap, sym, ◌∙◌, subst, ⊎_elim}
-use Rattle.match_board.specs.declared.limits.TheConstants.{MOST_CELLS}
+use Rattle.match_limits.specs.declared.TheConstants.{MOST_CELLS}
 use Rattle.std.proofs.lemmas.List.{get_or_append_left, get_or_push, length_push, take-append-le, drop-append-le, drop_at, take_all}
 use Rattle.std.proofs.lemmas.Option.{none-some}
-use Rattle.match_board.proofs.Listings.{lt_or_le}
+use Rattle.match_limits.proofs.Listings.{lt_or_le}
 use Rattle.match_puzzle.specs.Puzzle.{Task}
 use Rattle.match_puzzle.specs.declared.placements.Pair.{Pair}
 use Rattle.match_puzzle.proofs.TableLemmas.{pushed_is}

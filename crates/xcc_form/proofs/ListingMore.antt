@@ -2,8 +2,8 @@
 use Rattle.std.proofs.Common.{◌≡◌, ◌⊎◌, ◌<◌, ◌≤◌, ◌-◌, ℕ, List, [], ◌∷◌, ◌++◌, length, length-append, get_or, zero, suc, arith, refl, sym, inl, inr, ⊎_elim}
 use Rattle.std.proofs.lemmas.List.{get_or_append_left, get_or-append_right}
 use Rattle.std.proofs.lemmas.List.Elements.{Contains-append_left, Contains-append_right, Contains-append_cases, Contains-get_or}
-use Rattle.match_board.specs.Listing.{IsListing}
-use Rattle.match_board.proofs.Listings.{lt_or_le}
+use Rattle.match_limits.specs.Listing.{IsListing}
+use Rattle.match_limits.proofs.Listings.{lt_or_le}
 
 -- the property may be said otherwise
 pub listing_same : {X : Type 0} (Before : X → X → Type 0) (P Q : X → Type 0) (xs : List X) → ((x : X) → P x → Q x) → ((x : X) → Q x → P x) → IsListing Before P xs → IsListing Before Q xs

@@ -3,7 +3,7 @@ use Rattle.std.proofs.Common.{◌≡◌, ◌⊎◌, ◌<◌, ◌+◌, ℕ, zero,
 use Rattle.std.proofs.lemmas.List.{length-map}
 use Rattle.std.proofs.lemmas.Option.{slice_get_within, slice_get-get_or, get_or_from_slice_get, none-some}
 use Rattle.match_board.specs.Board.{cell_count, Meets}
-use Rattle.match_board.proofs.Listings.{lt_or_le}
+use Rattle.match_limits.proofs.Listings.{lt_or_le}
 use Rattle.match_board.proofs.Places.{Meets-turned}
 use Rattle.match_puzzle.specs.declared.placements.Pair.{Pair}
 use Rattle.match_puzzle.proofs.Prefixes.{inside}

@@ -2,13 +2,13 @@
 use Rattle.std.proofs.Common.{◌≡◌, ◌<◌, ◌≤◌, ◌+◌, ℕ, suc, List, [], ◌∷◌, ◌++◌, Contains, append_assoc, arith, refl, ap, sym, ◌∙◌, subst, inl, inr, ⊎_elim}
 use Rattle.std.proofs.lemmas.Bool.Decides.{eqb_tells}
 use Rattle.match_board.specs.Board.{cell_count}
-use Rattle.match_board.specs.Listing.{IsListing, ByKey}
+use Rattle.match_limits.specs.Listing.{IsListing, ByKey}
 use Rattle.match_puzzle.specs.Puzzle.{Task, IsLegal}
 use Rattle.match_puzzle.specs.Prefix.{empty_prefix}
 use Rattle.match_puzzle.specs.Fitting.{FitsItem, AreFitting, item_key}
 use Rattle.match_puzzle.specs.declared.items.Item.TheVariants.{Cell}
 use Rattle.match_puzzle.specs.declared.placements.Pair.{Pair}
-use Rattle.match_puzzle.proofs.Kept.{has_none}
+use Rattle.match_puzzle.proofs.UsedTiles.{has_none}
 use Rattle.match_puzzle.proofs.PairLemmas.{free_in_empty}
 use Rattle.xcc_form.specs.Options.{IsOptionPair, PairComesBefore}
 use Rattle.xcc_form.proofs.ListingMore.{listing_same, listing_order, listing_append, listing_nothing}

@@ -6,7 +6,7 @@ use Rattle.std.proofs.lemmas.List.Elements.{Contains-get_or}
 use Rattle.std.proofs.lemmas.Bool.Decides.{eqb_tells}
 use Rattle.match_board.specs.Board.{side_count}
 use Rattle.match_board.specs.declared.figures.Figure.{Figure}
-use Rattle.match_board.specs.Listing.{IsListing}
+use Rattle.match_limits.specs.Listing.{IsListing}
 use Rattle.match_board.proofs.Places.{Meets-turned}
 use Rattle.match_puzzle.specs.Puzzle.{Task, colour_of}
 use Rattle.match_puzzle.specs.declared.placements.Pair.{Pair}

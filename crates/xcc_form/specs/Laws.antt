@@ -1,6 +1,6 @@
 -- What holds of each compiled puzzle.
 use Rattle.std.specs.Prelude.{◌≡◌, ◌<◌, ℕ, List, Some, Contains, slice_get}
-use Rattle.match_board.specs.declared.limits.TheConstants.{MOST_COLOURS}
+use Rattle.match_limits.specs.declared.TheConstants.{MOST_COLOURS}
 use Rattle.match_puzzle.specs.Arrangement.{IsArrangement}
 use Rattle.match_puzzle.specs.declared.placements.Placement.{Placement}
 use Rattle.xcc_form.specs.ExactCover.{IsSolution, IsCover}

@@ -1,9 +1,9 @@
 -- How options lie in vectors: their pairs by number, and their edges one option after another.
 use Rattle.std.specs.Prelude.{◌≡◌, ◌<◌, ◌≤◌, ◌+◌, ◌*◌, ℕ, List, [], ◌∷◌, ◌++◌, Option, Some, length, slice_get, slice_index}
 use Rattle.std.specs.Prelude.{slice_range}
-use Rattle.match_board.specs.declared.limits.TheConstants.{MOST_CELLS, MOST_ENTRIES}
+use Rattle.match_limits.specs.declared.TheConstants.{MOST_CELLS, MOST_ENTRIES}
 use Rattle.match_board.specs.Board.{cell_count}
-use Rattle.match_board.specs.Listing.{IsListing}
+use Rattle.match_limits.specs.Listing.{IsListing}
 use Rattle.match_puzzle.specs.Puzzle.{Task, IsPuzzle}
 use Rattle.match_puzzle.specs.declared.placements.Pair.{Pair}
 use Rattle.xcc_form.specs.Options.{Choice, AreSharedEdges, AreShownEdges, IsOptionPair, PairComesBefore}

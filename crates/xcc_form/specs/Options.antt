@@ -1,9 +1,9 @@
 -- The exact cover of a puzzle: its primary items are the cells, then the tiles, its secondary items the shared edges.
 use Rattle.std.specs.Prelude.{◌≡◌, ◌⊎◌, ◌<◌, ◌+◌, ◌==◌, if◌then◌else◌, ℕ, List, [], ◌∷◌, Some, length, map, slice_get}
-use Rattle.match_board.specs.declared.limits.TheConstants.{MOST_ENTRIES}
+use Rattle.match_limits.specs.declared.TheConstants.{MOST_ENTRIES}
 use Rattle.match_board.specs.Board.{cell_count, Meets}
 use Rattle.match_board.specs.declared.figures.Figure.{Figure}
-use Rattle.match_board.specs.Listing.{IsListing, ComesBefore, ByKey}
+use Rattle.match_limits.specs.Listing.{IsListing, ComesBefore, ByKey}
 use Rattle.match_puzzle.specs.Puzzle.{Task, IsPuzzle, IsLegal, HasRule, colour_of, mate_of}
 use Rattle.match_puzzle.specs.Fitting.{tile_turn}
 use Rattle.match_puzzle.specs.declared.placements.Pair.{Pair}

@@ -9,7 +9,7 @@ ghost use Rattle.xcc_form.specs.Correspondence.{AreByCell, HaveSameOptions, IsSo
 
 use crate::faults::FormFault;
 use crate::xccs::Xcc;
-use match_board::limits::MOST_CELLS;
+use match_limits::MOST_CELLS;
 use match_puzzle::{Arrangement, Placement};
 use std::alloc::Global;
 

@@ -2,14 +2,14 @@
 
 ghost use Rattle.std.specs.Prelude.{◌≡◌, ◌<◌, ◌≤◌, ◌+◌, ◌*◌, ◌∷◌, ◌++◌, [], ℕ, Contains, IfOk, length};
 ghost use Rattle.match_board.specs.Board.{cell_count};
-ghost use Rattle.match_board.specs.Listing.{IsListing};
+ghost use Rattle.match_limits.specs.Listing.{IsListing};
 ghost use Rattle.match_puzzle.specs.Puzzle.{IsPuzzle, IsLegal};
 ghost use Rattle.match_puzzle.specs.declared.placements.Pair.{Pair as StandingPair};
 ghost use Rattle.xcc_form.specs.Options.{AreSharedEdges, IsOptionPair, PairComesBefore};
 ghost use Rattle.xcc_form.specs.Layout.{AreLaidOut, AddsEdges};
 
 use crate::edges::{Edge, SharedEdge};
-use match_board::limits::{MOST_CELLS, MOST_CHILDREN};
+use match_limits::{MOST_CELLS, MOST_CHILDREN};
 use match_puzzle::{FittingPairs, Item, Pair, Partial, Puzzle};
 use std::alloc::{AllocError, Global};
 

@@ -2,12 +2,12 @@
 
 ghost use Rattle.std.specs.Prelude.{◌≡◌, ◌<◌, ◌≤◌, ◌*◌, IfOk, length};
 ghost use Rattle.match_board.specs.Board.{cell_count};
-ghost use Rattle.match_board.specs.Listing.{IsListing};
+ghost use Rattle.match_limits.specs.Listing.{IsListing};
 ghost use Rattle.match_puzzle.specs.Puzzle.{IsPuzzle};
 ghost use Rattle.xcc_form.specs.Options.{IsOptionPair, PairComesBefore};
 ghost use Rattle.xcc_form.specs.Numbers.{AreNumbered, pair_number};
 
-use match_board::limits::MOST_ENTRIES;
+use match_limits::MOST_ENTRIES;
 use match_puzzle::{Pair, Puzzle};
 use std::alloc::{AllocError, Global};
 

@@ -10,7 +10,7 @@ use crate::edges::{Edge, SharedEdge, shared_edges};
 use crate::faults::CompileFault;
 use crate::lists::OptionLists;
 use crate::numbers::{number_of, option_numbers};
-use match_board::limits::{MOST_CELLS, MOST_ENTRIES};
+use match_limits::{MOST_CELLS, MOST_ENTRIES};
 use match_puzzle::{Pair, Placement, Puzzle};
 use std::alloc::Global;
 use std::marker::Model;

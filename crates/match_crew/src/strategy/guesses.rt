@@ -2,7 +2,7 @@
 //! on how many workers there are, since the dives of each job have random numbers of their own.
 
 ghost use Rattle.std.specs.Prelude.{◌≤◌};
-ghost use Rattle.match_board.specs.declared.limits.TheConstants.{MOST_WORKERS};
+ghost use Rattle.match_limits.specs.declared.TheConstants.{MOST_WORKERS};
 
 use crate::strategy::dives::{Citable, Dives, Effort};
 use crate::strategy::plans::{Plan, Planner};

@@ -1,7 +1,7 @@
 //! The item at the root, where a guess of the work that it leaves can tell a better one.
 
 ghost use Rattle.std.specs.Prelude.{◌≡◌, ◌≤◌};
-ghost use Rattle.match_board.specs.declared.limits.TheConstants.{MOST_WORKERS};
+ghost use Rattle.match_limits.specs.declared.TheConstants.{MOST_WORKERS};
 ghost use Rattle.xcc_form.specs.Options.{cover_of};
 ghost use Rattle.xcc_dance.specs.Chosen.{IsUncovered};
 
@@ -10,7 +10,7 @@ use crate::strategy::guesses::{Guesses, MOST_PLANS, plans_by};
 use crate::strategy::images::image_of_pair;
 use crate::strategy::orbits::Orbits;
 use crate::strategy::plans::{Plan, Planner};
-use match_board::limits::MOST_WORKERS;
+use match_limits::MOST_WORKERS;
 use match_puzzle::Pair;
 use std::alloc::{AllocError, Global};
 use std::thread::Threads;

@@ -1,7 +1,7 @@
 //! What a job gives others away by, and what a worker has.
 
 ghost use Rattle.std.specs.Prelude.{◌≡◌, ◌≤◌, vec_capacity};
-ghost use Rattle.match_board.specs.declared.limits.TheConstants.{MOST_LEMMAS};
+ghost use Rattle.match_limits.specs.declared.TheConstants.{MOST_LEMMAS};
 ghost use Rattle.steal_crew.specs.declared.live.limits.TheConstants.{MOST_GIVEN};
 ghost use Rattle.steal_crew.specs.Tickets.{source_of, limit_of, seat_source};
 

@@ -6,6 +6,13 @@ ghost use Rattle.steal_crew.specs.Results.{done_numbers};
 ghost use Rattle.steal_crew.specs.Tickets.{source_of, limit_of, seat_source, drawn, IsFresh};
 ghost use Rattle.steal_crew.specs.LiveWorkers.{BelongsToSome, AreDoneBy, BelongFrom, AreDrawn};
 
+use crate::crews::Crew;
+use crate::tickets::{TicketSeat, Tickets};
+use match_limits::{MOST_LEMMAS, MOST_WORKERS};
+use std::alloc::{AllocError, Global};
+use std::sync::Wait;
+use std::sync::atomic::AtomicU64;
+use std::thread::Threads;
 use super::crews::{stations, work_together};
 use super::gathering::{Brought, collect};
 use super::hands::{Hand, LiveWorker};
@@ -14,13 +21,6 @@ use super::limits::MOST_GIVEN;
 use super::publishing::publish;
 use super::working::{put_all, work_on};
 use super::works::LiveWork;
-use crate::crews::Crew;
-use crate::tickets::{TicketSeat, Tickets};
-use match_board::limits::{MOST_LEMMAS, MOST_WORKERS};
-use std::alloc::{AllocError, Global};
-use std::sync::Wait;
-use std::sync::atomic::AtomicU64;
-use std::thread::Threads;
 
 // What was done with the numbers of one source: the first result, the caller's others and those of each other worker,
 // and all seats.

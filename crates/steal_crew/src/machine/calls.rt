@@ -7,7 +7,7 @@ ghost use Rattle.steal_crew.specs.Machine.{event_of};
 use crate::machine::events::Event;
 use crate::machine::states::{Queue, State, Worker};
 use crate::machine::steps::StepFault;
-use match_board::limits::MOST_WORKERS;
+use match_limits::MOST_WORKERS;
 use std::alloc::{AllocError, Global};
 
 // So many queues in which nothing waits.

@@ -2,7 +2,7 @@ use Rattle.std.proofs.Common.{arith}
 use Rattle.std.proofs.lemmas.Option.{slice_get_within}
 use Rattle.match_puzzle.specs.PrefixFaults.{IsPairList}
 use Rattle.cert_tree.specs.Certificate.{Piece, flat_piece}
-use Rattle.match_board.proofs.ListLemmas.{each_more}
+use Rattle.match_limits.proofs.ListLemmas.{each_more}
 use Rattle.cert_check.proofs.prefixes.prefixes_fault.Goals as goal
 
 pub returns-in-Some : goal.returns-in-Some

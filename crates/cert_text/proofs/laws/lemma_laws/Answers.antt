@@ -1,4 +1,4 @@
-use Rattle.match_board.specs.declared.limits.TheConstants.{MOST_CELLS}
+use Rattle.match_limits.specs.declared.TheConstants.{MOST_CELLS}
 use Rattle.text_words.proofs.TextLaws.{reads_what_is_spelled}
 use Rattle.cert_tree.specs.Limits.{IsLemmaWithin}
 use Rattle.cert_text.specs.CertificateText.{lemma_of}

@@ -1,6 +1,6 @@
 use Rattle.std.proofs.Common.{◌≡◌, ◌<◌, ◌≤◌, ◌+◌, ℕ, Some, slice_get, ◌∙◌, sym, ap, subst, arith, ⊎_elim}
 use Rattle.std.proofs.lemmas.Bool.Decides.{eqb_tells}
-use Rattle.match_board.proofs.OptionLemmas.{inside}
+use Rattle.match_limits.proofs.OptionLemmas.{inside}
 use Rattle.cert_tree.specs.Certificate.{Piece}
 use Rattle.cert_tree.specs.Limits.{IsLemmaWithin}
 use Rattle.cert_text.proofs.limits.are_lemmas_within.Goals as goal

@@ -1,6 +1,6 @@
 use Rattle.std.proofs.Common.{ℕ, List, length, subst}
 use Rattle.std.specs.Prelude.{MatchBool}
-use Rattle.text_words.specs.Ranges.{ranges_of}
+use Rattle.match_limits.specs.Ranges.{ranges_of}
 use Rattle.cert_tree.specs.Certificate.{Piece}
 use Rattle.cert_text.specs.CertificateSpelling.{AreSymmetriesWithin, AreWithinBetween}
 use Rattle.cert_text.proofs.WholeLemmas.{whole_within}

@@ -1,6 +1,6 @@
 use Rattle.std.proofs.Common.{◌≡◌, ◌+◌, ◌-◌, ◌≤◌, Ok, length, ap, arith, subst, sym, ◌∙◌}
 use Rattle.std.proofs.lemmas.List.{length_push}
-use Rattle.text_words.specs.Ranges.{ranges_of}
+use Rattle.match_limits.specs.Ranges.{ranges_of}
 use Rattle.text_words.specs.Place.{Place, skip_lines, times}
 use Rattle.cert_text.specs.CertificateText.{lemma_line}
 use Rattle.cert_text.specs.Parts.{parts_say}

@@ -1,5 +1,5 @@
 use Rattle.std.proofs.Common.{◌≡◌, ◌+◌, ◌≤◌, length}
-use Rattle.text_words.specs.Ranges.{ranges_of}
+use Rattle.match_limits.specs.Ranges.{ranges_of}
 use Rattle.text_words.specs.Place.{times}
 use Rattle.cert_text.specs.CertificateText.{lemma_line}
 use Rattle.cert_text.specs.Parts.{parts_say}

@@ -1,8 +1,8 @@
 use Rattle.cert_tree.specs.Certificate.{piece_number}
 use Rattle.std.proofs.lemmas.Result.{err_from_is_err_and}
 use Rattle.std.proofs.Common.{◌≡◌, length, Ok, Err, subst}
-use Rattle.text_words.specs.Ranges.{ranges_of}
-use Rattle.text_words.proofs.RangesLemmas.{are_ranges}
+use Rattle.match_limits.specs.Ranges.{ranges_of}
+use Rattle.match_limits.proofs.RangesLemmas.{are_ranges}
 use Rattle.cert_tree.specs.Assembly.{Assembles}
 use Rattle.cert_text.specs.Lines.{said_of}
 use Rattle.cert_text.proofs.ReadingLemmas.{short_within, made_fault}

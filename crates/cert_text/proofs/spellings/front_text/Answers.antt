@@ -1,5 +1,5 @@
 use Rattle.std.proofs.Common.{refl}
-use Rattle.text_words.specs.Ranges.{ranges_of}
+use Rattle.match_limits.specs.Ranges.{ranges_of}
 use Rattle.cert_text.specs.CertificateSpelling.{AreColourImagesWithin, IsSymmetryWithin}
 use Rattle.cert_text.proofs.WiderLemmas.{each_within}
 use Rattle.cert_text.proofs.spellings.front_text.Goals as goal

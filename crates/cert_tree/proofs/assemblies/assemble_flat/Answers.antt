@@ -1,5 +1,5 @@
 use Rattle.std.proofs.Common.{ℕ, List, ◌<◌, ◌≤◌, ◌^◌, length, sym, subst, arith}
-use Rattle.match_board.specs.declared.limits.TheConstants.{MOST_LEMMAS}
+use Rattle.match_limits.specs.declared.TheConstants.{MOST_LEMMAS}
 use Rattle.std.specs.Prelude.{All}
 use Rattle.puzzle_symmetry.specs.declared.lines.SymmetryLine.{SymmetryLine}
 use Rattle.cert_tree.specs.Certificate.{Contents, Piece, IsNumbered, piece_number}

@@ -1,6 +1,6 @@
 use Rattle.std.proofs.Common.{◌≡◌, ◌≢◌, ◌≤◌, ◌<◌, List, None, length, map, reverse, ap, sym, subst, ◌∙◌}
 use Rattle.std.specs.Prelude.{All}
-use Rattle.match_board.specs.declared.limits.TheConstants.{MOST_CELLS}
+use Rattle.match_limits.specs.declared.TheConstants.{MOST_CELLS}
 use Rattle.cert_tree.specs.declared.flat_lemmas.FlatLemma.{FlatLemma}
 use Rattle.cert_tree.specs.Assembly.{HaveNoStranger, IsAssembly, TellsLeast, how_often}
 use Rattle.cert_tree.specs.Certificate.{Contents, Piece, IsNumbered, flat_piece, piece_number}

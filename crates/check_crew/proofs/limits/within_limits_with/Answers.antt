@@ -1,5 +1,5 @@
 use Rattle.std.proofs.Common.{List, length, subst}
-use Rattle.text_words.specs.Ranges.{ranges_of}
+use Rattle.match_limits.specs.Ranges.{ranges_of}
 use Rattle.cert_tree.specs.Certificate.{Piece}
 use Rattle.cert_text.specs.CertificateSpelling.{AreSymmetriesWithin}
 use Rattle.cert_text.proofs.WholeLemmas.{whole_within}

@@ -1,5 +1,5 @@
 use Rattle.std.proofs.Common.{rules, ◌≡◌, ◌∙◌, ap, ap₂, codes}
-use Rattle.match_board.specs.declared.limits.TheConstants.{MOST_FORKS, MOST_WORKERS}
+use Rattle.match_limits.specs.declared.TheConstants.{MOST_FORKS, MOST_WORKERS}
 use Rattle.clap.specs.Words.{app_of, new_app, rule_of, with_rule}
 use Rattle.command_words.specs.Commands.{flag, optional_number, with_files}
 use Rattle.command_words.proofs.commands.check.Goals as goal

@@ -1,8 +1,8 @@
 use Rattle.std.proofs.Common.{rules, ◌≡◌, ◌∙◌, ap₂, codes}
-use Rattle.match_board.specs.declared.limits.TheConstants.{LAST_ARRANGEMENT}
+use Rattle.match_limits.specs.declared.TheConstants.{LAST_ARRANGEMENT}
 use Rattle.clap.specs.Words.{app_of, new_app, new_rule, rule_of, with_rule}
 use Rattle.command_words.specs.Commands.{flag, number_or_default, optional_number, with_puzzle}
-use Rattle.command_words.specs.declared.numbers.TheConstants.{MOST_DRAWN}
+use Rattle.match_limits.specs.declared.TheConstants.{MOST_DRAWN}
 use Rattle.command_words.proofs.commands.draw.Goals as goal
 
 pub returns-clause-app : goal.returns-clause-app

@@ -1,5 +1,5 @@
 use Rattle.std.proofs.Common.{rules, ◌≡◌, ◌∙◌, ap₂, codes}
-use Rattle.match_board.specs.declared.limits.TheConstants.{LAST_ARRANGEMENT}
+use Rattle.match_limits.specs.declared.TheConstants.{LAST_ARRANGEMENT}
 use Rattle.clap.specs.Words.{app_of, new_app, new_rule, rule_of, with_rule}
 use Rattle.command_words.specs.Commands.{number_or_default, with_puzzle}
 use Rattle.command_words.proofs.commands.show.Goals as goal

@@ -1,7 +1,7 @@
 use Rattle.std.proofs.Common.{subst, sym, ◌∙◌, arith}
 use Rattle.match_board.specs.Board.{IsPlace, PointsUp, PointsDown}
 use Rattle.match_board.specs.declared.figures.Figure.TheVariants.{Hexagon}
-use Rattle.match_board.proofs.OptionLemmas.{none_some}
+use Rattle.match_limits.proofs.OptionLemmas.{none_some}
 use Rattle.match_board.proofs.HexagonLemmas.{below_only, above_only}
 use Rattle.match_board.proofs.hexagons.beside.Goals as goal
 

@@ -1,5 +1,5 @@
 use Rattle.std.proofs.Common.{sym, ◌∙◌}
-use Rattle.match_board.proofs.OptionLemmas.{none_some}
+use Rattle.match_limits.proofs.OptionLemmas.{none_some}
 use Rattle.match_board.proofs.shapes.beside.Goals as goal
 
 pub returns-in_err-row-clause-only : goal.returns-in_err-row-clause-only

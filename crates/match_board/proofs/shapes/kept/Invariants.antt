@@ -1,5 +1,5 @@
 use Rattle.std.proofs.Common.{◌≡◌, ◌++◌, ◌-◌, take, replicate, false}
-use Rattle.match_board.specs.declared.limits.TheConstants.{MOST_PLACES}
+use Rattle.match_limits.specs.declared.TheConstants.{MOST_PLACES}
 use Rattle.match_board.proofs.shapes.kept.Given as goal
 
 abbrev pub invariant-loop-place : goal.invariant-loop-place

@@ -1,6 +1,6 @@
 use Rattle.std.proofs.Common.{◌≤◌, ◌-◌, ◌/◌, ◌++◌, MatchOption, IfSome, ap, ◌∙◌, subst, arith}
 use Rattle.std.proofs.lemmas.List.{take_all}
-use Rattle.match_board.proofs.ListLemmas.{contains_at}
+use Rattle.match_limits.proofs.ListLemmas.{contains_at}
 use Rattle.match_puzzle.specs.Numbers.{AreMoreThan}
 use Rattle.xcc_dance.specs.Chosen.{Selection}
 use Rattle.xcc_dance.specs.Found.{IsFoundFrom}

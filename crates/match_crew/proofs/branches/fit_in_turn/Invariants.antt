@@ -2,7 +2,7 @@ use Rattle.std.proofs.Common.{◌≡◌, ◌<◌, ℕ, Some, slice_get, take}
 use Rattle.match_puzzle.specs.Prefix.{empty_prefix, with_pairs}
 use Rattle.match_puzzle.specs.Fitting.{Fits}
 use Rattle.match_puzzle.specs.declared.placements.Pair.{Pair}
-use Rattle.match_puzzle.specs.Placing.{prefix_of}
+use Rattle.match_fits.specs.Placing.{prefix_of}
 use Rattle.match_crew.proofs.branches.fit_in_turn.Given as goal
 
 abbrev pub invariant-loop-pair : goal.invariant-loop-pair

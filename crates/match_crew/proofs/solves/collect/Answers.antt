@@ -3,11 +3,11 @@ use Rattle.std.proofs.lemmas.List.Elements.{All-head, All-rest, Contains-append_
 use Rattle.std.proofs.lemmas.List.{length-append}
 use Rattle.match_puzzle.specs.Puzzle.{Task}
 use Rattle.match_puzzle.specs.declared.placements.Placement.{Placement}
-use Rattle.match_board.specs.declared.limits.TheConstants.{MOST_ARRANGEMENTS}
+use Rattle.match_limits.specs.declared.TheConstants.{MOST_ARRANGEMENTS}
 use Rattle.steal_crew.proofs.QueueRuleLemmas.{all_more}
 use Rattle.piece_desk.specs.FlatDesks.{IsOfFlat}
 use Rattle.match_puzzle.specs.Arrangement.{AreArrangements}
-use Rattle.match_board.proofs.ListLemmas.{contains_at, place_of}
+use Rattle.match_limits.proofs.ListLemmas.{contains_at, place_of}
 use Rattle.match_crew.specs.Solving.{IsOutcomeOf}
 use Rattle.match_crew.proofs.solves.collect.Goals as goal
 

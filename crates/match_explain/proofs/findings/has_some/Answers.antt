@@ -2,7 +2,7 @@ use Rattle.std.proofs.Common.{List, Contains, take, refl, sym, subst, ◌∙◌,
 use Rattle.std.proofs.lemmas.List.{take_all}
 use Rattle.std.proofs.lemmas.List.Elements.{Contains-push_cases}
 use Rattle.std.proofs.lemmas.Option.{slice_get_read}
-use Rattle.match_board.proofs.ListLemmas.{taken_more}
+use Rattle.match_limits.proofs.ListLemmas.{taken_more}
 use Rattle.match_puzzle.specs.declared.placements.Placement.{Placement}
 use Rattle.symmetry_orbits.proofs.MemberLemmas.{among, not_among}
 use Rattle.match_explain.proofs.findings.has_some.Goals as goal

@@ -1,6 +1,6 @@
 use Rattle.std.proofs.Common.{◌≡◌, ◌++◌, ◌∷◌, ◌∙◌, [], Some, None, map, slice_get, ap, sym, subst}
 use Rattle.std.proofs.lemmas.List.{map-append}
-use Rattle.match_board.proofs.ListLemmas.{mapped_at, none≢some, taken_more}
+use Rattle.match_limits.proofs.ListLemmas.{mapped_at, none≢some, taken_more}
 use Rattle.match_puzzle.specs.Prefix.{Prefix}
 use Rattle.match_puzzle.specs.declared.placements.Placement.{Placement}
 use Rattle.match_explain.proofs.findings.placements_on.Goals as goal

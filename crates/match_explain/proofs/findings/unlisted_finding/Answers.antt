@@ -1,5 +1,5 @@
 use Rattle.std.proofs.Common.{◌∙◌, Contains, Err, List, ap, subst}
-use Rattle.match_board.specs.declared.limits.TheConstants.{MOST_ARRANGEMENTS}
+use Rattle.match_limits.specs.declared.TheConstants.{MOST_ARRANGEMENTS}
 use Rattle.match_puzzle.specs.declared.placements.Placement.{Placement}
 use Rattle.puzzle_symmetry.specs.declared.lines.SymmetryLine.{SymmetryLine}
 use Rattle.symmetry_orbits.specs.Expansion.{AreMoreReached}

@@ -1,4 +1,4 @@
-use Rattle.match_puzzle.proofs.MateLemmas.{together_turned, together_alike}
+use Rattle.match_puzzle.proofs.TogetherLemmas.{together_turned, together_alike}
 use Rattle.match_puzzle.proofs.laws.colours_go_together.Goals as goal
 
 pub returns-clause-turned : goal.returns-clause-turned

@@ -1,6 +1,6 @@
 use Rattle.std.proofs.Common.{◌≡◌, ◌<◌, ◌∙◌, ℕ, length-set, set, get_or, below_more, arith, sym, subst}
 use Rattle.std.proofs.lemmas.List.{get_or-set_same, get_or-set_other}
-use Rattle.match_board.specs.declared.limits.TheConstants.{MOST_COLOURS}
+use Rattle.match_limits.specs.declared.TheConstants.{MOST_COLOURS}
 use Rattle.match_board.specs.Tile.{word}
 use Rattle.match_board.specs.Turns.{shown}
 use Rattle.match_puzzle.proofs.placement_sets.colours_after.Goals as goal

@@ -1,5 +1,5 @@
 use Rattle.std.proofs.Common.{◌<◌, ◌/◌, ◌%◌, slice_index}
-use Rattle.match_board.specs.Listing.{IsListing}
+use Rattle.match_limits.specs.Listing.{IsListing}
 use Rattle.match_puzzle.proofs.placement_sets.legal_set.Given as goal
 
 abbrev pub invariant-loop-tile : goal.invariant-loop-tile

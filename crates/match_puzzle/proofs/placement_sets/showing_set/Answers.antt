@@ -1,5 +1,5 @@
 use Rattle.std.proofs.Common.{◌<◌, [], map, slice_index_or, subst, sym}
-use Rattle.match_board.specs.declared.limits.TheConstants.{MOST_COLOURS}
+use Rattle.match_limits.specs.declared.TheConstants.{MOST_COLOURS}
 use Rattle.match_board.specs.Tile.{word}
 use Rattle.match_puzzle.specs.PlacementSets.{Shows}
 use Rattle.match_puzzle.proofs.Words.{word_at}

@@ -1,6 +1,6 @@
 use Rattle.std.proofs.Common.{◌<◌, ◌/◌, ◌%◌, [], map, slice_index_or}
-use Rattle.match_board.specs.declared.limits.TheConstants.{MOST_COLOURS}
-use Rattle.match_board.specs.Listing.{IsListing}
+use Rattle.match_limits.specs.declared.TheConstants.{MOST_COLOURS}
+use Rattle.match_limits.specs.Listing.{IsListing}
 use Rattle.match_board.specs.Tile.{word}
 use Rattle.match_puzzle.specs.PlacementSets.{Shows}
 use Rattle.match_puzzle.proofs.placement_sets.showing_set.Given as goal

@@ -1,8 +1,9 @@
 use Rattle.std.proofs.Common.{subst, sym, true≢false, MatchBool, ◌∙◌}
 use Rattle.std.proofs.lemmas.List.{length-map}
 use Rattle.match_board.specs.Tile.{word}
-use Rattle.match_puzzle.specs.Mates.{mating_of}
-use Rattle.match_puzzle.specs.Puzzle.{task_of, rule_of, IsAsLongAsBorder}
+use Rattle.match_board.specs.Mates.{mating_of}
+use Rattle.match_puzzle.specs.Puzzle.{task_of}
+use Rattle.match_board.specs.Borders.{rule_of, IsAsLongAsBorder}
 use Rattle.match_puzzle.proofs.PuzzleFaultLemmas.{first_bad_colour, first_bad_mate}
 use Rattle.match_puzzle.proofs.TableLemmas.{words_coloured}
 use Rattle.match_puzzle.proofs.puzzles.puzzle_fault.Goals as goal

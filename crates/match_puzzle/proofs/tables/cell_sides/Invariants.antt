@@ -2,7 +2,7 @@ use Rattle.std.proofs.Common.{◌≡◌, ◌<◌, ◌≤◌, ℕ, Bool, List, No
 use Rattle.match_board.specs.declared.tiles.Tile.{Tile}
 use Rattle.match_puzzle.specs.declared.tables.Side.{Side}
 use Rattle.match_puzzle.specs.declared.tables.Side.TheVariants.{Border}
-use Rattle.match_puzzle.specs.Mates.{Mating}
+use Rattle.match_board.specs.Mates.{Mating}
 use Rattle.match_puzzle.specs.Puzzle.{task_of}
 use Rattle.match_puzzle.specs.Tables.{IsSide, IsNextNumber}
 use Rattle.match_puzzle.proofs.tables.cell_sides.Given as goal

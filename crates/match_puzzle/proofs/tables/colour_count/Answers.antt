@@ -2,11 +2,11 @@ use Rattle.std.proofs.Common.{◌<◌, ◌≤◌, ℕ, Bool, Contains, [], map, 
 use Rattle.std.proofs.lemmas.List.{length-map}
 use Rattle.match_board.specs.declared.figures.Figure.{Figure}
 use Rattle.match_board.specs.Tile.{word}
-use Rattle.match_puzzle.specs.Mates.{mating_of}
+use Rattle.match_board.specs.Mates.{mating_of}
 use Rattle.match_puzzle.specs.Puzzle.{task_of}
 use Rattle.match_puzzle.specs.Colours.{HasColour}
 use Rattle.match_puzzle.proofs.Words.{word_at}
-use Rattle.match_puzzle.proofs.MateLemmas.{all_below}
+use Rattle.match_puzzle.proofs.TogetherLemmas.{all_below}
 use Rattle.match_puzzle.proofs.TableLemmas.{colour_count_is}
 use Rattle.match_puzzle.proofs.tables.colour_count.Goals as goal
 use Rattle.match_puzzle.proofs.tables.colour_count.Goals.{then-of_tile-count, else-of_tile-count}

@@ -1,8 +1,9 @@
 use Rattle.std.proofs.Common.{◌<◌, ◌≤◌, ℕ, Bool, Contains, slice_index_or, length, [], map}
 use Rattle.match_board.specs.declared.figures.Figure.{Figure}
 use Rattle.match_board.specs.Tile.{word}
-use Rattle.match_puzzle.specs.Mates.{mating_of}
-use Rattle.match_puzzle.specs.Puzzle.{task_of, rule_of, StandsInRule}
+use Rattle.match_board.specs.Mates.{mating_of}
+use Rattle.match_puzzle.specs.Puzzle.{task_of}
+use Rattle.match_board.specs.Borders.{rule_of, StandsInRule}
 use Rattle.match_puzzle.specs.Colours.{HasColour}
 use Rattle.match_puzzle.proofs.tables.colour_count.Given as goal
 

@@ -4,7 +4,7 @@ use Rattle.match_board.specs.declared.tiles.Tile.{Tile}
 use Rattle.match_puzzle.specs.declared.tables.Side.{Side}
 use Rattle.match_puzzle.specs.declared.tables.Side.TheVariants.{Border}
 use Rattle.match_puzzle.specs.declared.tables.CellSides.{CellSides}
-use Rattle.match_puzzle.specs.Mates.{Mating}
+use Rattle.match_board.specs.Mates.{Mating}
 use Rattle.match_puzzle.specs.Puzzle.{task_of}
 use Rattle.match_puzzle.specs.Tables.{IsSide, AreAskedAt, IsNextNumber}
 use Rattle.match_puzzle.proofs.tables.sides_table.Given as goal

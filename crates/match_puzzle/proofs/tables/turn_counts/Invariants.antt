@@ -1,7 +1,7 @@
 use Rattle.std.proofs.Common.{◌≡◌, ℕ, Some, length, slice_get}
 use Rattle.match_board.specs.declared.figures.Figure.{Figure}
-use Rattle.match_puzzle.specs.declared.borders.Border.{Border}
-use Rattle.match_puzzle.specs.Mates.{Mating}
+use Rattle.match_board.specs.declared.borders.Border.{Border}
+use Rattle.match_board.specs.Mates.{Mating}
 use Rattle.match_puzzle.specs.Puzzle.{task_of}
 use Rattle.match_puzzle.specs.Tables.{IsTurnCount}
 use Rattle.match_puzzle.proofs.tables.turn_counts.Given as goal

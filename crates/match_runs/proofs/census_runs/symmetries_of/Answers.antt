@@ -1,5 +1,5 @@
 use Rattle.std.proofs.Common.{◌≡◌, Some, slice_get, ap, sym, ◌∙◌, subst, ⊎_elim}
-use Rattle.match_board.proofs.ListLemmas.{pushed_at}
+use Rattle.match_limits.proofs.ListLemmas.{pushed_at}
 use Rattle.puzzle_symmetry.specs.Motion.{Motion}
 use Rattle.match_runs.proofs.census_runs.symmetries_of.Goals as goal
 

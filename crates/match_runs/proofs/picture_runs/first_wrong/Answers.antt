@@ -3,7 +3,7 @@ use Rattle.std.proofs.lemmas.Option.{slice_get_within, slice_get_read}
 use Rattle.match_puzzle.specs.Arrangement.{IsArrangement}
 use Rattle.match_puzzle.specs.ArrangementFaults.{IsArrangementFault}
 use Rattle.match_puzzle.specs.declared.placements.Placement.{Placement}
-use Rattle.match_board.proofs.ListLemmas.{each_more}
+use Rattle.match_limits.proofs.ListLemmas.{each_more}
 use Rattle.match_runs.proofs.picture_runs.first_wrong.Goals as goal
 
 pub returns-in-Some : goal.returns-in-Some

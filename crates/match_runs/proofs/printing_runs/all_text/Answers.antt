@@ -1,10 +1,10 @@
 use Rattle.std.proofs.Common.{◌≡◌, ◌∙◌, List, [], ap, sym, subst}
 use Rattle.std.proofs.lemmas.Result.{err_from_is_err_and}
-use Rattle.match_board.specs.declared.limits.TheConstants.{MOST_ARRANGEMENTS}
+use Rattle.match_limits.specs.declared.TheConstants.{MOST_ARRANGEMENTS}
 use Rattle.match_puzzle.specs.declared.placements.Placement.{Placement}
 use Rattle.puzzle_symmetry.specs.Motion.{Motion}
 use Rattle.match_text.specs.ListSpelling.{IsListWithin}
-use Rattle.text_words.specs.declared.ranges.TheConstants.{SECOND}
+use Rattle.match_limits.specs.declared.ranges.TheConstants.{SECOND}
 use Rattle.puzzle_symmetry.specs.Complete.{IsCompleteList}
 use Rattle.cert_check.specs.Setting.{Question, motions_of}
 use Rattle.symmetry_orbits.specs.Closure.{AddsEach}

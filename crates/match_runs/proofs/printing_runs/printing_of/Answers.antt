@@ -1,6 +1,6 @@
 use Rattle.std.proofs.Common.{◌≡◌, refl, rules, subst, sym}
 use Rattle.std.proofs.lemmas.Result.{err_from_is_err_and}
-use Rattle.match_board.specs.First.{IsFirst}
+use Rattle.match_limits.specs.First.{IsFirst}
 use Rattle.match_puzzle.specs.Puzzle.{IsPuzzle}
 use Rattle.cert_check.specs.Answer.{IsAnswer, Occurs, fault_rank}
 use Rattle.cert_check.specs.Setting.{Question}

@@ -1,7 +1,7 @@
 use Rattle.std.proofs.Common.{◌≡◌, ◌≢◌, ℕ, Bool, true, false, List, Ok}
 use Rattle.std.specs.Prelude.{MatchBool}
 use Rattle.match_puzzle.specs.declared.placements.Placement.{Placement}
-use Rattle.text_words.specs.declared.ranges.TheConstants.{SECOND}
+use Rattle.match_limits.specs.declared.ranges.TheConstants.{SECOND}
 use Rattle.match_text.specs.Lists.{list_of}
 use Rattle.match_text.specs.ListSpelling.{IsListWithin}
 use Rattle.match_text.proofs.ListLemmas.{list_spelled, list_unspelled}

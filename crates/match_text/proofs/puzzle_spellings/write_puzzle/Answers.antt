@@ -1,9 +1,9 @@
 use Rattle.std.specs.List.{AllByRecursion}
-use Rattle.match_board.specs.declared.limits.TheConstants.{MOST_COLOURS}
+use Rattle.match_limits.specs.declared.TheConstants.{MOST_COLOURS}
 use Rattle.std.proofs.Common.{◌<◌, ◌≡◌, length, sym, subst, ap, ◌∙◌}
 use Rattle.std.proofs.lemmas.List.{length-map}
 use Rattle.match_board.specs.Tile.{word}
-use Rattle.text_words.specs.Ranges.{ranges_of}
+use Rattle.match_limits.specs.Ranges.{ranges_of}
 use Rattle.match_text.specs.Puzzles.{puzzle_of}
 use Rattle.match_text.specs.PuzzleSpelling.{AreRulesWithin}
 use Rattle.match_text.proofs.LimitLemmas.{puzzle_within, rules_of_border}

@@ -1,5 +1,5 @@
 use Rattle.std.proofs.Common.{◌<◌, ◌≤◌, length, arith}
-use Rattle.match_board.specs.declared.limits.TheConstants.{MOST_COLOURS}
+use Rattle.match_limits.specs.declared.TheConstants.{MOST_COLOURS}
 use Rattle.std.proofs.lemmas.Result.{err_from_is_err_and}
 use Rattle.text_words.specs.declared.faults.ReadFault.TheVariants as faults
 use Rattle.text_words.specs.Words.{colour_in}

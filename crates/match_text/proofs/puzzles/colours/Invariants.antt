@@ -1,5 +1,5 @@
 use Rattle.std.proofs.Common.{length}
-use Rattle.match_board.specs.declared.limits.TheConstants.{MOST_COLOURS}
+use Rattle.match_limits.specs.declared.TheConstants.{MOST_COLOURS}
 use Rattle.text_words.specs.Words.{colour_in}
 use Rattle.text_words.specs.Place.{entries}
 use Rattle.text_words.proofs.LoopLemmas.{AreRead}

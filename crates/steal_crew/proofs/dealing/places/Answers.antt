@@ -8,7 +8,7 @@ use Rattle.steal_crew.proofs.QueueLemmas.{taken_none, owners_out, owners_cut, ow
 use Rattle.steal_crew.proofs.QueueRuleLemmas.{forks}
 use Rattle.steal_crew.proofs.dealing.places.Goals as goal
 use Rattle.steal_crew.specs.QueueRule.{part_count}
-use Rattle.match_board.specs.declared.limits.TheConstants.{MOST_WORKERS}
+use Rattle.match_limits.specs.declared.TheConstants.{MOST_WORKERS}
 
 pub loop-q-init : goal.loop-q-init
 loop-q-init c = record {

@@ -4,7 +4,7 @@ use Rattle.steal_crew.specs.Queues.{IsShare}
 use Rattle.steal_crew.proofs.QueueLemmas.{owners_out}
 use Rattle.steal_crew.proofs.QueueRuleLemmas.{all_more, all_popped}
 use Rattle.steal_crew.proofs.gathering.collect.Goals as goal
-use Rattle.match_board.specs.declared.limits.TheConstants.{MOST_WORKERS}
+use Rattle.match_limits.specs.declared.TheConstants.{MOST_WORKERS}
 
 pub take_in-requires-clause-owners : goal.take_in-requires-clause-owners
 take_in-requires-clause-owners g c = let l : vec_len c.pop.new.self + 1 ≡ vec_len c.loop-share.shares = c.in-Some.ensures.len in let n : c.len.result ≡ vec_len c.pop.new.self = c.len.ensures in

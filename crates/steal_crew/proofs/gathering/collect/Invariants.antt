@@ -2,7 +2,7 @@ use Rattle.std.proofs.Common.{◌≡◌, ◌+◌, ◌≤◌, All, IfOk, vec_len}
 use Rattle.steal_crew.specs.Queues.{Owners, IsShare}
 use Rattle.steal_crew.specs.Results.{AreDone}
 use Rattle.steal_crew.proofs.gathering.collect.Given as goal
-use Rattle.match_board.specs.declared.limits.TheConstants.{MOST_WORKERS}
+use Rattle.match_limits.specs.declared.TheConstants.{MOST_WORKERS}
 
 abbrev pub invariant-loop-share : goal.invariant-loop-share
 invariant-loop-share g l = record {

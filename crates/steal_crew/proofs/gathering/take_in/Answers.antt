@@ -5,7 +5,7 @@ use Rattle.steal_crew.proofs.QueueLemmas.{owners_out, owners_less, owner_known, 
 use Rattle.steal_crew.proofs.QueueRuleLemmas.{merges}
 use Rattle.steal_crew.proofs.gathering.take_in.Goals as goal
 use Rattle.steal_crew.specs.QueueRule.{part_count}
-use Rattle.match_board.specs.declared.limits.TheConstants.{MOST_WORKERS}
+use Rattle.match_limits.specs.declared.TheConstants.{MOST_WORKERS}
 
 pub loop-place-init : goal.loop-place-init
 loop-place-init c = let n : vec_len c.args.places ≡ length c.args.places.items = c.args.places.ok.0 in let l : length c.args.places.items ≡ c.args._queues = c.requires.places.len in record {

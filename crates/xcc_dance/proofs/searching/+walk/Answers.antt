@@ -1,5 +1,5 @@
 use Rattle.std.proofs.Common.{◌≡◌, ◌<◌, ◌+◌, ◌-◌, ◌*◌, ◌^◌, ◌∷◌, ◌++◌, [], ℕ, List, Some, None, IfSome, inl, length, length-append, MatchOption, arith, refl, MatchBool, append-nil, ap, sym, ◌∙◌, subst}
-use Rattle.match_board.specs.declared.limits.TheConstants.{MOST_CHILDREN}
+use Rattle.match_limits.specs.declared.TheConstants.{MOST_CHILDREN}
 use Rattle.match_puzzle.specs.declared.placements.Pair.{Pair}
 use Rattle.match_board.specs.Board.{cell_count}
 use Rattle.xcc_form.specs.Options.{Compiled, cover_of}
@@ -7,7 +7,7 @@ use Rattle.xcc_form.specs.Correspondence.{IsSolutionOf}
 use Rattle.cert_tree.specs.Tree.{branch, dead, found, none, count}
 use Rattle.xcc_dance.specs.Clashes.{IsOpenAt}
 use Rattle.xcc_dance.specs.Chosen.{Selection, IsSelection, IsUncovered, AreAllCovered, HasSize, IsNext, IsLast, with_option}
-use Rattle.match_puzzle.specs.Placing.{FitInTurn}
+use Rattle.match_fits.specs.Placing.{FitInTurn}
 use Rattle.xcc_dance.specs.Progress.{IsTreeOf, AreTreesOf, PutsTree, PutsTrees}
 use Rattle.xcc_dance.specs.SearchTree.{IsChild, IsSearchTree, AreBranchesOf}
 use Rattle.xcc_dance.specs.Unfinished.{IsNotCited, IsUnfinished, AreUnfinished}

@@ -1,7 +1,7 @@
 use Rattle.std.proofs.Common.{◌≡◌, ◌++◌, ◌∷◌, [], ◌∙◌, Vec, Global, ap, arith, length, subst}
 use Rattle.std.proofs.lemmas.List.{length_push}
 use Rattle.match_board.specs.Board.{side_count}
-use Rattle.match_board.proofs.Listings.{listing_row}
+use Rattle.match_limits.proofs.Listings.{listing_row}
 use Rattle.xcc_form.specs.Options.{IsSharedEdge, least_place}
 use Rattle.xcc_form.specs.declared.edges.SharedEdge.{SharedEdge}
 use Rattle.xcc_form.proofs.EdgeLemmas.{AreEdgesBefore, edge_sides, edge_more, no_edge_more}

@@ -1,6 +1,6 @@
 use Rattle.std.proofs.Common.{◌≡◌, ap, arith, subst}
 use Rattle.match_board.specs.Board.{cell_count}
-use Rattle.match_board.proofs.Listings.{listing_all}
+use Rattle.match_limits.proofs.Listings.{listing_all}
 use Rattle.xcc_form.specs.Options.{IsSharedEdge, least_place}
 use Rattle.xcc_form.proofs.EdgeLemmas.{AreEdgesBefore, edge_cells}
 use Rattle.xcc_form.proofs.edges.shared_edges.Goals as goal

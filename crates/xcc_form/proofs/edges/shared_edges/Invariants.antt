@@ -1,5 +1,5 @@
 use Rattle.std.proofs.Common.{◌≤◌, ◌*◌, length}
-use Rattle.match_board.specs.Listing.{IsListing, ByKey, HoldsBefore}
+use Rattle.match_limits.specs.Listing.{IsListing, ByKey, HoldsBefore}
 use Rattle.xcc_form.specs.Options.{IsSharedEdge, least_place}
 use Rattle.xcc_form.proofs.edges.shared_edges.Given as goal
 

@@ -8,7 +8,7 @@ use Rattle.puzzle_symmetry.specs.Complete.{AreSymmetries}
 use Rattle.cert_check.specs.Answer.{IsPrepared, IsPreparedWith, Occurs, fault_rank}
 use Rattle.cert_check.specs.Lines.{LinesFail, TellsOfPrefixes}
 use Rattle.cert_check.specs.Walk.{TellsOfRepeats}
-use Rattle.match_board.specs.First.{IsFirst}
+use Rattle.match_limits.specs.First.{IsFirst}
 use Rattle.cert_check.specs.declared.faults.Fault.TheVariants as faults
 use Rattle.cert_check.proofs.CheckLemmas.{first_repeated, first_symmetry, first_prefix, first_root}
 use Rattle.cert_check.proofs.questions.Question.prepare_listed.Goals as goal

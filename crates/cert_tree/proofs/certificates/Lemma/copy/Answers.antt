@@ -1,5 +1,5 @@
 use Rattle.std.proofs.Common.{◌≡◌, subst, arith}
-use Rattle.match_board.specs.declared.limits.TheConstants.{MOST_CELLS, MOST_LEVELS}
+use Rattle.match_limits.specs.declared.TheConstants.{MOST_CELLS, MOST_LEVELS}
 use Rattle.std.specs.Prelude.{IfOk}
 use Rattle.cert_tree.specs.Tree.{tree_of}
 use Rattle.cert_tree.specs.Certificate.{Piece, piece_of, flat_piece}

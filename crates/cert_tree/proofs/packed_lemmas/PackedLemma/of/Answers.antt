@@ -1,5 +1,5 @@
 use Rattle.std.proofs.Common.{◌≡◌, List, ap, refl, ◌∙◌, arith}
-use Rattle.match_board.specs.declared.limits.TheConstants.{MOST_CELLS, MOST_LEVELS}
+use Rattle.match_limits.specs.declared.TheConstants.{MOST_CELLS, MOST_LEVELS}
 use Rattle.match_puzzle.specs.declared.placements.Pair.{Pair}
 use Rattle.cert_tree.specs.Tree.{Tree, tree_of}
 use Rattle.cert_tree.specs.Heads.{heads_of}

@@ -1,4 +1,4 @@
-use Rattle.match_board.proofs.OptionLemmas.{none_some}
+use Rattle.match_limits.proofs.OptionLemmas.{none_some}
 use Rattle.match_board.proofs.boards.Board.is_border.Goals as goal
 
 pub returns-in-None : goal.returns-in-None

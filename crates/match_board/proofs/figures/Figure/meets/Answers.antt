@@ -1,5 +1,5 @@
 use Rattle.std.proofs.Common.{ℕ, ap, sym, ◌∙◌}
-use Rattle.match_board.proofs.OptionLemmas.{none_some, inside, same_pair}
+use Rattle.match_limits.proofs.OptionLemmas.{none_some, inside, same_pair}
 use Rattle.match_board.proofs.Places.{met_place, one_number, StandsAt-in_range}
 use Rattle.match_board.proofs.figures.Figure.meets.Goals as goal
 

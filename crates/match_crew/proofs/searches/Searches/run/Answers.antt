@@ -4,8 +4,8 @@ use Rattle.match_puzzle.specs.Arrangement.{IsArrangement}
 use Rattle.xcc_form.specs.Options.{Compiled}
 use Rattle.xcc_dance.specs.Chosen.{Selection}
 use Rattle.xcc_dance.specs.Outcome.{IsPackedOutcome, SearchState}
-use Rattle.match_puzzle.specs.Placing.{FitInTurn}
-use Rattle.match_board.proofs.ListLemmas.{contains_at}
+use Rattle.match_fits.specs.Placing.{FitInTurn}
+use Rattle.match_limits.proofs.ListLemmas.{contains_at}
 use Rattle.match_crew.proofs.searches.Searches.run.Goals as goal
 
 pub run_by-requires-clause-prefix : goal.run_by-requires-clause-prefix

@@ -1,6 +1,6 @@
 use Rattle.std.proofs.Common.{◌≡◌, ◌<◌, ◌≤◌, ◌∙◌, ℕ, length, get_or, slice_index, arith, sym, subst}
 use Rattle.std.proofs.lemmas.List.{get_or_default}
-use Rattle.match_board.specs.declared.limits.TheConstants.{MOST_COLOURS}
+use Rattle.match_limits.specs.declared.TheConstants.{MOST_COLOURS}
 use Rattle.match_puzzle.specs.Prefix.{Layout}
 use Rattle.match_puzzle.proofs.FittingLemmas.{AsksBelow}
 use Rattle.match_puzzle.proofs.AskingLemmas.{asked_there}

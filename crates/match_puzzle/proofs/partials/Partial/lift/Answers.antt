@@ -1,8 +1,8 @@
 use Rattle.std.proofs.Common.{Some, ◌<◌, ◌∙◌, arith, sym, subst}
 use Rattle.std.proofs.lemmas.List.{get_or-replicate}
-use Rattle.match_board.specs.declared.limits.TheConstants.{MOST_COLOURS}
+use Rattle.match_limits.specs.declared.TheConstants.{MOST_COLOURS}
 use Rattle.std.proofs.lemmas.Option.{slice_get_within}
-use Rattle.match_puzzle.specs.declared.number_sets.TheConstants.{GROUPS}
+use Rattle.match_limits.specs.declared.number_sets.TheConstants.{GROUPS}
 use Rattle.match_puzzle.specs.Prefix.{Layout, Has}
 use Rattle.match_puzzle.proofs.Prefixes.{read_has}
 use Rattle.match_puzzle.proofs.Kept.{kept_lifted}

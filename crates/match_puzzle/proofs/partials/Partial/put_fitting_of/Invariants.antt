@@ -1,5 +1,5 @@
 use Rattle.std.proofs.Common.{◌<◌, ◌/◌, ◌%◌}
-use Rattle.match_board.specs.Listing.{IsListing}
+use Rattle.match_limits.specs.Listing.{IsListing}
 use Rattle.match_puzzle.specs.Fitting.{Fits, turned_tile}
 use Rattle.match_puzzle.proofs.partials.Partial.put_fitting_of.Given as goal
 

@@ -4,7 +4,7 @@ use Rattle.match_puzzle.specs.Puzzle.{HasRule, colour_of}
 use Rattle.match_puzzle.specs.Arrangement.{Stands}
 use Rattle.match_puzzle.specs.ArrangementFaults.{BreaksBorderAt}
 use Rattle.match_puzzle.specs.declared.placements.Placement.{Placement}
-use Rattle.match_puzzle.proofs.FirstLemmas.{least_pair_at}
+use Rattle.match_limits.proofs.FirstLemmas.{least_pair_at}
 use Rattle.match_puzzle.proofs.ArrangementLemmas.{read_stands, border_broken, border_obeyed}
 use Rattle.match_puzzle.proofs.puzzles.Puzzle.broken_border.Goals as goal
 

@@ -3,7 +3,7 @@ use Rattle.std.proofs.lemmas.Option.{slice_get_within}
 use Rattle.match_board.specs.Board.{cell_count}
 use Rattle.match_puzzle.specs.Arrangement.{MatchesEdgeAt}
 use Rattle.match_puzzle.specs.ArrangementFaults.{BreaksEdgeAt}
-use Rattle.match_puzzle.proofs.FirstLemmas.{least_pair_at}
+use Rattle.match_limits.proofs.FirstLemmas.{least_pair_at}
 use Rattle.match_puzzle.proofs.puzzles.Puzzle.broken_edge.Goals as goal
 
 pub broken_edge_at-requires-clause-before : goal.broken_edge_at-requires-clause-before

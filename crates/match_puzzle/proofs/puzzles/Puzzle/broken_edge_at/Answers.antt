@@ -2,7 +2,7 @@ use Rattle.std.proofs.Common.{MatchBool, below_more, arith, ap, subst}
 use Rattle.match_board.specs.Board.{side_count}
 use Rattle.match_puzzle.specs.Arrangement.{MatchesEdgeAt}
 use Rattle.match_puzzle.specs.ArrangementFaults.{BreaksEdgeAt}
-use Rattle.match_puzzle.proofs.FirstLemmas.{least_at}
+use Rattle.match_limits.proofs.FirstLemmas.{least_at}
 use Rattle.match_puzzle.proofs.ArrangementLemmas.{side_in_range}
 use Rattle.match_puzzle.proofs.puzzles.Puzzle.broken_edge_at.Goals as goal
 

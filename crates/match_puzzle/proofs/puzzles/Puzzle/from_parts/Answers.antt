@@ -1,8 +1,8 @@
 use Rattle.std.proofs.Common.{◌≡◌, ◌≤◌, ◌<◌, ◌/◌, ◌%◌, ℕ, List, All, length, slice_index, rules, subst, sym}
-use Rattle.match_board.specs.declared.limits.TheConstants.{MOST_TILES}
-use Rattle.match_board.specs.Listing.{IsListing}
+use Rattle.match_limits.specs.declared.TheConstants.{MOST_TILES}
+use Rattle.match_limits.specs.Listing.{IsListing}
 use Rattle.match_puzzle.specs.Puzzle.{task_of}
-use Rattle.match_puzzle.specs.Mates.{mating_of}
+use Rattle.match_board.specs.Mates.{mating_of}
 use Rattle.match_puzzle.specs.Tables.{AreTurnCounts}
 use Rattle.match_puzzle.proofs.PlacementSetLemmas.{few_turns, few_counts, legal_numbers, unturned_legal}
 use Rattle.match_puzzle.proofs.puzzles.Puzzle.from_parts.Goals as goal

@@ -3,7 +3,8 @@ use Rattle.match_board.proofs.Places.{StandsAt-in_range, Meets-turned}
 use Rattle.match_puzzle.specs.Arrangement.{MatchesEdgeAt}
 use Rattle.match_puzzle.specs.ArrangementFaults.{BreaksEdgeAt}
 use Rattle.match_puzzle.specs.declared.placements.Placement.{Placement}
-use Rattle.match_puzzle.proofs.ArrangementLemmas.{read_stands, edge_matches, matches_turned, border_matches, by_test, side_in_range}
+use Rattle.match_puzzle.proofs.ArrangementLemmas.{read_stands, edge_matches, matches_turned, border_matches, side_in_range}
+use Rattle.match_limits.proofs.FirstLemmas.{by_test}
 use Rattle.match_puzzle.proofs.puzzles.Puzzle.matches_edge.Goals as goal
 use Rattle.match_puzzle.proofs.puzzles.Puzzle.matches_edge.Goals.{In-Edge}
 

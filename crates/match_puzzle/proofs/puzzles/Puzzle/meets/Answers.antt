@@ -1,5 +1,5 @@
 use Rattle.std.proofs.Common.{sym}
-use Rattle.match_board.proofs.OptionLemmas.{same_pair}
+use Rattle.match_limits.proofs.OptionLemmas.{same_pair}
 use Rattle.match_puzzle.proofs.puzzles.Puzzle.meets.Goals as goal
 
 pub returns-in-Border-clause-only : goal.returns-in-Border-clause-only

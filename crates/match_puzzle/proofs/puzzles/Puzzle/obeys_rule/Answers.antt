@@ -1,6 +1,6 @@
 use Rattle.std.proofs.Common.{◌∙◌, ap, slice_index, sym, refl}
 use Rattle.match_puzzle.proofs.Prefixes.{inside}
-use Rattle.match_puzzle.proofs.ArrangementLemmas.{by_test}
+use Rattle.match_limits.proofs.FirstLemmas.{by_test}
 use Rattle.match_puzzle.proofs.puzzles.Puzzle.obeys_rule.Goals as goal
 
 pub returns-in-Some : goal.returns-in-Some

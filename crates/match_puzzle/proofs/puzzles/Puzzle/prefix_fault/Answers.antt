@@ -1,5 +1,5 @@
 use Rattle.std.proofs.Common.{◌≡◌, ℕ, Bool, List, Some, false, replicate, get_or, slice_get, arith, sym, subst}
-use Rattle.match_board.specs.declared.limits.TheConstants.{MOST_TILES}
+use Rattle.match_limits.specs.declared.TheConstants.{MOST_TILES}
 use Rattle.std.proofs.lemmas.List.{get_or-replicate, length-replicate}
 use Rattle.std.proofs.lemmas.Option.{slice_get-get_or}
 use Rattle.match_puzzle.specs.PrefixFaults.{TellsOfPair, IsPrefixFault}

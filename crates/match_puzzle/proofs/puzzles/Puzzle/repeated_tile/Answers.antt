@@ -1,12 +1,12 @@
 use Rattle.std.proofs.Common.{◌<◌, ◌∙◌, ℕ, true, false, length, length-set, replicate, below_more, arith, ap}
-use Rattle.match_board.specs.declared.limits.TheConstants.{MOST_TILES}
+use Rattle.match_limits.specs.declared.TheConstants.{MOST_TILES}
 use Rattle.std.proofs.lemmas.List.{get_or-replicate, length-replicate}
 use Rattle.std.proofs.lemmas.Option.{slice_get_within}
 use Rattle.match_board.specs.Board.{cell_count}
 use Rattle.match_puzzle.specs.Puzzle.{Task, IsPuzzle}
 use Rattle.match_puzzle.specs.ArrangementFaults.{RepeatsTileAt}
 use Rattle.match_puzzle.specs.declared.placements.Placement.{Placement}
-use Rattle.match_puzzle.proofs.FirstLemmas.{least_at}
+use Rattle.match_limits.proofs.FirstLemmas.{least_at}
 use Rattle.match_puzzle.proofs.ArrangementLemmas.{read_stands, once_by_order, seen_none, seen_more, seen_repeats, unseen_once}
 use Rattle.match_puzzle.proofs.puzzles.Puzzle.repeated_tile.Goals as goal
 

@@ -1,5 +1,5 @@
 use Rattle.std.proofs.Common.{◌≡◌, ◌<◌, ℕ, length}
-use Rattle.match_board.specs.declared.limits.TheConstants.{MOST_TILES}
+use Rattle.match_limits.specs.declared.TheConstants.{MOST_TILES}
 use Rattle.match_puzzle.specs.ArrangementFaults.{RepeatsTileAt}
 use Rattle.match_puzzle.proofs.ArrangementLemmas.{AreSeen}
 use Rattle.match_puzzle.proofs.puzzles.Puzzle.repeated_tile.Given as goal

@@ -1,7 +1,7 @@
 use Rattle.std.proofs.Common.{◌≡◌, ◌+◌, ◌++◌, ◌∷◌, [], All, List, map, take, ap, sym, subst, ◌∙◌}
 use Rattle.std.proofs.lemmas.List.{take_more, map-append}
 use Rattle.std.proofs.lemmas.List.Elements.{All-nil, All-cons, All-append}
-use Rattle.match_board.specs.declared.limits.TheConstants.{MOST_CELLS}
+use Rattle.match_limits.specs.declared.TheConstants.{MOST_CELLS}
 use Rattle.cert_tree.specs.Certificate.{Piece, piece_of}
 use Rattle.cert_tree.specs.Limits.{IsLemmaWithin}
 use Rattle.piece_desk.specs.Desks.{posted_piece}

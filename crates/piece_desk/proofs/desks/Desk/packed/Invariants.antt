@@ -1,5 +1,5 @@
 use Rattle.std.proofs.Common.{◌≡◌, All, map, take}
-use Rattle.match_board.specs.declared.limits.TheConstants.{MOST_CELLS}
+use Rattle.match_limits.specs.declared.TheConstants.{MOST_CELLS}
 use Rattle.cert_tree.specs.Limits.{IsLemmaWithin}
 use Rattle.piece_desk.specs.Desks.{posted_piece}
 use Rattle.piece_desk.proofs.desks.Desk.packed.Given as goal

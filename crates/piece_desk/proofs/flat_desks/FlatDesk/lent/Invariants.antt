@@ -1,6 +1,6 @@
 use Rattle.std.proofs.Common.{◌≡◌, All, map, take}
 use Rattle.cert_tree.specs.Certificate.{flat_piece}
-use Rattle.match_board.specs.declared.limits.TheConstants.{MOST_CELLS}
+use Rattle.match_limits.specs.declared.TheConstants.{MOST_CELLS}
 use Rattle.cert_tree.specs.Limits.{IsLemmaWithin}
 use Rattle.piece_desk.specs.FlatDesks.{flat_posted}
 use Rattle.piece_desk.proofs.flat_desks.FlatDesk.lent.Given as goal

@@ -1,5 +1,5 @@
 use Rattle.steal_crew.specs.QueueRule.{part_count}
-use Rattle.match_board.specs.declared.limits.TheConstants.{MOST_WORKERS}
+use Rattle.match_limits.specs.declared.TheConstants.{MOST_WORKERS}
 use Rattle.std.proofs.Common.{rules, ◌≡◌, ◌<◌, ◌+◌, ◌-◌, ap, arith, vec_len}
 use Rattle.crossbeam_deque.specs.Injected.{injector_view}
 use Rattle.steal_crew.specs.Tickets.{source_of, IsFresh}

@@ -1,6 +1,6 @@
 use Rattle.std.proofs.Common.{◌≡◌, MatchOption, ap, sym, ◌∙◌, subst}
 use Rattle.match_board.specs.Board.{cell_count}
-use Rattle.match_puzzle.specs.FitSizes.{item_place}
+use Rattle.match_puzzle.specs.Fitting.{item_place}
 use Rattle.xcc_form.specs.Options.{cover_of}
 use Rattle.xcc_dance.specs.Chosen.{Selection, AreAllCovered, IsToBranchOn}
 use Rattle.xcc_dance.specs.Placing.{IsPlacingOf}

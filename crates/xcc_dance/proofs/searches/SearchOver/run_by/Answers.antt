@@ -1,12 +1,12 @@
 use Rattle.std.proofs.Common.{◌≡◌, ◌+◌, Contains, ◌++◌, ◌-◌, MatchBool, arith, ap, sym, ◌∙◌, subst, ⊎_elim, refl}
-use Rattle.match_board.specs.declared.limits.TheConstants.{MOST_CELLS, MOST_LEVELS}
-use Rattle.match_board.proofs.Listings.{contains_none}
+use Rattle.match_limits.specs.declared.TheConstants.{MOST_CELLS, MOST_LEVELS}
+use Rattle.match_limits.proofs.Listings.{contains_none}
 use Rattle.cert_tree.specs.Heads.{heads_of}
 use Rattle.cert_tree.specs.Tree.{Tree}
 use Rattle.cert_tree.proofs.HeadLemmas.{of_tree}
 use Rattle.xcc_form.specs.Options.{Compiled}
 use Rattle.xcc_dance.specs.Chosen.{before_any}
-use Rattle.match_puzzle.specs.Placing.{FitInTurn}
+use Rattle.match_fits.specs.Placing.{FitInTurn}
 use Rattle.xcc_dance.specs.Placing.{IsArrangementWith}
 use Rattle.xcc_dance.specs.Outcome.{IsSearched, IsTreeFrom}
 use Rattle.xcc_dance.specs.Progress.{IsTreeOf, PutsTree, levels_below}

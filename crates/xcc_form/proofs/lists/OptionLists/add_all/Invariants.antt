@@ -1,5 +1,5 @@
 use Rattle.std.proofs.Common.{◌≡◌, ◌≤◌, ◌+◌, ◌*◌, ◌++◌, Contains, length}
-use Rattle.match_board.specs.declared.limits.TheConstants.{MOST_CELLS, MOST_CHILDREN}
+use Rattle.match_limits.specs.declared.TheConstants.{MOST_CELLS, MOST_CHILDREN}
 use Rattle.match_puzzle.specs.Puzzle.{IsLegal}
 use Rattle.match_puzzle.specs.declared.placements.Pair.{Pair}
 use Rattle.xcc_form.specs.Layout.{AreLaidOut}

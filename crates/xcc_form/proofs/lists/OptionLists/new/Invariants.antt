@@ -1,6 +1,6 @@
 use Rattle.std.proofs.Common.{◌≤◌, ◌*◌, length}
-use Rattle.match_board.specs.declared.limits.TheConstants.{MOST_CHILDREN}
-use Rattle.match_board.specs.Listing.{IsListing}
+use Rattle.match_limits.specs.declared.TheConstants.{MOST_CHILDREN}
+use Rattle.match_limits.specs.Listing.{IsListing}
 use Rattle.xcc_form.specs.Options.{PairComesBefore}
 use Rattle.xcc_form.specs.Layout.{AreLaidOut}
 use Rattle.xcc_form.proofs.PairsLemmas.{IsPairBefore}

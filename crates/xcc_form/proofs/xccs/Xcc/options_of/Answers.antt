@@ -1,6 +1,6 @@
 use Rattle.std.proofs.Common.{◌≡◌, ◌<◌, ◌++◌, ◌∷◌, [], ◌∙◌, ◌+◌, ℕ, Some, Vec, Global, slice_get, get_or, ap, arith, subst, sym}
 use Rattle.std.proofs.lemmas.Option.{slice_get-get_or}
-use Rattle.match_board.specs.Listing.{IsListing}
+use Rattle.match_limits.specs.Listing.{IsListing}
 use Rattle.match_puzzle.specs.Puzzle.{Task}
 use Rattle.match_puzzle.specs.declared.placements.Placement.{Placement}
 use Rattle.match_puzzle.specs.Arrangement.{IsArrangement, Stands}

@@ -1,5 +1,5 @@
 use Rattle.std.proofs.Common.{◌<◌}
-use Rattle.match_board.specs.Listing.{IsListing}
+use Rattle.match_limits.specs.Listing.{IsListing}
 use Rattle.xcc_form.proofs.ConversionLemmas.{IsTaken}
 use Rattle.xcc_form.proofs.xccs.Xcc.options_of.Given as goal
 

@@ -1,0 +1,13 @@
+pub mod FitRowLemmas
+pub mod OpenRowLemmas
+pub mod BesideLemmas
+pub mod ItemLemmas
+pub mod PlacedPairLemmas
+pub mod SavedLemmas
+pub mod CountedLemmas
+pub mod NewSizeLemmas
+pub mod LowerLemmas
+pub mod NextFittingLemmas
+pub mod FitSizeLemmas
+pub mod PlacingLemmas
+pub mod KeptCountLemmas

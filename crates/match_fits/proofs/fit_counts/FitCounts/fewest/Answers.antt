@@ -1,0 +1,29 @@
+use Rattle.std.proofs.Common.{◌%◌, sym, subst, ⊎_elim}
+use Rattle.match_puzzle.specs.Fitting.{IsNumberOf}
+use Rattle.match_fits.specs.Placing.{placed_by}
+use Rattle.match_fits.specs.FitSizes.{AreSizes}
+use Rattle.match_fits.proofs.CountedLemmas.{kept_sizes, none_open, fewest_at}
+use Rattle.match_fits.proofs.fit_counts.FitCounts.fewest.Goals as goal
+use Rattle.match_fits.proofs.fit_counts.FitCounts.fewest.Goals.{After-least_size-least}
+
+are_sizes : (c : After-least_size-least) → AreSizes c.args.self.now.puzzle (placed_by c.args.self.now) c.deref.result.now
+are_sizes c =
+    subst (AreSizes c.args.self.now.puzzle (placed_by c.args.self.now)) (sym c.deref.ensures.value)
+    (kept_sizes c.self.inside.partial.puzzle c.self.inside.pairs.items c.self.inside.partial.placed c.self.inside.rows c.self.inside.sizes.items c.self.inside.saved.items c.self.invariant c.args.self.now c.self.view_is)
+
+pub returns-then-least : goal.returns-then-least
+returns-then-least c =
+    none_open c.args.self.now.puzzle (placed_by c.args.self.now) c.cells-cells.ensures.puzzle c.cells-cells.ensures.prefix c.deref.result.now (are_sizes (goal.at.returns-then-least c).After-least_size-least) c.least_size-least.result c.least_size-least.ensures.least
+    c.if-least.true c.least_size-least.ensures.range
+
+pub returns : goal.returns
+returns c =
+    let p = c.args.self.now.puzzle in
+    let q = placed_by c.args.self.now in
+    let least = c.least_size-least.result in
+    ⊎_elim
+    (λ e. absurd (c.if-least.false e))
+    (λ w.
+    fewest_at p q c.cells-cells.ensures.puzzle c.cells-cells.ensures.prefix c.deref.result.now (are_sizes (goal.at.returns c).After-least_size-least) least c.least_size-least.ensures.least w.0 w.1 w.2 c.if-least.false c.numbered.result
+    (subst (λ n. IsNumberOf n (least % 1024) c.numbered.result) c.cells-cells.ensures.count c.numbered.ensures))
+    c.least_size-least.ensures.one

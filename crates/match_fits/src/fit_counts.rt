@@ -1,0 +1,251 @@
+//! Pairs that are placed one after the other, and how many fit beside them.
+
+ghost use Rattle.std.specs.Prelude.{◌≡◌, ◌↔◌, ◌<◌, ◌*◌, [], ℕ, List, IfOk, IfSome, IsTrue, MatchOption, OnErr, length};
+ghost use Rattle.match_board.specs.Board.{cell_count};
+ghost use Rattle.match_puzzle.specs.Puzzle.{IsPuzzle};
+ghost use Rattle.match_puzzle.specs.Prefix.{IsPrefix, empty_prefix};
+ghost use Rattle.match_puzzle.specs.Fitting.{Fits, FitsItem, AreFitting, IsItem, IsOpen};
+ghost use Rattle.match_puzzle.specs.Fitting.{HasFewestFitting, IsNextFitting, IsLastFitting};
+ghost use Rattle.match_fits.specs.Placing.{FitInTurn, placed_by, with_next, without_last};
+ghost use Rattle.match_fits.specs.FitRows.{AreRows};
+ghost use Rattle.match_fits.specs.FitSizes.{AreSizes};
+ghost use Rattle.match_puzzle.specs.Fitting.{item_place};
+ghost use Rattle.match_puzzle.specs.declared.items.Item.{Item as PuzzleItem};
+ghost use Rattle.match_puzzle.specs.declared.items.Item.TheVariants as items;
+ghost use Rattle.match_puzzle.specs.declared.placements.Pair.{Pair as Placed};
+
+use crate::behind::{EACH_TURN, number_behind, place_behind};
+use crate::fit_rows::FitRows;
+use crate::fit_sizes::{COVERED, STEP, least_size};
+use crate::placing::take_out;
+use match_puzzle::{Item, Pair, Partial, Placement, Puzzle};
+use std::alloc::{AllocError, Global};
+use std::marker::Model;
+
+/// Pairs of a puzzle, each of which fits those before it, and beside them what still fits: for each cell and each tile
+/// it keeps how many pairs do. It borrows the puzzle.
+///
+/// To place a pair costs a few words for each open cell and each side, and a step for each pair that fits no longer; to
+/// lift it costs less. It takes 8 bytes for each pair that was placed and each cell, and up to 16 while it grows.
+#[derive(Drop)]
+pub struct FitCounts<'a> {
+    partial: Partial<'a>,
+    // in the order of placing
+    pairs: Vec<Pair>,
+    // for each cell what shows there what is asked
+    rows: FitRows,
+    // how many pairs fit and settle each item
+    sizes: Vec<u32>,
+    // the same as it was before each pair that is placed
+    saved: Vec<u32>,
+}
+
+impl<'a> Model for FitCounts<'a> {
+    ghost use Rattle.match_fits.specs.Placing.{Placing};
+    ghost use Rattle.match_fits.specs.FitSizes.{AreKeptBeside};
+
+    ghost Value = { Placing };
+
+    ghost view = { λ f. record { puzzle = f.partial.puzzle; pairs = f.pairs.items } };
+
+    ghost invariant = { λ f. AreKeptBeside f.partial.puzzle f.pairs.items f.partial.placed f.rows f.sizes.items
+        f.saved.items };
+}
+
+impl<'a> FitCounts<'a> {
+    /// Nothing is placed yet. It costs a look at each tile at each cell. An error comes where memory is refused.
+    pub fn new(alloc: Global, puzzle: &'a Puzzle) -> Result<FitCounts<'a>, AllocError>
+        ensures empty { IfOk result (λ f. f ≡ record { puzzle = puzzle.now; pairs = [] }) }
+        ensures puzzle { IsPuzzle puzzle.now }
+    {
+        let partial = Partial::new(alloc, puzzle)?;
+        let rows = FitRows::new(alloc, &partial)?;
+        let sizes = new_sizes(alloc, &partial, &rows)?;
+        Ok(FitCounts {
+            partial,
+            pairs: Vec::new(alloc),
+            rows,
+            sizes,
+            saved: Vec::new(alloc),
+        })
+    }
+
+    /// The puzzle that it is of.
+    pub fn puzzle(&self) -> &'a Puzzle
+        ensures same { result.now ≡ self.now.puzzle }
+        ensures puzzle { IsPuzzle self.now.puzzle }
+    {
+        self.partial.puzzle()
+    }
+
+    /// The pairs that are placed, in the order of placing.
+    pub fn pairs(&self) -> &[Pair]
+        ensures value { result.now ≡ self.now.pairs }
+        ensures fit { FitInTurn self.now.puzzle self.now.pairs }
+    {
+        &self.pairs
+    }
+
+    /// Whether the item is not settled.
+    pub fn is_open(&self, item: Item) -> bool
+        requires { IsItem self.now.puzzle item }
+        ensures { IsTrue result ↔ IsOpen self.now.puzzle (placed_by self.now) item }
+    {
+        self.sizes[self.place_of(item)] != COVERED
+    }
+
+    /// How many pairs fit and settle an open item.
+    pub fn count(&self, item: Item) -> u32
+        requires { IsOpen self.now.puzzle (placed_by self.now) item }
+        ensures { (xs : List Placed) × AreFitting self.now.puzzle (placed_by self.now) item xs
+            × (length xs ≡ result) }
+    {
+        self.sizes[self.place_of(item)] / STEP
+    }
+
+    /// The open item with the fewest pairs that fit, the first at a tie: cells by number, then tiles. `None` where each
+    /// is settled.
+    pub fn fewest(&self) -> Option<Item>
+        ensures { MatchOption result
+            ((item : PuzzleItem) → IsOpen self.now.puzzle (placed_by self.now) item → ⊥)
+            (HasFewestFitting self.now.puzzle (placed_by self.now)) }
+    {
+        let cells = self.cells();
+        let least = least_size(&self.sizes);
+        if least == COVERED {
+            return None;
+        }
+        Some(Item::numbered(cells, least % STEP))
+    }
+
+    /// The pair that fits and settles an open item and comes next after this one of them, in the item's order, or the
+    /// first of them: at a cell by tile, then by turn, of a tile by cell, then by turn.
+    pub fn next(&self, item: Item, after: Option<Pair>) -> Option<Pair>
+        requires item { IsOpen self.now.puzzle (placed_by self.now) item }
+        requires after { IfSome after (FitsItem self.now.puzzle (placed_by self.now) item) }
+        ensures { MatchOption result
+            (IsLastFitting self.now.puzzle (placed_by self.now) item after)
+            (IsNextFitting self.now.puzzle (placed_by self.now) item after) }
+    {
+        match item {
+            Item::Cell(cell) => self.next_at(cell, after),
+            Item::Tile(tile) => self.next_of(tile, after),
+        }
+    }
+
+    /// Places a pair that fits.
+    ///
+    /// An error where memory is refused; then nothing changes.
+    pub fn place(&mut self, pair: Pair) -> Result<(), AllocError>
+        requires { Fits self.old.puzzle (placed_by self.old) pair.cell pair.placement }
+        ensures placed { IfOk result (λ _. self.new ≡ with_next self.old pair) }
+        ensures refused { OnErr result (self.new ≡ self.old) }
+    {
+        self.pairs.reserve(1)?;
+        self.saved.extend_from_slice(&self.sizes)?;
+        self.pairs.push_reserved(pair);
+        take_out(&self.partial, pair, &mut self.rows, &mut self.sizes);
+        self.partial.place(pair.cell, pair.placement);
+        Ok(())
+    }
+
+    /// Lifts the pair that was placed last. There is one.
+    pub fn lift(&mut self)
+        requires { 0 < length self.old.pairs }
+        ensures { self.new ≡ without_last self.old }
+    {
+        if let Some(pair) = self.pairs.pop() {
+            let before = self.saved.len() - self.sizes.len();
+            self.sizes.copy_from_slice(&self.saved[before..]);
+            self.saved.truncate(before);
+            self.partial.lift(pair.cell);
+            self.rows.put_beside(&self.partial, pair.cell);
+        }
+    }
+
+    // The place of the item in the table of sizes.
+    fn place_of(&self, item: Item) -> usize
+        ensures place { result ≡ item_place (cell_count self.now.puzzle.board) item }
+        ensures puzzle { IsPuzzle self.now.puzzle }
+        ensures prefix { IsPrefix self.now.puzzle (placed_by self.now) }
+    {
+        item.number(self.cells()) as usize
+    }
+
+    // How many cells there are, and as many tiles.
+    fn cells(&self) -> u16
+        ensures count { result ≡ cell_count self.now.puzzle.board }
+        ensures puzzle { IsPuzzle self.now.puzzle }
+        ensures prefix { IsPrefix self.now.puzzle (placed_by self.now) }
+    {
+        self.partial.puzzle().board().cells()
+    }
+
+    // The next pair at a cell.
+    fn next_at(&self, cell: u16, after: Option<Pair>) -> Option<Pair>
+        requires item { IsOpen self.now.puzzle (placed_by self.now) (items.Cell cell) }
+        requires after { IfSome after (FitsItem self.now.puzzle (placed_by self.now) (items.Cell cell)) }
+        ensures { MatchOption result
+            (IsLastFitting self.now.puzzle (placed_by self.now) (items.Cell cell) after)
+            (IsNextFitting self.now.puzzle (placed_by self.now) (items.Cell cell) after) }
+    {
+        let row = self.rows.at(cell);
+        let number = row.next_in_both(self.partial.free(), number_behind(after))?;
+        let placement = Placement {
+            tile: number / 4,
+            turn: (number % 4) as u8,
+        };
+        Some(Pair { cell, placement })
+    }
+
+    // The next pair of a tile.
+    fn next_of(&self, tile: u16, after: Option<Pair>) -> Option<Pair>
+        requires item { IsOpen self.now.puzzle (placed_by self.now) (items.Tile tile) }
+        requires after { IfSome after (FitsItem self.now.puzzle (placed_by self.now) (items.Tile tile)) }
+        ensures { MatchOption result
+            (IsLastFitting self.now.puzzle (placed_by self.now) (items.Tile tile) after)
+            (IsNextFitting self.now.puzzle (placed_by self.now) (items.Tile tile) after) }
+    {
+        let cells = self.rows.len() as u16;
+        let (first, mut turns) = place_behind(after);
+        for cell in first..cells {
+            let fitting = self.rows.at(cell).group(tile) & turns;
+            if fitting != 0 {
+                let turn = fitting.trailing_zeros() as u8;
+                let placement = Placement { tile, turn };
+                return Some(Pair { cell, placement });
+            }
+            turns = EACH_TURN;
+        }
+        None
+    }
+}
+
+// The table where nothing is placed.
+fn new_sizes(alloc: Global, partial: &Partial<'_>, rows: &FitRows) -> Result<Vec<u32>, AllocError>
+    requires empty { partial.now.placed ≡ empty_prefix partial.now.puzzle }
+    requires rows { AreRows partial.now.puzzle partial.now.placed rows.now }
+    ensures { IfOk result (λ v. AreSizes partial.now.puzzle partial.now.placed v.items) }
+{
+    let cells = partial.puzzle().board().cells();
+    let mut sizes = Vec::with_capacity(alloc, 2 * usize::from(cells))?;
+    for place in 0..2 * u32::from(cells) {
+        let count = count_in(partial, rows, Item::numbered(cells, place));
+        sizes.push(STEP * u32::from(count) + place)?;
+    }
+    Ok(sizes)
+}
+
+// How many pairs fit and settle the item, where nothing is placed: as many as the rows have.
+fn count_in(partial: &Partial<'_>, rows: &FitRows, item: Item) -> u16
+    requires item { IsItem partial.now.puzzle item }
+    requires empty { partial.now.placed ≡ empty_prefix partial.now.puzzle }
+    requires rows { AreRows partial.now.puzzle partial.now.placed rows.now }
+    requires puzzle { IsPuzzle partial.now.puzzle }
+    ensures { (xs : List Placed) × AreFitting partial.now.puzzle partial.now.placed item xs × (length xs ≡ result) }
+{
+    match item {
+        Item::Cell(cell) => rows.at(cell).len(),
+        Item::Tile(tile) => rows.places_of(tile).len(),
+    }
+}

@@ -1,0 +1,71 @@
+//! Tables of how many pairs fit and settle each item: the cells first, then the tiles.
+//!
+//! An entry is that number times `STEP` and its own place, so that the least entry is that of the item with the fewest,
+//! and of the first of those. The entry of a settled item is `COVERED`.
+
+ghost use Rattle.std.specs.Prelude.{◌≡◌, ◌⊎◌, ◌<◌, ◌≤◌, ◌+◌, ◌*◌, ℕ, [], Contains, length, slice_index, slice_index_or};
+ghost use Rattle.match_limits.specs.NumberSets.{count_of_group};
+
+use crate::fit_rows::FitRows;
+use match_limits::{MOST_CELLS, NumberSet};
+
+/// What one pair counts.
+pub(crate) const STEP: u32 = 1024;
+
+/// The entry of a settled item. That of an open one is less, since its place is less than `STEP - 1`.
+pub(crate) const COVERED: u32 = u32::MAX;
+
+// There are as many tiles as cells.
+const _: () = prove!(2 * MOST_CELLS < 1024 - 1);
+
+/// Counts one pair less of its tile for each of these numbers, four to a tile. The tiles stand behind so many cells.
+pub(crate) fn lower_tiles(sizes: &mut Vec<u32>, cells: usize, numbers: &NumberSet)
+    requires long { length sizes.old.items ≡ 2 * cells }
+    requires below { (n : ℕ) → Contains numbers.now n → n < 4 * cells }
+    requires enough { (tile : ℕ) → tile < cells
+        → STEP * count_of_group numbers.now tile ≤ slice_index sizes.old.items (cells + tile) }
+    ensures long { length sizes.new.items ≡ length sizes.old.items }
+    ensures tiles { (tile : ℕ) → tile < cells → slice_index sizes.new.items (cells + tile)
+        + STEP * count_of_group numbers.now tile ≡ slice_index sizes.old.items (cells + tile) }
+    ensures cells { (cell : ℕ) → cell < cells → slice_index sizes.new.items cell ≡ slice_index sizes.old.items cell }
+{
+    let mut left = numbers.members();
+    while let Some(number) = left.take_first() {
+        sizes[cells + usize::from(number / 4)] -= STEP;
+    }
+}
+
+/// Counts less at each cell, for each placement of the tile in its row.
+pub(crate) fn lower_cells(sizes: &mut Vec<u32>, rows: &FitRows, tile: u16)
+    requires long { length sizes.old.items ≡ 2 * length rows.now }
+    requires tile { tile < length rows.now }
+    requires most { length rows.now ≤ MOST_CELLS }
+    requires enough { (cell : ℕ) → cell < length rows.now
+        → STEP * count_of_group (slice_index_or rows.now cell []) tile ≤ slice_index sizes.old.items cell }
+    ensures long { length sizes.new.items ≡ length sizes.old.items }
+    ensures cells { (cell : ℕ) → cell < length rows.now → slice_index sizes.new.items cell
+        + STEP * count_of_group (slice_index_or rows.now cell []) tile ≡ slice_index sizes.old.items cell }
+    ensures tiles { (place : ℕ) → length rows.now ≤ place
+        → slice_index sizes.new.items place ≡ slice_index sizes.old.items place }
+{
+    let mut left = rows.open_cells();
+    while let Some(cell) = left.take_first() {
+        let count = rows.at(cell).group_len(tile);
+        sizes[usize::from(cell)] -= STEP * u32::from(count);
+    }
+}
+
+/// The least entry, or `COVERED` where none is less.
+pub(crate) fn least_size(sizes: &[u32]) -> u32
+    ensures most { result ≤ COVERED }
+    ensures least { (place : ℕ) → place < length sizes.now → result ≤ slice_index sizes.now place }
+    ensures range { (place : ℕ) → place < length sizes.now → slice_index sizes.now place ≤ COVERED }
+    ensures one { (result ≡ COVERED)
+        ⊎ ((place : ℕ) × (place < length sizes.now) × (slice_index sizes.now place ≡ result)) }
+{
+    let mut least = COVERED;
+    for size in sizes {
+        least = least.min(*size);
+    }
+    least
+}

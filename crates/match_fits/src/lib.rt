@@ -1,0 +1,10 @@
+//! Partial arrangements with counts of what fits.
+#![tactic(auto)]
+
+mod behind;
+mod fit_counts;
+mod fit_rows;
+mod fit_sizes;
+mod placing;
+
+pub use fit_counts::FitCounts;

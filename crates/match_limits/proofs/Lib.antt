@@ -1,0 +1,10 @@
+pub mod OptionLemmas
+pub mod ListLemmas
+pub mod Listings
+pub mod SplitListings
+pub mod RangesLemmas
+pub mod NumberSetLemmas
+pub mod SetPairLemmas
+pub mod TakenNumberLemmas
+pub mod GroupCounts
+pub mod FirstLemmas

@@ -1,0 +1,4 @@
+pub mod Listing
+pub mod First
+pub mod NumberSets
+pub mod Ranges

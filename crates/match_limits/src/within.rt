@@ -1,0 +1,71 @@
+//! Numbers in their ranges.
+
+ghost use Rattle.std.specs.Prelude.{◌≡◌, ◌≤◌};
+
+use std::marker::Model;
+
+/// A number from `LEAST` to `MOST`.
+#[derive(Clone, Copy, PartialEq, Eq, Debug)]
+pub struct Within<const LEAST: u32, const MOST: u32> {
+    number: u32,
+}
+
+// Clauses see the number.
+impl<const LEAST: u32, const MOST: u32> Model for Within<LEAST, MOST> {
+    ghost use Rattle.std.specs.Prelude.{◌≤◌, ℕ};
+    ghost use Rattle.std.proofs.Common.{refl};
+
+    ghost Value = { ℕ };
+
+    ghost view = { λ w. w.number };
+
+    ghost invariant = { λ w. (LEAST ≤ w.number) × (w.number ≤ MOST) };
+
+    ghost inverse = { λ n. record { number = n } };
+
+    ghost inverse_ok = { λ w i. refl };
+}
+
+impl<const LEAST: u32, const MOST: u32> Within<LEAST, MOST> {
+    /// This number, which is in the range.
+    pub fn new(number: u32) -> Self
+        requires { (LEAST ≤ number) × (number ≤ MOST) }
+        ensures { result ≡ number }
+    {
+        Within { number }
+    }
+
+    pub fn get(self) -> u32
+        ensures number { result ≡ self.entry }
+        ensures range { (LEAST ≤ result) × (result ≤ MOST) }
+    {
+        self.number
+    }
+}
+
+/// How many workers share the work.
+pub type Workers = Within<1, 64>;
+
+/// In how many levels of a tree the halves of a branch are walked at once.
+pub type Forks = Within<0, 6>;
+
+/// Of how many levels of branches lemmas are made before a search begins.
+pub type Depth = Within<0, 3>;
+
+/// The most branch nodes of one lemma.
+pub type Fuel = Within<1, 1_000_000>;
+
+/// The number of an arrangement in a list, from 0.
+pub type ArrangementNumber = Within<0, 999_999>;
+
+/// How many arrangements a sheet is asked to have; 0 asks for none.
+pub type Drawn = Within<0, 100>;
+
+/// How many sides a tile has.
+pub type Sides = Within<3, 4>;
+
+/// How many colours there are.
+pub type Colours = Within<1, 36>;
+
+/// How many parts of a search come before one, or behind it.
+pub type OtherParts = Within<0, 999_999>;

@@ -1,6 +1,0 @@
-use Rattle.std.proofs.Common.{◌<◌, ℕ, length}
-use Rattle.match_puzzle.specs.Mates.{HasMate}
-use Rattle.match_puzzle.proofs.mates.broken_mate.Given as goal
-
-abbrev pub invariant-loop-colour : goal.invariant-loop-colour
-invariant-loop-colour l = (n : ℕ) → n < l.colour → n < length l.mates → HasMate l.mates n
