@@ -7,3 +7,5 @@ pub mod WalkLemmas
 pub mod RepeatLemmas
 pub mod ForkLemmas
 pub mod AnswerAlike
+pub mod FindingLemmas
+pub mod PlaceLemmas

@@ -8,3 +8,4 @@ pub mod Lists
 pub mod Repeats
 pub mod Walk
 pub mod Lines
+pub mod Jobs

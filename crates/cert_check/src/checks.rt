@@ -1,22 +1,18 @@
 //! The check of a certificate.
 
-ghost use Rattle.std.specs.Prelude.{◌≡◌, ◌<◌, ◌^◌, ◌↔◌, IfOk, OnErr, None, length, map};
-ghost use Rattle.match_puzzle.specs.Prefix.{empty_prefix};
-ghost use Rattle.match_puzzle.specs.PrefixFaults.{IsPairList};
-ghost use Rattle.cert_tree.specs.Certificate.{flat_piece};
+ghost use Rattle.std.specs.Prelude.{◌≡◌, ◌<◌, ◌^◌, ◌↔◌, IfOk, OnErr, length, map};
 ghost use Rattle.puzzle_symmetry.specs.Motion.{motion_of};
 ghost use Rattle.cert_check.specs.Setting.{Question, question_of, BeginWithPrefixes, in_second_form};
-ghost use Rattle.cert_check.specs.Derivation.{start_of};
-ghost use Rattle.cert_check.specs.Walk.{Tells, TellsOfLemma};
+ghost use Rattle.cert_check.specs.Walk.{TellsOfLemma};
 ghost use Rattle.match_puzzle.specs.Arrangement.{AreArrangements};
 ghost use Rattle.cert_check.specs.Answer.{IsAnswer, IsSound, IsCovering, OneAnswer};
 
-use cert_tree::{Certificate, FlatLemma};
 use crate::faults::{Answer, TreeFault};
 use crate::gates::Open;
 use crate::questions::Question;
 use crate::settings::Setting;
-use crate::walks::walk;
+use crate::walks::lemma_fault;
+use cert_tree::Certificate;
 use match_puzzle::{Arrangement, Partial, Puzzle};
 use puzzle_symmetry::Symmetry;
 use std::alloc::{AllocError, Global};
@@ -68,30 +64,6 @@ pub fn tree_fault(
     let mut partial = Partial::new(alloc, puzzle)?;
     let lemma = certificate.lemmas().at(lemma as usize);
     lemma_fault(alloc, &setting, &lemma, &mut partial)
-}
-
-// The first fault of the lemma's tree in what it may name, or none where it holds, walked where nothing is placed before,
-// and after it if it has no fault.
-pub(crate) fn lemma_fault(
-    alloc: Global,
-    setting: &Setting<'_>,
-    lemma: &FlatLemma<'_>,
-    partial: &mut Partial<'_>,
-) -> Result<Option<TreeFault>, AllocError>
-    requires prefix { IsPairList setting.now.puzzle lemma.now.prefix.now }
-    requires empty { partial.old ≡ record { puzzle = setting.now.puzzle; placed = empty_prefix setting.now.puzzle } }
-    ensures tells { IfOk result
-        (Tells setting.now lemma.now.tree (start_of setting.now.puzzle (flat_piece lemma.now))) }
-    ensures restored { IfOk result (λ fault. fault ≡ None → partial.new ≡ partial.old) }
-{
-    let pairs = lemma.prefix;
-    partial.place_all(pairs);
-    let mut trees = lemma.tree.trees();
-    let mut fault = None;
-    if walk(alloc, setting, &mut trees, partial, &mut fault)? {
-        partial.lift_all(pairs);
-    }
-    Ok(fault)
 }
 
 /// Does nothing. Its promise is a law: a puzzle, a list and a certificate have no more than one answer.

@@ -14,12 +14,12 @@ ghost use Rattle.puzzle_symmetry.specs.Motion.{motion_of};
 ghost use Rattle.cert_check.specs.Setting.{question_of, BeginWithPrefixes};
 ghost use Rattle.cert_check.specs.Walk.{Tells, TellsOfLemma, IsPart, TellsOfPart};
 
-use cert_tree::{Certificate, FlatLemma, Head, Trees};
 use crate::faults::TreeFault;
 use crate::gates::{Gate, Open};
 use crate::node_faults::branch_fault;
 use crate::settings::Setting;
 use crate::walks::{at_top, walk};
+use cert_tree::{Certificate, FlatLemma, Head, Trees};
 use match_limits::MOST_FORKS;
 use match_puzzle::{Arrangement, FittingPairs, Item, Partial, Puzzle};
 use puzzle_symmetry::Symmetry;

@@ -2,9 +2,11 @@
 #![tactic(auto)]
 
 mod checks;
+mod crew_checks;
 mod faults;
 mod forks;
 mod gates;
+mod jobs;
 mod list_faults;
 mod node_faults;
 mod prefixes;
@@ -16,6 +18,7 @@ mod symmetries;
 mod walks;
 
 pub use checks::{check, one_answer, second_form_has_the_same_answers, tree_fault};
+pub use crew_checks::{check_question, check_with};
 pub use faults::{Answer, Fault, NodeFault, Path, TreeFault};
 pub use forks::forked_tree_fault;
 pub use gates::{Gate, Open};

@@ -1,12 +1,12 @@
 //! Questions in which all is right but perhaps the trees.
 
-use cert_tree::FlatLemma;
-use crate::checks::lemma_fault;
 use crate::faults::{Answer, Fault, TreeFault};
 use crate::forks::Forker;
 use crate::gates::Gate;
 use crate::questions::Question;
 use crate::settings::Setting;
+use crate::walks::lemma_fault;
+use cert_tree::FlatLemma;
 use match_puzzle::Partial;
 use puzzle_symmetry::Symmetry;
 use std::alloc::{AllocError, Global};

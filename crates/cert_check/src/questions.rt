@@ -14,7 +14,7 @@ use std::marker::Model;
 
 /// Whether the certificate shows that the list, with the images of its members under the named symmetries, has each
 /// arrangement of the puzzle, and none twice in the list itself.
-#[derive(Drop)]
+#[derive(Clone, Copy)]
 pub struct Question<'a> {
     puzzle: &'a Puzzle,
     listed: &'a [Arrangement],
@@ -154,8 +154,7 @@ impl<'a> Question<'a> {
         }
         // It says that the puzzle is one.
         let _ = puzzle.board();
-        let question = Question::new(puzzle, self.listed, self.certificate);
-        Ok(Ok(Prepared::new(question, symmetries)))
+        Ok(Ok(Prepared::new(*self, symmetries)))
     }
 
     /// The answer, found on one thread and on one board for all lemmas. The gate is told of each lemma before its tree

@@ -2,15 +2,18 @@
 
 ghost use Rattle.std.specs.Prelude.{◌≡◌, ◌≢◌, ◌<◌, ◌≤◌, ◌^◌, ℕ, List, IfOk, MatchBool, MatchOption, None, length};
 ghost use Rattle.std.specs.Option.{option_map};
-ghost use Rattle.match_puzzle.specs.Prefix.{Prefix};
+ghost use Rattle.match_puzzle.specs.Prefix.{Prefix, empty_prefix};
+ghost use Rattle.match_puzzle.specs.PrefixFaults.{IsPairList};
+ghost use Rattle.cert_tree.specs.Certificate.{flat_piece};
 ghost use Rattle.cert_tree.specs.Tree.{branch, count, none};
 ghost use Rattle.cert_tree.specs.Heads.{first, front, past};
+ghost use Rattle.cert_check.specs.Derivation.{start_of};
 ghost use Rattle.cert_check.specs.Walk.{Tells, IsAtTop, below};
 
-use cert_tree::{Head, Trees};
 use crate::faults::{NodeFault, Path, TreeFault};
 use crate::node_faults::{branch_fault, dead_fault, found_fault, image_fault, same_fault};
 use crate::settings::Setting;
+use cert_tree::{FlatLemma, Head, Trees};
 use match_puzzle::{FittingPairs, Item, Partial};
 use std::alloc::{AllocError, Global};
 
@@ -121,4 +124,28 @@ fn put_below(number: u16, fault: &mut Option<TreeFault>) -> Result<(), AllocErro
         *fault = Some(of_child.below(number)?);
     }
     Ok(())
+}
+
+// The first fault of the lemma's tree in what it may name, or none where it holds, walked where nothing is placed before,
+// and after it if it has no fault.
+pub(crate) fn lemma_fault(
+    alloc: Global,
+    setting: &Setting<'_>,
+    lemma: &FlatLemma<'_>,
+    partial: &mut Partial<'_>,
+) -> Result<Option<TreeFault>, AllocError>
+    requires prefix { IsPairList setting.now.puzzle lemma.now.prefix.now }
+    requires empty { partial.old ≡ record { puzzle = setting.now.puzzle; placed = empty_prefix setting.now.puzzle } }
+    ensures tells { IfOk result
+        (Tells setting.now lemma.now.tree (start_of setting.now.puzzle (flat_piece lemma.now))) }
+    ensures restored { IfOk result (λ fault. fault ≡ None → partial.new ≡ partial.old) }
+{
+    let pairs = lemma.prefix;
+    partial.place_all(pairs);
+    let mut trees = lemma.tree.trees();
+    let mut fault = None;
+    if walk(alloc, setting, &mut trees, partial, &mut fault)? {
+        partial.lift_all(pairs);
+    }
+    Ok(fault)
 }

@@ -7,9 +7,9 @@ ghost use Rattle.cert_text.specs.CertificateText.{CertificateGives, certificate_
 ghost use Rattle.cert_text.specs.Lines.{said_of};
 ghost use Rattle.cert_text.specs.Parts.{AreRead, IsCutOf, cut_says, left_at, part_says, parts_say};
 
-use cert_tree::{Certificate, Lemmas};
 use crate::faults::CertTextFault;
 use crate::readers::{Beginning, CertificateLines, made, read_beginning, read_lemmas};
+use cert_tree::{Certificate, Lemmas};
 use match_limits::{MOST_LEMMAS, ranges_of};
 use std::alloc::{AllocError, Global};
 use text_words::{ReadFault, Scan};

@@ -17,10 +17,10 @@ ghost use Rattle.cert_text.specs.CertificateText.{CertificateGives, Makes};
 ghost use Rattle.cert_text.specs.Writing.{said_by};
 ghost use Rattle.cert_text.specs.CertificateSpelling.{lemma_spelling, certificate_spelling, IsCertificateWithin};
 
-use cert_tree::{Certificate, FlatLemma, Head, Lemma, LemmaSpan, Lemmas, assemble_flat};
 use crate::entries::{cell_images, colour_images, prefix, tile_images};
 use crate::faults::{CertTextFault, LemmaTextFault};
 use crate::tree_readers::tree;
+use cert_tree::{Certificate, FlatLemma, Head, Lemma, LemmaSpan, Lemmas, assemble_flat};
 use match_limits::{LAST_LEMMA, LAST_SIDE, MOST_CELLS, MOST_LEMMAS, MOST_SYMMETRIES, Ranges, SECOND, ranges_of};
 use match_puzzle::Pair;
 use puzzle_symmetry::{Images, SymmetryLine};

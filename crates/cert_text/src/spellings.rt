@@ -14,8 +14,8 @@ ghost use Rattle.cert_text.specs.CertificateSpelling.{front_spelling, lemma_line
 ghost use Rattle.cert_text.specs.CertificateSpelling.{AreColourImagesWithin, IsCertificateWithin};
 ghost use Rattle.cert_text.specs.Writing.{said_by};
 
-use cert_tree::{Certificate, FlatLemma, Head, Lemma, Lemmas, PackedLemma};
 use crate::limits::first_version;
+use cert_tree::{Certificate, FlatLemma, Head, Lemma, Lemmas, PackedLemma};
 use match_limits::{MOST_CELLS, MOST_COLOURS};
 use match_puzzle::Pair;
 use puzzle_symmetry::SymmetryLine;

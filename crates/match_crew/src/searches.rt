@@ -9,11 +9,11 @@ ghost use Rattle.match_limits.specs.declared.TheConstants.{MOST_CELLS, MOST_LEVE
 ghost use Rattle.cert_tree.specs.Limits.{IsLemmaWithin, IsTreeWithin};
 ghost use Rattle.match_crew.specs.Solving.{IsOutcomeOf, IsTreeWithinWith};
 
-use cert_tree::{PackedLemma, PackedTree};
 use crate::branches::{OpenBranch, fit_in_turn, rising_by_cell};
 use crate::shared::Shared;
 use crate::strategy::choices::Choices;
 use crate::watches::{Counted, Met, Watch};
+use cert_tree::{PackedLemma, PackedTree};
 use match_limits::{MOST_ARRANGEMENTS, MOST_FUEL};
 use match_puzzle::{Arrangement, Pair};
 use piece_desk::{FlatDesk, FlatReceipt};

@@ -12,8 +12,6 @@ ghost use Rattle.piece_desk.specs.FlatDesks.{IsOfFlat};
 ghost use Rattle.xcc_form.specs.Options.{HasTooManyEntries};
 ghost use Rattle.match_crew.specs.Solving.{IsOutcomeOf, IsSearchedBy, IsSolvedBy};
 
-use cert_tree::{AssembleFault, Certificate};
-use check_crew::within_limits_with;
 use crate::branches::OpenBranch;
 use crate::faults::SolveFault;
 use crate::searches::{Searched, Searches};
@@ -22,6 +20,7 @@ use crate::strategy::items::ItemRule;
 use crate::strategy::plans::Planner;
 use crate::strategy::roots::plan_by_dives;
 use crate::watches::{Unwatched, Watch};
+use cert_tree::{AssembleFault, Certificate};
 use match_limits::{MOST_ARRANGEMENTS, MOST_LEMMAS};
 use match_puzzle::{Arrangement, Puzzle};
 use match_symmetry::suggest;
@@ -33,6 +32,7 @@ use std::sync::Wait;
 use std::sync::atomic::{AtomicBool, AtomicU64};
 use std::thread::Threads;
 use steal_crew::{Crew, run_live};
+use text_crew::within_limits_with;
 use xcc_form::{Xcc, compile};
 
 /// Arrangements of a puzzle, with a certificate, and who took which lemma: for each worker the numbers of those that it

@@ -15,13 +15,13 @@ ghost use Rattle.cert_check.specs.declared.faults.Fault.TheVariants as faults;
 ghost use Rattle.match_explain.specs.Explanation.{NamesFitting, NamesLemma, NamesWhatFits, TellsOfNode};
 ghost use Rattle.match_explain.specs.Explanation.{miscounted_item};
 
-use cert_check::{NodeFault, Question, TreeFault};
-use cert_text::put_pair;
-use cert_tree::Head;
 use crate::findings::finding_of;
 use crate::node_sentences::Node;
 use crate::places::LemmaLine;
 use crate::scenes::Scene;
+use cert_check::{NodeFault, Question, TreeFault};
+use cert_text::put_pair;
+use cert_tree::Head;
 use match_puzzle::{FittingPairs, Item, Partial};
 use match_show::write_drawing;
 use std::alloc::{AllocError, Global};

@@ -5,10 +5,10 @@ ghost use Rattle.cert_tree.specs.Heads.{first, put};
 ghost use Rattle.cert_tree.specs.Tree.{Forest};
 ghost use Rattle.match_explain.specs.Explanation.{MarksNode};
 
-use cert_check::{NodeFault, Question};
-use cert_tree::Head;
 use crate::cited_pairs::{missing_image_sentence, missing_sentence};
 use crate::differences::{Difference, first_difference, first_empty, place_in};
+use cert_check::{NodeFault, Question};
+use cert_tree::Head;
 use match_puzzle::{Partial, Placement};
 use std::alloc::{AllocError, Global};
 

@@ -1,9 +1,9 @@
 //! What is wrong with the text of a list or of a certificate, in one line.
 
-use cert_text::{CertTextFault, LemmaLines, read_lemma_lines};
-use cert_tree::AssembleFault;
 use crate::documents::Document;
 use crate::text_hints::text_hint;
+use cert_text::{CertTextFault, LemmaLines, read_lemma_lines};
+use cert_tree::AssembleFault;
 use match_limits::MOST_BYTES;
 use match_text::ListTextFault;
 use std::alloc::{AllocError, Global};

@@ -1,6 +1,6 @@
 //! How far a check, a solve or a count is, told on standard error.
 
-use check_crew::Gate;
+use cert_check::Gate;
 use match_census::CensusWatch;
 use match_crew::{SolveFault, Watch};
 use match_limits::MOST_BYTES;

@@ -1,17 +1,16 @@
 -- What a puzzle asks.
-use Rattle.std.specs.Prelude.{◌≡◌, ◌<◌, ◌^◌, ℕ, Bool, true, List, [], Option, Some, MatchBool, All, map, length}
-use Rattle.std.specs.Prelude.{slice_get, slice_index_or}
+use Rattle.std.specs.Prelude.{◌≡◌, ◌<◌, ℕ, Bool, true, List, [], MatchBool, All, map, length, slice_index_or}
 use Rattle.match_limits.specs.declared.TheConstants.{MOST_COLOURS}
-use Rattle.match_board.specs.Board.{cell_count, side_count, IsBoard, IsShape, IsBorderPair, IsBorderOrder}
+use Rattle.match_board.specs.Board.{cell_count, side_count, IsBoard, IsShape, IsBorderPair}
 use Rattle.match_board.specs.Board.{second_figure}
 use Rattle.match_board.specs.declared.figures.Figure.{Figure}
 use Rattle.match_board.specs.declared.figures.Figure.TheVariants.{Rectangle, Triangle, Hexagon, Shape}
 use Rattle.match_board.specs.Turns.{shown, IsPeriod}
 use Rattle.match_board.specs.Tile.{word}
 use Rattle.match_board.specs.declared.tiles.Tile.{Tile}
+use Rattle.match_board.specs.Borders.{BorderRule, rule_of, Asks, StandsInRule, IsAsLongAsBorder}
 use Rattle.match_board.specs.Mates.{Mating, IsMating, mate_in, unmated, mated}
 use Rattle.match_board.specs.declared.borders.Border.{Border}
-use Rattle.match_board.specs.declared.borders.Border.TheVariants.{Free, One, Each}
 use Rattle.match_puzzle.specs.declared.placements.Placement.{Placement}
 
 -- a puzzle: its board, whether tiles may be turned, what the border asks, the mates of colours, and the tiles' words

@@ -1,9 +1,9 @@
 -- What may be wrong with a puzzle.
-use Rattle.std.specs.Prelude.{◌≡◌, ◌≢◌, ◌⊎◌, ◌<◌, ◌≤◌, ℕ, false, List, length}
+use Rattle.std.specs.Prelude.{◌≡◌, ◌≢◌, ◌<◌, ◌≤◌, ℕ, false, length}
 use Rattle.match_limits.specs.declared.TheConstants.{MOST_COLOURS}
 use Rattle.match_board.specs.Board.{cell_count, side_count}
 use Rattle.match_limits.specs.First.{Rank, rank_by, rank_by_two}
-use Rattle.match_board.specs.Mates.{mate_in}
+use Rattle.match_board.specs.Mates.{BreaksMatesAt}
 use Rattle.match_puzzle.specs.Puzzle.{Task, word_of}
 use Rattle.match_board.specs.Borders.{StandsInRule, IsAsLongAsBorder}
 use Rattle.match_puzzle.specs.declared.faults.PuzzleFault.{PuzzleFault}

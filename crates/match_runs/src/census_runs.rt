@@ -16,11 +16,11 @@ ghost use Rattle.match_runs.specs.Census.{CensusFails, CensusGives, IsNotCounted
 ghost use Rattle.match_runs.specs.Census.{part_word, split_line};
 ghost use Rattle.match_runs.specs.Runs.{MadeOf, Runs, unhinted};
 
-use byte_streams::{Document, MadeText, OneSink, OneSource, Sink, Source, Text};
-use command_words::{Extent, Part};
 use crate::faults::RunFault;
 use crate::hints::{HintedFault, hint_on, with_hint};
 use crate::running::run_by;
+use byte_streams::{Document, MadeText, OneSink, OneSource, Sink, Source, Text};
+use command_words::{Extent, Part};
 use itoa::Buffer;
 use match_census::{Branch, CensusWatch, Count, count_arrangements, count_with_crew, hash_of, part_of, split};
 use match_crew::SolveFault;

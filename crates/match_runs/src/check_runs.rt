@@ -8,13 +8,13 @@ ghost use Rattle.byte_streams.specs.Targets.{one_sink};
 ghost use Rattle.match_runs.specs.Checking.{CheckFails, CheckGives};
 ghost use Rattle.match_runs.specs.Runs.{MadeOf, Runs, unhinted};
 
-use byte_streams::{Documents, Inputs, JoinedSource, MadeText, OneSink, Outputs, OwnedDocuments, Sink, Source, ThreeSources};
 use crate::faults::RunFault;
 use crate::hints::{HintedFault, hint_of, with_hint, without_hint};
 use crate::questions::read_question_with;
 use crate::running::run_by;
 use crate::statuses::Status;
 use crate::watches::{CheckWatch, Watched};
+use byte_streams::{Documents, Inputs, JoinedSource, MadeText, OneSink, Outputs, OwnedDocuments, Sink, Source, ThreeSources};
 use match_crew::{Open, check_with};
 use match_limits::{Forks, Workers};
 use match_report::write_answer;

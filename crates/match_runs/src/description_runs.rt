@@ -11,11 +11,11 @@ ghost use Rattle.match_runs.specs.Describing.{CountsOptions, Describes, IsBoardT
 ghost use Rattle.match_runs.specs.Describing.{options_text};
 ghost use Rattle.match_runs.specs.Runs.{MadeOf, Runs, unhinted};
 
-use byte_streams::{Document, MadeText, OneSink, OneSource, Sink, Source, Text};
-use cert_text::write_symmetries;
 use crate::faults::{RunFault, words_line};
 use crate::hints::{HintedFault, hint_on, with_hint};
 use crate::running::run_by;
+use byte_streams::{Document, MadeText, OneSink, OneSource, Sink, Source, Text};
+use cert_text::write_symmetries;
 use match_limits::MOST_ENTRIES;
 use match_picture::write_puzzle_picture;
 use match_puzzle::{Partial, Puzzle};

@@ -9,10 +9,10 @@ ghost use Rattle.match_runs.specs.Pictures.{DrawsPicture, IsFirstWrong, IsNotDra
 ghost use Rattle.match_runs.specs.Pictures.{PictureFails, to_be_drawn};
 ghost use Rattle.match_runs.specs.Runs.{MadeOf, Runs, unhinted};
 
-use byte_streams::{MadeText, OneSink, Sink, Source, TwoSources, TwoTexts};
 use crate::faults::RunFault;
 use crate::hints::{HintedFault, hint_on, with_hint};
 use crate::running::run_by;
+use byte_streams::{MadeText, OneSink, Sink, Source, TwoSources, TwoTexts};
 use match_limits::{ArrangementNumber, Drawn};
 use match_picture::{write_arrangement_picture, write_sheet};
 use match_puzzle::{Arrangement, ArrangementFault, Puzzle};

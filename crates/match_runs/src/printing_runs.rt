@@ -13,20 +13,16 @@ ghost use Rattle.byte_streams.specs.Moves.{reading_of, writing_of};
 ghost use Rattle.byte_streams.specs.Origins.{three_sources};
 ghost use Rattle.byte_streams.specs.Targets.{one_sink};
 ghost use Rattle.match_runs.specs.Printing.{AreAllInOrder, AreFirstsOf, CompleteFails, IsCountOf, Prints, count_text};
-ghost use Rattle.check_crew.specs.Texts.{IsListText};
+ghost use Rattle.text_crew.specs.Texts.{IsListText};
 ghost use Rattle.match_runs.specs.Printing.{PrintingFails, PrintingGives};
 ghost use Rattle.match_runs.specs.Runs.{MadeOf, Runs, unhinted};
 
 use crate::faults::RunFault;
 use crate::hints::{HintedFault, hint_of, with_hint, without_hint};
 use crate::questions::read_question;
-use crate::random_fold::RandomFold;
-use crate::repetitions::distinct_symmetries;
 use crate::running::run_by;
 use crate::statuses::Status;
-use byte_streams::{
-    Documents, Inputs, MadeText, OneSink, Outputs, OwnedDocuments, Sink, Source, ThreeSources,
-};
+use byte_streams::{Documents, Inputs, MadeText, OneSink, Outputs, OwnedDocuments, Sink, Source, ThreeSources};
 use cert_check::{Answer, Fault, Open, Prepared, Question};
 use match_explain::write_explanation;
 use match_report::{expand, write_answer};

@@ -11,13 +11,13 @@ ghost use Rattle.byte_streams.specs.declared.faults.Document.TheVariants as docu
 ghost use Rattle.match_runs.specs.Runs.{MadeOf, Runs, unhinted};
 ghost use Rattle.match_runs.specs.Solving.{SolveFails, SolveGives, first_board, report_text, shares_of};
 
-use byte_streams::{Document, Inputs, MadeText, OneSource, Outputs, Products, Sink, Source, Text, ThreeSinks};
-use cert_tree::Certificate;
 use crate::advice::solve_hint;
 use crate::faults::RunFault;
 use crate::hints::{HintedFault, with_hint, without_hint};
 use crate::running::run_by;
 use crate::watches::{SolveWatch, Watched};
+use byte_streams::{Document, Inputs, MadeText, OneSource, Outputs, Products, Sink, Source, Text, ThreeSinks};
+use cert_tree::Certificate;
 use match_crew::{Solved, Unwatched, solve_watched, write_texts_with};
 use match_limits::{Depth, Fuel, MOST_WORKERS, Workers};
 use match_puzzle::{Arrangement, Puzzle};

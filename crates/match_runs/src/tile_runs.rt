@@ -10,9 +10,9 @@ ghost use Rattle.byte_streams.specs.Targets.{one_sink};
 ghost use Rattle.match_runs.specs.Runs.{MadeOf, Runs};
 ghost use Rattle.match_runs.specs.Tiles.{TileLinesGive, TilesFail, TilesGive};
 
-use byte_streams::{MadeText, NoSource, OneSink, Sink};
 use crate::faults::RunFault;
 use crate::running::run_by;
+use byte_streams::{MadeText, NoSource, OneSink, Sink};
 use match_board::{Tile, all_tiles};
 use match_limits::{Colours, Sides};
 use match_text::write_tiles;

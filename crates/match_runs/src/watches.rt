@@ -1,6 +1,6 @@
 //! What is told of a check or a solve while it runs.
 
-use check_crew::{Gate, Open};
+use cert_check::{Gate, Open};
 use match_crew::{Unwatched, Watch};
 
 /// What is to be done, who is told of it while it runs, and whether a hint is wanted beside the fault of a text.

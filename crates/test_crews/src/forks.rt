@@ -2,9 +2,9 @@
 
 ghost use Rattle.std.specs.Prelude.{◌≤◌};
 
+use crate::meetings::Meeting;
 use cert_check::{Answer, NodeFault, Question, TreeFault, forked_tree_fault};
 use cert_text::read_certificate;
-use crate::meetings::Meeting;
 use match_crew::{Gate, check_with, solve_with};
 use match_limits::MOST_FORKS;
 use match_text::read_puzzle;

@@ -1,7 +1,7 @@
 //! Checks over readers and a writer that fail, or that move little at once, and of files whose texts are known.
 
-use byte_streams::Fake;
 use crate::outcomes::with_memory;
+use byte_streams::Fake;
 use match_limits::{Forks, Workers};
 use match_runs::{Document, Documents, RunFault, Status, run_check, run_joined};
 use std::alloc::{AllocError, Global};

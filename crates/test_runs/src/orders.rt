@@ -3,11 +3,11 @@
 ghost use Rattle.std.specs.Prelude.{◌≡◌, IfOk};
 ghost use Rattle.match_runs.specs.Checking.{SpellCompleteList};
 
-use byte_streams::Fake;
-use command_words::{Files, Order};
 use crate::checks::TWINS;
 use crate::files::HeldFiles;
 use crate::outcomes::with_memory;
+use byte_streams::Fake;
+use command_words::{Files, Order};
 use match_crew::SolveFault;
 use match_limits::{Forks, Workers};
 use match_program::{Exit, HintedFault, Streams, run_order};

@@ -1,8 +1,8 @@
 //! Solves whose readers and writers fail, and runs that may want memory.
 
-use byte_streams::Fake;
 use crate::checks::{NEVER, SQUARE, TRIANGLE, TWINS, check_over};
 use crate::outcomes::with_memory;
+use byte_streams::Fake;
 use match_limits::{Depth, Fuel, Workers};
 use match_runs::{Document, Documents, RunFault, Status, run_expand, run_solve};
 use std::alloc::Global;

@@ -8,7 +8,6 @@ ghost use Rattle.match_fits.specs.Placing.{FitInTurn};
 ghost use Rattle.xcc_dance.specs.Outcome.{IsOutcome, IsPackedOutcome, IsPackedSearchOf, IsSearchOf};
 ghost use Rattle.xcc_dance.specs.SearchTree.{picks_fewest};
 
-use cert_tree::{Node, PackedTree};
 use crate::chooses::{Chooses, FewestOptions};
 use crate::cites::Cites;
 use crate::faults::SearchFault;
@@ -17,6 +16,7 @@ use crate::open_options::OpenOptions;
 use crate::paths::SearchPath;
 use crate::progress::Progress;
 use crate::searching::walk;
+use cert_tree::{Node, PackedTree};
 use match_limits::MOST_FUEL;
 use match_puzzle::{Arrangement, Pair};
 use std::alloc::{AllocError, Global};

@@ -12,12 +12,12 @@ ghost use Rattle.xcc_dance.specs.Progress.{GoesOn, IsTreeOf, AreTreesOf, PutsTre
 ghost use Rattle.xcc_dance.specs.SearchTree.{IsSearchTree, IsChild, AreBranchesOf};
 ghost use Rattle.xcc_dance.specs.Unfinished.{IsNotCited, IsUnfinished, AreUnfinished};
 
-use cert_tree::Head;
 use crate::chooses::Chooses;
 use crate::cites::{Cite, Cites};
 use crate::open_options::OpenOptions;
 use crate::paths::SearchPath;
 use crate::progress::Progress;
+use cert_tree::Head;
 use match_limits::{MOST_CELLS, MOST_CHILDREN};
 use match_puzzle::Item;
 use std::alloc::{AllocError, Global};

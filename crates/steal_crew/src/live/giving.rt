@@ -5,10 +5,10 @@ ghost use Rattle.steal_crew.specs.Tickets.{drawn, source_of, limit_of, is_out};
 ghost use Rattle.steal_crew.specs.LiveQueue.{numbered_job, job_numbers};
 ghost use Rattle.steal_crew.specs.LiveHands.{Gave};
 
-use match_limits::MOST_LEMMAS;
 use super::hands::Hand;
 use super::jobs::NumberedJob;
 use super::limits::MOST_GIVEN;
+use match_limits::MOST_LEMMAS;
 
 impl<'a, J: Drop> Hand<'a, J> {
     /// Draws the next number for the job, answers it, and puts both at the end of the list. The job comes back, and

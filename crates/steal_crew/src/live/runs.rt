@@ -8,11 +8,6 @@ ghost use Rattle.steal_crew.specs.LiveWorkers.{BelongsToSome, AreDoneBy, BelongF
 
 use crate::crews::Crew;
 use crate::tickets::{TicketSeat, Tickets};
-use match_limits::{MOST_LEMMAS, MOST_WORKERS};
-use std::alloc::{AllocError, Global};
-use std::sync::Wait;
-use std::sync::atomic::AtomicU64;
-use std::thread::Threads;
 use super::crews::{stations, work_together};
 use super::gathering::{Brought, collect};
 use super::hands::{Hand, LiveWorker};
@@ -21,6 +16,11 @@ use super::limits::MOST_GIVEN;
 use super::publishing::publish;
 use super::working::{put_all, work_on};
 use super::works::LiveWork;
+use match_limits::{MOST_LEMMAS, MOST_WORKERS};
+use std::alloc::{AllocError, Global};
+use std::sync::Wait;
+use std::sync::atomic::AtomicU64;
+use std::thread::Threads;
 
 // What was done with the numbers of one source: the first result, the caller's others and those of each other worker,
 // and all seats.

@@ -6,11 +6,11 @@ ghost use Rattle.steal_crew.specs.Counts.{total, times, once_below};
 ghost use Rattle.steal_crew.specs.Tickets.{source_of, limit_of, seats_of, seat_source, drawn, is_out, IsFresh};
 ghost use Rattle.steal_crew.specs.Tickets.{source_drawn, all_drawn};
 
+use super::rules::{Draws, Looks, Parts};
+use super::seats::{AllDrawn, TicketSeat, Tickets};
 use atomic_table::Table;
 use match_limits::MOST_WORKERS;
 use std::alloc::{AllocError, Global};
-use super::rules::{Draws, Looks, Parts};
-use super::seats::{AllDrawn, TicketSeat, Tickets};
 
 impl Tickets {
     /// A source of the numbers from 0 up to `limit` and without it, which may be 0, and its 1 to 65 seats: one for each

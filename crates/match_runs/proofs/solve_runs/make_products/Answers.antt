@@ -4,7 +4,7 @@ use Rattle.match_puzzle.specs.declared.placements.Placement.{Placement}
 use Rattle.match_text.specs.Puzzles.{PuzzleReads}
 use Rattle.match_puzzle.specs.Arrangement.{AreArrangements}
 use Rattle.match_crew.specs.Solving.{IsSolvedBy}
-use Rattle.check_crew.specs.Texts.{IsCertificateText, IsListText}
+use Rattle.text_crew.specs.Texts.{IsCertificateText, IsListText}
 use Rattle.match_runs.specs.Solving.{report_text}
 use Rattle.match_runs.proofs.solve_runs.make_products.Goals as goal
 

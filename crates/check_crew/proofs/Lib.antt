@@ -1,4 +1,0 @@
-pub mod CutLemmas
-pub mod FindingLemmas
-pub mod PlaceLemmas
-pub mod WritingLemmas

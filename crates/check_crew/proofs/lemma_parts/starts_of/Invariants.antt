@@ -1,5 +1,0 @@
-use Rattle.check_crew.proofs.CutLemmas.{AreFirstStarts}
-use Rattle.check_crew.proofs.lemma_parts.starts_of.Given as goal
-
-abbrev pub invariant-loop-number : goal.invariant-loop-number
-invariant-loop-number l = AreFirstStarts l.number l.starts.items

@@ -1,5 +1,0 @@
-use Rattle.check_crew.proofs.WritingLemmas.{AreFirstWithin}
-use Rattle.check_crew.proofs.limits.are_all.Given as goal
-
-abbrev pub invariant-loop-number : goal.invariant-loop-number
-invariant-loop-number l = AreFirstWithin l._version l._parts.lemmas.now l._parts.starts.items l.number

@@ -1,6 +1,0 @@
-use Rattle.std.proofs.Common.{subst}
-use Rattle.check_crew.specs.LemmaParts.{TellsOfLimits}
-use Rattle.check_crew.proofs.limits.are_lemmas_within.Goals as goal
-
-pub returns-in-None : goal.returns-in-None
-returns-in-None g c = subst (λ n. TellsOfLimits c.args.version c.args.lemmas.now 0 n c.are_lemmas_within_limits.result) c.len.ensures c.are_lemmas_within_limits.ensures

@@ -1,0 +1,2 @@
+pub mod LemmaParts
+pub mod Texts
