@@ -9,3 +9,4 @@ pub mod WordLemmas
 pub mod DigitLemmas
 pub mod ClassLemmas
 pub mod MateLemmas
+pub mod FirstSideLemmas

@@ -3,3 +3,4 @@ pub mod Tile
 pub mod Turns
 pub mod Borders
 pub mod Mates
+pub mod FirstSides

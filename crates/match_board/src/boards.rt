@@ -5,8 +5,8 @@ ghost use Rattle.match_board.specs.Board.{cell_count, side_count, Meets, IsBoard
 ghost use Rattle.match_board.specs.Board.{IsBorderBefore, HasRoom, IsPlain, shape_of, second_figure};
 ghost use Rattle.match_board.specs.declared.figures.Figure.TheVariants.{Rectangle, Triangle, Hexagon};
 
-use crate::shapes;
 use crate::figures::Figure;
+use crate::shapes;
 use match_limits::{MOST_CELLS, MOST_PLACES, MOST_PLAIN_CELLS};
 use std::marker::Model;
 use thiserror::Error;

@@ -12,7 +12,8 @@ use Rattle.match_puzzle.specs.Prefix.{Prefix, IsFree, with_pair}
 use Rattle.match_puzzle.specs.Fitting.{Settles, IsOpen, item_key, numbered_pair}
 use Rattle.match_puzzle.specs.PlacementSets.{AreFreeNumbers, AreShowing, numbered}
 use Rattle.match_fits.specs.FitRows.{StandsBeside}
-use Rattle.match_fits.specs.FitSizes.{AreSizesOf, AreCovered, FitsPair, FitsBeside, count_of_group}
+use Rattle.match_fits.specs.FitSizes.{AreSizesOf, AreCovered, FitsPair, FitsBeside}
+use Rattle.match_limits.specs.NumberSets.{count_of_group}
 use Rattle.match_fits.specs.declared.fit_sizes.TheConstants.{STEP}
 use Rattle.match_puzzle.specs.declared.placements.Pair.{Pair}
 use Rattle.match_puzzle.specs.declared.items.Item.TheVariants.{Cell, Tile}

@@ -8,7 +8,8 @@ use Rattle.match_limits.proofs.Listings.{contains_none, listing_rest, by_key_asy
 use Rattle.match_puzzle.specs.Puzzle.{Task}
 use Rattle.match_puzzle.specs.Prefix.{Prefix, IsFree, IsUnused}
 use Rattle.match_puzzle.specs.Fitting.{Settles, IsOpen, item_key, numbered_pair}
-use Rattle.match_fits.specs.FitSizes.{AreSizesOf, AreCovered, count_of_group}
+use Rattle.match_fits.specs.FitSizes.{AreSizesOf, AreCovered}
+use Rattle.match_limits.specs.NumberSets.{count_of_group}
 use Rattle.match_puzzle.specs.Fitting.{item_place}
 use Rattle.match_fits.specs.declared.fit_sizes.TheConstants.{STEP}
 use Rattle.match_puzzle.specs.declared.items.Item.{Item}

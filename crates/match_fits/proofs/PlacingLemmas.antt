@@ -11,7 +11,8 @@ use Rattle.match_puzzle.specs.Prefix.{Prefix, IsFree, IsUnused, IsPrefix, with_p
 use Rattle.match_puzzle.specs.PlacementSets.{AreFreeNumbers, numbered}
 use Rattle.match_puzzle.specs.Fitting.{Fits, Settles, IsItem, IsOpen, item_key, numbered_pair}
 use Rattle.match_fits.specs.FitRows.{StandsBeside, IsRow, AreRows, AreRowsBeside}
-use Rattle.match_fits.specs.FitSizes.{AreSizes, AreSizesOf, AreCovered, FitsPair, FitsElsewhere, FitsBeside, count_of_group}
+use Rattle.match_fits.specs.FitSizes.{AreSizes, AreSizesOf, AreCovered, FitsPair, FitsElsewhere, FitsBeside}
+use Rattle.match_limits.specs.NumberSets.{count_of_group}
 use Rattle.match_puzzle.specs.Fitting.{item_place}
 use Rattle.match_fits.specs.declared.fit_sizes.TheConstants.{STEP, COVERED}
 use Rattle.match_puzzle.specs.declared.items.Item.{Item}

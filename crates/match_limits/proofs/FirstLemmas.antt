@@ -10,14 +10,6 @@ least_at P n holds none = record {
   least = λ m h. let not_before : (m < n → ⊥) = λ lt. none m lt h in omega (arith, not_before);
 }
 
--- the least pair, by the least second number at the first number that has one
-pub least_pair_at : (P : ℕ → ℕ → Type 0) (n m : ℕ) → IsLeast (P n) m → ((k : ℕ) → k < n → (s : ℕ) → P k s → ⊥) → IsLeastPair P (n, m)
-least_pair_at P n m here none = record {
-  holds = here.holds;
-  first = λ a b h. let not_before : (a < n → ⊥) = λ lt. none a lt b h in omega (arith, not_before);
-  second = λ a b h e. here.least b (subst (λ k. P k b) (sym e) h);
-}
-
 -- an earlier kind
 pub sooner : (a b : Rank) → a.first < b.first → AtMost a b
 sooner a b lt = record { first = omega arith; second = λ e. absurd (omega arith); third = λ e f. absurd (omega arith) }

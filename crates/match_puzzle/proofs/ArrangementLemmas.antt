@@ -10,7 +10,7 @@ use Rattle.match_board.proofs.Places.{against_in_range, Meets-turned}
 use Rattle.match_board.specs.Board.{cell_count, side_count, Meets}
 use Rattle.match_board.specs.declared.figures.Figure.{Figure}
 use Rattle.match_limits.specs.First.{IsLeast, IsLeastPair, AtMost}
-use Rattle.match_puzzle.specs.Puzzle.{Task, IsPuzzle, HasRule, GoTogether, colour_of, mate_of}
+use Rattle.match_puzzle.specs.Puzzle.{Task, IsPuzzle, GoTogether, colour_of, mate_of}
 use Rattle.match_puzzle.specs.Arrangement.{Stands, HaveTiles, AreLegal, StandOnce, ObeyBorder, MatchesEdgeAt, MatchEdges}
 use Rattle.match_puzzle.specs.ArrangementFaults.{ArrangementFails, arrangement_rank, IsArrangementFault, HasNoTileAt, HasNoTurnAt, RepeatsTileAt, BreaksBorderAt, BreaksEdgeAt}
 use Rattle.match_puzzle.specs.Tables.{IsSide}
@@ -191,19 +191,6 @@ module _ (a : List Placement) where
 -- a side that meets another is one of the cell's
 pub side_in_range : {s : Figure} {cell side cell' side' : ℕ} → Meets s cell side cell' side' → side < side_count s
 side_in_range {s} m = against_in_range s _ _ _ _ _ _ m.against
-
--- the least side that breaks the border, for what stands at the cell
-pub border_broken : (p : Task) (a : List Placement) (cell : ℕ) (x : Placement) (side : ℕ) → Stands a cell x →
-    IsLeast (λ side. (colour : ℕ) × HasRule p cell side colour × (colour_of p x side ≢ colour)) side → IsLeast (BreaksBorderAt p a cell) side
-border_broken p a cell x side here least = record {
-  holds = (x, least.holds.0, here, least.holds.1, least.holds.2);
-  least = λ m o. least.least m (o.1, o.3, λ e. o.4 (ap (λ y. colour_of p y m) (inside (sym o.2 ∙ here)) ∙ e));
-}
-
--- the border as asked, for what stands at the cell
-pub border_obeyed : (p : Task) (a : List Placement) (cell : ℕ) (x : Placement) → Stands a cell x → ((side colour : ℕ) → HasRule p cell side colour → colour_of p x side ≡ colour) →
-    (side colour : ℕ) (y : Placement) → Stands a cell y → HasRule p cell side colour → colour_of p y side ≡ colour
-border_obeyed p a cell x here obeyed side colour y there rule = ap (λ z. colour_of p z side) (inside (sym there ∙ here)) ∙ obeyed side colour rule
 
 -- what the table says of a tile
 pub seen_tells : (a : List Placement) (cell tile : ℕ) (seen : List Bool) → tile < MOST_TILES → AreSeen a cell seen → (get_or seen tile false ≡ true → StandsBefore a cell tile) × (get_or seen tile false ≡ false → NotBefore a cell tile)

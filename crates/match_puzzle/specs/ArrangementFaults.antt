@@ -24,6 +24,11 @@ module _ (p : Task) (a : List Placement) where
       (x : Placement) × (cell' : ℕ) × (y : Placement) × Stands a cell x × (cell' < cell) × Stands a cell' y
       × (x.tile ≡ y.tile)
 
+  -- The side shows what the border asks.
+  abbrev pub ObeysBorderAt : (cell side : ℕ) → Type 0
+  ObeysBorderAt cell side =
+      (colour : ℕ) (x : Placement) → Stands a cell x → HasRule p cell side colour → colour_of p x side ≡ colour
+
   -- The side does not show what the border asks.
   abbrev pub BreaksBorderAt : (cell side : ℕ) → Type 0
   BreaksBorderAt cell side =

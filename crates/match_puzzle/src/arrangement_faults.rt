@@ -1,18 +1,19 @@
 //! What is wrong with a list of placements that is no arrangement.
 
-ghost use Rattle.std.specs.Prelude.{◌≡◌, ◌≢◌, ◌<◌, ◌≤◌, ℕ, MatchOption, MatchBool, length};
+ghost use Rattle.std.specs.Prelude.{◌≡◌, ◌<◌, ℕ, MatchOption, MatchBool, length};
 ghost use Rattle.match_board.specs.Board.{cell_count, side_count};
 ghost use Rattle.match_limits.specs.First.{IsLeast, IsLeastPair};
-ghost use Rattle.match_puzzle.specs.Puzzle.{IsPuzzle, IsLegal, HasRule, colour_of};
+ghost use Rattle.match_puzzle.specs.Puzzle.{IsPuzzle};
 ghost use Rattle.match_puzzle.specs.Arrangement.{IsArrangement, MatchesEdgeAt, HaveTiles, AreLegal, StandOnce};
 ghost use Rattle.match_puzzle.specs.Arrangement.{ObeyBorder, MatchEdges};
 ghost use Rattle.match_puzzle.specs.ArrangementFaults.{IsArrangementFault, HasNoTileAt, HasNoTurnAt, RepeatsTileAt};
-ghost use Rattle.match_puzzle.specs.ArrangementFaults.{BreaksBorderAt, BreaksEdgeAt};
+ghost use Rattle.match_puzzle.specs.ArrangementFaults.{ObeysBorderAt, BreaksBorderAt, BreaksEdgeAt};
 
 use crate::faults::ArrangementFault;
 use crate::placements::Placement;
 use crate::puzzles::Puzzle;
 use crate::tables::Side;
+use match_board::first_side;
 use match_limits::MOST_TILES;
 
 impl Puzzle {
@@ -36,10 +37,10 @@ impl Puzzle {
             return Some(ArrangementFault::TileTwice(cell));
         }
         if let Some((cell, side)) = self.broken_border(placements) {
-            return Some(ArrangementFault::BorderBroken(cell, side));
+            return Some(ArrangementFault::BorderBroken(u32::from(cell), u32::from(side)));
         }
         if let Some((cell, side)) = self.broken_edge(placements) {
-            return Some(ArrangementFault::EdgeBroken(cell, side));
+            return Some(ArrangementFault::EdgeBroken(u32::from(cell), u32::from(side)));
         }
         None
     }
@@ -89,84 +90,67 @@ impl Puzzle {
         None
     }
 
-    // The first side that does not show what the border asks, with its cell.
-    fn broken_border(&self, placements: &[Placement]) -> Option<(u32, u32)>
+    // The first side that does not show what the border asks, behind its cell.
+    fn broken_border(&self, placements: &[Placement]) -> Option<(u16, u8)>
         requires long { length placements.now ≡ cell_count self.now.board }
         requires legal { AreLegal self.now placements.now }
         ensures { MatchOption result (ObeyBorder self.now placements.now)
             (IsLeastPair (BreaksBorderAt self.now placements.now)) }
     {
-        for cell in 0..self.board().cells() {
-            if let Some(side) = self.broken_border_at(cell, placements[usize::from(cell)]) {
-                return Some((u32::from(cell), side));
-            }
-        }
-        None
+        first_side(
+            self.board(),
+            |cell: u16, side: u8| -> bool
+                requires cell { cell < cell_count self.now.board }
+                requires side { side < side_count self.now.board }
+                requires long { length placements.now ≡ cell_count self.now.board }
+                requires legal { AreLegal self.now placements.now }
+                ensures { MatchBool result
+                    (BreaksBorderAt self.entry.now placements.entry.now cell side)
+                    (ObeysBorderAt self.entry.now placements.entry.now cell side) }
+            { !self.obeys_border(cell, side, placements) },
+        )
     }
 
-    // The first side of the placement at the cell that does not show what the border asks.
-    fn broken_border_at(&self, cell: u16, placement: Placement) -> Option<u32>
-        requires cell { cell < cell_count self.now.board }
-        requires legal { IsLegal self.now placement }
-        ensures { MatchOption result
-            ((side colour : ℕ) → HasRule self.now cell side colour → colour_of self.now placement side ≡ colour)
-            (IsLeast
-            (λ side. (colour : ℕ) × HasRule self.now cell side colour × (colour_of self.now placement side ≢ colour))) }
-    {
-        for side in 0..self.board().sides() {
-            if !self.obeys_rule(cell, side, placement) {
-                return Some(u32::from(side));
-            }
-        }
-        None
-    }
-
-    // Whether the side of the placement at the cell shows what the border asks.
-    fn obeys_rule(&self, cell: u16, side: u8, placement: Placement) -> bool
+    // Whether the side of what stands at the cell shows what the border asks.
+    fn obeys_border(&self, cell: u16, side: u8, placements: &[Placement]) -> bool
         requires cell { cell < cell_count self.now.board }
         requires side { side < side_count self.now.board }
-        requires legal { IsLegal self.now placement }
-        ensures { MatchBool result
-            ((colour : ℕ) → HasRule self.now cell side colour → colour_of self.now placement side ≡ colour)
-            ((colour : ℕ) × HasRule self.now cell side colour × (colour_of self.now placement side ≢ colour)) }
+        requires long { length placements.now ≡ cell_count self.now.board }
+        requires legal { AreLegal self.now placements.now }
+        ensures { MatchBool result (ObeysBorderAt self.now placements.now cell side)
+            (BreaksBorderAt self.now placements.now cell side) }
     {
         match self.rule(cell, side) {
             None => true,
-            Some(colour) => self.shown(placement)[usize::from(side)] == colour,
+            Some(colour) => {
+                self.shown(placements[usize::from(cell)])[usize::from(side)] == colour
+            }
         }
     }
 
-    // The first side that does not match the one that it meets, with its cell.
-    fn broken_edge(&self, placements: &[Placement]) -> Option<(u32, u32)>
+    // The first side that does not match the one that it meets, behind its cell.
+    fn broken_edge(&self, placements: &[Placement]) -> Option<(u16, u8)>
+        requires puzzle { IsPuzzle self.now }
         requires long { length placements.now ≡ cell_count self.now.board }
         requires legal { AreLegal self.now placements.now }
         ensures { MatchOption result (MatchEdges self.now placements.now)
             (IsLeastPair (BreaksEdgeAt self.now placements.now)) }
     {
-        for cell in 0..self.board().cells() {
-            if let Some(side) = self.broken_edge_at(cell, placements) {
-                return Some((u32::from(cell), side));
-            }
-        }
-        None
-    }
-
-    // The first side of the cell that does not match the one that it meets.
-    fn broken_edge_at(&self, cell: u16, placements: &[Placement]) -> Option<u32>
-        requires cell { cell < cell_count self.now.board }
-        requires long { length placements.now ≡ cell_count self.now.board }
-        requires legal { AreLegal self.now placements.now }
-        requires before { (other side : ℕ) → other < cell → MatchesEdgeAt self.now placements.now other side }
-        ensures { MatchOption result
-            ((side : ℕ) → MatchesEdgeAt self.now placements.now cell side)
-            (IsLeast (BreaksEdgeAt self.now placements.now cell)) }
-    {
-        for side in 0..self.board().sides() {
-            if !self.matches_edge(cell, side, placements) {
-                return Some(u32::from(side));
-            }
-        }
-        None
+        first_side(
+            self.board(),
+            |cell: u16, side: u8| -> bool
+                requires puzzle { IsPuzzle self.now }
+                requires cell { cell < cell_count self.now.board }
+                requires side { side < side_count self.now.board }
+                requires long { length placements.now ≡ cell_count self.now.board }
+                requires legal { AreLegal self.now placements.now }
+                requires before { (other side : ℕ) → other < cell → side < side_count self.now.board
+                    → MatchesEdgeAt self.now placements.now other side }
+                ensures { MatchBool result
+                    (BreaksEdgeAt self.entry.now placements.entry.now cell side)
+                    (MatchesEdgeAt self.entry.now placements.entry.now cell side) }
+            { !self.matches_edge(cell, side, placements) },
+        )
     }
 
     // Whether the side of the cell matches the side that it meets. A cell before it has shown so already.
@@ -176,7 +160,8 @@ impl Puzzle {
         requires side { side < side_count self.now.board }
         requires long { length placements.now ≡ cell_count self.now.board }
         requires legal { AreLegal self.now placements.now }
-        requires before { (other side : ℕ) → other < cell → MatchesEdgeAt self.now placements.now other side }
+        requires before { (other side : ℕ) → other < cell → side < side_count self.now.board
+            → MatchesEdgeAt self.now placements.now other side }
         ensures { MatchBool result (MatchesEdgeAt self.now placements.now cell side)
             (BreaksEdgeAt self.now placements.now cell side) }
     {

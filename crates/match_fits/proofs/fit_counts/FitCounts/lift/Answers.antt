@@ -4,7 +4,7 @@ use Rattle.match_board.specs.Board.{cell_count}
 use Rattle.match_puzzle.specs.Prefix.{Layout, without_cell}
 use Rattle.match_fits.specs.FitRows.{AreRows, AreRowsElsewhere}
 use Rattle.match_fits.specs.FitSizes.{AreKeptBeside}
-use Rattle.match_puzzle.proofs.KeptCountLemmas.{last_stands, last_in, saved_long, rows_elsewhere, kept_popped}
+use Rattle.match_fits.proofs.KeptCountLemmas.{last_stands, last_in, saved_long, rows_elsewhere, kept_popped}
 use Rattle.match_fits.proofs.fit_counts.FitCounts.lift.Goals as goal
 use Rattle.match_fits.proofs.fit_counts.FitCounts.lift.Goals.{In-Some}
 

@@ -3,7 +3,7 @@ use Rattle.match_puzzle.specs.Prefix.{Layout, with_pair}
 use Rattle.match_puzzle.specs.Fitting.{Fits}
 use Rattle.match_fits.specs.Placing.{Placing, placed_by}
 use Rattle.match_fits.specs.FitSizes.{AreKeptBeside}
-use Rattle.match_puzzle.proofs.KeptCountLemmas.{kept_pushed}
+use Rattle.match_fits.proofs.KeptCountLemmas.{kept_pushed}
 use Rattle.match_fits.proofs.fit_counts.FitCounts.place.Goals as goal
 
 pub invariant_of-self-2 : goal.invariant_of-self-2

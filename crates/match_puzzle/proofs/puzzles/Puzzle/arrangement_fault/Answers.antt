@@ -18,13 +18,13 @@ returns-in-Some-repeated_tile c = let p = c.args.self.now in let a = c.args.plac
 
 pub returns-in-Some-broken_border : goal.returns-in-Some-broken_border
 returns-in-Some-broken_border c = let p = c.args.self.now in let a = c.args.placements.now in
-    first_border p a (c.if-placements-from.false ∙ c.from.ensures ∙ c.cells.ensures.count ∙ ap cell_count c.board.ensures.value) (no_range p a c.in_default.ensures) (no_turn p a c.in_default-turn_out_of_range.ensures) (no_twice p a c.in_default-repeated_tile.ensures)
-    c.in-Some-broken_border.cell c.in-Some-broken_border.side c.in-Some-broken_border.ensures
+    rw (c.from-in-Some-broken_border.ensures, c.from-in-Some-broken_border-2.ensures) (first_border p a (c.if-placements-from.false ∙ c.from.ensures ∙ c.cells.ensures.count ∙ ap cell_count c.board.ensures.value) (no_range p a c.in_default.ensures) (no_turn p a c.in_default-turn_out_of_range.ensures) (no_twice p a c.in_default-repeated_tile.ensures)
+    c.in-Some-broken_border.cell c.in-Some-broken_border.side c.in-Some-broken_border.ensures)
 
 pub returns-in-Some-broken_edge : goal.returns-in-Some-broken_edge
 returns-in-Some-broken_edge c = let p = c.args.self.now in let a = c.args.placements.now in
-    first_edge p a (c.if-placements-from.false ∙ c.from.ensures ∙ c.cells.ensures.count ∙ ap cell_count c.board.ensures.value) (no_range p a c.in_default.ensures) (no_turn p a c.in_default-turn_out_of_range.ensures) (no_twice p a c.in_default-repeated_tile.ensures) (no_border p a c.in_default-broken_border.ensures)
-    c.in-Some-broken_edge.cell c.in-Some-broken_edge.side c.in-Some-broken_edge.ensures
+    rw (c.from-in-Some-broken_edge.ensures, c.from-in-Some-broken_edge-2.ensures) (first_edge p a (c.if-placements-from.false ∙ c.from.ensures ∙ c.cells.ensures.count ∙ ap cell_count c.board.ensures.value) (no_range p a c.in_default.ensures) (no_turn p a c.in_default-turn_out_of_range.ensures) (no_twice p a c.in_default-repeated_tile.ensures) (no_border p a c.in_default-broken_border.ensures)
+    c.in-Some-broken_edge.cell c.in-Some-broken_edge.side c.in-Some-broken_edge.ensures)
 
 pub returns : goal.returns
 returns c =

@@ -1,29 +1,18 @@
-use Rattle.std.proofs.Common.{◌≡◌, ℕ, below_more, arith, ap}
-use Rattle.match_board.specs.Board.{cell_count}
-use Rattle.match_puzzle.specs.Puzzle.{HasRule, colour_of}
-use Rattle.match_puzzle.specs.Arrangement.{Stands}
-use Rattle.match_puzzle.specs.ArrangementFaults.{BreaksBorderAt}
-use Rattle.match_puzzle.specs.declared.placements.Placement.{Placement}
-use Rattle.match_limits.proofs.FirstLemmas.{least_pair_at}
-use Rattle.match_puzzle.proofs.ArrangementLemmas.{read_stands, border_broken, border_obeyed}
+use Rattle.std.proofs.Common.{arith, ap}
+use Rattle.std.proofs.lemmas.Option.{slice_get_within}
+use Rattle.match_board.specs.Board.{cell_count, side_count}
+use Rattle.match_board.proofs.FirstSideLemmas.{least_side_told}
+use Rattle.match_puzzle.specs.ArrangementFaults.{ObeysBorderAt, BreaksBorderAt}
 use Rattle.match_puzzle.proofs.puzzles.Puzzle.broken_border.Goals as goal
 
-abbrev first_tile : Placement
-first_tile = record { tile = 0; turn = 0 }
+pub first_side-requires : goal.first_side-requires
+first_side-requires c = λ cell side cell_in side_in passed.
+    (omega (arith, cell_in, ap cell_count c.board.ensures.value), (omega (arith, side_in, ap side_count c.board.ensures.value), (c.requires.long, c.requires.legal)))
 
-pub broken_border_at-requires-clause-legal : goal.broken_border_at-requires-clause-legal
-broken_border_at-requires-clause-legal c = rw c.from.ensures (c.requires.legal c.loop-cell.cell _ (read_stands c.args.placements.now c.loop-cell.cell first_tile (omega (arith, c.requires.long, c.loop-cell-test.true, c.cells-cell-end.ensures.count, ap cell_count c.board.ensures.value))))
-
-pub returns-in-Some : goal.returns-in-Some
-returns-in-Some c =
-    let a = c.args.placements.now in
-    let here = read_stands a c.loop-cell.cell first_tile (omega (arith, c.requires.long, c.loop-cell-test.true, c.cells-cell-end.ensures.count, ap cell_count c.board.ensures.value)) in
-    rw c.from-in-Some.ensures (least_pair_at (BreaksBorderAt c.args.self.now a) c.loop-cell.cell c.in-Some.side (border_broken c.args.self.now a c.loop-cell.cell _ c.in-Some.side here (rw c.from.ensures at c.in-Some.ensures)) (λ k lt side o. o.4 (c.loop-cell.invariant k lt side o.1 o.0 o.2 o.3)))
-
-pub loop-cell-preserved : goal.loop-cell-preserved
-loop-cell-preserved c =
-    let a = c.args.placements.now in
+pub returns : goal.returns
+returns c =
     let p = c.args.self.now in
-    let here = read_stands a c.loop-cell.cell first_tile (omega (arith, c.requires.long, c.loop-cell-test.true, c.cells-cell-end.ensures.count, ap cell_count c.board.ensures.value)) in
-    below_more (λ k. (side colour : ℕ) (x : Placement) → Stands a k x → HasRule p k side colour → colour_of p x side ≡ colour) c.loop-cell.cell c.loop-cell.invariant
-    (border_obeyed p a c.loop-cell.cell _ here (rw c.from.ensures at c.in_default.ensures))
+    let a = c.args.placements.now in
+    least_side_told p.board (BreaksBorderAt p a) (ObeysBorderAt p a) (λ cell side obeys o. o.4 (obeys o.1 o.0 o.2 o.3)) (λ cell side o. o.3.border_pair.side_in)
+    c.board.result.now c.board.ensures.value c.first_side.result c.first_side.ensures _
+    (λ all cell side colour x stands rule. all cell side (omega (arith, slice_get_within a cell x stands, c.requires.long)) rule.border_pair.side_in colour x stands rule)

@@ -30,7 +30,7 @@ pub returns-then-other-cell : goal.returns-then-other-cell
 returns-then-other-cell c =
     let is = c.in-Edge.ensures in
     subst (λ b. MatchBool b (MatchesEdgeAt c.args.self.now c.args.placements.now c.args.cell c.args.side) (BreaksEdgeAt c.args.self.now c.args.placements.now c.args.cell c.args.side)) (sym (lt-ltb c.in-Edge.other c.args.cell c.if-other-cell.true))
-    (matches_turned c.args.self.now c.requires.puzzle c.args.placements.now c.args.cell c.args.side c.in-Edge.other c.in-Edge.other_side is (c.requires.before c.in-Edge.other c.in-Edge.other_side c.if-other-cell.true))
+    (matches_turned c.args.self.now c.requires.puzzle c.args.placements.now c.args.cell c.args.side c.in-Edge.other c.in-Edge.other_side is (c.requires.before c.in-Edge.other c.in-Edge.other_side c.if-other-cell.true (side_in_range (Meets-turned is.0))))
 
 pub returns-else-other-cell : goal.returns-else-other-cell
 returns-else-other-cell c =
