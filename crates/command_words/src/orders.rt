@@ -10,6 +10,28 @@ pub struct Part {
     pub behind: OtherParts,
 }
 
+impl Part {
+    ghost use Rattle.std.specs.Prelude.{◌≡◌, ◌<◌, ◌≤◌};
+    ghost use Rattle.command_words.specs.Parts.{parts_with};
+
+    /// How many parts come before it, at most 999,999.
+    pub fn earlier(&self) -> u32
+        ensures before { result ≡ self.now.before }
+        ensures few { result ≤ 999999 }
+    {
+        self.before.get()
+    }
+
+    /// How many parts there are.
+    pub fn count(&self) -> u32
+        ensures parts { result ≡ parts_with self.now }
+        ensures others { self.now.before < result }
+    {
+        let behind = self.behind;
+        self.earlier() + 1 + behind.get()
+    }
+}
+
 /// Of which arrangements a search counts how many there are.
 #[derive(Clone, Copy, PartialEq, Eq, Debug)]
 pub enum Extent {

@@ -8,7 +8,6 @@ mod searches;
 mod shared;
 mod solves;
 mod strategy;
-mod watches;
 
 pub use cert_check::{Gate, Open, check_with};
 pub use faults::SolveFault;
@@ -17,4 +16,4 @@ pub use text_crew::{
     ReadTexts, WrittenTexts, read_certificate_with, read_texts_with, write_certificate_with,
     write_texts_with,
 };
-pub use watches::{Unwatched, Watch};
+pub use xcc_dance::{Unwatched, Watch};

@@ -12,7 +12,6 @@ ghost use Rattle.match_crew.specs.Solving.{IsOutcomeOf, IsTreeWithinWith};
 use crate::branches::{OpenBranch, fit_in_turn, rising_by_cell};
 use crate::shared::Shared;
 use crate::strategy::choices::Choices;
-use crate::watches::{Counted, Met, Watch};
 use cert_tree::{PackedLemma, PackedTree};
 use match_limits::{MOST_ARRANGEMENTS, MOST_FUEL};
 use match_puzzle::{Arrangement, Pair};
@@ -21,7 +20,7 @@ use std::alloc::AllocError;
 use std::sync::Wait;
 use std::sync::atomic::{AtomicBool, Ordering};
 use steal_crew::{Hand, LiveWork};
-use xcc_dance::{Cites, OpenSets, PackedOutcome, SearchFault, SearchOver};
+use xcc_dance::{Cites, Counted, Met, OpenSets, PackedOutcome, SearchFault, SearchOver, Watch};
 use xcc_form::Xcc;
 
 // What an open branch came to.

@@ -19,7 +19,6 @@ use crate::shared::Shared;
 use crate::strategy::items::ItemRule;
 use crate::strategy::plans::Planner;
 use crate::strategy::roots::plan_by_dives;
-use crate::watches::{Unwatched, Watch};
 use cert_tree::{AssembleFault, Certificate};
 use match_limits::{MOST_ARRANGEMENTS, MOST_LEMMAS};
 use match_puzzle::{Arrangement, Puzzle};
@@ -33,6 +32,7 @@ use std::sync::atomic::{AtomicBool, AtomicU64};
 use std::thread::Threads;
 use steal_crew::{Crew, run_live};
 use text_crew::within_limits_with;
+use xcc_dance::{Unwatched, Watch};
 use xcc_form::{Xcc, compile};
 
 /// Arrangements of a puzzle, with a certificate, and who took which lemma: for each worker the numbers of those that it

@@ -43,8 +43,15 @@ impl Line {
     pub fn number(&mut self, number: u32) -> Result<(), AllocError>
         ensures { OnOk result (self.new ≡ self.old ++ spaced (decimal number ∷ [])) }
     {
+        self.count(u64::from(number))
+    }
+
+    /// One number more, of 64 bits.
+    pub fn count(&mut self, count: u64) -> Result<(), AllocError>
+        ensures { OnOk result (self.new ≡ self.old ++ spaced (decimal count ∷ [])) }
+    {
         self.text.push(b' ')?;
-        put_number(&mut self.text, u64::from(number))
+        put_number(&mut self.text, count)
     }
 
     /// One number more, with a colon behind it.

@@ -1,6 +1,5 @@
 mod DescribingLemmas
 pub mod CensusLemmas
-pub mod RepetitionLemmas
 pub mod RunLemmas
 pub mod RunningLemmas
 pub mod SolvingLemmas

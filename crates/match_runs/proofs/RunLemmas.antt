@@ -34,7 +34,7 @@ use Rattle.cert_check.specs.declared.faults.Fault.TheVariants as checks
 use Rattle.symmetry_orbits.specs.Closure.{AddsEach}
 use Rattle.symmetry_orbits.proofs.ClosureLemmas.{each_only}
 use Rattle.symmetry_orbits.proofs.ExpansionLemmas.{has_what_is_reached}
-use Rattle.match_runs.proofs.RepetitionLemmas.{more_are_reached}
+use Rattle.symmetry_orbits.proofs.RepetitionLemmas.{more_are_reached}
 use Rattle.match_report.specs.AnswerText.{HasLine, HasWords}
 use Rattle.symmetry_orbits.specs.declared.expansions.ExpandFault.{ExpandFault}
 use Rattle.symmetry_orbits.specs.declared.expansions.ExpandFault.TheVariants as expansions

@@ -21,7 +21,6 @@ use crate::hints::{HintedFault, hint_on, with_hint};
 use crate::running::run_by;
 use byte_streams::{Document, MadeText, OneSink, OneSource, Sink, Source, Text};
 use command_words::{Extent, Part};
-use itoa::Buffer;
 use match_census::{Branch, CensusWatch, Count, count_arrangements, count_with_crew, hash_of, part_of, split};
 use match_crew::SolveFault;
 use match_limits::Workers;
@@ -31,7 +30,7 @@ use match_symmetry::{Symmetry, SymmetryFault, suggest};
 use match_text::read_puzzle;
 use std::alloc::{AllocError, Global};
 use std::thread::Threads;
-use text_words::put_number_line;
+use text_words::{put_number, put_number_line};
 use xcc_form::{Xcc, compile};
 
 // Into so many branches at least a search is split that may end early, where it has so many: enough for symmetries to
@@ -189,7 +188,7 @@ fn part_counted<R: Threads + Sync, T: CensusWatch + Sync>(
     let xcc = compile(alloc, puzzle)?;
     let branches = branches_of(alloc, &xcc, DEALT)?;
     let mut text = write_split(alloc, &branches)?;
-    let dealt = part_of(alloc, branches, before_of(&part), parts_of(&part))?;
+    let dealt = part_of(alloc, branches, part.earlier(), part.count())?;
     let count = Count {
         xcc: &xcc,
         branches: dealt,
@@ -245,10 +244,9 @@ fn write_split(alloc: Global, branches: &[Branch]) -> Result<Vec<u8>, AllocError
     requires { length branches.now ≤ MOST_BRANCHES }
     ensures { IfOk result (λ text. text.items ≡ split_line branches.now) }
 {
-    let mut buffer = Buffer::new();
     let mut line = Line::new(alloc, b"split")?;
     line.number(branches.len() as u32)?;
-    line.word(buffer.format(hash_of(branches)).as_bytes())?;
+    line.count(hash_of(branches))?;
     line.end()
 }
 
@@ -274,44 +272,18 @@ fn counted_line(
 {
     let mut line = Line::new(alloc, first)?;
     line.word(second)?;
-    add_count(&mut line, third, count)?;
+    line.word(third)?;
+    line.count(count)?;
     line.end()
-}
-
-// This word and this number more.
-#[tactic(auto, using(match_report::proofs::LineLemmas::line_laws))]
-fn add_count(line: &mut Line, word: &[u8], count: u64) -> Result<(), AllocError>
-    ensures { OnOk result (line.new ≡ line.old ++ spaced (word.now ∷ decimal count ∷ [])) }
-{
-    let mut buffer = Buffer::new();
-    line.word(word)?;
-    line.word(buffer.format(count).as_bytes())
-}
-
-// How many parts come before it.
-fn before_of(part: &Part) -> u32
-    ensures before { result ≡ part.now.before }
-    ensures few { result ≤ 999999 }
-{
-    part.before.get()
-}
-
-// How many parts there are.
-fn parts_of(part: &Part) -> u32
-    ensures parts { result ≡ parts_with part.now }
-    ensures others { part.now.before < result }
-{
-    let behind = part.behind;
-    before_of(part) + 1 + behind.get()
 }
 
 // The number of a part and how many there are, as `3/8`.
 fn part_word(alloc: Global, part: Part) -> Result<Vec<u8>, AllocError>
     ensures { IfOk result (λ word. word.items ≡ part_word part) }
 {
-    let mut buffer = Buffer::new();
-    let mut word = Vec::from_slice(alloc, buffer.format(before_of(&part) + 1).as_bytes())?;
+    let mut word = Vec::new(alloc);
+    put_number(&mut word, u64::from(part.earlier() + 1))?;
     word.push(b'/')?;
-    word.extend_from_slice(buffer.format(parts_of(&part)).as_bytes())?;
+    put_number(&mut word, u64::from(part.count()))?;
     Ok(word)
 }

@@ -15,7 +15,7 @@ use crate::running::run_by;
 use crate::statuses::Status;
 use crate::watches::{CheckWatch, Watched};
 use byte_streams::{Documents, Inputs, JoinedSource, MadeText, OneSink, Outputs, OwnedDocuments, Sink, Source, ThreeSources};
-use match_crew::{Open, check_with};
+use cert_check::{Open, check_question};
 use match_limits::{Forks, Workers};
 use match_report::write_answer;
 use std::alloc::Global;
@@ -159,16 +159,8 @@ fn answer_of<R: Threads + Sync, G: CheckWatch + Sync>(
     let owned = read_question_with(rt, alloc, documents, workers)?;
     let question = owned.question();
     check.watch.begins(question.lemmas().len() as usize);
-    let answer = check_with(
-        rt,
-        alloc,
-        question.puzzle(),
-        question.listed(),
-        question.certificate(),
-        workers,
-        plan.forks.get() as u8,
-        check.watch,
-    )?;
+    let forks = plan.forks.get() as u8;
+    let answer = check_question(rt, alloc, &question, workers, forks, check.watch)?;
     let line = write_answer(alloc, &answer, question.listed().len() as u32)?;
     Ok((MadeText::new(line), Status::of_answer(&answer)))
 }

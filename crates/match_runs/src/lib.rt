@@ -34,5 +34,6 @@ pub use printing_runs::{Printing, PrintingPlan, run_expand, run_printing};
 pub use readings::read_whole;
 pub use solve_runs::{SearchPlan, run_solve, run_solve_watched};
 pub use statuses::Status;
+pub use symmetry_orbits::RandomFold;
 pub use tile_runs::{run_tile_lines, run_tiles};
 pub use watches::{CheckWatch, SolveWatch, Watched};

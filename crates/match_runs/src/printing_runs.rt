@@ -29,7 +29,9 @@ use match_report::{expand, write_answer};
 use match_text::write_list;
 use std::alloc::{AllocError, Global};
 use std::random::RandomSource;
-use symmetry_orbits::{Count, count, counting_laws, first_of_each_orbit};
+use symmetry_orbits::{
+    Count, RandomFold, count, counting_laws, distinct_symmetries, first_of_each_orbit,
+};
 use text_words::put_number_line;
 
 /// What is printed of a puzzle, a list and a certificate.

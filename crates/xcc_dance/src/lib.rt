@@ -5,25 +5,27 @@
 mod chooses;
 mod cites;
 mod faults;
-mod finding;
 mod laws;
 mod links;
+mod lookups;
 mod open_options;
 mod open_sets;
 mod paths;
 mod progress;
 mod searches;
 mod searching;
+mod watches;
 
 pub use chooses::{Chooses, FewestOptions, LeastLeft};
 pub use cites::{Cite, Cites, NoCites};
 pub use faults::SearchFault;
-pub use finding::{open_option, option_behind, uncovered_item};
 pub use laws::{
     branch_items_have_the_fewest, open_options_are_listed, open_options_are_those_that_fit,
     options_stand_as_pairs, uncovered_items_are_open, whole_selections_are_solutions,
 };
 pub use links::{Links, links_with_nothing_chosen_are_one};
+pub use lookups::{open_option, option_behind, uncovered_item};
 pub use open_options::{OpenOptions, left_by};
 pub use open_sets::OpenSets;
 pub use searches::{Outcome, PackedOutcome, Search, SearchOver, links_of_ready_searches_are_one};
+pub use watches::{Counted, Met, Unwatched, Watch};

@@ -7,12 +7,11 @@ ghost use Rattle.xcc_dance.specs.Outcome.{IsCiteWithin};
 use crate::branches::OpenBranch;
 use crate::shared::Shared;
 use crate::strategy::images::Occupied;
-use crate::watches::{Met, Watch};
 use match_puzzle::Pair;
 use std::alloc::AllocError;
 use std::sync::atomic::Ordering;
 use steal_crew::Hand;
-use xcc_dance::{Cite, Cites};
+use xcc_dance::{Cite, Cites, Met, Watch};
 
 // After so many children a job looks whether others wait for work, and then at each sixteenth.
 const LONG: u32 = 1_000;

@@ -23,7 +23,7 @@ write_split-requires g c =
 
 -- what is dealt to the part
 dealt : (g : _) (c : In_ok-dealt g) → c.in_ok-dealt.dealt.items ≡ part_of c.args.part c.in_ok-branches.branches.items
-dealt g c = c.in_ok-dealt.ensures ∙ ap₂ (λ parts before. every parts before c.in_ok-branches.branches.items) c.parts_of.ensures.parts c.before_of.ensures.before
+dealt g c = c.in_ok-dealt.ensures ∙ ap₂ (λ parts before. every parts before c.in_ok-branches.branches.items) c.count.ensures.parts c.earlier.ensures.before
 
 pub count_with_crew-requires-clause-selections : goal.count_with_crew-requires-clause-selections
 count_with_crew-requires-clause-selections g c =

@@ -1,7 +1,7 @@
 use Rattle.std.proofs.Common.{◌≡◌, ◌∙◌, length, ap, subst}
 use Rattle.std.proofs.lemmas.Result.{err_from_is_err_and}
 use Rattle.cert_check.specs.Answer.{IsAnswer, IsSound}
-use Rattle.cert_check.specs.Setting.{Question, question_of}
+use Rattle.cert_check.specs.Setting.{Question}
 use Rattle.match_report.specs.AnswerText.{answer_line}
 use Rattle.byte_streams.specs.LentTexts.{texts_of}
 use Rattle.match_runs.proofs.RunLemmas.{check_kind, has_line}
@@ -15,10 +15,8 @@ returns-in_err-owned g c =
     rw (w.1, w.2) (fails, check_kind (texts_of c.args.documents.now) c.in_err-owned.field-0.0 fails)
 
 -- the question that was answered is the one that the documents spell
-asked : (g : _) (c : In_ok-answer g) → question_of c.puzzle.result.now c.listed.result.now c.certificate.result.now ≡ c.in_ok-owned.owned
-asked g c =
-    let q = c.question-question.result in
-    ap (λ p. question_of p c.listed.result.now c.certificate.result.now) c.puzzle.ensures ∙ ap (λ l. question_of q.puzzle l c.certificate.result.now) c.listed.ensures.listed ∙ ap (question_of q.puzzle q.listed) c.certificate.ensures ∙ c.question-question.ensures
+asked : (g : _) (c : In_ok-answer g) → c.question-question.result ≡ c.in_ok-owned.owned
+asked g c = c.question-question.ensures
 
 answered : (g : _) (c : In_ok-answer g) → IsAnswer c.in_ok-owned.owned c.in_ok-answer.answer
 answered g c = subst (λ (q : Question). IsAnswer q c.in_ok-answer.answer) (asked g c) c.in_ok-answer.ensures.answer
@@ -33,7 +31,7 @@ returns g c =
     let at = (goal.at.returns g c).In_ok-answer in
     let owned = c.in_ok-owned.owned in
     let answer = c.in_ok-answer.answer in
-    let many : length c.listed-2.result.now ≡ length owned.listed = ap length (c.listed-2.ensures.listed ∙ ap (λ (q : Question). q.listed) c.question-question.ensures) in
+    let many : length c.listed.result.now ≡ length owned.listed = ap length (c.listed.ensures.listed ∙ ap (λ (q : Question). q.listed) c.question-question.ensures) in
     record {
       question = owned;
       answer = answer;

@@ -12,7 +12,7 @@ use Rattle.symmetry_orbits.specs.Expansion.{AreMoreReached, IsExpansion, Takes}
 use Rattle.text_crew.specs.Texts.{IsListText}
 use Rattle.match_runs.specs.Printing.{AreAllInOrder}
 use Rattle.match_runs.specs.declared.printing_runs.Printing.TheVariants.{All}
-use Rattle.match_runs.proofs.RepetitionLemmas.{closure_all}
+use Rattle.symmetry_orbits.proofs.RepetitionLemmas.{closure_all}
 use Rattle.match_runs.proofs.RunLemmas.{all_in_order, all_within, expand_fails, kept_are, kept_reach}
 use Rattle.match_runs.proofs.printing_runs.all_text.Goals.{After-deref}
 use Rattle.match_runs.proofs.printing_runs.all_text.Goals as goal

@@ -1,8 +1,8 @@
 //! What is told of a search while it runs.
 
+use crate::cites::{Cite, Cites};
 use match_puzzle::Pair;
 use std::alloc::AllocError;
-use xcc_dance::{Cite, Cites};
 
 /// Told of a search while it runs, by whichever worker comes by. Nothing that is found depends on it.
 pub trait Watch {
@@ -32,26 +32,26 @@ impl Watch for Unwatched {
 // So many children are told of at once.
 const TOLD_AT_ONCE: u32 = 1_024;
 
-// What a job met, as far as the numbers fit.
+/// What a search met, as far as the numbers fit.
 #[derive(Clone, Copy)]
 pub struct Met {
-    // how many children of branches
+    /// How many children of branches.
     pub children: u32,
     // how many arrangements that were not told of
     untold: u32,
 }
 
 impl Met {
-    // Where a lemma's root is an arrangement, or isn't.
-    pub(crate) fn at_root(is_arrangement: bool) -> Met {
+    /// Where a lemma's root is an arrangement, or isn't.
+    pub fn at_root(is_arrangement: bool) -> Met {
         Met {
             children: 0,
             untold: u32::from(is_arrangement),
         }
     }
 
-    // One child more; tells of the last ones, where so many were looked at that it is time.
-    pub(crate) fn child<W: Watch>(&mut self, watch: &W) {
+    /// One child more; tells of the last ones, where so many were looked at that it is time.
+    pub fn child<W: Watch>(&mut self, watch: &W) {
         self.children = self.children.saturating_add(1);
         if self.children % TOLD_AT_ONCE == 0 {
             watch.looked(TOLD_AT_ONCE, self.untold);
@@ -59,22 +59,22 @@ impl Met {
         }
     }
 
-    // One arrangement more.
-    pub(crate) fn arrangement(&mut self) {
+    /// One arrangement more.
+    pub fn arrangement(&mut self) {
         self.untold = self.untold.saturating_add(1);
     }
 
-    // Tells of what was met since it was told last.
-    pub(crate) fn tell_rest<W: Watch>(&self, watch: &W) {
+    /// Tells of what was met since it was told last.
+    pub fn tell_rest<W: Watch>(&self, watch: &W) {
         watch.looked(self.children % TOLD_AT_ONCE, self.untold);
     }
 }
 
-// Cites nothing, and tells what was met.
+/// Cites nothing, and tells what was met.
 #[derive(Drop)]
 pub struct Counted<'a, W: Watch> {
     pub watch: &'a W,
-    // how many cells are to be filled
+    /// How many cells are to be filled.
     pub cells: usize,
     pub met: Met,
 }
