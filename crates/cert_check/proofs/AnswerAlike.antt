@@ -23,7 +23,7 @@ use Rattle.match_puzzle.proofs.PuzzleAlike.{on, rule_alike, legal_alike, same_co
 use Rattle.puzzle_symmetry.specs.Symmetry.{IsPermutation}
 use Rattle.puzzle_symmetry.specs.SymmetryFaults.{SymmetryFails}
 use Rattle.puzzle_symmetry.specs.Images.{IsImageWithin}
-use Rattle.puzzle_symmetry.specs.declared.lines.SymmetryLine.{SymmetryLine}
+use Rattle.match_board.specs.declared.symmetry_lines.SymmetryLine.{SymmetryLine}
 use Rattle.puzzle_symmetry.specs.declared.faults.SymmetryFault.{SymmetryFault}
 use Rattle.puzzle_symmetry.specs.declared.faults.SymmetryFault.TheVariants as symmetries
 use Rattle.puzzle_symmetry.proofs.SymmetryAlike.{image_alike, meets_alike, asks_image_alike, carried_alike, symmetry_alike}

@@ -11,7 +11,7 @@ use Rattle.match_puzzle.specs.declared.faults.PrefixFault.TheVariants as prefixe
 use Rattle.puzzle_symmetry.specs.SymmetryFaults.{SymmetryFails, symmetry_rank, IsSymmetryFault}
 use Rattle.puzzle_symmetry.specs.declared.faults.SymmetryFault.{SymmetryFault}
 use Rattle.puzzle_symmetry.specs.declared.faults.SymmetryFault.TheVariants as symmetries
-use Rattle.puzzle_symmetry.specs.declared.lines.SymmetryLine.{SymmetryLine}
+use Rattle.match_board.specs.declared.symmetry_lines.SymmetryLine.{SymmetryLine}
 use Rattle.puzzle_symmetry.proofs.FaultLemmas.{no_fault}
 use Rattle.match_puzzle.specs.declared.faults.ArrangementFault.{ArrangementFault}
 use Rattle.match_puzzle.specs.declared.faults.ArrangementFault.TheVariants.{Length, TileRange, Turn, TileTwice, BorderBroken, EdgeBroken}

@@ -10,7 +10,7 @@ use Rattle.match_puzzle.specs.declared.faults.ArrangementFault.{ArrangementFault
 use Rattle.match_puzzle.specs.declared.faults.PrefixFault.{PrefixFault}
 use Rattle.puzzle_symmetry.specs.Symmetry.{IsSymmetry}
 use Rattle.puzzle_symmetry.specs.declared.faults.SymmetryFault.{SymmetryFault}
-use Rattle.puzzle_symmetry.specs.declared.lines.SymmetryLine.{SymmetryLine}
+use Rattle.match_board.specs.declared.symmetry_lines.SymmetryLine.{SymmetryLine}
 use Rattle.puzzle_symmetry.proofs.FaultLemmas.{no_fault}
 use Rattle.cert_tree.specs.Certificate.{Contents, Piece}
 use Rattle.cert_check.specs.declared.faults.TreeFault.{TreeFault}

@@ -10,7 +10,7 @@ use Rattle.puzzle_symmetry.specs.SymmetryFaults.{IsSymmetryFault}
 use Rattle.puzzle_symmetry.specs.Reached.{IsReached}
 use Rattle.puzzle_symmetry.specs.Complete.{AreSymmetries, IsCompleteList}
 use Rattle.puzzle_symmetry.specs.Motion.{Motion}
-use Rattle.puzzle_symmetry.specs.declared.lines.SymmetryLine.{SymmetryLine}
+use Rattle.match_board.specs.declared.symmetry_lines.SymmetryLine.{SymmetryLine}
 use Rattle.cert_check.specs.declared.faults.Fault.{Fault}
 use Rattle.cert_check.specs.declared.faults.Fault.TheVariants as faults
 use Rattle.cert_check.specs.declared.faults.Answer.{Answer}

@@ -5,7 +5,7 @@ use Rattle.match_puzzle.specs.PrefixFaults.{IsPairList, IsPrefixFault}
 use Rattle.match_puzzle.specs.declared.faults.PrefixFault.{PrefixFault}
 use Rattle.puzzle_symmetry.specs.Symmetry.{IsSymmetry}
 use Rattle.puzzle_symmetry.specs.SymmetryFaults.{IsSymmetryFault}
-use Rattle.puzzle_symmetry.specs.declared.lines.SymmetryLine.{SymmetryLine}
+use Rattle.match_board.specs.declared.symmetry_lines.SymmetryLine.{SymmetryLine}
 use Rattle.cert_tree.specs.Certificate.{Piece}
 use Rattle.cert_check.specs.declared.symmetries.SymmetriesFault.{SymmetriesFault}
 use Rattle.cert_check.specs.declared.symmetries.SymmetriesFault.TheVariants.{Line, Memory}

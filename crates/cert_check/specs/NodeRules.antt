@@ -7,7 +7,7 @@ use Rattle.match_puzzle.specs.declared.items.Item.{Item}
 use Rattle.match_puzzle.specs.declared.placements.Placement.{Placement}
 use Rattle.match_puzzle.specs.declared.placements.Pair.{Pair}
 use Rattle.puzzle_symmetry.specs.Images.{IsImageWithin}
-use Rattle.puzzle_symmetry.specs.declared.lines.SymmetryLine.{SymmetryLine}
+use Rattle.match_board.specs.declared.symmetry_lines.SymmetryLine.{SymmetryLine}
 use Rattle.cert_check.specs.Setting.{Setting}
 use Rattle.cert_tree.specs.Tree.{Tree, Forest, branch, dead, found, same, image, none, more, count}
 

@@ -4,7 +4,7 @@ use Rattle.match_puzzle.specs.Puzzle.{Task, second_form_of}
 use Rattle.match_puzzle.specs.PrefixFaults.{IsPairList}
 use Rattle.match_puzzle.specs.declared.placements.Placement.{Placement}
 use Rattle.match_puzzle.specs.declared.placements.Pair.{Pair}
-use Rattle.puzzle_symmetry.specs.declared.lines.SymmetryLine.{SymmetryLine}
+use Rattle.match_board.specs.declared.symmetry_lines.SymmetryLine.{SymmetryLine}
 use Rattle.puzzle_symmetry.specs.Motion.{Motion, motion_of, line_of, AreOfPuzzle}
 use Rattle.cert_tree.specs.Certificate.{Contents, Piece}
 

@@ -4,7 +4,7 @@ use Rattle.match_limits.specs.declared.TheConstants.{MOST_CELLS, MOST_SYMMETRIES
 use Rattle.std.specs.List.{flat_map}
 use Rattle.std.proofs.lemmas.List.{append-nil}
 use Rattle.std.proofs.lemmas.List.Concat.{flat_map_single}
-use Rattle.puzzle_symmetry.specs.declared.lines.SymmetryLine.{SymmetryLine}
+use Rattle.match_board.specs.declared.symmetry_lines.SymmetryLine.{SymmetryLine}
 use Rattle.match_limits.specs.declared.ranges.TheConstants.{SECOND}
 use Rattle.match_limits.specs.Ranges.{ranges_of}
 use Rattle.text_words.specs.Laws.{ReadsSpellingsAlone, ReadsEachSpelling, EndsWhereCut}

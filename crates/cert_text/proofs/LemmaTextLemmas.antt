@@ -10,7 +10,7 @@ use Rattle.std.proofs.lemmas.Fmt.{digits_decimal}
 use Rattle.std.proofs.lemmas.Bool.{ne_eqb}
 use Rattle.std.proofs.lemmas.Slice.Eq.{bytes_eq-Decides}
 use Rattle.match_puzzle.specs.declared.placements.Pair.{Pair}
-use Rattle.puzzle_symmetry.specs.declared.lines.SymmetryLine.{SymmetryLine}
+use Rattle.match_board.specs.declared.symmetry_lines.SymmetryLine.{SymmetryLine}
 use Rattle.match_limits.specs.declared.ranges.Ranges.{Ranges}
 use Rattle.match_limits.specs.Ranges.{AreRanges}
 use Rattle.text_words.specs.declared.faults.TextKind.{TextKind}

@@ -1,7 +1,7 @@
 -- Words that are written behind one another.
 use Rattle.std.proofs.Common.{◌≡◌, ℕ, List, [], ◌∷◌, ◌++◌, map, refl, ap, ◌∙◌, append_assoc, codes}
 use Rattle.std.specs.Fmt.{decimal}
-use Rattle.puzzle_symmetry.specs.declared.lines.SymmetryLine.{SymmetryLine}
+use Rattle.match_board.specs.declared.symmetry_lines.SymmetryLine.{SymmetryLine}
 use Rattle.text_words.specs.Spelling.{line_text, spaced, colour_word}
 use Rattle.text_words.proofs.WritingLemmas.{spaced-append, line_text-cons}
 use Rattle.cert_tree.specs.Certificate.{Piece}

@@ -4,7 +4,7 @@ use Rattle.std.specs.Prelude.{slice_get}
 use Rattle.match_limits.specs.declared.TheConstants.{LAST_SIDE, MOST_COLOURS, MOST_SYMMETRIES, MOST_LEMMAS}
 use Rattle.std.specs.List.{AllByRecursion}
 use Rattle.match_puzzle.specs.declared.placements.Pair.{Pair}
-use Rattle.puzzle_symmetry.specs.declared.lines.SymmetryLine.{SymmetryLine}
+use Rattle.match_board.specs.declared.symmetry_lines.SymmetryLine.{SymmetryLine}
 use Rattle.match_limits.specs.declared.ranges.Ranges.{Ranges}
 use Rattle.match_limits.specs.Ranges.{IsVersion, ranges_of}
 use Rattle.text_words.specs.Spelling.{text_of, colour_word, placement_word, first_words, count_words, end_lines}

@@ -11,8 +11,8 @@ ghost use Rattle.cert_text.specs.CertificateSpelling.{AreSymmetriesWithin, AreWi
 ghost use Rattle.cert_text.specs.Writing.{said_by};
 
 use cert_tree::{Certificate, Lemma, Lemmas};
+use match_board::SymmetryLine;
 use match_limits::{LAST_SIDE, MOST_CELLS, MOST_COLOURS, MOST_SYMMETRIES, Ranges, ranges_of};
-use puzzle_symmetry::SymmetryLine;
 
 fn are_numbers_within(last: u16, numbers: &[u16]) -> bool
     ensures { MatchBool result (AllByRecursion (λ n. n ≤ last) numbers.now)

@@ -21,9 +21,11 @@ use crate::entries::{cell_images, colour_images, prefix, tile_images};
 use crate::faults::{CertTextFault, LemmaTextFault};
 use crate::tree_readers::tree;
 use cert_tree::{Certificate, FlatLemma, Head, Lemma, LemmaSpan, Lemmas, assemble_flat};
-use match_limits::{LAST_LEMMA, LAST_SIDE, MOST_CELLS, MOST_LEMMAS, MOST_SYMMETRIES, Ranges, SECOND, ranges_of};
+use match_board::{Images, SymmetryLine};
+use match_limits::{
+    LAST_LEMMA, LAST_SIDE, MOST_CELLS, MOST_LEMMAS, MOST_SYMMETRIES, Ranges, SECOND, ranges_of,
+};
 use match_puzzle::Pair;
-use puzzle_symmetry::{Images, SymmetryLine};
 use std::alloc::Global;
 use text_words::{Asked, FaultPlace, ReadFault, Scan, TextFault, TextKind};
 

@@ -16,9 +16,9 @@ ghost use Rattle.cert_text.specs.Writing.{said_by};
 
 use crate::limits::first_version;
 use cert_tree::{Certificate, FlatLemma, Head, Lemma, Lemmas, PackedLemma};
+use match_board::SymmetryLine;
 use match_limits::{MOST_CELLS, MOST_COLOURS};
 use match_puzzle::Pair;
-use puzzle_symmetry::SymmetryLine;
 use std::alloc::{AllocError, Global};
 use text_words::{character, put_end, put_number, put_number_line, put_placement};
 

@@ -12,8 +12,8 @@ use crate::certificates::{Certificate, Lemma};
 use crate::conversions::flat_lemmas;
 use crate::faults::AssembleFault;
 use crate::flat_lemmas::{FlatLemma, LemmaSpan, Lemmas};
+use match_board::SymmetryLine;
 use match_limits::MOST_LEMMAS;
-use puzzle_symmetry::SymmetryLine;
 use std::alloc::{AllocError, Global};
 
 // The number, or the one that was found before, if that is less.

@@ -2,8 +2,8 @@
 
 use crate::flat_lemmas::Lemmas;
 use crate::nodes::Node;
+use match_board::SymmetryLine;
 use match_puzzle::Pair;
-use puzzle_symmetry::SymmetryLine;
 use std::marker::Model;
 
 /// Pairs of cells and placements, in order. Nothing is promised of them.

@@ -14,9 +14,9 @@ use crate::certificates::Certificate;
 use crate::faults::AssembleFault;
 use crate::flat_lemmas::{FlatLemma, LemmaSpan, Lemmas};
 use crate::heads::Head;
+use match_board::SymmetryLine;
 use match_limits::{MOST_ARRANGEMENTS, MOST_CELLS, MOST_LEMMAS};
 use match_puzzle::Pair;
-use puzzle_symmetry::SymmetryLine;
 use std::alloc::{AllocError, Global};
 
 // A number below the count, counted from the other end; another one as it is.

@@ -1,4 +1,4 @@
-//! Boards, their borders, tiles, and mates of colours.
+//! Boards, their borders, tiles, mates of colours, and where a symmetry takes all of these.
 #![tactic(auto)]
 
 mod boards;
@@ -11,6 +11,7 @@ mod laws;
 mod mates;
 mod rectangles;
 mod shapes;
+mod symmetry_lines;
 mod tiles;
 mod triangles;
 
@@ -21,4 +22,5 @@ pub use figures::Figure;
 pub use first_sides::first_side;
 pub use laws::{second_form_is_alike, shapes_are_known_by_their_cells};
 pub use mates::{broken_mate, mate_in};
+pub use symmetry_lines::{Images, SymmetryLine};
 pub use tiles::{Tile, TileFault};

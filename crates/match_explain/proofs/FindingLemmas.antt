@@ -11,7 +11,7 @@ use Rattle.puzzle_symmetry.specs.Complete.{AreSymmetries}
 use Rattle.puzzle_symmetry.specs.Motion.{Motion, line_of}
 use Rattle.puzzle_symmetry.proofs.MotionLemmas.{are_of_puzzle, lines_of}
 use Rattle.puzzle_symmetry.specs.Reached.{IsReached, LeadsTo}
-use Rattle.puzzle_symmetry.specs.declared.lines.SymmetryLine.{SymmetryLine}
+use Rattle.match_board.specs.declared.symmetry_lines.SymmetryLine.{SymmetryLine}
 use Rattle.symmetry_orbits.specs.Expansion.{AreOf, HasWhatIsReached}
 use Rattle.symmetry_orbits.specs.Orbits.{IsInOrbit, OrbitLaw}
 use Rattle.symmetry_orbits.proofs.OrbitLemmas.{only_one, the_one}

@@ -6,7 +6,7 @@ mod number_sets;
 mod ranges;
 mod within;
 
-pub use number_sets::{FixedSet, Members, NumberSet};
+pub use number_sets::{FixedSet, GROUPS, Members, NumberSet};
 pub use ranges::{FIRST, Ranges, SECOND, ranges_of};
 pub use within::{
     ArrangementNumber, Colours, Depth, Drawn, Forks, Fuel, OtherParts, Sides, Within, Workers,

@@ -23,7 +23,7 @@ const WORD_GROUPS: u16 = WORD_BITS / 4;
 const NUMBERS: u16 = WORD_BITS * WORDS as u16;
 
 /// How many groups of four numbers there are.
-const GROUPS: u16 = WORD_GROUPS * WORDS as u16;
+pub const GROUPS: u16 = WORD_GROUPS * WORDS as u16;
 
 // There is a group for each tile; there are as many cells.
 const _: () = prove!(MOST_TILES <= GROUPS);

@@ -9,7 +9,7 @@ use Rattle.match_puzzle.proofs.Words.{few_sides}
 use Rattle.match_limits.specs.declared.ranges.TheConstants.{SECOND}
 use Rattle.match_symmetry.specs.Suggestions.{HasLeastShift}
 use Rattle.puzzle_symmetry.specs.Symmetry.{IsPermutation, IsSymmetry}
-use Rattle.puzzle_symmetry.specs.declared.lines.SymmetryLine.{SymmetryLine}
+use Rattle.match_board.specs.declared.symmetry_lines.SymmetryLine.{SymmetryLine}
 use Rattle.puzzle_symmetry.proofs.FaultLemmas.{few_colours}
 use Rattle.cert_text.specs.CertificateSpelling.{AreColourImagesWithin, AreImagesWithin, IsSymmetryWithin}
 use Rattle.cert_text.proofs.WiderLemmas.{each_within}

@@ -12,7 +12,7 @@ use Rattle.match_show.specs.Facts.{IsEstimateLine, IsFacts, number_line}
 use Rattle.text_words.specs.Spelling.{line_text}
 use Rattle.xcc_form.specs.Options.{Compiled, HasTooManyEntries, IsCompiled, entries_of}
 use Rattle.puzzle_symmetry.specs.Symmetry.{IsSymmetry}
-use Rattle.puzzle_symmetry.specs.declared.lines.SymmetryLine.{SymmetryLine}
+use Rattle.match_board.specs.declared.symmetry_lines.SymmetryLine.{SymmetryLine}
 use Rattle.cert_text.specs.CertificateSpelling.{symmetries_spelling, IsSymmetryWithin}
 use Rattle.match_runs.specs.declared.description_runs.Description.{Description}
 use Rattle.match_runs.specs.declared.description_runs.Description.TheVariants as descriptions

@@ -7,11 +7,11 @@ ghost use Rattle.cert_tree.specs.Limits.{IsLemmaWithin};
 ghost use Rattle.cert_tree.specs.TurnedAssembly.{AssemblesTurned};
 ghost use Rattle.piece_desk.specs.FlatDesks.{IsOfFlat, flat_posted};
 
-use boxcar::{Keeps, Pushed, Vec as Places};
 use boxcar::tag::Tag;
+use boxcar::{Keeps, Pushed, Vec as Places};
 use cert_tree::{AssembleFault, Certificate, FlatLemma, PackedLemma, assemble_turned};
+use match_board::SymmetryLine;
 use match_limits::{MOST_ARRANGEMENTS, MOST_CELLS, MOST_LEMMAS};
-use puzzle_symmetry::SymmetryLine;
 use std::alloc::{AllocError, Global};
 use std::marker::Model;
 use std::sync::Wait;

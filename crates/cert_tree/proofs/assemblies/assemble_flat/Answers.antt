@@ -1,7 +1,7 @@
 use Rattle.std.proofs.Common.{ℕ, List, ◌<◌, ◌≤◌, ◌^◌, length, sym, subst, arith}
 use Rattle.match_limits.specs.declared.TheConstants.{MOST_LEMMAS}
 use Rattle.std.specs.Prelude.{All}
-use Rattle.puzzle_symmetry.specs.declared.lines.SymmetryLine.{SymmetryLine}
+use Rattle.match_board.specs.declared.symmetry_lines.SymmetryLine.{SymmetryLine}
 use Rattle.cert_tree.specs.Certificate.{Contents, Piece, IsNumbered, piece_number}
 use Rattle.cert_tree.specs.Spans.{piece_at}
 use Rattle.cert_tree.specs.Assembly.{IsAssembly}

@@ -1,7 +1,7 @@
 use Rattle.std.proofs.Common.{◌≡◌, ◌∙◌, List, ap, subst}
 use Rattle.match_puzzle.specs.Puzzle.{Task}
 use Rattle.puzzle_symmetry.specs.Complete.{AreSymmetries}
-use Rattle.puzzle_symmetry.specs.declared.lines.SymmetryLine.{SymmetryLine}
+use Rattle.match_board.specs.declared.symmetry_lines.SymmetryLine.{SymmetryLine}
 use Rattle.cert_tree.specs.Certificate.{Contents}
 use Rattle.cert_check.specs.Lines.{LinesFail}
 use Rattle.match_explain.proofs.findings.symmetries_of.Goals as goal

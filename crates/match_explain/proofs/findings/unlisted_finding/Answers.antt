@@ -1,7 +1,7 @@
 use Rattle.std.proofs.Common.{◌∙◌, Contains, Err, List, ap, subst}
 use Rattle.match_limits.specs.declared.TheConstants.{MOST_ARRANGEMENTS}
 use Rattle.match_puzzle.specs.declared.placements.Placement.{Placement}
-use Rattle.puzzle_symmetry.specs.declared.lines.SymmetryLine.{SymmetryLine}
+use Rattle.match_board.specs.declared.symmetry_lines.SymmetryLine.{SymmetryLine}
 use Rattle.symmetry_orbits.specs.Expansion.{AreMoreReached}
 use Rattle.match_explain.proofs.FindingLemmas.{image_is, lines_are, missing_is, of_one, orbit_has}
 use Rattle.match_explain.proofs.findings.unlisted_finding.Goals as goal

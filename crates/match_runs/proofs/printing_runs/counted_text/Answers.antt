@@ -5,7 +5,7 @@ use Rattle.match_puzzle.specs.Arrangement.{HasArrangements}
 use Rattle.match_puzzle.specs.Puzzle.{Task}
 use Rattle.match_puzzle.specs.declared.placements.Placement.{Placement}
 use Rattle.puzzle_symmetry.specs.Motion.{line_of}
-use Rattle.puzzle_symmetry.specs.declared.lines.SymmetryLine.{SymmetryLine}
+use Rattle.match_board.specs.declared.symmetry_lines.SymmetryLine.{SymmetryLine}
 use Rattle.puzzle_symmetry.specs.Complete.{IsCompleteList}
 use Rattle.cert_check.specs.Setting.{Question}
 use Rattle.symmetry_orbits.specs.Expansion.{AreOf}

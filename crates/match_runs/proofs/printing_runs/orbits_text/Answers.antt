@@ -6,7 +6,7 @@ use Rattle.match_puzzle.specs.declared.placements.Placement.{Placement}
 use Rattle.match_text.specs.ListSpelling.{IsListWithin}
 use Rattle.match_limits.specs.declared.ranges.TheConstants.{SECOND}
 use Rattle.puzzle_symmetry.specs.Motion.{line_of}
-use Rattle.puzzle_symmetry.specs.declared.lines.SymmetryLine.{SymmetryLine}
+use Rattle.match_board.specs.declared.symmetry_lines.SymmetryLine.{SymmetryLine}
 use Rattle.cert_check.specs.Setting.{Question}
 use Rattle.symmetry_orbits.specs.Expansion.{AreOf}
 use Rattle.symmetry_orbits.specs.Firsts.{AreFirstOfEachOrbit}
