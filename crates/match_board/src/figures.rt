@@ -1,8 +1,8 @@
 //! The figure that a board covers: where its cells stand, and which of their sides meet.
 
-ghost use Rattle.std.specs.Prelude.{◌≡◌, ◌<◌, ◌≤◌, ℕ, IfSome};
+ghost use Rattle.std.specs.Prelude.{◌≡◌, ◌<◌, ◌≤◌, ℕ, IfSome, MatchBool};
 ghost use Rattle.match_board.specs.Board.{cell_count, row_count, row_length, side_count, Meets, StandsAt, IsPlace};
-ghost use Rattle.match_board.specs.Board.{LiesAgainst, IsBoard, IsPlain, cells_left};
+ghost use Rattle.match_board.specs.Board.{LiesAgainst, IsBoard, IsPlain, IsFilled, cells_left};
 
 use crate::{hexagons, rectangles, shapes, triangles};
 use match_limits::MOST_PLACES;
@@ -55,6 +55,49 @@ impl Figure {
         match *self {
             Figure::Rectangle { .. } | Figure::Shape { .. } => 4,
             Figure::Triangle { .. } | Figure::Hexagon { .. } => 3,
+        }
+    }
+
+    /// How many rows there are.
+    pub fn rows(&self) -> u16
+        requires { IsBoard self.now }
+        ensures { result ≡ row_count self.now }
+    {
+        match *self {
+            Figure::Rectangle { height, .. } => height,
+            Figure::Triangle { size } => size,
+            Figure::Hexagon { size } => 2 * size,
+            Figure::Shape { height, .. } => height,
+        }
+    }
+
+    /// How many places the row has.
+    pub fn row_length(&self, row: u16) -> u16
+        requires board { IsBoard self.now }
+        requires row { row < row_count self.now }
+        ensures { result ≡ row_length self.now row }
+    {
+        match *self {
+            Figure::Rectangle { width, .. } | Figure::Shape { width, .. } => width,
+            Figure::Triangle { .. } => 2 * row + 1,
+            Figure::Hexagon { size } => hexagons::row_length(size, row),
+        }
+    }
+
+    /// Whether there is a cell at the place of the row.
+    pub fn is_filled(&self, row: u16, place: u16) -> bool
+        requires board { IsBoard self.now }
+        requires row { row < row_count self.now }
+        requires place { place < row_length self.now row }
+        ensures { MatchBool result (IsFilled self.now row place) (IsFilled self.now row place → ⊥) }
+    {
+        match *self {
+            Figure::Rectangle { .. } | Figure::Triangle { .. } | Figure::Hexagon { .. } => true,
+            Figure::Shape {
+                width,
+                ref mask,
+                ..
+            } => mask[usize::from(row * width + place)],
         }
     }
 
@@ -135,32 +178,6 @@ impl Figure {
                 ref mask,
                 ..
             } => shapes::place_with(width, mask, row * width, left),
-        }
-    }
-
-    // How many rows there are.
-    fn rows(&self) -> u16
-        requires { IsBoard self.now }
-        ensures { result ≡ row_count self.now }
-    {
-        match *self {
-            Figure::Rectangle { height, .. } => height,
-            Figure::Triangle { size } => size,
-            Figure::Hexagon { size } => 2 * size,
-            Figure::Shape { height, .. } => height,
-        }
-    }
-
-    // How many places the row has.
-    fn row_length(&self, row: u16) -> u16
-        requires board { IsBoard self.now }
-        requires row { row < row_count self.now }
-        ensures { result ≡ row_length self.now row }
-    {
-        match *self {
-            Figure::Rectangle { width, .. } | Figure::Shape { width, .. } => width,
-            Figure::Triangle { .. } => 2 * row + 1,
-            Figure::Hexagon { size } => hexagons::row_length(size, row),
         }
     }
 

@@ -8,7 +8,6 @@ use crate::forms::{Form, Step, Way, side_of};
 use crate::sites::Site;
 use match_board::Figure;
 use match_puzzle::Puzzle;
-use match_show::{is_filled, row_count, row_length};
 
 /// An end of a side, clockwise.
 #[derive(Clone, Copy, PartialEq, Eq, Debug)]
@@ -118,7 +117,7 @@ fn has_square(figure: &Figure, site: Site, neighbour: Neighbour) -> bool
     let (Ok(row), Ok(place)) = (row, place) else {
         return false;
     };
-    row < row_count(figure) && place < row_length(figure, row) && is_filled(figure, row, place)
+    row < figure.rows() && place < figure.row_length(row) && figure.is_filled(row, place)
 }
 
 // So much further on along the side.

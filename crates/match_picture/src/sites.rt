@@ -8,7 +8,6 @@ ghost use Rattle.match_picture.specs.Sites.{AreSites, AreSitesTo, IsSiteAt};
 use crate::forms::Form;
 use match_board::Figure;
 use match_puzzle::Puzzle;
-use match_show::{is_filled, row_count, row_length};
 use std::alloc::{AllocError, Global};
 
 /// Where a cell or a tile is drawn: its form, and the upper left corner of the box round it, counted from that of the
@@ -26,7 +25,7 @@ pub fn sites_of(alloc: Global, puzzle: &Puzzle) -> Result<Vec<Site>, AllocError>
 {
     let figure = puzzle.board().figure();
     let mut sites = Vec::new(alloc);
-    for row in 0..row_count(figure) {
+    for row in 0..figure.rows() {
         add_row(&mut sites, figure, row)?;
     }
     Ok(sites)
@@ -39,8 +38,8 @@ fn add_row(sites: &mut Vec<Site>, figure: &Figure, row: u16) -> Result<(), Alloc
     requires above { AreSitesTo figure.now (cells_above figure.now row) sites.old.items }
     ensures { OnOk result (AreSitesTo figure.now (cells_above figure.now (row + 1)) sites.new.items) }
 {
-    for place in 0..row_length(figure, row) {
-        if is_filled(figure, row, place) {
+    for place in 0..figure.row_length(row) {
+        if figure.is_filled(row, place) {
             sites.push(site_of(figure, row, place))?;
         }
     }

@@ -5,7 +5,6 @@ ghost use Rattle.match_board.specs.Board.{row_count, cells_above};
 ghost use Rattle.match_show.specs.Rows.{IsRow, AreRows};
 
 use crate::faces::{Face, face_of};
-use crate::figures::{is_filled, row_length, rows};
 use match_puzzle::Partial;
 use std::alloc::{AllocError, Global};
 use std::marker::Model;
@@ -52,7 +51,7 @@ pub fn rows_of(
 {
     let mut found = Vec::new(alloc);
     let mut next = 0;
-    let count = rows(partial.puzzle().board().figure());
+    let count = partial.puzzle().board().figure().rows();
     for row in 0..count {
         let places = row_of(alloc, partial, mark, row, &mut next)?;
         found.push(Row::new(places))?;
@@ -75,8 +74,8 @@ fn row_of(
 {
     let figure = partial.puzzle().board().figure();
     let mut places = Vec::new(alloc);
-    for place in 0..row_length(figure, row) {
-        if is_filled(figure, row, place) {
+    for place in 0..figure.row_length(row) {
+        if figure.is_filled(row, place) {
             places.push(Some(face_of(partial, *next, mark)))?;
             *next += 1;
         } else {
