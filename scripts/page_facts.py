@@ -61,10 +61,11 @@ LIMITS = {
     "docs/PROVED.md": ["1 to {MOST_WORKERS} workers and 0 to {MOST_FORKS} forks", "over {MOST_ENTRIES} items"],
     "docs/MACHINE.md": ["1 to {MOST_WORKERS} workers and 1 to {MOST_WORKERS} queues"],
     "docs/SOLVING.md": ["(over {MOST_ENTRIES} items)", "(over {MOST_ARRANGEMENTS} to be listed)"],
-    "crates/match_board/README.md": ["`MOST_CELLS` ({MOST_CELLS})", "`MOST_PLAIN_CELLS` ({MOST_PLAIN_CELLS})"],
+    "crates/match_limits/README.md": ["`MOST_CELLS` ({MOST_CELLS})", "`MOST_PLAIN_CELLS` ({MOST_PLAIN_CELLS})"],
     "crates/steal_crew/README.md": ["At most {MOST_GIVEN} jobs are given by a job"],
     "crates/byte_streams/README.md": ["tried {MOST_TRIES} times"],
-    "crates/check_crew/README.md": ["a tree of under {LEAST_FORKED} nodes", "Below {LEAST_NODES} nodes the caller"],
+    "crates/cert_check/README.md": ["a tree of under {LEAST_FORKED} nodes"],
+    "crates/text_crew/README.md": ["Below {LEAST_NODES} nodes the caller"],
     "crates/match_census/README.md": ["at most {MOST_BRANCHES} branches"],
     "crates/match_crew/README.md": [
         "at most {MOST_PLANNED} branches",
@@ -274,7 +275,7 @@ def constants(folder):
 def limits(page):
     """The limits of the code and of scripts, and for a crate's page the numbers of the crate, by their names."""
     of_scripts = {name: value for name, value in globals().items() if name.startswith("MOST_")}
-    return of_scripts | constants("crates/match_board/src") | constants(os.path.join(os.path.dirname(page), "src"))
+    return of_scripts | constants("crates/match_limits/src") | constants(os.path.join(os.path.dirname(page), "src"))
 
 
 def limit_faults():

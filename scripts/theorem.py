@@ -129,7 +129,7 @@ def definition(module, name):
         return path, owner(path, name)
     places = [place for place in places[1:] if place != "TheVariants"]
     name = name if places[-1] == "TheConstants" else places[-1]
-    return f"{crate}/src/{'/'.join(places[:-1])}.rt", name
+    return f"{crate}/src/{'/'.join(places[:-1]) or 'lib'}.rt", name
 
 
 @functools.cache

@@ -40,7 +40,7 @@ WRONG_PAGES = [
     ("crates/match_show/README.md", "`write_facts`", "`write_fax`", "there is no write_fax, "),
     ("docs/FURTHER.md", "`cert_tree/src/nodes.rt`", "`cert_tree/src/node.rt`", "there is no cert_tree/src/node.rt"),
     ("README.md", "| `symmetries PUZZLE`", "| `symmetry PUZZLE`", "differ in symmetry"),
-    ("crates/match_board/src/limits.rt", "MOST_COLOURS: u8 = 36", "MOST_COLOURS: u8 = 35", "doesn't say: 35 colours"),
+    ("crates/match_limits/src/lib.rt", "MOST_COLOURS: u8 = 36", "MOST_COLOURS: u8 = 35", "doesn't say: 35 colours"),
     ("README.md", "(docs/LARGE.md)", "(docs/LARGER.md)", "leads to docs/LARGER.md, which isn't there"),
     (".ci/run", 'part "pages"', 'part "leaves"', "CONTRIBUTING.md has the parts"),
     ("docs/DECISIONS.md", None, f"\n{MANY}. {MANY}. {MANY}. {MANY}. {MANY}. {MANY}.\n", "docs/DECISIONS.md is larger"),

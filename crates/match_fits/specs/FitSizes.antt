@@ -1,5 +1,5 @@
 -- How many pairs fit and settle each item, in a table: the cells first, then the tiles.
-use Rattle.std.specs.Prelude.{◌≡◌, ◌≢◌, ◌<◌, ◌+◌, ◌*◌, ◌/◌, ◌==◌, cond, ℕ, List, [], ◌∷◌, Some, length}
+use Rattle.std.specs.Prelude.{◌≡◌, ◌≢◌, ◌<◌, ◌+◌, ◌*◌, ℕ, List, Some, length}
 use Rattle.std.specs.Prelude.{slice_get, slice_index, take}
 use Rattle.std.specs.List.{concat}
 use Rattle.match_board.specs.Board.{cell_count, Meets}
@@ -11,7 +11,6 @@ use Rattle.match_fits.specs.Placing.{FitInTurn, prefix_of}
 use Rattle.match_fits.specs.FitRows.{AreRows}
 use Rattle.match_fits.specs.declared.fit_sizes.TheConstants.{STEP, COVERED}
 use Rattle.match_puzzle.specs.declared.items.Item.{Item}
-use Rattle.match_puzzle.specs.declared.items.Item.TheVariants.{Cell, Tile}
 use Rattle.match_puzzle.specs.declared.placements.Pair.{Pair}
 
 -- For each open item the table has how many of the pairs among these settle it, times STEP, and the item's place.

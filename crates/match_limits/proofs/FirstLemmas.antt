@@ -1,5 +1,5 @@
 -- The first of what may occur.
-use Rattle.std.proofs.Common.{◌≡◌, ◌≢◌, ◌<◌, ℕ, Bool, true, false, MatchBool, eqb, eq-eqb, arith, refl, sym, ◌∙◌, subst}
+use Rattle.std.proofs.Common.{◌≡◌, ◌≢◌, ◌<◌, ℕ, Bool, true, false, MatchBool, eqb, eq-eqb, arith, refl, sym, ◌∙◌}
 use Rattle.std.proofs.lemmas.Bool.{eqb-true, false≢true}
 use Rattle.match_limits.specs.First.{IsLeast, IsLeastPair, Rank, AtMost, rank_by_two, rank_by_three}
 

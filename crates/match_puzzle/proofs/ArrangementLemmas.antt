@@ -1,9 +1,8 @@
 -- The first fault of a list of placements.
-use Rattle.std.proofs.Common.{eqb, eq-eqb, ◌≡◌, ◌≢◌, ◌<◌, ◌+◌, ℕ, Bool, true, false, MatchBool, List, Option, length, set, get_or, arith, refl, sym, ap, ◌∙◌, subst, ⊎_elim}
+use Rattle.std.proofs.Common.{◌≡◌, ◌≢◌, ◌<◌, ◌+◌, ℕ, Bool, true, false, MatchBool, List, Option, length, set, get_or, arith, sym, ap, ◌∙◌, subst, ⊎_elim}
 use Rattle.match_limits.specs.declared.TheConstants.{MOST_TILES}
 use Rattle.std.proofs.lemmas.Option.{slice_get-get_or, get_or_from_slice_get}
 use Rattle.std.proofs.lemmas.List.{get_or-set_same, get_or-set_other}
-use Rattle.std.proofs.lemmas.Bool.{eqb-true, false≢true}
 use Rattle.std.proofs.lemmas.Bool.Decides.{eqb_tells}
 use Rattle.match_puzzle.proofs.Prefixes.{inside}
 use Rattle.match_board.proofs.Places.{against_in_range, Meets-turned}

@@ -1,5 +1,5 @@
 -- What holds of each partial arrangement stays so.
-use Rattle.std.proofs.Common.{◌≡◌, ◌≢◌, ◌⊎◌, ◌<◌, ◌+◌, ◌*◌, ◌/◌, ◌%◌, ◌∷◌, [], ℕ, zero, suc, eqb, List, Option, Some, None, MatchBool, Contains, length, length-set, replicate, set, arith, refl, ap, sym, ◌∙◌, subst, inl, inr, ⊎_elim}
+use Rattle.std.proofs.Common.{◌≡◌, ◌≢◌, ◌⊎◌, ◌<◌, ◌+◌, ◌*◌, ◌/◌, ◌%◌, ℕ, eqb, List, Some, None, MatchBool, Contains, length, length-set, replicate, set, arith, ap, sym, ◌∙◌, subst, inl, inr, ⊎_elim}
 use Rattle.std.specs.Int.{bit_at}
 use Rattle.std.proofs.lemmas.Nat.Bits.{bit_at-zero, bit_at-lt as bit_at_lt, same_from_bits_below}
 use Rattle.std.proofs.lemmas.List.{length-replicate}

@@ -3,7 +3,7 @@ use Rattle.std.proofs.Common.{◌≡◌, ◌≢◌, ◌⊎◌, ◌<◌, ◌≤�
 use Rattle.match_limits.proofs.OptionLemmas.{none_some}
 use Rattle.match_limits.specs.declared.TheConstants.{MOST_COLOURS}
 use Rattle.std.proofs.lemmas.List.{length-map}
-use Rattle.match_board.specs.Board.{cell_count, side_count, Meets, IsBorderPair, IsBorderOrder}
+use Rattle.match_board.specs.Board.{cell_count, side_count, Meets, IsBorderPair}
 use Rattle.match_board.specs.declared.figures.Figure.{Figure}
 use Rattle.match_board.specs.declared.tiles.Tile.{Tile}
 use Rattle.match_board.specs.declared.borders.Border.{Border}

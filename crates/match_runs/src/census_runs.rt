@@ -1,9 +1,8 @@
 //! Runs that count the arrangements of a puzzle by a search.
 
-ghost use Rattle.std.specs.Prelude.{◌≡◌, ◌<◌, ◌≤◌, ◌++◌, ◌∷◌, [], IfOk, IfErr, MatchOption, OnOk, codes, decimal, length, vec_len};
+ghost use Rattle.std.specs.Prelude.{◌≡◌, ◌≤◌, ◌∷◌, [], IfOk, IfErr, MatchOption, codes, decimal, length, vec_len};
 ghost use Rattle.puzzle_symmetry.specs.Motion.{AreOfPuzzle};
-ghost use Rattle.text_words.specs.Spelling.{line_text, spaced};
-ghost use Rattle.command_words.specs.Parts.{parts_with};
+ghost use Rattle.text_words.specs.Spelling.{line_text};
 ghost use Rattle.match_show.specs.Facts.{number_line};
 ghost use Rattle.match_census.specs.Branches.{AreSelections, IsSplit};
 ghost use Rattle.match_census.specs.declared.splits.TheConstants.{MOST_BRANCHES};
