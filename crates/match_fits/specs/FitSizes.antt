@@ -6,7 +6,7 @@ use Rattle.match_board.specs.Board.{cell_count, Meets}
 use Rattle.match_limits.specs.Listing.{IsListing, ByKey}
 use Rattle.match_puzzle.specs.Puzzle.{Task, IsPuzzle, colour_of, mate_of}
 use Rattle.match_puzzle.specs.Prefix.{Prefix}
-use Rattle.match_puzzle.specs.Fitting.{Fits, Settles, IsItem, IsOpen, item_key}
+use Rattle.match_puzzle.specs.Fitting.{Fits, Settles, IsItem, IsOpen, item_key, item_place}
 use Rattle.match_fits.specs.Placing.{FitInTurn, prefix_of}
 use Rattle.match_fits.specs.FitRows.{AreRows}
 use Rattle.match_fits.specs.declared.fit_sizes.TheConstants.{STEP, COVERED}

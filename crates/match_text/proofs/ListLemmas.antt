@@ -1,5 +1,5 @@
 -- The list that is read is the one that was written, and what was written is read again.
-use Rattle.std.proofs.Common.{◌≡◌, ◌≢◌, ℕ, ◌+◌, ◌<◌, ◌≤◌, List, [], ◌∷◌, ◌++◌, length, take, map, Result, Ok, Err, refl, sym, ap, subst, ◌∙◌, append_assoc, arith, codes, inl, inr}
+use Rattle.std.proofs.Common.{◌≡◌, ◌≢◌, ℕ, ◌+◌, ◌<◌, ◌≤◌, List, [], ◌∷◌, ◌++◌, length, take, map, Result, Ok, Err, true, refl, sym, ap, subst, ◌∙◌, append_assoc, arith, codes, inl, inr}
 use Rattle.match_limits.specs.declared.TheConstants.{MOST_ARRANGEMENTS}
 use Rattle.std.specs.Prelude.{IfOk}
 use Rattle.std.specs.Global.{Vec}
@@ -21,18 +21,21 @@ use Rattle.match_text.specs.Lists.{ListSaid, arrangement_line, list_text, list_s
 use Rattle.text_words.specs.Spelling.{text_of, placement_word, first_words, count_words, end_lines}
 use Rattle.match_text.specs.ListSpelling.{arrangement_words, list_head, list_lines, list_spelling, said_spelling, IsRowWithin, IsListWithin, IsSpelledIn, IsSaidWithin}
 use Rattle.text_words.proofs.CutLemmas.{CutsShort, LeavesNothing, place, bind_ok, ok_is, cuts_bind, cuts_give, cuts_some_entries, cuts_line, cuts_times, cuts_opening, cuts_counted, cuts_closing, leaves_closing, leaves_after}
-use Rattle.text_words.proofs.WordLemmas.{spells_placement, clean-row}
+use Rattle.text_words.proofs.WordLemmas.{are_clean, spells_placement, clean-row}
 use Rattle.text_words.proofs.LineLemmas.{TakesLines, takes_line, takes_entries, takes_opening, takes_counted, closing_is, closing_again, times_is, times_again, lines_then, lines_apart}
 use Rattle.text_words.proofs.TextLaws.{reads_alone, reads_each, ends_where_cut}
 use Rattle.text_words.proofs.WritingLemmas.{text_of-append}
 use Rattle.match_limits.proofs.RangesLemmas.{are_ranges, first_is, second_is}
 use Rattle.text_words.specs.Within.{IsPlacementWithin}
 
-takes_arrangement : (ranges : Ranges) → AreRanges ranges → TakesLines (arrangement_line ranges) (λ row. arrangement_words row ∷ []) (IsRowWithin ranges)
+pub clean_arrangement : (ranges : Ranges) → AreRanges ranges → (row : List Placement) → IsRowWithin ranges row → are_clean (arrangement_words row) ≡ true
+clean_arrangement ranges are row fits = clean-row ranges are row fits.0 fits.2
+
+pub takes_arrangement : (ranges : Ranges) → AreRanges ranges → TakesLines (arrangement_line ranges) (λ row. arrangement_words row ∷ []) (IsRowWithin ranges)
 unfolding arrangement_line
 takes_arrangement ranges are =
     takes_line (some_entries ranges.most_cells (placement_in ranges)) arrangement_words (IsRowWithin ranges)
-    (takes_entries (placement_in ranges) placement_word (IsPlacementWithin ranges) (spells_placement ranges are) ranges.most_cells) (λ row fits. clean-row ranges are row fits.0 fits.2)
+    (takes_entries (placement_in ranges) placement_word (IsPlacementWithin ranges) (spells_placement ranges are) ranges.most_cells) (clean_arrangement ranges are)
 
 abbrev row_lines : List (List Placement) → List (List (List ℕ))
 row_lines rows = flat_map (λ row. arrangement_words row ∷ []) rows
@@ -103,7 +106,7 @@ list_again said fits =
 
 -- ---- texts that are cut short
 
-cuts_arrangement : (ranges : Ranges) → CutsShort (arrangement_line ranges)
+pub cuts_arrangement : (ranges : Ranges) → CutsShort (arrangement_line ranges)
 unfolding arrangement_line
 cuts_arrangement ranges = cuts_line (some_entries ranges.most_cells (placement_in ranges)) (cuts_some_entries ranges.most_cells (placement_in ranges))
 
@@ -214,11 +217,13 @@ reads_back version rows fits (Ok text) e = ap list_of e ∙ rows_only version ro
 reads_back version rows fits (Err error) e = tt
 
 -- the parts of a spelling, one behind the other
-pub list_parts : (version : ℕ) (rows : List (List Placement))
-    → list_spelling version rows ≡ ((text_of (first_words (codes "list") version ∷ []) ++ text_of (count_words (codes "arrangements") (length rows) ∷ [])) ++ text_of (map arrangement_words rows)) ++ text_of end_lines
+pub list_parts : (version : ℕ) (rows : List (List Placement)) → list_spelling version rows ≡ (text_of (list_head version (length rows)) ++ text_of (map arrangement_words rows)) ++ text_of end_lines
 unfolding list_spelling
 list_parts version rows =
     let head = list_head version (length rows) in
     text_of-append head (map arrangement_words rows ++ end_lines) ∙ ap (λ t. text_of head ++ t) (text_of-append (map arrangement_words rows) end_lines)
     ∙ sym (append_assoc (text_of head) (text_of (map arrangement_words rows)) (text_of end_lines))
-    ∙ ap (λ t. (t ++ text_of (map arrangement_words rows)) ++ text_of end_lines) (text_of-append (first_words (codes "list") version ∷ []) (count_words (codes "arrangements") (length rows) ∷ []))
+
+-- what stands before the arrangements
+pub head_parts : (version count : ℕ) → text_of (list_head version count) ≡ text_of (first_words (codes "list") version ∷ []) ++ text_of (count_words (codes "arrangements") count ∷ [])
+head_parts version count = text_of-append (first_words (codes "list") version ∷ []) (count_words (codes "arrangements") count ∷ [])

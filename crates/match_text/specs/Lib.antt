@@ -1,5 +1,7 @@
 pub mod Lists
+pub mod ListParts
 pub mod Puzzles
 pub mod Faults
 pub mod ListSpelling
 pub mod PuzzleSpelling
+pub mod RowLines

@@ -38,7 +38,7 @@ fn is_row_within(ranges: &Ranges, row: &Arrangement) -> bool
         && (count <= usize::from(ranges.most_cells) && are_placements_within(ranges, placements))
 }
 
-fn are_rows_within(ranges: &Ranges, rows: &[Arrangement]) -> bool
+pub(crate) fn are_rows_within(ranges: &Ranges, rows: &[Arrangement]) -> bool
     ensures { MatchBool result (AllByRecursion (IsRowWithin ranges.now) rows.now)
         (AllByRecursion (IsRowWithin ranges.now) rows.now → ⊥) }
 {
@@ -83,7 +83,7 @@ fn put_row(text: &mut Vec<u8>, row: &[Placement]) -> Result<(), AllocError>
     Ok(())
 }
 
-fn put_rows(text: &mut Vec<u8>, rows: &[Arrangement]) -> Result<(), AllocError>
+pub(crate) fn put_rows(text: &mut Vec<u8>, rows: &[Arrangement]) -> Result<(), AllocError>
     ensures { OnOk result (text.new.items ≡ text.old.items ++ text_of (map arrangement_words rows.now)) }
 {
     for row in rows {
@@ -92,14 +92,22 @@ fn put_rows(text: &mut Vec<u8>, rows: &[Arrangement]) -> Result<(), AllocError>
     Ok(())
 }
 
+// What stands before so many arrangements in this version.
+pub(crate) fn heading(alloc: Global, version: u8, count: usize) -> Result<Vec<u8>, AllocError>
+    ensures { IfOk result (λ text. text.items ≡ text_of (list_head version count)) }
+{
+    let mut text = Vec::new(alloc);
+    put_number_line(&mut text, b"list", u64::from(version))?;
+    put_number_line(&mut text, b"arrangements", count as u64)?;
+    Ok(text)
+}
+
 // The text of the list in this version.
 fn list_text(alloc: Global, version: u8, list: &[Arrangement]) -> Result<Vec<u8>, AllocError>
     requires { length list.now ≤ MOST_ARRANGEMENTS }
     ensures { IfOk result (λ text. text.items ≡ list_spelling version list.now) }
 {
-    let mut text = Vec::new(alloc);
-    put_number_line(&mut text, b"list", u64::from(version))?;
-    put_number_line(&mut text, b"arrangements", list.len() as u64)?;
+    let mut text = heading(alloc, version, list.len())?;
     put_rows(&mut text, list)?;
     put_end(&mut text)?;
     Ok(text)

@@ -1,5 +1,6 @@
 -- The texts of a list and of a certificate, read and written.
-use Rattle.std.specs.Prelude.{◌≡◌, ℕ, List, Result, Vec, IfOk}
+use Rattle.std.specs.Prelude.{◌≡◌, ◌+◌, ℕ, List, Result, Vec, IfOk}
+use Rattle.std.specs.List.{slice_range}
 use Rattle.std.specs.declared.alloc.Global.{Global}
 use Rattle.match_puzzle.specs.declared.placements.Placement.{Placement}
 use Rattle.match_text.specs.ListSpelling.{IsListWithin, list_spelling}
@@ -10,6 +11,7 @@ use Rattle.match_limits.specs.declared.ranges.TheConstants.{FIRST, SECOND}
 use Rattle.cert_tree.specs.Certificate.{Contents}
 use Rattle.cert_text.specs.CertificateSpelling.{certificate_spelling, IsCertificateWithin}
 use Rattle.cert_text.specs.Writing.{said_by}
+use Rattle.text_crew.specs.LemmaParts.{part_start}
 
 -- What was read of a list's text: the list that it spells, which can be written, or its first fault.
 abbrev pub IsListRead : (text : List ℕ) → Result (Vec (List Placement) Global) ReadFault → Type 0
@@ -25,3 +27,7 @@ pub record IsListText (listed : List (List Placement)) (text : List ℕ) : Type 
 pub record IsCertificateText (c : Contents) (text : List ℕ) : Type 0 where
   pub first : IsCertificateWithin (said_by 1 c) → text ≡ certificate_spelling (said_by 1 c)
   pub second : (IsCertificateWithin (said_by 1 c) → ⊥) → text ≡ certificate_spelling (said_by 2 c)
+
+-- the arrangements of the part with this number, of those that begin there
+abbrev pub rows_of_part : List (List Placement) → (starts : List ℕ) → (number : ℕ) → List (List Placement)
+rows_of_part listed starts number = slice_range listed (part_start starts number) (part_start starts (number + 1))

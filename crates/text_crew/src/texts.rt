@@ -1,29 +1,29 @@
-//! The texts of a list and of a certificate are read, and written, at once.
+//! The texts of a list and of a certificate are read, and written.
 
 ghost use Rattle.std.specs.Prelude.{◌+◌, ◌<◌, ◌≤◌, ◌^◌, IfOk, length};
 ghost use Rattle.std.specs.Thread.{IsSync};
 ghost use Rattle.match_limits.specs.declared.TheConstants.{MOST_WORKERS};
 ghost use Rattle.match_text.specs.ListSpelling.{IsListWithin};
+ghost use Rattle.match_text.specs.RowLines.{AreParts};
 ghost use Rattle.match_limits.specs.declared.ranges.TheConstants.{SECOND};
 ghost use Rattle.cert_text.specs.CertificateSpelling.{IsCertificateWithin};
 ghost use Rattle.cert_text.specs.CertificateText.{CertificateGives, certificate_of};
 ghost use Rattle.cert_text.specs.Writing.{said_by};
 ghost use Rattle.text_crew.specs.Texts.{IsCertificateText, IsListRead, IsListText};
 
+use crate::list_readings::read_list_with;
+use crate::list_writings::write_row_parts;
 use crate::readings::read_certificate_with;
 use crate::writings::write_certificate_with;
 use cert_text::CertTextFault;
 use cert_tree::Certificate;
 use match_puzzle::Arrangement;
-use match_text::{ListTextFault, read_list, write_list};
+use match_text::{ListTextFault, join_list, write_list};
 use std::alloc::{AllocError, Global};
 use std::thread::Threads;
 use steal_crew::both;
 
-// A list of fewer bytes is read before another thread would have started.
-const LEAST_BYTES: usize = 1 << 16;
-
-// One of fewer arrangements is written before that.
+// A list of fewer arrangements is written before another thread would have started.
 const LEAST_LISTED: usize = 1_024;
 
 /// What the texts of a list and of a certificate were read as.
@@ -40,43 +40,10 @@ pub struct WrittenTexts {
     pub certificate: Vec<u8>,
 }
 
-// The same, each on a thread of its own; the certificate by so many workers.
-fn read_at_once<R: Threads + Sync>(
-    rt: &R,
-    alloc: Global,
-    list: &[u8],
-    certificate: &[u8],
-    workers: u8,
-) -> Result<ReadTexts, AllocError>
-    requires list { length list.now + 1 < 2 ^ 32 }
-    requires certificate { length certificate.now + 1 < 2 ^ 32 }
-    requires workers { (1 ≤ workers) × (workers ≤ MOST_WORKERS) }
-    ensures list { IfOk result (λ read. IsListRead list.now read.listed) }
-    ensures certificate { IfOk result (λ read. CertificateGives read.certificate (certificate_of certificate.now)) }
-{
-    let (certificate, listed) = both(
-        rt,
-        || -> Result<Result<Certificate, CertTextFault>, AllocError>
-            requires { IsSync R.row × (length certificate.now + 1 < 2 ^ 32) × (1 ≤ workers) × (workers ≤ MOST_WORKERS) }
-            ensures { IfOk result (λ read. CertificateGives read (certificate_of certificate.entry.now)) }
-        { Ok(read_certificate_with(rt, alloc, certificate, workers)) },
-        // On the caller's thread, where memory for many small pieces comes with the fewest calls of the system.
-        || -> Result<Result<Vec<Arrangement>, ListTextFault>, AllocError>
-            requires { length list.now + 1 < 2 ^ 32 }
-            ensures { IfOk result (IsListRead list.entry.now) }
-        { Ok(read_list(alloc, list)) },
-    )?;
-    Ok(ReadTexts {
-        listed,
-        certificate,
-    })
-}
-
-/// What [`read_list`] reads of the one text and [`read_certificate_with`] of the other, at once.
+/// What [`read_list_with`] reads of the one text, and then [`read_certificate_with`] of the other.
 ///
-/// Each fault stands where it was found, and so it is the caller's to look at the list's first. The list is read on the
-/// caller's thread: with one worker, or where it has less than 64 KiB, before the certificate, and else while workers on
-/// other threads read that. Want of memory is each reading's own fault.
+/// Each fault stands where it was found, and so it is the caller's to look at the list's first. Want of memory is each
+/// reading's own fault.
 pub fn read_texts_with<R: Threads + Sync>(
     rt: &R,
     alloc: Global,
@@ -90,10 +57,7 @@ pub fn read_texts_with<R: Threads + Sync>(
     ensures list { IfOk result (λ read. IsListRead list.now read.listed) }
     ensures certificate { IfOk result (λ read. CertificateGives read.certificate (certificate_of certificate.now)) }
 {
-    if workers > 1 && list.len() >= LEAST_BYTES {
-        return read_at_once(rt, alloc, list, certificate, workers);
-    }
-    let listed = read_list(alloc, list);
+    let listed = read_list_with(rt, alloc, list, workers);
     let certificate = read_certificate_with(rt, alloc, certificate, workers);
     Ok(ReadTexts {
         listed,
@@ -101,7 +65,7 @@ pub fn read_texts_with<R: Threads + Sync>(
     })
 }
 
-// Both texts, each written on a thread of its own; the certificate's by so many workers.
+// Both texts, by so many workers. The list's lines are put together while the certificate's are written.
 fn write_at_once<R: Threads + Sync>(
     rt: &R,
     alloc: Global,
@@ -115,12 +79,14 @@ fn write_at_once<R: Threads + Sync>(
     ensures list { IfOk result (λ texts. IsListText listed.now texts.list.items) }
     ensures certificate { IfOk result (λ texts. IsCertificateText certificate.now texts.certificate.items) }
 {
+    let parts = write_row_parts(rt, alloc, listed, workers)?;
+    let lines = parts.as_slice();
     let (list, certificate) = both(
         rt,
         || -> Result<Vec<u8>, AllocError>
-            requires { IsListWithin SECOND listed.now }
+            requires { IsListWithin SECOND listed.now × AreParts listed.now lines.now }
             ensures { IfOk result (λ text. IsListText listed.entry.now text.items) }
-        { write_list(alloc, listed) },
+        { join_list(alloc, listed, lines) },
         || -> Result<Vec<u8>, AllocError>
             requires { IsSync R.row × IsCertificateWithin (said_by 2 certificate.now)
                 × (1 ≤ workers) × (workers ≤ MOST_WORKERS) }
@@ -132,8 +98,8 @@ fn write_at_once<R: Threads + Sync>(
 
 /// What [`write_list`] writes of the list and [`write_certificate_with`] of the certificate, at once.
 ///
-/// With one worker, or fewer than 1,024 arrangements, the list's text is written first, on the caller's thread; else on a
-/// thread of its own, beside those of the workers.
+/// With one worker, or fewer than 1,024 arrangements, the list's text is written first, on the caller's thread. Else its
+/// lines are written by a crew, eight parts for each worker, and are put together beside the workers of the certificate.
 pub fn write_texts_with<R: Threads + Sync>(
     rt: &R,
     alloc: Global,

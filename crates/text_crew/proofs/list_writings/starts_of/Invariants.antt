@@ -1,0 +1,5 @@
+use Rattle.text_crew.proofs.CutLemmas.{AreFirstStarts}
+use Rattle.text_crew.proofs.list_writings.starts_of.Given as goal
+
+abbrev pub invariant-loop-number : goal.invariant-loop-number
+invariant-loop-number l = AreFirstStarts l.number l.starts.items
