@@ -12,3 +12,5 @@ pub mod ReadingLemmas
 pub mod SpacedLemmas
 pub mod WholeLemmas
 pub mod LawLemmas
+pub mod CutLemmas
+pub mod WritingLemmas

@@ -10,3 +10,4 @@ pub mod Lines
 pub mod Parts
 pub mod Writing
 pub mod Laws
+pub mod LemmaParts

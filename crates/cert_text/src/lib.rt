@@ -1,17 +1,21 @@
 //! Texts of lemmas and of certificates.
 #![tactic(auto)]
 
+mod crew_limits;
 mod entries;
 mod faults;
 mod laws;
+mod lemma_parts;
 mod limits;
 mod parts;
 mod readers;
 mod spellings;
 mod tree_readers;
 
+pub use crew_limits::within_limits_with;
 pub use faults::{CertTextFault, LemmaTextFault};
 pub use laws::{certificate_laws, lemma_laws};
+pub use lemma_parts::LemmaParts;
 pub use limits::{WithinLimits, are_lemmas_within_limits, are_symmetries_within_limits};
 pub use parts::{CutCertificate, LemmaPart, cut_certificate};
 pub use readers::{

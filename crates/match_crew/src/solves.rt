@@ -19,6 +19,7 @@ use crate::shared::Shared;
 use crate::strategy::items::ItemRule;
 use crate::strategy::plans::Planner;
 use crate::strategy::roots::plan_by_dives;
+use cert_text::within_limits_with;
 use cert_tree::{AssembleFault, Certificate};
 use match_limits::{MOST_ARRANGEMENTS, MOST_LEMMAS};
 use match_puzzle::{Arrangement, Puzzle};
@@ -31,7 +32,6 @@ use std::sync::Wait;
 use std::sync::atomic::{AtomicBool, AtomicU64};
 use std::thread::Threads;
 use steal_crew::{Crew, run_live};
-use text_crew::within_limits_with;
 use xcc_dance::{Unwatched, Watch};
 use xcc_form::{Xcc, compile};
 

@@ -20,7 +20,9 @@ use crate::hints::{HintedFault, hint_on, with_hint};
 use crate::running::run_by;
 use byte_streams::{Document, MadeText, OneSink, OneSource, Sink, Source, Text};
 use command_words::{Extent, Part};
-use match_census::{Branch, CensusWatch, Count, count_arrangements, count_with_crew, hash_of, part_of, split};
+use match_census::{
+    Branch, CensusWatch, Count, count_arrangements, count_with_crew, hash_of, part_of, split,
+};
 use match_crew::SolveFault;
 use match_limits::Workers;
 use match_puzzle::Puzzle;

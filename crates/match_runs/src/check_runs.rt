@@ -14,7 +14,10 @@ use crate::questions::read_question_with;
 use crate::running::run_by;
 use crate::statuses::Status;
 use crate::watches::{CheckWatch, Watched};
-use byte_streams::{Documents, Inputs, JoinedSource, MadeText, OneSink, Outputs, OwnedDocuments, Sink, Source, ThreeSources};
+use byte_streams::{
+    Documents, Inputs, JoinedSource, MadeText, OneSink, Outputs, OwnedDocuments, Sink, Source,
+    ThreeSources,
+};
 use cert_check::{Open, check_question};
 use match_limits::{Forks, Workers};
 use match_report::write_answer;

@@ -22,7 +22,9 @@ use crate::hints::{HintedFault, hint_of, with_hint, without_hint};
 use crate::questions::read_question;
 use crate::running::run_by;
 use crate::statuses::Status;
-use byte_streams::{Documents, Inputs, MadeText, OneSink, Outputs, OwnedDocuments, Sink, Source, ThreeSources};
+use byte_streams::{
+    Documents, Inputs, MadeText, OneSink, Outputs, OwnedDocuments, Sink, Source, ThreeSources,
+};
 use cert_check::{Answer, Fault, Open, Prepared, Question};
 use match_explain::write_explanation;
 use match_report::{expand, write_answer};

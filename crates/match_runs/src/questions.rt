@@ -15,12 +15,12 @@ use byte_streams::Documents;
 use cert_check::Question;
 use cert_text::{CertTextFault, read_certificate};
 use cert_tree::Certificate;
-use match_crew::{ReadTexts, read_texts_with};
 use match_puzzle::{Arrangement, Puzzle};
 use match_text::{read_list, read_puzzle};
 use std::alloc::Global;
 use std::marker::Model;
 use std::thread::Threads;
+use text_crew::{ReadTexts, read_texts_with};
 
 /// A question and what it is about: the puzzle, the list, of at most 1,000,000 arrangements, and the certificate.
 #[derive(Drop)]

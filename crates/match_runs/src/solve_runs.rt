@@ -16,9 +16,11 @@ use crate::faults::RunFault;
 use crate::hints::{HintedFault, with_hint, without_hint};
 use crate::running::run_by;
 use crate::watches::{SolveWatch, Watched};
-use byte_streams::{Document, Inputs, MadeText, OneSource, Outputs, Products, Sink, Source, Text, ThreeSinks};
+use byte_streams::{
+    Document, Inputs, MadeText, OneSource, Outputs, Products, Sink, Source, Text, ThreeSinks,
+};
 use cert_tree::Certificate;
-use match_crew::{Solved, Unwatched, solve_watched, write_texts_with};
+use match_crew::{Solved, Unwatched, solve_watched};
 use match_limits::{Depth, Fuel, MOST_WORKERS, Workers};
 use match_puzzle::{Arrangement, Puzzle};
 use match_report::{Taken, write_board, write_tally};
@@ -26,6 +28,7 @@ use match_text::read_puzzle;
 use std::alloc::{AllocError, Global};
 use std::sync::Wait;
 use std::thread::Threads;
+use text_crew::write_texts_with;
 use text_words::put_number_line;
 
 /// By what a puzzle is searched.

@@ -1,3 +1,1 @@
-pub mod CutLemmas
-pub mod WritingLemmas
 pub mod RowPartLemmas

@@ -9,7 +9,7 @@ use Rattle.match_text.specs.declared.row_lines.RowLines.{RowLines}
 use Rattle.match_text.specs.RowLines.{AreLinesOf, AreParts}
 use Rattle.match_text.proofs.PartLemmas.{from_place}
 use Rattle.steal_crew.specs.Results.{Belongs}
-use Rattle.text_crew.specs.LemmaParts.{AreStarts, part_start}
+use Rattle.cert_text.specs.LemmaParts.{AreStarts, part_start}
 use Rattle.text_crew.specs.Texts.{rows_of_part}
 
 module _ (rows : List (List Placement)) (starts : List ℕ) (parts : List RowLines) (are : AreStarts (length rows) starts) (many : length starts ≡ length parts + 1) (each : Belongs (λ n lines. AreLinesOf (rows_of_part rows starts n) lines) parts) where

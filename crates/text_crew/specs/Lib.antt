@@ -1,2 +1,1 @@
-pub mod LemmaParts
 pub mod Texts

@@ -11,7 +11,7 @@ use Rattle.match_limits.specs.declared.ranges.TheConstants.{FIRST, SECOND}
 use Rattle.cert_tree.specs.Certificate.{Contents}
 use Rattle.cert_text.specs.CertificateSpelling.{certificate_spelling, IsCertificateWithin}
 use Rattle.cert_text.specs.Writing.{said_by}
-use Rattle.text_crew.specs.LemmaParts.{part_start}
+use Rattle.cert_text.specs.LemmaParts.{part_start}
 
 -- What was read of a list's text: the list that it spells, which can be written, or its first fault.
 abbrev pub IsListRead : (text : List ℕ) → Result (Vec (List Placement) Global) ReadFault → Type 0

@@ -3,7 +3,7 @@
 ghost use Rattle.std.specs.Prelude.{◌≤◌, IfOk, length};
 ghost use Rattle.match_limits.specs.declared.TheConstants.{MOST_WORKERS};
 ghost use Rattle.match_text.specs.RowLines.{AreParts};
-ghost use Rattle.text_crew.specs.LemmaParts.{AreStarts};
+ghost use Rattle.cert_text.specs.LemmaParts.{AreStarts};
 
 use match_puzzle::Arrangement;
 use match_text::{RowLines, write_rows};
@@ -47,7 +47,7 @@ struct ListParts<'a> {
 impl<'a> Work for ListParts<'a> {
     ghost use Rattle.std.specs.Prelude.{◌<◌, ◌+◌, length};
     ghost use Rattle.match_text.specs.RowLines.{AreLinesOf};
-    ghost use Rattle.text_crew.specs.LemmaParts.{AreStarts};
+    ghost use Rattle.cert_text.specs.LemmaParts.{AreStarts};
     ghost use Rattle.text_crew.specs.Texts.{rows_of_part};
 
     type R = RowLines;

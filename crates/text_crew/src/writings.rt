@@ -5,11 +5,11 @@ ghost use Rattle.match_limits.specs.declared.TheConstants.{MOST_WORKERS};
 ghost use Rattle.cert_text.specs.CertificateSpelling.{certificate_spelling, IsCertificateWithin};
 ghost use Rattle.cert_text.specs.CertificateText.{Makes, certificate_of};
 ghost use Rattle.cert_text.specs.Writing.{said_by};
-ghost use Rattle.text_crew.specs.LemmaParts.{AreCut, AreLines, AreOfParts};
+ghost use Rattle.cert_text.specs.LemmaParts.{AreCut, AreLines, AreOfParts};
 
-use crate::lemma_parts::LemmaParts;
-use crate::limits::within_limits_with;
-use cert_text::{join_certificate, write_certificate, write_lemma_lines};
+use cert_text::{
+    LemmaParts, join_certificate, within_limits_with, write_certificate, write_lemma_lines,
+};
 use cert_tree::Certificate;
 use std::alloc::{AllocError, Global};
 use std::thread::Threads;
@@ -24,7 +24,7 @@ struct Lines<'a, 'p> {
 
 impl<'a, 'p> Work for Lines<'a, 'p> {
     ghost use Rattle.std.specs.Prelude.{◌+◌};
-    ghost use Rattle.text_crew.specs.LemmaParts.{AreLines, IsPart, part_start};
+    ghost use Rattle.cert_text.specs.LemmaParts.{AreLines, IsPart, part_start};
 
     type R = Vec<u8>;
 

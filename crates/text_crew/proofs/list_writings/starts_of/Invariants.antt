@@ -1,4 +1,4 @@
-use Rattle.text_crew.proofs.CutLemmas.{AreFirstStarts}
+use Rattle.cert_text.proofs.CutLemmas.{AreFirstStarts}
 use Rattle.text_crew.proofs.list_writings.starts_of.Given as goal
 
 abbrev pub invariant-loop-number : goal.invariant-loop-number

@@ -2,8 +2,8 @@ use Rattle.std.proofs.Common.{◌≡◌, IfSome, Vec, ℕ, ap, subst, ◌∙◌}
 use Rattle.std.specs.declared.alloc.Global.{Global}
 use Rattle.std.specs.List.{flat_map}
 use Rattle.cert_text.specs.CertificateSpelling.{lemma_lines}
-use Rattle.text_crew.specs.LemmaParts.{AreCut}
-use Rattle.text_crew.proofs.WritingLemmas.{all_parts}
+use Rattle.cert_text.specs.LemmaParts.{AreCut}
+use Rattle.cert_text.proofs.WritingLemmas.{all_parts}
 use Rattle.text_crew.proofs.writings.write_certificate_with.Goals as goal
 
 pub join_certificate-requires-clause-lines : goal.join_certificate-requires-clause-lines

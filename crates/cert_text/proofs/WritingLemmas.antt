@@ -11,7 +11,7 @@ use Rattle.match_limits.specs.Ranges.{ranges_of}
 use Rattle.text_words.specs.Spelling.{text_of}
 use Rattle.cert_tree.specs.Certificate.{Piece}
 use Rattle.cert_text.specs.CertificateSpelling.{lemma_lines, AreWithinBetween}
-use Rattle.text_crew.specs.LemmaParts.{part_start, AreCut, AreOfParts, AreLines, TellsOfLimits}
+use Rattle.cert_text.specs.LemmaParts.{part_start, AreCut, AreOfParts, AreLines, TellsOfLimits}
 
 -- ---- lines
 

@@ -5,10 +5,10 @@ ghost use Rattle.match_limits.specs.declared.TheConstants.{MOST_WORKERS};
 ghost use Rattle.match_limits.specs.Ranges.{IsVersion};
 ghost use Rattle.cert_text.specs.CertificateSpelling.{IsCertificateWithin};
 ghost use Rattle.cert_text.specs.Writing.{said_by};
-ghost use Rattle.text_crew.specs.LemmaParts.{AreCut, AreOfParts, TellsOfLimits};
+ghost use Rattle.cert_text.specs.LemmaParts.{AreCut, AreOfParts, TellsOfLimits};
 
 use crate::lemma_parts::LemmaParts;
-use cert_text::{are_lemmas_within_limits, are_symmetries_within_limits};
+use crate::limits::{are_lemmas_within_limits, are_symmetries_within_limits};
 use cert_tree::{Certificate, Lemmas};
 use std::alloc::{AllocError, Global};
 use std::thread::Threads;
@@ -24,7 +24,7 @@ struct Limits<'a, 'p> {
 impl<'a, 'p> Work for Limits<'a, 'p> {
     ghost use Rattle.std.specs.Prelude.{◌+◌};
     ghost use Rattle.match_limits.specs.Ranges.{IsVersion};
-    ghost use Rattle.text_crew.specs.LemmaParts.{TellsOfLimits, IsPart, part_start};
+    ghost use Rattle.cert_text.specs.LemmaParts.{TellsOfLimits, IsPart, part_start};
 
     type R = bool;
 

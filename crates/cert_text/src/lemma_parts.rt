@@ -3,7 +3,7 @@
 ghost use Rattle.std.specs.Prelude.{◌≡◌, ◌≤◌, IfOk, length};
 ghost use Rattle.match_limits.specs.declared.TheConstants.{MOST_LEMMAS};
 ghost use Rattle.cert_tree.specs.Certificate.{Piece};
-ghost use Rattle.text_crew.specs.LemmaParts.{AreCut, AreStarts, IsPart, part_start};
+ghost use Rattle.cert_text.specs.LemmaParts.{AreCut, AreStarts, IsPart, part_start};
 
 use cert_tree::Lemmas;
 use std::alloc::{AllocError, Global};
@@ -44,20 +44,21 @@ fn starts_of(alloc: Global, lemmas: &Lemmas, nodes: usize) -> Result<Vec<usize>,
     Ok(starts)
 }
 
-// Lemmas that are cut into parts, where each begins and the last one ends.
+/// Lemmas that are cut into parts.
 #[derive(Drop)]
-pub(crate) struct LemmaParts<'a> {
+pub struct LemmaParts<'a> {
     pub lemmas: &'a Lemmas,
+    /// Where each part begins, and the last one ends.
     pub starts: Vec<usize>,
 }
 
 impl<'a> LemmaParts<'a> {
     ghost use Rattle.std.specs.Prelude.{◌≡◌, ◌<◌, ◌≤◌, ◌+◌, ℕ, IfOk, IfSome, length};
     ghost use Rattle.match_limits.specs.declared.TheConstants.{MOST_LEMMAS};
-    ghost use Rattle.text_crew.specs.LemmaParts.{AreCut, IsPart, part_start};
+    ghost use Rattle.cert_text.specs.LemmaParts.{AreCut, IsPart, part_start};
 
-    // Parts of about as many nodes each, for so many workers. None where they are soon gone through by one.
-    pub(crate) fn cut(
+    /// Parts of about as many nodes each, for so many workers. None where they are soon gone through by one.
+    pub fn cut(
         alloc: Global,
         lemmas: &'a Lemmas,
         workers: u8,
@@ -74,8 +75,8 @@ impl<'a> LemmaParts<'a> {
         Ok(Some(LemmaParts { lemmas, starts }))
     }
 
-    // How many parts there are.
-    pub(crate) fn count(&self) -> u32
+    /// How many parts there are.
+    pub fn count(&self) -> u32
         requires { AreCut self.now.lemmas.now self.now.starts.items }
         ensures few { result ≤ MOST_LEMMAS }
         ensures parts { (number : ℕ) → number < result → IsPart self.now.lemmas.now self.now.starts.items number }
@@ -84,8 +85,8 @@ impl<'a> LemmaParts<'a> {
         (self.starts.len() - 1) as u32
     }
 
-    // The numbers from which the part has its lemmas and up to which, which is left out.
-    pub(crate) fn bounds(&self, number: u32) -> (usize, usize)
+    /// The numbers from which the part has its lemmas and up to which, which is left out.
+    pub fn bounds(&self, number: u32) -> (usize, usize)
         requires { IsPart self.now.lemmas.now self.now.starts.items number }
         ensures first { result.0 ≡ part_start self.now.starts.items number }
         ensures last { result.1 ≡ part_start self.now.starts.items (number + 1) }

@@ -3,8 +3,8 @@ use Rattle.match_limits.specs.Ranges.{ranges_of}
 use Rattle.cert_tree.specs.Certificate.{Piece}
 use Rattle.cert_text.specs.CertificateSpelling.{AreSymmetriesWithin}
 use Rattle.cert_text.proofs.WholeLemmas.{whole_within}
-use Rattle.text_crew.specs.LemmaParts.{TellsOfLimits}
-use Rattle.text_crew.proofs.limits.within_limits_with.Goals as goal
+use Rattle.cert_text.specs.LemmaParts.{TellsOfLimits}
+use Rattle.cert_text.proofs.crew_limits.within_limits_with.Goals as goal
 
 pub returns : goal.returns
 returns g c =

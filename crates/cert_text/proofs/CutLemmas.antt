@@ -2,7 +2,7 @@
 use Rattle.std.proofs.Common.{◌≡◌, ◌≤◌, ◌<◌, ◌+◌, ◌-◌, ◌++◌, ℕ, List, [], ◌∷◌, length, get_or, arith, refl, sym, ap, subst, ◌∙◌, ⊎_elim}
 use Rattle.std.proofs.lemmas.List.{length-append, get_or_append_left, get_or_push}
 use Rattle.match_limits.proofs.Listings.{lt_or_le}
-use Rattle.text_crew.specs.LemmaParts.{part_start, AreStarts}
+use Rattle.cert_text.specs.LemmaParts.{part_start, AreStarts}
 
 -- Parts begin there, at most at the lemma with this number.
 pub record AreFirstStarts (number : ℕ) (starts : List ℕ) : Type 0 where

@@ -1,6 +1,6 @@
 use Rattle.std.proofs.Common.{arith}
-use Rattle.text_crew.proofs.WritingLemmas.{all_first, part_fails, part_more}
-use Rattle.text_crew.proofs.limits.are_all.Goals as goal
+use Rattle.cert_text.proofs.WritingLemmas.{all_first, part_fails, part_more}
+use Rattle.cert_text.proofs.crew_limits.are_all.Goals as goal
 
 pub returns-then-not-told-number : goal.returns-then-not-told-number
 returns-then-not-told-number c =
