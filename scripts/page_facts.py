@@ -65,7 +65,7 @@ LIMITS = {
     "crates/steal_crew/README.md": ["At most {MOST_GIVEN} jobs are given by a job"],
     "crates/byte_streams/README.md": ["tried {MOST_TRIES} times"],
     "crates/cert_check/README.md": ["a tree of under {LEAST_FORKED} nodes"],
-    "crates/text_crew/README.md": ["Below {LEAST_NODES} nodes the caller"],
+    "crates/cert_text/README.md": ["Below {LEAST_NODES} nodes the caller"],
     "crates/match_census/README.md": ["at most {MOST_BRANCHES} branches"],
     "crates/match_crew/README.md": [
         "at most {MOST_PLANNED} branches",

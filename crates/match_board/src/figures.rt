@@ -5,7 +5,7 @@ ghost use Rattle.match_board.specs.Board.{cell_count, row_count, row_length, sid
 ghost use Rattle.match_board.specs.Board.{LiesAgainst, IsBoard, IsPlain, IsFilled, cells_left};
 
 use crate::{hexagons, rectangles, shapes, triangles};
-use match_limits::MOST_PLACES;
+use match_limits::{MOST_PLACES, MOST_SIDES};
 
 /// The figure that a board covers, by its numbers of cells.
 #[derive(Clone, Copy, PartialEq, Eq, Debug)]
@@ -53,7 +53,7 @@ impl Figure {
         ensures few { result ≤ 4 }
     {
         match *self {
-            Figure::Rectangle { .. } | Figure::Shape { .. } => 4,
+            Figure::Rectangle { .. } | Figure::Shape { .. } => MOST_SIDES,
             Figure::Triangle { .. } | Figure::Hexagon { .. } => 3,
         }
     }

@@ -3,7 +3,7 @@
 ghost use Rattle.std.specs.Prelude.{◌≡◌, ◌↔◌, ◌<◌, ◌≤◌, ◌+◌, ◌*◌, ℕ, IfSome, MatchOption};
 ghost use Rattle.std.specs.Int.{bit_at};
 
-use match_limits::MOST_TILES;
+use match_limits::{MOST_TILES, TURNS};
 use match_puzzle::Pair;
 
 /// The four turns of a tile, as bits.
@@ -17,7 +17,7 @@ pub(crate) fn number_behind(after: Option<Pair>) -> u16
 {
     match after {
         None => 0,
-        Some(pair) => 4 * pair.placement.tile + u16::from(pair.placement.turn) + 1,
+        Some(pair) => TURNS * pair.placement.tile + u16::from(pair.placement.turn) + 1,
     }
 }
 

@@ -18,6 +18,7 @@ use crate::behind::{EACH_TURN, number_behind, place_behind};
 use crate::fit_rows::FitRows;
 use crate::fit_sizes::{COVERED, STEP, least_size};
 use crate::placing::take_out;
+use match_limits::TURNS;
 use match_puzzle::{Item, Pair, Partial, Placement, Puzzle};
 use std::alloc::{AllocError, Global};
 use std::marker::Model;
@@ -192,8 +193,8 @@ impl<'a> FitCounts<'a> {
         let row = self.rows.at(cell);
         let number = row.next_in_both(self.partial.free(), number_behind(after))?;
         let placement = Placement {
-            tile: number / 4,
-            turn: (number % 4) as u8,
+            tile: number / TURNS,
+            turn: (number % TURNS) as u8,
         };
         Some(Pair { cell, placement })
     }

@@ -7,7 +7,7 @@ ghost use Rattle.std.specs.Prelude.{◌≡◌, ◌⊎◌, ◌<◌, ◌≤◌, �
 ghost use Rattle.match_limits.specs.NumberSets.{count_of_group};
 
 use crate::fit_rows::FitRows;
-use match_limits::{MOST_CELLS, NumberSet};
+use match_limits::{MOST_CELLS, NumberSet, TURNS};
 
 /// What one pair counts.
 pub(crate) const STEP: u32 = 1024;
@@ -31,7 +31,7 @@ pub(crate) fn lower_tiles(sizes: &mut Vec<u32>, cells: usize, numbers: &NumberSe
 {
     let mut left = numbers.members();
     while let Some(number) = left.take_first() {
-        sizes[cells + usize::from(number / 4)] -= STEP;
+        sizes[cells + usize::from(number / TURNS)] -= STEP;
     }
 }
 

@@ -33,14 +33,26 @@ pub const LAST_TILE: u16 = MOST_TILES - 1;
 /// The greatest width, height and size of a rectangle, a triangle or a hexagon: a row may have all of its cells.
 pub const MOST_LENGTH: u16 = MOST_PLAIN_CELLS;
 
-/// The greatest number of a side, and so the greatest shift of a symmetry: a square has four sides.
-pub const LAST_SIDE: u8 = 3;
+/// The most sides of a cell and of a tile: those of a square.
+pub const MOST_SIDES: u8 = 4;
+
+/// How many places an array has for the sides of a cell or of a tile. A triangle has one side less.
+pub const SIDES: usize = MOST_SIDES as usize;
+
+/// The most turns of a tile: as many as it has sides.
+pub const MOST_TURNS: u8 = MOST_SIDES;
+
+/// How many numbers the placements of a tile have, one for each turn: that of tile t after turn r is `TURNS * t + r`.
+pub const TURNS: u16 = MOST_TURNS as u16;
+
+/// The greatest number of a side, and so the greatest shift of a symmetry.
+pub const LAST_SIDE: u8 = MOST_SIDES - 1;
 
 /// The greatest number of turns: as many turns as a tile has sides leave it as it was.
-pub const LAST_TURN: u8 = LAST_SIDE;
+pub const LAST_TURN: u8 = MOST_TURNS - 1;
 
-/// The most rules of a border, which has one for each border pair: at most four for each cell.
-pub const MOST_RULES: u16 = 4 * MOST_CELLS;
+/// The most rules of a border, which has one for each border pair: one for each side of each cell at most.
+pub const MOST_RULES: u16 = MOST_SIDES as u16 * MOST_CELLS;
 
 /// How many colours there are: texts write them `0` to `9`, and then `a` to `z`.
 pub const MOST_COLOURS: u8 = 36;
@@ -70,7 +82,7 @@ pub const MOST_LEMMAS: u32 = 1_000_000;
 pub const LAST_LEMMA: u32 = MOST_LEMMAS - 1;
 
 /// The most children of a branch: at a cell at most four turns of each tile fit, and of a tile four at each cell.
-pub const MOST_CHILDREN: u32 = 4 * MOST_TILES as u32;
+pub const MOST_CHILDREN: u32 = TURNS as u32 * MOST_TILES as u32;
 
 /// The most levels of a tree: a branch for each cell, and below the last of them one node more.
 pub const MOST_LEVELS: u16 = MOST_CELLS + 1;

@@ -7,7 +7,7 @@ ghost use Rattle.match_limits.specs.Listing.{IsListing};
 ghost use Rattle.match_limits.specs.First.{IsLeast};
 ghost use Rattle.match_limits.specs.NumberSets.{IsGroup, count_of_group};
 
-use crate::MOST_TILES;
+use crate::{MOST_TILES, TURNS};
 use std::marker::Model;
 
 /// How many words a set has.
@@ -17,7 +17,7 @@ const WORDS: usize = 16;
 const WORD_BITS: u16 = 64;
 
 /// How many groups of four numbers a word has.
-const WORD_GROUPS: u16 = WORD_BITS / 4;
+const WORD_GROUPS: u16 = WORD_BITS / TURNS;
 
 /// The numbers of a set are below this one.
 const NUMBERS: u16 = WORD_BITS * WORDS as u16;
@@ -293,7 +293,7 @@ impl NumberSet {
         ensures few { result ≤ 4 }
     {
         let word = self.words[usize::from(group / WORD_GROUPS)];
-        let digits = (word >> (4 * (group % WORD_GROUPS)) & 15) as u8;
+        let digits = (word >> (TURNS * (group % WORD_GROUPS)) & 15) as u8;
         digits.count_ones() as u8
     }
 
@@ -318,7 +318,7 @@ impl NumberSet {
             & second.words[place]
             & third.words[place]
             & fourth.words[place];
-        (word >> (4 * (group % WORD_GROUPS)) & 15) as u8
+        (word >> (TURNS * (group % WORD_GROUPS)) & 15) as u8
     }
 
     /// Which numbers of the group there are: the first by the lowest bit.
@@ -328,7 +328,7 @@ impl NumberSet {
         ensures group { IsGroup self.now group result }
     {
         let word = self.words[usize::from(group / WORD_GROUPS)];
-        (word >> (4 * (group % WORD_GROUPS)) & 15) as u8
+        (word >> (TURNS * (group % WORD_GROUPS)) & 15) as u8
     }
 
     /// Puts these numbers of the group in.
@@ -338,7 +338,7 @@ impl NumberSet {
         ensures { IsListing ◌<◌ (λ n. Contains self.old n ⊎ ((n / 4 ≡ group) × (bit_at digits (n % 4) ≡ 1))) self.new }
     {
         let place = usize::from(group / WORD_GROUPS);
-        self.words[place] |= u64::from(digits) << (4 * (group % WORD_GROUPS));
+        self.words[place] |= u64::from(digits) << (TURNS * (group % WORD_GROUPS));
         self.end = self.end.max(place + 1);
     }
 
@@ -347,6 +347,6 @@ impl NumberSet {
         requires { group < GROUPS }
         ensures { IsListing ◌<◌ (λ n. Contains self.old n × (n / 4 ≢ group)) self.new }
     {
-        self.words[usize::from(group / WORD_GROUPS)] &= !(15 << (4 * (group % WORD_GROUPS)));
+        self.words[usize::from(group / WORD_GROUPS)] &= !(15 << (TURNS * (group % WORD_GROUPS)));
     }
 }

@@ -15,7 +15,7 @@ use crate::items::Item;
 use crate::partials::Partial;
 use crate::placements::{Pair, Placement};
 use crate::puzzles::Puzzle;
-use match_limits::{FixedSet, NumberSet};
+use match_limits::{FixedSet, MOST_TURNS, NumberSet};
 use std::alloc::{AllocError, Global};
 
 impl<'a> Partial<'a> {
@@ -117,7 +117,7 @@ impl Puzzle {
         ensures { IsTrue result ↔ Fits self.now partial.now.placed cell placement }
     {
         let turns = partial.fitting_turns(cell, placement.tile);
-        placement.turn < 4 && turns >> placement.turn & 1 == 1
+        placement.turn < MOST_TURNS && turns >> placement.turn & 1 == 1
     }
 
     /// How many placements fit at the cell.

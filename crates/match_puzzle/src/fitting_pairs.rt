@@ -3,7 +3,7 @@
 use crate::items::Item;
 use crate::partials::Partial;
 use crate::placements::{Pair, Placement};
-use match_limits::{MOST_CHILDREN, NumberSet};
+use match_limits::{MOST_CHILDREN, NumberSet, TURNS};
 use std::marker::Model;
 
 /// Pairs that settle one item, each of which can be placed: those that were not yet taken, in the item's order, at a
@@ -65,17 +65,17 @@ impl FittingPairs {
         ensures { MatchOption result ((self.old ≡ []) × (self.new ≡ [])) (λ pair. self.old ≡ pair ∷ self.new) }
     {
         let number = self.numbers.take_first()?;
-        let turn = (number % 4) as u8;
+        let turn = (number % TURNS) as u8;
         Some(match self.item {
             Item::Cell(cell) => Pair {
                 cell,
                 placement: Placement {
-                    tile: number / 4,
+                    tile: number / TURNS,
                     turn,
                 },
             },
             Item::Tile(tile) => Pair {
-                cell: number / 4,
+                cell: number / TURNS,
                 placement: Placement { tile, turn },
             },
         })

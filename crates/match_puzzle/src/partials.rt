@@ -11,7 +11,7 @@ use crate::placement_sets::ANY_COLOUR;
 use crate::placements::{Pair, Placement};
 use crate::puzzles::Puzzle;
 use crate::tables::FIRST_PLACE;
-use match_limits::{MOST_CELLS, MOST_COLOURS, NumberSet};
+use match_limits::{MOST_CELLS, MOST_COLOURS, NumberSet, SIDES};
 use std::alloc::{AllocError, Global};
 use std::marker::Model;
 
@@ -178,7 +178,7 @@ impl<'a> Partial<'a> {
             self.placed[usize::from(cell)] = None;
             let turns = self.puzzle.legal_numbers().group(placement.tile);
             self.free.put_group(placement.tile, turns);
-            put(&mut self.asks, cell, [ANY_COLOUR; 4]);
+            put(&mut self.asks, cell, [ANY_COLOUR; SIDES]);
         }
     }
 }
@@ -222,7 +222,7 @@ fn nothing_asked(alloc: Global, cells: usize) -> Result<Vec<u8>, AllocError>
     ensures any { IfOk result (λ v. (place : ℕ) → ANY_COLOUR ≤ place → place < FIRST_PLACE + 4 * cells
         → slice_index v.items place ≡ ANY_COLOUR) }
 {
-    let mut asks = vec![in alloc; ANY_COLOUR; FIRST_PLACE + 4 * cells]?;
+    let mut asks = vec![in alloc; ANY_COLOUR; FIRST_PLACE + SIDES * cells]?;
     for colour in 0..ANY_COLOUR {
         asks[usize::from(colour)] = colour;
     }
@@ -230,7 +230,7 @@ fn nothing_asked(alloc: Global, cells: usize) -> Result<Vec<u8>, AllocError>
 }
 
 // Puts down what the four sides of the cell ask.
-fn put(asks: &mut Vec<u8>, cell: u16, colours: [u8; 4])
+fn put(asks: &mut Vec<u8>, cell: u16, colours: [u8; SIDES])
     requires { FIRST_PLACE + 4 * cell + 4 ≤ length asks.old.items }
     ensures long { length asks.new.items ≡ length asks.old.items }
     ensures colours { (side : ℕ) → side < 4
@@ -238,8 +238,8 @@ fn put(asks: &mut Vec<u8>, cell: u16, colours: [u8; 4])
     ensures others { (place : ℕ) → (place < FIRST_PLACE + 4 * cell) ⊎ (FIRST_PLACE + 4 * cell + 4 ≤ place)
         → slice_index asks.new.items place ≡ slice_index asks.old.items place }
 {
-    for side in 0..4 {
-        asks[FIRST_PLACE + 4 * usize::from(cell) + side] = colours[side];
+    for side in 0..SIDES {
+        asks[FIRST_PLACE + SIDES * usize::from(cell) + side] = colours[side];
     }
 }
 

@@ -9,7 +9,9 @@ ghost use Rattle.match_board.specs.Mates as listed;
 ghost use Rattle.match_puzzle.specs.PlacementSets.{AreColoursAfter, AreShownColours, AreMatesShown};
 
 use match_board::{Tile, mate_in};
-use match_limits::{FixedSet, MOST_COLOURS, MOST_TILES, NumberSet};
+use match_limits::{
+    FixedSet, MOST_COLOURS, MOST_SIDES, MOST_TILES, MOST_TURNS, NumberSet, SIDES, TURNS,
+};
 use std::alloc::{AllocError, Global};
 
 /// What a puzzle keeps of its placements.
@@ -21,31 +23,34 @@ pub(crate) struct PlacementSets {
     /// at 4 c + k.
     pub(crate) showing: Vec<FixedSet>,
     /// What each placement shows, by number: the colour on each side, and `ANY_COLOUR` on a fourth that isn't there.
-    pub(crate) shown: Vec<[u8; 4]>,
+    pub(crate) shown: Vec<[u8; SIDES]>,
     /// What each placement asks of those that it meets, by number: the mate of the colour on each side.
-    pub(crate) asked: Vec<[u8; 4]>,
+    pub(crate) asked: Vec<[u8; SIDES]>,
 }
 
 /// What stands for no colour in particular, where a colour is asked.
 pub const ANY_COLOUR: u8 = MOST_COLOURS;
 
 // What each placement shows, by number.
-fn shown_table(alloc: Global, tiles: &[Tile]) -> Result<Vec<[u8; 4]>, AllocError>
+fn shown_table(alloc: Global, tiles: &[Tile]) -> Result<Vec<[u8; SIDES]>, AllocError>
     requires { length tiles.now ≤ MOST_TILES }
     ensures { IfOk result (λ v. AreShownColours (map word tiles.now) v.items) }
 {
-    let mut table = Vec::with_capacity(alloc, 4 * tiles.len())?;
-    for number in 0..4 * tiles.len() {
-        table.push(colours_after(&tiles[number / 4], (number % 4) as u8))?;
+    let mut table = Vec::with_capacity(alloc, TURNS as usize * tiles.len())?;
+    for number in 0..TURNS as usize * tiles.len() {
+        table.push(colours_after(
+            &tiles[number / TURNS as usize],
+            (number % TURNS as usize) as u8,
+        ))?;
     }
     Ok(table)
 }
 
 // What the tile shows after this many turns.
-fn colours_after(tile: &Tile, turn: u8) -> [u8; 4]
+fn colours_after(tile: &Tile, turn: u8) -> [u8; SIDES]
     ensures { AreColoursAfter (word tile.now) turn result }
 {
-    let mut colours = [ANY_COLOUR; 4];
+    let mut colours = [ANY_COLOUR; SIDES];
     for side in 0..tile.sides() {
         colours[usize::from(side)] = tile.shows(turn, side);
     }
@@ -57,10 +62,10 @@ fn showing_sets(alloc: Global, tiles: &[Tile]) -> Result<Vec<FixedSet>, AllocErr
     requires { length tiles.now ≤ MOST_TILES }
     ensures { IfOk result (λ v. AreShowingSets (map word tiles.now) v.items) }
 {
-    let places = 4 * (ANY_COLOUR + 1);
+    let places = MOST_SIDES * (ANY_COLOUR + 1);
     let mut sets = Vec::with_capacity(alloc, usize::from(places))?;
     for place in 0..places {
-        sets.push(showing_set(tiles, place / 4, place % 4).fixed())?;
+        sets.push(showing_set(tiles, place / MOST_SIDES, place % MOST_SIDES).fixed())?;
     }
     Ok(sets)
 }
@@ -100,7 +105,7 @@ fn showing_turns(tile: &Tile, colour: u8, side: u8) -> u8
         return 0;
     }
     let mut turns = 0;
-    for turn in 0..4 {
+    for turn in 0..MOST_TURNS {
         if tile.shows(turn, side) == colour {
             turns |= 1 << turn;
         }
@@ -163,7 +168,7 @@ fn mates_table(alloc: Global, mates: &[u8], shown: &[[u8; 4]]) -> Result<Vec<[u8
 }
 
 // The mate of each of these colours.
-fn mates_of(mates: &[u8], colours: [u8; 4]) -> [u8; 4]
+fn mates_of(mates: &[u8], colours: [u8; SIDES]) -> [u8; SIDES]
     ensures { (side : ℕ) → side < 4 → slice_index result side ≡ listed.mate_in mates.now (slice_index colours side) }
 {
     [

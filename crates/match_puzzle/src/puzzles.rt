@@ -14,7 +14,7 @@ use crate::placement_sets::{ANY_COLOUR, PlacementSets};
 use crate::placements::Placement;
 use crate::tables::{CellSides, Side, colour_count, odd_tile, sides_table, turn_counts};
 use match_board::{Board, Border, Figure, Tile, broken_mate, mate_in};
-use match_limits::{FixedSet, MOST_COLOURS, NumberSet};
+use match_limits::{FixedSet, MOST_COLOURS, NumberSet, SIDES, TURNS};
 use std::alloc::{AllocError, Global};
 use std::marker::Model;
 
@@ -328,24 +328,24 @@ impl Puzzle {
         requires side { side < 4 }
         ensures { AreShowing self.now.words asked side result.now }
     {
-        &self.sets.showing[4 * usize::from(asked) + usize::from(side)]
+        &self.sets.showing[SIDES * usize::from(asked) + usize::from(side)]
     }
 
     // What the placement shows: the colour on each side, and something on a fourth that isn't there.
-    pub(crate) fn shown(&self, placement: Placement) -> [u8; 4]
+    pub(crate) fn shown(&self, placement: Placement) -> [u8; SIDES]
         requires { IsLegal self.now placement }
         ensures { ShowsColours self.now placement result }
     {
-        self.sets.shown[4 * usize::from(placement.tile) + usize::from(placement.turn)]
+        self.sets.shown[TURNS as usize * usize::from(placement.tile) + usize::from(placement.turn)]
     }
 
     /// What the placement asks of those that it meets: the mate of the colour on each side, and something on a fourth
     /// that isn't there.
-    pub fn asked_by(&self, placement: Placement) -> [u8; 4]
+    pub fn asked_by(&self, placement: Placement) -> [u8; SIDES]
         requires { IsLegal self.now placement }
         ensures { AsksColours self.now placement result }
     {
-        self.sets.asked[4 * usize::from(placement.tile) + usize::from(placement.turn)]
+        self.sets.asked[TURNS as usize * usize::from(placement.tile) + usize::from(placement.turn)]
     }
 
     /// The colour that a placed tile shows on a side.

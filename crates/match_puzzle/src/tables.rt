@@ -19,7 +19,7 @@ ghost use Rattle.match_puzzle.specs.declared.tables.Side.TheVariants as sides;
 
 use crate::placement_sets::ANY_COLOUR;
 use match_board::{Board, Border, Tile};
-use match_limits::MOST_COLOURS;
+use match_limits::{MOST_COLOURS, SIDES};
 use std::alloc::{AllocError, Global};
 
 /// What a side of a cell is.
@@ -34,9 +34,9 @@ pub(crate) enum Side {
 /// The sides of a cell, in order; a triangle has no fourth.
 #[derive(Clone, Copy, PartialEq, Eq, Debug)]
 pub(crate) struct CellSides {
-    pub(crate) sides: [Side; 4],
+    pub(crate) sides: [Side; SIDES],
     /// Where in a table of what cells ask the colour stands that is asked of each side.
-    pub(crate) asked_at: [usize; 4],
+    pub(crate) asked_at: [usize; SIDES],
 }
 
 /// Where the first cell begins in a table of what cells ask, which has four places to a cell. Before it stands each
@@ -77,7 +77,7 @@ fn cell_sides(board: &Board, border: &Border, cell: u16, number: &mut u16) -> Ce
     ensures asked { AreAskedAt result.sides result.asked_at }
     ensures number { IsNextNumber board.now (cell + 1, 0) number.new }
 {
-    let mut sides = [Side::Border(None); 4];
+    let mut sides = [Side::Border(None); SIDES];
     for side in 0..board.sides() {
         sides[usize::from(side)] = side_at(board, border, cell, side, number);
     }
@@ -88,7 +88,7 @@ fn cell_sides(board: &Board, border: &Border, cell: u16, number: &mut u16) -> Ce
 }
 
 // Where the colours stand that are asked of the sides.
-fn asked_places(sides: &[Side; 4]) -> [usize; 4]
+fn asked_places(sides: &[Side; SIDES]) -> [usize; SIDES]
     ensures { AreAskedAt sides.now result }
 {
     [
@@ -106,7 +106,7 @@ fn asked_place(side: Side) -> usize
 {
     match side {
         Side::Border(rule) => usize::from(rule.unwrap_or(ANY_COLOUR)),
-        Side::Edge { cell, side } => FIRST_PLACE + 4 * usize::from(cell) + usize::from(side),
+        Side::Edge { cell, side } => FIRST_PLACE + SIDES * usize::from(cell) + usize::from(side),
     }
 }
 

@@ -3,7 +3,7 @@
 use match_limits;
 
 // The numbers are those of docs/FORMATS.md and of the README, but for those of entries and of fuel.
-const LIMITS: [(u32, u32); 26] = [
+const LIMITS: [(u32, u32); 30] = [
     (limits::MOST_CELLS as u32, 256),
     (limits::MOST_PLAIN_CELLS as u32, 100),
     (limits::MOST_PLACES as u32, 1_024),
@@ -11,6 +11,10 @@ const LIMITS: [(u32, u32); 26] = [
     (limits::MOST_TILES as u32, 256),
     (limits::LAST_TILE as u32, 255),
     (limits::MOST_LENGTH as u32, 100),
+    (limits::MOST_SIDES as u32, 4),
+    (limits::SIDES as u32, 4),
+    (limits::MOST_TURNS as u32, 4),
+    (limits::TURNS as u32, 4),
     (limits::LAST_SIDE as u32, 3),
     (limits::LAST_TURN as u32, 3),
     (limits::MOST_RULES as u32, 1_024),
