@@ -1,3 +1,4 @@
+pub mod BuildingLemmas
 pub mod CommandLemmas
 pub mod ExtentLemmas
 pub mod FaultlessWalk

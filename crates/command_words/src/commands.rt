@@ -2,16 +2,18 @@
 
 ghost use Rattle.std.specs.Prelude.{◌≡◌, IfOk, codes, false};
 ghost use Rattle.match_limits.specs.declared.TheConstants.{LAST_ARRANGEMENT, MOST_WORKERS};
-ghost use Rattle.clap.specs.Words.{app_of, new_app, new_rule, rule_of};
+ghost use Rattle.clap.specs.Words.{App, app_of, new_app, new_rule, rule_of, with_rule, with_subcommand};
 ghost use Rattle.command_words.specs.Commands.{IsLocal, flag, number_or_default, optional_bound, optional_number};
 ghost use Rattle.command_words.specs.Commands.{optional_text, wanted, wanted_number};
 ghost use Rattle.command_words.specs.Commands.{check_app, count_app, draw_app, expand_app, explain_app, show_app};
 ghost use Rattle.command_words.specs.Commands.{solve_app, symmetries_app, tiles_app};
 ghost use Rattle.command_words.specs.Commands.{whole_app, with_files, with_places, with_puzzle};
 
-use clap::{Arg, ArgAction, Command};
 use clap::builder::ValueParser;
-use match_limits::{LAST_ARRANGEMENT, MOST_COLOURS, MOST_DEPTH, MOST_DRAWN, MOST_FORKS, MOST_FUEL, MOST_WORKERS};
+use clap::{Arg, ArgAction, Command};
+use match_limits::{
+    LAST_ARRANGEMENT, MOST_COLOURS, MOST_DEPTH, MOST_DRAWN, MOST_FORKS, MOST_FUEL, MOST_WORKERS,
+};
 use std::alloc::{AllocError, Global};
 
 const NAME: &str = "edgematch";
@@ -290,6 +292,19 @@ fn hints<'a>(alloc: Global) -> Arg<'a>
     )
 }
 
+// The command with one argument more, where it is made. That it takes what may have failed leaves one `?` here, and none
+// behind each argument of each command: each makes a proof longer.
+fn with_arg<'a>(
+    command: Result<Command<'a>, AllocError>,
+    arg: Arg<'a>,
+) -> Result<Command<'a>, AllocError>
+    ensures app { (before : App) → arg.entry.global ≡ false → IfOk command.entry (λ c. app_of c ≡ before)
+        → IfOk result (λ c. app_of c ≡ with_rule before (rule_of arg.entry)) }
+    ensures local { arg.entry.global ≡ false → IfOk command.entry IsLocal → IfOk result IsLocal }
+{
+    command?.arg(arg)
+}
+
 // The command of this name, with three files by their names.
 fn of_files<'a>(
     alloc: Global,
@@ -300,104 +315,114 @@ fn of_files<'a>(
     ensures app { IfOk result (λ c. app_of c ≡ with_files (new_app name.entry.now)) }
     ensures local { IfOk result IsLocal }
 {
-    let command = Command::new(alloc, name).about(about).after_help(help);
-    let puzzle = word(alloc, "PUZZLE", "File of the puzzle");
-    let list = word(alloc, "LIST", "File of the list of arrangements");
-    let certificate = word(alloc, "CERTIFICATE", "File of the certificate");
-    let command = command.arg(puzzle)?.arg(list)?.arg(certificate)?;
-    Ok(command)
+    let command = Ok(Command::new(alloc, name).about(about).after_help(help));
+    let command = with_arg(command, word(alloc, "PUZZLE", "File of the puzzle"));
+    let command = with_arg(
+        command,
+        word(alloc, "LIST", "File of the list of arrangements"),
+    );
+    with_arg(
+        command,
+        word(alloc, "CERTIFICATE", "File of the certificate"),
+    )
 }
 
 fn check<'a>(alloc: Global) -> Result<Command<'a>, AllocError>
     ensures app { IfOk result (λ c. app_of c ≡ check_app) }
     ensures local { IfOk result IsLocal }
 {
-    let workers = workers(alloc, "How many workers check the lemmas at once, 1 to 64");
-    let forks = optional_number(
-        alloc,
-        "forks",
-        0,
-        u64::from(MOST_FORKS),
-        "0",
-        "In how many levels of a tree the halves of a branch are walked at once, 0 to 6",
-    );
-    let progress = progress(alloc);
-    let hints = hints(alloc);
     let command = of_files(
         alloc,
         "check",
         "Checks that a list has every arrangement of a puzzle",
         CHECKED,
-    )?
-    .arg(workers)?
-    .arg(forks)?
-    .arg(progress)?
-    .arg(hints)?;
-    Ok(command)
+    );
+    let command = with_arg(
+        command,
+        workers(alloc, "How many workers check the lemmas at once, 1 to 64"),
+    );
+    let command = with_arg(
+        command,
+        optional_number(
+            alloc,
+            "forks",
+            0,
+            u64::from(MOST_FORKS),
+            "0",
+            "In how many levels of a tree the halves of a branch are walked at once, 0 to 6",
+        ),
+    );
+    let command = with_arg(command, progress(alloc));
+    with_arg(command, hints(alloc))
 }
 
 fn solve<'a>(alloc: Global) -> Result<Command<'a>, AllocError>
     ensures app { IfOk result (λ c. app_of c ≡ solve_app) }
     ensures local { IfOk result IsLocal }
 {
-    let depth = optional_number(
-        alloc,
-        "depth",
-        0,
-        u64::from(MOST_DEPTH),
-        "1",
-        "How many levels of branches become lemmas before the search, 0 to 3",
-    );
-    let fuel = optional_number(
-        alloc,
-        "fuel",
-        1,
-        u64::from(MOST_FUEL),
-        "1000000",
-        "The most branch nodes that are made for a lemma, 1 to 1000000",
-    );
-    let workers = workers(alloc, "How many workers search at once, 1 to 64");
-    let keep = flag(
-        alloc,
-        "keep",
-        "Leaves LIST and CERTIFICATE as they are until both are written",
-    );
-    let progress = progress(alloc);
-    let hints = hints(alloc);
     let command = of_files(
         alloc,
         "solve",
         "Searches for every arrangement of a puzzle, and writes their list and a certificate",
         SOLVED,
-    )?
-    .arg(depth)?
-    .arg(fuel)?
-    .arg(workers)?
-    .arg(keep)?
-    .arg(progress)?
-    .arg(hints)?;
-    Ok(command)
+    );
+    let command = with_arg(
+        command,
+        optional_number(
+            alloc,
+            "depth",
+            0,
+            u64::from(MOST_DEPTH),
+            "1",
+            "How many levels of branches become lemmas before the search, 0 to 3",
+        ),
+    );
+    let command = with_arg(
+        command,
+        optional_number(
+            alloc,
+            "fuel",
+            1,
+            u64::from(MOST_FUEL),
+            "1000000",
+            "The most branch nodes that are made for a lemma, 1 to 1000000",
+        ),
+    );
+    let command = with_arg(
+        command,
+        workers(alloc, "How many workers search at once, 1 to 64"),
+    );
+    let command = with_arg(
+        command,
+        flag(
+            alloc,
+            "keep",
+            "Leaves LIST and CERTIFICATE as they are until both are written",
+        ),
+    );
+    let command = with_arg(command, progress(alloc));
+    with_arg(command, hints(alloc))
 }
 
 pub(crate) fn expand<'a>(alloc: Global) -> Result<Command<'a>, AllocError>
     ensures app { IfOk result (λ c. app_of c ≡ expand_app) }
     ensures local { IfOk result IsLocal }
 {
-    let orbits = flag(
-        alloc,
-        "orbits",
-        "Prints one arrangement of each orbit alone",
-    );
-    let hints = hints(alloc);
     let command = of_places(
         alloc,
         "expand",
         "Checks a list, and prints every arrangement of the puzzle",
         EXPANDED,
-    )?
-    .arg(orbits)?
-    .arg(hints)?;
-    Ok(command)
+    );
+    let command = with_arg(
+        command,
+        flag(
+            alloc,
+            "orbits",
+            "Prints one arrangement of each orbit alone",
+        ),
+    );
+    with_arg(command, hints(alloc))
 }
 
 pub(crate) fn explain<'a>(alloc: Global) -> Result<Command<'a>, AllocError>
@@ -422,12 +447,19 @@ fn of_places<'a>(
     ensures app { IfOk result (λ c. app_of c ≡ with_places (new_app name.entry.now)) }
     ensures local { IfOk result IsLocal }
 {
-    let command = Command::new(alloc, name).about(about).after_help(help);
-    let puzzle = optional_word(alloc, "PUZZLE", "File of the puzzle");
-    let list = optional_word(alloc, "LIST", "File of the list of arrangements");
-    let certificate = optional_word(alloc, "CERTIFICATE", "File of the certificate");
-    let command = command.arg(puzzle)?.arg(list)?.arg(certificate)?;
-    Ok(command)
+    let command = Ok(Command::new(alloc, name).about(about).after_help(help));
+    let command = with_arg(
+        command,
+        optional_word(alloc, "PUZZLE", "File of the puzzle"),
+    );
+    let command = with_arg(
+        command,
+        optional_word(alloc, "LIST", "File of the list of arrangements"),
+    );
+    with_arg(
+        command,
+        optional_word(alloc, "CERTIFICATE", "File of the certificate"),
+    )
 }
 
 // A file that a command needs only with others.
@@ -458,31 +490,35 @@ pub(crate) fn count<'a>(alloc: Global) -> Result<Command<'a>, AllocError>
     ensures app { IfOk result (λ c. app_of c ≡ count_app) }
     ensures local { IfOk result IsLocal }
 {
-    let workers = workers(alloc, "How many workers search at once, 1 to 64");
-    let most = optional_bound(
-        alloc,
-        "most",
-        "M",
-        "Ends as soon as more than M are found, and says so; one worker searches then",
-    );
-    let part = optional_text(
-        alloc,
-        "part",
-        "K/N",
-        "Counts in part K of N of the search, 1/N to N/N, of 1000000 parts at most",
-    );
-    let progress = progress(alloc);
     let command = of_places(
         alloc,
         "count",
         "Counts the arrangements of a puzzle, by a search or by a list that is checked",
         COUNTED,
-    )?
-    .arg(workers)?
-    .arg(most)?
-    .arg(part)?
-    .arg(progress)?;
-    Ok(command)
+    );
+    let command = with_arg(
+        command,
+        workers(alloc, "How many workers search at once, 1 to 64"),
+    );
+    let command = with_arg(
+        command,
+        optional_bound(
+            alloc,
+            "most",
+            "M",
+            "Ends as soon as more than M are found, and says so; one worker searches then",
+        ),
+    );
+    let command = with_arg(
+        command,
+        optional_text(
+            alloc,
+            "part",
+            "K/N",
+            "Counts in part K of N of the search, 1/N to N/N, of 1000000 parts at most",
+        ),
+    );
+    with_arg(command, progress(alloc))
 }
 
 // The command of this name, with the file of a puzzle.
@@ -495,12 +531,8 @@ fn of_puzzle<'a>(
     ensures app { IfOk result (λ c. app_of c ≡ with_puzzle (new_app name.entry.now)) }
     ensures local { IfOk result IsLocal }
 {
-    let puzzle = word(alloc, "PUZZLE", "File of the puzzle");
-    let command = Command::new(alloc, name)
-        .about(about)
-        .after_help(help)
-        .arg(puzzle)?;
-    Ok(command)
+    let command = Ok(Command::new(alloc, name).about(about).after_help(help));
+    with_arg(command, word(alloc, "PUZZLE", "File of the puzzle"))
 }
 
 // Which arrangement of a list is drawn.
@@ -522,21 +554,21 @@ pub(crate) fn show<'a>(alloc: Global) -> Result<Command<'a>, AllocError>
     ensures app { IfOk result (λ c. app_of c ≡ show_app) }
     ensures local { IfOk result IsLocal }
 {
-    let list = optional_word(
-        alloc,
-        "LIST",
-        "File of a list of arrangements, of which one is drawn",
-    );
-    let number = arrangement_number(alloc);
     let command = of_puzzle(
         alloc,
         "show",
         "Draws a puzzle's board, and counts its colours",
         SHOWN,
-    )?
-    .arg(list)?
-    .arg(number)?;
-    Ok(command)
+    );
+    let command = with_arg(
+        command,
+        optional_word(
+            alloc,
+            "LIST",
+            "File of a list of arrangements, of which one is drawn",
+        ),
+    );
+    with_arg(command, arrangement_number(alloc))
 }
 
 // How many arrangements a sheet has.
@@ -560,29 +592,30 @@ pub(crate) fn draw<'a>(alloc: Global) -> Result<Command<'a>, AllocError>
     ensures app { IfOk result (λ c. app_of c ≡ draw_app) }
     ensures local { IfOk result IsLocal }
 {
-    let list = optional_word(
-        alloc,
-        "LIST",
-        "File of a list of arrangements, of which one is drawn, or some",
-    );
-    let number = arrangement_number(alloc);
-    let first = first(alloc);
-    let numbers = flag(
-        alloc,
-        "numbers",
-        "Writes the number of its tile on each cell",
-    );
     let command = of_puzzle(
         alloc,
         "draw",
         "Draws a puzzle, or arrangements of a list, as a picture",
         DRAWN,
-    )?
-    .arg(list)?
-    .arg(number)?
-    .arg(first)?
-    .arg(numbers)?;
-    Ok(command)
+    );
+    let command = with_arg(
+        command,
+        optional_word(
+            alloc,
+            "LIST",
+            "File of a list of arrangements, of which one is drawn, or some",
+        ),
+    );
+    let command = with_arg(command, arrangement_number(alloc));
+    let command = with_arg(command, first(alloc));
+    with_arg(
+        command,
+        flag(
+            alloc,
+            "numbers",
+            "Writes the number of its tile on each cell",
+        ),
+    )
 }
 
 fn symmetries<'a>(alloc: Global) -> Result<Command<'a>, AllocError>
@@ -596,26 +629,45 @@ fn tiles<'a>(alloc: Global) -> Result<Command<'a>, AllocError>
     ensures app { IfOk result (λ c. app_of c ≡ tiles_app) }
     ensures local { IfOk result IsLocal }
 {
-    let sides = number(alloc, "SIDES", 3, 4, "How many sides a tile has, 3 or 4");
-    let colours = number(
-        alloc,
-        "COLOURS",
-        1,
-        u64::from(MOST_COLOURS),
-        "How many colours there are, 1 to 36",
+    let command = Ok(
+        Command::new(alloc, "tiles")
+            .about("Lists the tiles with so many sides and colours, each in one of its turns")
+            .after_help(LISTED),
     );
-    let lines = flag(
-        alloc,
-        "lines",
-        "Prints them as lines of a puzzle's text: tile WORD",
+    let command = with_arg(
+        command,
+        number(alloc, "SIDES", 3, 4, "How many sides a tile has, 3 or 4"),
     );
-    let command = Command::new(alloc, "tiles")
-        .about("Lists the tiles with so many sides and colours, each in one of its turns")
-        .after_help(LISTED)
-        .arg(sides)?
-        .arg(colours)?
-        .arg(lines)?;
-    Ok(command)
+    let command = with_arg(
+        command,
+        number(
+            alloc,
+            "COLOURS",
+            1,
+            u64::from(MOST_COLOURS),
+            "How many colours there are, 1 to 36",
+        ),
+    );
+    with_arg(
+        command,
+        flag(
+            alloc,
+            "lines",
+            "Prints them as lines of a puzzle's text: tile WORD",
+        ),
+    )
+}
+
+// The program with one command more, where both are made.
+fn with_command<'a>(
+    program: Result<Command<'a>, AllocError>,
+    command: Result<Command<'a>, AllocError>,
+) -> Result<Command<'a>, AllocError>
+    ensures { (before : App) (app : App) → IfOk program.entry (λ c. app_of c ≡ before)
+        → IfOk command.entry IsLocal → IfOk command.entry (λ c. app_of c ≡ app)
+        → IfOk result (λ c. app_of c ≡ with_subcommand before app.top) }
+{
+    program?.subcommand(command?)
 }
 
 /// The program's commands. A command's words begin after the program's name.
@@ -629,15 +681,14 @@ pub fn program<'a>(alloc: Global) -> Result<Command<'a>, AllocError>
         .after_help(WITHOUT_COMMAND)
         .version(VERSION)
         .no_binary_name(true)
-        .bin_name(NAME)?
-        .subcommand(check(alloc)?)?
-        .subcommand(explain(alloc)?)?
-        .subcommand(solve(alloc)?)?
-        .subcommand(expand(alloc)?)?
-        .subcommand(count(alloc)?)?
-        .subcommand(show(alloc)?)?
-        .subcommand(draw(alloc)?)?
-        .subcommand(symmetries(alloc)?)?
-        .subcommand(tiles(alloc)?)?;
-    Ok(program)
+        .bin_name(NAME);
+    let program = with_command(program, check(alloc));
+    let program = with_command(program, explain(alloc));
+    let program = with_command(program, solve(alloc));
+    let program = with_command(program, expand(alloc));
+    let program = with_command(program, count(alloc));
+    let program = with_command(program, show(alloc));
+    let program = with_command(program, draw(alloc));
+    let program = with_command(program, symmetries(alloc));
+    with_command(program, tiles(alloc))
 }

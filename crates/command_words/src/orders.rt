@@ -1,7 +1,9 @@
 //! What the program is to do.
 
 use crate::places::{Files, Given, Place, TwoPlaces};
-use match_limits::{ArrangementNumber, Colours, Depth, Drawn, Forks, Fuel, OtherParts, Sides, Workers};
+use match_limits::{
+    ArrangementNumber, Colours, Depth, Drawn, Forks, Fuel, OtherParts, Sides, Workers,
+};
 
 /// A part of a search that is dealt to several, by how many parts come before it and behind it.
 #[derive(Clone, Copy, PartialEq, Eq, Debug)]

@@ -15,12 +15,15 @@ ghost use Rattle.command_words.specs.declared.orders.Part.{Part};
 ghost use Rattle.command_words.specs.declared.orders.Subject.{Subject};
 ghost use Rattle.command_words.specs.declared.places.Given.{Given};
 
-use crate::commands::{count as count_command, draw as draw_command, expand as expand_command, explain as explain_command, program, show as show_command};
+use crate::commands::{
+    count as count_command, draw as draw_command, expand as expand_command,
+    explain as explain_command, program, show as show_command,
+};
 use crate::faults::WordsFault;
 use crate::orders::{Extent, Order, Part, Subject};
 use crate::places::{Files, Given, Place, ThreePlaces, TwoPlaces};
-use clap::{ArgMatches, Command};
 use clap::error::ErrorKind;
+use clap::{ArgMatches, Command};
 use match_limits::Within;
 use std::alloc::{AllocError, Global};
 

@@ -113,6 +113,13 @@ belongs_more {X} gives rs rs' r at is len tied h n d low = let l = ap length is 
     (λ (ne : n ≢ at). let there : get_or rs' n d ≡ get_or rs n d = ap (λ (l : List X). get_or l n d) is ∙ get_or_append_left rs (r ∷ []) d n (omega arith) in
     subst (λ (z : X). gives n z) (sym there) (h n d (omega arith)))
 
+-- a place more without a result
+pub filled-none_more : {X : Type 0} (x : ℕ) (slots : List (Option X)) → filled x (slots ++ None ∷ []) ≡ filled x slots
+filled-none_more zero [] = refl
+filled-none_more (suc x) [] = refl
+filled-none_more zero (slot ∷ slots) = refl
+filled-none_more (suc x) (slot ∷ slots) = filled-none_more x slots
+
 -- one result more
 pub done_more : {X : Type 0} (xs xs' : List (ℕ × X)) (e : ℕ × X) → xs' ≡ xs ++ e ∷ [] → (x : ℕ) → times x (done_numbers xs') ≡ times x (done_numbers xs) + times x (e.0 ∷ [])
 done_more {X} xs xs' e is x =

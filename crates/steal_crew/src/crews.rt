@@ -15,8 +15,8 @@ use crate::tickets::AllDrawn;
 use crate::works::{Share, Station, Work};
 use crossbeam_deque::Pass;
 use match_limits::{MOST_LEMMAS, MOST_WORKERS};
-use std::thread;
 use std::alloc::{AllocError, Global};
+use std::thread;
 use std::thread::Threads;
 
 /// What a crew did.

@@ -7,18 +7,18 @@ ghost use Rattle.steal_crew.specs.Tickets.{source_of, limit_of, IsFresh};
 ghost use Rattle.steal_crew.specs.LiveQueue.{job_view_with, job_numbers};
 ghost use Rattle.steal_crew.specs.LiveWorkers.{IsReady, Moved, IsLiveStation, IsLiveShare};
 
-use crate::tickets::{TicketSeat, Tickets};
 use super::hands::{Hand, LiveShare, LiveStation, LiveWorker};
 use super::jobs::{JobQueue, JobView, NumberedJob, Parts};
 use super::limits::MOST_GIVEN;
 use super::working::work_on;
 use super::works::LiveWork;
+use crate::tickets::{TicketSeat, Tickets};
 use crossbeam_deque::InjectorPass;
 use match_limits::{MOST_LEMMAS, MOST_WORKERS};
-use std::thread;
 use std::alloc::{AllocError, Global};
 use std::sync::Wait;
 use std::sync::atomic::AtomicU64;
+use std::thread;
 use std::thread::Threads;
 
 // A station for each seat.

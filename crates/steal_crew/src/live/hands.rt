@@ -5,8 +5,8 @@ ghost use Rattle.match_limits.specs.declared.TheConstants.{MOST_LEMMAS};
 ghost use Rattle.steal_crew.specs.declared.live.limits.TheConstants.{MOST_GIVEN};
 ghost use Rattle.steal_crew.specs.Tickets.{source_of, limit_of, seat_source};
 
-use crate::tickets::{TicketSeat, Tickets};
 use super::jobs::{JobView, NumberedJob};
+use crate::tickets::{TicketSeat, Tickets};
 use crossbeam_deque::InjectorPass;
 
 /// What a job gives others away by. It draws a number for each, and keeps them in a list with room for 64.

@@ -6,8 +6,6 @@ ghost use Rattle.steal_crew.specs.Results.{done_numbers};
 ghost use Rattle.steal_crew.specs.Tickets.{source_of, limit_of, seat_source, drawn, IsFresh};
 ghost use Rattle.steal_crew.specs.LiveWorkers.{BelongsToSome, AreDoneBy, BelongFrom, AreDrawn};
 
-use crate::crews::Crew;
-use crate::tickets::{TicketSeat, Tickets};
 use super::crews::{stations, work_together};
 use super::gathering::{Brought, collect};
 use super::hands::{Hand, LiveWorker};
@@ -16,6 +14,8 @@ use super::limits::MOST_GIVEN;
 use super::publishing::publish;
 use super::working::{put_all, work_on};
 use super::works::LiveWork;
+use crate::crews::Crew;
+use crate::tickets::{TicketSeat, Tickets};
 use match_limits::{MOST_LEMMAS, MOST_WORKERS};
 use std::alloc::{AllocError, Global};
 use std::sync::Wait;

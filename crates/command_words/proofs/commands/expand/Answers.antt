@@ -1,11 +1,17 @@
-use Rattle.std.proofs.Common.{rules, ◌≡◌, ◌∙◌, ap₂, codes}
-use Rattle.clap.specs.Words.{app_of, new_app, rule_of, with_rule}
+use Rattle.std.proofs.Common.{◌≡◌, ap₂, codes, refl}
+use Rattle.clap.specs.Words.{new_app, rule_of, with_rule}
 use Rattle.command_words.specs.Commands.{flag, with_places}
+use Rattle.command_words.proofs.BuildingLemmas.{is_made}
 use Rattle.command_words.proofs.commands.expand.Goals as goal
 
 pub returns-clause-app : goal.returns-clause-app
 returns-clause-app c =
-    let places : app_of c.in_ok-of_places.field-0 ≡ with_places (new_app (codes "expand")) = search rules in
-    let orbits : rule_of c.flag-orbits.result ≡ flag (codes "orbits") = c.flag-orbits.ensures.rule in
-    let hints : rule_of c.hints-hints.result ≡ flag (codes "hints") = c.hints-hints.ensures.rule in
-    c.in_ok-command.ensures.shape c.hints-hints.ensures.local ∙ ap₂ with_rule (c.in_ok-arg.ensures.shape c.flag-orbits.ensures.local ∙ ap₂ with_rule places orbits) hints
+    let base : with_places (new_app (codes "expand")) ≡ with_places (new_app (codes "expand")) = refl in
+    let orbits : rule_of c.flag.result ≡ flag (codes "orbits") = c.flag.ensures.rule in
+    let hints : rule_of c.hints.result ≡ flag (codes "hints") = c.hints.ensures.rule in
+    let with_orbits = c.with_arg-command.ensures.app _ c.flag.ensures.local c.of_places-command.ensures.app in
+    is_made _ _ _ (c.with_arg.ensures.app _ c.hints.ensures.local with_orbits)
+    (ap₂ with_rule (ap₂ with_rule base orbits) hints)
+
+pub returns-clause-local : goal.returns-clause-local
+returns-clause-local c = c.with_arg.ensures.local c.hints.ensures.local (c.with_arg-command.ensures.local c.flag.ensures.local c.of_places-command.ensures.local)

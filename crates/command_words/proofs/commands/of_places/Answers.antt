@@ -1,11 +1,14 @@
-use Rattle.std.proofs.Common.{◌≡◌, ◌∙◌, ap, ap₂}
+use Rattle.std.proofs.Common.{◌≡◌, ◌∙◌, ap, ap₂, refl}
 use Rattle.clap.specs.Words.{app_of, new_app, with_rule}
 use Rattle.clap.specs.Simple.{app_of_fields}
+use Rattle.command_words.proofs.BuildingLemmas.{is_made}
 use Rattle.command_words.proofs.commands.of_places.Goals as goal
 
 pub returns-clause-app : goal.returns-clause-app
 returns-clause-app c =
-    let named : app_of c.after_help-command.result ≡ new_app c.args.name.now = ap app_of_fields c.after_help-command.ensures ∙ ap app_of_fields c.about.ensures ∙ c.new.ensures.app in
-    c.in_ok-command.ensures.shape c.optional_word-certificate.ensures.local
-    ∙ ap₂ with_rule (c.in_ok-arg-2.ensures.shape c.optional_word-list.ensures.local
-    ∙ ap₂ with_rule (c.in_ok-arg.ensures.shape c.optional_word-puzzle.ensures.local ∙ ap₂ with_rule named c.optional_word-puzzle.ensures.rule) c.optional_word-list.ensures.rule) c.optional_word-certificate.ensures.rule
+    let base : new_app c.args.name.now ≡ new_app c.args.name.now = refl in
+    let named : app_of c.after_help.result ≡ new_app c.args.name.now = ap app_of_fields c.after_help.ensures ∙ ap app_of_fields c.about.ensures ∙ c.new.ensures.app in
+    let with_puzzle = c.with_arg-command.ensures.app _ c.optional_word.ensures.local named in
+    let with_list = c.with_arg-command-2.ensures.app _ c.optional_word-2.ensures.local with_puzzle in
+    is_made _ _ _ (c.with_arg.ensures.app _ c.optional_word-3.ensures.local with_list)
+    (ap₂ with_rule (ap₂ with_rule (ap₂ with_rule base c.optional_word.ensures.rule) c.optional_word-2.ensures.rule) c.optional_word-3.ensures.rule)
