@@ -2,6 +2,10 @@
 
 ghost use Rattle.std.specs.Prelude.{◌≡◌, ◌≤◌};
 
+use crate::{
+    LAST_ARRANGEMENT, MOST_COLOURS, MOST_DEPTH, MOST_DRAWN, MOST_FORKS, MOST_FUEL, MOST_SIDES,
+    MOST_WORKERS,
+};
 use std::marker::Model;
 
 /// A number from `LEAST` to `MOST`.
@@ -69,3 +73,20 @@ pub type Colours = Within<1, 36>;
 
 /// How many parts of a search come before one, or behind it.
 pub type OtherParts = Within<0, 999_999>;
+
+// A type's bounds can't name the limits, so they have their digits.
+const _: () = prove!(MOST_WORKERS == 64);
+
+const _: () = prove!(MOST_FORKS == 6);
+
+const _: () = prove!(MOST_DEPTH == 3);
+
+const _: () = prove!(MOST_FUEL == 1_000_000);
+
+const _: () = prove!(LAST_ARRANGEMENT == 999_999);
+
+const _: () = prove!(MOST_DRAWN == 100);
+
+const _: () = prove!(MOST_SIDES == 4);
+
+const _: () = prove!(MOST_COLOURS == 36);
