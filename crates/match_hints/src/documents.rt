@@ -7,7 +7,7 @@ use std::alloc::{AllocError, Global};
 use text_words::FaultPlace;
 
 // A document whose text is read by lines.
-#[derive(Clone, Copy, PartialEq, Eq, Debug)]
+#[derive(Clone, Copy, PartialEq, Eq)]
 pub(crate) enum Document {
     Puzzle,
     List,

@@ -7,47 +7,71 @@ use text_words::Asked;
 // What a line of the document looks like that begins with this word; none where that is told by the word alone.
 pub(crate) fn form_of(document: Document, opening: &[u8]) -> Option<&'static str> {
     match document {
-        Document::Puzzle => form_in_puzzle(opening),
-        Document::List => form_in_list(opening),
-        Document::Certificate => form_in_certificate(opening),
+        Document::Puzzle => said_of(&FORMS_IN_PUZZLE, opening),
+        Document::List => said_of(&FORMS_IN_LIST, opening),
+        Document::Certificate => said_of(&FORMS_IN_CERTIFICATE, opening),
     }
 }
 
-fn form_in_puzzle(opening: &[u8]) -> Option<&'static str> {
-    match opening {
-        b"match" => Some("match 1, or match 2"),
-        b"board" => Some(
-            "board rect W H, board triangle S, board hexagon S, or in \"match 2\" board shape W H",
-        ),
-        b"row" => Some("row WORD, with # for a cell and . for none at each place of the row"),
-        b"turns" => Some("turns yes, or turns no"),
-        b"border" => Some(
-            "border free, border one C, or border each and for each outer side a colour or -",
-        ),
-        b"mates" => Some("mates, and for each colour the one that it goes with, or nothing more"),
-        b"tiles" => Some("tiles N, with how many lines of tiles follow"),
-        b"tile" => Some("tile WORD, with a colour 0-9 a-z for each side"),
-        _ => None,
-    }
-}
+// What is said where a word stands, by the word.
+type Said = (&'static [u8], &'static str);
 
-fn form_in_list(opening: &[u8]) -> Option<&'static str> {
-    match opening {
-        b"list" => Some("list 1, or list 2"),
-        b"arrangements" => Some("arrangements N, with how many lines of them follow"),
-        _ => None,
-    }
-}
+const FORMS_IN_PUZZLE: [Said; 8] = [
+    (b"match", "match 1, or match 2"),
+    (
+        b"board",
+        "board rect W H, board triangle S, board hexagon S, or in \"match 2\" board shape W H",
+    ),
+    (
+        b"row",
+        "row WORD, with # for a cell and . for none at each place of the row",
+    ),
+    (b"turns", "turns yes, or turns no"),
+    (
+        b"border",
+        "border free, border one C, or border each and for each outer side a colour or -",
+    ),
+    (
+        b"mates",
+        "mates, and for each colour the one that it goes with, or nothing more",
+    ),
+    (b"tiles", "tiles N, with how many lines of tiles follow"),
+    (b"tile", "tile WORD, with a colour 0-9 a-z for each side"),
+];
 
-fn form_in_certificate(opening: &[u8]) -> Option<&'static str> {
-    match opening {
-        b"certificate" => Some("certificate 1, or certificate 2"),
-        b"symmetries" => Some("symmetries N, with how many lines of them follow"),
-        b"symmetry" => Some("symmetry A S cells C .. colours X .. tiles T .."),
-        b"lemmas" => Some("lemmas N, with how many lines of them follow"),
-        b"lemma" => Some("lemma NUMBER prefix CELL:TILE.TURNS .. tree NODE .."),
-        _ => None,
+const FORMS_IN_LIST: [Said; 2] = [
+    (b"list", "list 1, or list 2"),
+    (
+        b"arrangements",
+        "arrangements N, with how many lines of them follow",
+    ),
+];
+
+const FORMS_IN_CERTIFICATE: [Said; 5] = [
+    (b"certificate", "certificate 1, or certificate 2"),
+    (
+        b"symmetries",
+        "symmetries N, with how many lines of them follow",
+    ),
+    (
+        b"symmetry",
+        "symmetry A S cells C .. colours X .. tiles T ..",
+    ),
+    (b"lemmas", "lemmas N, with how many lines of them follow"),
+    (
+        b"lemma",
+        "lemma NUMBER prefix CELL:TILE.TURNS .. tree NODE ..",
+    ),
+];
+
+// What these say of the word.
+fn said_of(rows: &[Said], word: &[u8]) -> Option<&'static str> {
+    for (own, said) in rows {
+        if *own == word {
+            return Some(*said);
+        }
     }
+    None
 }
 
 // What the word that stands there says of the mistake, where something else was asked for. A puzzle's version may be the
@@ -73,51 +97,115 @@ pub(crate) fn mistake(
     }
 }
 
+const OPENINGS: [Said; 3] = [
+    (
+        b"match",
+        "a puzzle begins so; the order is puzzle, list, certificate",
+    ),
+    (
+        b"list",
+        "a list begins so; the order is puzzle, list, certificate",
+    ),
+    (
+        b"certificate",
+        "a certificate begins so; the order is puzzle, list, certificate",
+    ),
+];
+
 // One document in place of another.
 fn opening_mistake(wanted: &[u8], word: &[u8]) -> Option<&'static str> {
-    if !matches!(wanted, b"match" | b"list" | b"certificate") {
-        return None;
-    }
-    match word {
-        b"match" => Some("a puzzle begins so; the order is puzzle, list, certificate"),
-        b"list" => Some("a list begins so; the order is puzzle, list, certificate"),
-        b"certificate" => Some("a certificate begins so; the order is puzzle, list, certificate"),
-        _ => None,
+    match said_of(&OPENINGS, wanted) {
+        Some(_) => said_of(&OPENINGS, word),
+        None => None,
     }
 }
+
+// What is said where the one word is asked for and the other stands, by both.
+type SaidOfTwo = (&'static [u8], &'static [u8], &'static str);
+
+// What these say of the two.
+fn said_of_two(rows: &[SaidOfTwo], wanted: &[u8], word: &[u8]) -> Option<&'static str> {
+    for (asked, own, said) in rows {
+        if *asked == wanted && *own == word {
+            return Some(*said);
+        }
+    }
+    None
+}
+
+const MISTAKES_IN_THE_FIRST: [SaidOfTwo; 2] = [
+    (
+        b"tiles",
+        b"mates",
+        "a line \"mates\" stands in \"match 2\" alone",
+    ),
+    (
+        b"turns",
+        b"row",
+        "a line \"row\" stands in \"match 2\" alone",
+    ),
+];
 
 // A line that the other version of a puzzle has, or one that is missing in this version.
 fn version_mistake(wanted: &[u8], word: &[u8], is_first: bool) -> Option<&'static str> {
-    match (wanted, word) {
-        (b"tiles", b"mates") if is_first => Some("a line \"mates\" stands in \"match 2\" alone"),
-        (b"turns", b"row") if is_first => Some("a line \"row\" stands in \"match 2\" alone"),
-        (b"mates", b"tiles") => Some("the line \"mates\" alone is enough where equal colours meet"),
-        _ => None,
+    if wanted == b"mates".as_slice() && word == b"tiles".as_slice() {
+        return Some("the line \"mates\" alone is enough where equal colours meet");
+    }
+    if is_first {
+        said_of_two(&MISTAKES_IN_THE_FIRST, wanted, word)
+    } else {
+        None
     }
 }
 
+const MISTAKES_OF_COUNTS: [SaidOfTwo; 8] = [
+    (
+        b"row",
+        b"turns",
+        "fewer lines \"row\" stand there than the line \"board\" says",
+    ),
+    (
+        b"turns",
+        b"row",
+        "more lines \"row\" stand there than the line \"board\" says",
+    ),
+    (
+        b"tile",
+        b"end",
+        "fewer lines \"tile\" stand there than the line \"tiles\" says",
+    ),
+    (
+        b"end",
+        b"tile",
+        "more lines \"tile\" stand there than the line \"tiles\" says",
+    ),
+    (
+        b"symmetry",
+        b"lemmas",
+        "fewer lines \"symmetry\" stand there than the line \"symmetries\" says",
+    ),
+    (
+        b"lemmas",
+        b"symmetry",
+        "more lines \"symmetry\" stand there than the line \"symmetries\" says",
+    ),
+    (
+        b"lemma",
+        b"end",
+        "fewer lines \"lemma\" stand there than the line \"lemmas\" says",
+    ),
+    (
+        b"end",
+        b"lemma",
+        "more lines \"lemma\" stand there than the line \"lemmas\" says",
+    ),
+];
+
 // Lines of a kind that are fewer or more than was said.
 fn count_mistake(document: Document, wanted: &[u8], word: &[u8]) -> Option<&'static str> {
-    match (wanted, word) {
-        (b"row", b"turns") => Some("fewer lines \"row\" stand there than the line \"board\" says"),
-        (b"turns", b"row") => Some("more lines \"row\" stand there than the line \"board\" says"),
-        (b"tile", b"end") => Some("fewer lines \"tile\" stand there than the line \"tiles\" says"),
-        (b"end", b"tile") => Some("more lines \"tile\" stand there than the line \"tiles\" says"),
-        (b"symmetry", b"lemmas") => {
-            Some("fewer lines \"symmetry\" stand there than the line \"symmetries\" says")
-        }
-        (b"lemmas", b"symmetry") => {
-            Some("more lines \"symmetry\" stand there than the line \"symmetries\" says")
-        }
-        (b"lemma", b"end") => Some(
-            "fewer lines \"lemma\" stand there than the line \"lemmas\" says",
-        ),
-        (b"end", b"lemma") => Some(
-            "more lines \"lemma\" stand there than the line \"lemmas\" says",
-        ),
-        (b"end", other) if document == Document::List && other.contains(&b'.') => {
-            Some("more lines stand there than the line \"arrangements\" says")
-        }
-        _ => None,
+    let is_end_of_list = document == Document::List && wanted == b"end".as_slice();
+    if is_end_of_list && word.contains(&b'.') {
+        return Some("more lines stand there than the line \"arrangements\" says");
     }
+    said_of_two(&MISTAKES_OF_COUNTS, wanted, word)
 }

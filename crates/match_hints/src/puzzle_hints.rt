@@ -184,18 +184,29 @@ impl Said {
         let at = format!(in alloc;
             "puzzle line {line}, word {word}, gives colour {own} the mate {other}"
         )?;
-        let hint = match mates.get(usize::from(*mate)) {
-            Some(back) => {
-                let back = letter(u32::from(*back));
-                format!(in alloc;
-                    "{at}, and {other} has the mate {back}: two colours have to be mates of each other"
-                )?
-            }
-            None => format!(in alloc;
-                "{at}, which has no mate there: behind it a word has to give {other} the mate {own}"
-            )?,
-        };
-        Ok(Some(hint))
+        let back = mates.get(usize::from(*mate)).copied();
+        Ok(Some(mate_hint(alloc, &at, own, other, back)?))
+    }
+}
+
+// That the other colour has this mate, or none, where a colour was given that one at this place.
+fn mate_hint(
+    alloc: Global,
+    at: &str,
+    own: char,
+    other: char,
+    back: Option<u8>,
+) -> Result<String, AllocError> {
+    match back {
+        Some(back) => {
+            let back = letter(u32::from(back));
+            format!(in alloc;
+                "{at}, and {other} has the mate {back}: two colours have to be mates of each other"
+            )
+        }
+        None => format!(in alloc;
+            "{at}, which has no mate there: behind it a word has to give {other} the mate {own}"
+        ),
     }
 }
 

@@ -66,10 +66,20 @@ fn missing_line(
     text: &[u8],
     line: u32,
 ) -> Result<String, AllocError> {
-    let name = document.name();
     let ended = with_line_feed(alloc, text)?;
     let place = document.fault_place(alloc, &ended);
-    let Some(asked) = place.and_then(|place| place.missed) else {
+    missing(alloc, document, line, place.and_then(|place| place.missed))
+}
+
+// That a line is missing, and what it has to begin with.
+fn missing(
+    alloc: Global,
+    document: Document,
+    line: u32,
+    missed: Option<Asked>,
+) -> Result<String, AllocError> {
+    let name = document.name();
+    let Some(asked) = missed else {
         return format!(in alloc; "{name} line {line} is missing");
     };
     let wanted = wanted(alloc, asked)?;
@@ -118,19 +128,27 @@ fn word_hint(
         None => superfluous(alloc, spot, place.fault.kind)?,
     };
     put_kind(&mut hint, spot, missed, place.fault.kind)?;
-    put_characters(&mut hint, spot, missed)?;
-    put_note(
-        &mut hint,
-        mistake(missed, spot, text.starts_with(b"match 1\n")),
-    )?;
-    put_note(&mut hint, tree_mistake(spot, missed))?;
-    match node {
-        _ if spot.has_empty_word() => {}
-        Some(node) => put_form(alloc, &mut hint, "node", node.form())?,
-        None => put_form(alloc, &mut hint, "line", form_at(spot, missed))?,
-    }
-    put_line_notes(&mut hint, spot)?;
+    put_remarks(alloc, &mut hint, text, spot, missed)?;
     Ok(hint)
+}
+
+// What may be wrong with the word, and what its node or line looks like.
+fn put_remarks(
+    alloc: Global,
+    hint: &mut String,
+    text: &[u8],
+    spot: &Spot<'_>,
+    missed: Option<Asked>,
+) -> Result<(), AllocError> {
+    put_characters(hint, spot, missed)?;
+    put_note(hint, mistake(missed, spot, text.starts_with(b"match 1\n")))?;
+    put_note(hint, tree_mistake(spot, missed))?;
+    match node_of(spot, missed) {
+        _ if spot.has_empty_word() => {}
+        Some(node) => put_form(alloc, hint, "node", node.form())?,
+        None => put_form(alloc, hint, "line", form_at(spot, missed))?,
+    }
+    put_line_notes(hint, spot)
 }
 
 // The node that the word is in, or would begin; none where it is in none.
@@ -167,9 +185,14 @@ fn judgement(
     asked: Asked,
     node: Option<NodeSpot>,
 ) -> Result<String, AllocError> {
-    let (name, line) = (spot.document.name(), spot.line_number);
     let at = place_name(alloc, spot, node)?;
     let wanted = wanted(alloc, asked)?;
+    judged(alloc, spot, &at, &wanted)
+}
+
+// The same, of the place and what is asked for there in words. No text is this function's own while others are made.
+fn judged(alloc: Global, spot: &Spot<'_>, at: &str, wanted: &str) -> Result<String, AllocError> {
+    let (name, line) = (spot.document.name(), spot.line_number);
     let Some(word) = spot.word else {
         return format!(in alloc; "{at} is missing: {wanted} has to stand there");
     };
