@@ -82,7 +82,7 @@ impl Certificate {
     ghost use Rattle.cert_tree.specs.Certificate.{IsNumbered};
 
     /// The certificate of these symmetries and lemmas, each in the order of its numbers.
-    pub(crate) fn of(symmetries: Vec<SymmetryLine>, lemmas: Lemmas) -> Certificate
+    pub fn of(symmetries: Vec<SymmetryLine>, lemmas: Lemmas) -> Certificate
         requires { IsNumbered (record { symmetries = symmetries.items; lemmas = lemmas }) }
         ensures { result ≡ record { symmetries = symmetries.items; lemmas = lemmas } }
     {

@@ -26,4 +26,4 @@ pub use laws::head_laws;
 pub use nodes::{Children, Node};
 pub use packed_lemmas::PackedLemma;
 pub use packed_trees::PackedTree;
-pub use turnings::assemble_turned;
+pub use turnings::{assemble_turned, in_turned_order, turned_lemmas};

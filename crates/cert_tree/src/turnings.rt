@@ -5,7 +5,7 @@ ghost use Rattle.std.specs.Prelude.{reverse, take, drop};
 ghost use Rattle.cert_tree.specs.Certificate.{flat_piece, piece_number};
 ghost use Rattle.cert_tree.specs.Limits.{IsLemmaWithin};
 ghost use Rattle.cert_tree.specs.Spans.{piece_in, IsSpan};
-ghost use Rattle.cert_tree.specs.Assembly.{HaveNoStranger};
+ghost use Rattle.cert_tree.specs.Assembly.{Assembles, HaveNoStranger};
 ghost use Rattle.cert_tree.specs.TurnedAssembly.{turned_number as number_of_turned, turned_piece, AssemblesTurned};
 ghost use Rattle.cert_tree.specs.Turning.{turned_head as head_of_turned, IsFoundUpTo};
 
@@ -87,8 +87,8 @@ fn put_turned(
     Ok(LemmaSpan::of_last(number, pairs, pairs_start, heads, heads_start))
 }
 
-// The turned lemmas, the last first.
-fn turned_lemmas(
+/// The turned lemmas, the last first. Each tree is copied once, 8 bytes a node, and is turned where the copy lies.
+pub fn turned_lemmas(
     alloc: Global,
     count: u32,
     first: &[u32],
@@ -110,6 +110,32 @@ fn turned_lemmas(
     spans.reverse();
     let turned = Lemmas::of(pairs, heads, spans)?;
     Ok(turned)
+}
+
+/// The pieces in the order of their numbers, to be turned then.
+///
+/// An `Err` is that of [`assemble`](crate::assemble) on these pieces: `Stranger`, `Double`, `Missing`; `Memory` only where
+/// memory is refused, and then no number is at or past the count.
+pub fn in_turned_order(
+    alloc: Global,
+    count: u32,
+    pieces: Vec<FlatLemma<'_>>,
+) -> Result<Vec<FlatLemma<'_>>, AssembleFault>
+    requires { All (λ piece. IsLemmaWithin MOST_CELLS (flat_piece piece)) pieces.items }
+    ensures lemmas { IfOk result (λ lemmas.
+        Assembles piece_number count (map flat_piece pieces.entry.items) (Ok (map flat_piece lemmas.items))) }
+    ensures numbers { IfOk result (λ lemmas. All (λ lemma. lemma.number < count) lemmas.items) }
+    ensures within { IfOk result (λ lemmas. All (λ lemma. IsLemmaWithin MOST_CELLS (flat_piece lemma)) lemmas.items) }
+    ensures fault { IfErr result (λ fault.
+        Assembles piece_number count (map flat_piece pieces.entry.items) (Err fault)) }
+    ensures memory { IsErrOf result AssembleFault.Memory
+        → HaveNoStranger piece_number count (map flat_piece pieces.entry.items) }
+{
+    if let Some(stranger) = least_stranger(&pieces, count) {
+        return Err(AssembleFault::Stranger(stranger));
+    }
+    let lemmas = in_order(alloc, count, pieces)?;
+    Ok(lemmas)
 }
 
 /// The certificate of these symmetries and pieces, whose numbers run upwards from the root, which is 0: number t of a
@@ -141,10 +167,7 @@ pub fn assemble_turned(
     ensures memory { IsErrOf result AssembleFault.Memory
         → HaveNoStranger piece_number count (map flat_piece pieces.entry.items) }
 {
-    if let Some(stranger) = least_stranger(&pieces, count) {
-        return Err(AssembleFault::Stranger(stranger));
-    }
-    let lemmas = in_order(alloc, count, pieces)?;
-    let lemmas = turned_lemmas(alloc, count, first, &lemmas)?;
+    let ordered = in_turned_order(alloc, count, pieces)?;
+    let lemmas = turned_lemmas(alloc, count, first, &ordered)?;
     Ok(Certificate::of(symmetries, lemmas))
 }

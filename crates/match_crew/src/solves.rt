@@ -197,7 +197,16 @@ fn certificate_of<R: Threads + Sync>(
         first,
         ..
     } = collected;
-    let gathered = desk.gather(shared.alloc, receipts, lines, first.len() as u32, first);
+    let count = first.len() as u32;
+    let gathered = desk.gather(
+        rt,
+        shared.alloc,
+        receipts,
+        lines,
+        count,
+        first,
+        shared.workers,
+    );
     let certificate = match gathered {
         Ok(certificate) => certificate,
         Err(AssembleFault::Memory) => return Err(SolveFault::Memory),

@@ -7,14 +7,16 @@ ghost use Rattle.cert_tree.specs.Limits.{IsLemmaWithin};
 ghost use Rattle.cert_tree.specs.TurnedAssembly.{AssemblesTurned};
 ghost use Rattle.piece_desk.specs.FlatDesks.{IsOfFlat, flat_posted};
 
+use crate::turnings::turned_by;
 use boxcar::tag::Tag;
 use boxcar::{Keeps, Pushed, Vec as Places};
-use cert_tree::{AssembleFault, Certificate, FlatLemma, PackedLemma, assemble_turned};
+use cert_tree::{AssembleFault, Certificate, FlatLemma, PackedLemma, in_turned_order};
 use match_board::SymmetryLine;
 use match_limits::{MOST_ARRANGEMENTS, MOST_CELLS, MOST_LEMMAS};
 use std::alloc::{AllocError, Global};
 use std::marker::Model;
 use std::sync::Wait;
+use std::thread::Threads;
 
 // Each lemma on a desk is within the limits of its text.
 struct PackedWithin;
@@ -101,14 +103,16 @@ impl FlatDesk {
     }
 
     /// What [`Desk::gather`](crate::Desk::gather) gathers, of this desk's lemmas, whose numbers run upwards from the
-    /// root. Each tree is copied once, 8 bytes a node.
-    pub fn gather(
+    /// root. Each tree is copied once, 8 bytes a node, by at most four threads, and by no more than there are workers.
+    pub fn gather<R: Threads + Sync>(
         &self,
+        rt: &R,
         alloc: Global,
         receipts: &[FlatReceipt],
         symmetries: Vec<SymmetryLine>,
         count: u32,
         first: &[u32],
+        workers: u8,
     ) -> Result<Certificate, AssembleFault>
         requires receipts { All (λ receipt. IsOfFlat self.now receipt) receipts.now }
         requires count { count ≤ MOST_LEMMAS }
@@ -122,6 +126,8 @@ impl FlatDesk {
             (map flat_posted receipts.now) (Err fault)) }
     {
         let lemmas = self.lent(alloc, receipts)?;
-        assemble_turned(alloc, count, first, symmetries, lemmas)
+        let ordered = in_turned_order(alloc, count, lemmas)?;
+        let turned = turned_by(rt, alloc, count, first, &ordered, workers)?;
+        Ok(Certificate::of(symmetries, turned))
     }
 }

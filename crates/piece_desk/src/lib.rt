@@ -3,6 +3,7 @@
 
 mod desks;
 mod flat_desks;
+mod turnings;
 
 pub use desks::{Desk, Receipt, Shown};
 pub use flat_desks::{FlatDesk, FlatReceipt};
