@@ -51,7 +51,7 @@ fn trees_fault<R: Threads + Sync, G: Gate + Sync>(
 fn prepare<'a, R: Threads + Sync>(
     rt: &R,
     alloc: Global,
-    question: &Question<'a>,
+    question: &'a Question<'a>,
 ) -> Result<Result<Prepared<'a>, Fault>, AllocError>
     ensures prepared { IfOk result (λ r. IfOk r (λ prepared. prepared ≡ question.now)) }
     ensures fault { IfOk result (λ r. IfErr r (IsFirst fault_rank (Occurs question.now))) }

@@ -17,7 +17,7 @@ use std::thread::Threads;
 /// each lemma begins with a prefix, and the last with nothing placed.
 #[derive(Drop)]
 pub struct Prepared<'a> {
-    question: Question<'a>,
+    question: &'a Question<'a>,
     symmetries: Vec<Symmetry<'a>>,
 }
 
@@ -33,9 +33,9 @@ impl<'a> Model for Prepared<'a> {
 
     ghost use Rattle.cert_check.specs.Answer.{IsPreparedWith};
 
-    ghost view = { λ p. p.question };
+    ghost view = { λ p. p.question.now };
 
-    ghost invariant = { λ p. IsPreparedWith p.question p.symmetries.items };
+    ghost invariant = { λ p. IsPreparedWith p.question.now p.symmetries.items };
 }
 
 impl<'a> Prepared<'a> {
@@ -49,9 +49,9 @@ impl<'a> Prepared<'a> {
     ghost use Rattle.cert_check.specs.Answer.{IsPrepared, IsPreparedWith, IsAnswer, IsSound, IsCovering};
 
     // The question with these symmetries, those of its lines.
-    pub(crate) fn new(question: Question<'a>, symmetries: Vec<Symmetry<'a>>) -> Prepared<'a>
-        requires { IsPreparedWith question symmetries.items }
-        ensures { result ≡ question.entry }
+    pub(crate) fn new(question: &'a Question<'a>, symmetries: Vec<Symmetry<'a>>) -> Prepared<'a>
+        requires { IsPreparedWith question.now symmetries.items }
+        ensures { result ≡ question.now }
     {
         Prepared {
             question,
@@ -65,7 +65,7 @@ impl<'a> Prepared<'a> {
         ensures prepared { IsPrepared self.now }
         ensures puzzle { IsPuzzle self.now.puzzle }
     {
-        &self.question
+        self.question
     }
 
     /// The symmetries of the certificate's lines, in order.
@@ -87,7 +87,7 @@ impl<'a> Prepared<'a> {
         requires { lemma < length self.now.lemmas }
         ensures { result ≡ setting_at self.now lemma }
     {
-        let question = &self.question;
+        let question = self.question;
         Setting::new(
             question.puzzle(),
             question.listed(),
@@ -157,7 +157,7 @@ impl<'a> Prepared<'a> {
         ensures complete { IsSound self.now result }
         ensures covered { IsCovering self.now result }
     {
-        let _ = &self.question;
+        let _ = self.question;
         match found {
             None => Answer::Complete,
             Some((number, fault)) => Answer::Refused(Fault::Tree(number, fault)),

@@ -14,7 +14,7 @@ use std::marker::Model;
 
 /// Whether the certificate shows that the list, with the images of its members under the named symmetries, has each
 /// arrangement of the puzzle, and none twice in the list itself.
-#[derive(Clone, Copy)]
+#[derive(Drop)]
 pub struct Question<'a> {
     puzzle: &'a Puzzle,
     listed: &'a [Arrangement],
@@ -107,7 +107,7 @@ impl<'a> Question<'a> {
         &self,
         alloc: Global,
         bad: Option<(u32, ArrangementFault)>,
-    ) -> Result<Result<Prepared<'a>, Fault>, AllocError>
+    ) -> Result<Result<Prepared<'_>, Fault>, AllocError>
         requires { TellsOfArrangements self.now.puzzle self.now.listed bad }
         ensures prepared { IfOk result (λ r. IfOk r (λ prepared. prepared ≡ self.now)) }
         ensures fault { IfOk result (λ r. IfErr r (IsFirst fault_rank (Occurs self.now))) }
@@ -128,7 +128,7 @@ impl<'a> Question<'a> {
         &self,
         alloc: Global,
         repeated: Option<u32>,
-    ) -> Result<Result<Prepared<'a>, Fault>, AllocError>
+    ) -> Result<Result<Prepared<'_>, Fault>, AllocError>
         requires arrangements { AreArrangements self.now.puzzle self.now.listed }
         requires repeated { TellsOfRepeats self.now.listed repeated }
         ensures prepared { IfOk result (λ r. IfOk r (λ prepared. prepared ≡ self.now)) }
@@ -154,7 +154,7 @@ impl<'a> Question<'a> {
         }
         // It says that the puzzle is one.
         let _ = puzzle.board();
-        Ok(Ok(Prepared::new(*self, symmetries)))
+        Ok(Ok(Prepared::new(self, symmetries)))
     }
 
     /// The answer, found on one thread and on one board for all lemmas. The gate is told of each lemma before its tree

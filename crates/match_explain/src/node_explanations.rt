@@ -15,7 +15,7 @@ ghost use Rattle.cert_check.specs.declared.faults.Fault.TheVariants as faults;
 ghost use Rattle.match_explain.specs.Explanation.{NamesFitting, NamesLemma, NamesWhatFits, TellsOfNode};
 ghost use Rattle.match_explain.specs.Explanation.{miscounted_item};
 
-use crate::lookupss::finding_of;
+use crate::findings::finding_of;
 use crate::node_sentences::Node;
 use crate::places::LemmaLine;
 use crate::scenes::Scene;

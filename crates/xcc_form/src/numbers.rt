@@ -7,7 +7,7 @@ ghost use Rattle.match_puzzle.specs.Puzzle.{IsPuzzle};
 ghost use Rattle.xcc_form.specs.Options.{IsOptionPair, PairComesBefore};
 ghost use Rattle.xcc_form.specs.Numbers.{AreNumbered, pair_number};
 
-use match_limits::MOST_ENTRIES;
+use match_limits::{MOST_ENTRIES, TURNS};
 use match_puzzle::{Pair, Puzzle};
 use std::alloc::{AllocError, Global};
 
@@ -16,7 +16,7 @@ pub(crate) fn number_of(cells: u16, pair: Pair) -> usize
     ensures { result ≡ pair_number cells pair }
 {
     let placement = pair.placement;
-    4 * (usize::from(cells) * usize::from(pair.cell) + usize::from(placement.tile))
+    TURNS as usize * (usize::from(cells) * usize::from(pair.cell) + usize::from(placement.tile))
         + usize::from(placement.turn)
 }
 
@@ -32,7 +32,9 @@ pub(crate) fn option_numbers(
     ensures { IfOk result (λ v. AreNumbered (cell_count puzzle.now.board) pairs.now v.items) }
 {
     let cells = puzzle.board().cells();
-    let mut numbers = vec![in alloc; None; 4 * usize::from(cells) * usize::from(cells)]?;
+    let mut numbers = vec![in alloc; None; TURNS as usize
+        * usize::from(cells)
+        * usize::from(cells)]?;
     let mut option: u32 = 0;
     for pair in pairs {
         numbers[number_of(cells, *pair)] = Some(option);

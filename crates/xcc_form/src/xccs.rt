@@ -10,7 +10,7 @@ use crate::edges::{Edge, SharedEdge, shared_edges};
 use crate::faults::CompileFault;
 use crate::lists::OptionLists;
 use crate::numbers::{number_of, option_numbers};
-use match_limits::{MOST_CELLS, MOST_ENTRIES};
+use match_limits::{MOST_CELLS, MOST_ENTRIES, MOST_TURNS};
 use match_puzzle::{Pair, Placement, Puzzle};
 use std::alloc::Global;
 use std::marker::Model;
@@ -134,7 +134,7 @@ impl<'a> Xcc<'a> {
     {
         let cells = self.cells();
         let Placement { tile, turn } = pair.placement;
-        if pair.cell >= cells || tile >= cells || turn >= 4 {
+        if pair.cell >= cells || tile >= cells || turn >= MOST_TURNS {
             return None;
         }
         self.numbers[number_of(cells, pair)]

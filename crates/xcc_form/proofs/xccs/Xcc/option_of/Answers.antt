@@ -6,7 +6,7 @@ use Rattle.xcc_form.specs.Correspondence.{IsPairOf}
 use Rattle.xcc_form.specs.Numbers.{pair_number}
 use Rattle.xcc_form.proofs.NumberLemmas.{IsSmall, number_within, small_pair, told}
 use Rattle.xcc_form.proofs.xccs.Xcc.option_of.Goals as goal
-use Rattle.xcc_form.proofs.xccs.Xcc.option_of.Goals.{then-pair-cells-via-then-pair-cells, then-pair-cells-via-else-pair-cells+then-tile-cells, then-pair-cells-via-else-pair-cells+else-tile-cells+then-turn-ge4}
+use Rattle.xcc_form.proofs.xccs.Xcc.option_of.Goals.{then-pair-cells-via-then-pair-cells, then-pair-cells-via-else-pair-cells+then-tile-cells, then-pair-cells-via-else-pair-cells+else-tile-cells+then-turn-ge-MOST_TURNS}
 
 pub returns-then-pair-cells : goal.returns-then-pair-cells
 returns-then-pair-cells c = λ good.
@@ -18,7 +18,7 @@ returns-then-pair-cells c = λ good.
     elim c.then-pair-cells.branch [
       | then-pair-cells-via-then-pair-cells w ↦ omega (arith, w.if-pair-cells.true, cell, count)
       | then-pair-cells-via-else-pair-cells+then-tile-cells w ↦ omega (arith, w.if-tile-cells.true, tile, count)
-      | then-pair-cells-via-else-pair-cells+else-tile-cells+then-turn-ge4 w ↦ omega (arith, w.if-turn-ge4.true, turn)
+      | then-pair-cells-via-else-pair-cells+else-tile-cells+then-turn-ge-MOST_TURNS w ↦ omega (arith, w.if-turn-ge-MOST_TURNS.true, turn)
     ]
 
 pub returns : goal.returns
@@ -31,7 +31,7 @@ returns c =
     let small : IsSmall (cell_count p.board) y = record {
       cell = omega (arith, c.if-pair-cells.false, count);
       tile = omega (arith, c.if-tile-cells.false, count);
-      turn = omega (arith, c.if-turn-ge4.false);
+      turn = omega (arith, c.if-turn-ge-MOST_TURNS.false);
     } in
     let number = c.number_of.ensures ∙ ap (λ n. pair_number n y) count in
     let within = number_within (cell_count p.board) y small in
