@@ -4,14 +4,12 @@ ghost use Rattle.std.specs.Prelude.{◌<◌, IfOk};
 ghost use Rattle.match_board.specs.Board.{cell_count};
 ghost use Rattle.match_show.specs.Facts.{IsEstimateLine};
 
-use match_limits::MOST_COLOURS;
+use match_limits::{MOST_COLOURS, MOST_SIDES};
 use match_puzzle::Puzzle;
 use std::alloc::{AllocError, Global};
 
 // The digits of an estimate are below this, and at least a tenth of it, or 0.
 const DIGITS_END: u64 = 1_000_000_000_000;
-// No cell has more sides.
-const MOST_SIDES: u8 = 4;
 // Up to so many places before the point an estimate is written in full.
 const MOST_PLACES: i32 = 6;
 

@@ -6,6 +6,7 @@ ghost use Rattle.match_puzzle.specs.Puzzle.{IsPuzzle, IsLegal, colour_of};
 ghost use Rattle.text_words.specs.Spelling.{colour_character};
 ghost use Rattle.match_show.specs.Face.{IsFace, IsRuleSign};
 
+use match_limits::SIDES;
 use match_puzzle::{Partial, Placement, Puzzle};
 use text_words::character;
 
@@ -15,7 +16,7 @@ pub struct Face {
     pub cell: u16,
     pub marked: bool,
     pub tile: Option<u16>,
-    pub signs: [u8; 4],
+    pub signs: [u8; SIDES],
 }
 
 /// The face of the cell.
@@ -43,12 +44,12 @@ pub fn face_of(partial: &Partial<'_>, cell: u16, mark: Option<u16>) -> Face
 }
 
 // The colours that the placed tile shows.
-fn signs_shown(puzzle: &Puzzle, placement: Placement) -> [u8; 4]
+fn signs_shown(puzzle: &Puzzle, placement: Placement) -> [u8; SIDES]
     requires { IsLegal puzzle.now placement }
     ensures { (side : ℕ) → side < side_count puzzle.now.board
         → slice_index result side ≡ colour_character (colour_of puzzle.now placement side) }
 {
-    let mut signs = [b' '; 4];
+    let mut signs = [b' '; SIDES];
     for side in 0..puzzle.board().sides() {
         signs[usize::from(side)] = character(puzzle.colour(placement, side));
     }
@@ -56,12 +57,12 @@ fn signs_shown(puzzle: &Puzzle, placement: Placement) -> [u8; 4]
 }
 
 // The colours that the border asks of the cell.
-fn signs_asked(puzzle: &Puzzle, cell: u16) -> [u8; 4]
+fn signs_asked(puzzle: &Puzzle, cell: u16) -> [u8; SIDES]
     requires { cell < cell_count puzzle.now.board }
     ensures { (side : ℕ) → side < side_count puzzle.now.board
         → IsRuleSign puzzle.now cell side (slice_index result side) }
 {
-    let mut signs = [b' '; 4];
+    let mut signs = [b' '; SIDES];
     for side in 0..puzzle.board().sides() {
         signs[usize::from(side)] = sign_asked(puzzle, cell, side);
     }
