@@ -197,22 +197,15 @@ fn certificate_of<R: Threads + Sync>(
         first,
         ..
     } = collected;
+    let (alloc, workers) = (shared.alloc, shared.workers);
     let count = first.len() as u32;
-    let gathered = desk.gather(
-        rt,
-        shared.alloc,
-        receipts,
-        lines,
-        count,
-        first,
-        shared.workers,
-    );
+    let gathered = desk.gather(rt, alloc, receipts, lines, count, first, workers);
     let certificate = match gathered {
         Ok(certificate) => certificate,
         Err(AssembleFault::Memory) => return Err(SolveFault::Memory),
         Err(_) => return Err(SolveFault::GaveUp),
     };
-    if !within_limits_with(rt, shared.alloc, 2, &certificate, shared.workers)? {
+    if !within_limits_with(rt, alloc, 2, &certificate, workers)? {
         return Err(SolveFault::Full);
     }
     Ok(certificate)

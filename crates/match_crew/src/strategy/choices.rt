@@ -16,6 +16,10 @@ use xcc_dance::{Cite, Cites, Met, Watch};
 // After so many children a job looks whether others wait for work, and then at each sixteenth.
 const LONG: u32 = 1_000;
 
+// After so many the job of a planned lemma gives in any case. What it gives waits behind the other planned lemmas, so
+// that none of these begins when all else is done.
+const LONG_PLANNED: u32 = 1 << 14;
+
 // So many levels below its prefix a job gives children away.
 const LEVELS_GIVEN: usize = 6;
 
@@ -84,11 +88,18 @@ impl<'a, 'h, W: Watch> Choices<'a, 'h, W> {
             return true;
         }
         if !self.gives && self.met.children >= LONG && self.met.children % 16 == 0 {
-            self.gives = self.shared.few_wait();
+            self.gives = self.shared.few_wait() || self.is_long_planned();
         }
         self.gives
             && placed.len() <= self.level.saturating_add(LEVELS_GIVEN)
             && !self.may_cite_below(placed)
+    }
+
+    // Whether the lemma was planned, or is the root's, and takes long, while others could help.
+    fn is_long_planned(&self) -> bool {
+        self.met.children >= LONG_PLANNED
+            && self.shared.workers > 1
+            && self.number as usize <= self.shared.plan.prefixes.len()
     }
 
     // Whether a later lemma may still be cited below. It stands apart, so that its table of what is placed doesn't lie
