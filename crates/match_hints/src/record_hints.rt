@@ -48,20 +48,29 @@ fn numbers_hint(
     if text.len() > MOST_BYTES as usize {
         return Ok(None);
     }
-    let Some(lines) = read_lemma_lines(alloc, text) else {
-        return Ok(None);
-    };
+    match read_lemma_lines(alloc, text) {
+        Some(lines) => lines_hint(alloc, &lines, fault),
+        None => Ok(None),
+    }
+}
+
+// The same, by the lines of the lemmas.
+fn lines_hint(
+    alloc: Global,
+    lines: &LemmaLines,
+    fault: AssembleFault,
+) -> Result<Option<String>, AllocError> {
     let count = lines.lemmas.len();
     let last = count.saturating_sub(1);
     let hint = match fault {
         AssembleFault::Stranger(number) => {
-            let (line, _) = lines_of(&lines, number);
+            let (line, _) = lines_of(lines, number);
             format!(in alloc;
                 "certificate line {line} has lemma {number}: behind \"lemmas {count}\" the numbers are 0 to {last}"
             )?
         }
         AssembleFault::Double(number) => {
-            let (line, other) = lines_of(&lines, number);
+            let (line, other) = lines_of(lines, number);
             format!(in alloc;
                 "certificate lines {line} and {other} both have lemma {number}: \
                  behind \"lemmas {count}\" each number from 0 to {last} stands once"

@@ -62,9 +62,10 @@ impl<'a> Spot<'a> {
         let mut entries = 0usize;
         let before = self.word_number.saturating_sub(1);
         for word in self.line.split(|byte| *byte == b' ').take(before) {
-            entries = match word {
-                b"each" | b"mates" | b"cells" | b"colours" | b"tiles" | b"prefix" => 0,
-                _ => entries.saturating_add(1),
+            entries = if begins_entries(word) {
+                0
+            } else {
+                entries.saturating_add(1)
             };
         }
         entries
@@ -79,6 +80,18 @@ impl<'a> Spot<'a> {
     pub(crate) fn begins_with_mark(&self) -> bool {
         self.line_number == 1 && self.line.starts_with(BYTE_ORDER_MARK)
     }
+}
+
+const BEFORE_ENTRIES: [&[u8]; 6] = [b"each", b"mates", b"cells", b"colours", b"tiles", b"prefix"];
+
+// Whether entries stand behind the word.
+fn begins_entries(word: &[u8]) -> bool {
+    for own in BEFORE_ENTRIES {
+        if own == word {
+            return true;
+        }
+    }
+    false
 }
 
 // The line that ends before what stands ahead of it in the text.

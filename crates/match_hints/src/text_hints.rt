@@ -33,13 +33,12 @@ fn unended_hint(
     line: u32,
 ) -> Result<String, AllocError> {
     let name = document.name();
-    let hint = format!(in alloc; "there is no line feed behind {name} line {line}")?;
     let ended = with_line_feed(alloc, text)?;
     let Some(place) = document.fault_place(alloc, &ended) else {
-        return Ok(hint);
+        return format!(in alloc; "there is no line feed behind {name} line {line}");
     };
     let further = hint_at(alloc, document, &ended, &place)?;
-    format!(in alloc; "{hint}, and {further}")
+    format!(in alloc; "there is no line feed behind {name} line {line}, and {further}")
 }
 
 // The same, of a text that has a line feed behind it.

@@ -19,7 +19,7 @@ use match_puzzle::Puzzle;
 use std::alloc::{AllocError, Global};
 
 // A side of a cell of which the border asks for this colour.
-#[derive(Clone, Copy, Debug)]
+#[derive(Clone, Copy)]
 struct Ruled {
     cell: u16,
     side: u8,

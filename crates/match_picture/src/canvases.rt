@@ -10,7 +10,7 @@ use match_puzzle::Puzzle;
 pub const MARGIN: u32 = 40;
 
 /// A point of a picture, right of and below its upper left corner.
-#[derive(Clone, Copy, Debug)]
+#[derive(Clone, Copy)]
 pub struct Point {
     pub x: u64,
     pub y: u64,

@@ -10,14 +10,14 @@ use match_board::Figure;
 use match_puzzle::Puzzle;
 
 /// An end of a side, clockwise.
-#[derive(Clone, Copy, PartialEq, Eq, Debug)]
+#[derive(Clone, Copy, PartialEq, Eq)]
 pub enum End {
     First,
     Last,
 }
 
 /// The outer corner of a band, so far right of and below the end of its side.
-#[derive(Clone, Copy, Debug)]
+#[derive(Clone, Copy)]
 pub struct Corner {
     pub x: i16,
     pub y: i16,

@@ -14,14 +14,19 @@ pub fn begin_picture(
     let frame = format!(in alloc;
         "<svg xmlns=\"http://www.w3.org/2000/svg\" width=\"{wide}\" height=\"{high}\" viewBox=\"0 0 "
     )?;
+    let mut text = Vec::from(frame);
     let rest = format!(in alloc;
         "{wide} {high}\" role=\"img\">\n<title>{title}</title>\n<desc>{description}</desc>\n"
     )?;
-    let paper = format!(in alloc; "<path fill=\"#fff\" d=\"M0 0h{wide}v{high}H0z\"/>\n")?;
-    let mut text = Vec::from_slice(alloc, frame.as_bytes())?;
     text.extend_from_slice(rest.as_bytes())?;
-    text.extend_from_slice(paper.as_bytes())?;
+    put_paper(alloc, &mut text, wide, high)?;
     Ok(text)
+}
+
+// White paper below all else.
+fn put_paper(alloc: Global, text: &mut Vec<u8>, wide: u64, high: u64) -> Result<(), AllocError> {
+    let paper = format!(in alloc; "<path fill=\"#fff\" d=\"M0 0h{wide}v{high}H0z\"/>\n")?;
+    text.extend_from_slice(paper.as_bytes())
 }
 
 /// The last line of a picture, or of one within another.
@@ -38,7 +43,7 @@ pub fn board_words(alloc: Global, figure: &Figure) -> Result<String, AllocError>
 }
 
 /// Things in rows of the same length but for the last.
-#[derive(Clone, Copy, Debug)]
+#[derive(Clone, Copy)]
 pub struct EvenRows {
     pub rows: u16,
     pub columns: u16,

@@ -11,7 +11,7 @@ use std::alloc::{AllocError, Global};
 
 /// How the edge of a colour runs: straight where the colour is its own mate; of two mates the lesser has a knob, and the
 /// greater a hollow for it.
-#[derive(Clone, Copy, PartialEq, Eq, Debug)]
+#[derive(Clone, Copy, PartialEq, Eq)]
 pub enum Edge {
     Flat,
     Knob,

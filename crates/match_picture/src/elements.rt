@@ -69,8 +69,7 @@ pub fn outline(
 ) -> Result<Vec<u8>, AllocError> {
     let begin = canvas.point(site, side_of(site.form, 0).begin);
     let (x, y) = (begin.x, begin.y);
-    let start = format!(in alloc; "<path d=\"M{x} {y}")?;
-    let mut path = Vec::from_slice(alloc, start.as_bytes())?;
+    let mut path = Vec::from(format!(in alloc; "<path d=\"M{x} {y}")?);
     for side in 0..sides(site.form) {
         let edge = edge_path(alloc, site.form, side, edges[usize::from(side)])?;
         path.extend_from_slice(edge.as_bytes())?;

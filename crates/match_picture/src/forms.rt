@@ -6,7 +6,7 @@ ghost use Rattle.match_picture.specs.Sites.{begin_of};
 use std::fmt;
 
 /// How a cell is drawn: as a square, or as a triangle that points up or down. Its sides are numbered as the board's.
-#[derive(Clone, Copy, PartialEq, Eq, Debug)]
+#[derive(Clone, Copy, PartialEq, Eq)]
 pub enum Form {
     Square,
     Up,
@@ -15,14 +15,14 @@ pub enum Form {
 
 /// So far right of and below the upper left corner of the box round a cell: 80 by 80 round a square, 104 by 90 round a
 /// triangle.
-#[derive(Clone, Copy, Debug)]
+#[derive(Clone, Copy)]
 pub struct Offset {
     pub x: u8,
     pub y: u8,
 }
 
 /// So far to the right, and so far down, from one point of a form to another.
-#[derive(Clone, Copy, Debug)]
+#[derive(Clone, Copy)]
 pub struct Way {
     pub x: i8,
     pub y: i8,
@@ -39,7 +39,7 @@ impl Way {
 }
 
 /// A step of a path: so far to the right, and so far down. It is written as `h`, `v` or `l` with its numbers.
-#[derive(Clone, Copy, Debug)]
+#[derive(Clone, Copy)]
 pub struct Step {
     pub x: i32,
     pub y: i32,
@@ -60,7 +60,7 @@ impl fmt::Display for Step {
 }
 
 /// A number behind another in a path: a space parts them where it has no sign.
-#[derive(Clone, Copy, Debug)]
+#[derive(Clone, Copy)]
 pub struct Next {
     pub number: i32,
 }
@@ -76,7 +76,7 @@ impl fmt::Display for Next {
 }
 
 /// One side of a form. Sides run clockwise, and where two meet one runs as the other, backwards.
-#[derive(Clone, Copy, Debug)]
+#[derive(Clone, Copy)]
 pub struct FormSide {
     /// where it begins
     pub begin: Offset,
@@ -114,44 +114,44 @@ fn square_side(side: u8) -> FormSide
 {
     match side {
         0 => FormSide {
-            begin: at(0, 0),
-            way: going(80, 0),
-            home: going(-40, 40),
-            straight: going(33, 0),
-            neck: going(14, 0),
-            sign: at(40, 14),
-            hollow_sign: at(40, 20),
-            out: going(0, -16),
+            begin: Offset { x: 0, y: 0 },
+            way: Way { x: 80, y: 0 },
+            home: Way { x: -40, y: 40 },
+            straight: Way { x: 33, y: 0 },
+            neck: Way { x: 14, y: 0 },
+            sign: Offset { x: 40, y: 14 },
+            hollow_sign: Offset { x: 40, y: 20 },
+            out: Way { x: 0, y: -16 },
         },
         1 => FormSide {
-            begin: at(80, 0),
-            way: going(0, 80),
-            home: going(-40, -40),
-            straight: going(0, 33),
-            neck: going(0, 14),
-            sign: at(66, 40),
-            hollow_sign: at(60, 40),
-            out: going(16, 0),
+            begin: Offset { x: 80, y: 0 },
+            way: Way { x: 0, y: 80 },
+            home: Way { x: -40, y: -40 },
+            straight: Way { x: 0, y: 33 },
+            neck: Way { x: 0, y: 14 },
+            sign: Offset { x: 66, y: 40 },
+            hollow_sign: Offset { x: 60, y: 40 },
+            out: Way { x: 16, y: 0 },
         },
         2 => FormSide {
-            begin: at(80, 80),
-            way: going(-80, 0),
-            home: going(40, -40),
-            straight: going(-33, 0),
-            neck: going(-14, 0),
-            sign: at(40, 66),
-            hollow_sign: at(40, 60),
-            out: going(0, 16),
+            begin: Offset { x: 80, y: 80 },
+            way: Way { x: -80, y: 0 },
+            home: Way { x: 40, y: -40 },
+            straight: Way { x: -33, y: 0 },
+            neck: Way { x: -14, y: 0 },
+            sign: Offset { x: 40, y: 66 },
+            hollow_sign: Offset { x: 40, y: 60 },
+            out: Way { x: 0, y: 16 },
         },
         _ => FormSide {
-            begin: at(0, 80),
-            way: going(0, -80),
-            home: going(40, 40),
-            straight: going(0, -33),
-            neck: going(0, -14),
-            sign: at(14, 40),
-            hollow_sign: at(20, 40),
-            out: going(-16, 0),
+            begin: Offset { x: 0, y: 80 },
+            way: Way { x: 0, y: -80 },
+            home: Way { x: 40, y: 40 },
+            straight: Way { x: 0, y: -33 },
+            neck: Way { x: 0, y: -14 },
+            sign: Offset { x: 14, y: 40 },
+            hollow_sign: Offset { x: 20, y: 40 },
+            out: Way { x: -16, y: 0 },
         },
     }
 }
@@ -162,34 +162,34 @@ fn up_side(side: u8) -> FormSide
 {
     match side {
         0 => FormSide {
-            begin: at(52, 0),
-            way: going(52, 90),
-            home: going(-52, -30),
-            straight: going(24, 41),
-            neck: going(4, 8),
-            sign: at(68, 50),
-            hollow_sign: at(66, 52),
-            out: going(14, -8),
+            begin: Offset { x: 52, y: 0 },
+            way: Way { x: 52, y: 90 },
+            home: Way { x: -52, y: -30 },
+            straight: Way { x: 24, y: 41 },
+            neck: Way { x: 4, y: 8 },
+            sign: Offset { x: 68, y: 50 },
+            hollow_sign: Offset { x: 66, y: 52 },
+            out: Way { x: 14, y: -8 },
         },
         1 => FormSide {
-            begin: at(104, 90),
-            way: going(-104, 0),
-            home: going(52, -30),
-            straight: going(-48, 0),
-            neck: going(-8, 0),
-            sign: at(52, 79),
-            hollow_sign: at(52, 76),
-            out: going(0, 16),
+            begin: Offset { x: 104, y: 90 },
+            way: Way { x: -104, y: 0 },
+            home: Way { x: 52, y: -30 },
+            straight: Way { x: -48, y: 0 },
+            neck: Way { x: -8, y: 0 },
+            sign: Offset { x: 52, y: 79 },
+            hollow_sign: Offset { x: 52, y: 76 },
+            out: Way { x: 0, y: 16 },
         },
         _ => FormSide {
-            begin: at(0, 90),
-            way: going(52, -90),
-            home: going(0, 60),
-            straight: going(24, -41),
-            neck: going(4, -8),
-            sign: at(36, 50),
-            hollow_sign: at(38, 52),
-            out: going(-14, -8),
+            begin: Offset { x: 0, y: 90 },
+            way: Way { x: 52, y: -90 },
+            home: Way { x: 0, y: 60 },
+            straight: Way { x: 24, y: -41 },
+            neck: Way { x: 4, y: -8 },
+            sign: Offset { x: 36, y: 50 },
+            hollow_sign: Offset { x: 38, y: 52 },
+            out: Way { x: -14, y: -8 },
         },
     }
 }
@@ -200,34 +200,34 @@ fn down_side(side: u8) -> FormSide
 {
     match side {
         0 => FormSide {
-            begin: at(52, 90),
-            way: going(-52, -90),
-            home: going(52, 30),
-            straight: going(-24, -41),
-            neck: going(-4, -8),
-            sign: at(36, 40),
-            hollow_sign: at(38, 38),
-            out: going(-14, 8),
+            begin: Offset { x: 52, y: 90 },
+            way: Way { x: -52, y: -90 },
+            home: Way { x: 52, y: 30 },
+            straight: Way { x: -24, y: -41 },
+            neck: Way { x: -4, y: -8 },
+            sign: Offset { x: 36, y: 40 },
+            hollow_sign: Offset { x: 38, y: 38 },
+            out: Way { x: -14, y: 8 },
         },
         1 => FormSide {
-            begin: at(0, 0),
-            way: going(104, 0),
-            home: going(-52, 30),
-            straight: going(48, 0),
-            neck: going(8, 0),
-            sign: at(52, 11),
-            hollow_sign: at(52, 14),
-            out: going(0, -16),
+            begin: Offset { x: 0, y: 0 },
+            way: Way { x: 104, y: 0 },
+            home: Way { x: -52, y: 30 },
+            straight: Way { x: 48, y: 0 },
+            neck: Way { x: 8, y: 0 },
+            sign: Offset { x: 52, y: 11 },
+            hollow_sign: Offset { x: 52, y: 14 },
+            out: Way { x: 0, y: -16 },
         },
         _ => FormSide {
-            begin: at(104, 0),
-            way: going(-52, 90),
-            home: going(0, -60),
-            straight: going(-24, 41),
-            neck: going(-4, 8),
-            sign: at(68, 40),
-            hollow_sign: at(66, 38),
-            out: going(14, 8),
+            begin: Offset { x: 104, y: 0 },
+            way: Way { x: -52, y: 90 },
+            home: Way { x: 0, y: -60 },
+            straight: Way { x: -24, y: 41 },
+            neck: Way { x: -4, y: 8 },
+            sign: Offset { x: 68, y: 40 },
+            hollow_sign: Offset { x: 66, y: 38 },
+            out: Way { x: 14, y: 8 },
         },
     }
 }
@@ -237,10 +237,6 @@ fn at(x: u8, y: u8) -> Offset
     ensures y { result.y ≡ y }
 {
     Offset { x, y }
-}
-
-fn going(x: i8, y: i8) -> Way {
-    Way { x, y }
 }
 
 /// The middle of the form.

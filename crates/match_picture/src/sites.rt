@@ -12,7 +12,7 @@ use std::alloc::{AllocError, Global};
 
 /// Where a cell or a tile is drawn: its form, and the upper left corner of the box round it, counted from that of the
 /// board or the tray.
-#[derive(Clone, Copy, Debug)]
+#[derive(Clone, Copy)]
 pub struct Site {
     pub form: Form,
     pub x: u32,
@@ -88,7 +88,7 @@ fn rows_in(size: u16, row: u16) -> u16
 }
 
 /// How wide and how high something is.
-#[derive(Clone, Copy, Debug)]
+#[derive(Clone, Copy)]
 pub struct Extent {
     pub wide: u32,
     pub high: u32,

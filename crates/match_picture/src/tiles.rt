@@ -16,7 +16,7 @@ use match_puzzle::{Placement, Puzzle};
 use std::alloc::{AllocError, Global};
 
 /// What is drawn on tiles.
-#[derive(Clone, Copy, Debug)]
+#[derive(Clone, Copy)]
 pub struct Labels {
     /// how wide their outlines are
     pub outline: u32,
@@ -27,7 +27,7 @@ pub struct Labels {
 }
 
 // What is drawn of all tiles before anything else of them is.
-#[derive(Clone, Copy, Debug)]
+#[derive(Clone, Copy)]
 enum Layer {
     Outlines,
     Signs,

@@ -17,7 +17,7 @@ const GAP: u32 = 28;
 const LEAST_WIDTH: u32 = 836;
 
 /// How tiles lie in a tray.
-#[derive(Clone, Copy, Debug)]
+#[derive(Clone, Copy)]
 pub struct Tray {
     pub form: Form,
     pub rows: EvenRows,
