@@ -114,8 +114,8 @@ pub fn turned_lemmas(
 
 /// The pieces in the order of their numbers, to be turned then.
 ///
-/// An `Err` is that of [`assemble`](crate::assemble) on these pieces: `Stranger`, `Double`, `Missing`; `Memory` only where
-/// memory is refused, and then no number is at or past the count.
+/// An `Err` is that of [`assemble`](crate::assemble) on these pieces: `Stranger`, `Double`, `Missing`; `Memory` only
+/// where memory is refused, and then no number is at or past the count.
 pub fn in_turned_order(
     alloc: Global,
     count: u32,

@@ -14,9 +14,9 @@ use cert_check::{Question, SymmetriesFault, make_symmetries};
 use indexmap::IndexSet;
 use match_puzzle::{Arrangement, Partial, Placement};
 use puzzle_symmetry::Symmetry;
-use std::slice;
 use std::alloc::{AllocError, Global};
 use std::hash::BuildHasher;
+use std::slice;
 use symmetry_orbits::{ExpandFault, expand, orbit_laws};
 
 /// What a board says of a list.

@@ -19,11 +19,17 @@ use crate::files::{are_apart, hint_on, open};
 use crate::made_files::{MadeFiles, make_both, put_both, remove_both};
 use crate::progress::{CensusProgress, CheckProgress, SolveProgress};
 use crate::streams::Streams;
-use byte_streams::{Document, FileSystem, JoinedSource, OneSink, OneSource, Sink, Source, ThreeSinks, ThreeSources};
+use byte_streams::{
+    Document, FileSystem, JoinedSource, OneSink, OneSource, Sink, Source, ThreeSinks, ThreeSources,
+};
 use cert_check::Open;
 use command_words::{Extent, Files, Given, Order, Place, Subject, ThreePlaces, TwoPlaces};
 use match_limits::{ArrangementNumber, Colours, Drawn, Forks, Sides, Workers};
-use match_runs::{CensusPlan, CheckPlan, Description, HintedFault, PicturePlan, Printing, PrintingPlan, RunFault, SearchPlan, Watched, run_census, run_check_watched, run_description, run_joined_watched, run_listed, run_picture, run_printing, run_solve_watched, run_tile_lines, run_tiles};
+use match_runs::{
+    CensusPlan, CheckPlan, Description, HintedFault, PicturePlan, Printing, PrintingPlan, RunFault,
+    SearchPlan, Watched, run_census, run_check_watched, run_description, run_joined_watched,
+    run_listed, run_picture, run_printing, run_solve_watched, run_tile_lines, run_tiles,
+};
 use std::alloc::Global;
 use std::random::RandomSource;
 use std::sync::Wait;

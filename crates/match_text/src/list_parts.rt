@@ -23,8 +23,8 @@ pub struct RowPart<'a> {
 }
 
 impl<'a> RowPart<'a> {
-    /// The arrangements, or the first fault of their lines, with the line's number in the whole text; `Memory` only where
-    /// that is refused. The part stays as it is.
+    /// The arrangements, or the first fault of their lines, with the line's number in the whole text; `Memory` only
+    /// where that is refused. The part stays as it is.
     pub fn read(&self, alloc: Global) -> Result<Vec<Arrangement>, ReadFault>
         ensures { Says (λ rows. rows.items) result (part_says self.now) }
     {
@@ -108,9 +108,9 @@ fn cut_lines<'a>(
     Ok(parts)
 }
 
-/// Reads a list's text up to its arrangements, and cuts the lines of these into parts of at least `size` bytes each, but
-/// for the last one. An `Err` is the text's first fault, where it stands before the arrangements; `Memory` only where that
-/// is refused.
+/// Reads a list's text up to its arrangements, and cuts the lines of these into parts of at least `size` bytes each,
+/// but for the last one. An `Err` is the text's first fault, where it stands before the arrangements; `Memory` only
+/// where that is refused.
 ///
 /// The lines are gone past by their ends alone.
 pub fn cut_list(alloc: Global, text: &[u8], size: usize) -> Result<CutList<'_>, ReadFault>

@@ -117,8 +117,8 @@ fn turned_by_four<R: Threads + Sync>(
     back.with(front)
 }
 
-// The turned lemmas, the last first, by one, two or four threads: no more than there are workers, and by one where there
-// are few nodes.
+// The turned lemmas, the last first, by one, two or four threads: no more than there are workers, and by one where
+// there are few nodes.
 pub(crate) fn turned_by<R: Threads + Sync>(
     rt: &R,
     alloc: Global,

@@ -4,11 +4,11 @@ use cert_check::Answer;
 use cert_text::read_certificate;
 use match_crew::{Gate, check_with};
 use match_limits::MOST_WORKERS;
-use std::thread;
 use std::alloc::Global;
 use std::sync::Wait;
 use std::sync::atomic::{AtomicBool, AtomicU32, Ordering};
 use std::test::Fail;
+use std::thread;
 use std::thread::Threads;
 use test_samples::{turning_triangle, turning_triangle_list};
 

@@ -7,12 +7,14 @@ ghost use Rattle.piece_desk.specs.Desks.{IsOf};
 use cert_text::{WithinLimits, read_lemma, write_certificate, write_lemma};
 use cert_tree::{AssembleFault, Lemma, Node, Pairs};
 use piece_desk::{Desk, Receipt};
-use std::thread;
 use std::alloc::{AllocError, Global};
 use std::process::Abort;
 use std::sync::Wait;
 use std::test::Fail;
-use test_samples::{TWIN_TILES_AFTER_FIVE, TWIN_TILES_CERTIFICATE, TWIN_TILES_FROM_THE_ROOT, exchange_of_twins};
+use std::thread;
+use test_samples::{
+    TWIN_TILES_AFTER_FIVE, TWIN_TILES_CERTIFICATE, TWIN_TILES_FROM_THE_ROOT, exchange_of_twins,
+};
 
 // Four lemmas, which cite each other, a lemma at their count and one past it.
 const FOUR_LEMMAS: [&[u8]; 4] = [

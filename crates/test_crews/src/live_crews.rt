@@ -1,8 +1,8 @@
 use crate::meetings::Meeting;
 use match_limits::MOST_LEMMAS;
-use std::thread;
 use std::alloc::AllocError;
 use std::test::Fail;
+use std::thread;
 use steal_crew::{Hand, LiveWork, run_live};
 
 // A job below the last gives away the next one. Each answers itself.

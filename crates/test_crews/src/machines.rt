@@ -80,7 +80,12 @@ fn each_event_comes_again(rt: HostRuntime) -> Result<(), Fail> {
     assert!(rt; state.next() == 2);
     assert!(rt; state.posted() == [4, 9].as_slice());
     assert!(rt; state.done() == [4, 9].as_slice());
-    // two workers at one queue, which the second finds empty in the end
+    Ok(())
+}
+
+// The second finds the queue empty in the end.
+#[test]
+fn two_workers_at_one_queue(rt: HostRuntime) -> Result<(), Fail> {
     let mut state = State::new(rt.alloc(), 2, 1, 2)?;
     let events = [
         Event::Deal {

@@ -4,12 +4,13 @@ use cert_text::{WithinLimits, write_lemma};
 use cert_tree::{Lemma, Node, Pairs};
 use match_puzzle::Pair;
 use std::alloc::{AllocError, Global};
+use std::process::Abort;
 use std::test::Fail;
 use test_samples::turning_triangle;
 use xcc_dance::{
     Cite, Cites, Links, NoCites, OpenOptions, OpenSets, Outcome, Search, SearchFault, SearchOver,
 };
-use xcc_form::compile;
+use xcc_form::{Xcc, compile};
 
 // The uncovered items, and how many open options each has.
 fn sizes(alloc: Global, links: &Links<'_>) -> Result<Vec<(u32, u32)>, AllocError> {
@@ -98,31 +99,48 @@ fn outcome<E: OpenOptions + Drop>(search: &mut SearchOver<E>, fuel: u32) -> Resu
 const WHOLE_TREE: &[u8; 92] =
     b"lemma 0 prefix tree c 0 3 c 2 1 c 1 1 c 3 1 f 0 c 2 1 c 1 1 c 3 1 f 1 c 2 1 c 1 1 c 3 1 f 2\n";
 
+// Asserts what a search finds that is done twice, and once more with one branch node too few.
+fn assert_searched<E: OpenOptions + Drop, R: Abort>(
+    rt: &R,
+    alloc: Global,
+    search: &mut SearchOver<E>,
+) -> Result<(), Fail> {
+    assert!(rt; search.branches() == 0);
+    for _ in 0..2 {
+        let (found, line) = told(alloc, outcome(search, 10)?)?;
+        assert!(rt; search.branches() == 10);
+        assert!(rt; found == 3);
+        assert!(rt; line.as_slice() == WHOLE_TREE.as_slice());
+    }
+    // it gives up, and then it fails
+    assert!(rt; matches!(outcome(search, 9)?, Outcome::GaveUp));
+    assert!(rt; search.branches() == 9);
+    assert!(rt; has_failed(search));
+    assert!(rt; search.branches() == 9);
+    Ok(())
+}
+
+// Asserts that the other engine comes to the same.
+fn assert_searched_by_sets<'a, R: Abort>(
+    rt: &R,
+    alloc: Global,
+    xcc: &'a Xcc<'a>,
+) -> Result<(), Fail> {
+    let mut by_sets = SearchOver::over(alloc, OpenSets::new(alloc, xcc)?)?;
+    let (found, line) = told(alloc, outcome(&mut by_sets, 10)?)?;
+    assert!(rt; found == 3);
+    assert!(rt; line.as_slice() == WHOLE_TREE.as_slice());
+    Ok(())
+}
+
 #[test]
 fn searches_the_turning_triangle(rt: HostRuntime) -> Result<(), Fail> {
     let alloc = rt.alloc();
     let puzzle = turning_triangle(alloc)?;
     let xcc = compile(alloc, &puzzle)?;
     let mut search = Search::new(alloc, &xcc)?;
-    assert!(rt; search.branches() == 0);
-    // a search that is done runs again, and finds the same
-    for _ in 0..2 {
-        let (found, line) = told(alloc, outcome(&mut search, 10)?)?;
-        assert!(rt; search.branches() == 10);
-        assert!(rt; found == 3);
-        assert!(rt; line.as_slice() == WHOLE_TREE.as_slice());
-    }
-    // with one branch node too few it gives up, and then it fails
-    assert!(rt; matches!(outcome(&mut search, 9)?, Outcome::GaveUp));
-    assert!(rt; search.branches() == 9);
-    assert!(rt; has_failed(&mut search));
-    assert!(rt; search.branches() == 9);
-    // the other engine comes to the same
-    let mut by_sets = SearchOver::over(alloc, OpenSets::new(alloc, &xcc)?)?;
-    let (found, line) = told(alloc, outcome(&mut by_sets, 10)?)?;
-    assert!(rt; found == 3);
-    assert!(rt; line.as_slice() == WHOLE_TREE.as_slice());
-    Ok(())
+    assert_searched(&rt, alloc, &mut search)?;
+    assert_searched_by_sets(&rt, alloc, &xcc)
 }
 
 // Knows a lemma for each tile but 1 at cell 0.

@@ -2,8 +2,8 @@ ghost use Rattle.std.specs.Prelude.{◌≡◌};
 ghost use Rattle.steal_crew.specs.Tickets.{source_of, seat_source};
 
 use match_limits::{MOST_LEMMAS, MOST_WORKERS};
-use std::thread;
 use std::test::Fail;
+use std::thread;
 use steal_crew::{TicketSeat, Tickets};
 
 // Draws until none is left. There is room for all that is drawn.

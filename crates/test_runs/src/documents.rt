@@ -54,9 +54,8 @@ fn reads_three_documents_in_order(rt: HostRuntime) -> Result<(), Fail> {
     Ok(())
 }
 
-// One that has three joined, two, and one.
 #[test]
-fn reads_other_documents(rt: HostRuntime) -> Result<(), Fail> {
+fn reads_three_joined_documents(rt: HostRuntime) -> Result<(), Fail> {
     let alloc = rt.alloc();
     let mut input = Fake::new(alloc, b"p\nend\nl\nend\nc\nend\n", 5, MAX);
     let mut source = JoinedSource { input: &mut input };
@@ -67,7 +66,13 @@ fn reads_other_documents(rt: HostRuntime) -> Result<(), Fail> {
     assert!(rt; documents.puzzle == b"p\nend\n".as_slice());
     assert!(rt; documents.list == b"l\nend\n".as_slice());
     assert!(rt; documents.certificate == b"c\nend\n".as_slice());
+    Ok(())
+}
 
+// The second of two is read on by one.
+#[test]
+fn reads_two_documents_and_one(rt: HostRuntime) -> Result<(), Fail> {
+    let alloc = rt.alloc();
     let mut puzzle = Fake::new(alloc, b"abc", 2, MAX);
     let mut list = Fake::new(alloc, b"de", 2, MAX);
     let mut sources = TwoSources {

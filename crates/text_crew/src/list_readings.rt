@@ -82,9 +82,9 @@ fn read_by_parts<R: Threads + Sync>(
 
 /// What [`read_list`] reads, by 1 to 64 workers, whose number doesn't change it.
 ///
-/// The lines of the arrangements are cut into parts of about the same length, each of which is a job of a crew. All parts
-/// are read, and of those with a fault the first counts. A text of less than 128 KiB is read on the caller's thread, and
-/// so is any by one worker. It joins threads, one for each worker but the caller.
+/// The lines of the arrangements are cut into parts of about the same length, each of which is a job of a crew. All
+/// parts are read, and of those with a fault the first counts. A text of less than 128 KiB is read on the caller's
+/// thread, and so is any by one worker. It joins threads, one for each worker but the caller.
 pub fn read_list_with<R: Threads + Sync>(
     rt: &R,
     alloc: Global,

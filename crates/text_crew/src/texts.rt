@@ -98,8 +98,9 @@ fn write_at_once<R: Threads + Sync>(
 
 /// What [`write_list`] writes of the list and [`write_certificate_with`] of the certificate, at once.
 ///
-/// With one worker, or fewer than 1,024 arrangements, the list's text is written first, on the caller's thread. Else its
-/// lines are written by a crew, eight parts for each worker, and are put together beside the workers of the certificate.
+/// With one worker, or fewer than 1,024 arrangements, the list's text is written first, on the caller's thread. Else
+/// its lines are written by a crew, eight parts for each worker, and are put together beside the workers of the
+/// certificate.
 pub fn write_texts_with<R: Threads + Sync>(
     rt: &R,
     alloc: Global,

@@ -13,7 +13,10 @@ ghost use Rattle.text_words.specs.Place.{end_of_line, end_of_text, skip_line, so
 
 use crate::asked::{Asked, FaultPlace};
 use crate::faults::{TextFault, TextKind};
-use crate::words::{after_word, colour_word, cut_line, fixed_word, front, number_word, pair_word, placement_word, rule_word, short_number, short_placement, tile_word, version_word};
+use crate::words::{
+    after_word, colour_word, cut_line, fixed_word, front, number_word, pair_word, placement_word,
+    rule_word, short_number, short_placement, tile_word, version_word,
+};
 use match_board::Tile;
 use match_limits::Ranges;
 use match_puzzle::{Pair, Placement};
