@@ -157,7 +157,8 @@ impl<'a> Prepared<'a> {
         ensures complete { IsSound self.now result }
         ensures covered { IsCovering self.now result }
     {
-        let _ = self.question;
+        // It says that all is right but perhaps the trees.
+        let _ = self.question();
         match found {
             None => Answer::Complete,
             Some((number, fault)) => Answer::Refused(Fault::Tree(number, fault)),

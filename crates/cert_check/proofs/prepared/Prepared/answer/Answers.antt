@@ -1,7 +1,6 @@
 use Rattle.std.proofs.Common.{subst}
 use Rattle.match_puzzle.specs.Puzzle.{IsPuzzle}
-use Rattle.cert_check.specs.Setting.{Question}
-use Rattle.cert_check.specs.Answer.{IsPrepared, IsShown}
+use Rattle.cert_check.specs.Answer.{IsShown}
 use Rattle.cert_check.specs.Walk.{TellsOfTrees}
 use Rattle.cert_check.proofs.CheckLemmas.{first_tree}
 use Rattle.cert_check.proofs.Soundness.{complete, all_covered}
@@ -10,12 +9,12 @@ use Rattle.cert_check.proofs.prepared.Prepared.answer.Goals as goal
 -- the trees hold too
 shown : (c : goal.In-None) → IsShown c.args.self.now
 shown c = record {
-  prepared = subst IsPrepared c.self.view_is c.self.invariant.prepared;
+  prepared = c.question.ensures.prepared;
   trees = subst (TellsOfTrees c.args.self.now) c.in-None.is c.requires;
 }
 
 puzzle : (c : goal.In-None) → IsPuzzle c.args.self.now.puzzle
-puzzle c = subst (λ (q : Question). IsPuzzle q.puzzle) c.self.view_is c.self.invariant.puzzle
+puzzle c = c.question.ensures.puzzle
 
 pub returns-in-None-clause-answer : goal.returns-in-None-clause-answer
 returns-in-None-clause-answer c = shown c
@@ -28,5 +27,4 @@ returns-in-None-clause-covered c = λ _. all_covered c.args.self.now (puzzle c) 
 
 pub returns-in-Some-clause-answer : goal.returns-in-Some-clause-answer
 returns-in-Some-clause-answer c =
-    let right = subst IsPrepared c.self.view_is c.self.invariant.prepared in
-    first_tree c.args.self.now right c.in-Some.number c.in-Some.fault (subst (TellsOfTrees c.args.self.now) c.in-Some.is c.requires)
+    first_tree c.args.self.now c.question.ensures.prepared c.in-Some.number c.in-Some.fault (subst (TellsOfTrees c.args.self.now) c.in-Some.is c.requires)

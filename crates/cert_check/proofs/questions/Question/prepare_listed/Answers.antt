@@ -72,4 +72,4 @@ new-requires c =
       root = subst (λ b. MatchBool b (HasRoot question.lemmas) (HasRoot question.lemmas → ⊥)) c.if-not-ends_at_a_root.false ends;
     } in
     let made = c.in-Ok.ensures.made ∙ ap (map (motion_of question.puzzle)) c.symmetries.ensures.symmetries in
-    subst (λ q. IsPreparedWith q motions) (sym c.new-question.ensures) (record { puzzle = c.board.ensures.puzzle; prepared = prepared; symmetries = made })
+    subst (λ q. IsPreparedWith q motions) c.self.view_is (record { puzzle = c.board.ensures.puzzle; prepared = prepared; symmetries = made })
