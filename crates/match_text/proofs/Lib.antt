@@ -5,6 +5,4 @@ pub mod PuzzleLineLemmas
 pub mod PuzzleLemmas
 pub mod LimitLemmas
 pub mod ReadingLemmas
-pub mod SkipLemmas
-pub mod PartLemmas
 pub mod RowLineLemmas

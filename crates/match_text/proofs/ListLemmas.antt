@@ -1,5 +1,5 @@
 -- The list that is read is the one that was written, and what was written is read again.
-use Rattle.std.proofs.Common.{◌≡◌, ◌≢◌, ℕ, ◌+◌, ◌<◌, ◌≤◌, List, [], ◌∷◌, ◌++◌, length, take, map, Result, Ok, Err, true, refl, sym, ap, subst, ◌∙◌, append_assoc, arith, codes, inl, inr}
+use Rattle.std.proofs.Common.{◌≡◌, ◌≢◌, ℕ, ◌+◌, ◌<◌, ◌≤◌, List, [], ◌∷◌, ◌++◌, length, take, map, Result, Ok, Err, refl, sym, ap, subst, ◌∙◌, append_assoc, arith, codes, inl, inr}
 use Rattle.match_limits.specs.declared.TheConstants.{MOST_ARRANGEMENTS}
 use Rattle.std.specs.Prelude.{IfOk}
 use Rattle.std.specs.Global.{Vec}
@@ -21,21 +21,18 @@ use Rattle.match_text.specs.Lists.{ListSaid, arrangement_line, list_text, list_s
 use Rattle.text_words.specs.Spelling.{text_of, placement_word, first_words, count_words, end_lines}
 use Rattle.match_text.specs.ListSpelling.{arrangement_words, list_head, list_lines, list_spelling, said_spelling, IsRowWithin, IsListWithin, IsSpelledIn, IsSaidWithin}
 use Rattle.text_words.proofs.CutLemmas.{CutsShort, LeavesNothing, place, bind_ok, ok_is, cuts_bind, cuts_give, cuts_some_entries, cuts_line, cuts_times, cuts_opening, cuts_counted, cuts_closing, leaves_closing, leaves_after}
-use Rattle.text_words.proofs.WordLemmas.{are_clean, spells_placement, clean-row}
+use Rattle.text_words.proofs.WordLemmas.{spells_placement, clean-row}
 use Rattle.text_words.proofs.LineLemmas.{TakesLines, takes_line, takes_entries, takes_opening, takes_counted, closing_is, closing_again, times_is, times_again, lines_then, lines_apart}
 use Rattle.text_words.proofs.TextLaws.{reads_alone, reads_each, ends_where_cut}
 use Rattle.text_words.proofs.WritingLemmas.{text_of-append}
 use Rattle.match_limits.proofs.RangesLemmas.{are_ranges, first_is, second_is}
 use Rattle.text_words.specs.Within.{IsPlacementWithin}
 
-pub clean_arrangement : (ranges : Ranges) → AreRanges ranges → (row : List Placement) → IsRowWithin ranges row → are_clean (arrangement_words row) ≡ true
-clean_arrangement ranges are row fits = clean-row ranges are row fits.0 fits.2
-
-pub takes_arrangement : (ranges : Ranges) → AreRanges ranges → TakesLines (arrangement_line ranges) (λ row. arrangement_words row ∷ []) (IsRowWithin ranges)
+takes_arrangement : (ranges : Ranges) → AreRanges ranges → TakesLines (arrangement_line ranges) (λ row. arrangement_words row ∷ []) (IsRowWithin ranges)
 unfolding arrangement_line
 takes_arrangement ranges are =
     takes_line (some_entries ranges.most_cells (placement_in ranges)) arrangement_words (IsRowWithin ranges)
-    (takes_entries (placement_in ranges) placement_word (IsPlacementWithin ranges) (spells_placement ranges are) ranges.most_cells) (clean_arrangement ranges are)
+    (takes_entries (placement_in ranges) placement_word (IsPlacementWithin ranges) (spells_placement ranges are) ranges.most_cells) (λ row fits. clean-row ranges are row fits.0 fits.2)
 
 abbrev row_lines : List (List Placement) → List (List (List ℕ))
 row_lines rows = flat_map (λ row. arrangement_words row ∷ []) rows
@@ -106,7 +103,7 @@ list_again said fits =
 
 -- ---- texts that are cut short
 
-pub cuts_arrangement : (ranges : Ranges) → CutsShort (arrangement_line ranges)
+cuts_arrangement : (ranges : Ranges) → CutsShort (arrangement_line ranges)
 unfolding arrangement_line
 cuts_arrangement ranges = cuts_line (some_entries ranges.most_cells (placement_in ranges)) (cuts_some_entries ranges.most_cells (placement_in ranges))
 

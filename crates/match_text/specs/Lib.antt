@@ -1,5 +1,4 @@
 pub mod Lists
-pub mod ListParts
 pub mod Puzzles
 pub mod Faults
 pub mod ListSpelling

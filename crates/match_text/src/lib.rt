@@ -3,7 +3,6 @@
 
 mod faults;
 mod laws;
-mod list_parts;
 mod list_spellings;
 mod lists;
 mod puzzle_spellings;
@@ -13,7 +12,6 @@ mod tile_spellings;
 
 pub use faults::{ListTextFault, PuzzleTextFault};
 pub use laws::{list_laws, puzzle_laws};
-pub use list_parts::{CutList, RowPart, cut_list};
 pub use list_spellings::{list_within_limits, write_list};
 pub use lists::{list_fault_place, read_list};
 pub use puzzle_spellings::write_puzzle;

@@ -75,7 +75,7 @@ fn arrangement(
 }
 
 // Room is taken for as many arrangements as the text ahead has short lines, whatever the count says.
-pub(crate) fn arrangements(
+fn arrangements(
     alloc: Global,
     scan: &mut Scan,
     ranges: &Ranges,

@@ -1,13 +1,12 @@
 -- A list's lines in parts, one behind the other.
-use Rattle.std.proofs.Common.{◌≡◌, ◌≤◌, ◌<◌, ◌+◌, ◌-◌, ℕ, zero, suc, List, [], ◌∷◌, ◌++◌, Some, Result, Ok, Err, IfOk, Vec, Global, vec_len, length, drop, slice_get, arith, refl, sym, ap, subst, ◌∙◌}
+use Rattle.std.proofs.Common.{◌≡◌, ◌≤◌, ◌<◌, ◌+◌, ◌-◌, ℕ, zero, suc, List, [], ◌∷◌, ◌++◌, Some, Result, Ok, Err, IfOk, Vec, Global, vec_len, length, get_or, drop, slice_get, arith, refl, sym, ap, subst, ◌∙◌}
 use Rattle.std.proofs.Math.ListN.{drop_of_length-le}
 use Rattle.std.proofs.lemmas.List.Folds.{drop_split}
-use Rattle.std.proofs.lemmas.Option.{get_or_from_slice_get}
+use Rattle.std.proofs.Math.Seq.{drop-cons}
 use Rattle.match_limits.proofs.ListLemmas.{member_at}
 use Rattle.match_puzzle.specs.declared.placements.Placement.{Placement}
 use Rattle.match_text.specs.declared.row_lines.RowLines.{RowLines}
 use Rattle.match_text.specs.RowLines.{AreLinesOf, AreParts}
-use Rattle.match_text.proofs.PartLemmas.{from_place}
 use Rattle.steal_crew.specs.Results.{Belongs}
 use Rattle.cert_text.specs.LemmaParts.{AreStarts, part_start}
 use Rattle.text_crew.specs.Texts.{rows_of_part}
@@ -23,12 +22,12 @@ module _ (rows : List (List Placement)) (starts : List ℕ) (parts : List RowLin
       subst (AreParts (drop (part_start starts n) rows)) (sym none) no_rows
   from_part (suc left) n at =
       let lt : n < length parts = omega (arith, at) in
-      let it = member_at parts n lt in
-      let lines = subst (AreLinesOf (rows_of_part rows starts n)) (get_or_from_slice_get parts n it.0 it.0 it.1) (each n it.0 lt) in
+      let lines = (member_at parts n lt).0 in
+      let next : suc n ≡ n + 1 = omega arith in
       let rest = from_part left (n + 1) (omega (arith, at)) in
       let rising = are.rising n (omega (arith, lt, many)) in
-      subst (AreParts (drop (part_start starts n) rows)) (sym (from_place parts n it.0 it.1))
-      (rows_of_part rows starts n, drop (part_start starts (n + 1)) rows, drop_split rows (part_start starts n) (part_start starts (n + 1)) rising, lines, rest)
+      subst (AreParts (drop (part_start starts n) rows)) (sym (drop-cons parts n lines lt ∙ ap (λ k. get_or parts n lines ∷ drop k parts) next))
+      (rows_of_part rows starts n, drop (part_start starts (n + 1)) rows, drop_split rows (part_start starts n) (part_start starts (n + 1)) rising, each n lines lt, rest)
 
   pub all_row_parts : AreParts rows parts
   all_row_parts = subst (λ k. AreParts (drop k rows) parts) are.from_first (from_part (length parts) 0 (omega arith))

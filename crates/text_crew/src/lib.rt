@@ -1,13 +1,11 @@
 //! The reading and the writing of a list and a certificate by a crew of workers.
 #![tactic(auto)]
 
-mod list_readings;
 mod list_writings;
 mod readings;
 mod texts;
 mod writings;
 
-pub use list_readings::read_list_with;
 pub use readings::read_certificate_with;
 pub use texts::{ReadTexts, WrittenTexts, read_texts_with, write_texts_with};
 pub use writings::write_certificate_with;

@@ -11,19 +11,21 @@ ghost use Rattle.cert_text.specs.CertificateText.{CertificateGives, certificate_
 ghost use Rattle.cert_text.specs.Writing.{said_by};
 ghost use Rattle.text_crew.specs.Texts.{IsCertificateText, IsListRead, IsListText};
 
-use crate::list_readings::read_list_with;
 use crate::list_writings::write_row_parts;
 use crate::readings::read_certificate_with;
 use crate::writings::write_certificate_with;
 use cert_text::CertTextFault;
 use cert_tree::Certificate;
 use match_puzzle::Arrangement;
-use match_text::{ListTextFault, join_list, write_list};
+use match_text::{ListTextFault, join_list, read_list, write_list};
 use std::alloc::{AllocError, Global};
 use std::thread::Threads;
 use steal_crew::both;
 
-// A list of fewer arrangements is written before another thread would have started.
+// A list of fewer bytes is read before another thread would have started.
+const LEAST_BYTES: usize = 1 << 16;
+
+// One of fewer arrangements is written before that.
 const LEAST_LISTED: usize = 1_024;
 
 /// What the texts of a list and of a certificate were read as.
@@ -40,10 +42,43 @@ pub struct WrittenTexts {
     pub certificate: Vec<u8>,
 }
 
-/// What [`read_list_with`] reads of the one text, and then [`read_certificate_with`] of the other.
+// Both texts, each read on a thread of its own; the certificate by so many workers.
+fn read_at_once<R: Threads + Sync>(
+    rt: &R,
+    alloc: Global,
+    list: &[u8],
+    certificate: &[u8],
+    workers: u8,
+) -> Result<ReadTexts, AllocError>
+    requires list { length list.now + 1 < 2 ^ 32 }
+    requires certificate { length certificate.now + 1 < 2 ^ 32 }
+    requires workers { (1 ≤ workers) × (workers ≤ MOST_WORKERS) }
+    ensures list { IfOk result (λ read. IsListRead list.now read.listed) }
+    ensures certificate { IfOk result (λ read. CertificateGives read.certificate (certificate_of certificate.now)) }
+{
+    let (certificate, listed) = both(
+        rt,
+        || -> Result<Result<Certificate, CertTextFault>, AllocError>
+            requires { IsSync R.row × (length certificate.now + 1 < 2 ^ 32) × (1 ≤ workers) × (workers ≤ MOST_WORKERS) }
+            ensures { IfOk result (λ read. CertificateGives read (certificate_of certificate.entry.now)) }
+        { Ok(read_certificate_with(rt, alloc, certificate, workers)) },
+        // On the caller's thread, where memory for many small pieces comes with the fewest calls of the system.
+        || -> Result<Result<Vec<Arrangement>, ListTextFault>, AllocError>
+            requires { length list.now + 1 < 2 ^ 32 }
+            ensures { IfOk result (IsListRead list.entry.now) }
+        { Ok(read_list(alloc, list)) },
+    )?;
+    Ok(ReadTexts {
+        listed,
+        certificate,
+    })
+}
+
+/// What [`read_list`] reads of the one text and [`read_certificate_with`] of the other, at once.
 ///
-/// Each fault stands where it was found, and so it is the caller's to look at the list's first. Want of memory is each
-/// reading's own fault.
+/// Each fault stands where it was found, and so it is the caller's to look at the list's first. The list is read on the
+/// caller's thread: with one worker, or where it has less than 64 KiB, before the certificate, and else while workers on
+/// other threads read that. Want of memory is each reading's own fault.
 pub fn read_texts_with<R: Threads + Sync>(
     rt: &R,
     alloc: Global,
@@ -57,7 +92,10 @@ pub fn read_texts_with<R: Threads + Sync>(
     ensures list { IfOk result (λ read. IsListRead list.now read.listed) }
     ensures certificate { IfOk result (λ read. CertificateGives read.certificate (certificate_of certificate.now)) }
 {
-    let listed = read_list_with(rt, alloc, list, workers);
+    if workers > 1 && list.len() >= LEAST_BYTES {
+        return read_at_once(rt, alloc, list, certificate, workers);
+    }
+    let listed = read_list(alloc, list);
     let certificate = read_certificate_with(rt, alloc, certificate, workers);
     Ok(ReadTexts {
         listed,
