@@ -9,3 +9,4 @@ pub mod ForkLemmas
 pub mod AnswerAlike
 pub mod FindingLemmas
 pub mod PlaceLemmas
+pub mod SceneLemmas

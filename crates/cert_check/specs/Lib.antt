@@ -9,3 +9,4 @@ pub mod Repeats
 pub mod Walk
 pub mod Lines
 pub mod Jobs
+pub mod Scene

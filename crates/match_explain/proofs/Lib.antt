@@ -1,3 +1,2 @@
-pub mod SceneLemmas
 pub mod NodeLemmas
 pub mod FindingLemmas

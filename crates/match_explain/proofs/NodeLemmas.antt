@@ -19,8 +19,8 @@ use Rattle.cert_check.specs.declared.faults.NodeFault.TheVariants as faults
 use Rattle.cert_check.specs.declared.faults.Fault.TheVariants as answers
 use Rattle.cert_check.specs.declared.faults.TreeFault.{TreeFault}
 use Rattle.match_explain.specs.Explanation.{miscounted_item}
-use Rattle.match_explain.specs.Scene.{LeadsTo}
-use Rattle.match_explain.proofs.SceneLemmas.{fault_path, same_child}
+use Rattle.cert_check.specs.Scene.{LeadsTo}
+use Rattle.cert_check.proofs.SceneLemmas.{fault_path, same_child}
 
 -- A number is below the other, if it isn't that the other is at most it.
 below : (m n : ℕ) → (n ≤ m → ⊥) → m < n

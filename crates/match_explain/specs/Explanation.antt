@@ -21,7 +21,7 @@ use Rattle.cert_check.specs.declared.faults.NodeFault.TheVariants.{WrongCount, N
 use Rattle.cert_check.specs.declared.faults.TreeFault.{TreeFault}
 use Rattle.match_show.specs.Drawing.{IsDrawing}
 use Rattle.match_explain.specs.Findings.{IsFinding, closing_of}
-use Rattle.match_explain.specs.Scene.{LeadsTo}
+use Rattle.cert_check.specs.Scene.{LeadsTo}
 use Rattle.match_explain.specs.declared.findings.Finding.{Finding}
 
 -- The line names the pairs that fit and settle the item, in the item's order, each behind a space.

@@ -10,7 +10,6 @@ mod list_sentences;
 mod node_explanations;
 mod node_sentences;
 mod places;
-mod scenes;
 mod sides;
 
 pub use explanations::write_explanation;

@@ -10,7 +10,7 @@ use Rattle.cert_check.specs.declared.faults.Fault.TheVariants as faults
 use Rattle.match_show.specs.Drawing.{IsDrawing}
 use Rattle.match_explain.specs.Explanation.{MarksNode, NamesWhatFits}
 use Rattle.match_explain.specs.Findings.{closing_of}
-use Rattle.match_explain.specs.Scene.{IsPath, LeadsTo}
+use Rattle.cert_check.specs.Scene.{IsPath, LeadsTo}
 use Rattle.match_explain.proofs.FindingLemmas.{are_faultless}
 use Rattle.match_explain.proofs.NodeLemmas.{four_parts, has_fault, leads_to_fault}
 use Rattle.match_explain.proofs.node_explanations.explain_node.Goals as goal

@@ -3,9 +3,9 @@ use Rattle.match_puzzle.specs.Fitting.{FitsItem}
 use Rattle.match_puzzle.specs.declared.placements.Pair.{Pair}
 use Rattle.match_puzzle.proofs.Prefixes.{inside}
 use Rattle.cert_tree.specs.Tree.{count}
-use Rattle.match_explain.proofs.SceneLemmas.{child_open, child_pair, child_reached, child_within, of_branch, open_item, some_past}
-use Rattle.match_explain.proofs.scenes.Scene.go_to_child.Goals.{In-Some, In-Some-pair_at}
-use Rattle.match_explain.proofs.scenes.Scene.go_to_child.Goals as goal
+use Rattle.cert_check.proofs.SceneLemmas.{child_open, child_pair, child_reached, child_within, of_branch, open_item, some_past}
+use Rattle.cert_check.proofs.scenes.Scene.go_to_child.Goals.{In-Some, In-Some-pair_at}
+use Rattle.cert_check.proofs.scenes.Scene.go_to_child.Goals as goal
 
 pub unreachable-requires : goal.unreachable-requires
 unreachable-requires c =

@@ -2,7 +2,7 @@ use Rattle.std.proofs.Common.{◌≡◌, ◌≤◌}
 use Rattle.cert_tree.specs.Tree.{count}
 use Rattle.cert_tree.specs.Heads.{past}
 use Rattle.cert_tree.proofs.HeadLemmas.{nodes}
-use Rattle.match_explain.proofs.scenes.go_past.Given as goal
+use Rattle.cert_check.proofs.scenes.go_past.Given as goal
 
 -- So many trees are still to be gone past.
 abbrev pub invariant-loop-left : goal.invariant-loop-left

@@ -5,8 +5,8 @@ use Rattle.cert_tree.specs.Certificate.{flat_piece}
 use Rattle.cert_tree.specs.Heads.{first}
 use Rattle.cert_tree.specs.Tree.{Tree, none}
 use Rattle.cert_check.specs.Derivation.{start_of}
-use Rattle.match_explain.specs.Scene.{LeadsTo}
-use Rattle.match_explain.proofs.scenes.Scene.at.Given as goal
+use Rattle.cert_check.specs.Scene.{LeadsTo}
+use Rattle.cert_check.proofs.scenes.Scene.at.Given as goal
 
 -- The rest of the path leads from here to where the whole of it leads to.
 abbrev pub invariant-loop-number : goal.invariant-loop-number

@@ -1,7 +1,7 @@
 use Rattle.std.proofs.Common.{◌≡◌, ◌∙◌, ap, arith, slice_get}
 use Rattle.cert_check.proofs.ForkLemmas.{taken_after}
-use Rattle.match_explain.proofs.SceneLemmas.{taken_is}
-use Rattle.match_explain.proofs.scenes.pair_at.Goals as goal
+use Rattle.cert_check.proofs.SceneLemmas.{taken_is}
+use Rattle.cert_check.proofs.scenes.pair_at.Goals as goal
 
 pub loop-preserved : goal.loop-preserved
 loop-preserved c = taken_after c.loop.counter c.args.pairs.now c.loop.pairs c.take_first.new.self c.take_first.result c.loop.invariant c.take_first.ensures

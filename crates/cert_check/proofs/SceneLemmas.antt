@@ -21,7 +21,7 @@ use Rattle.cert_check.specs.TreeFaults.{IsNodeFault, FailsAt, EachFails}
 use Rattle.cert_check.specs.declared.faults.NodeFault.{NodeFault}
 use Rattle.cert_check.proofs.FaultLemmas.{one_fitting}
 use Rattle.match_limits.proofs.ListLemmas.{contains_at}
-use Rattle.match_explain.specs.Scene.{IsChild, LeadsTo}
+use Rattle.cert_check.specs.Scene.{IsChild, LeadsTo}
 
 -- a child of the first so many trees is one of all
 pub first_past_front : (n k : ℕ) (trees : Forest) → k < n → first (past k (front n trees)) ≡ first (past k trees)

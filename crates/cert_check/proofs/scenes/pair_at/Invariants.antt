@@ -1,5 +1,5 @@
 use Rattle.std.proofs.Common.{◌≡◌, drop}
-use Rattle.match_explain.proofs.scenes.pair_at.Given as goal
+use Rattle.cert_check.proofs.scenes.pair_at.Given as goal
 
 -- So many pairs were taken.
 abbrev pub invariant-loop : goal.invariant-loop

@@ -1,9 +1,9 @@
 use Rattle.std.proofs.Common.{◌∙◌, get_or, subst}
 use Rattle.match_puzzle.specs.Puzzle.{Task}
 use Rattle.cert_tree.specs.Heads.{first}
-use Rattle.match_explain.specs.Scene.{IsChild}
-use Rattle.match_explain.proofs.SceneLemmas.{leads_on}
-use Rattle.match_explain.proofs.scenes.Scene.at.Goals as goal
+use Rattle.cert_check.specs.Scene.{IsChild}
+use Rattle.cert_check.proofs.SceneLemmas.{leads_on}
+use Rattle.cert_check.proofs.scenes.Scene.at.Goals as goal
 
 pub loop-number-preserved : goal.loop-number-preserved
 loop-number-preserved c =

@@ -1,7 +1,7 @@
 use Rattle.std.proofs.Common.{◌≡◌, ◌+◌, ◌-◌, ◌∙◌, ap, arith}
 use Rattle.cert_tree.specs.Heads.{arity}
 use Rattle.cert_tree.proofs.HeadLemmas.{nodes-put, skips}
-use Rattle.match_explain.proofs.scenes.go_past.Goals as goal
+use Rattle.cert_check.proofs.scenes.go_past.Goals as goal
 
 pub overflow_add-left : goal.overflow_add-left
 overflow_add-left c =

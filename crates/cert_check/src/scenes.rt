@@ -9,26 +9,27 @@ ghost use Rattle.cert_tree.specs.Certificate.{flat_piece};
 ghost use Rattle.cert_tree.specs.Heads.{arity, branch_head, first, past, put};
 ghost use Rattle.cert_tree.specs.Tree.{Forest, Tree, count, none};
 ghost use Rattle.cert_check.specs.Derivation.{start_of};
-ghost use Rattle.match_explain.specs.Scene.{IsChild, IsPath, LeadsTo};
+ghost use Rattle.cert_check.specs.Scene.{IsChild, IsPath, LeadsTo};
 
 use cert_tree::{FlatLemma, Head, Trees};
 use match_puzzle::{FittingPairs, Item, Pair, Partial, Puzzle};
 use std::alloc::{AllocError, Global};
 
-// A node of a lemma's tree, and the board there.
+/// A node of a lemma's tree, and the board there.
 #[derive(Drop)]
-pub(crate) struct Scene<'a> {
-    // What is placed.
-    pub(crate) partial: Partial<'a>,
-    // What is left of a walk in preorder: the node is the first.
-    pub(crate) trees: Trees<'a>,
-    // How many words of the tree's text stand before the node's.
-    pub(crate) words: usize,
+pub struct Scene<'a> {
+    /// What is placed.
+    pub partial: Partial<'a>,
+    /// What is left of a walk in preorder: the node is the first.
+    pub trees: Trees<'a>,
+    /// How many words of the tree's text stand before the node's, up to `usize::MAX`; no clause says it.
+    pub words: usize,
 }
 
 impl<'a> Scene<'a> {
-    // The node that the path of child numbers leads to from the top of the lemma's tree.
-    pub(crate) fn at(
+    /// The node that the path of child numbers, from 0, leads to from the top of the lemma's tree. It goes past each
+    /// node that stands before it in the text.
+    pub fn at(
         alloc: Global,
         puzzle: &'a Puzzle,
         lemma: &FlatLemma<'a>,
@@ -56,8 +57,8 @@ impl<'a> Scene<'a> {
         Ok(scene)
     }
 
-    // The node without its children.
-    pub(crate) fn head(&self) -> Head
+    /// The node without its children.
+    pub fn head(&self) -> Head
         requires { self.now.trees ≢ none }
         ensures { (rest : Forest) × (put result rest ≡ self.now.trees) }
     {
