@@ -1,26 +1,32 @@
 -- What a solve comes to, by the run that it makes and what is done to its files.
-use Rattle.std.proofs.Common.{◌≡◌, ◌⊎◌, ◌++◌, ◌∷◌, [], ℕ, List, Option, Err, ap, inl, inr, refl, subst, zero-le}
+use Rattle.std.proofs.Common.{◌≡◌, ◌⊎◌, ◌++◌, ◌∷◌, [], ℕ, List, Option, Result, Ok, Err, IfErr, ap, inl, inr, refl, subst, zero-le}
+use Rattle.std.specs.Prelude.{OnErr, OnOk}
 use Rattle.std.specs.Io.KnownBytes.{Appends, Consumes}
 use Rattle.std.proofs.KnownBytes.{Consumes-nil}
-use Rattle.byte_streams.specs.Deeds.{Deed, Did, IsFileOf}
+use Rattle.byte_streams.specs.Deeds.{Deed, Did}
+use Rattle.byte_streams.specs.MadeFiles.{AreMade, AreWritten, PutsNoneOrHalf, Undid, both_made, both_removed}
 use Rattle.byte_streams.specs.Moves.{FrontOf, Takes, Writing}
-use Rattle.byte_streams.specs.Origins.{one_source}
+use Rattle.byte_streams.specs.Origins.{Origin, one_source}
 use Rattle.byte_streams.specs.Targets.{StopsWriting, Target, filled, products_to, three_sinks}
 use Rattle.byte_streams.specs.declared.faults.Document.TheVariants as documents
 use Rattle.byte_streams.specs.declared.faults.InputFault.TheVariants as inputs
 use Rattle.byte_streams.specs.declared.files.FileSystem.{Ghosts as FileMembers}
+use Rattle.byte_streams.specs.declared.made_files.MadeFiles.{MadeFiles}
+use Rattle.byte_streams.specs.declared.made_files.Unsettled.{Unsettled}
+use Rattle.byte_streams.specs.declared.made_files.Unsettled.TheVariants as unsettled
 use Rattle.byte_streams.specs.declared.outputs.Products.{Products}
 use Rattle.byte_streams.specs.declared.sources.Source.{Ghosts as SourceMembers}
 use Rattle.command_words.specs.declared.places.Files.{Files}
 use Rattle.match_program.specs.FileOrigins.{Opened, one_file, read_from}
 use Rattle.match_program.specs.OrderRuns.{SolveOf, ThenDone}
-use Rattle.match_runs.specs.Runs.{Runs}
-use Rattle.match_program.specs.SolvedFiles.{AreMade, AreWritten, PutsNoneOrHalf, Undid, both_made, both_removed, half_put, solved_files}
+use Rattle.match_runs.specs.Runs.{Runs, unhinted}
+use Rattle.match_runs.specs.declared.hints.HintedFault.{HintedFault}
+use Rattle.match_program.specs.SolvedFiles.{certificate_name, half_put, list_name, solved_files}
+use Rattle.match_program.specs.SolvedFiles.{both_made as files_made}
 use Rattle.match_runs.specs.Solving.{SolveFails, SolveGives}
 use Rattle.match_program.specs.declared.exits.Exit.TheVariants.{Done}
 use Rattle.match_runs.specs.declared.faults.RunFault.{RunFault}
 use Rattle.match_runs.specs.declared.faults.RunFault.TheVariants as runs
-use Rattle.match_program.specs.declared.made_files.MadeFiles.{MadeFiles}
 use Rattle.match_runs.proofs.RunningLemmas.{stopped_over}
 
 -- ---- deeds
@@ -32,22 +38,19 @@ module _ {S : Type 0} (does : S → Deed → S → Type 0) where
   did_then old now new (deed ∷ deeds) others first did = (first.0, first.1, did_then first.0 now new deeds others first.2 did)
 
   -- what was made was removed
-  pub undone : (files : Files) (old now new : S) → Did does old (both_made files) now → Did does now (both_removed files) new → Undid files does old new
-  undone files old now new made removed = (both_made files ++ both_removed files, inr (inr refl), did_then old now new (both_made files) (both_removed files) made removed)
+  pub undone : (list certificate : List ℕ) (old now new : S) → Did does old (both_made list certificate) now → Did does now (both_removed list certificate) new → Undid list certificate does old new
+  undone list certificate old now new made removed =
+      (both_made list certificate ++ both_removed list certificate, inr (inr refl), did_then old now new (both_made list certificate) (both_removed list certificate) made removed)
 
--- by another name that is the same
-pub did_as : {S : Type 0} (does : S → Deed → S → Type 0) (deed : List ℕ → Deed) (old : S) (name given : List ℕ) (new : S) → given ≡ name → does old (deed given) new → does old (deed name) new
-did_as does deed old name given new same did = subst (λ (n : List ℕ). does old (deed n) new) same did
-
-pub is_file_as : {S W : Type 0} (makes : S → List ℕ → W → Type 0) (written : W → Option (List ℕ)) (name given : List ℕ) (writer : W) (text : List ℕ)
-    → given ≡ name → IsFileOf makes written name writer text → IsFileOf makes written given writer text
-is_file_as makes written name given writer text same is = rw same is
+-- under two names that are the same
+pub named : (A : (list certificate : List ℕ) → Type 0) (l m k n : List ℕ) → l ≡ m → k ≡ n → A l k → A m n
+named A l m k n same_list same_certificate holds = subst (λ x. A x n) same_list (subst (λ y. A l y) same_certificate holds)
 
 -- files that were made took what went to their writers since
-pub are_written : {S W : Type 0} (makes : S → List ℕ → W → Type 0) (written : W → Option (List ℕ)) (files : Files) (begun later : MadeFiles W) (texts : Products)
-    → AreMade makes files begun → Appends (written begun.list) (written later.list) texts.list → Appends (written begun.certificate) (written later.certificate) texts.certificate
-    → AreWritten makes written files later texts
-are_written makes written files begun later texts made list certificate = record {
+pub are_written : {S W : Type 0} (makes : S → List ℕ → W → Type 0) (written : W → Option (List ℕ)) (list_name certificate_name : List ℕ) (begun later : MadeFiles W) (texts : Products)
+    → AreMade makes list_name certificate_name begun → Appends (written begun.list) (written later.list) texts.list → Appends (written begun.certificate) (written later.certificate) texts.certificate
+    → AreWritten makes written list_name certificate_name later texts
+are_written makes written l k begun later texts made list certificate = record {
   list = record { at = made.at; begun = begun.list; made = made.list; took = list };
   certificate = record { at = made.later; begun = begun.certificate; made = made.certificate; took = certificate };
 }
@@ -95,7 +98,41 @@ module _ {S R W : Type 0} (system : FileMembers S R W) (source : SourceMembers R
   not_begun same workers to fault (inr memory) untouched = rw memory (inl (unread same, untouched))
 
 -- all was written, and a file could not be put in its place
-pub put_stopped : {S : Type 0} (does : S → Deed → S → Type 0) (files : Files) (old now new : S) (report : Writing) (made : Products) → Did does old (both_made files) now
-    → PutsNoneOrHalf files does now new made → Takes report made.report → (solved_files files does old new report).Stopped made
-put_stopped does files old now new report made both (inl removed) takes = inl (undone does files old now new both removed, inr (inr takes))
-put_stopped does files old now new report made both (inr half) takes = inr (did_then does old now new (both_made files) (half_put files made) both half, takes)
+pub put_stopped : {S : Type 0} (does : S → Deed → S → Type 0) (files : Files) (old now new : S) (report : Writing) (made : Products) → Did does old (files_made files) now
+    → PutsNoneOrHalf (list_name files) (certificate_name files) does now new made → Takes report made.report → (solved_files files does old new report).Stopped made
+put_stopped does files old now new report made both (inl removed) takes = inl (undone does (list_name files) (certificate_name files) old now new both removed, inr (inr takes))
+put_stopped does files old now new report made both (inr half) takes = inr (did_then does old now new (files_made files) (half_put files made) both half, takes)
+
+-- ---- what files are settled by
+
+-- what a call ensures after it ended well, or with an error
+pub after_ok : {T E A : Type 0} (result : Result T E) (value : T) → result ≡ Ok value → OnOk result A → A
+after_ok (Ok value) v is holds = holds
+after_ok (Err error) v is holds = absurd cc
+
+pub after_err : {T E A : Type 0} (result : Result T E) (error : E) → result ≡ Err error → OnErr result A → A
+after_err (Ok value) e is holds = absurd cc
+after_err (Err error) e is holds = holds
+
+module _ {E : Type 0} where
+  -- they are put only where all was written
+  pub put_if_written : (written : Result Unit E) (settled : Result Unit (Unsettled E)) → settled ≡ Ok tt → IfErr written (λ fault. settled ≡ Err (unsettled.Stopped fault)) → written ≡ Ok tt
+  put_if_written (Ok done) settled put stopped = refl
+  put_if_written (Err fault) settled put stopped = absurd cc
+
+  pub tried_if_written : (written : Result Unit E) (settled : Result Unit (Unsettled E)) → settled ≡ Err unsettled.NotPut → IfErr written (λ fault. settled ≡ Err (unsettled.Stopped fault))
+      → written ≡ Ok tt
+  tried_if_written (Ok done) settled not_put stopped = refl
+  tried_if_written (Err fault) settled not_put stopped = absurd cc
+
+  -- the fault that stopped is the one that comes back
+  pub stopped_by : (written : Result Unit E) (settled : Result Unit (Unsettled E)) (fault : E) → settled ≡ Err (unsettled.Stopped fault)
+      → IfErr written (λ f. settled ≡ Err (unsettled.Stopped f)) → OnOk written (IfErr settled (λ u. u ≡ unsettled.NotPut)) → written ≡ Err fault
+  stopped_by (Ok done) settled fault is stopped not_put = let other : unsettled.Stopped fault ≡ unsettled.NotPut = subst (λ r. IfErr r (λ u. u ≡ unsettled.NotPut)) is not_put in absurd cc
+  stopped_by (Err f) settled fault is stopped not_put = cc
+
+-- what holds after a run that ended well
+pub after_run : {T M A : Type 0} (from : Origin T) (gives : T → M → Unit {0} → Type 0) (fails : T → RunFault → Type 0) (to : Target M) (told : Result Unit HintedFault)
+    → Runs from gives fails to (unhinted told) → ((made : M) → to.Took made → A) → OnOk told A
+after_run from gives fails to (Ok done) run follows = follows run.1 run.4
+after_run from gives fails to (Err hinted) run follows = tt

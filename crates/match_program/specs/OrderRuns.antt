@@ -4,7 +4,6 @@ use Rattle.std.specs.String.{string_bytes}
 use Rattle.command_words.specs.declared.orders.Extent.{Extent}
 use Rattle.command_words.specs.declared.orders.Subject.{Subject}
 use Rattle.command_words.specs.declared.orders.Subject.TheVariants.{Board, Listed}
-use Rattle.command_words.specs.declared.places.Place.{Place}
 use Rattle.command_words.specs.declared.orders.Order.{Order}
 use Rattle.command_words.specs.declared.orders.Order.TheVariants.{Joined, Check, Explain, ExplainPuzzle, Solve, Expand, Count, Census, Show, Draw, Symmetries, Tiles}
 use Rattle.byte_streams.specs.Documents.{Texts}

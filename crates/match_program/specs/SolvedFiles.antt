@@ -1,13 +1,14 @@
 -- What a solve does to files, and what stands under their names then.
-use Rattle.std.specs.Prelude.{◌≡◌, ◌⊎◌, ◌++◌, ◌∷◌, [], ℕ, List, Option}
+use Rattle.std.specs.Prelude.{◌⊎◌, ◌++◌, ℕ, List}
 use Rattle.std.specs.String.{string_bytes}
-use Rattle.byte_streams.specs.Deeds.{AllLeave, Deed, Did, IsFileOf, Stands, did_make, did_put, did_remove}
+use Rattle.byte_streams.specs.Deeds.{AllLeave, Deed, Did, Stands}
+use Rattle.byte_streams.specs.MadeFiles as streams
+use Rattle.byte_streams.specs.MadeFiles.{IsUndone, Undid}
 use Rattle.byte_streams.specs.Moves.{FrontOf, Takes, Writing}
 use Rattle.byte_streams.specs.Targets.{Target}
 use Rattle.byte_streams.specs.declared.outputs.Products.{Products}
 use Rattle.command_words.specs.declared.places.Files.{Files}
 use Rattle.match_program.specs.Files.{HaveDifferentNames}
-use Rattle.match_program.specs.declared.made_files.MadeFiles.{MadeFiles}
 
 module _ (files : Files) where
   -- the names of the files of the list and the certificate
@@ -17,32 +18,20 @@ module _ (files : Files) where
   abbrev pub certificate_name : List ℕ
   certificate_name = string_bytes files.certificate
 
+  -- what a solve does to them
   abbrev pub both_made : List Deed
-  both_made = did_make list_name ∷ did_make certificate_name ∷ []
+  both_made = streams.both_made list_name certificate_name
 
   abbrev pub both_put : Products → List Deed
-  both_put made = did_put list_name made.list ∷ did_put certificate_name made.certificate ∷ []
+  both_put = streams.both_put list_name certificate_name
 
-  abbrev pub both_removed : List Deed
-  both_removed = did_remove list_name ∷ did_remove certificate_name ∷ []
-
-  -- where the certificate can't be put under its name
   abbrev pub half_put : Products → List Deed
-  half_put made = did_put list_name made.list ∷ did_remove certificate_name ∷ []
-
-  -- what is done before all is written, where that is stopped: what was made is removed
-  abbrev pub IsUndone : List Deed → Type 0
-  IsUndone deeds =
-      (deeds ≡ []) ⊎ ((deeds ≡ did_make list_name ∷ did_remove list_name ∷ []) ⊎ (deeds ≡ both_made ++ both_removed))
+  half_put = streams.half_put list_name certificate_name
 
   module _ {S : Type 0} (does : S → Deed → S → Type 0) (old new : S) where
     -- What was made was removed, and nothing else was done to a file.
-    abbrev pub Undid : Type 0
-    Undid = (deeds : List Deed) × IsUndone deeds × Did does old deeds new
-
-    -- Both were removed, or the list was put under its name, and the certificate was removed.
-    abbrev pub PutsNoneOrHalf : Products → Type 0
-    PutsNoneOrHalf made = Did does old both_removed new ⊎ Did does old (half_put made) new
+    abbrev pub Undone : Type 0
+    Undone = Undid list_name certificate_name does old new
 
     module _ (output : Writing) where
       -- Nothing of the report went out, or a front, or all of it.
@@ -57,25 +46,10 @@ module _ (files : Files) where
         Took = λ made.
             HaveDifferentNames files × Did does old (both_made ++ both_put made) new × Takes output made.report;
         Stopped = λ made.
-            (Undid × ReportsSome made)
+            (Undone × ReportsSome made)
             ⊎ (Did does old (both_made ++ half_put made) new × Takes output made.report);
-        Untouched = Undid × output.Untouched;
+        Untouched = Undone × output.Untouched;
       }
-
--- ---- the files that are made
-
--- They were just made beside their names.
-pub record AreMade {S W : Type 0} (makes : S → List ℕ → W → Type 0) (files : Files) (made : MadeFiles W) : Type 0 where
-  pub at : S
-  pub later : S
-  pub list : makes at (string_bytes files.list) made.list
-  pub certificate : makes later (string_bytes files.certificate) made.certificate
-
--- They were made beside their names, and took these texts since.
-pub record AreWritten {S W : Type 0} (makes : S → List ℕ → W → Type 0) (written : W → Option (List ℕ)) (files : Files)
-    (made : MadeFiles W) (texts : Products) : Type 0 where
-  pub list : IsFileOf makes written (string_bytes files.list) made.list texts.list
-  pub certificate : IsFileOf makes written (string_bytes files.certificate) made.certificate texts.certificate
 
 -- ---- what stands under names
 
@@ -91,4 +65,4 @@ abbrev pub NothingIsLost : Type 0
 NothingIsLost =
     (files : Files)
     → (HaveDifferentNames files → (made : Products) → FilesStand files made)
-    × ((deeds : List Deed) → IsUndone files deeds → (name : List ℕ) → AllLeave name deeds)
+    × ((deeds : List Deed) → IsUndone (list_name files) (certificate_name files) deeds → (name : List ℕ) → AllLeave name deeds)

@@ -16,11 +16,12 @@ ghost use Rattle.match_program.specs.SolvedFiles.{solved_files};
 use crate::document_readers::{ThreeReaders, TwoReaders, open_place, open_three, open_two};
 use crate::exits::Exit;
 use crate::files::{are_apart, hint_on, open};
-use crate::made_files::{MadeFiles, make_both, put_both, remove_both};
+use crate::made_files::{make_files, names_of};
 use crate::progress::{CensusProgress, CheckProgress, SolveProgress};
 use crate::streams::Streams;
 use byte_streams::{
-    Document, FileSystem, JoinedSource, OneSink, OneSource, Sink, Source, ThreeSinks, ThreeSources,
+    Document, FileSystem, JoinedSource, MadeFiles, OneSink, OneSource, Sink, Source, ThreeSinks,
+    ThreeSources, Unsettled, settle,
 };
 use cert_check::Open;
 use command_words::{Extent, Files, Given, Order, Place, Subject, ThreePlaces, TwoPlaces};
@@ -309,7 +310,8 @@ fn solve<S: FileSystem, W: Sink, R: Threads + Wait + Sync + Clock + Eprint>(
     if !are_apart(alloc, files, system)? {
         return Err(not_apart(alloc, files, system));
     }
-    let mut made = make_both(alloc, files, system)?;
+    let names = names_of(files);
+    let mut made = make_files(alloc, &names, system)?;
     let progress = SolveProgress::new(rt, order.progress);
     let search = Watched {
         plan: order.plan,
@@ -330,15 +332,13 @@ fn solve<S: FileSystem, W: Sink, R: Threads + Wait + Sync + Clock + Eprint>(
             report: output,
         },
     );
-    if let Err(HintedFault { fault, hint }) = solved {
-        let hint = progress
-            .with_met(alloc, &fault, hint)
-            .or(hint_on_writing(alloc, files, &made, system));
-        remove_both(made, files, system);
-        return Err(HintedFault { fault, hint });
+    let refused = hint_on_writing(alloc, files, &made, system);
+    let told = progress.told(alloc, solved, refused);
+    match settle(made, &names, system, told) {
+        Ok(()) => Ok(Exit::Done),
+        Err(Unsettled::Stopped(hinted)) => Err(hinted),
+        Err(Unsettled::NotPut) => Err(HintedFault::from(RunFault::Write)),
     }
-    put_both(made, files, system)?;
-    Ok(Exit::Done)
 }
 
 // That two of three names lead to one file, or it can't be told that they don't.

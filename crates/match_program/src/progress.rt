@@ -1,10 +1,13 @@
 //! How far a check, a solve or a count is, told on standard error.
 
+ghost use Rattle.std.specs.Prelude.{◌≡◌};
+ghost use Rattle.match_runs.specs.Runs.{unhinted};
+
 use cert_check::Gate;
 use match_census::CensusWatch;
 use match_crew::{SolveFault, Watch};
 use match_limits::MOST_BYTES;
-use match_runs::{CheckWatch, RunFault, SolveWatch};
+use match_runs::{CheckWatch, HintedFault, RunFault, SolveWatch};
 use std::alloc::Global;
 use std::sync::atomic::{AtomicBool, AtomicU64, Ordering};
 use std::time::{Clock, Instant};
@@ -128,6 +131,24 @@ impl<'a, R: Clock + Eprint> SolveProgress<'a, R> {
         let nodes = self.nodes();
         let met = self.met.load(Ordering::Relaxed);
         format!(in alloc; "nodes met: {nodes}, arrangements met: {met}, {hint}").ok()
+    }
+
+    // What a solve came to: its fault has the hint with what was met, or else the one on writing, if there is one.
+    pub(crate) fn told(
+        &self,
+        alloc: Global,
+        solved: Result<(), HintedFault>,
+        refused: Option<String>,
+    ) -> Result<(), HintedFault>
+        ensures { unhinted result ≡ unhinted solved }
+    {
+        match solved {
+            Ok(()) => Ok(()),
+            Err(HintedFault { fault, hint }) => {
+                let hint = self.with_met(alloc, &fault, hint).or(refused);
+                Err(HintedFault { fault, hint })
+            }
+        }
     }
 
     // How many nodes the certificate has by now: each child that was looked at, and the root of each lemma.

@@ -1,10 +1,11 @@
 use Rattle.std.proofs.Common.{◌∷◌, [], ℕ, List, inl, inr, refl, subst, sym}
 use Rattle.std.specs.String.{string_bytes}
 use Rattle.byte_streams.specs.Deeds.{AllLeave, Deed, did_make, did_put}
+use Rattle.byte_streams.specs.MadeFiles.{IsUndone}
 use Rattle.byte_streams.specs.declared.outputs.Products.{Products}
 use Rattle.command_words.specs.declared.places.Files.{Files}
 use Rattle.match_program.specs.Files.{HaveDifferentNames}
-use Rattle.match_program.specs.SolvedFiles.{FilesStand, IsUndone}
+use Rattle.match_program.specs.SolvedFiles.{FilesStand, certificate_name, list_name}
 use Rattle.match_program.proofs.made_files.nothing_is_lost.Goals as goal
 
 stand : (files : Files) → HaveDifferentNames files → (made : Products) → FilesStand files made
@@ -27,7 +28,7 @@ stand files names made =
       puzzle = (tt, (tt, (names.list, (names.certificate, tt))));
     }
 
-left : (files : Files) (deeds : List Deed) → IsUndone files deeds → (name : List ℕ) → AllLeave name deeds
+left : (files : Files) (deeds : List Deed) → IsUndone (list_name files) (certificate_name files) deeds → (name : List ℕ) → AllLeave name deeds
 left files deeds (inl none) name = subst (AllLeave name) (sym none) tt
 left files deeds (inr (inl list)) name = subst (AllLeave name) (sym list) (tt, (tt, tt))
 left files deeds (inr (inr both)) name = subst (AllLeave name) (sym both) (tt, (tt, (tt, (tt, tt))))

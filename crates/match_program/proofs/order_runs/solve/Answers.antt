@@ -1,21 +1,53 @@
-use Rattle.std.proofs.Common.{◌≡◌, [], Err, inl, refl, rules, subst, sym}
+use Rattle.std.proofs.Common.{◌≡◌, ◌++◌, ◌∙◌, [], ℕ, List, Result, Ok, Err, ap, inl, refl, rules, subst, sym}
 use Rattle.std.specs.String.{string_bytes}
 use Rattle.std.proofs.lemmas.Result.{err_from_is_err_and}
-use Rattle.byte_streams.specs.Moves.{writing_of}
-use Rattle.match_program.specs.FileOrigins.{Opened, one_file}
-use Rattle.match_program.specs.SolvedFiles.{AreWritten, Undid, both_made, both_put, solved_files}
+use Rattle.byte_streams.specs.Deeds.{Did}
+use Rattle.byte_streams.specs.MadeFiles.{AreWritten, PutsNoneOrHalf, Undid, both_made, both_put}
+use Rattle.byte_streams.specs.Moves.{Takes, Writing, writing_of}
+use Rattle.byte_streams.specs.Origins.{Origin, one_source}
+use Rattle.byte_streams.specs.Targets.{Target, three_sinks}
+use Rattle.byte_streams.specs.declared.faults.Document.TheVariants as documents
+use Rattle.byte_streams.specs.declared.outputs.Products.{Products}
+use Rattle.match_runs.specs.Runs.{Runs, unhinted}
+use Rattle.match_runs.specs.Solving.{SolveFails, SolveGives}
+use Rattle.match_runs.specs.declared.faults.RunFault.{RunFault}
+use Rattle.match_program.specs.FileOrigins.{Opened, one_file, read_from}
+use Rattle.match_program.specs.SolvedFiles.{certificate_name, list_name, solved_files}
 use Rattle.match_program.specs.declared.exits.Exit.TheVariants.{Done}
 use Rattle.match_program.specs.OrderRuns.{SolveOf}
 use Rattle.match_program.proofs.OrderLemmas.{opened_as}
-use Rattle.match_program.proofs.SolvedLemmas.{are_written, did_then, not_begun, put_stopped, solve_stopped, undone, unread}
-use Rattle.match_program.proofs.order_runs.solve.Goals.{After-run_solve_watched-solved, In_default}
+use Rattle.match_program.proofs.SolvedLemmas.{after_err, after_ok, after_run, are_written, did_then, named, not_begun, put_if_written, put_stopped, solve_stopped, stopped_by, tried_if_written, undone, unread}
+use Rattle.match_program.proofs.order_runs.solve.Goals.{After-told-told}
 use Rattle.match_program.proofs.order_runs.solve.Goals as goal
 
 -- the puzzle's file, as it was opened, and as it was read
-abbrev file : (g : _) (c : After-run_solve_watched-solved g) → Opened g.S.FileSystem g.S.Reader.Source c.args.system.now (string_bytes c.args.order.now.files.now.puzzle)
+abbrev file : (g : _) (c : After-told-told g) → Opened g.S.FileSystem g.S.Reader.Source c.args.system.now (string_bytes c.args.order.now.files.now.puzzle)
 file g c =
     opened_as g.S.FileSystem g.S.Reader.Source c.args.system.now (string_bytes c.args.order.now.files.now.puzzle) c.deref.result.now c.in_ok-puzzle.puzzle c.run_solve_watched-solved.new.inputs.source.now
     c.deref.ensures c.in_ok-puzzle.ensures.opened
+
+-- what came of the puzzle's file, and where the texts went
+abbrev from : (g : _) (c : After-told-told g) → Origin (List ℕ)
+from g c = one_source documents.Puzzle (read_from g.S.FileSystem g.S.Reader.Source c.args.system.now (string_bytes c.args.order.now.files.now.puzzle) (file g c))
+
+abbrev list_to : (g : _) (c : After-told-told g) → Writing
+list_to g c = writing_of g.S.Writer.Sink c.in_ok-made.made.list c.run_solve_watched-solved.new.outputs.list.now
+
+abbrev certificate_to : (g : _) (c : After-told-told g) → Writing
+certificate_to g c = writing_of g.S.Writer.Sink c.in_ok-made.made.certificate c.run_solve_watched-solved.new.outputs.certificate.now
+
+abbrev report_to : (g : _) (c : After-told-told g) → Writing
+report_to g c = writing_of g.W.Sink c.args.output.now c.run_solve_watched-solved.new.outputs.report.now
+
+abbrev to : (g : _) (c : After-told-told g) → Target Products
+to g c = three_sinks (list_to g c) (certificate_to g c) (report_to g c)
+
+-- the run came to this, where what is told of it is the same
+run_as : (g : _) (c : After-told-told g) (ended : Result (Unit {0}) RunFault) → unhinted c.told-told.result ≡ ended
+    → Runs (from g c) (SolveGives c.args.order.now.plan.workers) SolveFails (to g c) ended
+run_as g c ended is =
+    subst (Runs (from g c) (SolveGives c.args.order.now.plan.workers) SolveFails (to g c)) (sym c.told-told.ensures ∙ is)
+    c.run_solve_watched-solved.ensures.run
 
 pub returns-in_err-are_apart : goal.returns-in_err-are_apart
 returns-in_err-are_apart g c =
@@ -29,49 +61,76 @@ returns-in_err-made g c =
     let w = err_from_is_err_and c.from_residual-in_err-made.result c.from_residual-in_err-made.ensures.1 in
     let name = string_bytes c.args.order.now.files.now.puzzle in
     let file = opened_as g.S.FileSystem g.S.Reader.Source c.args.system.now name c.deref.result.now c.in_ok-puzzle.puzzle c.in_ok-puzzle.puzzle c.deref.ensures c.in_ok-puzzle.ensures.opened in
-    let to = solved_files c.args.order.now.files.now g.S.FileSystem.does c.args.system.now c.make_both.new.system (writing_of g.W.Sink c.args.output.now c.args.output.now) in
-    rw (w.1, w.2) (not_begun g.S.FileSystem g.S.Reader.Source c.args.system.now name file refl c.args.order.now.plan.workers to c.in_err-made.field-0.0.fault c.in_err-made.ensures.fault (c.in_err-made.ensures.undone, refl))
-
-pub returns-in-Err : goal.returns-in-Err
-returns-in-Err g c =
-    let at = (goal.at.returns-in-Err g c).After-run_solve_watched-solved in
-    let does = g.S.FileSystem.does in
-    let files = c.args.order.now.files.now in
-    let old = c.args.system.now in
-    let new = c.remove_both.new.system in
-    let read = c.run_solve_watched-solved.new in
-    let left : c.output-1.given.0 ≡ read.outputs.report.now = search rules in
-    let report = writing_of g.W.Sink c.args.output.now read.outputs.report.now in
-    subst (λ o. SolveOf c.args.order.now.plan.workers (one_file g.S.FileSystem g.S.Reader.Source old (string_bytes files.puzzle)) (solved_files files does old new (writing_of g.W.Sink c.args.output.now o)) (Err c.in-Err.field-0.fault)) (sym left)
-    (solve_stopped g.S.FileSystem g.S.Reader.Source old (string_bytes files.puzzle) (file g at) c.args.order.now.plan.workers
-    (writing_of g.S.Writer.Sink c.in_ok-made.made.list read.outputs.list.now) (writing_of g.S.Writer.Sink c.in_ok-made.made.certificate read.outputs.certificate.now) report (solved_files files does old new report)
-    (Undid files does old new) (undone does files old c.make_both.new.system new c.in_ok-made.ensures.does c.remove_both.ensures) (λ m s. inl s) (λ u. u) c.in-Err.field-0.fault c.in-Err.ensures.run)
+    let to = solved_files c.args.order.now.files.now g.S.FileSystem.does c.args.system.now c.make_files.new.system (writing_of g.W.Sink c.args.output.now c.args.output.now) in
+    let undone = named (λ l k. Undid l k g.S.FileSystem.does c.args.system.now c.make_files.new.system) _ _ _ _ c.names_of-names.ensures.list c.names_of-names.ensures.certificate c.in_err-made.ensures.undone in
+    rw (w.1, w.2) (not_begun g.S.FileSystem g.S.Reader.Source c.args.system.now name file refl c.args.order.now.plan.workers to c.in_err-made.field-0.0.fault c.in_err-made.ensures.fault (undone, refl))
 
 -- the two files took the texts that were made
-written : (g : _) (c : In_default g) → AreWritten g.S.FileSystem.makes g.S.Writer.Sink.written c.args.order.now.files.now
-    (record { list = c.run_solve_watched-solved.new.outputs.list.now; certificate = c.run_solve_watched-solved.new.outputs.certificate.now }) c.in_default.ensures.run.1
-written g c =
-    let t = c.in_default.ensures.run in
-    are_written g.S.FileSystem.makes g.S.Writer.Sink.written c.args.order.now.files.now c.in_ok-made.made _ t.1
-    c.in_ok-made.ensures.made t.4.0.0 t.4.1.0.0
+written : (g : _) (c : After-told-told g) (texts : Products) → (to g c).Took texts
+    → AreWritten g.S.FileSystem.makes g.S.Writer.Sink.written c.names_of-names.result.list.now c.names_of-names.result.certificate.now
+    (record { list = c.run_solve_watched-solved.new.outputs.list.now; certificate = c.run_solve_watched-solved.new.outputs.certificate.now }) texts
+written g c texts took =
+    are_written g.S.FileSystem.makes g.S.Writer.Sink.written c.names_of-names.result.list.now c.names_of-names.result.certificate.now c.in_ok-made.made _ texts
+    c.in_ok-made.ensures.made took.0.0 took.1.0.0
 
-pub returns-in_err-put_both : goal.returns-in_err-put_both
-returns-in_err-put_both g c =
-    let w = err_from_is_err_and c.from_residual-in_err-put_both.result c.from_residual-in_err-put_both.ensures.1 in
-    let at = goal.at.returns-in_err-put_both g c in
-    let t = c.in_default.ensures.run in
+pub settle-requires : goal.settle-requires
+settle-requires g c =
+    let at = (goal.at.settle-requires g c).After-told-told in
+    after_run (from g at) (SolveGives c.args.order.now.plan.workers) SolveFails (to g at) c.told-told.result
+    (run_as g at (unhinted c.told-told.result) refl) (λ texts took. (texts, written g at texts took))
+
+pub returns-in-Err-Stopped : goal.returns-in-Err-Stopped
+returns-in-Err-Stopped g c =
+    let at = (goal.at.returns-in-Err-Stopped g c).After-told-told in
+    let does = g.S.FileSystem.does in
+    let files = c.args.order.now.files.now in
+    let names = c.names_of-names.result in
+    let old = c.args.system.now in
+    let now = c.make_files.new.system in
+    let new = c.settle.new.system in
+    let hinted = c.in-Err-Stopped.hinted in
+    let told : c.told-told.result ≡ Err hinted = stopped_by c.told-told.result c.settle.result hinted (c.in-Err-Stopped.is ∙ ap Err c.in-Err-Stopped.field-0-is) c.settle.ensures.stopped c.settle.ensures.not_put in
+    let removed = after_err c.told-told.result hinted told c.settle.ensures.removed in
+    let undone = named (λ l k. Undid l k does old new) _ _ _ _ c.names_of-names.ensures.list c.names_of-names.ensures.certificate
+    (undone does names.list.now names.certificate.now old now new c.in_ok-made.ensures.does removed) in
     let left : c.output-1.given.0 ≡ c.run_solve_watched-solved.new.outputs.report.now = search rules in
-    let report = writing_of g.W.Sink c.args.output.now c.output-1.given.0 in
-    let stopped = put_stopped g.S.FileSystem.does c.args.order.now.files.now c.args.system.now c.make_both.new.system c.put_both.new.system report t.1
-    c.in_ok-made.ensures.does (c.in_err-put_both.ensures.undone t.1 (written g at.In_default)) (rw left t.4.1.1.0) in
-    rw (w.1, w.2, c.in_err-put_both.ensures.fault) (inl (t.0, t.1, Done, (file g at.After-run_solve_watched-solved, t.2), (t.3, refl), stopped))
+    subst (λ o. SolveOf c.args.order.now.plan.workers (one_file g.S.FileSystem g.S.Reader.Source old (string_bytes files.puzzle)) (solved_files files does old new (writing_of g.W.Sink c.args.output.now o)) (Err hinted.fault)) (sym left)
+    (solve_stopped g.S.FileSystem g.S.Reader.Source old (string_bytes files.puzzle) (file g at) c.args.order.now.plan.workers
+    (list_to g at) (certificate_to g at) (report_to g at) (solved_files files does old new (report_to g at))
+    (Undid (list_name files) (certificate_name files) does old new) undone (λ m s. inl s) (λ u. u) hinted.fault (run_as g at (Err hinted.fault) (ap unhinted told)))
 
 pub returns : goal.returns
 returns g c =
-    let at = goal.at.returns g c in
-    let t = c.in_default.ensures.run in
+    let at = (goal.at.returns g c).After-told-told in
+    let does = g.S.FileSystem.does in
     let files = c.args.order.now.files.now in
+    let names = c.names_of-names.result in
+    let old = c.args.system.now in
+    let now = c.make_files.new.system in
+    let new = c.settle.new.system in
+    let told : c.told-told.result ≡ Ok tt = tried_if_written c.told-told.result c.settle.result (c.in-Err-NotPut.is ∙ ap Err c.in-Err-NotPut.field-0-is) c.settle.ensures.stopped in
+    let t = run_as g at (Ok tt) (ap unhinted told) in
+    let half = after_err c.settle.result _ c.in-Err-NotPut.is (after_ok c.told-told.result tt told c.settle.ensures.undone) t.1 (written g at t.1 t.4) in
     let left : c.output-1.given.0 ≡ c.run_solve_watched-solved.new.outputs.report.now = search rules in
-    let did = did_then g.S.FileSystem.does c.args.system.now c.make_both.new.system c.put_both.new.system (both_made files) (both_put files t.1)
-    c.in_ok-made.ensures.does (c.in_ok-put_both.ensures.put t.1 (written g at.In_default)) in
-    inl (t.0, t.1, (file g at.After-run_solve_watched-solved, t.2), (t.3, refl), (c.in_ok-are_apart.ensures c.if-not-branch.false, did, rw left t.4.1.1.0))
+    let reported = subst (λ o. Takes (writing_of g.W.Sink c.args.output.now o) t.1.report) (sym left) t.4.1.1.0 in
+    let list = c.names_of-names.ensures.list in
+    let certificate = c.names_of-names.ensures.certificate in
+    let stopped = put_stopped does files old now new (writing_of g.W.Sink c.args.output.now c.output-1.given.0) t.1 (named (λ l k. Did does old (both_made l k) now) _ _ _ _ list certificate c.in_ok-made.ensures.does)
+    (named (λ l k. PutsNoneOrHalf l k does now new t.1) _ _ _ _ list certificate half) reported in
+    rw c.from.ensures (inl (t.0, t.1, Done, (file g at, t.2), (t.3, refl), stopped))
+
+pub returns-in-Ok : goal.returns-in-Ok
+returns-in-Ok g c =
+    let at = (goal.at.returns-in-Ok g c).After-told-told in
+    let does = g.S.FileSystem.does in
+    let names = c.names_of-names.result in
+    let old = c.args.system.now in
+    let now = c.make_files.new.system in
+    let new = c.settle.new.system in
+    let told : c.told-told.result ≡ Ok tt = put_if_written c.told-told.result c.settle.result c.in-Ok.is c.settle.ensures.stopped in
+    let t = run_as g at (Ok tt) (ap unhinted told) in
+    let put = after_ok c.settle.result tt c.in-Ok.is c.settle.ensures.put t.1 (written g at t.1 t.4) in
+    let left : c.output-1.given.0 ≡ c.run_solve_watched-solved.new.outputs.report.now = search rules in
+    let did = named (λ l k. Did does old (both_made l k ++ both_put l k t.1) new) _ _ _ _ c.names_of-names.ensures.list c.names_of-names.ensures.certificate
+    (did_then does old now new (both_made names.list.now names.certificate.now) (both_put names.list.now names.certificate.now t.1) c.in_ok-made.ensures.does put) in
+    inl (t.0, t.1, (file g at, t.2), (t.3, refl), (c.in_ok-are_apart.ensures c.if-not-branch.false, did, subst (λ o. Takes (writing_of g.W.Sink c.args.output.now o) t.1.report) (sym left) t.4.1.1.0))

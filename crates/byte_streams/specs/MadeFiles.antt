@@ -1,0 +1,52 @@
+-- What is done to the files of a list and a certificate that are made beside their names.
+use Rattle.std.specs.Prelude.{◌≡◌, ◌⊎◌, ◌++◌, ◌∷◌, [], ℕ, List, Option}
+use Rattle.byte_streams.specs.Deeds.{Deed, Did, IsFileOf, did_make, did_put, did_remove}
+use Rattle.byte_streams.specs.declared.made_files.MadeFiles.{MadeFiles}
+use Rattle.byte_streams.specs.declared.outputs.Products.{Products}
+
+-- ---- deeds
+
+-- by the names of the files of the list and the certificate
+module _ (list certificate : List ℕ) where
+  abbrev pub both_made : List Deed
+  both_made = did_make list ∷ did_make certificate ∷ []
+
+  abbrev pub both_put : Products → List Deed
+  both_put made = did_put list made.list ∷ did_put certificate made.certificate ∷ []
+
+  abbrev pub both_removed : List Deed
+  both_removed = did_remove list ∷ did_remove certificate ∷ []
+
+  -- where the certificate can't be put under its name
+  abbrev pub half_put : Products → List Deed
+  half_put made = did_put list made.list ∷ did_remove certificate ∷ []
+
+  -- what is done before all is written, where that is stopped: what was made is removed
+  abbrev pub IsUndone : List Deed → Type 0
+  IsUndone deeds =
+      (deeds ≡ []) ⊎ ((deeds ≡ did_make list ∷ did_remove list ∷ []) ⊎ (deeds ≡ both_made ++ both_removed))
+
+  module _ {S : Type 0} (does : S → Deed → S → Type 0) (old new : S) where
+    -- What was made was removed, and nothing else was done to a file.
+    abbrev pub Undid : Type 0
+    Undid = (deeds : List Deed) × IsUndone deeds × Did does old deeds new
+
+    -- Both were removed, or the list was put under its name, and the certificate was removed.
+    abbrev pub PutsNoneOrHalf : Products → Type 0
+    PutsNoneOrHalf made = Did does old both_removed new ⊎ Did does old (half_put made) new
+
+-- ---- the files that are made
+
+-- They were just made beside their names.
+pub record AreMade {S W : Type 0} (makes : S → List ℕ → W → Type 0) (list_name certificate_name : List ℕ)
+    (made : MadeFiles W) : Type 0 where
+  pub at : S
+  pub later : S
+  pub list : makes at list_name made.list
+  pub certificate : makes later certificate_name made.certificate
+
+-- They were made beside their names, and took these texts since.
+pub record AreWritten {S W : Type 0} (makes : S → List ℕ → W → Type 0) (written : W → Option (List ℕ))
+    (list_name certificate_name : List ℕ) (made : MadeFiles W) (texts : Products) : Type 0 where
+  pub list : IsFileOf makes written list_name made.list texts.list
+  pub certificate : IsFileOf makes written certificate_name made.certificate texts.certificate
