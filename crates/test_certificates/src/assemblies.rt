@@ -7,20 +7,20 @@ use cert_tree::{AssembleFault, Head, Lemma, Node, Pairs, assemble, assembly_laws
 use std::alloc::{AllocError, Global};
 use std::test::Fail;
 
-fn piece(alloc: Global, number: u32, tree: Node) -> Lemma
-    requires { IsNarrow (tree_of tree) }
+// A lemma whose one node is the arrangement with this number.
+#[tactic(auto, using(cert_tree::proofs::TreeLemmas::tree_laws))]
+fn piece(alloc: Global, number: u32, found: u32) -> Lemma
     ensures narrow { IsNarrow (tree_of result.tree) }
     ensures prefix { length result.prefix < 2 ^ 32 }
 {
     Lemma {
         number,
         prefix: Pairs::new(Vec::new(alloc)),
-        tree,
+        tree: Node::Found(found),
     }
 }
 
 // A lemma for each of the numbers, with the tree that finds the arrangement of its place here.
-#[tactic(auto, using(cert_tree::proofs::TreeLemmas::tree_laws))]
 fn pieces(alloc: Global, numbers: &[u32]) -> Result<Vec<Lemma>, AllocError>
     requires { length numbers.now < 1000 }
     ensures narrow { IfOk result (λ pieces. All (λ piece. IsNarrow (tree_of piece.tree)) pieces.items) }
@@ -28,10 +28,41 @@ fn pieces(alloc: Global, numbers: &[u32]) -> Result<Vec<Lemma>, AllocError>
 {
     let mut pieces = Vec::new(alloc);
     for (place, number) in numbers.iter().enumerate() {
-        let piece = piece(alloc, *number, Node::Found(place as u32));
-        pieces.push(piece)?;
+        pieces.push(piece(alloc, *number, place as u32))?;
     }
     Ok(pieces)
+}
+
+// Whether this is the fault of so many lemmas that have these numbers.
+fn has_fault(
+    alloc: Global,
+    count: u8,
+    numbers: &[u32],
+    fault: AssembleFault,
+) -> Result<bool, AllocError>
+    requires { length numbers.now < 1000 }
+{
+    match assemble(
+        alloc,
+        u32::from(count),
+        Vec::new(alloc),
+        pieces(alloc, numbers)?,
+    ) {
+        Err(AssembleFault::Memory) => Err(AllocError),
+        outcome => Ok(outcome.err() == Some(fault)),
+    }
+}
+
+#[test]
+fn tells_the_fault_of_numbers(rt: HostRuntime) -> Result<(), Fail> {
+    for (count, numbers, fault) in [
+        (3, [0, 1], AssembleFault::Missing(2)),
+        (2, [0, 0], AssembleFault::Double(0)),
+        (2, [0, 2], AssembleFault::Stranger(2)),
+    ] {
+        assert!(rt; has_fault(rt.alloc(), count, &numbers, fault)?);
+    }
+    Ok(())
 }
 
 #[test]
@@ -43,17 +74,6 @@ fn assembles_lemmas_by_number(rt: HostRuntime) -> Result<(), Fail> {
     for (number, place) in [(0, 1), (1, 2), (2, 0)] {
         let found = Head::Found(place);
         assert!(rt; lemmas.at(number).tree.trees().next() == found);
-    }
-    for (count, numbers, fault) in [
-        (3u8, [0, 1], AssembleFault::Missing(2)),
-        (2, [0, 0], AssembleFault::Double(0)),
-        (2, [0, 2], AssembleFault::Stranger(2)),
-    ] {
-        let pieces = pieces(alloc, &numbers)?;
-        match assemble(alloc, u32::from(count), Vec::new(alloc), pieces) {
-            Err(AssembleFault::Memory) => return Err(AllocError.into()),
-            outcome => assert!(rt; outcome.err() == Some(fault)),
-        }
     }
     assembly_laws();
     Ok(())

@@ -68,26 +68,52 @@ const FIVE_CELLS_LIST: &[u8] = b"list 1\narrangements 1\n0.0 2.0 1.0 3.0 4.0\nen
 const FIVE_CELLS_CERTIFICATE: &[u8] =
     b"certificate 1\nsymmetries 2\nsymmetry 0 + cells 0 1 2 3 4 colours 0 1 2 tiles 1 0 2 3 4\nsymmetry 0 + cells 0 1 2 3 4 colours 0 1 2 tiles 0 1 3 2 4\nlemmas 4\nlemma 0 prefix 0:0.0 1:2.0 tree c 2 1 c 3 1 c 4 1 f 0\nlemma 1 prefix 0:0.0 1:3.0 tree i 0 1\nlemma 2 prefix 0:0.0 tree c 1 2 s 0 s 1\nlemma 3 prefix tree c 0 2 s 2 i 2 0\nend\n";
 
+// Whether a list is complete whose trees all hold.
+fn is_complete(alloc: Global) -> Result<bool, Fail> {
+    let right = question_of(alloc, FIVE_CELLS, FIVE_CELLS_LIST, FIVE_CELLS_CERTIFICATE)?;
+    let answer = check(alloc, &right.puzzle, &right.listed, &right.certificate)?;
+    Ok(matches!(answer, Answer::Complete) && fault_of(alloc, &right, 3)?.is_none())
+}
+
+// Whether it is refused for lemma 0.
+fn is_refused(alloc: Global, wrong: &OwnedQuestion) -> Result<bool, Fail>
+    requires { length wrong.now.listed.items < 2 ^ 32 }
+{
+    let answer = check(alloc, &wrong.puzzle, &wrong.listed, &wrong.certificate)?;
+    Ok(matches!(answer, Answer::Refused(Fault::Tree(0, _))))
+}
+
+// Whether this lemma's tree has this fault, at the node to which these steps lead.
+fn has_fault(
+    alloc: Global,
+    question: &OwnedQuestion,
+    lemma: u32,
+    steps: &[u16],
+    fault: NodeFault,
+) -> Result<bool, Fail>
+    requires { length question.now.listed.items < 2 ^ 32 }
+{
+    match fault_of(alloc, question, lemma)? {
+        Some(found) => Ok(found.path.steps() == steps && found.fault == fault),
+        None => Ok(false),
+    }
+}
+
 #[test]
 fn finds_the_fault_of_each_tree(rt: HostRuntime) -> Result<(), Fail> {
     let alloc = rt.alloc();
-    let right = question_of(alloc, FIVE_CELLS, FIVE_CELLS_LIST, FIVE_CELLS_CERTIFICATE)?;
-    let answer = check(alloc, &right.puzzle, &right.listed, &right.certificate)?;
-    assert!(rt; matches!(answer, Answer::Complete));
-    assert!(rt; fault_of(alloc, &right, 3)?.is_none());
+    assert!(rt; is_complete(alloc)?);
     let wrong = question_of(alloc, TURNING_TRIANGLE, TURNING_TRIANGLE_LIST, WRONG_TREES)?;
-    let answer = check(alloc, &wrong.puzzle, &wrong.listed, &wrong.certificate)?;
-    assert!(rt; matches!(answer, Answer::Refused(Fault::Tree(0, _))));
+    assert!(rt; is_refused(alloc, &wrong)?);
     for (lemma, steps, fault) in [
         (0, [].as_slice(), NodeFault::NotDead { fits: 1 }),
         (1, [].as_slice(), NodeFault::NotEarlier),
         (2, [1].as_slice(), NodeFault::NotWithin),
     ] {
-        let Some(found) = fault_of(alloc, &wrong, lemma)? else {
-            return Err(Fail::from("it holds"));
-        };
-        assert!(rt; found.path.steps() == steps, "of {lemma}");
-        assert!(rt; found.fault == fault, "of {lemma}");
+        assert!(rt;
+            has_fault(alloc, &wrong, lemma, steps, fault)?,
+            "of {lemma}"
+        );
     }
     one_answer();
     Ok(())

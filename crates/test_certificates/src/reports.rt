@@ -19,8 +19,26 @@ fn tally(alloc: Global, shares: &[&[u32]]) -> Result<Vec<u8>, Fail> {
     Ok(write_tally(alloc, &tally)?)
 }
 
+// What each worker took, and how it is printed.
+const TALLIES: [(&[&[u32]], &[u8]); 3] = [
+    (&[&[0, 2], &[]], b"worker 0 took 0 2\nworker 1 took\n"),
+    (&[], b""),
+    (&[&[999_999, 10]], b"worker 0 took 999999 10\n"),
+];
+
+// Whether each of them is printed so.
+fn prints_tallies(alloc: Global) -> Result<bool, Fail> {
+    for (shares, text) in TALLIES {
+        if tally(alloc, shares)?.as_slice() != text {
+            return Ok(false);
+        }
+    }
+    Ok(true)
+}
+
 #[test]
 fn prints_boards_and_who_took_what(rt: HostRuntime) -> Result<(), Fail> {
+    assert!(rt; prints_tallies(rt.alloc())?);
     let puzzle = puzzle_of(rt.alloc(), TURNING_TRIANGLE)?;
     let listed = [(2, 2), (1, 0), (0, 0), (3, 1)].map(|(tile, turn)| Placement { tile, turn });
     let None = puzzle.arrangement_fault(&listed) else {
@@ -28,13 +46,5 @@ fn prints_boards_and_who_took_what(rt: HostRuntime) -> Result<(), Fail> {
     };
     let board = write_board(rt.alloc(), &puzzle, &listed)?;
     assert!(rt; board.as_slice() == b"0 2.2 020\n1 1.0 100\n2 0.0 123\n3 3.1 003\n".as_slice());
-    let tallies: [(&[&[u32]], &[u8]); 3] = [
-        (&[&[0, 2], &[]], b"worker 0 took 0 2\nworker 1 took\n"),
-        (&[], b""),
-        (&[&[999_999, 10]], b"worker 0 took 999999 10\n"),
-    ];
-    for (shares, text) in tallies {
-        assert!(rt; tally(rt.alloc(), shares)?.as_slice() == text);
-    }
     Ok(())
 }

@@ -24,10 +24,24 @@ const VERSION_1: &[u8] = b"certificate 1\n";
 const VERSION_2: &[u8] = b"certificate 2\n";
 
 // Numbers that version 2 alone has.
-const PAST_VERSION_1: [&[u8]; 3] = [
-    b"certificate 2\nsymmetries 0\nlemmas 1\nlemma 0 prefix tree d 100\nend\n",
-    b"certificate 2\nsymmetries 1\nsymmetry 0 + cells 255 colours tiles 255\nlemmas 0\nend\n",
-    b"certificate 2\nsymmetries 0\nlemmas 1\nlemma 0 prefix 255:255.3 tree t 255 1 e 255\nend\n",
+const LARGE_CELL: &[u8] =
+    b"certificate 2\nsymmetries 0\nlemmas 1\nlemma 0 prefix tree d 100\nend\n";
+
+const LARGE_SYMMETRY: &[u8] =
+    b"certificate 2\nsymmetries 1\nsymmetry 0 + cells 255 colours tiles 255\nlemmas 0\nend\n";
+
+const LARGE_PREFIX: &[u8] =
+    b"certificate 2\nsymmetries 0\nlemmas 1\nlemma 0 prefix 255:255.3 tree t 255 1 e 255\nend\n";
+
+// A text, and what is written of it: in version 1 where that spells it.
+const TEXTS: [(&[u8], &[u8]); 7] = [
+    (TWIN_TILES_CERTIFICATE, TWIN_TILES_CERTIFICATE),
+    (TURNING_TRIANGLE_CERTIFICATE, TURNING_TRIANGLE_CERTIFICATE),
+    (EACH_NODE, EACH_NODE),
+    (LARGE_CELL, LARGE_CELL),
+    (LARGE_SYMMETRY, LARGE_SYMMETRY),
+    (LARGE_PREFIX, LARGE_PREFIX),
+    (ONE_CELL_IN_VERSION_2, ONE_CELL),
 ];
 
 // A certificate with this first line, of a tree of so many branches below one another and a leaf.
@@ -52,28 +66,28 @@ fn written(alloc: Global, text: &[u8]) -> Result<Vec<u8>, Fail> {
     Ok(write_certificate(alloc, &certificate)?)
 }
 
+// The first line of what is written of a certificate with so many branches below one another.
+const DEPTHS: [(u32, &[u8]); 3] = [(100, VERSION_1), (101, VERSION_2), (256, VERSION_2)];
+
+// Whether each of them is written so.
+fn writes_deep_trees(alloc: Global) -> Result<bool, Fail> {
+    for (branches, first_line) in DEPTHS {
+        let text = deep(alloc, VERSION_2, branches)?;
+        let wanted = deep(alloc, first_line, branches)?;
+        if written(alloc, &text)?.as_slice() != wanted.as_slice() {
+            return Ok(false);
+        }
+    }
+    Ok(true)
+}
+
 #[test]
 fn writes_certificates_that_were_read(rt: HostRuntime) -> Result<(), Fail> {
     let alloc = rt.alloc();
-    for text in [
-        TWIN_TILES_CERTIFICATE,
-        TURNING_TRIANGLE_CERTIFICATE,
-        EACH_NODE,
-    ] {
-        assert!(rt; written(alloc, text)?.as_slice() == text);
+    for (text, wanted) in TEXTS {
+        assert!(rt; written(alloc, text)?.as_slice() == wanted);
     }
-    for text in PAST_VERSION_1 {
-        assert!(rt; written(alloc, text)?.as_slice() == text);
-    }
-    // version 1 where it spells the certificate
-    assert!(rt; written(alloc, ONE_CELL_IN_VERSION_2)?.as_slice() == ONE_CELL);
-    let shallow = deep(alloc, VERSION_1, 100)?;
-    let text = deep(alloc, VERSION_2, 100)?;
-    assert!(rt; written(alloc, &text)?.as_slice() == shallow.as_slice());
-    for branches in [101, 256] {
-        let text = deep(alloc, VERSION_2, branches)?;
-        assert!(rt; written(alloc, &text)?.as_slice() == text.as_slice());
-    }
+    assert!(rt; writes_deep_trees(alloc)?);
     let line = b"lemma 1 prefix tree c 0 2 s 0 i 0 0\n".as_slice();
     let lemma = read_lemma(alloc, line)?;
     assert!(rt; write_lemma(alloc, &lemma)?.as_slice() == line);

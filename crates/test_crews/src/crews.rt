@@ -1,9 +1,9 @@
-ghost use Rattle.std.specs.Prelude.{◌≡◌, ◌*◌};
+ghost use Rattle.std.specs.Prelude.{◌≡◌, ◌*◌, ◌≤◌, vec_len};
 
-use crate::meetings::Meeting;
-use std::alloc::AllocError;
+use crate::meetings::{Meeting, all_met};
+use std::alloc::{AllocError, Global};
 use std::test::Fail;
-use steal_crew::{Work, run_crew};
+use steal_crew::{Crew, Work, run_crew};
 
 struct Squares;
 
@@ -40,31 +40,44 @@ impl Work for Callers {
     }
 }
 
+// The numbers that so many workers took, in order.
+fn taken_by(alloc: Global, crew: &Crew<u64>, workers: u8) -> Result<Vec<u32>, AllocError>
+    requires { workers ≤ vec_len crew.now.tallies }
+{
+    let mut taken = Vec::new(alloc);
+    for worker in 0..workers {
+        taken.extend_from_slice(crew.tally(worker))?;
+    }
+    taken.sort()?;
+    Ok(taken)
+}
+
+// Whether these are the squares, each of whose numbers one of so many workers took.
+fn is_done(
+    alloc: Global,
+    crew: Crew<u64>,
+    workers: u8,
+    squares: &[u64],
+    numbers: &[u32],
+) -> Result<bool, AllocError>
+    requires { workers ≤ vec_len crew.tallies }
+{
+    let taken = taken_by(alloc, &crew, workers)?;
+    Ok(crew.results() == squares && taken.as_slice() == numbers)
+}
+
 #[test]
 fn squares_by_any_number_of_workers(rt: HostRuntime) -> Result<(), Fail> {
     let alloc = rt.alloc();
     for workers in 1..65u8 {
         let crew = run_crew(&rt, alloc, &Squares, 5, workers)?;
         assert!(rt;
-            crew.results() == [0, 1, 4, 9, 16].as_slice(),
-            "by {workers}"
-        );
-        let mut taken = Vec::new(alloc);
-        for worker in 0..workers {
-            taken.extend_from_slice(crew.tally(worker))?;
-        }
-        taken.sort()?;
-        assert!(rt;
-            taken.as_slice() == [0, 1, 2, 3, 4].as_slice(),
+            is_done(alloc, crew, workers, &[0, 1, 4, 9, 16], &[0, 1, 2, 3, 4])?,
             "by {workers}"
         );
     }
-    let (results, tallies) = run_crew(&rt, alloc, &Squares, 0, 3)?.into_parts();
-    assert!(rt; results.len() == 0);
-    assert!(rt; tallies.len() == 3);
-    for tally in tallies.iter() {
-        assert!(rt; tally.len() == 0);
-    }
+    let crew = run_crew(&rt, alloc, &Squares, 0, 3)?;
+    assert!(rt; is_done(alloc, crew, 3, &[], &[])?);
     Ok(())
 }
 
@@ -76,10 +89,7 @@ fn two_at_once(rt: HostRuntime) -> Result<(), Fail> {
     for last in [1, 2, 999] {
         let meeting = Meeting::new();
         let callers = Callers { meeting, last };
-        let crew = run_crew(&rt, rt.alloc(), &callers, last + 1, 2)?;
-        if crew.results().contains(&false) {
-            return Err(Fail::new("no other thread came"));
-        }
+        all_met(run_crew(&rt, rt.alloc(), &callers, last + 1, 2)?)?;
     }
     Ok(())
 }

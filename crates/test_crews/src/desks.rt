@@ -1,11 +1,11 @@
-ghost use Rattle.std.specs.Prelude.{◌≡◌, ◌<◌, ◌≤◌, ◌+◌, All, IfOk, length, vec_len};
+ghost use Rattle.std.specs.Prelude.{◌≡◌, ◌<◌, All, IfOk};
 ghost use Rattle.match_limits.specs.declared.TheConstants.{MOST_CELLS};
 ghost use Rattle.cert_tree.specs.Certificate.{piece_of};
 ghost use Rattle.cert_tree.specs.Limits.{IsLemmaWithin};
 ghost use Rattle.piece_desk.specs.Desks.{IsOf};
 
 use cert_text::{WithinLimits, read_lemma, write_certificate, write_lemma};
-use cert_tree::{AssembleFault, Lemma, Node, Pairs};
+use cert_tree::{AssembleFault, Certificate, Lemma, Node, Pairs};
 use piece_desk::{Desk, Receipt};
 use std::alloc::{AllocError, Global};
 use std::process::Abort;
@@ -17,12 +17,15 @@ use test_samples::{
 };
 
 // Four lemmas, which cite each other, a lemma at their count and one past it.
-const FOUR_LEMMAS: [&[u8]; 4] = [
-    b"lemma 0 prefix tree c 0 3 s 1 i 2 0 s 3\n",
-    b"lemma 1 prefix 0:0.0 tree c 1 2 f 0 s 3\n",
-    b"lemma 2 prefix 0:1.0 tree c 1 1 s 4\n",
-    b"lemma 3 prefix 0:2.0 tree t 1 2 f 3 i 9 0\n",
-];
+const ZERO: &[u8] = b"lemma 0 prefix tree c 0 3 s 1 i 2 0 s 3\n";
+
+const ONE: &[u8] = b"lemma 1 prefix 0:0.0 tree c 1 2 f 0 s 3\n";
+
+const TWO: &[u8] = b"lemma 2 prefix 0:1.0 tree c 1 1 s 4\n";
+
+const THREE: &[u8] = b"lemma 3 prefix 0:2.0 tree t 1 2 f 3 i 9 0\n";
+
+const FOUR_LEMMAS: [&[u8]; 4] = [ZERO, ONE, TWO, THREE];
 
 const FOUR_TURNED: &[u8] =
     b"certificate 1\nsymmetries 1\nsymmetry 0 + cells 0 1 colours 0 1 tiles 1 0\nlemmas 4\nlemma 0 prefix 0:2.0 tree t 1 2 f 4 i 9 0\nlemma 1 prefix 0:1.0 tree c 1 1 s 4\nlemma 2 prefix 0:0.0 tree c 1 2 f 5 s 0\nlemma 3 prefix tree c 0 3 s 2 i 1 0 s 0\nend\n";
@@ -66,108 +69,130 @@ fn post_text<R: Wait>(rt: &R, alloc: Global, desk: &Desk, text: &[u8]) -> Result
     Ok(receipt)
 }
 
-// The text of what is gathered of two receipts, where so many arrangements are listed before those of lemma 1.
-fn gathered(
-    alloc: Global,
-    desk: &Desk,
-    receipts: &[Receipt],
-    listed_before: u32,
-) -> Result<Vec<u8>, Fail>
-    requires { All (IsOf desk.now) receipts.now }
-{
-    let first = [0, listed_before.min(9)];
-    let certificate = desk.gather(alloc, receipts, exchange_of_twins(alloc)?, 2, &first)?;
-    if !certificate.within_limits() {
-        return Err(Fail::new("more is gathered than a text has"));
-    }
-    Ok(write_certificate(alloc, &certificate)?)
-}
-
-#[test]
-fn gathers_the_twin_tiles(rt: HostRuntime) -> Result<(), Fail> {
-    let alloc = rt.alloc();
-    let desk = Desk::new(alloc)?;
-    let [root, other] = TWIN_TILES_FROM_THE_ROOT;
-    for (one, other) in [(root, other), (other, root)] {
-        let receipts = [
-            post_text(&rt, alloc, &desk, one)?,
-            post_text(&rt, alloc, &desk, other)?,
-        ];
-        let text = gathered(alloc, &desk, &receipts, 0)?;
-        assert!(rt; text.as_slice() == TWIN_TILES_CERTIFICATE);
-        let text = gathered(alloc, &desk, &receipts, 5)?;
-        assert!(rt; text.as_slice() == TWIN_TILES_AFTER_FIVE);
-    }
-    let alone = [post_text(&rt, alloc, &desk, root)?];
-    match desk.gather(alloc, &alone, exchange_of_twins(alloc)?, 2, &[0, 0]) {
-        Err(AssembleFault::Memory) => return Err(AllocError.into()),
-        missing => assert!(rt; missing.err() == Some(AssembleFault::Missing(1))),
-    }
-    Ok(())
-}
-
-// Posts those of the four lemmas that have these numbers, and those above 3 by turns.
-fn post_numbers<R: Wait>(
+// Posts the lemmas of these texts by turns, from the first turn up to the other.
+fn post_by_turns<R: Wait>(
     rt: &R,
     alloc: Global,
     desk: &Desk,
-    numbers: &[usize],
+    texts: &[&[u8]],
+    turns: (usize, usize),
 ) -> Result<Vec<Receipt>, Fail>
     ensures { IfOk result (λ receipts. All (IsOf desk.now) receipts.items) }
 {
+    if texts.is_empty() {
+        return Err(Fail::new("no text"));
+    }
     let mut receipts = Vec::new(alloc);
-    for number in numbers {
-        receipts.push(post_text(rt, alloc, desk, FOUR_LEMMAS[number % 4])?)?;
+    for turn in turns.0..turns.1 {
+        receipts.push(post_text(rt, alloc, desk, texts[turn % texts.len()])?)?;
     }
     Ok(receipts)
 }
 
-// The fault of what is gathered of lemmas with these numbers. Want of memory ends the test.
-fn fault_of<R: Wait>(
-    rt: &R,
+// What is gathered of these receipts, where so many arrangements are listed before those of each lemma.
+fn gathered(
     alloc: Global,
-    numbers: &[usize],
-    count: u32,
-) -> Result<Option<AssembleFault>, Fail> {
-    let desk = Desk::new(alloc)?;
-    let receipts = post_numbers(rt, alloc, &desk, numbers)?;
-    let first = vec![in alloc; 0; count.min(9) as usize]?;
-    match desk.gather(
-        alloc,
-        &receipts,
-        exchange_of_twins(alloc)?,
-        count.min(9),
-        &first,
-    ) {
-        Err(AssembleFault::Memory) => Err(AllocError.into()),
-        gathered => Ok(gathered.err()),
+    desk: &Desk,
+    receipts: &[Receipt],
+    listed: &[u8],
+) -> Result<Result<Certificate, AssembleFault>, AllocError>
+    requires { All (IsOf desk.now) receipts.now }
+{
+    let mut first: Vec<u32> = Vec::new(alloc);
+    for number in listed {
+        if first.len() < 4 {
+            first.push(u32::from(*number))?;
+        }
+    }
+    let symmetries = exchange_of_twins(alloc)?;
+    match desk.gather(alloc, receipts, symmetries, first.len() as u32, &first) {
+        Err(AssembleFault::Memory) => Err(AllocError),
+        gathered => Ok(gathered),
     }
 }
 
+// Whether the certificate has a text, and it is this.
+fn is_spelled(
+    alloc: Global,
+    certificate: Certificate,
+    text: Option<&[u8]>,
+) -> Result<bool, AllocError> {
+    if !certificate.within_limits() {
+        return Ok(false);
+    }
+    Ok(Some(write_certificate(alloc, &certificate)?.as_slice()) == text)
+}
+
+// Whether that is a certificate with this text, or this fault.
+fn is_gathered(
+    alloc: Global,
+    desk: &Desk,
+    receipts: &[Receipt],
+    listed: &[u8],
+    wanted: Result<&[u8], AssembleFault>,
+) -> Result<bool, AllocError>
+    requires { All (IsOf desk.now) receipts.now }
+{
+    match gathered(alloc, desk, receipts, listed)? {
+        Ok(certificate) => is_spelled(alloc, certificate, wanted.ok()),
+        Err(fault) => Ok(wanted.err() == Some(fault)),
+    }
+}
+
+// Lemmas, the turns in which they are posted, how many arrangements are listed before those of each, and what is
+// gathered: the first fault, where there are several.
+type Row = (
+    &'static [&'static [u8]],
+    (usize, usize),
+    &'static [u8],
+    Result<&'static [u8], AssembleFault>,
+);
+
+// Two lemmas from the root, of which turn 1 is the other.
+const TWINS: &[&[u8]] = &TWIN_TILES_FROM_THE_ROOT;
+
+const ROWS: [Row; 9] = [
+    (TWINS, (0, 2), &[0, 0], Ok(TWIN_TILES_CERTIFICATE)),
+    (TWINS, (0, 2), &[0, 5], Ok(TWIN_TILES_AFTER_FIVE)),
+    (TWINS, (1, 3), &[0, 0], Ok(TWIN_TILES_CERTIFICATE)),
+    (TWINS, (1, 3), &[0, 5], Ok(TWIN_TILES_AFTER_FIVE)),
+    (TWINS, (0, 1), &[0, 0], Err(AssembleFault::Missing(1))),
+    (
+        &[TWO, ZERO, THREE, ONE],
+        (0, 4),
+        &[0, 5, 2, 1],
+        Ok(FOUR_TURNED),
+    ),
+    (
+        &[THREE, ZERO, ZERO, TWO],
+        (0, 4),
+        &[0, 0],
+        Err(AssembleFault::Stranger(2)),
+    ),
+    (
+        &[THREE, ONE],
+        (0, 4),
+        &[0; 4],
+        Err(AssembleFault::Double(1)),
+    ),
+    (
+        &[THREE, ZERO],
+        (0, 2),
+        &[0; 4],
+        Err(AssembleFault::Missing(1)),
+    ),
+];
+
 #[test]
-fn gathers_four_lemmas(rt: HostRuntime) -> Result<(), Fail> {
+fn gathers_lemmas(rt: HostRuntime) -> Result<(), Fail> {
     let alloc = rt.alloc();
     let desk = Desk::new(alloc)?;
-    let receipts = post_numbers(&rt, alloc, &desk, &[2, 0, 3, 1])?;
-    let certificate = desk.gather(
-        alloc,
-        &receipts,
-        exchange_of_twins(alloc)?,
-        4,
-        &[0, 5, 2, 1],
-    )?;
-    if !certificate.within_limits() {
-        return Err(Fail::new("more is gathered than a text has"));
-    }
-    let text = write_certificate(alloc, &certificate)?;
-    assert!(rt; text.as_slice() == FOUR_TURNED);
-    // the first fault, where there are several
-    for (numbers, count, fault) in [
-        ([3, 0, 0, 2].as_slice(), 2, AssembleFault::Stranger(2)),
-        ([3, 1, 3, 1].as_slice(), 4, AssembleFault::Double(1)),
-        ([3, 0].as_slice(), 4, AssembleFault::Missing(1)),
-    ] {
-        assert!(rt; fault_of(&rt, alloc, numbers, count)? == Some(fault));
+    for (texts, turns, listed, wanted) in ROWS {
+        let receipts = post_by_turns(&rt, alloc, &desk, texts, turns)?;
+        assert!(rt;
+            is_gathered(alloc, &desk, &receipts, listed, wanted)?,
+            "{wanted:?}"
+        );
     }
     Ok(())
 }
@@ -187,15 +212,9 @@ fn read_by_turns(alloc: Global, desk: &Desk, receipts: &[Receipt]) -> Result<boo
 // The four lemmas are posted by turns.
 #[test]
 fn desk_after_refusal(rt: HostRuntime) -> Result<(), Fail> {
-    let alloc = rt.alloc();
-    let desk = Desk::new(alloc)?;
-    let mut numbers = Vec::new(alloc);
-    for number in 0..100 {
-        numbers.push(number)?;
-    }
-    let receipts = post_numbers(&rt, alloc, &desk, &numbers)?;
-    assert!(rt; receipts.len() == 100);
-    assert!(rt; read_by_turns(alloc, &desk, &receipts)?);
+    let desk = Desk::new(rt.alloc())?;
+    let receipts = post_by_turns(&rt, rt.alloc(), &desk, &FOUR_LEMMAS, (0, 100))?;
+    assert!(rt; receipts.len() == 100 && read_by_turns(rt.alloc(), &desk, &receipts)?);
     Ok(())
 }
 

@@ -1,9 +1,9 @@
-use crate::meetings::Meeting;
+use crate::meetings::{Meeting, all_met};
 use match_limits::MOST_LEMMAS;
 use std::alloc::AllocError;
 use std::test::Fail;
 use std::thread;
-use steal_crew::{Hand, LiveWork, run_live};
+use steal_crew::{Crew, Hand, LiveWork, run_live};
 
 // A job below the last gives away the next one. Each answers itself.
 #[derive(Drop)]
@@ -59,17 +59,21 @@ fn wait_a_while() {
     }
 }
 
-// Each row is the last job, the limit and how many jobs are done. Where memory is refused, that is the outcome: no job
-// is lost.
+// Whether the results are the numbers below the count.
+fn counts_up(crew: Crew<u32>, count: u32) -> bool {
+    crew.results().iter().copied().eq(0..count)
+}
+
+// Each row is the last job, the limit and how many jobs are done.
+const ROWS: [(u32, u32, u32); 3] = [(3, 9, 4), (3, 2, 2), (150, MOST_LEMMAS, 151)];
+
+// Where memory is refused, that is the outcome: no job is lost.
 #[test]
 fn each_given_job_is_done(rt: HostRuntime) -> Result<(), Fail> {
     for workers in [1, 2, 3, 7, 64] {
-        for (last, limit, count) in [(3, 9, 4), (3, 2, 2), (150, MOST_LEMMAS, 151)] {
+        for (last, limit, count) in ROWS {
             let crew = run_live(&rt, rt.alloc(), &Countup { last }, 0, limit, workers)?;
-            assert!(rt; crew.results().len() == count, "by {workers}");
-            for (number, result) in crew.results().iter().enumerate() {
-                assert!(rt; *result as usize == number, "by {workers}");
-            }
+            assert!(rt; counts_up(crew, count), "by {workers}");
         }
     }
     Ok(())
@@ -80,10 +84,7 @@ fn two_given_at_once(rt: HostRuntime) -> Result<(), Fail> {
     for first in [0, 3] {
         let meeting = Meeting::new();
         let callers = Callers { meeting };
-        let crew = run_live(&rt, rt.alloc(), &callers, first, 4, 2)?;
-        if crew.results().contains(&false) {
-            return Err(Fail::new("no other thread came"));
-        }
+        all_met(run_live(&rt, rt.alloc(), &callers, first, 4, 2)?)?;
     }
     Ok(())
 }

@@ -1,7 +1,9 @@
 //! Two threads that look for each other.
 
 use std::sync::atomic::{AtomicBool, Ordering};
+use std::test::Fail;
 use std::thread;
+use steal_crew::Crew;
 
 // A flag of each of the two.
 #[derive(Drop)]
@@ -34,4 +36,12 @@ impl Meeting {
         }
         false
     }
+}
+
+// Where a job of the crew looked for another that didn't come, the test ends.
+pub(crate) fn all_met(crew: Crew<bool>) -> Result<(), Fail> {
+    if crew.results().contains(&false) {
+        return Err(Fail::new("no other thread came"));
+    }
+    Ok(())
 }

@@ -4,7 +4,6 @@ use cert_text::{WithinLimits, write_lemma};
 use cert_tree::{Lemma, Node, Pairs};
 use match_puzzle::Pair;
 use std::alloc::{AllocError, Global};
-use std::process::Abort;
 use std::test::Fail;
 use test_samples::turning_triangle;
 use xcc_dance::{
@@ -23,38 +22,40 @@ fn sizes(alloc: Global, links: &Links<'_>) -> Result<Vec<(u32, u32)>, AllocError
     Ok(sizes)
 }
 
-// The cells are the items 0 to 3, the tiles 4 to 7. The first option of cell 2 puts tile 0 there, which leaves each
-// other cell and tile one option.
-#[test]
-fn sizes_of_the_turning_triangle(rt: HostRuntime) -> Result<(), Fail> {
-    let alloc = rt.alloc();
-    let puzzle = turning_triangle(alloc)?;
-    let xcc = compile(alloc, &puzzle)?;
-    assert!(rt; xcc.primaries() == 8);
-    let mut links = Links::new(alloc, &xcc)?;
-    let first = [
-        (0, 3),
-        (1, 3),
-        (2, 12),
-        (3, 3),
-        (4, 3),
-        (5, 6),
-        (6, 6),
-        (7, 6),
-    ];
-    assert!(rt; sizes(alloc, &links)?.as_slice() == first.as_slice());
-    assert!(rt; links.branch_item() == Some(0));
+// Whether these are they.
+fn sizes_are(alloc: Global, links: &Links<'_>, wanted: &[(u32, u32)]) -> Result<bool, AllocError> {
+    Ok(sizes(alloc, links)?.as_slice() == wanted)
+}
+
+// The cells are the items 0 to 3, the tiles 4 to 7.
+const FIRST: [(u32, u32); 8] = [
+    (0, 3),
+    (1, 3),
+    (2, 12),
+    (3, 3),
+    (4, 3),
+    (5, 6),
+    (6, 6),
+    (7, 6),
+];
+
+// The first option of cell 2 puts tile 0 there, which leaves each other cell and tile one option.
+const CHOSEN: [(u32, u32); 6] = [(0, 1), (1, 1), (3, 1), (5, 1), (6, 1), (7, 1)];
+
+// Whether they are so at first, once a choice is made, and after it is undone.
+fn has_sizes<'a>(alloc: Global, xcc: &'a Xcc<'a>) -> Result<bool, Fail> {
+    if xcc.primaries() != 8 {
+        return Ok(false);
+    }
+    let mut links = Links::new(alloc, xcc)?;
+    let at_first = sizes_are(alloc, &links, &FIRST)? && links.branch_item() == Some(0);
     let Some(option) = links.next_option(2, None) else {
         return Err(Fail::new("no option of cell 2"));
     };
     links.choose(option)?;
-    assert!(rt; links.chosen() == [6].as_slice());
-    let chosen = [0, 1, 3, 5, 6, 7].map(|item| (item, 1));
-    assert!(rt; sizes(alloc, &links)?.as_slice() == chosen.as_slice());
+    let then = sizes_are(alloc, &links, &CHOSEN)? && links.chosen() == [6].as_slice();
     links.undo();
-    assert!(rt; links.chosen().is_empty());
-    assert!(rt; sizes(alloc, &links)?.as_slice() == first.as_slice());
-    Ok(())
+    Ok(at_first && then && sizes_are(alloc, &links, &FIRST)? && links.chosen().is_empty())
 }
 
 // The lemma with this tree, as a line.
@@ -99,48 +100,30 @@ fn outcome<E: OpenOptions + Drop>(search: &mut SearchOver<E>, fuel: u32) -> Resu
 const WHOLE_TREE: &[u8; 92] =
     b"lemma 0 prefix tree c 0 3 c 2 1 c 1 1 c 3 1 f 0 c 2 1 c 1 1 c 3 1 f 1 c 2 1 c 1 1 c 3 1 f 2\n";
 
-// Asserts what a search finds that is done twice, and once more with one branch node too few.
-fn assert_searched<E: OpenOptions + Drop, R: Abort>(
-    rt: &R,
+// Whether it finds its whole tree.
+fn finds_all<E: OpenOptions + Drop>(
     alloc: Global,
     search: &mut SearchOver<E>,
-) -> Result<(), Fail> {
-    assert!(rt; search.branches() == 0);
-    for _ in 0..2 {
-        let (found, line) = told(alloc, outcome(search, 10)?)?;
-        assert!(rt; search.branches() == 10);
-        assert!(rt; found == 3);
-        assert!(rt; line.as_slice() == WHOLE_TREE.as_slice());
-    }
-    // it gives up, and then it fails
-    assert!(rt; matches!(outcome(search, 9)?, Outcome::GaveUp));
-    assert!(rt; search.branches() == 9);
-    assert!(rt; has_failed(search));
-    assert!(rt; search.branches() == 9);
-    Ok(())
+) -> Result<bool, Fail> {
+    let (found, line) = told(alloc, outcome(search, 10)?)?;
+    Ok((found, search.branches()) == (3, 10) && line.as_slice() == WHOLE_TREE.as_slice())
 }
 
-// Asserts that the other engine comes to the same.
-fn assert_searched_by_sets<'a, R: Abort>(
-    rt: &R,
-    alloc: Global,
-    xcc: &'a Xcc<'a>,
-) -> Result<(), Fail> {
-    let mut by_sets = SearchOver::over(alloc, OpenSets::new(alloc, xcc)?)?;
-    let (found, line) = told(alloc, outcome(&mut by_sets, 10)?)?;
-    assert!(rt; found == 3);
-    assert!(rt; line.as_slice() == WHOLE_TREE.as_slice());
-    Ok(())
+// Whether it gives up where it may make one branch node too few, and then fails.
+fn gives_up<E: OpenOptions + Drop>(search: &mut SearchOver<E>) -> Result<bool, Fail> {
+    let gave_up = matches!(outcome(search, 9)?, Outcome::GaveUp) && search.branches() == 9;
+    Ok(gave_up && has_failed(search) && search.branches() == 9)
 }
 
-#[test]
-fn searches_the_turning_triangle(rt: HostRuntime) -> Result<(), Fail> {
-    let alloc = rt.alloc();
-    let puzzle = turning_triangle(alloc)?;
-    let xcc = compile(alloc, &puzzle)?;
-    let mut search = Search::new(alloc, &xcc)?;
-    assert_searched(&rt, alloc, &mut search)?;
-    assert_searched_by_sets(&rt, alloc, &xcc)
+// Whether it does so, once it has found all twice.
+fn searches<E: OpenOptions + Drop>(alloc: Global, mut search: SearchOver<E>) -> Result<bool, Fail> {
+    let begun = search.branches() == 0;
+    Ok(
+        begun
+            && finds_all(alloc, &mut search)?
+            && finds_all(alloc, &mut search)?
+            && gives_up(&mut search)?,
+    )
 }
 
 // Knows a lemma for each tile but 1 at cell 0.
@@ -174,17 +157,34 @@ impl Cites for Known {
     }
 }
 
+// The tree that cites them.
+const CITING_TREE: &[u8] = b"lemma 0 prefix tree c 0 3 c 2 1 c 1 1 c 3 1 f 0 s 7 i 8 1\n";
+
+// Whether a search by links comes to it.
+fn cites_known<'a>(alloc: Global, xcc: &'a Xcc<'a>) -> Result<bool, Fail> {
+    let mut search = Search::new(alloc, xcc)?;
+    let (found, line) = told(alloc, search.run(&[], 4, &mut Known)?)?;
+    Ok((found, search.branches()) == (1, 4) && line.as_slice() == CITING_TREE)
+}
+
+// By linked lists.
+fn searches_by_links<'a>(alloc: Global, xcc: &'a Xcc<'a>) -> Result<bool, Fail> {
+    searches(alloc, Search::new(alloc, xcc)?)
+}
+
+// By counts of what fits.
+fn searches_by_sets<'a>(alloc: Global, xcc: &'a Xcc<'a>) -> Result<bool, Fail> {
+    searches(alloc, SearchOver::over(alloc, OpenSets::new(alloc, xcc)?)?)
+}
+
 #[test]
-fn cites_known_lemmas(rt: HostRuntime) -> Result<(), Fail> {
+fn searches_the_turning_triangle(rt: HostRuntime) -> Result<(), Fail> {
     let alloc = rt.alloc();
     let puzzle = turning_triangle(alloc)?;
     let xcc = compile(alloc, &puzzle)?;
-    let mut search = Search::new(alloc, &xcc)?;
-    let (found, line) = told(alloc, search.run(&[], 4, &mut Known)?)?;
-    assert!(rt; search.branches() == 4);
-    assert!(rt; found == 1);
-    assert!(rt;
-        line.as_slice() == b"lemma 0 prefix tree c 0 3 c 2 1 c 1 1 c 3 1 f 0 s 7 i 8 1\n".as_slice()
-    );
+    assert!(rt; has_sizes(alloc, &xcc)?);
+    assert!(rt; searches_by_links(alloc, &xcc)?);
+    assert!(rt; searches_by_sets(alloc, &xcc)?);
+    assert!(rt; cites_known(alloc, &xcc)?);
     Ok(())
 }

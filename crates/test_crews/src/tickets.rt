@@ -1,10 +1,41 @@
-ghost use Rattle.std.specs.Prelude.{◌≡◌};
+ghost use Rattle.std.specs.Prelude.{◌≡◌, ◌≤◌, ◌+◌};
 ghost use Rattle.steal_crew.specs.Tickets.{source_of, seat_source};
 
 use match_limits::{MOST_LEMMAS, MOST_WORKERS};
+use std::alloc::{AllocError, Global};
+use std::process::Abort;
 use std::test::Fail;
 use std::thread;
 use steal_crew::{TicketSeat, Tickets};
+
+// Asserts that so many draws, by each seat in its turn, answer the numbers below the limit, and then none.
+fn assert_turns<R: Abort>(
+    rt: &R,
+    alloc: Global,
+    limit: u32,
+    seats: u8,
+    draws: u32,
+) -> Result<(), AllocError>
+    requires { (1 ≤ seats) × (seats ≤ MOST_WORKERS + 1) }
+{
+    let (tickets, mut seats) = Tickets::new(alloc, limit, seats)?;
+    for turn in 0..draws {
+        let at = turn as usize % seats.len();
+        let wanted = if turn < limit { Some(turn) } else { None };
+        assert!(rt; tickets.draw(&mut seats[at]) == wanted, "at {turn}");
+    }
+    assert!(rt; tickets.finish(seats) == draws.min(limit));
+    Ok(())
+}
+
+// Two seats, and as many as there may be, each of which draws once.
+#[test]
+fn seats_take_turns(rt: HostRuntime) -> Result<(), Fail> {
+    for (limit, seats, draws) in [(3, 2, 5), (MOST_LEMMAS, MOST_WORKERS + 1, 65)] {
+        assert_turns(&rt, rt.alloc(), limit, seats, draws)?;
+    }
+    Ok(())
+}
 
 // Draws until none is left. There is room for all that is drawn.
 fn draw_all(tickets: &Tickets, mut seat: TicketSeat, mut into: Vec<u32>) -> (TicketSeat, Vec<u32>)
@@ -20,25 +51,6 @@ fn draw_all(tickets: &Tickets, mut seat: TicketSeat, mut into: Vec<u32>) -> (Tic
         }
     }
     (seat, into)
-}
-
-#[test]
-fn two_seats_take_turns(rt: HostRuntime) -> Result<(), Fail> {
-    let (tickets, mut seats) = Tickets::new(rt.alloc(), 3, 2)?;
-    let mut b = seats.remove(1);
-    let mut a = seats.remove(0);
-    let drawn = [
-        tickets.draw(&mut a),
-        tickets.draw(&mut b),
-        tickets.draw(&mut a),
-        tickets.draw(&mut b),
-        tickets.draw(&mut a),
-    ];
-    assert!(rt; drawn == [Some(0), Some(1), Some(2), None, None]);
-    seats.push(a)?;
-    seats.push(b)?;
-    assert!(rt; tickets.finish(seats) == 3);
-    Ok(())
 }
 
 #[test]
@@ -69,17 +81,5 @@ fn two_threads_draw_each_number(rt: HostRuntime) -> Result<(), Fail> {
     seats.push(a)?;
     seats.push(b)?;
     assert!(rt; tickets.finish(seats) == 100);
-    Ok(())
-}
-
-// As many seats as there may be, each of which draws once.
-#[test]
-fn each_of_the_most_seats_draws(rt: HostRuntime) -> Result<(), Fail> {
-    let (tickets, mut seats) = Tickets::new(rt.alloc(), MOST_LEMMAS, MOST_WORKERS + 1)?;
-    for at in 0..seats.len() {
-        let drawn = tickets.draw(&mut seats[at]);
-        assert!(rt; drawn == Some(at as u32), "at {at}");
-    }
-    assert!(rt; tickets.finish(seats) == u32::from(MOST_WORKERS) + 1);
     Ok(())
 }
