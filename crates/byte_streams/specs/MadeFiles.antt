@@ -31,6 +31,13 @@ module _ (list certificate : List ℕ) where
     abbrev pub Undid : Type 0
     Undid = (deeds : List Deed) × IsUndone deeds × Did does old deeds new
 
+    -- No file was made under this name: the list's, and nothing was done; or the certificate's, and the list's was made
+    -- and removed.
+    abbrev pub NotMadeUnder : (name : List ℕ) → Type 0
+    NotMadeUnder name =
+        ((name ≡ list) × (new ≡ old))
+        ⊎ ((name ≡ certificate) × Did does old (did_make list ∷ did_remove list ∷ []) new)
+
     -- Both were removed, or the list was put under its name, and the certificate was removed.
     abbrev pub PutsNoneOrHalf : Products → Type 0
     PutsNoneOrHalf made = Did does old both_removed new ⊎ Did does old (half_put made) new

@@ -31,5 +31,5 @@ pub use sinks::Sink;
 pub use sources::{Failed, Source};
 pub use system_files::{System, SystemFile};
 pub use systems::{Input, Output};
-pub use texts::{MadeText, Text};
+pub use texts::{MadeText, Text, write_made};
 pub use writings::write_whole;

@@ -2,8 +2,8 @@
 
 ghost use Rattle.std.specs.Prelude.{◌≡◌, Err, IfErr, IfOk, OnErr, OnOk};
 ghost use Rattle.byte_streams.specs.Deeds.{Did};
-ghost use Rattle.byte_streams.specs.MadeFiles.{AreMade, AreWritten, PutsNoneOrHalf, Undid, both_made, both_put};
-ghost use Rattle.byte_streams.specs.MadeFiles.{both_removed};
+ghost use Rattle.byte_streams.specs.MadeFiles.{AreMade, AreWritten, NotMadeUnder, PutsNoneOrHalf, Undid};
+ghost use Rattle.byte_streams.specs.MadeFiles.{both_made, both_put, both_removed};
 ghost use Rattle.byte_streams.specs.declared.outputs.Products.{Products};
 
 use crate::faults::FileFault;
@@ -33,6 +33,8 @@ pub struct NotMade<'a> {
 }
 
 /// Makes both, the list's first, or none of them.
+///
+/// `NotMade` where one can't be made, with its name, and what was made before is removed.
 pub fn make_both<'a, S: FileSystem>(
     alloc: Global,
     names: &ProductNames<'a>,
@@ -42,6 +44,8 @@ pub fn make_both<'a, S: FileSystem>(
     ensures does { OnOk result
         (Did S.does system.old (both_made names.now.list.now names.now.certificate.now) system.new) }
     ensures undone { OnErr result (Undid names.now.list.now names.now.certificate.now S.does system.old system.new) }
+    ensures name { IfErr result (λ failed. NotMadeUnder names.now.list.now names.now.certificate.now S.does system.old
+        system.new failed.name.now) }
 {
     let list = match system.make(alloc, names.list) {
         Ok(list) => list,

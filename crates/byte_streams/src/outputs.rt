@@ -6,8 +6,7 @@ ghost use Rattle.byte_streams.specs.Targets.{Target, one_sink, three_sinks};
 
 use crate::sinks::Sink;
 use crate::sources::Failed;
-use crate::texts::MadeText;
-use crate::writings::write_whole;
+use crate::texts::{MadeText, write_made};
 
 /// Where what is made goes.
 pub trait Outputs {
@@ -43,7 +42,7 @@ impl<W: Sink> Outputs for OneSink<'_, W> {
     ghost stays = { λ o. (refl, refl) };
 
     fn write_all(&mut self, made: &MadeText) -> Result<(), Failed> {
-        write_whole(self.sink, made.bytes())
+        write_made(self.sink, made)
     }
 }
 
@@ -75,8 +74,8 @@ impl<L: Sink, C: Sink, W: Sink> Outputs for ThreeSinks<'_, '_, '_, L, C, W> {
     ghost stays = { λ o. ((refl, refl, refl), (refl, refl, refl)) };
 
     fn write_all(&mut self, made: &Products) -> Result<(), Failed> {
-        write_whole(self.list, made.list.bytes())?;
-        write_whole(self.certificate, made.certificate.bytes())?;
-        write_whole(self.report, made.report.bytes())
+        write_made(self.list, &made.list)?;
+        write_made(self.certificate, &made.certificate)?;
+        write_made(self.report, &made.report)
     }
 }

@@ -22,5 +22,6 @@ pub use readers::{
     LemmaLines, certificate_fault_place, read_certificate, read_lemma, read_lemma_lines,
 };
 pub use spellings::{
-    join_certificate, put_pair, write_certificate, write_lemma, write_lemma_lines, write_symmetries,
+    certificate_front, put_pair, write_certificate, write_lemma, write_lemma_lines,
+    write_symmetries,
 };

@@ -185,8 +185,12 @@ pub fn write_lemma(alloc: Global, lemma: &Lemma) -> Result<Vec<u8>, AllocError>
     Ok(text)
 }
 
-// What stands before the lemmas of the certificate in this version.
-fn front_text(alloc: Global, version: u8, certificate: &Certificate) -> Result<Vec<u8>, AllocError>
+/// What stands before the lemma lines of the certificate in this version.
+pub fn certificate_front(
+    alloc: Global,
+    version: u8,
+    certificate: &Certificate,
+) -> Result<Vec<u8>, AllocError>
     requires { IsCertificateWithin (said_by version certificate.now) }
     ensures { IfOk result (λ text. text.items ≡ front_spelling (said_by version certificate.now)) }
 {
@@ -210,7 +214,7 @@ fn certificate_text(
     ensures reads { IfOk result (λ text. (certificate_of text.items ≡ Ok (said_by version certificate.now))
         × Makes (said_by version certificate.now) (Ok certificate.now)) }
 {
-    let mut text = front_text(alloc, version, certificate)?;
+    let mut text = certificate_front(alloc, version, certificate)?;
     put_lemmas(&mut text, certificate.lemmas())?;
     put_end(&mut text)?;
     Ok(text)
@@ -245,36 +249,5 @@ pub fn write_lemma_lines(
     for number in first..last {
         put_lemma(&mut text, &lemmas.at(number))?;
     }
-    Ok(text)
-}
-
-// Behind the text all parts, one behind the other.
-fn put_parts(text: &mut Vec<u8>, parts: &[Vec<u8>]) -> Result<(), AllocError>
-    ensures { OnOk result (text.new.items ≡ text.old.items ++ flat_map (λ part. part.items) parts.now) }
-{
-    for part in parts {
-        text.extend_from_slice(part)?;
-    }
-    Ok(())
-}
-
-/// The text of the certificate in this version, of its lemma lines, which were written in parts.
-pub fn join_certificate(
-    alloc: Global,
-    version: u8,
-    certificate: &Certificate,
-    parts: &[Vec<u8>],
-) -> Result<Vec<u8>, AllocError>
-    requires within { IsCertificateWithin (said_by version certificate.now) }
-    requires lines { flat_map (λ part. part.items) parts.now ≡ lemma_lines certificate.now.lemmas }
-    ensures spelling { IfOk result (λ text. text.items ≡ certificate_spelling (said_by version certificate.now)) }
-    // It reads back as an equal certificate.
-    ensures reads { IfOk result (λ text. (certificate_of text.items ≡ Ok (said_by version certificate.now))
-        × Makes (said_by version certificate.now) (Ok certificate.now)) }
-{
-    let _ = certificate.lemmas();
-    let mut text = front_text(alloc, version, certificate)?;
-    put_parts(&mut text, parts)?;
-    put_end(&mut text)?;
     Ok(text)
 }

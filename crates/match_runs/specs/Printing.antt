@@ -3,7 +3,7 @@ use Rattle.std.specs.Prelude.{◌≡◌, ◌≤◌, ◌↔◌, ◌++◌, ℕ, Li
 use Rattle.match_limits.specs.declared.TheConstants.{MOST_ARRANGEMENTS}
 use Rattle.match_puzzle.specs.Arrangement.{IsArrangement, AreDistinct, HasArrangements}
 use Rattle.match_puzzle.specs.declared.placements.Placement.{Placement}
-use Rattle.text_crew.specs.Texts.{IsListText}
+use Rattle.match_text.specs.ListSpelling.{IsListText}
 use Rattle.cert_check.specs.Setting.{Question, motions_of}
 use Rattle.cert_check.specs.Answer.{IsAnswer}
 use Rattle.cert_check.specs.declared.faults.Answer.{Answer}

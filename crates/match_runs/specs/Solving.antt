@@ -8,7 +8,8 @@ use Rattle.cert_tree.specs.Certificate.{Contents}
 use Rattle.match_report.specs.BoardText.{board_text}
 use Rattle.match_report.specs.TallyText.{tally_text}
 use Rattle.xcc_form.specs.Options.{HasTooManyEntries}
-use Rattle.text_crew.specs.Texts.{IsCertificateText, IsListText}
+use Rattle.match_text.specs.ListSpelling.{IsListText}
+use Rattle.text_crew.specs.Texts.{IsCertificateText}
 use Rattle.match_crew.specs.Solving.{IsSolvedBy}
 use Rattle.match_crew.specs.declared.faults.SolveFault.TheVariants as solves
 use Rattle.byte_streams.specs.declared.outputs.Products.{Products}

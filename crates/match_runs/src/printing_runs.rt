@@ -13,7 +13,7 @@ ghost use Rattle.byte_streams.specs.Moves.{reading_of, writing_of};
 ghost use Rattle.byte_streams.specs.Origins.{three_sources};
 ghost use Rattle.byte_streams.specs.Targets.{one_sink};
 ghost use Rattle.match_runs.specs.Printing.{AreAllInOrder, AreFirstsOf, CompleteFails, IsCountOf, Prints, count_text};
-ghost use Rattle.text_crew.specs.Texts.{IsListText};
+ghost use Rattle.match_text.specs.ListSpelling.{IsListText};
 ghost use Rattle.match_runs.specs.Printing.{PrintingFails, PrintingGives};
 ghost use Rattle.match_runs.specs.Runs.{MadeOf, Runs, unhinted};
 

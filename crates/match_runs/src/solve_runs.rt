@@ -148,13 +148,24 @@ fn make_products<R: Threads + Wait + Sync, T: SolveWatch + Sync>(
     let shares = shares(alloc, tally)?;
     let texts = write_texts_with(rt, alloc, &listed, &certificate, plan.workers.get() as u8)?;
     let report = report_on(alloc, &puzzle, &listed, &certificate, &shares)?;
-    search.watch.made(texts.list.len(), texts.certificate.len());
+    search
+        .watch
+        .made(bytes_in(&texts.list), bytes_in(&texts.certificate));
     let made = Products {
-        list: MadeText::new(texts.list),
-        certificate: MadeText::new(texts.certificate),
+        list: MadeText::of_parts(texts.list),
+        certificate: MadeText::of_parts(texts.certificate),
         report: MadeText::new(report),
     };
     Ok((made, ()))
+}
+
+// How many bytes these parts have, as it is told while they are written.
+fn bytes_in(parts: &[Vec<u8>]) -> usize {
+    let mut sum: usize = 0;
+    for part in parts {
+        sum = sum.saturating_add(part.len());
+    }
+    sum
 }
 
 // The numbers that each worker took.

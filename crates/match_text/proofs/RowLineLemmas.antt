@@ -1,5 +1,5 @@
 -- A list's lines, part by part.
-use Rattle.std.proofs.Common.{◌≡◌, ◌⊎◌, ⊎_elim, inl, inr, List, [], ◌∷◌, ◌++◌, Bool, true, false, MatchBool, length, map, ℕ, refl, sym, ap, subst, ◌∙◌}
+use Rattle.std.proofs.Common.{◌≡◌, ◌⊎◌, ⊎_elim, List, [], ◌∷◌, ◌++◌, Bool, true, false, MatchBool, length, map, ℕ, refl, sym, ap, subst, ◌∙◌}
 use Rattle.std.specs.List.{AllByRecursion, flat_map}
 use Rattle.std.proofs.lemmas.List.{map-append}
 use Rattle.match_puzzle.specs.declared.placements.Placement.{Placement}
@@ -7,7 +7,7 @@ use Rattle.text_words.specs.Spelling.{end_lines, text_of}
 use Rattle.match_limits.specs.declared.ranges.TheConstants.{FIRST, SECOND}
 use Rattle.text_words.proofs.WritingLemmas.{text_of-append}
 use Rattle.match_text.specs.ListSpelling.{IsListWithin, IsRowWithin, IsSpelledIn, arrangement_words, list_head, list_spelling}
-use Rattle.match_text.specs.RowLines.{AreLinesOf, AreParts}
+use Rattle.match_text.specs.RowLines.{AreParts, whole_text}
 use Rattle.match_text.specs.declared.row_lines.RowLines.{RowLines}
 use Rattle.match_text.proofs.ListLemmas.{first_spelled, list_parts, second_spelled}
 
@@ -95,5 +95,5 @@ module _ (version : ℕ) (rows : Rows) (parts : List RowLines) (are : AreParts r
   is_two not = ⊎_elim (λ one. absurd (not (within.0, all_first rows parts are one.1))) (λ two. two.0) is
 
   -- between what stands before the arrangements and the last line
-  pub whole_text : (text_of (list_head version (length rows)) ++ flat_map (λ part. part.text.items) parts) ++ text_of end_lines ≡ list_spelling version rows
-  whole_text = ap (λ t. (text_of (list_head version (length rows)) ++ t) ++ text_of end_lines) (parts_text rows parts are) ∙ sym (list_parts version rows)
+  pub is_whole : whole_text (text_of (list_head version (length rows))) parts ≡ list_spelling version rows
+  is_whole = ap (λ t. (text_of (list_head version (length rows)) ++ t) ++ text_of end_lines) (parts_text rows parts are) ∙ sym (list_parts version rows)

@@ -1,9 +1,10 @@
 -- The spelling of a list of arrangements in each version.
-use Rattle.std.specs.Prelude.{ℕ, ◌<◌, ◌≤◌, List, [], ◌∷◌, ◌++◌, length, map, codes}
+use Rattle.std.specs.Prelude.{◌≡◌, ℕ, ◌<◌, ◌≤◌, List, [], ◌∷◌, ◌++◌, length, map, codes}
 use Rattle.match_limits.specs.declared.TheConstants.{MOST_ARRANGEMENTS}
 use Rattle.std.specs.List.{AllByRecursion}
 use Rattle.match_puzzle.specs.declared.placements.Placement.{Placement}
 use Rattle.match_limits.specs.declared.ranges.Ranges.{Ranges}
+use Rattle.match_limits.specs.declared.ranges.TheConstants.{FIRST}
 use Rattle.match_limits.specs.Ranges.{IsVersion, ranges_of}
 use Rattle.match_text.specs.Lists.{ListSaid}
 use Rattle.text_words.specs.Spelling.{text_of, placement_word, first_words, count_words, end_lines}
@@ -43,3 +44,8 @@ IsSpelledIn version rows = IsVersion version × IsListWithin (ranges_of version)
 -- There is a text that says so.
 abbrev pub IsSaidWithin : ListSaid → Type 0
 IsSaidWithin said = IsSpelledIn said.version said.rows
+
+-- The text is the list's: of version 1 where that has the numbers for it, else of version 2.
+pub record IsListText (listed : List (List Placement)) (text : List ℕ) : Type 0 where
+  pub first : IsListWithin FIRST listed → text ≡ list_spelling 1 listed
+  pub second : (IsListWithin FIRST listed → ⊥) → text ≡ list_spelling 2 listed

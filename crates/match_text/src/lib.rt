@@ -16,6 +16,6 @@ pub use list_spellings::{list_within_limits, write_list};
 pub use lists::{list_fault_place, read_list};
 pub use puzzle_spellings::write_puzzle;
 pub use puzzles::{BoardLine, PuzzleText, puzzle_fault_place, read_puzzle, read_puzzle_text};
-pub use row_lines::{RowLines, join_list, write_rows};
+pub use row_lines::{RowLines, list_front, write_rows};
 pub use text_words::{ReadFault, TextFault, TextKind};
 pub use tile_spellings::write_tiles;

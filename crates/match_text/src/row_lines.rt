@@ -1,17 +1,16 @@
 //! The lines of a list's arrangements are written in parts.
 
-ghost use Rattle.std.specs.Prelude.{◌≡◌, ◌≤◌, ◌++◌, ◌⊎◌, ℕ, Ok, IfOk, OnOk, true, MatchBool, length};
-ghost use Rattle.std.specs.List.{AllByRecursion, flat_map};
-ghost use Rattle.match_limits.specs.declared.ranges.TheConstants.{FIRST, SECOND};
+ghost use Rattle.std.specs.Prelude.{◌≡◌, ◌⊎◌, Ok, IfOk, true, MatchBool};
+ghost use Rattle.std.specs.List.{AllByRecursion};
+ghost use Rattle.match_limits.specs.declared.ranges.TheConstants.{SECOND};
 ghost use Rattle.match_text.specs.Lists.{list_of};
-ghost use Rattle.match_text.specs.ListSpelling.{list_spelling, IsListWithin};
-ghost use Rattle.match_text.specs.RowLines.{AreLinesOf, AreParts};
+ghost use Rattle.match_text.specs.ListSpelling.{IsListText, IsListWithin};
+ghost use Rattle.match_text.specs.RowLines.{AreLinesOf, AreParts, whole_text};
 
 use crate::list_spellings::{are_rows_within, heading, put_rows};
 use match_limits::FIRST;
 use match_puzzle::Arrangement;
 use std::alloc::{AllocError, Global};
-use text_words::put_end;
 
 /// Lines of arrangements, one behind the other.
 #[derive(Drop)]
@@ -47,31 +46,18 @@ fn version_of(parts: &[RowLines]) -> u8
     if are_all_first(parts) { 1 } else { 2 }
 }
 
-// Behind the text all parts, one behind the other.
-fn put_parts(text: &mut Vec<u8>, parts: &[RowLines]) -> Result<(), AllocError>
-    ensures { OnOk result (text.new.items ≡ text.old.items ++ flat_map (λ part. part.text.items) parts.now) }
-{
-    for part in parts {
-        text.extend_from_slice(&part.text)?;
-    }
-    Ok(())
-}
-
-/// What [`write_list`](crate::write_list) writes of the list, of its lines, which were written in parts.
-pub fn join_list(
+/// What stands before the lines of the list, which were written in parts: behind it stand all lines, and then the last line
+/// of a text.
+pub fn list_front(
     alloc: Global,
     list: &[Arrangement],
     parts: &[RowLines],
 ) -> Result<Vec<u8>, AllocError>
     requires within { IsListWithin SECOND list.now }
     requires parts { AreParts list.now parts.now }
-    ensures first { IsListWithin FIRST list.now → IfOk result (λ text. text.items ≡ list_spelling 1 list.now) }
-    ensures second { (IsListWithin FIRST list.now → ⊥)
-        → IfOk result (λ text. text.items ≡ list_spelling 2 list.now) }
-    ensures reads { IfOk result (λ text. list_of text.items ≡ Ok list.now) }
+    ensures text { IfOk result (λ front. IsListText list.now (whole_text front.items parts.now)) }
+    ensures reads { IfOk result (λ front. list_of (whole_text front.items parts.now) ≡ Ok list.now) }
 {
-    let mut text = heading(alloc, version_of(parts), list.len())?;
-    put_parts(&mut text, parts)?;
-    put_end(&mut text)?;
-    Ok(text)
+    let front = heading(alloc, version_of(parts), list.len())?;
+    Ok(front)
 }

@@ -1,13 +1,13 @@
 -- The texts of a list and of a certificate, read and written.
-use Rattle.std.specs.Prelude.{◌≡◌, ◌+◌, ℕ, List, Result, Vec, IfOk}
+use Rattle.std.specs.Prelude.{◌≡◌, ◌⊎◌, ◌+◌, ℕ, List, Result, Vec, IfOk}
 use Rattle.std.specs.List.{slice_range}
 use Rattle.std.specs.declared.alloc.Global.{Global}
 use Rattle.match_puzzle.specs.declared.placements.Placement.{Placement}
-use Rattle.match_text.specs.ListSpelling.{IsListWithin, list_spelling}
+use Rattle.match_text.specs.ListSpelling.{IsListWithin}
 use Rattle.match_text.specs.Lists.{list_of}
 use Rattle.text_words.specs.Place.{Says}
 use Rattle.text_words.specs.declared.faults.ReadFault.{ReadFault}
-use Rattle.match_limits.specs.declared.ranges.TheConstants.{FIRST, SECOND}
+use Rattle.match_limits.specs.declared.ranges.TheConstants.{SECOND}
 use Rattle.cert_tree.specs.Certificate.{Contents}
 use Rattle.cert_text.specs.CertificateSpelling.{certificate_spelling, IsCertificateWithin}
 use Rattle.cert_text.specs.Writing.{said_by}
@@ -18,10 +18,10 @@ abbrev pub IsListRead : (text : List ℕ) → Result (Vec (List Placement) Globa
 IsListRead text read =
     Says (λ rows. rows.items) read (list_of text) × IfOk read (λ rows. IsListWithin SECOND rows.items)
 
--- The text is the list's: of version 1 where that has the numbers for it, else of version 2.
-pub record IsListText (listed : List (List Placement)) (text : List ℕ) : Type 0 where
-  pub first : IsListWithin FIRST listed → text ≡ list_spelling 1 listed
-  pub second : (IsListWithin FIRST listed → ⊥) → text ≡ list_spelling 2 listed
+-- The version is the first that has the numbers for the certificate.
+abbrev pub IsFirstVersion : (version : ℕ) → Contents → Type 0
+IsFirstVersion version c =
+    ((version ≡ 1) × IsCertificateWithin (said_by 1 c)) ⊎ ((version ≡ 2) × (IsCertificateWithin (said_by 1 c) → ⊥))
 
 -- The text is the certificate's: of version 1 where that has the numbers for it, else of version 2.
 pub record IsCertificateText (c : Contents) (text : List ℕ) : Type 0 where

@@ -2,6 +2,7 @@
 #![tactic(auto)]
 
 mod list_writings;
+mod parts;
 mod readings;
 mod texts;
 mod writings;

@@ -1,12 +1,16 @@
 //! A list's lines are written by a crew.
 
-ghost use Rattle.std.specs.Prelude.{◌≤◌, IfOk, length};
+ghost use Rattle.std.specs.Prelude.{◌≡◌, ◌≤◌, IfOk, length};
+ghost use Rattle.std.specs.List.{flat_map};
 ghost use Rattle.match_limits.specs.declared.TheConstants.{MOST_WORKERS};
+ghost use Rattle.match_limits.specs.declared.ranges.TheConstants.{SECOND};
+ghost use Rattle.match_text.specs.ListSpelling.{IsListText, IsListWithin};
 ghost use Rattle.match_text.specs.RowLines.{AreParts};
 ghost use Rattle.cert_text.specs.LemmaParts.{AreStarts};
 
+use crate::parts::between;
 use match_puzzle::Arrangement;
-use match_text::{RowLines, write_rows};
+use match_text::{RowLines, list_front, write_rows};
 use std::alloc::{AllocError, Global};
 use std::thread::Threads;
 use steal_crew::{Work, run_from_last};
@@ -64,7 +68,7 @@ impl<'a> Work for ListParts<'a> {
 }
 
 // The lines of the list in parts of as many arrangements each, by so many workers.
-pub(crate) fn write_row_parts<R: Threads + Sync>(
+fn write_row_parts<R: Threads + Sync>(
     rt: &R,
     alloc: Global,
     list: &[Arrangement],
@@ -82,4 +86,33 @@ pub(crate) fn write_row_parts<R: Threads + Sync>(
         starts,
     };
     run_from_last(rt, alloc, &work, count, workers)
+}
+
+// The lines of all parts.
+fn texts_of(alloc: Global, parts: Vec<RowLines>) -> Result<Vec<Vec<u8>>, AllocError>
+    ensures { IfOk result (λ texts. flat_map (λ text. text.items) texts.items
+        ≡ flat_map (λ part. part.text.items) parts.items) }
+{
+    let mut texts = Vec::new(alloc);
+    for part in parts {
+        texts.push(part.text)?;
+    }
+    Ok(texts)
+}
+
+/// What [`write_list`](match_text::write_list) writes, in parts, by so many workers.
+pub(crate) fn write_list_with<R: Threads + Sync>(
+    rt: &R,
+    alloc: Global,
+    list: &[Arrangement],
+    workers: u8,
+) -> Result<Vec<Vec<u8>>, AllocError>
+    requires list { IsListWithin SECOND list.now }
+    requires workers { (1 ≤ workers) × (workers ≤ MOST_WORKERS) }
+    ensures { IfOk result (λ texts. IsListText list.now (flat_map (λ text. text.items) texts.items)) }
+{
+    let parts = write_row_parts(rt, alloc, list, workers)?;
+    let front = list_front(alloc, list, &parts)?;
+    let lines = texts_of(alloc, parts)?;
+    between(alloc, front, lines)
 }

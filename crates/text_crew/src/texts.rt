@@ -1,23 +1,24 @@
 //! The texts of a list and of a certificate are read, and written.
 
 ghost use Rattle.std.specs.Prelude.{◌+◌, ◌<◌, ◌≤◌, ◌^◌, IfOk, length};
+ghost use Rattle.std.specs.List.{flat_map};
 ghost use Rattle.std.specs.Thread.{IsSync};
 ghost use Rattle.match_limits.specs.declared.TheConstants.{MOST_WORKERS};
-ghost use Rattle.match_text.specs.ListSpelling.{IsListWithin};
-ghost use Rattle.match_text.specs.RowLines.{AreParts};
+ghost use Rattle.match_text.specs.ListSpelling.{IsListText, IsListWithin};
 ghost use Rattle.match_limits.specs.declared.ranges.TheConstants.{SECOND};
 ghost use Rattle.cert_text.specs.CertificateSpelling.{IsCertificateWithin};
 ghost use Rattle.cert_text.specs.CertificateText.{CertificateGives, certificate_of};
 ghost use Rattle.cert_text.specs.Writing.{said_by};
-ghost use Rattle.text_crew.specs.Texts.{IsCertificateText, IsListRead, IsListText};
+ghost use Rattle.text_crew.specs.Texts.{IsCertificateText, IsListRead};
 
-use crate::list_writings::write_row_parts;
+use crate::list_writings::write_list_with;
+use crate::parts::alone;
 use crate::readings::read_certificate_with;
 use crate::writings::write_certificate_with;
 use cert_text::CertTextFault;
 use cert_tree::Certificate;
 use match_puzzle::Arrangement;
-use match_text::{ListTextFault, join_list, read_list, write_list};
+use match_text::{ListTextFault, read_list, write_list};
 use std::alloc::{AllocError, Global};
 use std::thread::Threads;
 use steal_crew::both;
@@ -35,11 +36,11 @@ pub struct ReadTexts {
     pub certificate: Result<Certificate, CertTextFault>,
 }
 
-/// The texts of a list and of a certificate.
+/// The texts of a list and of a certificate, each in the parts in which it was written: one behind the other they are it.
 #[derive(Drop)]
 pub struct WrittenTexts {
-    pub list: Vec<u8>,
-    pub certificate: Vec<u8>,
+    pub list: Vec<Vec<u8>>,
+    pub certificate: Vec<Vec<u8>>,
 }
 
 // Both texts, each read on a thread of its own; the certificate by so many workers.
@@ -103,42 +104,28 @@ pub fn read_texts_with<R: Threads + Sync>(
     })
 }
 
-// Both texts, by so many workers. The list's lines are put together while the certificate's are written.
-fn write_at_once<R: Threads + Sync>(
+// The text of the list, by so many workers.
+fn write_listed<R: Threads + Sync>(
     rt: &R,
     alloc: Global,
     listed: &[Arrangement],
-    certificate: &Certificate,
     workers: u8,
-) -> Result<WrittenTexts, AllocError>
+) -> Result<Vec<Vec<u8>>, AllocError>
     requires list { IsListWithin SECOND listed.now }
-    requires certificate { IsCertificateWithin (said_by 2 certificate.now) }
     requires workers { (1 ≤ workers) × (workers ≤ MOST_WORKERS) }
-    ensures list { IfOk result (λ texts. IsListText listed.now texts.list.items) }
-    ensures certificate { IfOk result (λ texts. IsCertificateText certificate.now texts.certificate.items) }
+    ensures { IfOk result (λ parts. IsListText listed.now (flat_map (λ part. part.items) parts.items)) }
 {
-    let parts = write_row_parts(rt, alloc, listed, workers)?;
-    let lines = parts.as_slice();
-    let (list, certificate) = both(
-        rt,
-        || -> Result<Vec<u8>, AllocError>
-            requires { IsListWithin SECOND listed.now × AreParts listed.now lines.now }
-            ensures { IfOk result (λ text. IsListText listed.entry.now text.items) }
-        { join_list(alloc, listed, lines) },
-        || -> Result<Vec<u8>, AllocError>
-            requires { IsSync R.row × IsCertificateWithin (said_by 2 certificate.now)
-                × (1 ≤ workers) × (workers ≤ MOST_WORKERS) }
-            ensures { IfOk result (λ text. IsCertificateText certificate.entry.now text.items) }
-        { write_certificate_with(rt, alloc, certificate, workers) },
-    )?;
-    Ok(WrittenTexts { list, certificate })
+    if workers > 1 && listed.len() >= LEAST_LISTED {
+        return write_list_with(rt, alloc, listed, workers);
+    }
+    let text = write_list(alloc, listed)?;
+    alone(alloc, text)
 }
 
-/// What [`write_list`] writes of the list and [`write_certificate_with`] of the certificate, at once.
+/// What [`write_list`] writes of the list, and what [`write_certificate_with`] writes of the certificate behind it.
 ///
-/// With one worker, or fewer than 1,024 arrangements, the list's text is written first, on the caller's thread. Else
-/// its lines are written by a crew, eight parts for each worker, and are put together beside the workers of the
-/// certificate.
+/// With one worker, or fewer than 1,024 arrangements, the list's text is written on the caller's thread, as one part. Else
+/// its lines are written by a crew, eight parts for each worker, which are not put together.
 pub fn write_texts_with<R: Threads + Sync>(
     rt: &R,
     alloc: Global,
@@ -149,13 +136,11 @@ pub fn write_texts_with<R: Threads + Sync>(
     requires list { IsListWithin SECOND listed.now }
     requires certificate { IsCertificateWithin (said_by 2 certificate.now) }
     requires workers { (1 ≤ workers) × (workers ≤ MOST_WORKERS) }
-    ensures list { IfOk result (λ texts. IsListText listed.now texts.list.items) }
-    ensures certificate { IfOk result (λ texts. IsCertificateText certificate.now texts.certificate.items) }
+    ensures list { IfOk result (λ texts. IsListText listed.now (flat_map (λ part. part.items) texts.list.items)) }
+    ensures certificate { IfOk result (λ texts.
+        IsCertificateText certificate.now (flat_map (λ part. part.items) texts.certificate.items)) }
 {
-    if workers > 1 && listed.len() >= LEAST_LISTED {
-        return write_at_once(rt, alloc, listed, certificate, workers);
-    }
-    let list = write_list(alloc, listed)?;
+    let list = write_listed(rt, alloc, listed, workers)?;
     let certificate = write_certificate_with(rt, alloc, certificate, workers)?;
     Ok(WrittenTexts { list, certificate })
 }

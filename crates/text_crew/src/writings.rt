@@ -1,14 +1,17 @@
 //! A certificate's text is written by a crew.
 
-ghost use Rattle.std.specs.Prelude.{◌≡◌, ◌≤◌, ℕ, Ok, IfOk, length};
+ghost use Rattle.std.specs.Prelude.{◌≡◌, ◌≤◌, ℕ, Ok, IfOk};
+ghost use Rattle.std.specs.List.{flat_map};
 ghost use Rattle.match_limits.specs.declared.TheConstants.{MOST_WORKERS};
-ghost use Rattle.cert_text.specs.CertificateSpelling.{certificate_spelling, IsCertificateWithin};
+ghost use Rattle.cert_text.specs.CertificateSpelling.{IsCertificateWithin};
 ghost use Rattle.cert_text.specs.CertificateText.{Makes, certificate_of};
 ghost use Rattle.cert_text.specs.Writing.{said_by};
 ghost use Rattle.cert_text.specs.LemmaParts.{AreCut, AreLines, AreOfParts};
+ghost use Rattle.text_crew.specs.Texts.{IsCertificateText, IsFirstVersion};
 
+use crate::parts::{alone, between};
 use cert_text::{
-    LemmaParts, join_certificate, within_limits_with, write_certificate, write_lemma_lines,
+    LemmaParts, certificate_front, within_limits_with, write_certificate, write_lemma_lines,
 };
 use cert_tree::Certificate;
 use std::alloc::{AllocError, Global};
@@ -55,33 +58,45 @@ fn write_parts<R: Threads + Sync>(
     run_from_last(rt, alloc, &lines, parts.count(), workers)
 }
 
-/// What [`write_certificate`] writes, by 1 to 64 workers, whose number doesn't change it.
+// The first version that has the numbers for the certificate, found by so many workers.
+fn first_version_with<R: Threads + Sync>(
+    rt: &R,
+    alloc: Global,
+    certificate: &Certificate,
+    workers: u8,
+) -> Result<u8, AllocError>
+    requires { (1 ≤ workers) × (workers ≤ MOST_WORKERS) }
+    ensures { IfOk result (λ version. IsFirstVersion version certificate.now) }
+{
+    let is_first = within_limits_with(rt, alloc, 1, certificate, workers)?;
+    Ok(if is_first { 1 } else { 2 })
+}
+
+/// What [`write_certificate`] writes, in parts, by 1 to 64 workers, whose number doesn't change the text.
 ///
-/// The lemmas are cut into parts of about as many nodes each, whose lines are each written by a job of a crew and are put
-/// together then: while that lasts, there are two copies of the text. A certificate of less than 131,072 nodes is
-/// written on the caller's thread, and so is any by one worker. It joins threads, one for each worker but the caller.
+/// The lemmas are cut into parts of about as many nodes each, whose lines are each written by a job of a crew, and which
+/// are not put together. A certificate of less than 131,072 nodes is written on the caller's thread, as one part, and so is
+/// any by one worker. It joins threads, one for each worker but the caller.
 pub fn write_certificate_with<R: Threads + Sync>(
     rt: &R,
     alloc: Global,
     certificate: &Certificate,
     workers: u8,
-) -> Result<Vec<u8>, AllocError>
+) -> Result<Vec<Vec<u8>>, AllocError>
     requires within { IsCertificateWithin (said_by 2 certificate.now) }
     requires workers { (1 ≤ workers) × (workers ≤ MOST_WORKERS) }
-    ensures first { IsCertificateWithin (said_by 1 certificate.now)
-        → IfOk result (λ text. text.items ≡ certificate_spelling (said_by 1 certificate.now)) }
-    ensures second { (IsCertificateWithin (said_by 1 certificate.now) → ⊥)
-        → IfOk result (λ text. text.items ≡ certificate_spelling (said_by 2 certificate.now)) }
+    ensures text { IfOk result (λ parts. IsCertificateText certificate.now (flat_map (λ part. part.items) parts.items)) }
     // It reads back as an equal certificate.
-    ensures reads { IfOk result (λ text. (version : ℕ)
-        × (certificate_of text.items ≡ Ok (said_by version certificate.now))
+    ensures reads { IfOk result (λ parts. (version : ℕ)
+        × (certificate_of (flat_map (λ part. part.items) parts.items) ≡ Ok (said_by version certificate.now))
         × Makes (said_by version certificate.now) (Ok certificate.now)) }
 {
     let Some(parts) = LemmaParts::cut(alloc, certificate.lemmas(), workers)? else {
-        return write_certificate(alloc, certificate);
+        let text = write_certificate(alloc, certificate)?;
+        return alone(alloc, text);
     };
-    let is_first = within_limits_with(rt, alloc, 1, certificate, workers)?;
-    let version = if is_first { 1 } else { 2 };
+    let version = first_version_with(rt, alloc, certificate, workers)?;
+    let front = certificate_front(alloc, version, certificate)?;
     let lines = write_parts(rt, alloc, &parts, workers)?;
-    join_certificate(alloc, version, certificate, &lines)
+    between(alloc, front, lines)
 }

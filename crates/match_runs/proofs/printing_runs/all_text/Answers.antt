@@ -9,7 +9,7 @@ use Rattle.puzzle_symmetry.specs.Complete.{IsCompleteList}
 use Rattle.cert_check.specs.Setting.{Question, motions_of}
 use Rattle.symmetry_orbits.specs.Closure.{AddsEach}
 use Rattle.symmetry_orbits.specs.Expansion.{AreMoreReached, IsExpansion, Takes}
-use Rattle.text_crew.specs.Texts.{IsListText}
+use Rattle.match_text.specs.ListSpelling.{IsListText}
 use Rattle.match_runs.specs.Printing.{AreAllInOrder}
 use Rattle.match_runs.specs.declared.printing_runs.Printing.TheVariants.{All}
 use Rattle.symmetry_orbits.proofs.RepetitionLemmas.{closure_all}

@@ -11,7 +11,7 @@ use Rattle.cert_check.specs.Setting.{Question}
 use Rattle.symmetry_orbits.specs.Expansion.{AreOf}
 use Rattle.symmetry_orbits.specs.Firsts.{AreFirstOfEachOrbit}
 use Rattle.symmetry_orbits.specs.Orbits.{AreMoreListedOrInOrbit, AreOneOfEachOrbit}
-use Rattle.text_crew.specs.Texts.{IsListText}
+use Rattle.match_text.specs.ListSpelling.{IsListText}
 use Rattle.match_runs.specs.declared.printing_runs.Printing.TheVariants.{Orbits}
 use Rattle.match_runs.proofs.RunLemmas.{expand_fails, firsts_within, read_are, said_of_question}
 use Rattle.match_runs.proofs.printing_runs.orbits_text.Goals.{After-new}

@@ -1,10 +1,12 @@
 use Rattle.std.proofs.Common.{List, ℕ, Ok, ap, length, subst, sym, ◌∙◌}
+use Rattle.std.specs.List.{flat_map}
 use Rattle.std.proofs.lemmas.Result.{err_from_is_err_and}
 use Rattle.match_puzzle.specs.declared.placements.Placement.{Placement}
 use Rattle.match_text.specs.Puzzles.{PuzzleReads}
 use Rattle.match_puzzle.specs.Arrangement.{AreArrangements}
 use Rattle.match_crew.specs.Solving.{IsSolvedBy}
-use Rattle.text_crew.specs.Texts.{IsCertificateText, IsListText}
+use Rattle.match_text.specs.ListSpelling.{IsListText}
+use Rattle.text_crew.specs.Texts.{IsCertificateText}
 use Rattle.match_runs.specs.Solving.{report_text}
 use Rattle.match_runs.proofs.solve_runs.make_products.Goals as goal
 
@@ -31,10 +33,10 @@ returns g c =
       tally = solved.tally.items;
       contents = solved.certificate;
       solved = subst (λ n. IsSolvedBy p n solved.list.items solved.tally.items solved.certificate) c.get-3.ensures.number c.in_ok-listed.ensures.solved;
-      list_text = subst (IsListText solved.list.items) (sym c.new.ensures)
-          (subst (λ (l : List (List Placement)). IsListText l texts.texts.list.items) c.deref.ensures.value texts.ensures.list);
-      certificate_text = subst (IsCertificateText solved.certificate) (sym c.new-2.ensures) texts.ensures.certificate;
-      report = c.new-3.ensures ∙ c.in_ok-report.ensures
+      list_text = subst (IsListText solved.list.items) (sym c.of_parts.ensures)
+          (subst (λ (l : List (List Placement)). IsListText l (flat_map (λ part. part.items) texts.texts.list.items)) c.deref.ensures.value texts.ensures.list);
+      certificate_text = subst (IsCertificateText solved.certificate) (sym c.of_parts-2.ensures) texts.ensures.certificate;
+      report = c.new.ensures ∙ c.in_ok-report.ensures
           ∙ ap (λ l. report_text p l lemmas c.deref-3.result.now) c.deref-2.ensures.value
           ∙ ap (λ s. report_text p solved.list.items lemmas s) (c.deref-3.ensures.value ∙ c.in_ok-shares.ensures);
     }

@@ -2,7 +2,7 @@ use Rattle.std.proofs.Common.{refl}
 use Rattle.match_limits.specs.Ranges.{ranges_of}
 use Rattle.cert_text.specs.CertificateSpelling.{AreColourImagesWithin, IsSymmetryWithin}
 use Rattle.cert_text.proofs.WiderLemmas.{each_within}
-use Rattle.cert_text.proofs.spellings.front_text.Goals as goal
+use Rattle.cert_text.proofs.spellings.certificate_front.Goals as goal
 
 pub put_symmetries-requires : goal.put_symmetries-requires
 put_symmetries-requires c =
