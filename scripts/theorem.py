@@ -27,7 +27,7 @@ COUNT = [
     HAS,
     ("symmetry_orbits/specs/Pictures.antt", "HasPictures"),
     ("symmetry_orbits/specs/Orbits.antt", "IsCount"),
-    ("match_runs/specs/Printing.antt", "count_text"),
+    ("match_report/specs/CompleteLists.antt", "count_text"),
 ]
 SEARCH = [HAS, ("match_puzzle/specs/Numbers.antt", "AreMoreThan")]
 SPELLED = "match_runs/specs/Checking.antt", "SpellCompleteList"
@@ -41,7 +41,11 @@ ROWS = {
 }
 QUOTED = [COMPLETE, LINE, *COUNT, *SEARCH]
 # What binds these to the program is quoted too, but not what that rests on beside.
-CARRIERS = [("cert_check/specs/Answer.antt", "IsSound"), SPELLED, ("match_runs/specs/Printing.antt", "IsCountOf")]
+CARRIERS = [
+    ("cert_check/specs/Answer.antt", "IsSound"),
+    SPELLED,
+    ("match_report/specs/CompleteLists.antt", "IsCountOf"),
+]
 # Of this definition only the clause of a complete list is quoted and followed: the other is the line of a refusal.
 CLAUSES = {LINE: "answer_line Complete "}
 

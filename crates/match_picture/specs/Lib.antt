@@ -3,4 +3,5 @@ pub mod Sites
 pub mod Edges
 pub mod Elements
 pub mod Pictures
+pub mod Listed
 pub mod Laws

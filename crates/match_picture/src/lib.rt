@@ -11,6 +11,7 @@ mod edges;
 mod elements;
 mod forms;
 mod laws;
+mod listed;
 mod palette;
 mod parts;
 mod pictures;
@@ -20,5 +21,6 @@ mod tiles;
 mod trays;
 
 pub use laws::picture_laws;
+pub use listed::{NotDrawn, PicturePlan, write_listed_picture};
 pub use pictures::{write_arrangement_picture, write_puzzle_picture};
 pub use sheets::write_sheet;

@@ -15,7 +15,7 @@ use Rattle.cert_check.specs.Setting.{Question}
 use Rattle.cert_check.specs.declared.faults.Answer.{Answer}
 use Rattle.cert_check.specs.declared.faults.Answer.TheVariants as answers
 use Rattle.match_runs.specs.Checking.{Answers, CheckGives, SpellCompleteList}
-use Rattle.match_runs.specs.Statuses.{status_of}
+use Rattle.match_report.specs.Statuses.{status_of}
 use Rattle.match_program.specs.Exits.{status_exit}
 use Rattle.match_program.specs.FileOrigins.{AllOpened, Opened, read_from_all, three_files}
 use Rattle.match_program.specs.PlaceOrigins.{AllOpenedAt, BothOpened, OpenedAt, one_place, read_all_at, read_at, read_both, three_places, two_places}
@@ -27,8 +27,8 @@ use Rattle.match_program.specs.OrderRuns.{EndsBy, ThenDone}
 use Rattle.match_runs.specs.Printing.{Prints, PrintingGives}
 use Rattle.match_runs.specs.Runs.{Runs}
 use Rattle.match_program.specs.declared.exits.Exit.TheVariants.{Done}
-use Rattle.match_runs.specs.declared.statuses.Status.{Status}
-use Rattle.match_runs.specs.declared.statuses.Status.TheVariants as status
+use Rattle.match_report.specs.declared.statuses.Status.{Status}
+use Rattle.match_report.specs.declared.statuses.Status.TheVariants as status
 use Rattle.match_runs.specs.declared.faults.RunFault.{RunFault}
 use Rattle.match_runs.specs.declared.printing_runs.Printing.{Printing}
 use Rattle.match_runs.proofs.RunningLemmas.{ended, over}

@@ -2,8 +2,8 @@
 use Rattle.std.specs.Prelude.{ℕ}
 use Rattle.match_runs.specs.declared.faults.RunFault.{RunFault}
 use Rattle.match_runs.specs.declared.faults.RunFault.TheVariants as runs
-use Rattle.match_runs.specs.declared.statuses.Status.{Status}
-use Rattle.match_runs.specs.declared.statuses.Status.TheVariants as status
+use Rattle.match_report.specs.declared.statuses.Status.{Status}
+use Rattle.match_report.specs.declared.statuses.Status.TheVariants as status
 use Rattle.match_program.specs.declared.exits.Exit.{Exit}
 use Rattle.match_program.specs.declared.exits.Exit.TheVariants.{Done, Refused, Failed, Unsolved}
 

@@ -32,7 +32,7 @@ use Rattle.match_runs.specs.declared.printing_runs.Printing.{Printing}
 use Rattle.match_runs.specs.declared.printing_runs.Printing.TheVariants as printings
 use Rattle.match_program.specs.declared.exits.Exit.{Exit}
 use Rattle.match_program.specs.declared.exits.Exit.TheVariants as exits
-use Rattle.match_runs.specs.declared.statuses.Status.{Status}
+use Rattle.match_report.specs.declared.statuses.Status.{Status}
 use Rattle.match_runs.specs.declared.faults.RunFault.{RunFault}
 use Rattle.match_runs.specs.declared.faults.RunFault.TheVariants as runs
 

@@ -1,2 +1,4 @@
+pub mod AnswerLemmas
+pub mod CompleteLemmas
 pub mod LineLemmas
 pub mod NumberedLemmas

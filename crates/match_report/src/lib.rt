@@ -1,13 +1,17 @@
-//! What is said of a check and of a search, and the expansion of a list.
+//! What is said of a check and of a search, and what is printed of a complete list.
 #![tactic(auto)]
 
 mod answers;
 mod boards;
+mod complete_lists;
 mod lines;
+mod statuses;
 mod tallies;
 
 pub use answers::{put_arrangement_fault, write_answer};
 pub use boards::write_board;
+pub use complete_lists::{write_all, write_counts, write_orbits};
 pub use lines::Line;
-pub use symmetry_orbits::{ExpandFault, expand, expansion_laws};
+pub use statuses::{Status, Verdict, write_verdict};
+pub use symmetry_orbits::ExpandFault;
 pub use tallies::{Taken, write_tally};

@@ -1,5 +1,6 @@
 mod DescribingLemmas
 pub mod CensusLemmas
+pub mod PictureLemmas
 pub mod RunLemmas
 pub mod RunningLemmas
 pub mod SolvingLemmas

@@ -17,8 +17,8 @@ use Rattle.cert_check.specs.Answer.{IsAnswer, IsSound}
 use Rattle.cert_check.specs.declared.faults.Answer.{Answer}
 use Rattle.match_report.specs.AnswerText.{answer_line}
 use Rattle.byte_streams.specs.Documents.{Texts}
-use Rattle.match_runs.specs.Statuses.{status_of}
-use Rattle.match_runs.specs.declared.statuses.Status.{Status}
+use Rattle.match_report.specs.Statuses.{status_of}
+use Rattle.match_report.specs.declared.statuses.Status.{Status}
 use Rattle.match_runs.specs.declared.faults.RunFault.{RunFault}
 use Rattle.match_runs.specs.declared.faults.RunFault.TheVariants as runs
 

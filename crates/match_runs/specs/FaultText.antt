@@ -19,6 +19,8 @@ use Rattle.cert_text.specs.declared.faults.CertTextFault.{CertTextFault}
 use Rattle.cert_text.specs.declared.faults.CertTextFault.TheVariants as cert_text
 use Rattle.symmetry_orbits.specs.declared.expansions.ExpandFault.{ExpandFault}
 use Rattle.symmetry_orbits.specs.declared.expansions.ExpandFault.TheVariants as expansions
+use Rattle.match_picture.specs.declared.listed.NotDrawn.{NotDrawn}
+use Rattle.match_picture.specs.declared.listed.NotDrawn.TheVariants as not_drawn
 use Rattle.match_crew.specs.declared.faults.SolveFault.{SolveFault}
 use Rattle.match_crew.specs.declared.faults.SolveFault.TheVariants as solves
 use Rattle.xcc_form.specs.declared.faults.CompileFault.{CompileFault}
@@ -75,6 +77,11 @@ run_of_compile compiles.Memory = Memory
 abbrev pub run_of_expand : ExpandFault → RunFault
 run_of_expand expansions.TooMany = Expand
 run_of_expand expansions.Memory = Memory
+
+abbrev pub run_of_picture : NotDrawn → RunFault
+run_of_picture (not_drawn.NoArrangement number) = NoArrangement number
+run_of_picture (not_drawn.Arrangement number fault) = Arrangement number fault
+run_of_picture not_drawn.Memory = Memory
 
 abbrev pub run_of_tiles : TilesFault → RunFault
 run_of_tiles tile_lists.TooMany = Tiles

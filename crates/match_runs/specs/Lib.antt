@@ -7,5 +7,4 @@ pub mod Pictures
 pub mod Printing
 pub mod Runs
 pub mod Solving
-pub mod Statuses
 pub mod Tiles

@@ -1,9 +1,10 @@
 -- An arrangement of a list that is drawn.
-use Rattle.std.specs.Prelude.{◌≡◌, ◌≤◌, ℕ, List, Some, Ok, Err, length, slice_get}
+use Rattle.std.specs.Prelude.{◌≡◌, ◌≤◌, ℕ, List, Ok, Err, length}
 use Rattle.match_puzzle.specs.Arrangement.{IsArrangement}
 use Rattle.match_puzzle.specs.ArrangementFaults.{IsArrangementFault}
 use Rattle.match_puzzle.specs.Puzzle.{Task}
 use Rattle.match_puzzle.specs.declared.placements.Placement.{Placement}
+use Rattle.match_picture.specs.Listed.{IsListedAt}
 use Rattle.match_show.specs.Arrangement.{IsDrawnArrangement}
 use Rattle.match_text.specs.Lists.{list_of}
 use Rattle.match_text.specs.Puzzles.{PuzzleReads}
@@ -17,10 +18,6 @@ use Rattle.match_runs.specs.declared.faults.RunFault.TheVariants as runs
 abbrev pub SpellList : (puzzle list : List ℕ) → (Task → List (List Placement) → Type 0) → Type 0
 SpellList puzzle list Are =
     (p : Task) × (listed : List (List Placement)) × PuzzleReads puzzle (Ok p) × (list_of list ≡ Ok listed) × Are p listed
-
--- The listed arrangement of this number is so.
-abbrev pub IsListedAt : (number : ℕ) → (List Placement → Type 0) → List (List Placement) → Type 0
-IsListedAt number Is listed = (a : List Placement) × (slice_get listed number ≡ Some a) × Is a
 
 -- The drawing is the board with the listed arrangement of this number on it, which is one of the puzzle's.
 abbrev pub DrawsListed : (number : ℕ) → TwoTexts → (drawing : List ℕ) → (ends : Unit {0}) → Type 0

@@ -1,50 +1,16 @@
 -- Pictures that are drawn of a list.
-use Rattle.std.specs.Prelude.{◌≡◌, ◌+◌, ◌<◌, ◌≤◌, ℕ, List, Some, Ok, Err, drop, length, max, slice_get, take}
-use Rattle.match_puzzle.specs.Arrangement.{AreArrangements, IsArrangement}
-use Rattle.match_puzzle.specs.ArrangementFaults.{IsArrangementFault}
+use Rattle.std.specs.Prelude.{◌≡◌, ℕ, List, Ok, Err}
 use Rattle.match_puzzle.specs.Puzzle.{Task}
-use Rattle.match_puzzle.specs.declared.faults.ArrangementFault.{ArrangementFault}
-use Rattle.match_puzzle.specs.declared.placements.Placement.{Placement}
-use Rattle.match_picture.specs.Pictures.{IsArrangementPicture, IsSheet}
+use Rattle.match_picture.specs.Listed.{IsNotDrawn, IsPictureFrom}
+use Rattle.match_picture.specs.declared.listed.NotDrawn.TheVariants as not_drawn
 use Rattle.match_text.specs.Lists.{list_of}
 use Rattle.match_text.specs.Puzzles.{PuzzleReads}
 use Rattle.text_words.specs.declared.faults.ReadFault.TheVariants as lists
 use Rattle.byte_streams.specs.declared.documents.TwoTexts.{TwoTexts}
 use Rattle.match_runs.specs.Describing.{DescribeFails}
-use Rattle.match_runs.specs.Listed.{IsListedAt, SpellList}
+use Rattle.match_runs.specs.Listed.{SpellList}
 use Rattle.match_runs.specs.declared.faults.RunFault.{RunFault}
 use Rattle.match_runs.specs.declared.faults.RunFault.TheVariants as runs
-
--- Those that are drawn of a list: so many from this number on, or to its end; the one of this number where none are
--- asked for.
-abbrev pub to_be_drawn : (number first : ℕ) → List (List Placement) → List (List Placement)
-to_be_drawn number first listed = take (max first 1) (drop number listed)
-
--- The picture is that of the first of these, alone, where no sheet is asked for; else a sheet of them.
-pub record IsPictureOf (first : ℕ) (p : Task) (drawn : List (List Placement)) (picture : List ℕ) : Type 0 where
-  pub alone : first ≡ 0 → IsListedAt 0 (λ a. IsArrangementPicture p a picture) drawn
-  pub sheet : 1 ≤ first → IsSheet p drawn picture
-
--- The picture shows what is to be drawn of the list, of which each is an arrangement of the puzzle, and there is one.
-pub record IsPictureFrom (number first : ℕ) (p : Task) (listed : List (List Placement)) (picture : List ℕ) : Type 0 where
-  pub some : number < length listed
-  pub arrangements : AreArrangements p (to_be_drawn number first listed)
-  pub drawn : IsPictureOf first p (to_be_drawn number first listed) picture
-
--- What stands so many after the first of these is no arrangement of the puzzle, by this fault, and each before it is one.
-pub record IsFirstWrong (p : Task) (drawn : List (List Placement)) (index : ℕ) (fault : ArrangementFault) : Type 0 where
-  pub wrong : IsListedAt index (λ a. IsArrangementFault p a fault) drawn
-  pub before : (earlier : ℕ) (a : List Placement) → earlier < index → slice_get drawn earlier ≡ Some a
-      → IsArrangement p a
-
--- Why nothing is drawn of a list: it is too short; or one of those that are to be drawn is no arrangement of the puzzle,
--- the first of them by its number in the list; or want of memory.
-abbrev pub IsNotDrawn : (number first : ℕ) → Task → List (List Placement) → RunFault → Type 0
-IsNotDrawn number first p listed (runs.NoArrangement at) = (at ≡ number) × (length listed ≤ number)
-IsNotDrawn number first p listed (runs.Arrangement at fault) =
-    (index : ℕ) × (at ≡ number + index) × IsFirstWrong p (to_be_drawn number first listed) index fault
-IsNotDrawn number first p listed runs.Memory = Unit {0}
-IsNotDrawn number first p listed fault = ⊥
 
 -- The texts spell a puzzle and a list, of which the picture is drawn.
 abbrev pub DrawsPicture : (number first : ℕ) → TwoTexts → (picture : List ℕ) → (ends : Unit {0}) → Type 0
@@ -58,7 +24,7 @@ PictureFails number first texts (runs.List (lists.Text fault)) =
     (p : Task) × PuzzleReads texts.puzzle (Ok p) × (list_of texts.list ≡ Err fault)
 PictureFails number first texts (runs.List lists.Memory) = ⊥
 PictureFails number first texts (runs.NoArrangement at) =
-    SpellList texts.puzzle texts.list (λ p listed. IsNotDrawn number first p listed (runs.NoArrangement at))
+    SpellList texts.puzzle texts.list (λ p listed. IsNotDrawn number first p listed (not_drawn.NoArrangement at))
 PictureFails number first texts (runs.Arrangement at fault) =
-    SpellList texts.puzzle texts.list (λ p listed. IsNotDrawn number first p listed (runs.Arrangement at fault))
+    SpellList texts.puzzle texts.list (λ p listed. IsNotDrawn number first p listed (not_drawn.Arrangement at fault))
 PictureFails number first texts fault = DescribeFails texts.puzzle fault

@@ -1,52 +1,25 @@
 -- What is printed of three documents beside the line of their answer.
-use Rattle.std.specs.Prelude.{◌≡◌, ◌≤◌, ◌↔◌, ◌++◌, ℕ, List, Contains, codes, length}
+use Rattle.std.specs.Prelude.{◌≡◌, ◌++◌, ℕ, List, length}
 use Rattle.match_limits.specs.declared.TheConstants.{MOST_ARRANGEMENTS}
-use Rattle.match_puzzle.specs.Arrangement.{IsArrangement, AreDistinct, HasArrangements}
 use Rattle.match_puzzle.specs.declared.placements.Placement.{Placement}
 use Rattle.match_text.specs.ListSpelling.{IsListText}
-use Rattle.cert_check.specs.Setting.{Question, motions_of}
+use Rattle.cert_check.specs.Setting.{Question}
 use Rattle.cert_check.specs.Answer.{IsAnswer}
 use Rattle.cert_check.specs.declared.faults.Answer.{Answer}
 use Rattle.cert_check.specs.declared.faults.Answer.TheVariants.{Complete, Refused}
 use Rattle.match_report.specs.AnswerText.{answer_line}
+use Rattle.match_report.specs.CompleteLists.{AreAllInOrder, AreFirstsOf, IsCountOf, count_text}
 use Rattle.match_explain.specs.Explanation.{IsExplanation}
-use Rattle.match_show.specs.Facts.{number_line}
-use Rattle.symmetry_orbits.specs.Expansion.{IsExpansion, AreMoreReached}
-use Rattle.symmetry_orbits.specs.Firsts.{AreFirstOfEachOrbit}
-use Rattle.symmetry_orbits.specs.Orbits.{AreMoreListedOrInOrbit, AreOneOfEachOrbit, IsCount}
-use Rattle.symmetry_orbits.specs.Pictures.{HasPictures}
+use Rattle.symmetry_orbits.specs.Expansion.{AreMoreReached}
+use Rattle.symmetry_orbits.specs.Orbits.{AreMoreListedOrInOrbit}
 use Rattle.symmetry_orbits.specs.declared.numbers.Count.{Count}
 use Rattle.byte_streams.specs.Documents.{Texts}
 use Rattle.match_runs.specs.Checking.{Answers, CheckFails, Spells}
-use Rattle.match_runs.specs.declared.statuses.Status.{Status}
+use Rattle.match_report.specs.declared.statuses.Status.{Status}
 use Rattle.match_runs.specs.declared.faults.RunFault.{RunFault}
 use Rattle.match_runs.specs.declared.faults.RunFault.TheVariants as runs
 use Rattle.match_runs.specs.declared.printing_runs.Printing.{Printing}
 use Rattle.match_runs.specs.declared.printing_runs.Printing.TheVariants as printings
-
--- These are all arrangements of the puzzle, each once, in the order of the closure of the list, and they can be listed.
-pub record AreAllInOrder (question : Question) (all : List (List Placement)) : Type 0 where
-  pub expansion : IsExpansion (motions_of question) question.listed all
-  pub just : (a : List Placement) → Contains all a ↔ IsArrangement question.puzzle a
-  pub once : AreDistinct all
-  pub few : length all ≤ MOST_ARRANGEMENTS
-
--- These are one arrangement of each orbit: of the listed ones the first of each, in the order of the list.
-pub record AreFirstsOf (question : Question) (firsts : List (List Placement)) : Type 0 where
-  pub first_listed : AreFirstOfEachOrbit question.puzzle question.symmetries question.listed firsts
-  pub one_of_each : AreOneOfEachOrbit question.puzzle question.symmetries question.listed firsts
-
--- how many arrangements there are, how many pictures and how many orbits, and by how many symmetries
-abbrev pub count_text : Count → (symmetries : ℕ) → List ℕ
-count_text count symmetries =
-    number_line (codes "arrangements") count.arrangements ++ number_line (codes "pictures") count.pictures
-    ++ number_line (codes "orbits") count.orbits ++ number_line (codes "symmetries") symmetries
-
--- So many arrangements and orbits are reached from the list, and so many arrangements and pictures the puzzle has.
-pub record IsCountOf (question : Question) (count : Count) : Type 0 where
-  pub reached : IsCount question.puzzle question.symmetries question.listed count
-  pub arrangements : HasArrangements question.puzzle count.arrangements
-  pub pictures : HasPictures question.puzzle count.pictures
 
 -- What is printed of what was asked. Where it is complete: the list of all arrangements or of one of each orbit, or how
 -- many they are, or the answer. Where it is refused: the answer, and why, where that is to be explained.

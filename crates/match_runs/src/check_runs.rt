@@ -12,7 +12,6 @@ use crate::faults::RunFault;
 use crate::hints::{HintedFault, hint_of, with_hint, without_hint};
 use crate::questions::read_question_with;
 use crate::running::run_by;
-use crate::statuses::Status;
 use crate::watches::{CheckWatch, Watched};
 use byte_streams::{
     Documents, Inputs, JoinedSource, MadeText, OneSink, Outputs, OwnedDocuments, Sink, Source,
@@ -20,7 +19,7 @@ use byte_streams::{
 };
 use cert_check::{Open, check_question};
 use match_limits::{Forks, Workers};
-use match_report::write_answer;
+use match_report::{Status, write_verdict};
 use std::alloc::Global;
 use std::thread::Threads;
 
@@ -164,6 +163,6 @@ fn answer_of<R: Threads + Sync, G: CheckWatch + Sync>(
     check.watch.begins(question.lemmas().len() as usize);
     let forks = plan.forks.get() as u8;
     let answer = check_question(rt, alloc, &question, workers, forks, check.watch)?;
-    let line = write_answer(alloc, &answer, question.listed().len() as u32)?;
-    Ok((MadeText::new(line), Status::of_answer(&answer)))
+    let verdict = write_verdict(alloc, &question, &answer)?;
+    Ok((MadeText::new(verdict.line), verdict.status))
 }

@@ -9,7 +9,7 @@ ghost use Rattle.match_runs.specs.FaultText.{list_text_fault_words, assemble_fau
 ghost use Rattle.match_report.specs.AnswerText.{arrangement_fault_words};
 ghost use Rattle.match_runs.specs.declared.faults.RunFault.TheVariants as run_fault;
 ghost use Rattle.match_runs.specs.FaultText.{run_of_file, run_of_input, run_of_puzzle, run_of_list, run_of_certificate};
-ghost use Rattle.match_runs.specs.FaultText.{run_of_compile, run_of_expand, run_of_solve, run_of_tiles};
+ghost use Rattle.match_runs.specs.FaultText.{run_of_compile, run_of_expand, run_of_picture, run_of_solve, run_of_tiles};
 ghost use Rattle.match_runs.specs.FaultText.{solve_fault_words};
 
 use byte_streams::{Document, Failed, FileFault, InputFault};
@@ -17,6 +17,7 @@ use cert_text::CertTextFault;
 use cert_tree::AssembleFault;
 use match_board::{BoardFault, TilesFault};
 use match_crew::SolveFault;
+use match_picture::NotDrawn;
 use match_puzzle::{ArrangementFault, PuzzleFault};
 use match_report::{ExpandFault, Line, put_arrangement_fault};
 use match_text::{ListTextFault, PuzzleTextFault};
@@ -142,6 +143,18 @@ impl From<ExpandFault> for RunFault {
         match fault {
             ExpandFault::TooMany => RunFault::Expand,
             ExpandFault::Memory => RunFault::Memory,
+        }
+    }
+}
+
+impl From<NotDrawn> for RunFault {
+    ghost from_gives = { λ fault e. e ≡ run_of_picture fault };
+
+    fn from(fault: NotDrawn) -> RunFault {
+        match fault {
+            NotDrawn::NoArrangement(number) => RunFault::NoArrangement(number),
+            NotDrawn::Arrangement(number, fault) => RunFault::Arrangement(number, fault),
+            NotDrawn::Memory => RunFault::Memory,
         }
     }
 }

@@ -1,8 +1,6 @@
 //! Runs that print all arrangements, or why a list is refused.
 
-ghost use Rattle.std.specs.Prelude.{◌≡◌, List, IfOk, IfErr, length};
-ghost use Rattle.match_puzzle.specs.Puzzle.{IsPuzzle};
-ghost use Rattle.match_puzzle.specs.declared.placements.Placement.{Placement};
+ghost use Rattle.std.specs.Prelude.{◌≡◌, IfOk, IfErr, length};
 ghost use Rattle.puzzle_symmetry.specs.Complete.{IsCompleteList};
 ghost use Rattle.cert_check.specs.Answer.{IsAnswer};
 ghost use Rattle.cert_check.specs.declared.faults.Answer.TheVariants.{Complete, Refused};
@@ -12,29 +10,22 @@ ghost use Rattle.byte_streams.specs.LentTexts.{texts_of};
 ghost use Rattle.byte_streams.specs.Moves.{reading_of, writing_of};
 ghost use Rattle.byte_streams.specs.Origins.{three_sources};
 ghost use Rattle.byte_streams.specs.Targets.{one_sink};
-ghost use Rattle.match_runs.specs.Printing.{AreAllInOrder, AreFirstsOf, CompleteFails, IsCountOf, Prints, count_text};
-ghost use Rattle.match_text.specs.ListSpelling.{IsListText};
-ghost use Rattle.match_runs.specs.Printing.{PrintingFails, PrintingGives};
+ghost use Rattle.match_runs.specs.Printing.{CompleteFails, PrintingFails, PrintingGives, Prints};
 ghost use Rattle.match_runs.specs.Runs.{MadeOf, Runs, unhinted};
 
 use crate::faults::RunFault;
 use crate::hints::{HintedFault, hint_of, with_hint, without_hint};
 use crate::questions::read_question;
 use crate::running::run_by;
-use crate::statuses::Status;
 use byte_streams::{
     Documents, Inputs, MadeText, OneSink, Outputs, OwnedDocuments, Sink, Source, ThreeSources,
 };
 use cert_check::{Answer, Fault, Open, Prepared, Question};
 use match_explain::write_explanation;
-use match_report::{expand, write_answer};
-use match_text::write_list;
+use match_report::{Status, write_all, write_answer, write_counts, write_orbits, write_verdict};
 use std::alloc::{AllocError, Global};
 use std::random::RandomSource;
-use symmetry_orbits::{
-    Count, RandomFold, count, counting_laws, distinct_symmetries, first_of_each_orbit,
-};
-use text_words::put_number_line;
+use symmetry_orbits::RandomFold;
 
 /// What is printed of a puzzle, a list and a certificate.
 #[derive(Clone, Copy, PartialEq, Eq, Debug)]
@@ -142,9 +133,10 @@ fn printing_of<R: RandomSource>(
 {
     let owned = read_question(alloc, documents)?;
     let question = owned.question();
+    let hasher = RandomFold::new(rt);
     let explaining = Explaining {
         certificate: documents.certificate,
-        hasher: RandomFold::new(rt),
+        hasher,
     };
     let prepared = match question.prepare(alloc, question.list_fault())? {
         Ok(prepared) => prepared,
@@ -156,7 +148,7 @@ fn printing_of<R: RandomSource>(
     let found = prepared.trees_fault(alloc, &Open)?;
     match prepared.answer(found) {
         Answer::Complete => {
-            let text = complete_text(rt, alloc, prepared, printing)?;
+            let text = complete_text(alloc, prepared, hasher, printing)?;
             Ok((MadeText::new(text), Status::Complete))
         }
         Answer::Refused(fault) => {
@@ -167,10 +159,10 @@ fn printing_of<R: RandomSource>(
 }
 
 // What is printed where the list is complete.
-fn complete_text<R: RandomSource>(
-    rt: &R,
+fn complete_text(
     alloc: Global,
     prepared: Prepared<'_>,
+    hasher: RandomFold,
     printing: Printing,
 ) -> Result<Vec<u8>, RunFault>
     requires { IsCompleteList prepared.puzzle prepared.symmetries prepared.listed }
@@ -178,9 +170,9 @@ fn complete_text<R: RandomSource>(
     ensures fails { IfErr result (CompleteFails printing prepared.entry) }
 {
     match printing {
-        Printing::All => all_text(rt, alloc, prepared),
-        Printing::Orbits => orbits_text(rt, alloc, &prepared),
-        Printing::Count => counted_text(rt, alloc, &prepared),
+        Printing::All => Ok(write_all(alloc, prepared, hasher)?),
+        Printing::Orbits => Ok(write_orbits(alloc, &prepared, hasher)?),
+        Printing::Count => Ok(write_counts(alloc, &prepared, hasher)?),
         Printing::Explanation => Ok(complete_line(alloc, &prepared)?),
     }
 }
@@ -208,99 +200,24 @@ fn refused_text(
     explaining: &Explaining<'_>,
     printing: Printing,
 ) -> Result<Vec<u8>, AllocError>
-    requires puzzle { IsPuzzle question.now.puzzle }
-    requires answer { IsAnswer question.now (Refused fault) }
+    requires { IsAnswer question.now (Refused fault) }
     ensures { IfOk result (λ text. Prints question.now (Refused fault) printing text.items) }
 {
-    let listed = question.listed().len() as u32;
     match printing {
-        Printing::All | Printing::Orbits | Printing::Count => write_answer(
-            alloc,
-            &Answer::Refused(fault),
-            listed,
-        ),
+        Printing::All | Printing::Orbits | Printing::Count => {
+            let verdict = write_verdict(alloc, question, &Answer::Refused(fault))?;
+            Ok(verdict.line)
+        }
         Printing::Explanation => {
             let Explaining {
                 certificate,
                 hasher,
             } = *explaining;
             let why = write_explanation(alloc, question, &fault, certificate, hasher)?;
-            let mut text = write_answer(alloc, &Answer::Refused(fault), listed)?;
+            let verdict = write_verdict(alloc, question, &Answer::Refused(fault))?;
+            let mut text = verdict.line;
             text.extend_from_slice(&why)?;
             Ok(text)
         }
     }
-}
-
-// How many arrangements, pictures and orbits the puzzle has, from a complete list, by so many symmetries.
-fn counted_text<R: RandomSource>(
-    rt: &R,
-    alloc: Global,
-    prepared: &Prepared<'_>,
-) -> Result<Vec<u8>, RunFault>
-    requires { IsCompleteList prepared.now.puzzle prepared.now.symmetries prepared.now.listed }
-    ensures count { IfOk result (λ text.
-        (n : Count) × IsCountOf prepared.now n × (text.items ≡ count_text n (length prepared.now.symmetries))) }
-    ensures fails { IfErr result (CompleteFails Printing.Count prepared.now) }
-{
-    let question = prepared.question();
-    let puzzle = question.puzzle();
-    let listed = question.listed();
-    let symmetries = prepared.symmetries();
-    let counted = count(alloc, puzzle, listed, symmetries, RandomFold::new(rt))?;
-    counting_laws();
-    let text = write_count(alloc, counted, symmetries.len() as u64)?;
-    Ok(text)
-}
-
-// The numbers, a line each.
-fn write_count(alloc: Global, counted: Count, symmetries: u64) -> Result<Vec<u8>, AllocError>
-    ensures { IfOk result (λ text. text.items ≡ count_text counted symmetries) }
-{
-    let mut text = Vec::new(alloc);
-    put_number_line(&mut text, b"arrangements", counted.arrangements)?;
-    put_number_line(&mut text, b"pictures", counted.pictures)?;
-    put_number_line(&mut text, b"orbits", counted.orbits)?;
-    put_number_line(&mut text, b"symmetries", symmetries)?;
-    Ok(text)
-}
-
-// The list of one arrangement of each orbit, from a complete list.
-fn orbits_text<R: RandomSource>(
-    rt: &R,
-    alloc: Global,
-    prepared: &Prepared<'_>,
-) -> Result<Vec<u8>, RunFault>
-    requires { IsCompleteList prepared.now.puzzle prepared.now.symmetries prepared.now.listed }
-    ensures firsts { IfOk result (λ text. (firsts : List (List Placement)) × AreFirstsOf prepared.now firsts
-        × IsListText firsts text.items) }
-    ensures fails { IfErr result (CompleteFails Printing.Orbits prepared.now) }
-{
-    let question = prepared.question();
-    let listed = question.listed();
-    let symmetries = prepared.symmetries();
-    let firsts = first_of_each_orbit(alloc, listed, symmetries, RandomFold::new(rt))?;
-    let text = write_list(alloc, &firsts)?;
-    Ok(text)
-}
-
-// The list of all arrangements of the puzzle, from a complete one.
-fn all_text<R: RandomSource>(
-    rt: &R,
-    alloc: Global,
-    prepared: Prepared<'_>,
-) -> Result<Vec<u8>, RunFault>
-    requires { IsCompleteList prepared.puzzle prepared.symmetries prepared.listed }
-    ensures all { IfOk result (λ text. (all : List (List Placement)) × AreAllInOrder prepared.entry all
-        × IsListText all text.items) }
-    ensures fails { IfErr result (CompleteFails Printing.All prepared.entry) }
-{
-    let question = prepared.question();
-    let listed = question.listed();
-    let lines = question.certificate().symmetries();
-    let symmetries = distinct_symmetries(prepared.into_symmetries(), lines);
-    let hasher = RandomFold::new(rt);
-    let all = expand(alloc, listed, &symmetries, hasher)?;
-    let text = write_list(alloc, all.as_slice())?;
-    Ok(text)
 }

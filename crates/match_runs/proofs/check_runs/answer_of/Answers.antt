@@ -4,7 +4,7 @@ use Rattle.cert_check.specs.Answer.{IsAnswer, IsSound}
 use Rattle.cert_check.specs.Setting.{Question}
 use Rattle.match_report.specs.AnswerText.{answer_line}
 use Rattle.byte_streams.specs.LentTexts.{texts_of}
-use Rattle.match_runs.proofs.RunLemmas.{check_kind, has_line}
+use Rattle.match_runs.proofs.RunLemmas.{check_kind}
 use Rattle.match_runs.proofs.check_runs.answer_of.Goals.{In_ok-answer}
 use Rattle.match_runs.proofs.check_runs.answer_of.Goals as goal
 
@@ -21,23 +21,17 @@ asked g c = c.question-question.ensures
 answered : (g : _) (c : In_ok-answer g) → IsAnswer c.in_ok-owned.owned c.in_ok-answer.answer
 answered g c = subst (λ (q : Question). IsAnswer q c.in_ok-answer.answer) (asked g c) c.in_ok-answer.ensures.answer
 
-pub write_answer-requires : goal.write_answer-requires
-write_answer-requires g c =
-    let at = (goal.at.write_answer-requires g c).In_ok-answer in
-    has_line c.in_ok-owned.owned c.in_ok-answer.answer c.in_ok-owned.ensures.puzzle (answered g at)
-
 pub returns : goal.returns
 returns g c =
     let at = (goal.at.returns g c).In_ok-answer in
     let owned = c.in_ok-owned.owned in
     let answer = c.in_ok-answer.answer in
-    let many : length c.listed.result.now ≡ length owned.listed = ap length (c.listed.ensures.listed ∙ ap (λ (q : Question). q.listed) c.question-question.ensures) in
     record {
       question = owned;
       answer = answer;
       spelled = c.in_ok-owned.ensures.question;
       answered = answered g at;
       sound = subst (λ (q : Question). IsSound q answer) (asked g at) c.in_ok-answer.ensures.complete;
-      is = c.new.ensures ∙ c.in_ok-line.ensures ∙ ap (answer_line answer) many;
-      ends = c.of_answer.ensures;
+      is = c.new.ensures ∙ c.in_ok-verdict.ensures.line ∙ ap (λ (q : Question). answer_line answer (length q.listed)) (asked g at);
+      ends = c.in_ok-verdict.ensures.status;
     }

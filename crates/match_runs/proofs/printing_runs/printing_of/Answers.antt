@@ -1,7 +1,6 @@
 use Rattle.std.proofs.Common.{◌≡◌, refl, rules, subst, sym}
 use Rattle.std.proofs.lemmas.Result.{err_from_is_err_and}
 use Rattle.match_limits.specs.First.{IsFirst}
-use Rattle.match_puzzle.specs.Puzzle.{IsPuzzle}
 use Rattle.cert_check.specs.Answer.{IsAnswer, Occurs, fault_rank}
 use Rattle.cert_check.specs.Setting.{Question}
 use Rattle.cert_check.specs.declared.faults.Answer.TheVariants.{Complete, Refused}
@@ -19,11 +18,8 @@ first g c =
     let found : IsFirst fault_rank (Occurs c.question-question.result) c.in-Err.fault = search rules in
     subst (λ (q : Question). IsFirst fault_rank (Occurs q) c.in-Err.fault) c.question-question.ensures found
 
-pub refused_text-requires-clause-puzzle : goal.refused_text-requires-clause-puzzle
-refused_text-requires-clause-puzzle g c = subst (λ (q : Question). IsPuzzle q.puzzle) (sym c.question-question.ensures) c.in_ok-owned.ensures.puzzle
-
-pub refused_text-requires-clause-answer : goal.refused_text-requires-clause-answer
-refused_text-requires-clause-answer g c =
+pub refused_text-requires : goal.refused_text-requires
+refused_text-requires g c =
     let found : IsFirst fault_rank (Occurs c.question-question.result) c.in-Err.fault = search rules in
     found
 
@@ -48,8 +44,8 @@ returns-in-Err g c =
       spelled = c.in_ok-owned.ensures.question;
       answered = first g at;
       sound = λ e. absurd (other fault e);
-      is = subst (λ (q : Question). Prints q (Refused fault) printing c.new-in-Err.result) c.question-question.ensures
-          (subst (Prints c.question-question.result (Refused fault) printing) (sym c.new-in-Err.ensures) c.in_ok-text-in-Err.ensures);
+      is = subst (λ (q : Question). Prints q (Refused fault) printing c.new.result) c.question-question.ensures
+          (subst (Prints c.question-question.result (Refused fault) printing) (sym c.new.ensures) c.in_ok-text-in-Err.ensures);
       ends = refl;
     }
 

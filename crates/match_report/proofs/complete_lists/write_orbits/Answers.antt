@@ -3,7 +3,7 @@ use Rattle.std.proofs.lemmas.Result.{err_from_is_err_and}
 use Rattle.match_limits.specs.declared.TheConstants.{MOST_ARRANGEMENTS}
 use Rattle.match_puzzle.specs.Puzzle.{Task}
 use Rattle.match_puzzle.specs.declared.placements.Placement.{Placement}
-use Rattle.match_text.specs.ListSpelling.{IsListWithin}
+use Rattle.match_text.specs.ListSpelling.{IsListText, IsListWithin}
 use Rattle.match_limits.specs.declared.ranges.TheConstants.{SECOND}
 use Rattle.puzzle_symmetry.specs.Motion.{line_of}
 use Rattle.match_board.specs.declared.symmetry_lines.SymmetryLine.{SymmetryLine}
@@ -11,21 +11,20 @@ use Rattle.cert_check.specs.Setting.{Question}
 use Rattle.symmetry_orbits.specs.Expansion.{AreOf}
 use Rattle.symmetry_orbits.specs.Firsts.{AreFirstOfEachOrbit}
 use Rattle.symmetry_orbits.specs.Orbits.{AreMoreListedOrInOrbit, AreOneOfEachOrbit}
-use Rattle.match_text.specs.ListSpelling.{IsListText}
-use Rattle.match_runs.specs.declared.printing_runs.Printing.TheVariants.{Orbits}
-use Rattle.match_runs.proofs.RunLemmas.{expand_fails, firsts_within, read_are, said_of_question}
-use Rattle.match_runs.proofs.printing_runs.orbits_text.Goals.{After-new}
-use Rattle.match_runs.proofs.printing_runs.orbits_text.Goals as goal
+use Rattle.symmetry_orbits.proofs.MemberLemmas.{same_error}
+use Rattle.match_report.proofs.CompleteLemmas.{firsts_within, read_are, said_of_question}
+use Rattle.match_report.proofs.complete_lists.write_orbits.Goals.{After-symmetries-symmetries}
+use Rattle.match_report.proofs.complete_lists.write_orbits.Goals as goal
 
 -- ---- what is read: the list and the lines' symmetries
 
-listed_is : (g : _) (c : After-new g) → c.listed-listed.result.now ≡ c.args.prepared.now.listed
+listed_is : (g : _) (c : After-symmetries-symmetries g) → c.listed-listed.result.now ≡ c.args.prepared.now.listed
 listed_is g c = c.listed-listed.ensures.listed ∙ ap (λ (q : Question). q.listed) c.question-question.ensures.question
 
-are : (g : _) (c : After-new g) → AreOf c.args.prepared.now.puzzle c.listed-listed.result.now c.symmetries-symmetries.result.now
+are : (g : _) (c : After-symmetries-symmetries g) → AreOf c.args.prepared.now.puzzle c.listed-listed.result.now c.symmetries-symmetries.result.now
 are g c = read_are c.args.prepared.now c.question-question.ensures.puzzle c.requires c.args.prepared.now.puzzle c.listed-listed.result.now c.symmetries-symmetries.result.now refl (listed_is g c) c.symmetries-symmetries.ensures
 
-said : (g : _) (c : After-new g) (P : Task → List SymmetryLine → List (List Placement) → Type 0) → P c.args.prepared.now.puzzle (map line_of c.symmetries-symmetries.result.now) c.listed-listed.result.now
+said : (g : _) (c : After-symmetries-symmetries g) (P : Task → List SymmetryLine → List (List Placement) → Type 0) → P c.args.prepared.now.puzzle (map line_of c.symmetries-symmetries.result.now) c.listed-listed.result.now
     → P c.args.prepared.now.puzzle c.args.prepared.now.symmetries c.args.prepared.now.listed
 said g c = said_of_question c.args.prepared.now c.question-question.ensures.puzzle c.requires c.args.prepared.now.puzzle c.listed-listed.result.now c.symmetries-symmetries.result.now refl (listed_is g c) c.symmetries-symmetries.ensures
 
@@ -33,19 +32,19 @@ said g c = said_of_question c.args.prepared.now c.question-question.ensures.puzz
 
 pub first_of_each_orbit-requires : goal.first_of_each_orbit-requires
 first_of_each_orbit-requires g c =
-    let at = (goal.at.first_of_each_orbit-requires g c).After-new in
+    let at = (goal.at.first_of_each_orbit-requires g c).After-symmetries-symmetries in
     (c.args.prepared.now.puzzle, are g at)
 
-pub returns-in_err-firsts-clause-fails : goal.returns-in_err-firsts-clause-fails
-returns-in_err-firsts-clause-fails g c =
-    let at = (goal.at.returns-in_err-firsts-clause-fails g c).After-new in
+pub returns-in_err-firsts-clause-too_many : goal.returns-in_err-firsts-clause-too_many
+returns-in_err-firsts-clause-too_many g c =
+    let at = (goal.at.returns-in_err-firsts-clause-too_many g c).After-symmetries-symmetries in
     let p = c.args.prepared.now.puzzle in
     let w = err_from_is_err_and c.from_residual.result c.from_residual.ensures.1 in
-    rw (w.1, w.2) (expand_fails Orbits c.args.prepared.now c.in_err-firsts.field-0.0 (λ e. said g at (AreMoreListedOrInOrbit MOST_ARRANGEMENTS) (c.in_err-firsts.ensures.too_many e p (are g at))))
+    rw (w.1, w.2) (λ e. said g at (AreMoreListedOrInOrbit MOST_ARRANGEMENTS) (c.in_err-firsts.ensures.too_many (same_error e) p (are g at)))
 
 pub write_list-requires : goal.write_list-requires
 write_list-requires g c =
-    let at = (goal.at.write_list-requires g c).After-new in
+    let at = (goal.at.write_list-requires g c).After-symmetries-symmetries in
     let p = c.args.prepared.now.puzzle in
     let firsts = c.in_ok-firsts.firsts.items in
     subst (IsListWithin SECOND) (sym c.deref.ensures.value)
@@ -53,7 +52,7 @@ write_list-requires g c =
 
 pub returns-clause-firsts : goal.returns-clause-firsts
 returns-clause-firsts g c =
-    let at = (goal.at.returns-clause-firsts g c).After-new in
+    let at = (goal.at.returns-clause-firsts g c).After-symmetries-symmetries in
     let p = c.args.prepared.now.puzzle in
     let firsts = c.in_ok-firsts.firsts.items in (
       firsts,

@@ -1,7 +1,7 @@
 use Rattle.std.proofs.Common.{◌≡◌, ◌<◌, ℕ, List, Some, slice_get}
 use Rattle.match_puzzle.specs.Arrangement.{IsArrangement}
 use Rattle.match_puzzle.specs.declared.placements.Placement.{Placement}
-use Rattle.match_runs.proofs.picture_runs.first_wrong.Given as goal
+use Rattle.match_picture.proofs.listed.first_wrong.Given as goal
 
 -- Those before this one are arrangements.
 abbrev pub invariant-loop-index : goal.invariant-loop-index

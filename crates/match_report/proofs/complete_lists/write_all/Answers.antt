@@ -3,19 +3,18 @@ use Rattle.std.proofs.lemmas.Result.{err_from_is_err_and}
 use Rattle.match_limits.specs.declared.TheConstants.{MOST_ARRANGEMENTS}
 use Rattle.match_puzzle.specs.declared.placements.Placement.{Placement}
 use Rattle.puzzle_symmetry.specs.Motion.{Motion}
-use Rattle.match_text.specs.ListSpelling.{IsListWithin}
+use Rattle.match_text.specs.ListSpelling.{IsListText, IsListWithin}
 use Rattle.match_limits.specs.declared.ranges.TheConstants.{SECOND}
 use Rattle.puzzle_symmetry.specs.Complete.{IsCompleteList}
 use Rattle.cert_check.specs.Setting.{Question, motions_of}
 use Rattle.symmetry_orbits.specs.Closure.{AddsEach}
 use Rattle.symmetry_orbits.specs.Expansion.{AreMoreReached, IsExpansion, Takes}
-use Rattle.match_text.specs.ListSpelling.{IsListText}
-use Rattle.match_runs.specs.Printing.{AreAllInOrder}
-use Rattle.match_runs.specs.declared.printing_runs.Printing.TheVariants.{All}
+use Rattle.match_report.specs.CompleteLists.{AreAllInOrder}
 use Rattle.symmetry_orbits.proofs.RepetitionLemmas.{closure_all}
-use Rattle.match_runs.proofs.RunLemmas.{all_in_order, all_within, expand_fails, kept_are, kept_reach}
-use Rattle.match_runs.proofs.printing_runs.all_text.Goals.{After-deref}
-use Rattle.match_runs.proofs.printing_runs.all_text.Goals as goal
+use Rattle.symmetry_orbits.proofs.MemberLemmas.{same_error}
+use Rattle.match_report.proofs.CompleteLemmas.{all_in_order, all_within, kept_are, kept_reach}
+use Rattle.match_report.proofs.complete_lists.write_all.Goals.{After-deref}
+use Rattle.match_report.proofs.complete_lists.write_all.Goals as goal
 
 -- ---- what is expanded: the list, by the symmetries that are kept of the lines
 
@@ -40,17 +39,17 @@ expand-requires g c =
     let p = c.args.prepared.puzzle in
     (p, kept_are p c.listed-listed.result.now c.args.prepared.symmetries c.question-question.ensures.puzzle (complete g at) c.deref.result.now (kept g at))
 
-pub returns-in_err-all-clause-fails : goal.returns-in_err-all-clause-fails
-returns-in_err-all-clause-fails g c =
-    let at = (goal.at.returns-in_err-all-clause-fails g c).After-deref in
+pub returns-in_err-all-clause-too_many : goal.returns-in_err-all-clause-too_many
+returns-in_err-all-clause-too_many g c =
+    let at = (goal.at.returns-in_err-all-clause-too_many g c).After-deref in
     let p = c.args.prepared.puzzle in
     let lines = c.args.prepared.symmetries in
     let listed = c.listed-listed.result.now in
     let puzzle = c.question-question.ensures.puzzle in
     let are = kept_are p listed lines puzzle (complete g at) c.deref.result.now (kept g at) in
     let w = err_from_is_err_and c.from_residual.result c.from_residual.ensures.1 in
-    rw (w.1, w.2) (expand_fails All c.args.prepared c.in_err-all.field-0.0
-    (λ e. subst (AreMoreReached MOST_ARRANGEMENTS p lines) (listed_is g at) (kept_reach p listed lines puzzle (complete g at) MOST_ARRANGEMENTS c.deref.result.now (kept g at) (c.in_err-all.ensures.too_many e p are))))
+    rw (w.1, w.2) (λ e.
+    subst (AreMoreReached MOST_ARRANGEMENTS p lines) (listed_is g at) (kept_reach p listed lines puzzle (complete g at) MOST_ARRANGEMENTS c.deref.result.now (kept g at) (c.in_err-all.ensures.too_many (same_error e) p are)))
 
 pub write_list-requires : goal.write_list-requires
 write_list-requires g c =

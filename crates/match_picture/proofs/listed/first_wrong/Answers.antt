@@ -4,7 +4,7 @@ use Rattle.match_puzzle.specs.Arrangement.{IsArrangement}
 use Rattle.match_puzzle.specs.ArrangementFaults.{IsArrangementFault}
 use Rattle.match_puzzle.specs.declared.placements.Placement.{Placement}
 use Rattle.match_limits.proofs.ListLemmas.{each_more}
-use Rattle.match_runs.proofs.picture_runs.first_wrong.Goals as goal
+use Rattle.match_picture.proofs.listed.first_wrong.Goals as goal
 
 pub returns-in-Some : goal.returns-in-Some
 returns-in-Some c =

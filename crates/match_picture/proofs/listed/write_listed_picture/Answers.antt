@@ -1,8 +1,8 @@
 use Rattle.std.proofs.Common.{List, arith, subst}
 use Rattle.match_puzzle.specs.Arrangement.{AreArrangements}
 use Rattle.match_puzzle.specs.declared.placements.Placement.{Placement}
-use Rattle.match_runs.specs.Pictures.{IsPictureOf}
-use Rattle.match_runs.proofs.picture_runs.picture_from.Goals as goal
+use Rattle.match_picture.specs.Listed.{IsPictureOf}
+use Rattle.match_picture.proofs.listed.write_listed_picture.Goals as goal
 
 pub returns-clause-draws : goal.returns-clause-draws
 returns-clause-draws c =

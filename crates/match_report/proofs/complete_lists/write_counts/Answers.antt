@@ -11,44 +11,44 @@ use Rattle.cert_check.specs.Setting.{Question}
 use Rattle.symmetry_orbits.specs.Expansion.{AreOf}
 use Rattle.symmetry_orbits.specs.Orbits.{AreMoreListedOrInOrbit, IsCount}
 use Rattle.symmetry_orbits.specs.Pictures.{HasPictures}
-use Rattle.match_runs.specs.Printing.{count_text}
-use Rattle.match_runs.specs.declared.printing_runs.Printing.TheVariants.{Count}
-use Rattle.match_runs.proofs.RunLemmas.{expand_fails, read_are, read_complete, said_of_question, so_many_symmetries}
-use Rattle.match_runs.proofs.printing_runs.counted_text.Goals.{After-new}
-use Rattle.match_runs.proofs.printing_runs.counted_text.Goals as goal
+use Rattle.match_report.specs.CompleteLists.{count_text}
+use Rattle.symmetry_orbits.proofs.MemberLemmas.{same_error}
+use Rattle.match_report.proofs.CompleteLemmas.{read_are, read_complete, said_of_question, so_many_symmetries}
+use Rattle.match_report.proofs.complete_lists.write_counts.Goals.{After-symmetries-symmetries}
+use Rattle.match_report.proofs.complete_lists.write_counts.Goals as goal
 
 -- ---- what is counted: what is reached from the list by the lines' symmetries
 
-puzzle_is : (g : _) (c : After-new g) → c.puzzle-puzzle.result.now ≡ c.args.prepared.now.puzzle
+puzzle_is : (g : _) (c : After-symmetries-symmetries g) → c.puzzle-puzzle.result.now ≡ c.args.prepared.now.puzzle
 puzzle_is g c = c.puzzle-puzzle.ensures ∙ ap (λ (q : Question). q.puzzle) c.question-question.ensures.question
 
-listed_is : (g : _) (c : After-new g) → c.listed-listed.result.now ≡ c.args.prepared.now.listed
+listed_is : (g : _) (c : After-symmetries-symmetries g) → c.listed-listed.result.now ≡ c.args.prepared.now.listed
 listed_is g c = c.listed-listed.ensures.listed ∙ ap (λ (q : Question). q.listed) c.question-question.ensures.question
 
-are : (g : _) (c : After-new g) → AreOf c.puzzle-puzzle.result.now c.listed-listed.result.now c.symmetries-symmetries.result.now
+are : (g : _) (c : After-symmetries-symmetries g) → AreOf c.puzzle-puzzle.result.now c.listed-listed.result.now c.symmetries-symmetries.result.now
 are g c = read_are c.args.prepared.now c.question-question.ensures.puzzle c.requires c.puzzle-puzzle.result.now c.listed-listed.result.now c.symmetries-symmetries.result.now (puzzle_is g c) (listed_is g c) c.symmetries-symmetries.ensures
 
-complete : (g : _) (c : After-new g) → IsCompleteList c.puzzle-puzzle.result.now (map line_of c.symmetries-symmetries.result.now) c.listed-listed.result.now
+complete : (g : _) (c : After-symmetries-symmetries g) → IsCompleteList c.puzzle-puzzle.result.now (map line_of c.symmetries-symmetries.result.now) c.listed-listed.result.now
 complete g c = read_complete c.args.prepared.now c.question-question.ensures.puzzle c.requires c.puzzle-puzzle.result.now c.listed-listed.result.now c.symmetries-symmetries.result.now (puzzle_is g c) (listed_is g c) c.symmetries-symmetries.ensures
 
-said : (g : _) (c : After-new g) (P : Task → List SymmetryLine → List (List Placement) → Type 0) → P c.puzzle-puzzle.result.now (map line_of c.symmetries-symmetries.result.now) c.listed-listed.result.now
+said : (g : _) (c : After-symmetries-symmetries g) (P : Task → List SymmetryLine → List (List Placement) → Type 0) → P c.puzzle-puzzle.result.now (map line_of c.symmetries-symmetries.result.now) c.listed-listed.result.now
     → P c.args.prepared.now.puzzle c.args.prepared.now.symmetries c.args.prepared.now.listed
 said g c = said_of_question c.args.prepared.now c.question-question.ensures.puzzle c.requires c.puzzle-puzzle.result.now c.listed-listed.result.now c.symmetries-symmetries.result.now (puzzle_is g c) (listed_is g c) c.symmetries-symmetries.ensures
 
 -- ---- the goals
 
 pub count-requires : goal.count-requires
-count-requires g c = are g (goal.at.count-requires g c).After-new
+count-requires g c = are g (goal.at.count-requires g c).After-symmetries-symmetries
 
-pub returns-in_err-counted-clause-fails : goal.returns-in_err-counted-clause-fails
-returns-in_err-counted-clause-fails g c =
-    let at = (goal.at.returns-in_err-counted-clause-fails g c).After-new in
+pub returns-in_err-counted-clause-too_many : goal.returns-in_err-counted-clause-too_many
+returns-in_err-counted-clause-too_many g c =
+    let at = (goal.at.returns-in_err-counted-clause-too_many g c).After-symmetries-symmetries in
     let w = err_from_is_err_and c.from_residual.result c.from_residual.ensures.1 in
-    rw (w.1, w.2) (expand_fails Count c.args.prepared.now c.in_err-counted.field-0.0 (λ e. said g at (AreMoreListedOrInOrbit MOST_ARRANGEMENTS) (c.in_err-counted.ensures.too_many e)))
+    rw (w.1, w.2) (λ e. said g at (AreMoreListedOrInOrbit MOST_ARRANGEMENTS) (c.in_err-counted.ensures.too_many (same_error e)))
 
 pub returns-clause-count : goal.returns-clause-count
 returns-clause-count g c =
-    let at = (goal.at.returns-clause-count g c).After-new in
+    let at = (goal.at.returns-clause-count g c).After-symmetries-symmetries in
     let q = c.args.prepared.now in
     let counted = c.in_ok-counted.counted in
     let is = c.in_ok-counted.ensures.count in
@@ -60,5 +60,5 @@ returns-clause-count g c =
         arrangements = subst (λ (p : Task). HasArrangements p counted.arrangements) (puzzle_is g at) has;
         pictures = subst (λ (p : Task). HasPictures p counted.pictures) (puzzle_is g at) (c.in_ok-counted.ensures.pictures (complete g at));
       },
-      c.in_ok-text.ensures ∙ ap (count_text counted) many,
+      subst (λ n. c.in_ok-text.text.items ≡ count_text counted n) many c.in_ok-text.ensures,
     )
