@@ -3,7 +3,7 @@ use Rattle.std.proofs.Common.{◌≡◌, ℕ, ◌+◌, ◌-◌, List, [], ◌∷
 use Rattle.std.proofs.Common.{◌∙◌, subst, arith}
 use Rattle.std.proofs.lemmas.List.Elements.{All-append, All-cons, All-nil}
 use Rattle.std.specs.declared.alloc.Global.{Global}
-use Rattle.crossbeam_deque.specs.Injected.{InjectorPass, injector_view, IsInjectorPassOf}
+use Rattle.crossbeam_deque.specs.Injected.{injector_view, IsInjectorPassOf}
 use Rattle.crossbeam_deque.specs.declared.injector.Injector.{Injector}
 use Rattle.steal_crew.specs.Tickets.{Source, source_of, seat_source, drawn}
 use Rattle.steal_crew.specs.declared.live.jobs.JobView.{JobView}
@@ -63,6 +63,17 @@ module _ {J X : Type 0} where
         let h = times-append x (done_numbers old.done.items) (n ∷ []) in
         let g : times x (done_numbers done.items) ≡ times x (done_numbers old.done.items) + times x (n ∷ []) =
         e ∙ f ∙ h in omega arith);
+  }
+
+  -- the first job is done, and its result is kept apart
+  pub moved_first : (old : LiveWorker J X) (hand : Hand J) → Gave old.hand hand
+      → Moved [] old (record { pass = old.pass; hand = hand; done = old.done })
+  moved_first old hand gave = record {
+    source = gave.same;
+    parts = refl;
+    even = λ x. (let a = ap (times x) gave.drew in let b = times-append x (drawn old.hand.seat) gave.more in
+        let c = ap (times x) gave.listed in let d = times-append x (job_numbers old.hand.jobs.items) gave.more in
+        omega arith);
   }
 
   pub moved_none : (old : LiveWorker J X) → Moved [] old old
@@ -174,34 +185,17 @@ brings_more {J} {X} queue source gives old v v' n n' seats seats' others others'
     }
 
 module _ {J X : Type 0} where
-  -- the caller after the first job
-  pub opened : (old new : Hand J) (pass : InjectorPass (NumberedJob J) JobView Global) (done : Vec (ℕ × X) Global)
-      (n : ℕ) → Gave old new → drawn old.seat ≡ 0 ∷ [] → job_numbers old.jobs.items ≡ []
-      → injector_view pass ≡ job_view_with n [] [] → done.items ≡ []
-      → (x : ℕ) → (let l : LiveWorker J X = record { pass = pass; hand = new; done = done } in
-      got x l ≡ put x l + times x (0 ∷ []))
-  opened old new pass done n gave drew empty view none x =
-      let a = ap (times x) gave.drew in let b = times-append x (drawn old.seat) gave.more in
-      let c : times x (drawn old.seat) ≡ times x (0 ∷ []) = ap (times x) drew in
-      let d = ap (times x) gave.listed in let e = times-append x (job_numbers old.jobs.items) gave.more in
-      let f : times x (job_numbers old.jobs.items) ≡ 0 = ap (times x) empty in
-      let t : times x (injector_view pass).taken ≡ 0 = ap (λ (v : JobView). times x v.taken) view in
-      let u : times x (injector_view pass).dealt ≡ 0 = ap (λ (v : JobView). times x v.dealt) view in
-      let w : times x (done_numbers done.items) ≡ 0 = ap (λ (l : List (ℕ × X)). times x (done_numbers l)) none in
-      omega arith
-
-  -- what was drawn is 0 and what was done, once the queue was found empty
-  pub ended : (source : Source) (belongs : ℕ → X → Type 0) (l0 l2 l3 l4 : LiveWorker J X) (n : ℕ)
-      (seats seats' : List TicketSeat) (others : List (Vec (ℕ × X) Global)) (x : ℕ)
-      → got x l0 ≡ put x l0 + times x (0 ∷ []) → Moved [] l0 l2
+  -- what all drew more is what was done more, once the queue was found empty
+  pub ended : (source : Source) (belongs : ℕ → X → Type 0) (l1 l2 l3 l4 : LiveWorker J X) (n : ℕ)
+      (seats seats' : List TicketSeat) (others : List (Vec (ℕ × X) Global)) (x : ℕ) → Moved [] l1 l2
       → Brings source belongs (injector_view l2.pass) (injector_view l3.pass) n seats others → l3.hand ≡ l2.hand
       → l3.done ≡ l2.done → Moved [] l3 l4
       → times x (injector_view l4.pass).dealt ≡ times x (injector_view l4.pass).taken
       → job_numbers l4.hand.jobs.items ≡ [] → seats' ≡ seats ++ l4.hand.seat ∷ []
-      → total (λ (s : TicketSeat). times x (drawn s)) seats'
-      ≡ times x (0 ∷ []) + times x (done_numbers l4.done.items) + total
+      → total (λ (s : TicketSeat). times x (drawn s)) seats' + put x l1
+      ≡ got x l1 + times x (done_numbers l4.done.items) + total
       (λ (s : Vec (ℕ × X) Global). times x (done_numbers s.items)) others
-  ended source belongs l0 l2 l3 l4 n seats seats' others x opens worked g hand done last drained empty more =
+  ended source belongs l1 l2 l3 l4 n seats seats' others x worked g hand done last drained empty more =
       let a = worked.even x in let b = g.even x in let c = last.even x in
       let s = ap (λ (v : Hand J). times x (drawn v.seat)) hand in
       let l = ap (λ (v : Hand J). times x (job_numbers v.jobs.items)) hand in
@@ -209,3 +203,16 @@ module _ {J X : Type 0} where
       let e : times x (job_numbers l4.hand.jobs.items) ≡ 0 = ap (times x) empty in
       let p = ap (total (λ (s : TicketSeat). times x (drawn s))) more in
       let q = total-append (λ (s : TicketSeat). times x (drawn s)) seats (l4.hand.seat ∷ []) in omega arith
+
+  -- what all drew is 0 and what was done, where nothing else was drawn before the first job
+  pub all_even : (l0 l1 : LiveWorker J X) (n drew own others x : ℕ) → Moved [] l0 l1
+      → drew + put x l1 ≡ got x l1 + own + others → drawn l0.hand.seat ≡ 0 ∷ []
+      → job_numbers l0.hand.jobs.items ≡ [] → injector_view l0.pass ≡ job_view_with n [] [] → l0.done.items ≡ []
+      → drew ≡ times x (0 ∷ []) + own + others
+  all_even l0 l1 n drew own others x first given zero empty view none = let a = first.even x in
+      let c : times x (drawn l0.hand.seat) ≡ times x (0 ∷ []) = ap (times x) zero in
+      let f : times x (job_numbers l0.hand.jobs.items) ≡ 0 = ap (times x) empty in
+      let t : times x (injector_view l0.pass).taken ≡ 0 = ap (λ (v : JobView). times x v.taken) view in
+      let u : times x (injector_view l0.pass).dealt ≡ 0 = ap (λ (v : JobView). times x v.dealt) view in
+      let w : times x (done_numbers l0.done.items) ≡ 0 = ap (λ (l : List (ℕ × X)). times x (done_numbers l)) none in
+      omega arith

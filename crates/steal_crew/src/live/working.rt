@@ -1,6 +1,7 @@
 //! What one worker does.
 
-ghost use Rattle.std.specs.Prelude.{◌≡◌, [], ◌∷◌, OnOk};
+ghost use Rattle.std.specs.Prelude.{◌≡◌, [], ◌∷◌, IfOk, OnOk};
+ghost use Rattle.steal_crew.specs.Tickets.{source_of};
 ghost use Rattle.steal_crew.specs.LiveQueue.{job_numbers};
 ghost use Rattle.steal_crew.specs.LiveWorkers.{IsReady, Moved, IsDrained};
 
@@ -56,6 +57,26 @@ pub(crate) fn put_all<W: LiveWork, R: Wait>(
         }
     }
     unreachable!()
+}
+
+// Does the first job, which has number 0, and puts what it gave away on the queue. Its result is kept apart.
+pub(crate) fn do_first<W: LiveWork, R: Wait>(
+    rt: &R,
+    work: &W,
+    queue: &JobQueue<W::Job>,
+    open: &AtomicU64,
+    worker: &mut LiveWorker<'_, W::Job, W::R>,
+    job: W::Job,
+) -> Result<W::R, AllocError>
+    requires { IsReady queue.now (W.gives work.now) worker.old }
+    ensures first { IfOk result (W.gives work.now (source_of worker.old.hand.source.now) 0 job) }
+    ensures ready { OnOk result (IsReady queue.now (W.gives work.now) worker.new) }
+    ensures moved { OnOk result (Moved [] worker.old worker.new) }
+    ensures empty { OnOk result (job_numbers worker.new.hand.jobs.items ≡ []) }
+{
+    let result = work.one(0, job, &mut worker.hand)?;
+    put_all(rt, work, queue, open, worker)?;
+    Ok(result)
 }
 
 // Does a job, and puts what it gave away on the queue.

@@ -9,12 +9,15 @@ use Rattle.steal_crew.proofs.live.runs.run_live.Goals as goal
 pub publish-requires-clause-own : goal.publish-requires-clause-own
 publish-requires-clause-own g c κs within =
     subst (λ (z : Source). All (λ e. BelongsToSome (g.W.LiveWork.gives c.args.work.now z) e.0 e.1)
-    c.in_ok-first.field-0.own.items) (sym c.join_all-count.ensures.source) c.in_ok-first.ensures.own
+    c.in_ok-first.given.own.items) (sym c.join_all-count.ensures.source) c.in_ok-first.ensures.own
 
 pub publish-requires-clause-others : goal.publish-requires-clause-others
 publish-requires-clause-others g c κs within =
     subst (λ (z : Source). All (λ s. All (λ e. BelongsToSome (g.W.LiveWork.gives c.args.work.now z) e.0 e.1) s.items)
-    c.in_ok-first.field-0.others.items) (sym c.join_all-count.ensures.source) c.in_ok-first.ensures.others.0
+    c.in_ok-first.given.others.items) (sym c.join_all-count.ensures.source) c.in_ok-first.ensures.others.0
+
+pub publish-requires-clause-count : goal.publish-requires-clause-count
+publish-requires-clause-count g c κs within = λ x. sym (c.join_all-count.ensures.numbers x) ∙ c.in_ok-first.ensures.even x
 
 pub returns-clause-drawn : goal.returns-clause-drawn
 returns-clause-drawn g c = let e = c.in_ok-crew.ensures in let all = c.join_all-count.ensures in
@@ -32,7 +35,7 @@ returns-clause-results g c = let e = c.in_ok-crew.ensures in let all = c.join_al
     belong_from (g.W.LiveWork.gives c.args.work.now) (source_drawn all.result.1) c.args.first _ _ _ all.result.0
     (subst (λ (o : Option AllDrawn). IsSomeAnd o (λ d. source_drawn d ≡ source_drawn all.result.1)) (sym e.drawn) refl)
     (sym n ∙ e.len.0) e.some
-    (subst (λ (z : Source). g.W.LiveWork.gives c.args.work.now z 0 c.args.first c.in_ok-first.field-0.first)
+    (subst (λ (z : Source). g.W.LiveWork.gives c.args.work.now z 0 c.args.first c.in_ok-first.first)
     (sym all.ensures.source) c.in_ok-first.ensures.first)
     e.first e.each
 
