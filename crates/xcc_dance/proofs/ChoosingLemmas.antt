@@ -1,6 +1,6 @@
 -- The states before each choice.
 use Rattle.std.proofs.Common.{true≢false, ◌≡◌, ◌⊎◌, ◌<◌, ◌≤◌, ◌+◌, ◌-◌, ℕ, zero, suc, true, false, Some, List, [], ◌∷◌, ◌++◌, Contains, length, take, drop, get_or, arith, refl, ap, sym, ◌∙◌, subst, inl, inr, ⊎_elim, length-append, length-take}
-use Rattle.std.proofs.Common.{Result, Ok, Err, IfOk, is_ok, is_err, cond}
+use Rattle.std.proofs.Common.{Result, Ok, Err, IfOk, OnErr, is_err}
 use Rattle.std.proofs.lemmas.Bool.{cases_lt, false_from_ne_true}
 use Rattle.std.proofs.lemmas.List.{get_or_append_left, get_or_at, get_or_past, get_or_default, get_or-take, take-append-le, take_all, drop_all, drop-append-le, take-append-drop, take-take, length-take-le}
 use Rattle.std.proofs.lemmas.List.Elements.{Contains-append_left, Contains-append_right, Contains-append_cases, Contains-get_or}
@@ -228,6 +228,16 @@ pub ok_holds : {A E : Type 0} (r : Result A E) (P : Type 0) → false ≡ is_err
 ok_holds (Ok x) P e h = h
 ok_holds (Err x) P e h = absurd (true≢false (sym e))
 
-pub pushed : {A E X : Type 0} (r : Result A E) (xs ys zs : List X) → false ≡ is_err r → xs ≡ cond (is_ok r) ys zs → xs ≡ ys
-pushed (Ok x) xs ys zs e h = h
-pushed (Err x) xs ys zs e h = absurd (true≢false (sym e))
+pub err_holds : {A E : Type 0} (r : Result A E) (P : Type 0) → true ≡ is_err r → OnErr r P → P
+err_holds (Ok x) P e h = absurd (true≢false e)
+err_holds (Err x) P e h = h
+
+pub on_err : {A E : Type 0} (r : Result A E) (P : Type 0) → P → OnErr r P
+on_err (Ok x) P h = tt
+on_err (Err x) P h = h
+
+-- what was pushed is popped
+pub popped : (xs ys zs : List ℕ) (x n : ℕ) → n ≡ length ys → ys ≡ xs ++ x ∷ [] → zs ≡ take (n - 1) ys → zs ≡ xs
+popped xs ys zs x n long more less =
+    let e : n - 1 ≡ length xs = omega (arith, long, ap length more, length-append xs (x ∷ [])) in
+    less ∙ ap (λ k. take k ys) e ∙ ap (take (length xs)) more ∙ take-append-le (length xs) xs (x ∷ []) (omega arith) ∙ take_all (length xs) xs (omega arith)

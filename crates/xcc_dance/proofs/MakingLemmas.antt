@@ -4,9 +4,9 @@ use Rattle.std.proofs.lemmas.Bool.{cases_eq, and_parts, and_from, not-true, not_
 use Rattle.std.proofs.lemmas.Bool.Decides.{eqb_tells}
 use Rattle.std.proofs.lemmas.List.{get_or-set_same, get_or-set_other, get_or_append_left, get_or_push, get_or-replicate, length-replicate}
 use Rattle.xcc_dance.specs.NodeLists.{count, in_list}
-use Rattle.xcc_dance.specs.Rings.{Inside, no_link, up_of, down_of, item_of, joined, relinked, more_at}
+use Rattle.xcc_dance.specs.Rings.{AreAlone, Inside, no_link, up_of, down_of, item_of, joined, relinked, more_at}
 use Rattle.xcc_dance.specs.NodeTables.{IsNodeTable, AreRight, AreLinked, AreCounted, shown_by}
-use Rattle.xcc_dance.proofs.MakingWords.{first_nodes, Alone, IsBuilt}
+use Rattle.xcc_dance.proofs.MakingWords.{first_nodes, IsBuilt}
 use Rattle.xcc_dance.specs.declared.links.arrays.Link.{Link}
 use Rattle.xcc_dance.specs.declared.links.tables.Entry.{Entry}
 use Rattle.xcc_dance.proofs.UnlinkingLemmas.{count_same, count_less}
@@ -34,11 +34,11 @@ first_other items m k ne = same_tests (first_nodes items (m + 1) k) (first_nodes
     (λ e. let p = first_parts items m k e in let x = p.1 in first_true items (m + 1) k p.0 (omega (arith, x)))
 
 -- The links at first.
-pub alone_none : Alone [] 0
+pub alone_none : AreAlone [] 0
 alone_none = record { long = refl; up = λ k lt. absurd (omega (arith, lt)); down = λ k lt. absurd (omega (arith, lt)) }
 
-pub alone_more : (links : List Link) (n : ℕ) (links' : List Link) → links' ≡ links ++ (record { up = n; down = n }) ∷ [] → Alone links n → Alone links' (n + 1)
-alone_more links n links' e a = subst (λ l. Alone l (n + 1)) (sym e) (record {
+pub alone_more : (links : List Link) (n : ℕ) (links' : List Link) → links' ≡ links ++ (record { up = n; down = n }) ∷ [] → AreAlone links n → AreAlone links' (n + 1)
+alone_more links n links' e a = subst (λ l. AreAlone l (n + 1)) (sym e) (record {
   long = length-append links ((record { up = n; down = n }) ∷ []) ∙ ap (λ k. k + 1) a.long;
   up = λ k lt. at (λ (l : Link). l.up) refl a.up k lt;
   down = λ k lt. at (λ (l : Link). l.down) refl a.down k lt;
@@ -64,7 +64,7 @@ module _ (primaries items options : ℕ) (entries : List Entry) (starts : List �
   count_none t zero never = refl
   count_none t (suc n) never = let e = false_from_ne_true (t n) (never n) in rw (e) (count_none t n never)
 
-  pub built_first : (links : List Link) (sizes : List ℕ) → Alone links (length entries) → sizes ≡ replicate items 0 → IsBuilt items entries links sizes items
+  pub built_first : (links : List Link) (sizes : List ℕ) → AreAlone links (length entries) → sizes ≡ replicate items 0 → IsBuilt items entries links sizes items
   built_first links sizes a z = record {
     from = omega arith;
     to = items_in;

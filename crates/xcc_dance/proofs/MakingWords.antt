@@ -2,18 +2,11 @@
 use Rattle.std.specs.Prelude.{◌≡◌, ◌<◌, ◌≤◌, ◌&&◌, not, ℕ, Bool, List, length, nat_lt}
 use Rattle.xcc_dance.specs.declared.links.arrays.Link.{Link}
 use Rattle.xcc_dance.specs.declared.links.tables.Entry.{Entry}
-use Rattle.xcc_dance.specs.Rings.{up_of, down_of}
 use Rattle.xcc_dance.specs.NodeTables.{AreLinked, AreCounted, AreInRange}
 
 -- the option nodes below n
 unfoldable pub first_nodes : ℕ → ℕ → ℕ → Bool
 first_nodes items n k = not (nat_lt k items) && nat_lt k n
-
--- Each node is its own neighbour.
-pub record Alone (links : List Link) (n : ℕ) : Type 0 where
-  pub long : length links ≡ n
-  pub up : (k : ℕ) → k < n → up_of links k ≡ k
-  pub down : (k : ℕ) → k < n → down_of links k ≡ k
 
 -- The nodes below n stand in their lists.
 pub record IsBuilt (items : ℕ) (entries : List Entry) (links : List Link) (sizes : List ℕ) (n : ℕ) : Type 0 where

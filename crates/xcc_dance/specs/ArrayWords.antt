@@ -1,7 +1,7 @@
 -- Link arrays over the nodes of a table.
-use Rattle.std.specs.Prelude.{◌≡◌, ◌<◌, ◌+◌, ℕ, true, false, length}
+use Rattle.std.specs.Prelude.{◌≡◌, ◌<◌, ◌≤◌, ◌+◌, ℕ, true, false, length}
 use Rattle.xcc_dance.specs.Rings.{item_of}
-use Rattle.xcc_dance.specs.NodeTables.{IsNodeTable, AreInRange, AreRight, has}
+use Rattle.xcc_dance.specs.NodeTables.{IsNodeTable, AreInRange, AreRight, has, start_of}
 use Rattle.xcc_dance.specs.NodeClashes.{HasOtherColour, ExcludesAt, Excludes}
 use Rattle.xcc_dance.specs.Trails.{Arrays, put_back, LeadsBack}
 use Rattle.xcc_dance.specs.declared.links.arrays.LinkArrays.{LinkArrays}
@@ -38,6 +38,11 @@ IsHidden a option = has a.trail.items option ≡ true
 -- The node's item is not covered, where it is primary: its node in the root's list isn't hidden.
 abbrev pub HasUncoveredItem : NodeTable → LinkArrays → (node : ℕ) → Type 0
 HasUncoveredItem t a node = item_at t node < t.primaries → has a.trail.items (t.options + item_at t node) ≡ false
+
+-- No primary item of the option is covered.
+abbrev pub HasUncoveredItems : NodeTable → LinkArrays → (option : ℕ) → Type 0
+HasUncoveredItems t a option = (node : ℕ) → start_of t.starts.items option ≤ node
+    → node < start_of t.starts.items (option + 1) → HasUncoveredItem t a node
 
 -- the arrays with the option's nodes put back
 abbrev pub with_back : NodeTable → (option : ℕ) → Arrays → Arrays

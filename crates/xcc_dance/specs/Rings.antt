@@ -1,5 +1,5 @@
 -- Links, and the writes that take a node out of its ring and put it back.
-use Rattle.std.specs.Prelude.{◌<◌, ◌+◌, ◌-◌, ◌%◌, ◌^◌, ℕ, zero, suc, List, length, slice_set, slice_index_or}
+use Rattle.std.specs.Prelude.{◌≡◌, ◌<◌, ◌+◌, ◌-◌, ◌%◌, ◌^◌, ℕ, zero, suc, List, length, slice_set, slice_index_or}
 use Rattle.xcc_dance.specs.declared.links.arrays.Link.{Link}
 use Rattle.xcc_dance.specs.declared.links.tables.Entry.{Entry}
 
@@ -23,6 +23,12 @@ colour_of entries n = (slice_index_or entries n no_entry).colour
 
 abbrev pub option_of : List Entry → ℕ → ℕ
 option_of entries n = (slice_index_or entries n no_entry).option
+
+-- There are so many nodes, and each is its own neighbour.
+pub record AreAlone (links : List Link) (n : ℕ) : Type 0 where
+  pub long : length links ≡ n
+  pub up : (k : ℕ) → k < n → up_of links k ≡ k
+  pub down : (k : ℕ) → k < n → down_of links k ≡ k
 
 -- Each link is to nodes there are.
 pub record Inside (links : List Link) : Type 0 where

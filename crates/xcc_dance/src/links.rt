@@ -1,6 +1,6 @@
 //! Chosen options, and link arrays that tell which options still go with them.
 
-ghost use Rattle.std.specs.Prelude.{◌≡◌, ◌<◌, [], IfOk, IfSome, OnErr, MatchOption, length};
+ghost use Rattle.std.specs.Prelude.{◌≡◌, ◌<◌, ◌++◌, ◌∷◌, [], IfOk, IfSome, OnErr, MatchOption, length};
 ghost use Rattle.xcc_form.specs.Options.{cover_of};
 ghost use Rattle.xcc_dance.specs.Clashes.{IsOpen, IsOpenAt};
 ghost use Rattle.xcc_dance.specs.Chosen.{IsSelection, IsUncovered, AreAllCovered, with_option};
@@ -168,13 +168,8 @@ impl<'a> Links<'a> {
         ensures refused { OnErr result (self.new ≡ self.old) }
     {
         let mark = self.arrays.trail.len();
-        self.marks.push(mark)?;
-        if self.chosen.push(option).is_err() {
-            self.marks.pop();
-            return Err(AllocError);
-        }
-        if self.arrays.commit_all(&self.table, option).is_err() {
-            self.arrays.show_back(&self.table, mark);
+        note_choice(&mut self.marks, mark, &mut self.chosen, option)?;
+        if self.arrays.hide_excluded(&self.table, option).is_err() {
             self.marks.pop();
             self.chosen.pop();
             return Err(AllocError);
@@ -192,6 +187,28 @@ impl<'a> Links<'a> {
             self.arrays.show_back(&self.table, mark);
         }
     }
+}
+
+// Notes how many options were hidden, and which is chosen then.
+//
+// An error where a list cannot grow; then neither gets longer.
+fn note_choice(
+    marks: &mut Vec<usize>,
+    mark: usize,
+    chosen: &mut Vec<u32>,
+    option: u32,
+) -> Result<(), AllocError>
+    ensures marks { IfOk result (λ _. marks.new.items ≡ marks.old.items ++ mark ∷ []) }
+    ensures chosen { IfOk result (λ _. chosen.new.items ≡ chosen.old.items ++ option ∷ []) }
+    ensures no_mark { OnErr result (marks.new.items ≡ marks.old.items) }
+    ensures none_chosen { OnErr result (chosen.new.items ≡ chosen.old.items) }
+{
+    marks.push(mark)?;
+    if chosen.push(option).is_err() {
+        marks.pop();
+        return Err(AllocError);
+    }
+    Ok(())
 }
 
 /// Does nothing. Its promise is a law: links of one compiled puzzle with nothing chosen are the same, each link and

@@ -4,7 +4,7 @@ ghost use Rattle.std.specs.Prelude.{◌≡◌, ◌<◌, ◌≤◌, ◌++◌, ◌
 ghost use Rattle.xcc_dance.specs.ArrayWords.{IsTable, HasOption, FitTable, ListTheOpen, CanGoBack};
 ghost use Rattle.xcc_dance.specs.ArrayWords.{arrays_of, item_at, with_back};
 ghost use Rattle.xcc_dance.specs.NodeTables.{AreOptions, has};
-ghost use Rattle.xcc_dance.specs.Rings.{Inside, unlinked, relinked, fewer_at, more_at};
+ghost use Rattle.xcc_dance.specs.Rings.{AreAlone, Inside, unlinked, relinked, fewer_at, more_at};
 ghost use Rattle.xcc_dance.specs.Trails.{back};
 
 use crate::links::tables::NodeTable;
@@ -26,6 +26,20 @@ pub(crate) struct LinkArrays {
     pub(crate) trail: Vec<u32>,
 }
 
+// So many nodes, each of which is its own neighbour.
+fn links_alone(alloc: Global, nodes: u32) -> Result<Vec<Link>, AllocError>
+    ensures { IfOk result (λ links. AreAlone links.items nodes) }
+{
+    let mut links = Vec::with_capacity(alloc, nodes as usize)?;
+    for node in 0..nodes {
+        links.push(Link {
+            up: node,
+            down: node,
+        })?;
+    }
+    Ok(links)
+}
+
 impl LinkArrays {
     /// Nothing is hidden: the nodes of all options stand in their lists.
     ///
@@ -36,13 +50,7 @@ impl LinkArrays {
         ensures right { IfOk result (ListTheOpen table.now) }
     {
         let nodes = table.entries.len() as u32;
-        let mut links = Vec::with_capacity(alloc, nodes as usize)?;
-        for node in 0..nodes {
-            links.push(Link {
-                up: node,
-                down: node,
-            })?;
-        }
+        let links = links_alone(alloc, nodes)?;
         let sizes = vec![in alloc; 0; table.items as usize]?;
         let trail = Vec::with_capacity(alloc, table.starts.len())?;
         let mut arrays = LinkArrays {

@@ -1,9 +1,9 @@
 //! A choice: what the chosen option excludes is taken out of the lists.
 
-ghost use Rattle.std.specs.Prelude.{◌⊎◌, ◌<◌, ◌≤◌, ◌+◌, ℕ, IfOk, length};
+ghost use Rattle.std.specs.Prelude.{◌≡◌, ◌⊎◌, ◌<◌, ◌≤◌, ◌+◌, ℕ, IfOk, OnErr, length};
 ghost use Rattle.xcc_dance.specs.ArrayWords.{IsTable, ListTheOpen, CanGoBack, IsHidden};
 ghost use Rattle.xcc_dance.specs.ArrayWords.{DiffersAt, IsExcludedAt, IsExcludedBy, HasUncoveredItem};
-ghost use Rattle.xcc_dance.specs.NodeTables.{start_of};
+ghost use Rattle.xcc_dance.specs.ArrayWords.{HasUncoveredItems, arrays_of};
 
 use crate::links::arrays::LinkArrays;
 use crate::links::tables::NodeTable;
@@ -62,18 +62,13 @@ impl LinkArrays {
         self.purify(table, entry.item, NO_COLOUR)
     }
 
-    /// Hides all that an option excludes, itself too: its nodes in turn, so first its cell, then its tile, then its
-    /// edges by item.
-    ///
-    /// An error where the trail cannot grow; then what was hidden so far can be put back.
-    pub(crate) fn commit_all(&mut self, table: &NodeTable, option: u32) -> Result<(), AllocError>
+    // Hides all that an option excludes, itself too: its nodes in turn, so first its cell, then its tile, then its
+    // edges by item. Where the trail cannot grow, what was hidden so far can be put back.
+    fn commit_all(&mut self, table: &NodeTable, option: u32) -> Result<(), AllocError>
         requires table { IsTable table.now }
         requires option { option < table.now.options }
         requires right { ListTheOpen table.now self.old }
-        requires uncovered { (node : ℕ)
-            → start_of table.now.starts.items option ≤ node
-            → node < start_of table.now.starts.items (option + 1)
-            → HasUncoveredItem table.now self.old node }
+        requires uncovered { HasUncoveredItems table.now self.old option }
         ensures right { ListTheOpen table.now self.new }
         ensures goes { CanGoBack table.now self.old self.new }
         ensures all { IfOk result
@@ -84,6 +79,32 @@ impl LinkArrays {
     {
         for node in table.starts[option as usize]..table.starts[option as usize + 1] {
             self.commit(table, node)?;
+        }
+        Ok(())
+    }
+
+    /// Hides all that an option excludes, itself too.
+    ///
+    /// An error where the trail cannot grow; then nothing changes.
+    pub(crate) fn hide_excluded(&mut self, table: &NodeTable, option: u32) -> Result<(), AllocError>
+        requires table { IsTable table.now }
+        requires option { option < table.now.options }
+        requires right { ListTheOpen table.now self.old }
+        requires uncovered { HasUncoveredItems table.now self.old option }
+        ensures right { IfOk result (λ _. ListTheOpen table.now self.new) }
+        ensures goes { IfOk result (λ _. CanGoBack table.now self.old self.new) }
+        ensures all { IfOk result
+            (λ _. (other : ℕ) → IsExcludedBy table.now option other → IsHidden self.new other) }
+        ensures only { IfOk result
+            (λ _. (other : ℕ) → IsHidden self.new other
+            → IsHidden self.old other ⊎ IsExcludedBy table.now option other) }
+        ensures arrays { OnErr result (arrays_of self.new ≡ arrays_of self.old) }
+        ensures trail { OnErr result (self.new.trail.items ≡ self.old.trail.items) }
+    {
+        let mark = self.trail.len();
+        if self.commit_all(table, option).is_err() {
+            self.show_back(table, mark);
+            return Err(AllocError);
         }
         Ok(())
     }

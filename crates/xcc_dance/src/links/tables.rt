@@ -47,15 +47,7 @@ impl NodeTable {
         for option in 0..options {
             add_option(&mut entries, &mut starts, xcc, option)?;
         }
-        for item in 0..primaries {
-            let option = options + item;
-            entries.push(Entry {
-                item: items - 1,
-                option,
-                colour: 0,
-            })?;
-            starts.push(entries.len() as u32)?;
-        }
+        add_roots(&mut entries, &mut starts, items, options, primaries)?;
         Ok(NodeTable {
             primaries,
             items,
@@ -135,6 +127,32 @@ fn add_edges(entries: &mut Vec<Entry>, edges: &[Edge], option: u32) -> Result<()
             option,
             colour: edge.colour,
         })?;
+    }
+    Ok(())
+}
+
+// Lays out the nodes of the root's list: one for each primary item, which is an option of its own.
+fn add_roots(
+    entries: &mut Vec<Entry>,
+    starts: &mut Vec<u32>,
+    items: u32,
+    options: u32,
+    primaries: u32,
+) -> Result<(), AllocError>
+    requires items { 0 < items }
+    requires options { options + primaries < 2 ^ 32 }
+    requires few { length entries.old.items + primaries < 2 ^ 32 }
+    ensures { IfOk result (λ _. (x : Compiled)
+        → IsLaidOutTo x items options 0 entries.old.items starts.old.items
+        → IsLaidOutTo x items options primaries entries.new.items starts.new.items) }
+{
+    for item in 0..primaries {
+        entries.push(Entry {
+            item: items - 1,
+            option: options + item,
+            colour: 0,
+        })?;
+        starts.push(entries.len() as u32)?;
     }
     Ok(())
 }

@@ -1,12 +1,9 @@
 use Rattle.std.proofs.Common.{◌≡◌, []}
-use Rattle.xcc_dance.proofs.MakingWords.{Alone, IsBuilt}
+use Rattle.xcc_dance.proofs.MakingWords.{IsBuilt}
 use Rattle.xcc_dance.proofs.links.arrays.LinkArrays.new.Given as goal
 
 abbrev pub invariant-loop-node : goal.invariant-loop-node
-invariant-loop-node l = Alone l.links.items l.node
-
-abbrev pub invariant-loop-node-2 : goal.invariant-loop-node-2
-invariant-loop-node-2 l = record {
+invariant-loop-node l = record {
   built : IsBuilt l.table.items l.table.entries.items l.arrays.links.items l.arrays.sizes.items l.node;
   trail : l.arrays.trail.items ≡ [];
 }

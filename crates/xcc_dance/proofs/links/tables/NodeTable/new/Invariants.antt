@@ -3,6 +3,3 @@ use Rattle.xcc_dance.proofs.links.tables.NodeTable.new.Given as goal
 
 abbrev pub invariant-loop-option : goal.invariant-loop-option
 invariant-loop-option l = IsLaidOutTo l.xcc l.items l.option 0 l.entries.items l.starts.items
-
-abbrev pub invariant-loop-item : goal.invariant-loop-item
-invariant-loop-item l = IsLaidOutTo l.xcc l.items l.options l.item l.entries.items l.starts.items
