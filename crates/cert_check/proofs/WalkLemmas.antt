@@ -1,9 +1,9 @@
 -- Steps of a walk.
-use Rattle.std.proofs.Common.{◌≡◌, ◌≢◌, ◌<◌, ◌≤◌, ◌+◌, ℕ, zero, suc, List, [], ◌∷◌, Option, Some, None, Contains, length, ap, sym, ◌∙◌, refl, arith, subst}
+use Rattle.std.proofs.Common.{◌≡◌, ◌≢◌, ◌<◌, ◌≤◌, ◌+◌, ◌-◌, ℕ, zero, suc, List, [], ◌∷◌, Option, Some, None, Contains, length, ap, sym, ◌∙◌, refl, arith, subst}
 use Rattle.match_limits.specs.First.{IsFirst}
 use Rattle.match_puzzle.specs.Puzzle.{Task}
 use Rattle.match_puzzle.specs.Prefix.{Prefix, Layout, Has, IsFree, with_pair, without_cell}
-use Rattle.match_puzzle.specs.Fitting.{FitsItem}
+use Rattle.match_puzzle.specs.Fitting.{Fits, FitsItem}
 use Rattle.match_puzzle.specs.declared.items.Item.{Item}
 use Rattle.match_puzzle.specs.declared.placements.Placement.{Placement}
 use Rattle.match_puzzle.specs.declared.placements.Pair.{Pair}
@@ -13,8 +13,8 @@ use Rattle.cert_check.specs.declared.faults.TreeFault.{TreeFault}
 use Rattle.std.specs.Option.{option_map}
 use Rattle.cert_check.specs.Setting.{Setting}
 use Rattle.cert_tree.specs.Tree.{Tree, Forest, branch, none, more, count}
-use Rattle.cert_tree.specs.Heads.{front}
-use Rattle.cert_tree.proofs.HeadLemmas.{count-front}
+use Rattle.cert_tree.specs.Heads.{first, front, past}
+use Rattle.cert_tree.proofs.HeadLemmas.{count-front, front_first}
 use Rattle.cert_check.specs.NodeRules.{IsBranch, Holds, EachHolds}
 use Rattle.cert_check.specs.TreeFaults.{BranchFails, FailsAt, EachFails, node_rank}
 use Rattle.cert_check.specs.Walk.{Tells, IsAtTop, below}
@@ -127,6 +127,28 @@ branch_told s w item children trees fault said made counted fails is =
 pub record Turn (s : Setting) (item : Item) (trees : Forest) (before now : Layout) (number : ℕ) (child : Tree) (rest : Forest) (x : Pair) (pairs : List Pair) : Type 0 where
   pub same : now ≡ before
   pub going : Going s item before.placed trees number (more child rest) (x ∷ pairs)
+
+-- the pair fits
+pub turn_fits : {s : Setting} {item : Item} {trees : Forest} {w v : Layout} {number : ℕ} {child : Tree} {rest : Forest} {x : Pair} {pairs : List Pair} → Turn s item trees w v number child rest x pairs → w.puzzle ≡ s.puzzle → Fits v.puzzle v.placed x.cell x.placement
+turn_fits {s} {item} {trees} {w} {v} {number} {child} {rest} {x} {pairs} t made =
+    let fits = (going_fits s item w.placed trees number child rest x pairs t.going).1 in
+    subst (λ (u : Layout). Fits u.puzzle u.placed x.cell x.placement) (sym t.same) (subst (λ (p : Task). Fits p w.placed x.cell x.placement) (sym made) fits)
+
+-- while there are children, the first of those that are left is the turn's
+module _ {s : Setting} {item : Item} {w v : Layout} {all : Forest} {n number : ℕ} {now : List Pair} (trees : Forest) (same : v ≡ w) (going : Going s item w.placed all number (front (n - number) trees) now) (counted : n - number ≤ count trees) (below_n : number < n) where
+  on : Going s item w.placed all number (more (first trees) (front (n - (number + 1)) (past 1 trees))) now
+  on =
+      let fewer : n - number ≡ suc (n - (number + 1)) = omega (arith, below_n) in
+      subst (λ (left : Forest). Going s item w.placed all number left now) (front_first (n - number) (n - (number + 1)) trees fewer counted) going
+
+  pub turn_some : now ≢ []
+  turn_some = going_on s item w.placed all number (first trees) (front (n - (number + 1)) (past 1 trees)) now on
+
+  pub turn_of : (x : Pair) (pairs : List Pair) → now ≡ x ∷ pairs → Turn s item all w v number (first trees) (front (n - (number + 1)) (past 1 trees)) x pairs
+  turn_of x pairs took = record {
+    same = same;
+    going = subst (λ (xs : List Pair). Going s item w.placed all number (more (first trees) (front (n - (number + 1)) (past 1 trees))) xs) took on;
+  }
 
 module _ {s : Setting} {item : Item} {trees : Forest} {w v : Layout} {number : ℕ} {child : Tree} {rest : Forest} {x : Pair} {pairs : List Pair} (t : Turn s item trees w v number child rest x pairs) (n : Layout) (placed : n ≡ grown v x) where
   free : IsFree w.placed x.cell

@@ -80,6 +80,28 @@ fn prepare<'a, R: Threads + Sync>(
     }
 }
 
+// The answer, where all is right but perhaps the trees.
+fn answer_by_crew<R: Threads + Sync, G: Gate + Sync>(
+    rt: &R,
+    alloc: Global,
+    prepared: &Prepared<'_>,
+    workers: u8,
+    forks: u8,
+    gate: &G,
+) -> Result<Answer, AllocError>
+    requires workers { (1 ≤ workers) × (workers ≤ MOST_WORKERS) }
+    requires forks { forks ≤ MOST_FORKS }
+    ensures answer { IfOk result (IsAnswer prepared.now) }
+    ensures complete { IfOk result (IsSound prepared.now) }
+    ensures covered { IfOk result (IsCovering prepared.now) }
+    ensures arrangements { AreArrangements prepared.now.puzzle prepared.now.listed }
+{
+    // It says that each listed one is an arrangement.
+    let _ = prepared.question();
+    let found = trees_fault(rt, alloc, prepared, workers, forks, gate)?;
+    Ok(prepared.answer(found))
+}
+
 /// The answer to the question, by 1 to 64 workers and with 0 to 6 forks: neither they nor the gate change it.
 ///
 /// The list is verified by as many threads as the machine has processors for, and its repetitions are looked for by the
@@ -111,12 +133,10 @@ pub fn check_question<R: Threads + Sync, G: Gate + Sync>(
     if workers == 1 && forks == 0 {
         return question.check(alloc, gate);
     }
-    let prepared = match prepare(rt, alloc, question)? {
-        Ok(prepared) => prepared,
-        Err(fault) => return Ok(Answer::Refused(fault)),
-    };
-    let found = trees_fault(rt, alloc, &prepared, workers, forks, gate)?;
-    Ok(prepared.answer(found))
+    match prepare(rt, alloc, question)? {
+        Ok(prepared) => answer_by_crew(rt, alloc, &prepared, workers, forks, gate),
+        Err(fault) => Ok(Answer::Refused(fault)),
+    }
 }
 
 /// What [`check`](crate::check) answers, as [`check_question`] finds it.

@@ -2,7 +2,7 @@
 
 use match_puzzle::{ArrangementFault, PrefixFault};
 use puzzle_symmetry::SymmetryFault;
-use std::alloc::AllocError;
+use std::alloc::{AllocError, Global};
 use std::marker::Model;
 
 /// What may be wrong with a node of a tree, where some pairs are placed.
@@ -82,7 +82,15 @@ pub struct TreeFault {
 }
 
 impl TreeFault {
-    ghost use Rattle.std.specs.Prelude.{◌≡◌, ◌∷◌, IfOk};
+    ghost use Rattle.std.specs.Prelude.{◌≡◌, [], ◌∷◌, IfOk};
+
+    // A fault of the first node.
+    pub(crate) fn at_top(alloc: Global, fault: NodeFault) -> TreeFault
+        ensures { result ≡ record { path = []; fault = fault } }
+    {
+        let path = Path::new(Vec::new(alloc));
+        TreeFault { path, fault }
+    }
 
     // The same fault, of the tree whose child with this number has it.
     pub(crate) fn below(self, number: u16) -> Result<TreeFault, AllocError>

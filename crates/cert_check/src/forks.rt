@@ -1,8 +1,9 @@
 //! The walk of a tree in whose first levels the halves of a branch's children are walked at once.
 
-ghost use Rattle.std.specs.Prelude.{◌≡◌, ◌≢◌, ◌<◌, ◌≤◌, ◌^◌, ℕ, List, IfOk, None, Ok, length, map, drop};
+ghost use Rattle.std.specs.Prelude.{◌≡◌, ◌≢◌, ◌<◌, ◌≤◌, ◌^◌, ℕ, List, IfOk, IfSome, None, Ok, Some, length, map, drop};
 ghost use Rattle.std.specs.Fn.{FnReturnsAt};
 ghost use Rattle.std.specs.Thread.{IsSync};
+ghost use Rattle.match_limits.specs.First.{IsFirst};
 ghost use Rattle.match_puzzle.specs.Fitting.{AreFitting, IsItem};
 ghost use Rattle.match_puzzle.specs.PrefixFaults.{IsPairList};
 ghost use Rattle.match_puzzle.specs.declared.placements.Pair.{Pair};
@@ -12,14 +13,18 @@ ghost use Rattle.cert_tree.specs.Heads.{first, front, past};
 ghost use Rattle.cert_check.specs.Derivation.{start_of};
 ghost use Rattle.puzzle_symmetry.specs.Motion.{motion_of};
 ghost use Rattle.cert_check.specs.Setting.{question_of, BeginWithPrefixes};
-ghost use Rattle.cert_check.specs.Walk.{Tells, TellsOfLemma, IsPart, TellsOfPart};
+ghost use Rattle.cert_check.specs.NodeRules.{IsBranch};
+ghost use Rattle.cert_check.specs.TreeFaults.{BranchFails, node_rank};
+ghost use Rattle.cert_check.specs.declared.faults.NodeFault.{NodeFault};
+ghost use Rattle.cert_check.specs.Walk.{Tells, TellsOfLemma, IsAtTop, IsPart, TellsOfPart};
 
 use crate::faults::TreeFault;
 use crate::gates::{Gate, Open};
 use crate::node_faults::branch_fault;
+use crate::scenes::branched_on;
 use crate::settings::Setting;
-use crate::walks::{at_top, walk};
-use cert_tree::{Certificate, FlatLemma, Head, Trees};
+use crate::walks::{place_first, walk};
+use cert_tree::{Certificate, FlatLemma, Trees};
 use match_limits::MOST_FORKS;
 use match_puzzle::{Arrangement, FittingPairs, Item, Partial, Puzzle};
 use puzzle_symmetry::Symmetry;
@@ -59,7 +64,7 @@ pub fn forked_tree_fault<R: Threads + Sync>(
 }
 
 // Who walks a lemma's tree: by which threads, and who is told of the halves that are walked at once.
-#[derive(Clone, Copy)]
+#[derive(Drop)]
 pub(crate) struct Forker<'a, R: Threads + Sync, G: Gate + Sync> {
     pub rt: &'a R,
     pub gate: &'a G,
@@ -101,26 +106,10 @@ fn forked_walk<R: Threads + Sync, G: Gate + Sync>(
     ensures tells { IfOk result (Tells setting.now (first trees.now) partial.old.placed) }
     ensures restored { IfOk result (λ fault. fault ≡ None → partial.new ≡ partial.old) }
 {
-    if forks == 0 {
+    let Some(branch) = branch_to_fork(forks, trees) else {
         return plain_walk(alloc, setting, trees, partial);
-    }
-    let fewer = forks - 1;
-    let mut below = trees.copy();
-    match below.next() {
-        Head::Cell { cell, children } => {
-            let item = Item::Cell(cell);
-            forked_branch(
-                forker, alloc, setting, fewer, item, children, &below, partial,
-            )
-        }
-        Head::Tile { tile, children } => {
-            let item = Item::Tile(tile);
-            forked_branch(
-                forker, alloc, setting, fewer, item, children, &below, partial,
-            )
-        }
-        _ => plain_walk(alloc, setting, trees, partial),
-    }
+    };
+    forked_branch(forker, alloc, setting, forks - 1, &branch, partial)
 }
 
 // The same on one thread.
@@ -141,37 +130,76 @@ fn plain_walk(
     Ok(fault)
 }
 
-// The same of a branch, whose children are the first so many trees.
+// The same of a branch.
 #[cycle(forking)]
 fn forked_branch<R: Threads + Sync, G: Gate + Sync>(
     forker: &Forker<'_, R, G>,
     alloc: Global,
     setting: &Setting<'_>,
     forks: u8,
-    item: Item,
-    children: u32,
-    trees: &Trees<'_>,
+    at: &Branch<'_>,
     partial: &Partial<'_>,
 ) -> Result<Option<TreeFault>, AllocError>
     requires made { partial.now.puzzle ≡ setting.now.puzzle }
-    requires counted { children ≤ count trees.now }
-    ensures { IfOk result (Tells setting.now (branch item (front children trees.now)) partial.now.placed) }
+    requires counted { at.now.children ≤ count at.now.trees }
+    ensures { IfOk result
+        (Tells setting.now (branch at.now.item (front at.now.children at.now.trees)) partial.now.placed) }
 {
-    let mut pairs = FittingPairs::none(item);
-    if let Some(of_node) = branch_fault(item, children, partial, &mut pairs) {
-        let mut fault = None;
-        at_top(alloc, Some(of_node), &mut fault);
-        return Ok(fault);
+    if let Some(fault) = own_fault(alloc, at, partial) {
+        return Ok(Some(fault));
     }
     let all = Part {
         setting: &*setting,
-        item,
+        item: at.item,
         start: 0,
-        end: children,
-        trees: &*trees,
+        end: at.children,
+        trees: &at.trees,
         partial: &*partial,
     };
     walk_halves(forker, alloc, forks, &all)
+}
+
+// A branch without its head: its children are the first so many trees.
+#[derive(Drop)]
+struct Branch<'a> {
+    item: Item,
+    children: u32,
+    trees: Trees<'a>,
+}
+
+// The first tree, where it is a branch and forks are left for it.
+fn branch_to_fork<'a>(forks: u8, trees: &Trees<'a>) -> Option<Branch<'a>>
+    requires { trees.now ≢ none }
+    ensures forks { IfSome result (λ found. 0 < forks) }
+    ensures tree { IfSome result
+        (λ found. first trees.now ≡ branch found.item (front found.children found.trees)) }
+    ensures counted { IfSome result (λ found. found.children ≤ count found.trees) }
+{
+    if forks == 0 {
+        return None;
+    }
+    let mut rest = trees.copy();
+    let head = rest.next();
+    let item = branched_on(head)?;
+    Some(Branch {
+        item,
+        children: head.children(),
+        trees: rest,
+    })
+}
+
+// What is wrong with a branch but for its children, as a fault of its tree.
+fn own_fault(alloc: Global, at: &Branch<'_>, partial: &Partial<'_>) -> Option<TreeFault>
+    ensures fault { IfSome result (λ fault. (of_node : NodeFault) × IsAtTop (Some of_node) (Some fault)
+        × IsFirst node_rank (BranchFails partial.now.puzzle partial.now.placed at.now.item at.now.children) of_node) }
+    ensures right { result ≡ None → (pairs : List Pair)
+        × IsBranch partial.now.puzzle partial.now.placed at.now.item at.now.children pairs }
+    ensures few { result ≡ None → at.now.children < 2 ^ 16 }
+    ensures item { result ≡ None → IsItem partial.now.puzzle at.now.item }
+{
+    let mut pairs = FittingPairs::none(at.item);
+    let of_node = branch_fault(at.item, at.children, partial, &mut pairs)?;
+    Some(TreeFault::at_top(alloc, of_node))
 }
 
 // Some children of a branch, from one number up to another, and what they are walked on.
@@ -186,6 +214,33 @@ struct Part<'a> {
     partial: &'a Partial<'a>,
 }
 
+impl<'a> Part<'a> {
+    ghost use Rattle.std.specs.Prelude.{◌<◌, Option};
+    ghost use Rattle.std.specs.Option.{option_or};
+    ghost use Rattle.cert_check.specs.declared.faults.TreeFault.{TreeFault};
+    ghost use Rattle.cert_check.specs.Walk.{IsPart, TellsOfPart};
+
+    // The left half and the right one. What is said of both, the left one first, is said of the part.
+    fn halves(&self) -> (Part<'a>, Part<'a>)
+        requires { IsPart self.now }
+        ensures left { IsPart result.0 }
+        ensures right { IsPart result.1 }
+        ensures both { (left right : Option TreeFault) → TellsOfPart result.0 left → TellsOfPart result.1 right
+            → TellsOfPart self.now (option_or left right) }
+    {
+        let middle = self.start + (self.end - self.start) / 2;
+        let left = Part {
+            end: middle,
+            ..*self
+        };
+        let right = Part {
+            start: middle,
+            ..*self
+        };
+        (left, right)
+    }
+}
+
 // The same of some children, the halves of which are walked at once where there are several.
 #[cycle(forking)]
 fn walk_halves<R: Threads + Sync, G: Gate + Sync>(
@@ -197,19 +252,10 @@ fn walk_halves<R: Threads + Sync, G: Gate + Sync>(
     requires { IsPart part.now }
     ensures { IfOk result (TellsOfPart part.now) }
 {
-    let count = part.end - part.start;
-    if count == 1 {
+    if part.end - part.start == 1 {
         return walk_part(forker, alloc, forks, part);
     }
-    let middle = part.start + count / 2;
-    let left = Part {
-        end: middle,
-        ..*part
-    };
-    let right = Part {
-        start: middle,
-        ..*part
-    };
+    let (left, right) = part.halves();
     let (left, right) = at_once(
         forker.rt,
         &left,
@@ -250,7 +296,7 @@ fn at_once<P: Sync, F: Fn(&P) -> Result<Option<TreeFault>, AllocError> + Sync, R
     )
 }
 
-// The same of some children, one after the other on a copy of what is placed.
+// The same of some children, on a copy of what is placed.
 #[cycle(forking)]
 fn walk_part<R: Threads + Sync, G: Gate + Sync>(
     forker: &Forker<'_, R, G>,
@@ -262,14 +308,27 @@ fn walk_part<R: Threads + Sync, G: Gate + Sync>(
     ensures { IfOk result (TellsOfPart part.now) }
 {
     let mut own = part.partial.copy(alloc)?;
+    walk_children(forker, alloc, forks, part, &mut own)
+}
+
+// The same, one child after the other, on this copy.
+#[cycle(forking)]
+fn walk_children<R: Threads + Sync, G: Gate + Sync>(
+    forker: &Forker<'_, R, G>,
+    alloc: Global,
+    forks: u8,
+    part: &Part<'_>,
+    own: &mut Partial<'_>,
+) -> Result<Option<TreeFault>, AllocError>
+    requires part { IsPart part.now }
+    requires own { own.old ≡ part.now.partial.now }
+    ensures { IfOk result (TellsOfPart part.now) }
+{
     let mut pairs = pairs_from(part.item, part.start, part.partial);
     let mut rest = trees_from(part.start, part.trees);
     for number in part.start..part.end {
-        let Some(pair) = pairs.take_first() else {
-            unreachable!();
-        };
-        own.place(pair.cell, pair.placement);
-        let fault = forked_walk(forker, alloc, part.setting, forks, &rest, &mut own)?;
+        let pair = place_first(&mut pairs, own);
+        let fault = forked_walk(forker, alloc, part.setting, forks, &rest, own)?;
         if let Some(fault) = fault {
             return Ok(Some(fault.below(number as u16)?));
         }

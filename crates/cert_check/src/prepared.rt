@@ -39,7 +39,8 @@ impl<'a> Model for Prepared<'a> {
 }
 
 impl<'a> Prepared<'a> {
-    ghost use Rattle.std.specs.Prelude.{◌≡◌, ◌<◌, ◌≤◌, IfOk, length, slice_get};
+    ghost use Rattle.std.specs.Prelude.{◌≡◌, ◌<◌, ◌≤◌, IfOk, None, length, slice_get};
+    ghost use Rattle.match_puzzle.specs.Prefix.{empty_prefix};
     ghost use Rattle.match_limits.specs.declared.TheConstants.{MOST_FORKS};
     ghost use Rattle.cert_check.specs.Setting.{motions_of, setting_at};
     ghost use Rattle.cert_check.specs.Walk.{TellsOfLemma, TellsOfTrees};
@@ -127,6 +128,24 @@ impl<'a> Prepared<'a> {
         forker.lemma_fault(alloc, &self.setting(lemma), &self.lemma(lemma), forks)
     }
 
+    // The first fault of the tree of the lemma with this number, or none where it holds; nothing is placed before, and
+    // after it if it has no fault.
+    fn tree_fault(
+        &self,
+        alloc: Global,
+        number: u32,
+        partial: &mut Partial<'_>,
+    ) -> Result<Option<TreeFault>, AllocError>
+        requires lemma { number < length self.now.lemmas }
+        requires empty { partial.old ≡ record { puzzle = self.now.puzzle; placed = empty_prefix self.now.puzzle } }
+        ensures tells { IfOk result (TellsOfLemma self.now number) }
+        ensures restored { IfOk result (λ fault. fault ≡ None → partial.new ≡ partial.old) }
+    {
+        let setting = self.setting(number);
+        let lemma = self.lemma(number);
+        lemma_fault(alloc, &setting, &lemma, partial)
+    }
+
     /// The first lemma whose tree has a fault, with its first fault in preorder, or none where all hold. The gate is
     /// told of each lemma before its tree is walked. An `Err` comes where memory is refused.
     pub fn trees_fault<G: Gate>(
@@ -139,9 +158,7 @@ impl<'a> Prepared<'a> {
         let mut partial = Partial::new(alloc, self.question.puzzle())?;
         for number in 0..self.question.lemmas().len() as u32 {
             gate.enter(number);
-            let setting = self.setting(number);
-            let lemma = self.lemma(number);
-            if let Some(fault) = lemma_fault(alloc, &setting, &lemma, &mut partial)? {
+            if let Some(fault) = self.tree_fault(alloc, number, &mut partial)? {
                 return Ok(Some((number, fault)));
             }
         }

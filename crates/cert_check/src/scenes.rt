@@ -46,14 +46,13 @@ impl<'a> Scene<'a> {
         ensures long { IfOk result (λ scene.
             length scene.partial.placed ≡ cell_count scene.partial.puzzle.board) }
     {
+        let partial = Partial::of(alloc, puzzle, lemma.prefix)?;
         let mut scene = Scene {
-            partial: Partial::of(alloc, puzzle, lemma.prefix)?,
+            partial,
             trees: lemma.tree.trees(),
             words: 0,
         };
-        for number in path {
-            scene.go_to_child(*number);
-        }
+        scene.follow(path);
         Ok(scene)
     }
 
@@ -63,6 +62,22 @@ impl<'a> Scene<'a> {
         ensures { (rest : Forest) × (put result rest ≡ self.now.trees) }
     {
         self.trees.copy().next()
+    }
+
+    // Goes to the node that the path leads to from here.
+    fn follow(&mut self, path: &[u16])
+        requires some { self.old.trees ≢ none }
+        requires long { length self.old.partial.placed ≡ cell_count self.old.partial.puzzle.board }
+        requires path { IsPath self.old.partial.puzzle (first self.old.trees) self.old.partial.placed path.now }
+        ensures some { self.new.trees ≢ none }
+        ensures long { length self.new.partial.placed ≡ cell_count self.new.partial.puzzle.board }
+        ensures puzzle { self.new.partial.puzzle ≡ self.old.partial.puzzle }
+        ensures leads { LeadsTo self.old.partial.puzzle (first self.old.trees) self.old.partial.placed path.now
+            (first self.new.trees) self.new.partial.placed }
+    {
+        for number in path {
+            self.go_to_child(*number);
+        }
     }
 
     // Goes to the child with this number.
@@ -115,7 +130,7 @@ fn go_past(trees: &mut Trees<'_>, number: u16, words: &mut usize)
 }
 
 // The item that the node is a branch on, if it is one.
-fn branched_on(head: Head) -> Option<Item>
+pub(crate) fn branched_on(head: Head) -> Option<Item>
     ensures { MatchOption result ((item : Item) (children : ℕ) → head ≢ branch_head item children)
         (λ item. head ≡ branch_head item (arity head)) }
 {

@@ -1,20 +1,24 @@
 //! The walk of a tree by its heads.
 
-ghost use Rattle.std.specs.Prelude.{◌≡◌, ◌≢◌, ◌<◌, ◌≤◌, ◌^◌, ℕ, List, IfOk, MatchBool, MatchOption, None, length};
+ghost use Rattle.std.specs.Prelude.{◌≡◌, ◌≢◌, ◌<◌, ◌≤◌, ◌^◌, ℕ, List, [], ◌∷◌, Option, IfOk, MatchBool, MatchOption, None, length};
 ghost use Rattle.std.specs.Option.{option_map};
-ghost use Rattle.match_puzzle.specs.Prefix.{Prefix, empty_prefix};
+ghost use Rattle.match_puzzle.specs.Fitting.{Fits};
+ghost use Rattle.match_puzzle.specs.Prefix.{Prefix, empty_prefix, with_pair};
+ghost use Rattle.match_puzzle.specs.declared.items.Item.{Item};
+ghost use Rattle.match_puzzle.specs.declared.placements.Pair.{Pair};
 ghost use Rattle.match_puzzle.specs.PrefixFaults.{IsPairList};
 ghost use Rattle.cert_tree.specs.Certificate.{flat_piece};
-ghost use Rattle.cert_tree.specs.Tree.{branch, count, none};
-ghost use Rattle.cert_tree.specs.Heads.{first, front, past};
+ghost use Rattle.cert_tree.specs.Tree.{Forest, branch, count, none};
+ghost use Rattle.cert_tree.specs.Heads.{branch_head, first, front, past, put};
 ghost use Rattle.cert_check.specs.Derivation.{start_of};
+ghost use Rattle.cert_check.specs.declared.faults.TreeFault.{TreeFault};
 ghost use Rattle.cert_check.specs.Walk.{Tells, IsAtTop, below};
 
-use crate::faults::{NodeFault, Path, TreeFault};
+use crate::faults::{NodeFault, TreeFault};
 use crate::node_faults::{branch_fault, dead_fault, found_fault, image_fault, same_fault};
 use crate::settings::Setting;
 use cert_tree::{FlatLemma, Head, Trees};
-use match_puzzle::{FittingPairs, Item, Partial};
+use match_puzzle::{FittingPairs, Item, Pair, Partial};
 use std::alloc::{AllocError, Global};
 
 // Whether the first tree holds at what is placed. Then what is placed is as before, and the tree is gone past; else its
@@ -46,14 +50,7 @@ pub(crate) fn walk(
             let item = Item::Tile(tile);
             walk_branch(alloc, setting, item, children, trees, partial, fault)
         }
-        Head::DeadCell(cell) => Ok(at_top(alloc, dead_fault(Item::Cell(cell), partial), fault)),
-        Head::DeadTile(tile) => Ok(at_top(alloc, dead_fault(Item::Tile(tile), partial), fault)),
-        Head::Found(number) => Ok(at_top(alloc, found_fault(setting, number, partial), fault)),
-        Head::Same(lemma) => Ok(at_top(alloc, same_fault(setting, lemma, partial), fault)),
-        Head::Image { symmetry, lemma } => {
-            let of_node = image_fault(setting, lemma, symmetry, partial);
-            Ok(at_top(alloc, of_node, fault))
-        }
+        leaf => Ok(at_top(alloc, leaf_fault(setting, leaf, partial), fault)),
     }
 }
 
@@ -82,10 +79,7 @@ fn walk_branch(
         return Ok(at_top(alloc, Some(of_node), fault));
     }
     for number in 0..children {
-        let Some(pair) = pairs.take_first() else {
-            unreachable!();
-        };
-        partial.place(pair.cell, pair.placement);
+        let pair = place_first(&mut pairs, partial);
         if !walk(alloc, setting, trees, partial, fault)? {
             put_below(number as u16, fault)?;
             return Ok(false);
@@ -95,12 +89,45 @@ fn walk_branch(
     Ok(true)
 }
 
+// What is wrong with a node that has no children. A walk calls it at each leaf, so it is inlined there.
+#[inline(always)]
+fn leaf_fault(setting: &Setting<'_>, leaf: Head, partial: &Partial<'_>) -> Option<NodeFault>
+    requires made { partial.now.puzzle ≡ setting.now.puzzle }
+    requires leaf { (item : Item) (children : ℕ) → leaf ≢ branch_head item children }
+    ensures { (rest : Forest) (said : Option TreeFault) → IsAtTop result said
+        → Tells setting.now (first (put leaf rest)) partial.now.placed said }
+{
+    match leaf {
+        Head::DeadCell(cell) => dead_fault(Item::Cell(cell), partial),
+        Head::DeadTile(tile) => dead_fault(Item::Tile(tile), partial),
+        Head::Found(number) => found_fault(setting, number, partial),
+        Head::Same(lemma) => same_fault(setting, lemma, partial),
+        Head::Image { symmetry, lemma } => image_fault(setting, lemma, symmetry, partial),
+        Head::Cell { .. } | Head::Tile { .. } => unreachable!(),
+    }
+}
+
+// Places the first of the pairs, and takes it from them. Walks call it at each node, so it is inlined there.
+#[inline(always)]
+pub(crate) fn place_first(pairs: &mut FittingPairs, partial: &mut Partial<'_>) -> Pair
+    requires some { pairs.old ≢ [] }
+    requires fits { (pair : Pair) (rest : List Pair) → pairs.old ≡ pair ∷ rest
+        → Fits partial.old.puzzle partial.old.placed pair.cell pair.placement }
+    ensures taken { pairs.old ≡ result ∷ pairs.new }
+    ensures placed { partial.new ≡ record {
+      puzzle = partial.old.puzzle;
+      placed = with_pair partial.old.placed result.cell result.placement;
+    } }
+{
+    let Some(pair) = pairs.take_first() else {
+        unreachable!();
+    };
+    partial.place(pair.cell, pair.placement);
+    pair
+}
+
 // Puts a fault of the first node down. Whether there is none.
-pub(crate) fn at_top(
-    alloc: Global,
-    of_node: Option<NodeFault>,
-    fault: &mut Option<TreeFault>,
-) -> bool
+fn at_top(alloc: Global, of_node: Option<NodeFault>, fault: &mut Option<TreeFault>) -> bool
     requires { fault.old ≡ None }
     ensures holds { MatchBool result (fault.new ≡ None) (fault.new ≢ None) }
     ensures fault { IsAtTop of_node fault.new }
@@ -108,11 +135,7 @@ pub(crate) fn at_top(
     let Some(of_node) = of_node else {
         return true;
     };
-    let path = Path::new(Vec::new(alloc));
-    *fault = Some(TreeFault {
-        path,
-        fault: of_node,
-    });
+    *fault = Some(TreeFault::at_top(alloc, of_node));
     false
 }
 

@@ -1,15 +1,13 @@
-use Rattle.std.proofs.Common.{◌≡◌, ◌<◌, ◌≤◌, ◌+◌, ◌-◌, ℕ, suc, List, None, MatchBool, ◌≢◌, arith, ap, sym, ◌∙◌, refl, subst}
+use Rattle.std.proofs.Common.{◌≡◌, ◌<◌, ◌≤◌, ◌+◌, ◌-◌, ℕ, suc, None, MatchBool, ◌≢◌, arith, ap, sym, ◌∙◌, refl, subst}
 use Rattle.match_puzzle.specs.Puzzle.{Task}
 use Rattle.match_puzzle.specs.Prefix.{Layout}
-use Rattle.match_puzzle.specs.declared.placements.Pair.{Pair}
-use Rattle.cert_tree.specs.Tree.{branch, count, more}
+use Rattle.cert_tree.specs.Tree.{branch, count}
 use Rattle.cert_tree.specs.Heads.{first, front, past}
-use Rattle.cert_tree.proofs.HeadLemmas.{count-front, front_first, past_first, count_first}
+use Rattle.cert_tree.proofs.HeadLemmas.{count-front, past_first, count_first}
 use Rattle.cert_check.specs.NodeRules.{IsBranch}
 use Rattle.cert_check.specs.Walk.{Tells}
-use Rattle.cert_check.proofs.WalkLemmas.{branch_told, Going, going_start, going_on, going_done, some_left, Turn, turn_placed, turn_fewer, turn_said, still_some, turn_has, turn_lifted, turn_more}
+use Rattle.cert_check.proofs.WalkLemmas.{branch_told, Going, going_start, going_done, some_left, turn_of, turn_some, turn_fits, turn_placed, turn_fewer, turn_said, still_some, turn_has, turn_lifted, turn_more}
 use Rattle.cert_check.proofs.walks.+walk.Goals as goal
-use Rattle.cert_check.proofs.walks.+walk.Goals.{walk_branch-In-Some-take_first}
 
 pub walk_branch-returns-in-Some-clause-tells : goal.walk_branch-returns-in-Some-clause-tells
 walk_branch-returns-in-Some-clause-tells t c =
@@ -36,40 +34,23 @@ walk_branch-loop-number-init t c =
 less : (i n : ℕ) → i < n → n - i ≡ suc (n - (i + 1))
 less i n below = omega arith
 
-pub walk_branch-unreachable-requires : goal.walk_branch-unreachable-requires
-walk_branch-unreachable-requires t c =
-    let s = c.args.setting.now in
+pub walk_branch-place_first-pair-requires-clause-some : goal.walk_branch-place_first-pair-requires-clause-some
+walk_branch-place_first-pair-requires-clause-some t c =
     let l = c.loop-number in
-    let n = c.args.children in
-    let all = front n c.args.trees.now in
-    let child = first l.trees in
-    let rest = front (n - (l.number + 1)) (past 1 l.trees) in
-    going_on s c.args.item c.args.partial.now.placed all l.number child rest l.pairs
-    (subst (λ trees. Going s c.args.item c.args.partial.now.placed all l.number trees l.pairs) (front_first (n - l.number) (n - (l.number + 1)) l.trees (less l.number n c.loop-number-test.true) l.invariant.counted) l.invariant.going)
-    c.in_default-take_first.ensures.0
+    turn_some l.trees l.invariant.partial l.invariant.going l.invariant.counted c.loop-number-test.true
 
--- The turn of the loop at which this pair was taken.
-turn_here : (t : ℕ) (c : walk_branch-In-Some-take_first t) →
-    Turn c.args.setting.now c.args.item (front c.args.children c.args.trees.now) c.args.partial.now c.loop-number.partial c.loop-number.number (first c.loop-number.trees) (front (c.args.children - (c.loop-number.number + 1)) (past 1 c.loop-number.trees)) c.in-Some-take_first.pair c.take_first.new.self
-turn_here t c =
-    let s = c.args.setting.now in
+pub walk_branch-place_first-pair-requires-clause-fits : goal.walk_branch-place_first-pair-requires-clause-fits
+walk_branch-place_first-pair-requires-clause-fits t c = λ pair rest took.
     let l = c.loop-number in
-    let n = c.args.children in
-    let q = c.args.partial.now.placed in
-    let all = front n c.args.trees.now in
-    record {
-      same = l.invariant.partial;
-      going = subst (λ (pairs : List Pair). Going s c.args.item q all l.number (more (first l.trees) (front (n - (l.number + 1)) (past 1 l.trees))) pairs) c.in-Some-take_first.ensures
-          (subst (λ trees. Going s c.args.item q all l.number trees l.pairs) (front_first (n - l.number) (n - (l.number + 1)) l.trees (less l.number n c.loop-number-test.true) l.invariant.counted) l.invariant.going);
-    }
+    turn_fits (turn_of l.trees l.invariant.partial l.invariant.going l.invariant.counted c.loop-number-test.true pair rest took) c.requires.made
 
 pub walk_branch-walk-requires : goal.walk_branch-walk-requires
 walk_branch-walk-requires t c =
     let l = c.loop-number in
     let n = c.args.children in
-    let turn = turn_here t (goal.at.walk_branch-walk-requires t c).In-Some-take_first in
-    let fewer = turn_fewer turn c.place.new.self c.place.ensures in
-    let placed = turn_placed turn c.place.new.self c.place.ensures in
+    let turn = turn_of c.loop-number.trees c.loop-number.invariant.partial c.loop-number.invariant.going c.loop-number.invariant.counted c.loop-number-test.true c.place_first-pair.result c.place_first-pair.new.pairs c.place_first-pair.ensures.taken in
+    let fewer = turn_fewer turn c.place_first-pair.new.partial c.place_first-pair.ensures.placed in
+    let placed = turn_placed turn c.place_first-pair.new.partial c.place_first-pair.ensures.placed in
     let some : 0 < n - l.number = let below = c.loop-number-test.true in omega arith in
     (omega (arith, c.decreases, fewer), (ap (λ (u : Layout). u.puzzle) placed ∙ c.requires.made, (some_left (n - l.number) l.trees some l.invariant.counted, l.invariant.no_fault)))
 
@@ -81,10 +62,10 @@ walk_branch-returns-then-not-branch-clause-holds t c =
 
 pub walk_branch-returns-then-not-branch-clause-tells : goal.walk_branch-returns-then-not-branch-clause-tells
 walk_branch-returns-then-not-branch-clause-tells t c =
-    let turn = turn_here t (goal.at.walk_branch-returns-then-not-branch-clause-tells t c).In-Some-take_first in
+    let turn = turn_of c.loop-number.trees c.loop-number.invariant.partial c.loop-number.invariant.going c.loop-number.invariant.counted c.loop-number-test.true c.place_first-pair.result c.place_first-pair.new.pairs c.place_first-pair.ensures.taken in
     let said = c.walk.new.fault in
     let some = subst (λ b. MatchBool b (said ≡ None) (said ≢ None)) c.if-not-branch.true c.in_ok-walk.ensures.holds in
-    turn_said turn c.place.new.self c.place.ensures said c.put_below.new.fault some c.in_ok-walk.ensures.tells c.in_ok-put_below.ensures
+    turn_said turn c.place_first-pair.new.partial c.place_first-pair.ensures.placed said c.put_below.new.fault some c.in_ok-walk.ensures.tells c.in_ok-put_below.ensures
 
 pub walk_branch-returns-clause-holds : goal.walk_branch-returns-clause-holds
 walk_branch-returns-clause-holds t c = c.loop-number.invariant.no_fault
@@ -101,10 +82,10 @@ walk_branch-returns-clause-tells t c =
 
 pub walk_branch-lift-requires : goal.walk_branch-lift-requires
 walk_branch-lift-requires t c =
-    let turn = turn_here t (goal.at.walk_branch-lift-requires t c).In-Some-take_first in
+    let turn = turn_of c.loop-number.trees c.loop-number.invariant.partial c.loop-number.invariant.going c.loop-number.invariant.counted c.loop-number-test.true c.place_first-pair.result c.place_first-pair.new.pairs c.place_first-pair.ensures.taken in
     let said = c.walk.new.fault in
     let none = subst (λ b. MatchBool b (said ≡ None) (said ≢ None)) c.if-not-branch.false c.in_ok-walk.ensures.holds in
-    (c.in-Some-take_first.pair.placement, turn_has turn c.place.new.self c.place.ensures c.walk.new.partial (c.in_ok-walk.ensures.restored none))
+    (c.place_first-pair.result.placement, turn_has turn c.place_first-pair.new.partial c.place_first-pair.ensures.placed c.walk.new.partial (c.in_ok-walk.ensures.restored none))
 
 pub walk_branch-loop-number-preserved : goal.walk_branch-loop-number-preserved
 walk_branch-loop-number-preserved t c =
@@ -116,15 +97,15 @@ walk_branch-loop-number-preserved t c =
     let all = front n c.args.trees.now in
     let child = first l.trees in
     let fewer = less i n c.loop-number-test.true in
-    let turn = turn_here t (goal.at.walk_branch-loop-number-preserved t c).In-Some-take_first in
+    let turn = turn_of c.loop-number.trees c.loop-number.invariant.partial c.loop-number.invariant.going c.loop-number.invariant.counted c.loop-number-test.true c.place_first-pair.result c.place_first-pair.new.pairs c.place_first-pair.ensures.taken in
     let said = c.walk.new.fault in
     let none = subst (λ b. MatchBool b (said ≡ None) (said ≢ None)) c.if-not-branch.false c.in_ok-walk.ensures.holds in
     let restored = c.in_ok-walk.ensures.restored none in
-    let holds = subst (Tells s child c.place.new.self.placed) none c.in_ok-walk.ensures.tells in
+    let holds = subst (Tells s child c.place_first-pair.new.partial.placed) none c.in_ok-walk.ensures.tells in
     let gone = c.in_ok-walk.ensures.past none in
     record {
-      partial = turn_lifted turn c.place.new.self c.place.ensures c.walk.new.partial restored c.lift.new.self c.lift.ensures;
-      going = subst (λ trees. Going s c.args.item w.placed all (i + 1) (front (n - (i + 1)) trees) c.take_first.new.self) (sym gone) (turn_more turn c.place.new.self c.place.ensures c.walk.new.partial restored holds);
+      partial = turn_lifted turn c.place_first-pair.new.partial c.place_first-pair.ensures.placed c.walk.new.partial restored c.lift.new.self c.lift.ensures;
+      going = subst (λ trees. Going s c.args.item w.placed all (i + 1) (front (n - (i + 1)) trees) c.place_first-pair.new.pairs) (sym gone) (turn_more turn c.place_first-pair.new.partial c.place_first-pair.ensures.placed c.walk.new.partial restored holds);
       no_fault = none;
       past = ap (past (n - (i + 1))) gone ∙ sym (past_first (n - i) (n - (i + 1)) l.trees fewer l.invariant.counted) ∙ l.invariant.past;
       counted = subst (λ trees. n - (i + 1) ≤ count trees) (sym gone) (count_first (n - i) (n - (i + 1)) l.trees fewer l.invariant.counted);

@@ -3,15 +3,15 @@ use Rattle.match_puzzle.specs.Puzzle.{Task}
 use Rattle.cert_tree.specs.Heads.{first}
 use Rattle.cert_check.specs.Scene.{IsChild}
 use Rattle.cert_check.proofs.SceneLemmas.{leads_on}
-use Rattle.cert_check.proofs.scenes.Scene.at.Goals as goal
+use Rattle.cert_check.proofs.scenes.Scene.follow.Goals as goal
 
 pub loop-number-preserved : goal.loop-number-preserved
 loop-number-preserved c =
     let l = c.loop-number in
-    let here = l.scene in
+    let here = l.self in
     let there = c.go_to_child.new.self in
     let went = c.go_to_child.ensures in
-    let p = c.args.puzzle.now in
+    let p = c.args.self.now.partial.puzzle in
     let path = c.args.path.now in
     let (node, placed, leads, whole) = l.invariant.leads in
     let child = subst (λ (t : Task). IsChild t (first here.trees) here.partial.placed (get_or path l.number-index 0) (first there.trees) there.partial.placed) l.invariant.puzzle went.child in
