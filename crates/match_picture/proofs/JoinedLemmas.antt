@@ -48,3 +48,14 @@ wrapped_more {piece} {a} w g = record {
   back = w.back ++ g.more;
   grown = g.grown ∙ ap (λ t. t ++ g.more) w.grown ∙ append_assoc (a ++ w.front ++ piece) w.back g.more;
 }
+
+-- what five pieces are round the fourth
+pub wrapped_fourth : {t0 t1 t2 t3 t4 t5 : List ℕ} (a b c piece last : List ℕ) → t1 ≡ t0 ++ a → t2 ≡ t1 ++ b → t3 ≡ t2 ++ c → t4 ≡ t3 ++ piece → t5 ≡ t4 ++ last → IsWrapped piece t0 t5
+wrapped_fourth {t0} a b c piece last e1 e2 e3 e4 e5 =
+    let e12 = e2 ∙ ap (λ t. t ++ b) e1 ∙ append_assoc t0 a b in
+    let e123 = e3 ∙ ap (λ t. t ++ c) e12 ∙ append_assoc t0 (a ++ b) c in
+    record {
+      front = a ++ b ++ c;
+      back = last;
+      grown = e5 ∙ ap (λ t. t ++ last) (e4 ∙ ap (λ t. t ++ piece) e123);
+    }

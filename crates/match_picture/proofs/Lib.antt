@@ -1,5 +1,6 @@
 mod EdgeLemmas
 mod JoinedLemmas
+mod SiteLemmas
 mod TileLemmas
 mod PictureLemmas
 mod LawLemmas

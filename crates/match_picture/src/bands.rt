@@ -1,6 +1,6 @@
 //! Bands along the sides of which the border asks for a colour.
 
-ghost use Rattle.std.specs.Prelude.{◌≡◌, ◌<◌, ◌↔◌, ◌⊎◌, ◌++◌, ◌∷◌, [], ℕ, Some, IfOk, IfSome, OnOk, length, slice_get};
+ghost use Rattle.std.specs.Prelude.{◌≡◌, ◌<◌, ◌↔◌, ◌⊎◌, ◌++◌, ◌∷◌, [], ℕ, List, Some, IfOk, IfSome, OnOk, length, slice_get};
 ghost use Rattle.match_board.specs.Board.{cell_count, side_count};
 ghost use Rattle.match_puzzle.specs.Puzzle.{HasRule, IsPuzzle};
 ghost use Rattle.match_picture.specs.Elements.{IsAtSide, IsBand};
@@ -72,20 +72,23 @@ fn band_lines(alloc: Global, canvas: &Canvas<'_>) -> Result<Vec<u8>, AllocError>
 {
     let mut lines = Vec::new(alloc);
     for cell in 0..canvas.puzzle.board().cells() {
-        let line = ended(band_line(alloc, canvas, cell)?)?;
-        lines.extend_from_slice(&line)?;
+        let line = band_line(alloc, canvas, cell)?;
+        put_ended(&mut lines, &line)?;
     }
     Ok(lines)
 }
 
-// The line with its end, or nothing where there is nothing in it.
-fn ended(mut line: Vec<u8>) -> Result<Vec<u8>, AllocError>
-    ensures { IfOk result (λ ended. ((line.items ≡ []) × (ended.items ≡ [])) ⊎ (ended.items ≡ line.items ++ 10 ∷ [])) }
+// Writes the line with its end, or nothing where there is nothing in it.
+fn put_ended(lines: &mut Vec<u8>, line: &[u8]) -> Result<(), AllocError>
+    ensures { OnOk result ((ended : List ℕ) × (((line.now ≡ []) × (ended ≡ [])) ⊎ (ended ≡ line.now ++ 10 ∷ []))
+        × (lines.new.items ≡ lines.old.items ++ ended)) }
 {
-    if !line.is_empty() {
-        line.push(b'\n')?;
+    if line.is_empty() {
+        return Ok(());
     }
-    Ok(line)
+    lines.extend_from_slice(line)?;
+    lines.push(b'\n')?;
+    Ok(())
 }
 
 // The bands of a cell, side by side.
@@ -139,8 +142,8 @@ fn sign_lines(alloc: Global, canvas: &Canvas<'_>) -> Result<Vec<u8>, AllocError>
 {
     let mut lines = Vec::new(alloc);
     for cell in 0..canvas.puzzle.board().cells() {
-        let line = ended(sign_line(alloc, canvas, cell)?)?;
-        lines.extend_from_slice(&line)?;
+        let line = sign_line(alloc, canvas, cell)?;
+        put_ended(&mut lines, &line)?;
     }
     Ok(lines)
 }
@@ -177,14 +180,14 @@ fn band(alloc: Global, canvas: &Canvas<'_>, ruled: Ruled) -> Result<Vec<u8>, All
     let first = outer_corner(canvas, cell, side, End::First);
     let (out, back) = (last.step(), back_to(first, last, form_side.way));
     let round = format!(in alloc; "{out}{back}z\"/>")?;
-    let rest = format!(in alloc; "{path}{round}")?;
     let mut band = begin_element(
         alloc,
         canvas.puzzle,
         colour,
         canvas.point(site, form_side.begin),
     )?;
-    band.extend_from_slice(rest.as_bytes())?;
+    band.extend_from_slice(path.as_bytes())?;
+    band.extend_from_slice(round.as_bytes())?;
     Ok(band)
 }
 
@@ -198,20 +201,31 @@ fn band_sign(alloc: Global, canvas: &Canvas<'_>, ruled: Ruled) -> Result<String,
     let site = canvas.sites[usize::from(cell)];
     let form_side = side_of(site.form, side);
     let begin = canvas.point(site, form_side.begin);
-    let part = match edge_of(canvas.puzzle, colour) {
-        Edge::Flat => 2,
-        Edge::Knob | Edge::Hollow => 4,
+    let way = form_side.way;
+    let along = match edge_of(canvas.puzzle, colour) {
+        Edge::Flat => Way {
+            x: way.x / 2,
+            y: way.y / 2,
+        },
+        Edge::Knob | Edge::Hollow => Way {
+            x: way.x / 4,
+            y: way.y / 4,
+        },
     };
-    let middle = Point {
-        x: moved(moved(begin.x, form_side.way.x / part), form_side.out.x / 2),
-        y: moved(moved(begin.y, form_side.way.y / part), form_side.out.y / 2),
+    let outside = Way {
+        x: form_side.out.x / 2,
+        y: form_side.out.y / 2,
     };
+    let middle = moved(moved(begin, along), outside);
     sign(alloc, canvas.puzzle, colour, middle)
 }
 
-// The number and so much more or less, but no less than 0.
-fn moved(number: u64, by: i8) -> u64 {
-    number.saturating_add_signed(i64::from(by))
+// The point so far on, but no further left or up than the picture.
+fn moved(point: Point, way: Way) -> Point {
+    Point {
+        x: point.x.saturating_add_signed(i64::from(way.x)),
+        y: point.y.saturating_add_signed(i64::from(way.y)),
+    }
 }
 
 // From the outer corner at the end of a side to that at its beginning.

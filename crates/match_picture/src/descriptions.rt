@@ -2,7 +2,7 @@
 
 ghost use Rattle.std.specs.Prelude.{◌<◌, All, length};
 
-use match_puzzle::{Placement, Puzzle};
+use match_puzzle::{Arrangement, Placement, Puzzle};
 use std::alloc::{AllocError, Global};
 use text_words::character;
 
@@ -51,8 +51,28 @@ fn word_shown(alloc: Global, puzzle: &Puzzle, placement: Placement) -> Result<St
     Ok(word)
 }
 
-/// Each cell's tile with its turns, of one of several arrangements.
-pub fn describe_briefly(
+/// Arrangements, numbered from the first on.
+pub fn describe_list(
+    alloc: Global,
+    arrangements: &[Arrangement],
+    first: u32,
+) -> Result<String, AllocError> {
+    let mut text = String::new(alloc);
+    text.push_str("By arrangement and cell the tile and its turns:")?;
+    let mut before = " ";
+    let mut number = first;
+    for arrangement in arrangements {
+        let brief = describe_briefly(alloc, number, arrangement.placements())?;
+        text.push_str(before)?;
+        text.push_str(&brief)?;
+        before = ", ";
+        number = number.saturating_add(1);
+    }
+    Ok(text)
+}
+
+// Each cell's tile with its turns, of one of several arrangements.
+fn describe_briefly(
     alloc: Global,
     number: u32,
     placements: &[Placement],

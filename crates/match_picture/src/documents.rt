@@ -1,5 +1,6 @@
 //! The first and the last lines of a picture.
 
+use crate::elements::put_numbered;
 use match_board::Figure;
 use std::alloc::{AllocError, Global};
 
@@ -11,22 +12,26 @@ pub fn begin_picture(
     title: &str,
     description: &str,
 ) -> Result<Vec<u8>, AllocError> {
-    let frame = format!(in alloc;
-        "<svg xmlns=\"http://www.w3.org/2000/svg\" width=\"{wide}\" height=\"{high}\" viewBox=\"0 0 "
+    let mut text = Vec::new(alloc);
+    put_numbered(
+        &mut text,
+        &[
+            ("<svg xmlns=\"http://www.w3.org/2000/svg\" width=\"", wide),
+            ("\" height=\"", high),
+            ("\" viewBox=\"0 0 ", wide),
+            (" ", high),
+        ],
+        b"\" role=\"img\">\n",
     )?;
-    let mut text = Vec::from(frame);
-    let rest = format!(in alloc;
-        "{wide} {high}\" role=\"img\">\n<title>{title}</title>\n<desc>{description}</desc>\n"
+    let words = format!(in alloc; "<title>{title}</title>\n<desc>{description}</desc>\n")?;
+    text.extend_from_slice(words.as_bytes())?;
+    // white paper below all else
+    put_numbered(
+        &mut text,
+        &[("<path fill=\"#fff\" d=\"M0 0h", wide), ("v", high)],
+        b"H0z\"/>\n",
     )?;
-    text.extend_from_slice(rest.as_bytes())?;
-    put_paper(alloc, &mut text, wide, high)?;
     Ok(text)
-}
-
-// White paper below all else.
-fn put_paper(alloc: Global, text: &mut Vec<u8>, wide: u64, high: u64) -> Result<(), AllocError> {
-    let paper = format!(in alloc; "<path fill=\"#fff\" d=\"M0 0h{wide}v{high}H0z\"/>\n")?;
-    text.extend_from_slice(paper.as_bytes())
 }
 
 /// The last line of a picture, or of one within another.

@@ -13,7 +13,7 @@ use crate::palette::{fill, is_dark};
 use crate::sites::Site;
 use match_puzzle::Puzzle;
 use std::alloc::{AllocError, Global};
-use text_words::character;
+use text_words::{character, put_number};
 
 /// Writes the lines as a group with these attributes, or nothing where there are none.
 pub fn put_group(text: &mut Vec<u8>, attributes: &[u8], lines: &[u8]) -> Result<(), AllocError>
@@ -26,7 +26,21 @@ pub fn put_group(text: &mut Vec<u8>, attributes: &[u8], lines: &[u8]) -> Result<
     text.extend_from_slice(attributes)?;
     text.extend_from_slice(b">\n")?;
     text.extend_from_slice(lines)?;
-    text.extend_from_slice(b"</g>\n")
+    text.extend_from_slice(b"</g>\n")?;
+    Ok(())
+}
+
+/// Writes each of these words with its number behind it, and then the last ones.
+pub fn put_numbered(
+    text: &mut Vec<u8>,
+    parts: &[(&str, u64)],
+    last: &[u8],
+) -> Result<(), AllocError> {
+    for (words, number) in parts {
+        text.extend_from_slice(words.as_bytes())?;
+        put_number(text, *number)?;
+    }
+    text.extend_from_slice(last)
 }
 
 /// The fill of the colour: mates have that of the lesser.
@@ -43,11 +57,12 @@ pub fn sign(alloc: Global, puzzle: &Puzzle, colour: u8, middle: Point) -> Result
 {
     let (x, y) = (middle.x, middle.y.saturating_add(5));
     let sign = char::from(character(colour));
-    if is_dark(colour.min(puzzle.mate(colour))) {
-        format!(in alloc; "<text x=\"{x}\" y=\"{y}\" fill=\"#fff\">{sign}</text>")
+    let fill = if is_dark(colour.min(puzzle.mate(colour))) {
+        " fill=\"#fff\""
     } else {
-        format!(in alloc; "<text x=\"{x}\" y=\"{y}\">{sign}</text>")
-    }
+        ""
+    };
+    format!(in alloc; "<text x=\"{x}\" y=\"{y}\"{fill}>{sign}</text>")
 }
 
 /// The number, its base line so far below the point.

@@ -232,27 +232,20 @@ fn down_side(side: u8) -> FormSide
     }
 }
 
-fn at(x: u8, y: u8) -> Offset
-    ensures x { result.x ≡ x }
-    ensures y { result.y ≡ y }
-{
-    Offset { x, y }
-}
-
 /// The middle of the form.
 pub fn middle(form: Form) -> Offset {
     match form {
-        Form::Square => at(40, 40),
-        Form::Up => at(52, 60),
-        Form::Down => at(52, 30),
+        Form::Square => Offset { x: 40, y: 40 },
+        Form::Up => Offset { x: 52, y: 60 },
+        Form::Down => Offset { x: 52, y: 30 },
     }
 }
 
 /// How wide and how high the box round the form is.
 pub fn extent(form: Form) -> Offset {
     match form {
-        Form::Square => at(80, 80),
-        Form::Up | Form::Down => at(104, 90),
+        Form::Square => Offset { x: 80, y: 80 },
+        Form::Up | Form::Down => Offset { x: 104, y: 90 },
     }
 }
 

@@ -73,14 +73,14 @@ fn part(
     let edge = edge_of(canvas.puzzle, colour);
     let path = edge_path(alloc, site.form, side, edge)?;
     let home = format!(in alloc; "{}z\"/>", form_side.home.step())?;
-    let rest = format!(in alloc; "{path}{home}")?;
     let mut part = begin_element(
         alloc,
         canvas.puzzle,
         colour,
         canvas.point(site, form_side.begin),
     )?;
-    part.extend_from_slice(rest.as_bytes())?;
+    part.extend_from_slice(path.as_bytes())?;
+    part.extend_from_slice(home.as_bytes())?;
     Ok(part)
 }
 

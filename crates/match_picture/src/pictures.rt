@@ -2,10 +2,11 @@
 
 ghost use Rattle.std.specs.Prelude.{◌≡◌, ◌<◌, ◌≤◌, ◌^◌, List, All, IfOk, OnOk, length};
 ghost use Rattle.match_picture.specs.Joined.{Wraps};
-ghost use Rattle.match_picture.specs.Pictures.{AreBandLines, IsArrangementPicture, IsPuzzlePicture};
+ghost use Rattle.match_picture.specs.Pictures.{AreBandLines, ArePartLines, AreUnturned, IsArrangementPicture, IsPuzzlePicture};
 ghost use Rattle.match_picture.specs.declared.sites.Site.{Site};
 ghost use Rattle.match_picture.specs.Sites.{AreSites};
 ghost use Rattle.match_puzzle.specs.Arrangement.{IsArrangement};
+ghost use Rattle.match_puzzle.specs.declared.placements.Placement.{Placement};
 
 use crate::bands::put_bands;
 use crate::canvases::{Canvas, MARGIN};
@@ -15,6 +16,7 @@ use crate::documents::{END, begin_picture, board_words};
 use crate::sites::{board_extent, sites_of};
 use crate::tiles::{Labels, put_tiles};
 use crate::trays::{Tray, tray_sites, unturned};
+use match_board::Board;
 use match_puzzle::{Placement, Puzzle};
 use std::alloc::{AllocError, Global};
 
@@ -86,44 +88,49 @@ pub fn draw_arrangement(
 pub fn write_puzzle_picture(alloc: Global, puzzle: &Puzzle) -> Result<Vec<u8>, AllocError>
     ensures { IfOk result (λ text. IsPuzzlePicture puzzle.now text.items) }
 {
-    let board = board_extent(puzzle.board().figure());
-    let cells = puzzle.board().cells();
-    let tray = Tray::new(cells, board.wide, puzzle.board().sides());
-    let (tray_width, tray_height) = (tray.width(), tray.height());
-    let width = board.wide.max(tray_width);
-    let (wide, high) = (width + 2 * MARGIN, board.high + tray_height + 3 * MARGIN);
-    let mut text = begin_puzzle(alloc, puzzle, wide, high)?;
-    put_empty_board(alloc, &mut text, puzzle, MARGIN + (width - board.wide) / 2)?;
-    let below = Canvas {
-        puzzle,
-        sites: tray_sites(alloc, tray, cells)?,
-        left: MARGIN + (width - tray_width) / 2,
-        top: board.high + 2 * MARGIN,
-    };
-    let tiles = unturned(alloc, cells)?;
-    let labels = Labels {
-        outline: 2,
-        signs: true,
-        numbers: true,
-    };
-    put_tiles(alloc, &mut text, &below, &tiles, labels)?;
+    let layout = layout_of(puzzle.board());
+    let mut text = begin_puzzle(alloc, puzzle, &layout)?;
+    put_empty_board(alloc, &mut text, puzzle, layout.board_left)?;
+    put_tray(alloc, &mut text, puzzle, &layout)?;
     text.extend_from_slice(END)?;
     Ok(text)
 }
 
-fn begin_puzzle(
-    alloc: Global,
-    puzzle: &Puzzle,
+// How the empty board of a puzzle and the tray below it stand in a picture.
+#[derive(Clone, Copy)]
+struct Layout {
+    tray: Tray,
     wide: u32,
     high: u32,
-) -> Result<Vec<u8>, AllocError> {
+    board_left: u32,
+    tray_left: u32,
+    tray_top: u32,
+}
+
+// The layout with both in the middle.
+fn layout_of(board: &Board) -> Layout {
+    let extent = board_extent(board.figure());
+    let tray = Tray::new(board.cells(), extent.wide, board.sides());
+    let (tray_width, tray_height) = (tray.width(), tray.height());
+    let width = extent.wide.max(tray_width);
+    Layout {
+        tray,
+        wide: width + 2 * MARGIN,
+        high: extent.high + tray_height + 3 * MARGIN,
+        board_left: MARGIN + (width - extent.wide) / 2,
+        tray_left: MARGIN + (width - tray_width) / 2,
+        tray_top: extent.high + 2 * MARGIN,
+    }
+}
+
+fn begin_puzzle(alloc: Global, puzzle: &Puzzle, layout: &Layout) -> Result<Vec<u8>, AllocError> {
     let words = board_words(alloc, puzzle.board().figure())?;
     let title = format!(in alloc; "Puzzle: {words}")?;
     let description = describe_tiles(alloc, puzzle)?;
     begin_picture(
         alloc,
-        u64::from(wide),
-        u64::from(high),
+        u64::from(layout.wide),
+        u64::from(layout.high),
         &title,
         &description,
     )
@@ -142,6 +149,35 @@ fn put_empty_board(
     let canvas = board_canvas(alloc, puzzle, left)?;
     put_bands(alloc, text, &canvas, true)?;
     put_cells(alloc, text, &canvas)?;
+    Ok(())
+}
+
+// Each tile, unturned, below the board.
+fn put_tray(
+    alloc: Global,
+    text: &mut Vec<u8>,
+    puzzle: &Puzzle,
+    layout: &Layout,
+) -> Result<(), AllocError>
+    ensures { OnOk result ((tray : List Site) × (tiles : List Placement) × (length tray ≡ length tiles)
+        × AreUnturned (length puzzle.now.words) tiles
+        × Wraps (ArePartLines puzzle.now layout.now.tray_left layout.now.tray_top tray tiles)
+        text.old.items text.new.items) }
+{
+    let cells = puzzle.board().cells();
+    let below = Canvas {
+        puzzle,
+        sites: tray_sites(alloc, layout.tray, cells)?,
+        left: layout.tray_left,
+        top: layout.tray_top,
+    };
+    let tiles = unturned(alloc, cells)?;
+    let labels = Labels {
+        outline: 2,
+        signs: true,
+        numbers: true,
+    };
+    put_tiles(alloc, text, &below, &tiles, labels)?;
     Ok(())
 }
 

@@ -6,9 +6,9 @@ ghost use Rattle.match_picture.specs.Joined.{IsJoined};
 ghost use Rattle.match_picture.specs.Pictures.{IsPictureAt, IsSheet};
 
 use crate::canvases::{MARGIN, Point};
-use crate::descriptions::describe_briefly;
+use crate::descriptions::describe_list;
 use crate::documents::{END, EvenRows, begin_picture, board_words, even_rows};
-use crate::elements::{number, put_group};
+use crate::elements::{number, put_group, put_numbered};
 use crate::pictures::draw_arrangement;
 use crate::sites::{Extent, board_extent};
 use crate::tiles::Labels;
@@ -28,6 +28,8 @@ struct Sheet {
     first: u32,
     // that of a picture of its own
     full: Extent,
+    // how wide outlines are there: as they are to look when they are made small
+    outline: u32,
     // that of a thumbnail
     small: Extent,
     rows: EvenRows,
@@ -47,6 +49,7 @@ impl Sheet {
         Sheet {
             first,
             full,
+            outline: longer.div_ceil(LONGER),
             small: Extent {
                 wide: (LONGER * full.wide).div_ceil(longer),
                 high: (LONGER * full.high).div_ceil(longer),
@@ -62,11 +65,6 @@ impl Sheet {
             x: u64::from(index % columns) * u64::from(self.small.wide),
             y: u64::from(index / columns) * (u64::from(self.small.high) + u64::from(CAPTION)),
         }
-    }
-
-    // How wide outlines are: as they are to look when they are made small.
-    fn outline_width(self) -> u32 {
-        self.full.wide.max(self.full.high).div_ceil(LONGER)
     }
 }
 
@@ -110,7 +108,7 @@ fn thumbnails(
     ensures { IfOk result (λ text. IsJoined (IsPictureAt puzzle.now arrangements.now) (length arrangements.now) text.items) }
 {
     let labels = Labels {
-        outline: sheet.outline_width(),
+        outline: sheet.outline,
         signs: false,
         numbers: false,
     };
@@ -138,16 +136,7 @@ fn begin_sheet(
     let first = sheet.first;
     let last = (first + arrangements.len() as u32).saturating_sub(1);
     let title = format!(in alloc; "Arrangements {first} to {last}: {words}")?;
-    let mut description = String::new(alloc);
-    description.push_str("By arrangement and cell the tile and its turns:")?;
-    let mut number = first;
-    for arrangement in arrangements {
-        let before = if number == first { " " } else { ", " };
-        description.push_str(before)?;
-        let brief = describe_briefly(alloc, number, arrangement.placements())?;
-        description.push_str(&brief)?;
-        number = number.saturating_add(1);
-    }
+    let description = describe_list(alloc, arrangements, first)?;
     let EvenRows { rows, columns } = sheet.rows;
     let wide = u64::from(columns) * u64::from(sheet.small.wide);
     let high = u64::from(rows) * (u64::from(sheet.small.high) + u64::from(CAPTION));
@@ -157,13 +146,19 @@ fn begin_sheet(
 // The first line of a thumbnail.
 fn frame_line(alloc: Global, sheet: &Sheet, index: u16) -> Result<Vec<u8>, AllocError> {
     let corner = sheet.corner(index);
-    let (x, y, small, full) = (corner.x, corner.y, sheet.small, sheet.full);
-    let (wide, high) = (small.wide, small.high);
-    let frame = format!(in alloc; "<svg x=\"{x}\" y=\"{y}\" width=\"{wide}\" height=\"{high}\" ")?;
-    let (wide, high) = (full.wide, full.high);
-    let view = format!(in alloc; "viewBox=\"0 0 {wide} {high}\">\n")?;
-    let mut line = Vec::from_slice(alloc, frame.as_bytes())?;
-    line.extend_from_slice(view.as_bytes())?;
+    let mut line = Vec::new(alloc);
+    put_numbered(
+        &mut line,
+        &[
+            ("<svg x=\"", corner.x),
+            ("\" y=\"", corner.y),
+            ("\" width=\"", u64::from(sheet.small.wide)),
+            ("\" height=\"", u64::from(sheet.small.high)),
+            ("\" viewBox=\"0 0 ", u64::from(sheet.full.wide)),
+            (" ", u64::from(sheet.full.high)),
+        ],
+        b"\">\n",
+    )?;
     Ok(line)
 }
 

@@ -8,7 +8,7 @@ ghost use Rattle.match_picture.specs.Pictures.{ArePartLines};
 
 use crate::canvases::Canvas;
 use crate::edges::{Edge, edge_of, edge_path};
-use crate::elements::{number, outline, put_group, sign};
+use crate::elements::{number, outline, put_group, put_numbered, sign};
 use crate::forms::{disc_radius, middle, side_of};
 use crate::parts::part_lines;
 use crate::sites::Site;
@@ -133,18 +133,20 @@ fn put_numbers(
     let discs = layer_lines(alloc, canvas, placements, Layer::Discs)?;
     put_group(text, b"fill=\"#fff\" stroke=\"#222\"", &discs)?;
     let numbers = layer_lines(alloc, canvas, placements, Layer::Numbers)?;
-    let size = number_size(canvas.puzzle.board().sides());
-    let letters = format!(in alloc;
-        "font-family=\"monospace\" font-size=\"{size}\" text-anchor=\"middle\""
-    )?;
-    put_group(text, letters.as_bytes(), &numbers)?;
+    let letters = if canvas.puzzle.board().sides() == 4 {
+        SQUARE_NUMBER_LETTERS
+    } else {
+        TRIANGLE_NUMBER_LETTERS
+    };
+    put_group(text, letters, &numbers)?;
     Ok(())
 }
 
-// The size of a number on a tile with so many sides.
-fn number_size(sides: u8) -> u8 {
-    if sides == 4 { 13 } else { 12 }
-}
+const SQUARE_NUMBER_LETTERS: &[u8] =
+    b"font-family=\"monospace\" font-size=\"13\" text-anchor=\"middle\"";
+
+const TRIANGLE_NUMBER_LETTERS: &[u8] =
+    b"font-family=\"monospace\" font-size=\"12\" text-anchor=\"middle\"";
 
 // The layer, a line for each tile.
 fn layer_lines(
@@ -181,7 +183,7 @@ fn put_layer(
             line.extend_from_slice(outline(alloc, canvas, site, edges)?.as_slice())
         }
         Layer::Signs => put_tile_signs(alloc, line, canvas, site, placement),
-        Layer::Discs => put_disc(alloc, line, canvas, site),
+        Layer::Discs => put_disc(line, canvas, site),
         Layer::Numbers => {
             let label = tile_number(alloc, canvas, site, placement)?;
             line.extend_from_slice(label.as_bytes())
@@ -235,14 +237,16 @@ fn put_tile_signs(
     Ok(())
 }
 
-fn put_disc(
-    alloc: Global,
-    line: &mut Vec<u8>,
-    canvas: &Canvas<'_>,
-    site: Site,
-) -> Result<(), AllocError> {
+fn put_disc(line: &mut Vec<u8>, canvas: &Canvas<'_>, site: Site) -> Result<(), AllocError> {
     let at = canvas.point(site, middle(site.form));
-    let (x, y, r) = (at.x, at.y, disc_radius(site.form));
-    let disc = format!(in alloc; "<circle cx=\"{x}\" cy=\"{y}\" r=\"{r}\"/>")?;
-    line.extend_from_slice(disc.as_bytes())
+    let radius = u64::from(disc_radius(site.form));
+    put_numbered(
+        line,
+        &[
+            ("<circle cx=\"", at.x),
+            ("\" cy=\"", at.y),
+            ("\" r=\"", radius),
+        ],
+        b"\"/>",
+    )
 }

@@ -1,7 +1,8 @@
-use Rattle.std.proofs.Common.{◌≡◌, ◌<◌, ◌∙◌, get_or, length, arith, subst}
-use Rattle.std.specs.String.{string_bytes}
-use Rattle.match_picture.specs.Elements.{IsAtSide}
-use Rattle.match_picture.proofs.EdgeLemmas.{along_edge}
+use Rattle.std.proofs.Common.{◌≡◌, ◌<◌, ◌+◌, ◌∙◌, ap, get_or, length, arith, subst, sym}
+use Rattle.match_picture.specs.Edges.{IsEdgePath}
+use Rattle.match_picture.specs.Elements.{IsAtSide, IsElement}
+use Rattle.match_picture.specs.Sites.{begin_of}
+use Rattle.match_picture.proofs.EdgeLemmas.{element_along}
 use Rattle.match_picture.proofs.JoinedLemmas.{same_item}
 use Rattle.match_picture.proofs.bands.band.Goals as goal
 
@@ -12,9 +13,14 @@ returns c = λ site at.
     let within : ruled.cell < length canvas.sites.items = omega (arith, c.requires.many, c.requires.cell) in
     let read = subst (λ i. c.index-site.result.now ≡ get_or canvas.sites.items i c.index-site.result.now) c.from.ensures c.index-site.ensures in
     let same = same_item canvas.sites.items ruled.cell c.index-site.result.now site within read at in
-    let made : IsAtSide canvas.puzzle.now canvas.left canvas.top c.index-site.result.now ruled.side ruled.colour c.extend_from_slice.new.self.items = record {
-      rest = c.as_bytes.result.now;
-      begins = grind (arith, c.in_ok-extend_from_slice.ensures.items, c.in_ok-band.ensures, c.point.ensures.x, c.point.ensures.y, c.side_of-form_side.ensures.x, c.side_of-form_side.ensures.y);
-      along = along_edge canvas.puzzle.now ruled.colour c.edge_of-edge.result (string_bytes c.in_ok-path.path) (string_bytes c.in_ok-round.round) c.as_bytes.result.now c.edge_of-edge.ensures c.in_ok-path.ensures (c.as_bytes.ensures.value ∙ c.in_ok-rest.ensures.ok);
-    } in
-    subst (λ s. IsAtSide canvas.puzzle.now canvas.left canvas.top s ruled.side ruled.colour c.extend_from_slice.new.self.items) same made
+    let p = canvas.puzzle.now in
+    let here = c.index-site.result.now in
+    let text = c.extend_from_slice-2.new.self.items in
+    let x = c.point.ensures.x ∙ ap (λ n. canvas.left + here.x + n) c.side_of-form_side.ensures.x in
+    let y = c.point.ensures.y ∙ ap (λ n. canvas.top + here.y + n) c.side_of-form_side.ensures.y in
+    let edge = c.edge_of-edge.result in
+    let path = subst (IsEdgePath edge) (sym c.as_bytes.ensures.value) c.in_ok-path.ensures in
+    let begun = element_along p ruled.colour _ _ edge _ _ _ _ text c.in_ok-band.ensures c.in_ok-extend_from_slice.ensures.items c.in_ok-extend_from_slice-2.ensures.items c.edge_of-edge.ensures path in
+    let made : IsAtSide p canvas.left canvas.top here ruled.side ruled.colour text =
+    subst (λ n. IsElement p ruled.colour n (canvas.top + here.y + (begin_of here.form ruled.side).1) text) x (subst (λ n. IsElement p ruled.colour c.point.result.x n text) y begun) in
+    subst (λ s. IsAtSide p canvas.left canvas.top s ruled.side ruled.colour text) same made

@@ -1,4 +1,4 @@
-use Rattle.std.proofs.Common.{◌+◌, ◌++◌, sym, subst, ap, ◌∙◌}
+use Rattle.std.proofs.Common.{◌≡◌, ◌⊎◌, ◌+◌, ◌++◌, ◌∷◌, [], sym, subst}
 use Rattle.match_picture.specs.Joined.{IsJoined}
 use Rattle.match_picture.specs.Pictures.{IsBandLineAt}
 use Rattle.match_picture.proofs.JoinedLemmas.{joined_more}
@@ -7,12 +7,13 @@ use Rattle.match_picture.proofs.bands.band_lines.Goals as goal
 pub loop-cell-preserved : goal.loop-cell-preserved
 loop-cell-preserved c =
     let canvas = c.args.canvas.now in
-    let line : IsBandLineAt canvas.puzzle.now canvas.left canvas.top canvas.sites.items c.loop-cell.cell c.in_ok-line.line.items =
+    let put = c.in_ok-put_ended.ensures in
+    let ended = put.0 in
+    let line : IsBandLineAt canvas.puzzle.now canvas.left canvas.top canvas.sites.items c.loop-cell.cell ended =
     λ site at. record {
-      bands = c.in_ok-band_line.field-0.items;
-      joined = c.in_ok-band_line.ensures site at;
-      line = c.in_ok-line.ensures;
+      bands = c.in_ok-line.line.items;
+      joined = c.in_ok-line.ensures site at;
+      line = subst (λ b. ((b ≡ []) × (ended ≡ [])) ⊎ (ended ≡ b ++ 10 ∷ [])) c.deref.ensures.value put.1;
     } in
-    subst (IsJoined (IsBandLineAt canvas.puzzle.now canvas.left canvas.top canvas.sites.items) (c.loop-cell.cell + 1))
-    (sym (c.in_ok-extend_from_slice.ensures.items ∙ ap (λ t. c.loop-cell.lines.items ++ t) c.deref.ensures.value))
-    (joined_more _ c.loop-cell.invariant line)
+    subst (IsJoined (IsBandLineAt canvas.puzzle.now canvas.left canvas.top canvas.sites.items) (c.loop-cell.cell + 1)) (sym put.2)
+    (joined_more ended c.loop-cell.invariant line)

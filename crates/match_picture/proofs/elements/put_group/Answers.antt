@@ -1,5 +1,6 @@
 use Rattle.std.proofs.Common.{◌≡◌, ◌++◌, [], sym, ap, arith, ◌∙◌}
 use Rattle.std.proofs.lemmas.List.{nil_from_length, append-nil}
+use Rattle.match_picture.proofs.JoinedLemmas.{wrapped_fourth}
 use Rattle.match_picture.proofs.elements.put_group.Goals as goal
 
 pub returns-then-is_empty : goal.returns-then-is_empty
@@ -12,3 +13,6 @@ returns-then-is_empty c =
       grown = sym (append-nil text) ∙ sym (append-nil (text ++ [])) ∙ ap (λ l. (text ++ []) ++ l) (sym none)
           ∙ sym (append-nil ((text ++ []) ++ c.args.lines.now));
     }
+
+pub returns : goal.returns
+returns c = wrapped_fourth _ _ _ c.args.lines.now _ c.in_ok-extend_from_slice.ensures.items c.in_ok-extend_from_slice-2.ensures.items c.in_ok-extend_from_slice-3.ensures.items c.in_ok-extend_from_slice-4.ensures.items c.in_ok-extend_from_slice-5.ensures.items

@@ -1,11 +1,20 @@
-use Rattle.std.proofs.Common.{◌∙◌, arith}
-use Rattle.std.specs.String.{string_bytes}
-use Rattle.match_picture.proofs.EdgeLemmas.{along_edge}
+use Rattle.std.proofs.Common.{◌+◌, ap, subst, sym, ◌∙◌}
+use Rattle.match_picture.specs.Edges.{IsEdgePath}
+use Rattle.match_picture.specs.Elements.{IsElement}
+use Rattle.match_picture.specs.Sites.{begin_of}
+use Rattle.match_picture.proofs.EdgeLemmas.{element_along}
 use Rattle.match_picture.proofs.parts.part.Goals as goal
 
 pub returns : goal.returns
-returns c = record {
-  rest = c.as_bytes.result.now;
-  begins = grind (arith, c.in_ok-extend_from_slice.ensures.items, c.in_ok-part.ensures, c.point.ensures.x, c.point.ensures.y, c.side_of-form_side.ensures.x, c.side_of-form_side.ensures.y);
-  along = along_edge c.args.canvas.now.puzzle.now c.args.colour c.edge_of-edge.result (string_bytes c.in_ok-path.path) (string_bytes c.in_ok-home.home) c.as_bytes.result.now c.edge_of-edge.ensures c.in_ok-path.ensures (c.as_bytes.ensures.value ∙ c.in_ok-rest.ensures.ok);
-}
+returns c =
+    let canvas = c.args.canvas.now in
+    let p = canvas.puzzle.now in
+    let site = c.args.site in
+    let colour = c.args.colour in
+    let text = c.extend_from_slice-2.new.self.items in
+    let x = c.point.ensures.x ∙ ap (λ n. canvas.left + site.x + n) c.side_of-form_side.ensures.x in
+    let y = c.point.ensures.y ∙ ap (λ n. canvas.top + site.y + n) c.side_of-form_side.ensures.y in
+    let edge = c.edge_of-edge.result in
+    let path = subst (IsEdgePath edge) (sym c.as_bytes.ensures.value) c.in_ok-path.ensures in
+    let made = element_along p colour _ _ edge _ _ _ _ text c.in_ok-part.ensures c.in_ok-extend_from_slice.ensures.items c.in_ok-extend_from_slice-2.ensures.items c.edge_of-edge.ensures path in
+    subst (λ n. IsElement p colour n (canvas.top + site.y + (begin_of site.form c.args.side).1) text) x (subst (λ n. IsElement p colour c.point.result.x n text) y made)
