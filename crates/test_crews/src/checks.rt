@@ -52,7 +52,7 @@ impl Watch {
         }
     }
 
-    // Waits until each worker came as often as this one. Whether they did.
+    // Waits until each worker came as often as this one, or one of them waited in vain. Whether they came.
     fn meets_all(&self) -> bool {
         let workers = u64::from(self.workers.max(1));
         let before = u64::from(self.came.fetch_add(1, Ordering::SeqCst));
@@ -60,6 +60,9 @@ impl Watch {
         for _ in 0..10_000_000u32 {
             if u64::from(self.came.load(Ordering::SeqCst)) >= all {
                 return true;
+            }
+            if self.missed.load(Ordering::SeqCst) {
+                return false;
             }
             thread::yield_now();
         }

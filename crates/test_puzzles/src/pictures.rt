@@ -163,14 +163,33 @@ fn first_picture(
     Ok(picture)
 }
 
+// Whether the puzzle is drawn so.
+fn draws_puzzle(alloc: Global, puzzle: &[u8], picture: &[u8]) -> Result<bool, Fail> {
+    let puzzle = puzzle_of(alloc, puzzle)?;
+    Ok(write_puzzle_picture(alloc, &puzzle)?.as_slice() == picture)
+}
+
+// A puzzle, a list, whether its first arrangement is drawn with numbers, and the picture.
+const ROWS: [(&[u8], &[u8], bool, &[u8]); 2] = [
+    (
+        HEADS_AND_TAILS,
+        HEADS_AND_TAILS_LIST,
+        false,
+        HEADS_AND_TAILS_PICTURE,
+    ),
+    (
+        TURNING_TRIANGLE,
+        TURNING_TRIANGLE_LIST,
+        true,
+        TURNING_TRIANGLE_PICTURE,
+    ),
+];
+
 #[test]
 fn draws_pictures(rt: HostRuntime) -> Result<(), Fail> {
-    let alloc = rt.alloc();
-    let heads = first_picture(alloc, HEADS_AND_TAILS, HEADS_AND_TAILS_LIST, false)?;
-    assert!(rt; heads.as_slice() == HEADS_AND_TAILS_PICTURE);
-    let triangle = first_picture(alloc, TURNING_TRIANGLE, TURNING_TRIANGLE_LIST, true)?;
-    assert!(rt; triangle.as_slice() == TURNING_TRIANGLE_PICTURE);
-    let corner = puzzle_of(alloc, CORNER_SHAPE)?;
-    assert!(rt; write_puzzle_picture(alloc, &corner)?.as_slice() == CORNER_SHAPE_PICTURE);
+    for (puzzle, list, numbers, picture) in ROWS {
+        assert!(rt; first_picture(rt.alloc(), puzzle, list, numbers)?.as_slice() == picture);
+    }
+    assert!(rt; draws_puzzle(rt.alloc(), CORNER_SHAPE, CORNER_SHAPE_PICTURE)?);
     Ok(())
 }
