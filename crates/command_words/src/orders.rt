@@ -46,7 +46,7 @@ pub enum Extent {
 }
 
 /// What is shown or drawn.
-#[derive(PartialEq, Eq, Debug, Drop)]
+#[derive(Debug, Drop)]
 pub enum Subject {
     /// The empty board of the puzzle that stands there.
     Board(Place),
@@ -58,7 +58,7 @@ pub enum Subject {
 }
 
 /// What words order.
-#[derive(PartialEq, Eq, Debug, Drop)]
+#[derive(Debug, Drop)]
 pub enum Order {
     /// To check the documents that stand on standard input, joined.
     Joined,
