@@ -11,3 +11,4 @@ pub mod Parts
 pub mod Writing
 pub mod Laws
 pub mod LemmaParts
+pub mod FaultText

@@ -1,28 +1,41 @@
 //! What may be wrong with the texts of lemmas and certificates.
 
-ghost use Rattle.std.specs.Prelude.{◌≡◌};
+ghost use Rattle.std.specs.Prelude.{◌≡◌, Some};
 ghost use Rattle.cert_text.specs.declared.faults.CertTextFault.TheVariants as texts;
 ghost use Rattle.cert_text.specs.Faults.{of_certificate_text, of_assembly};
+ghost use Rattle.cert_text.specs.FaultText.{cert_text_fault_text};
 
 use cert_tree::AssembleFault;
 use std::alloc::AllocError;
+use std::error::Error;
+use std::fmt;
 use text_words::{ReadFault, TextFault};
-use thiserror::Error;
 
 /// Why there is no lemma of a text.
 pub type LemmaTextFault = ReadFault;
 
 /// Why there is no certificate of a text, in the order in which it is looked for.
-#[derive(Clone, Copy, PartialEq, Eq, Debug, Error)]
+#[derive(Clone, Copy, PartialEq, Eq, Debug)]
 pub enum CertTextFault {
-    #[error("{0}")]
     Text(TextFault),
     /// The lemmas make no certificate; the text has no fault.
-    #[error("{0}")]
     Assemble(AssembleFault),
-    #[error("out of memory")]
     Memory,
 }
+
+impl fmt::Display for CertTextFault {
+    ghost output = { λ fault. Some (cert_text_fault_text fault) };
+
+    fn fmt<W: fmt::Write>(&self, f: &mut fmt::Formatter<W>) -> fmt::Result {
+        match self {
+            CertTextFault::Text(fault) => write!(f, "{fault}"),
+            CertTextFault::Assemble(fault) => write!(f, "{fault}"),
+            CertTextFault::Memory => f.write_str("out of memory"),
+        }
+    }
+}
+
+impl Error for CertTextFault {}
 
 impl From<AllocError> for CertTextFault {
     ghost from_gives = { λ _ e. e ≡ texts.Memory };

@@ -9,3 +9,4 @@ pub mod TurnedAssembly
 pub mod Turning
 pub mod Slots
 pub mod HeadLaws
+pub mod FaultText

@@ -1,26 +1,39 @@
 //! What may be wrong with pieces.
 
-ghost use Rattle.std.specs.Prelude.{◌≡◌};
+ghost use Rattle.std.specs.Prelude.{◌≡◌, Some};
+ghost use Rattle.cert_tree.specs.FaultText.{assemble_fault_text};
 ghost use Rattle.cert_tree.specs.declared.faults.AssembleFault.TheVariants as assemble;
 
 use std::alloc::{AllocError, AllocFailed};
-use thiserror::Error;
+use std::error::Error;
+use std::fmt;
 
 /// Why lemmas make no certificate, in the order in which it is looked for; each names its least number.
-#[derive(Clone, Copy, PartialEq, Eq, Debug, Error)]
+#[derive(Clone, Copy, PartialEq, Eq, Debug)]
 pub enum AssembleFault {
     /// A lemma has this number, which is at or past the count.
-    #[error("stranger {0}")]
     Stranger(u32),
     /// More than one lemma has this number.
-    #[error("double {0}")]
     Double(u32),
     /// No lemma has this number, which is below the count.
-    #[error("missing {0}")]
     Missing(u32),
-    #[error("out of memory")]
     Memory,
 }
+
+impl fmt::Display for AssembleFault {
+    ghost output = { λ fault. Some (assemble_fault_text fault) };
+
+    fn fmt<W: fmt::Write>(&self, f: &mut fmt::Formatter<W>) -> fmt::Result {
+        match self {
+            AssembleFault::Stranger(number) => write!(f, "stranger {number}"),
+            AssembleFault::Double(number) => write!(f, "double {number}"),
+            AssembleFault::Missing(number) => write!(f, "missing {number}"),
+            AssembleFault::Memory => f.write_str("out of memory"),
+        }
+    }
+}
+
+impl Error for AssembleFault {}
 
 impl From<AllocError> for AssembleFault {
     ghost from_gives = { λ _ e. e ≡ assemble.Memory };

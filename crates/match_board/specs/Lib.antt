@@ -4,3 +4,4 @@ pub mod Turns
 pub mod Borders
 pub mod Mates
 pub mod FirstSides
+pub mod FaultText

@@ -1,24 +1,37 @@
 //! A board: its cells, and which of their sides meet.
 
-ghost use Rattle.std.specs.Prelude.{◌≡◌, ◌↔◌, ◌<◌, ◌≤◌, ◌*◌, ℕ, ◌+◌, List, length, IfOk, IfSome, MatchBool};
+ghost use Rattle.std.specs.Prelude.{◌≡◌, ◌↔◌, ◌<◌, ◌≤◌, ◌*◌, ℕ, ◌+◌, List, Some, length, IfOk, IfSome, MatchBool};
 ghost use Rattle.match_board.specs.Board.{cell_count, side_count, Meets, IsBoard, IsBorderOrder, IsBorderPair};
 ghost use Rattle.match_board.specs.Board.{IsBorderBefore, HasRoom, IsPlain, shape_of, second_figure};
+ghost use Rattle.match_board.specs.FaultText.{board_fault_text};
 ghost use Rattle.match_board.specs.declared.figures.Figure.TheVariants.{Rectangle, Triangle, Hexagon};
 
 use crate::figures::Figure;
 use crate::shapes;
 use match_limits::{MOST_CELLS, MOST_PLACES, MOST_PLAIN_CELLS};
+use std::error::Error;
+use std::fmt;
 use std::marker::Model;
-use thiserror::Error;
 
 /// Why there is no such board: it has no cells, or too many.
-#[derive(Clone, Copy, PartialEq, Eq, Debug, Error)]
+#[derive(Clone, Copy, PartialEq, Eq, Debug)]
 pub enum BoardFault {
-    #[error("board empty")]
     Empty,
-    #[error("board too-large")]
     TooLarge,
 }
+
+impl fmt::Display for BoardFault {
+    ghost output = { λ fault. Some (board_fault_text fault) };
+
+    fn fmt<W: fmt::Write>(&self, f: &mut fmt::Formatter<W>) -> fmt::Result {
+        f.write_str(match self {
+            BoardFault::Empty => "board empty",
+            BoardFault::TooLarge => "board too-large",
+        })
+    }
+}
+
+impl Error for BoardFault {}
 
 /// A board: a rectangle of squares, or a triangle or a hexagon of triangles, with 1 to 100 cells; or a shape, which has
 /// 1 to 256 of the squares of a rectangle.

@@ -1,10 +1,13 @@
 //! Why a puzzle was not solved.
 
-ghost use Rattle.std.specs.Prelude.{◌≡◌};
+ghost use Rattle.std.specs.Prelude.{◌≡◌, Some};
 ghost use Rattle.match_crew.specs.declared.faults.SolveFault.TheVariants.{Memory};
 ghost use Rattle.match_crew.specs.Solving.{solve_of_compile};
+ghost use Rattle.match_crew.specs.FaultText.{solve_fault_text};
 
 use std::alloc::AllocError;
+use std::error::Error;
+use std::fmt;
 use xcc_form::CompileFault;
 
 /// Why a puzzle was not solved.
@@ -18,6 +21,21 @@ pub enum SolveFault {
     Full,
     Memory,
 }
+
+impl fmt::Display for SolveFault {
+    ghost output = { λ fault. Some (solve_fault_text fault) };
+
+    fn fmt<W: fmt::Write>(&self, f: &mut fmt::Formatter<W>) -> fmt::Result {
+        f.write_str(match self {
+            SolveFault::GaveUp => "gave up",
+            SolveFault::TooMany => "too many options",
+            SolveFault::Full => "too many arrangements",
+            SolveFault::Memory => "out of memory",
+        })
+    }
+}
+
+impl Error for SolveFault {}
 
 impl From<CompileFault> for SolveFault {
     ghost from_gives = { λ fault e. e ≡ solve_of_compile fault };

@@ -7,10 +7,9 @@ use Rattle.clap.specs.declared.error.kind.ErrorKind.TheVariants.{DisplayHelp, Di
 use Rattle.command_words.specs.Commands.{whole_app}
 use Rattle.command_words.specs.Orders.{IsOrder}
 use Rattle.command_words.specs.declared.orders.Order.{Order}
-use Rattle.text_words.specs.Spelling.{line_text}
 use Rattle.byte_streams.specs.Moves.{FrontOf, Writing}
 use Rattle.match_program.specs.Exits.{fault_exit}
-use Rattle.match_runs.specs.FaultText.{fault_line, memory_words}
+use Rattle.match_runs.specs.FaultText.{fault_line}
 use Rattle.match_program.specs.declared.exits.Exit.{Exit}
 use Rattle.match_program.specs.declared.exits.Exit.TheVariants.{Done, Failed}
 use Rattle.match_runs.specs.declared.faults.RunFault.{RunFault}
@@ -22,7 +21,7 @@ Tells sink text = Appends sink.before sink.after text ⊎ FrontOf sink text
 
 -- The line of the fault was told, or, where memory was refused to it, that of want of memory.
 abbrev pub TellsFault : Writing → RunFault → Type 0
-TellsFault errors fault = Tells errors (fault_line fault) ⊎ Tells errors (line_text memory_words)
+TellsFault errors fault = Tells errors (fault_line fault) ⊎ Tells errors (fault_line runs.Memory)
 
 -- Why a text that was asked for wasn't written was told: memory for it was refused, or writing failed.
 abbrev pub TellsOfText : Writing → Type 0

@@ -12,3 +12,4 @@ pub mod Tables
 pub mod Equality
 pub mod PlacementSets
 pub mod Partials
+pub mod FaultText

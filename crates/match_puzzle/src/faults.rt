@@ -1,36 +1,49 @@
 //! What may be wrong with a puzzle or an arrangement.
 
+ghost use Rattle.std.specs.Prelude.{◌≡◌, Some};
+ghost use Rattle.match_puzzle.specs.FaultText.{puzzle_fault_text, arrangement_fault_text};
 ghost use Rattle.match_puzzle.specs.declared.faults.PuzzleFault.TheVariants.{Memory};
-ghost use Rattle.std.specs.Prelude.{◌≡◌};
 
 use std::alloc::AllocError;
+use std::{error, fmt};
 use thiserror::Error;
 
 /// Why there is no such puzzle, in the order in which it is looked for.
-#[derive(Clone, Copy, PartialEq, Eq, Debug, Error)]
+#[derive(Clone, Copy, PartialEq, Eq, Debug)]
 pub enum PuzzleFault {
     /// Cells have three sides, and tiles may not be turned.
-    #[error("fixed-triangles")]
     FixedTriangles,
     /// There are not as many tiles as cells.
-    #[error("tile-count")]
     TileCount,
     /// The tile with this number does not have as many sides as a cell, and is the first such.
-    #[error("tile-sides {0}")]
     TileSides(u32),
     /// The border's rule at this place asks for 36 or more, and is the first such.
-    #[error("bad-colour {0}")]
     BadColour(u32),
     /// There are not as many rules in the border's list as border pairs.
-    #[error("border-length")]
     BorderLength,
     /// The colour at this place has no mate in the list, or one with another mate, and is the first such; or the list
     /// is longer than there are colours, and this is the place after the last.
-    #[error("mates {0}")]
     Mates(u32),
-    #[error("out of memory")]
     Memory,
 }
+
+impl fmt::Display for PuzzleFault {
+    ghost output = { λ fault. Some (puzzle_fault_text fault) };
+
+    fn fmt<W: fmt::Write>(&self, f: &mut fmt::Formatter<W>) -> fmt::Result {
+        match self {
+            PuzzleFault::FixedTriangles => f.write_str("fixed-triangles"),
+            PuzzleFault::TileCount => f.write_str("tile-count"),
+            PuzzleFault::TileSides(tile) => write!(f, "tile-sides {tile}"),
+            PuzzleFault::BadColour(place) => write!(f, "bad-colour {place}"),
+            PuzzleFault::BorderLength => f.write_str("border-length"),
+            PuzzleFault::Mates(place) => write!(f, "mates {place}"),
+            PuzzleFault::Memory => f.write_str("out of memory"),
+        }
+    }
+}
+
+impl error::Error for PuzzleFault {}
 
 impl From<AllocError> for PuzzleFault {
     ghost from_gives = { λ _ e. e ≡ Memory };
@@ -41,27 +54,38 @@ impl From<AllocError> for PuzzleFault {
 }
 
 /// Why a list of placements is no arrangement: the first kind that occurs, at its least place.
-#[derive(Clone, Copy, PartialEq, Eq, Debug, Error)]
+#[derive(Clone, Copy, PartialEq, Eq, Debug)]
 pub enum ArrangementFault {
     /// There are not as many placements as cells.
-    #[error("length")]
     Length,
     /// The placement at this cell names no tile of the puzzle.
-    #[error("tile {0}")]
     TileRange(u32),
     /// The tile at this cell may not be turned so.
-    #[error("turn {0}")]
     Turn(u32),
     /// The tile at this cell stands at an earlier cell too.
-    #[error("twice {0}")]
     TileTwice(u32),
     /// This side of this cell does not show what the border asks.
-    #[error("border {0} {1}")]
     BorderBroken(u32, u32),
     /// This side of this cell does not show the mate of what the side that it meets shows.
-    #[error("edge {0} {1}")]
     EdgeBroken(u32, u32),
 }
+
+impl fmt::Display for ArrangementFault {
+    ghost output = { λ fault. Some (arrangement_fault_text fault) };
+
+    fn fmt<W: fmt::Write>(&self, f: &mut fmt::Formatter<W>) -> fmt::Result {
+        match self {
+            ArrangementFault::Length => f.write_str("length"),
+            ArrangementFault::TileRange(cell) => write!(f, "tile {cell}"),
+            ArrangementFault::Turn(cell) => write!(f, "turn {cell}"),
+            ArrangementFault::TileTwice(cell) => write!(f, "twice {cell}"),
+            ArrangementFault::BorderBroken(cell, side) => write!(f, "border {cell} {side}"),
+            ArrangementFault::EdgeBroken(cell, side) => write!(f, "edge {cell} {side}"),
+        }
+    }
+}
+
+impl error::Error for ArrangementFault {}
 
 /// Why a list of pairs is no prefix: at the least place, the first kind that occurs there.
 #[derive(Clone, Copy, PartialEq, Eq, Debug, Error)]

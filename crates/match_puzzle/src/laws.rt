@@ -7,16 +7,12 @@ ghost use Rattle.match_puzzle.specs.Prefix.{Prefix};
 ghost use Rattle.match_puzzle.specs.Fitting.{Fits};
 ghost use Rattle.match_puzzle.specs.declared.placements.Placement.{Placement};
 
-/// Does nothing. Its promise is a law: in a puzzle, whether colours go together is the same from either side, and in
-/// one without mates those do that are equal.
-pub fn colours_go_together()
+/// Does nothing. Its promises are laws. In a puzzle, whether colours go together is the same from either side, and in
+/// one without mates those do that are equal. A puzzle's second form, of version 2 with a shape in place of a rectangle,
+/// is a puzzle, has the same arrangements, and the same fits a prefix.
+pub fn puzzle_laws()
     ensures turned { (p : Task) (colour other : ℕ) → IsPuzzle p → GoTogether p colour other → GoTogether p other colour }
     ensures alike { (p : Task) (colour other : ℕ) → p.mating.mates ≡ [] → GoTogether p colour other ↔ (colour ≡ other) }
-{}
-
-/// Does nothing. Its promise is a law: a puzzle's second form, of version 2 with a shape in place of a rectangle, is a
-/// puzzle, has the same arrangements, and the same fits a prefix.
-pub fn second_form_is_alike()
     ensures puzzle { (p : Task) → IsPuzzle p → IsPuzzle (second_form_of p) }
     ensures arrangements { (p : Task) (a : List Placement) → IsArrangement p a ↔ IsArrangement (second_form_of p) a }
     ensures fits { (p : Task) (q : Prefix) (cell : ℕ) (x : Placement)

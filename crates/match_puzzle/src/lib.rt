@@ -20,7 +20,7 @@ pub use arrangements::Arrangement;
 pub use faults::{ArrangementFault, PrefixFault, PuzzleFault};
 pub use fitting_pairs::FittingPairs;
 pub use items::Item;
-pub use laws::{colours_go_together, second_form_is_alike};
+pub use laws::puzzle_laws;
 pub use match_board::{Border, BorderRules};
 pub use partials::Partial;
 pub use placement_sets::ANY_COLOUR;

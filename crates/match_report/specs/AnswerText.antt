@@ -1,8 +1,7 @@
 -- How an answer is printed.
 use Rattle.std.specs.Prelude.{◌<◌, ℕ, List, [], ◌∷◌, codes, decimal}
 use Rattle.match_limits.specs.declared.TheConstants.{MOST_COLOURS}
-use Rattle.match_puzzle.specs.declared.faults.ArrangementFault.{ArrangementFault}
-use Rattle.match_puzzle.specs.declared.faults.ArrangementFault.TheVariants as arrangements
+use Rattle.match_puzzle.specs.FaultText.{arrangement_fault_text}
 use Rattle.match_puzzle.specs.declared.faults.PrefixFault.{PrefixFault}
 use Rattle.match_puzzle.specs.declared.faults.PrefixFault.TheVariants as prefixes
 use Rattle.puzzle_symmetry.specs.declared.faults.SymmetryFault.{SymmetryFault}
@@ -15,14 +14,6 @@ use Rattle.cert_check.specs.declared.faults.Answer.{Answer}
 use Rattle.cert_check.specs.declared.faults.Answer.TheVariants.{Complete, Refused}
 use Rattle.text_words.specs.Spelling.{colour_word, line_text}
 use Rattle.match_report.specs.Line.{path_text}
-
-unfoldable pub arrangement_fault_words : ArrangementFault → List (List ℕ)
-arrangement_fault_words arrangements.Length = codes "length" ∷ []
-arrangement_fault_words (arrangements.TileRange cell) = codes "tile" ∷ decimal cell ∷ []
-arrangement_fault_words (arrangements.Turn cell) = codes "turn" ∷ decimal cell ∷ []
-arrangement_fault_words (arrangements.TileTwice cell) = codes "twice" ∷ decimal cell ∷ []
-arrangement_fault_words (arrangements.BorderBroken cell side) = codes "border" ∷ decimal cell ∷ decimal side ∷ []
-arrangement_fault_words (arrangements.EdgeBroken cell side) = codes "edge" ∷ decimal cell ∷ decimal side ∷ []
 
 unfoldable pub symmetry_fault_words : SymmetryFault → List (List ℕ)
 symmetry_fault_words symmetries.Cells = codes "cells" ∷ []
@@ -54,7 +45,7 @@ node_fault_words nodes.SymmetryRange = codes "symmetry-range" ∷ []
 node_fault_words nodes.NotWithin = codes "not-within" ∷ []
 
 unfoldable pub fault_words : Fault → List (List ℕ)
-fault_words (faults.List number fault) = codes "list" ∷ decimal number ∷ arrangement_fault_words fault
+fault_words (faults.List number fault) = codes "list" ∷ decimal number ∷ arrangement_fault_text fault ∷ []
 fault_words (faults.Repeated number) = codes "repeated" ∷ decimal number ∷ []
 fault_words (faults.Symmetry number fault) = codes "symmetry" ∷ decimal number ∷ symmetry_fault_words fault
 fault_words (faults.Prefix lemma fault) = codes "prefix" ∷ decimal lemma ∷ prefix_fault_words fault

@@ -3,11 +3,11 @@
 ghost use Rattle.std.specs.Prelude.{◌≡◌, ◌++◌, [], ◌∷◌, decimal, IfOk, OnOk};
 ghost use Rattle.text_words.specs.Spelling.{spaced};
 ghost use Rattle.match_report.specs.AnswerText.{HasLine, HasWords, answer_line, fault_words, node_fault_words};
-ghost use Rattle.match_report.specs.AnswerText.{arrangement_fault_words, symmetry_fault_words, prefix_fault_words};
+ghost use Rattle.match_report.specs.AnswerText.{symmetry_fault_words, prefix_fault_words};
 
 use crate::lines::Line;
 use cert_check::{Answer, Fault, NodeFault};
-use match_puzzle::{ArrangementFault, PrefixFault};
+use match_puzzle::PrefixFault;
 use puzzle_symmetry::SymmetryFault;
 use std::alloc::{AllocError, Global};
 use text_words::character;
@@ -18,27 +18,6 @@ fn put_numbered(line: &mut Line, word: &[u8], number: u32) -> Result<(), AllocEr
 {
     line.word(word)?;
     line.number(number)
-}
-
-/// Adds the words of a listed arrangement's fault to the line: its kind, and the cell and the side where it is.
-#[tactic(auto, using(crate::proofs::LineLemmas::line_laws), unfolding(crate::specs::AnswerText::arrangement_fault_words))]
-pub fn put_arrangement_fault(line: &mut Line, fault: &ArrangementFault) -> Result<(), AllocError>
-    ensures { OnOk result (line.new ≡ line.old ++ spaced (arrangement_fault_words fault.now)) }
-{
-    match *fault {
-        ArrangementFault::Length => line.word(b"length"),
-        ArrangementFault::TileRange(cell) => put_numbered(line, b"tile", cell),
-        ArrangementFault::Turn(cell) => put_numbered(line, b"turn", cell),
-        ArrangementFault::TileTwice(cell) => put_numbered(line, b"twice", cell),
-        ArrangementFault::BorderBroken(cell, side) => {
-            put_numbered(line, b"border", cell)?;
-            line.number(side)
-        }
-        ArrangementFault::EdgeBroken(cell, side) => {
-            put_numbered(line, b"edge", cell)?;
-            line.number(side)
-        }
-    }
 }
 
 #[tactic(auto, using(crate::proofs::LineLemmas::line_laws), unfolding(crate::specs::AnswerText::symmetry_fault_words))]
@@ -109,7 +88,7 @@ fn put_fault(line: &mut Line, fault: &Fault) -> Result<(), AllocError>
     match fault {
         Fault::List(number, fault) => {
             put_numbered(line, b"list", *number)?;
-            put_arrangement_fault(line, fault)
+            line.displayed(fault)
         }
         Fault::Repeated(number) => put_numbered(line, b"repeated", *number),
         Fault::Symmetry(number, fault) => {

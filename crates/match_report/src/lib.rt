@@ -8,10 +8,9 @@ mod lines;
 mod statuses;
 mod tallies;
 
-pub use answers::{put_arrangement_fault, write_answer};
+pub use answers::write_answer;
 pub use boards::write_board;
 pub use complete_lists::{write_all, write_counts, write_orbits};
-pub use lines::Line;
 pub use statuses::{Status, Verdict, write_verdict};
 pub use symmetry_orbits::ExpandFault;
 pub use tallies::{Taken, write_tally};

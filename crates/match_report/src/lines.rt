@@ -1,15 +1,16 @@
 //! Lines of words, as they are printed.
 
-ghost use Rattle.std.specs.Prelude.{◌≡◌, ◌++◌, ◌∷◌, [], ℕ, List, IfOk, OnOk, decimal};
+ghost use Rattle.std.specs.Prelude.{◌≡◌, ◌++◌, ◌∷◌, [], ℕ, List, IfOk, IfSome, OnOk, decimal};
 ghost use Rattle.text_words.specs.Spelling.{spaced};
 ghost use Rattle.match_report.specs.Line.{dotted, label, path_text};
 
 use std::alloc::{AllocError, Global};
+use std::fmt::Display;
+use std::io::Write;
 use std::marker::Model;
 use text_words::put_number;
 
-/// A line that is being written, seen as its bytes. Where memory is refused, a part of a word may
-/// have been written.
+/// A line that is being written, seen as its bytes. Where memory is refused, a part of a word may have been written.
 #[derive(Drop)]
 pub struct Line {
     text: Vec<u8>,
@@ -37,6 +38,13 @@ impl Line {
     {
         self.text.push(b' ')?;
         self.text.extend_from_slice(word)
+    }
+
+    /// One word more, or several: what the value is displayed as.
+    pub fn displayed<D: Display>(&mut self, value: &D) -> Result<(), AllocError>
+        ensures { OnOk result (IfSome (D.output value.now) (λ words. self.new ≡ self.old ++ spaced (words ∷ []))) }
+    {
+        write!(self.text, " {value}").map_err(|_| AllocError)
     }
 
     /// One number more.

@@ -1,10 +1,9 @@
 -- What a count by a search prints.
-use Rattle.std.specs.Prelude.{◌≡◌, ◌≤◌, ◌++◌, ◌∷◌, [], ◌⊎◌, ℕ, List, None, Ok, codes, decimal, length}
+use Rattle.std.specs.Prelude.{◌≡◌, ◌≤◌, ◌++◌, ◌⊎◌, ℕ, List, None, Ok, codes, decimal, length}
 use Rattle.match_puzzle.specs.Arrangement.{IsArrangement, HasArrangements}
 use Rattle.match_puzzle.specs.Puzzle.{Task}
 use Rattle.match_puzzle.specs.Numbers.{AreMoreThan}
 use Rattle.match_text.specs.Puzzles.{PuzzleReads}
-use Rattle.text_words.specs.Spelling.{line_text}
 use Rattle.match_show.specs.Facts.{number_line}
 use Rattle.xcc_form.specs.Options.{Compiled, HasTooManyEntries}
 use Rattle.match_census.specs.Branches.{WeightedBranch, HaveTogether, IsSplit, IsTotal, every}
@@ -21,15 +20,15 @@ use Rattle.match_runs.specs.declared.faults.RunFault.TheVariants as runs
 -- the line of a split: how many branches it has, and their hash
 abbrev pub split_line : List WeightedBranch → List ℕ
 split_line branches =
-    line_text (codes "split" ∷ decimal (length branches) ∷ decimal (hash_of branches) ∷ [])
+    codes "split " ++ decimal (length branches) ++ codes " " ++ decimal (hash_of branches) ++ codes "\n"
 
 -- a part by its number and how many there are, as `3/8`
 abbrev pub part_word : Part → List ℕ
-part_word part = decimal (number_in part) ++ 47 ∷ decimal (parts_with part)
+part_word part = decimal (number_in part) ++ codes "/" ++ decimal (parts_with part)
 
 -- the line of how many arrangements a part has
 abbrev pub part_line : Part → (count : ℕ) → List ℕ
-part_line part count = line_text (codes "part" ∷ part_word part ∷ codes "arrangements" ∷ decimal count ∷ [])
+part_line part count = codes "part " ++ part_word part ++ codes " arrangements " ++ decimal count ++ codes "\n"
 
 -- the branches of a part, where they are dealt in turn to all parts
 abbrev pub part_of : Part → List WeightedBranch → List WeightedBranch

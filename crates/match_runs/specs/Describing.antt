@@ -1,5 +1,5 @@
 -- What is written of a puzzle that is described.
-use Rattle.std.specs.Prelude.{◌≡◌, ◌≤◌, ◌++◌, ◌⊎◌, ℕ, List, [], ◌∷◌, All, None, Ok, Err, codes, decimal, length}
+use Rattle.std.specs.Prelude.{◌≡◌, ◌≤◌, ◌++◌, ◌⊎◌, ℕ, List, All, None, Ok, Err, codes, decimal, length}
 use Rattle.match_limits.specs.declared.TheConstants.{MOST_ENTRIES, MOST_SYMMETRIES}
 use Rattle.match_puzzle.specs.Puzzle.{Task}
 use Rattle.match_puzzle.specs.Prefix.{empty_prefix}
@@ -8,8 +8,7 @@ use Rattle.match_text.specs.declared.faults.PuzzleTextFault.TheVariants as puzzl
 use Rattle.match_limits.specs.declared.ranges.TheConstants.{SECOND}
 use Rattle.match_picture.specs.Pictures.{IsPuzzlePicture}
 use Rattle.match_show.specs.Drawing.{IsDrawing}
-use Rattle.match_show.specs.Facts.{IsEstimateLine, IsFacts, number_line}
-use Rattle.text_words.specs.Spelling.{line_text}
+use Rattle.match_show.specs.Facts.{IsEstimateLine, IsFacts}
 use Rattle.xcc_form.specs.Options.{Compiled, HasTooManyEntries, IsCompiled, entries_of}
 use Rattle.puzzle_symmetry.specs.Symmetry.{IsSymmetry}
 use Rattle.match_board.specs.declared.symmetry_lines.SymmetryLine.{SymmetryLine}
@@ -22,14 +21,14 @@ use Rattle.match_runs.specs.declared.faults.RunFault.TheVariants as runs
 -- how many options there are, and how many items these have, of so many that a solve takes
 abbrev pub options_text : (options items : ℕ) → List ℕ
 options_text options items =
-    number_line (codes "options") options
-    ++ line_text (codes "items" ∷ decimal items ∷ codes "of" ∷ decimal MOST_ENTRIES ∷ [])
+    codes "options " ++ decimal options
+    ++ codes "\nitems " ++ decimal items ++ codes " of " ++ decimal MOST_ENTRIES ++ codes "\n"
 
 -- The text says how many options the puzzle has and how many items these have, or that they have too many for a solve.
 abbrev pub CountsOptions : Task → (text : List ℕ) → Type 0
 CountsOptions puzzle text =
     ((x : Compiled) × (x.puzzle ≡ puzzle) × IsCompiled x × (text ≡ options_text (length x.options) (entries_of x)))
-    ⊎ (HasTooManyEntries puzzle × (text ≡ line_text (codes "too" ∷ codes "many" ∷ codes "options" ∷ [])))
+    ⊎ (HasTooManyEntries puzzle × (text ≡ codes "too many options\n"))
 
 -- The text is the empty board of the puzzle, drawn, then facts of it, and an estimate.
 pub record IsBoardText (puzzle : Task) (text : List ℕ) : Type 0 where
@@ -54,7 +53,7 @@ pub record IsSymmetriesText (puzzle : Task) (text : List ℕ) : Type 0 where
 
 -- what is printed of a puzzle that is only to have no fault
 abbrev pub no_fault_text : List ℕ
-no_fault_text = line_text (codes "puzzle:" ∷ codes "no" ∷ codes "fault" ∷ [])
+no_fault_text = codes "puzzle: no fault\n"
 
 -- What is printed of a puzzle.
 abbrev pub DescribesPuzzle : Description → (puzzle : Task) (printed : List ℕ) → Type 0

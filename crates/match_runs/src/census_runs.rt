@@ -1,8 +1,7 @@
 //! Runs that count the arrangements of a puzzle by a search.
 
-ghost use Rattle.std.specs.Prelude.{◌≡◌, ◌≤◌, ◌∷◌, [], IfOk, IfErr, MatchOption, codes, decimal, length, vec_len};
+ghost use Rattle.std.specs.Prelude.{◌≡◌, ◌≤◌, IfOk, IfErr, MatchOption, codes, length, vec_len};
 ghost use Rattle.puzzle_symmetry.specs.Motion.{AreOfPuzzle};
-ghost use Rattle.text_words.specs.Spelling.{line_text};
 ghost use Rattle.match_show.specs.Facts.{number_line};
 ghost use Rattle.match_census.specs.Branches.{AreSelections, IsSplit};
 ghost use Rattle.match_census.specs.declared.splits.TheConstants.{MOST_BRANCHES};
@@ -11,8 +10,7 @@ ghost use Rattle.byte_streams.specs.Origins.{one_source};
 ghost use Rattle.byte_streams.specs.Targets.{one_sink};
 ghost use Rattle.byte_streams.specs.declared.faults.Document.TheVariants as documents;
 ghost use Rattle.command_words.specs.declared.orders.Extent.TheVariants as extents;
-ghost use Rattle.match_runs.specs.Census.{CensusFails, CensusGives, IsNotCounted, PrintsCount, part_line};
-ghost use Rattle.match_runs.specs.Census.{part_word, split_line};
+ghost use Rattle.match_runs.specs.Census.{CensusFails, CensusGives, IsNotCounted, PrintsCount, part_line, split_line};
 ghost use Rattle.match_runs.specs.Runs.{MadeOf, Runs, unhinted};
 
 use crate::faults::RunFault;
@@ -26,12 +24,11 @@ use match_census::{
 use match_crew::SolveFault;
 use match_limits::Workers;
 use match_puzzle::Puzzle;
-use match_report::Line;
 use match_symmetry::{Symmetry, SymmetryFault, suggest};
 use match_text::read_puzzle;
 use std::alloc::{AllocError, Global};
 use std::thread::Threads;
-use text_words::{put_number, put_number_line};
+use text_words::put_number_line;
 use xcc_form::{Xcc, compile};
 
 // Into so many branches at least a search is split that may end early, where it has so many: enough for symmetries to
@@ -240,51 +237,22 @@ fn count_line(alloc: Global, word: &[u8], number: u64) -> Result<Vec<u8>, AllocE
 }
 
 // The line of a split.
-#[tactic(auto, using(match_report::proofs::LineLemmas::line_laws))]
 fn write_split(alloc: Global, branches: &[Branch]) -> Result<Vec<u8>, AllocError>
     requires { length branches.now ≤ MOST_BRANCHES }
     ensures { IfOk result (λ text. text.items ≡ split_line branches.now) }
 {
-    let mut line = Line::new(alloc, b"split")?;
-    line.number(branches.len() as u32)?;
-    line.count(hash_of(branches))?;
-    line.end()
+    let count = branches.len();
+    let hash = hash_of(branches);
+    let line = format!(in alloc; "split {count} {hash}\n")?;
+    Ok(line.into_bytes())
 }
 
 // The line of a part.
 fn write_part(alloc: Global, part: Part, count: u64) -> Result<Vec<u8>, AllocError>
     ensures { IfOk result (λ text. text.items ≡ part_line part count) }
 {
-    let word = part_word(alloc, part)?;
-    counted_line(alloc, b"part", &word, b"arrangements", count)
-}
-
-// A line of these words and this number.
-#[tactic(auto, using(match_report::proofs::LineLemmas::line_laws))]
-fn counted_line(
-    alloc: Global,
-    first: &[u8],
-    second: &[u8],
-    third: &[u8],
-    count: u64,
-) -> Result<Vec<u8>, AllocError>
-    ensures { IfOk result (λ text. text.items
-        ≡ line_text (first.now ∷ second.now ∷ third.now ∷ decimal count ∷ [])) }
-{
-    let mut line = Line::new(alloc, first)?;
-    line.word(second)?;
-    line.word(third)?;
-    line.count(count)?;
-    line.end()
-}
-
-// The number of a part and how many there are, as `3/8`.
-fn part_word(alloc: Global, part: Part) -> Result<Vec<u8>, AllocError>
-    ensures { IfOk result (λ word. word.items ≡ part_word part) }
-{
-    let mut word = Vec::new(alloc);
-    put_number(&mut word, u64::from(part.earlier() + 1))?;
-    word.push(b'/')?;
-    put_number(&mut word, u64::from(part.count()))?;
-    Ok(word)
+    let number = part.earlier() + 1;
+    let parts = part.count();
+    let line = format!(in alloc; "part {number}/{parts} arrangements {count}\n")?;
+    Ok(line.into_bytes())
 }

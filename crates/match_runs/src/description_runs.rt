@@ -1,8 +1,7 @@
 //! Runs that describe a puzzle.
 
-ghost use Rattle.std.specs.Prelude.{◌≡◌, ◌∷◌, [], IfOk, decimal};
+ghost use Rattle.std.specs.Prelude.{◌≡◌, IfOk};
 ghost use Rattle.match_puzzle.specs.Puzzle.{IsPuzzle};
-ghost use Rattle.text_words.specs.Spelling.{line_text};
 ghost use Rattle.byte_streams.specs.Moves.{reading_of, writing_of};
 ghost use Rattle.byte_streams.specs.Origins.{one_source};
 ghost use Rattle.byte_streams.specs.Targets.{one_sink};
@@ -11,7 +10,7 @@ ghost use Rattle.match_runs.specs.Describing.{CountsOptions, Describes, IsBoardT
 ghost use Rattle.match_runs.specs.Describing.{options_text};
 ghost use Rattle.match_runs.specs.Runs.{MadeOf, Runs, unhinted};
 
-use crate::faults::{RunFault, words_line};
+use crate::faults::RunFault;
 use crate::hints::{HintedFault, hint_on, with_hint};
 use crate::running::run_by;
 use byte_streams::{Document, MadeText, OneSink, OneSource, Sink, Source, Text};
@@ -19,12 +18,10 @@ use cert_text::write_symmetries;
 use match_limits::MOST_ENTRIES;
 use match_picture::write_puzzle_picture;
 use match_puzzle::{Partial, Puzzle};
-use match_report::Line;
 use match_show::{write_drawing, write_estimate, write_facts};
 use match_symmetry::suggest;
 use match_text::read_puzzle;
 use std::alloc::{AllocError, Global};
-use text_words::put_number_line;
 use xcc_form::{CompileFault, compile};
 
 /// What is written of a puzzle.
@@ -87,7 +84,7 @@ fn described(
         Description::Board => board_text(alloc, &puzzle)?,
         Description::Picture => write_puzzle_picture(alloc, &puzzle)?,
         Description::Symmetries => symmetries_text(alloc, &puzzle)?,
-        Description::NoFault => words_line(alloc, b"puzzle:", b"no", b"fault")?,
+        Description::NoFault => Vec::from_slice(alloc, b"puzzle: no fault\n")?,
     };
     Ok((MadeText::new(printed), ()))
 }
@@ -113,7 +110,7 @@ fn write_options(alloc: Global, puzzle: &Puzzle) -> Result<Vec<u8>, AllocError>
 {
     match compile(alloc, puzzle) {
         Ok(xcc) => option_lines(alloc, xcc.options(), xcc.entries()),
-        Err(CompileFault::TooMany) => words_line(alloc, b"too", b"many", b"options"),
+        Err(CompileFault::TooMany) => Vec::from_slice(alloc, b"too many options\n"),
         Err(CompileFault::Memory) => Err(AllocError),
     }
 }
@@ -121,30 +118,8 @@ fn write_options(alloc: Global, puzzle: &Puzzle) -> Result<Vec<u8>, AllocError>
 fn option_lines(alloc: Global, options: u32, items: u32) -> Result<Vec<u8>, AllocError>
     ensures { IfOk result (λ text. text.items ≡ options_text options items) }
 {
-    let mut text = Vec::new(alloc);
-    put_number_line(&mut text, b"options", u64::from(options))?;
-    let items = ratio_line(alloc, b"items", items, b"of", MOST_ENTRIES as u32)?;
-    text.extend_from_slice(&items)?;
-    Ok(text)
-}
-
-// A line of a word and a number, twice.
-#[tactic(auto, using(match_report::proofs::LineLemmas::line_laws))]
-fn ratio_line(
-    alloc: Global,
-    first: &[u8],
-    number: u32,
-    second: &[u8],
-    other: u32,
-) -> Result<Vec<u8>, AllocError>
-    ensures { IfOk result (λ text. text.items
-        ≡ line_text (first.now ∷ decimal number ∷ second.now ∷ decimal other ∷ [])) }
-{
-    let mut line = Line::new(alloc, first)?;
-    line.number(number)?;
-    line.word(second)?;
-    line.number(other)?;
-    line.end()
+    let text = format!(in alloc; "options {options}\nitems {items} of {MOST_ENTRIES}\n")?;
+    Ok(text.into_bytes())
 }
 
 // The lines of symmetries of the puzzle.

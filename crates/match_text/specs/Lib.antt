@@ -4,3 +4,4 @@ pub mod Faults
 pub mod ListSpelling
 pub mod PuzzleSpelling
 pub mod RowLines
+pub mod FaultText

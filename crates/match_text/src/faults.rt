@@ -1,31 +1,44 @@
 //! Why there is no list, or no puzzle, of a text.
 
-ghost use Rattle.std.specs.Prelude.{◌≡◌};
+ghost use Rattle.std.specs.Prelude.{◌≡◌, Some};
 ghost use Rattle.match_text.specs.declared.faults.PuzzleTextFault.TheVariants as puzzle_text;
 ghost use Rattle.match_text.specs.Faults.{of_puzzle_text, of_puzzle};
+ghost use Rattle.match_text.specs.FaultText.{puzzle_text_fault_text};
 
 use match_board::BoardFault;
 use match_puzzle::PuzzleFault;
+use std::error::Error;
+use std::fmt;
 use text_words::{ReadFault, TextFault};
-use thiserror::Error;
 
 /// Why there is no list of a text.
 pub type ListTextFault = ReadFault;
 
 /// Why there is no puzzle of a text, in the order in which it is looked for.
-#[derive(Clone, Copy, PartialEq, Eq, Debug, Error)]
+#[derive(Clone, Copy, PartialEq, Eq, Debug)]
 pub enum PuzzleTextFault {
-    #[error("{0}")]
     Text(TextFault),
     /// There is no such board; the text has no fault.
-    #[error("{0}")]
     Board(BoardFault),
     /// There is no such puzzle; there is such a board.
-    #[error("{0}")]
     Puzzle(PuzzleFault),
-    #[error("out of memory")]
     Memory,
 }
+
+impl fmt::Display for PuzzleTextFault {
+    ghost output = { λ fault. Some (puzzle_text_fault_text fault) };
+
+    fn fmt<W: fmt::Write>(&self, f: &mut fmt::Formatter<W>) -> fmt::Result {
+        match self {
+            PuzzleTextFault::Text(fault) => write!(f, "{fault}"),
+            PuzzleTextFault::Board(fault) => write!(f, "{fault}"),
+            PuzzleTextFault::Puzzle(fault) => write!(f, "{fault}"),
+            PuzzleTextFault::Memory => f.write_str("out of memory"),
+        }
+    }
+}
+
+impl Error for PuzzleTextFault {}
 
 impl From<ReadFault> for PuzzleTextFault {
     ghost from_gives = { λ fault e. e ≡ of_puzzle_text fault };

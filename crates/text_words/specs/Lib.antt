@@ -4,3 +4,4 @@ pub mod Words
 pub mod Place
 pub mod Spelling
 pub mod Laws
+pub mod FaultText

@@ -7,4 +7,4 @@ made (Ok x) follows holds = follows x holds
 made (Err e) follows holds = tt
 
 pub returns-in-Err-TooMany : goal.returns-in-Err-TooMany
-returns-in-Err-TooMany c = made c.words_line.result (λ text is. inr (c.in-Err-TooMany.ensures.too_many (ap Err c.in-Err-TooMany.field-0-is), is)) c.words_line.ensures
+returns-in-Err-TooMany c = made c.from_slice.result (λ text is. inr (c.in-Err-TooMany.ensures.too_many (ap Err c.in-Err-TooMany.field-0-is), is)) c.from_slice.ensures.items
