@@ -8,9 +8,9 @@ levels. Then a check, an expansion and a solve of each, with one worker and with
 (addresses) that grows in steps of so many KB (1,024, unless given), and with one on the stack (4). A run has to give
 what it gives without a limit, or nothing but `out of memory` on standard error, with status 2, and a solve leaves both
 files empty then. Of several workers a solve may list in another order, so of those what is asked is that the list has
-as many. Limits under which `true` or the program can't be loaded aren't tried, nor stacks of less than 16 KB, under
-which the system ends `true` by a signal too. With --looks no puzzle is solved under a limit. The script ends with 0
-where all is so of each run, and names those of which it isn't. It needs Linux.
+as many. Limits under which `true` or the program can't be loaded aren't tried, nor stacks of less than 20 KB, under
+which the system may end a run by a signal before it begins. With --looks no puzzle is solved under a limit. The script
+ends with 0 where all is so of each run, and names those of which it isn't. It needs Linux.
 """
 import argparse
 import concurrent.futures
@@ -26,7 +26,7 @@ COLOURS = "0123456789abcdefghijklmnopqrstuvwxyz"
 CREWS = [["--workers", "1"], ["--workers", "4"]]
 KINDS = {"memory": resource.RLIMIT_AS, "stack": resource.RLIMIT_STACK}
 # the least limit that is tried, in KB
-LEAST = {"memory": 0, "stack": 16}
+LEAST = {"memory": 0, "stack": 20}
 # the status with which the system's loader says that it can't load a program
 NOT_LOADED = 127
 # a limit that any run here is well under, in KB
