@@ -10,3 +10,4 @@ pub mod AnswerAlike
 pub mod FindingLemmas
 pub mod PlaceLemmas
 pub mod SceneLemmas
+pub mod NodeLemmas

@@ -65,6 +65,12 @@ fault_path s (found listed) q (number ∷ path) fault fails = absurd fails
 fault_path s (same lemma) q (number ∷ path) fault fails = absurd fails
 fault_path s (image lemma symmetry) q (number ∷ path) fault fails = absurd fails
 
+-- The next number of a path is that of a child.
+pub leads_next : (p : Task) (tree : Tree) (q : Prefix) (path : List ℕ) (i : ℕ) (node : Tree) (placed : Prefix) → i < length path → LeadsTo p tree q (drop i path) node placed → (child : Tree) × (there : Prefix) × IsChild p tree q (get_or path i 0) child there
+leads_next p tree q [] i node placed within leads = absurd (omega (arith, within))
+leads_next p tree q (number ∷ path) zero node placed within leads = (leads.0, leads.1, leads.2)
+leads_next p tree q (number ∷ path) (suc i) node placed within leads = leads_next p tree q path i node placed (omega (arith, within)) leads
+
 -- What is taken after so many is the one with that number.
 pub taken_is : {X : Type 0} (n : ℕ) (xs now next : List X) (o : Option X) → now ≡ drop n xs → MatchOption o ((now ≡ []) × (next ≡ [])) (λ x. now ≡ x ∷ next) → o ≡ slice_get xs n
 taken_is zero xs now next None is took = ap (λ ys. slice_get ys 0) (sym took.0 ∙ is)

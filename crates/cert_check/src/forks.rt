@@ -1,10 +1,11 @@
 //! The walk of a tree in whose first levels the halves of a branch's children are walked at once.
 
-ghost use Rattle.std.specs.Prelude.{◌≡◌, ◌≢◌, ◌<◌, ◌≤◌, ◌^◌, ℕ, List, IfOk, IfSome, None, Ok, Some, length, map, drop};
+ghost use Rattle.std.specs.Prelude.{◌≡◌, ◌≢◌, ◌<◌, ◌≤◌, ◌^◌, ℕ, List, Option, IfOk, IfSome, None, Ok, Some, length, map};
+ghost use Rattle.std.specs.Option.{option_or};
 ghost use Rattle.std.specs.Fn.{FnReturnsAt};
 ghost use Rattle.std.specs.Thread.{IsSync};
 ghost use Rattle.match_limits.specs.First.{IsFirst};
-ghost use Rattle.match_puzzle.specs.Fitting.{AreFitting, IsItem};
+ghost use Rattle.match_puzzle.specs.Fitting.{IsItem};
 ghost use Rattle.match_puzzle.specs.PrefixFaults.{IsPairList};
 ghost use Rattle.match_puzzle.specs.declared.placements.Pair.{Pair};
 ghost use Rattle.cert_tree.specs.Certificate.{flat_piece};
@@ -16,12 +17,13 @@ ghost use Rattle.cert_check.specs.Setting.{question_of, BeginWithPrefixes};
 ghost use Rattle.cert_check.specs.NodeRules.{IsBranch};
 ghost use Rattle.cert_check.specs.TreeFaults.{BranchFails, node_rank};
 ghost use Rattle.cert_check.specs.declared.faults.NodeFault.{NodeFault};
-ghost use Rattle.cert_check.specs.Walk.{Tells, TellsOfLemma, IsAtTop, IsPart, TellsOfPart};
+ghost use Rattle.cert_check.specs.declared.faults.TreeFault.{TreeFault};
+ghost use Rattle.cert_check.specs.Walk.{Tells, TellsOfLemma, IsAtTop, IsPart, TellsOfPart, below};
 
 use crate::faults::TreeFault;
 use crate::gates::{Gate, Open};
 use crate::node_faults::branch_fault;
-use crate::scenes::branched_on;
+use crate::scenes::{branched_on, pairs_from};
 use crate::settings::Setting;
 use crate::walks::{place_first, walk};
 use cert_tree::{Certificate, FlatLemma, Trees};
@@ -256,7 +258,7 @@ fn walk_halves<R: Threads + Sync, G: Gate + Sync>(
         return walk_part(forker, alloc, forks, part);
     }
     let (left, right) = part.halves();
-    let (left, right) = at_once(
+    at_once(
         forker.rt,
         &left,
         &right,
@@ -267,23 +269,22 @@ fn walk_halves<R: Threads + Sync, G: Gate + Sync>(
             forker.gate.enter_half(forker.lemma, half.start);
             walk_part(forker, alloc, forks, half)
         },
-    )?;
-    Ok(left.or(right))
+    )
 }
 
-// What the walk gives of both, at once.
+// The first of what the walk finds of both, at once.
 fn at_once<P: Sync, F: Fn(&P) -> Result<Option<TreeFault>, AllocError> + Sync, R: Threads + Sync>(
     rt: &R,
     left: &P,
     right: &P,
     walk: &F,
-) -> Result<(Option<TreeFault>, Option<TreeFault>), AllocError>
+) -> Result<Option<TreeFault>, AllocError>
     requires left { F.pre walk.now left }
     requires right { F.pre walk.now right }
-    ensures left { IfOk result (λ r. FnReturnsAt F.Fn walk.now left.now (Ok r.0)) }
-    ensures right { IfOk result (λ r. FnReturnsAt F.Fn walk.now right.now (Ok r.1)) }
+    ensures { IfOk result (λ found. (x : Option TreeFault) × (y : Option TreeFault) × (found ≡ option_or x y)
+        × FnReturnsAt F.Fn walk.now left.now (Ok x) × FnReturnsAt F.Fn walk.now right.now (Ok y)) }
 {
-    both(
+    let (left, right) = both(
         rt,
         || -> Result<Option<TreeFault>, AllocError>
             requires { F.pre walk.now left }
@@ -293,7 +294,15 @@ fn at_once<P: Sync, F: Fn(&P) -> Result<Option<TreeFault>, AllocError> + Sync, R
             requires { F.pre walk.now right }
             ensures { FnReturnsAt F.Fn walk.entry.now right.entry.now result }
         { walk(right) },
-    )
+    )?;
+    Ok(earlier(left, right))
+}
+
+// The left fault, or else the right one.
+fn earlier(left: Option<TreeFault>, right: Option<TreeFault>) -> Option<TreeFault>
+    ensures { result ≡ option_or left right }
+{
+    left.or(right)
 }
 
 // The same of some children, on a copy of what is placed.
@@ -330,12 +339,19 @@ fn walk_children<R: Threads + Sync, G: Gate + Sync>(
         let pair = place_first(&mut pairs, own);
         let fault = forked_walk(forker, alloc, part.setting, forks, &rest, own)?;
         if let Some(fault) = fault {
-            return Ok(Some(fault.below(number as u16)?));
+            return of_parent(fault, number as u16);
         }
         own.lift(pair.cell);
         rest.skip();
     }
     Ok(None)
+}
+
+// A fault of the child with this number, as one of its parent.
+fn of_parent(of_child: TreeFault, number: u16) -> Result<Option<TreeFault>, AllocError>
+    ensures { IfOk result (λ found. found ≡ Some (below number of_child)) }
+{
+    Ok(Some(of_child.below(number)?))
 }
 
 // The trees from this number on.
@@ -348,17 +364,4 @@ fn trees_from<'a>(number: u32, trees: &Trees<'a>) -> Trees<'a>
         rest.skip();
     }
     rest
-}
-
-// The pairs that fit and settle the item, from this number on.
-fn pairs_from(item: Item, number: u32, partial: &Partial<'_>) -> FittingPairs
-    requires { IsItem partial.now.puzzle item }
-    ensures { (xs : List Pair) × AreFitting partial.now.puzzle partial.now.placed item xs
-        × (result ≡ drop number xs) }
-{
-    let mut pairs = partial.fitting(item);
-    for _ in 0..number {
-        pairs.take_first();
-    }
-    pairs
 }

@@ -1,7 +1,7 @@
 //! A job for each lemma.
 
 ghost use Rattle.std.specs.Prelude.{◌≡◌, ◌≤◌, ◌<◌, ◌^◌, IfOk, Ok, length};
-ghost use Rattle.cert_check.specs.Jobs.{IsJob, IsFinding, IsFirstFound};
+ghost use Rattle.cert_check.specs.Jobs.{IsJob, IsFinding, IsFirstFound, fault_of};
 
 use crate::faults::{Path, TreeFault};
 use crate::gates::Gate;
@@ -48,6 +48,13 @@ pub(crate) fn walk_tree<R: Threads + Sync, G: Gate + Sync>(
     gate.enter(number);
     let forks = forks_of(prepared, number, forks);
     let found = prepared.forked_tree_fault(rt, alloc, number, forks, gate)?;
+    boxed(alloc, found)
+}
+
+// The same, with a place of its own for a fault.
+fn boxed(alloc: Global, found: Option<TreeFault>) -> Result<Option<Box<TreeFault>>, AllocError>
+    ensures { IfOk result (λ finding. fault_of finding ≡ found) }
+{
     let Some(fault) = found else {
         return Ok(None);
     };

@@ -1,9 +1,11 @@
 //! Nodes of trees, and what is placed there.
 
-ghost use Rattle.std.specs.Prelude.{◌≡◌, ◌≢◌, ◌≤◌, ℕ, IfOk, MatchOption, length, slice_get};
+ghost use Rattle.std.specs.Prelude.{◌≡◌, ◌≢◌, ◌≤◌, ℕ, List, IfOk, MatchOption, drop, length, slice_get};
 ghost use Rattle.match_board.specs.Board.{cell_count};
+ghost use Rattle.match_puzzle.specs.Fitting.{AreFitting, IsItem};
 ghost use Rattle.match_puzzle.specs.Prefix.{Prefix};
 ghost use Rattle.match_puzzle.specs.declared.items.Item.{Item};
+ghost use Rattle.match_puzzle.specs.declared.placements.Pair.{Pair};
 ghost use Rattle.match_puzzle.specs.PrefixFaults.{IsPairList};
 ghost use Rattle.cert_tree.specs.Certificate.{flat_piece};
 ghost use Rattle.cert_tree.specs.Heads.{arity, branch_head, first, past, put};
@@ -98,22 +100,34 @@ impl<'a> Scene<'a> {
         };
         self.words = self.words.saturating_add(words_of(head));
         go_past(&mut self.trees, number, &mut self.words);
-        let mut pairs = self.partial.fitting(item);
-        let Some(pair) = pair_at(&mut pairs, number) else {
+        let Some(pair) = pair_at(&self.partial, item, number) else {
             unreachable!();
         };
         self.partial.place(pair.cell, pair.placement);
     }
 }
 
-// The pair with this number; the others up to it are taken.
-fn pair_at(pairs: &mut FittingPairs, number: u16) -> Option<Pair>
-    ensures { result ≡ slice_get pairs.old number }
+// The pair with this number, of those that fit and settle the item.
+fn pair_at(partial: &Partial<'_>, item: Item, number: u16) -> Option<Pair>
+    requires { IsItem partial.now.puzzle item }
+    ensures { (xs : List Pair) × AreFitting partial.now.puzzle partial.now.placed item xs
+        × (result ≡ slice_get xs number) }
 {
+    let mut pairs = pairs_from(item, u32::from(number), partial);
+    pairs.take_first()
+}
+
+// The pairs that fit and settle the item, from this number on.
+pub(crate) fn pairs_from(item: Item, number: u32, partial: &Partial<'_>) -> FittingPairs
+    requires { IsItem partial.now.puzzle item }
+    ensures { (xs : List Pair) × AreFitting partial.now.puzzle partial.now.placed item xs
+        × (result ≡ drop number xs) }
+{
+    let mut pairs = partial.fitting(item);
     for _ in 0..number {
         pairs.take_first();
     }
-    pairs.take_first()
+    pairs
 }
 
 // Goes past so many trees, in a step for each of their nodes, and adds the words of their text.

@@ -4,7 +4,7 @@ use Rattle.std.specs.Option.{option_or}
 use Rattle.match_puzzle.specs.Puzzle.{Task}
 use Rattle.cert_tree.specs.Heads.{first}
 use Rattle.cert_check.specs.NodeRules.{IsBranch}
-use Rattle.cert_check.specs.Walk.{Tells, TellsOfPart}
+use Rattle.cert_check.specs.Walk.{Tells, TellsOfPart, below}
 use Rattle.cert_check.proofs.WalkLemmas.{branch_told}
 use Rattle.cert_check.proofs.ForkLemmas.{along_begin, along_some, along_trees, turn_fits, turn_fault, turn_has, turn_lifted, turn_more, branch_said, branch_has}
 use Rattle.cert_check.specs.declared.forks.Part.{Part}
@@ -43,8 +43,10 @@ walk_children-forked_walk-requires-clause-some g t c κs within =
 pub walk_children-returns-in-Some : goal.walk_children-returns-in-Some
 walk_children-returns-in-Some g t c =
     let l = c.loop-number in
+    let of_child = c.in-Some.fault in
     let fails = subst (Tells c.args.part.now.setting.now (first l.rest) c.place_first-pair.new.partial.placed) c.in-Some.is c.in_ok-fault.ensures.tells in
-    turn_fault l.invariant.along l.invariant.own c.place_first-pair.ensures.taken c.requires.part.children.made c.loop-number-test.true c.place_first-pair.new.partial c.place_first-pair.ensures.placed c.in-Some.fault c.in_ok-below.field-0 fails c.in_ok-below.ensures.path c.in_ok-below.ensures.fault
+    let told = turn_fault l.invariant.along l.invariant.own c.place_first-pair.ensures.taken c.requires.part.children.made c.loop-number-test.true c.place_first-pair.new.partial c.place_first-pair.ensures.placed of_child (below l.number of_child) fails refl refl in
+    IfOk-weaker c.of_parent.result _ _ (λ found is. subst (TellsOfPart c.args.part.now) (sym is) told) c.of_parent.ensures
 
 pub walk_children-lift-requires : goal.walk_children-lift-requires
 walk_children-lift-requires g t c =
@@ -87,9 +89,9 @@ forked_branch-returns g t c =
 
 pub walk_halves-returns : goal.walk_halves-returns
 walk_halves-returns g t c =
-    let part = c.args.part.now in
-    let h = c.in_ok-left.ensures in
-    let left = subst (λ (p : Part). TellsOfPart p c.in_ok-left.left) h.left.shows h.left.says.met in
-    let right = subst (λ (p : Part). TellsOfPart p c.in_ok-left.right) h.right.shows h.right.says.met in
-    let told = option_or c.in_ok-left.left c.in_ok-left.right in
-    subst (TellsOfPart part) {x = told} (sym {b = told} c.or.ensures) (c.halves.ensures.both c.in_ok-left.left c.in_ok-left.right left right)
+    IfOk-weaker c.at_once.result _ _ (λ found both.
+    let (x, y, is, left, right) = both in
+    let left_told = subst (λ (p : Part). TellsOfPart p x) left.shows left.says.met in
+    let right_told = subst (λ (p : Part). TellsOfPart p y) right.shows right.says.met in
+    subst (TellsOfPart c.args.part.now) {x = option_or x y} (sym {b = option_or x y} is) (c.halves.ensures.both x y left_told right_told))
+    c.at_once.ensures

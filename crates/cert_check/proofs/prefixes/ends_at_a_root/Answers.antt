@@ -1,7 +1,10 @@
-use Rattle.std.proofs.Common.{◌≡◌, ◌-◌, Some, slice_get, refl, subst}
+use Rattle.std.proofs.Common.{◌≡◌, ◌-◌, Some, slice_get, arith, refl, subst}
 use Rattle.cert_tree.specs.Certificate.{flat_piece}
 use Rattle.cert_check.proofs.PrefixLemmas.{tells_root}
 use Rattle.cert_check.proofs.prefixes.ends_at_a_root.Goals as goal
+
+pub returns-then-count-eq0 : goal.returns-then-count-eq0
+returns-then-count-eq0 c = λ root. let long = root.2 in omega (arith, c.if-count-eq0.true, c.len-count.ensures, long)
 
 pub returns : goal.returns
 returns c =

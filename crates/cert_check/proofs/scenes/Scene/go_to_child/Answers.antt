@@ -25,8 +25,8 @@ within c =
 pub go_past-requires : goal.go_past-requires
 go_past-requires c = omega (arith, within (goal.at.go_past-requires c).In-Some)
 
-pub fitting-pairs-requires : goal.fitting-pairs-requires
-fitting-pairs-requires c =
+pub pair_at-requires : goal.pair_at-requires
+pair_at-requires c =
     let s = c.args.self.now in
     let next = c.next-head in
     let given = c.requires.child in
@@ -38,19 +38,19 @@ unreachable-requires-in_default-pair_at c =
     let s = c.args.self.now in
     let next = c.next-head in
     let given = c.requires.child in
-    let there = child_pair s.partial.puzzle s.partial.placed c.args.number next.result c.in-Some.item s.trees next.new.self given.0 given.1 next.ensures.first next.ensures.children c.in-Some.ensures given.2 c.fitting-pairs.result c.fitting-pairs.ensures in
-    c.in_default-pair_at.not-Some there.0 (c.pair_at.ensures ∙ there.1)
+    let there = child_pair s.partial.puzzle s.partial.placed c.args.number next.result c.in-Some.item s.trees next.new.self given.0 given.1 next.ensures.first next.ensures.children c.in-Some.ensures given.2 c.pair_at.ensures.0 c.pair_at.ensures.1 in
+    c.in_default-pair_at.not-Some there.0 (c.pair_at.ensures.2 ∙ there.1)
 
 -- The pair that was taken is the one with the number, and fits.
-at : (c : In-Some-pair_at) → slice_get c.fitting-pairs.result c.args.number ≡ Some c.in-Some-pair_at.pair
-at c = sym c.pair_at.ensures ∙ c.in-Some-pair_at.is
+at : (c : In-Some-pair_at) → slice_get c.pair_at.ensures.0 c.args.number ≡ Some c.in-Some-pair_at.pair
+at c = sym c.pair_at.ensures.2 ∙ c.in-Some-pair_at.is
 
 fits : (c : In-Some-pair_at) → FitsItem c.args.self.now.partial.puzzle c.args.self.now.partial.placed c.in-Some.item c.in-Some-pair_at.pair
 fits c =
     let s = c.args.self.now in
     let next = c.next-head in
     let given = c.requires.child in
-    let there = child_pair s.partial.puzzle s.partial.placed c.args.number next.result c.in-Some.item s.trees next.new.self given.0 given.1 next.ensures.first next.ensures.children c.in-Some.ensures given.2 c.fitting-pairs.result c.fitting-pairs.ensures in
+    let there = child_pair s.partial.puzzle s.partial.placed c.args.number next.result c.in-Some.item s.trees next.new.self given.0 given.1 next.ensures.first next.ensures.children c.in-Some.ensures given.2 c.pair_at.ensures.0 c.pair_at.ensures.1 in
     subst (λ (x : Pair). FitsItem s.partial.puzzle s.partial.placed c.in-Some.item x) (inside (sym there.1 ∙ at c)) there.2
 
 pub place-requires-clause-legal : goal.place-requires-clause-legal
@@ -73,5 +73,5 @@ returns-clause-child c =
     let next = c.next-head in
     let given = c.requires.child in
     let pair = c.in-Some-pair_at.pair in
-    let reached = child_reached s.partial.puzzle s.partial.placed c.args.number next.result c.in-Some.item s.trees next.new.self given.0 given.1 next.ensures.first next.ensures.children c.in-Some.ensures given.2 c.fitting-pairs.result c.fitting-pairs.ensures pair (at (goal.at.returns-clause-child c).In-Some-pair_at) in
+    let reached = child_reached s.partial.puzzle s.partial.placed c.args.number next.result c.in-Some.item s.trees next.new.self given.0 given.1 next.ensures.first next.ensures.children c.in-Some.ensures given.2 c.pair_at.ensures.0 c.pair_at.ensures.1 pair (at (goal.at.returns-clause-child c).In-Some-pair_at) in
     rw (c.go_past.ensures, c.place.ensures) reached

@@ -1,6 +1,6 @@
 use Rattle.std.proofs.Common.{refl}
 use Rattle.cert_check.proofs.ForkLemmas.{taken_after}
-use Rattle.cert_check.proofs.forks.pairs_from.Goals as goal
+use Rattle.cert_check.proofs.scenes.pairs_from.Goals as goal
 
 pub loop-init : goal.loop-init
 loop-init c = (c.fitting-pairs.result, c.fitting-pairs.ensures, refl)

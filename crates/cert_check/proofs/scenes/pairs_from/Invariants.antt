@@ -1,7 +1,7 @@
 use Rattle.std.proofs.Common.{◌≡◌, List, drop}
 use Rattle.match_puzzle.specs.Fitting.{AreFitting}
 use Rattle.match_puzzle.specs.declared.placements.Pair.{Pair}
-use Rattle.cert_check.proofs.forks.pairs_from.Given as goal
+use Rattle.cert_check.proofs.scenes.pairs_from.Given as goal
 
 -- So many pairs were taken.
 abbrev pub invariant-loop : goal.invariant-loop
