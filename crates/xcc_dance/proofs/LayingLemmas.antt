@@ -1,7 +1,7 @@
 -- The nodes of a compiled puzzle are laid out one option after another.
 use Rattle.std.proofs.Common.{◌≡◌, ◌<◌, ◌≤◌, ◌+◌, ◌-◌, ℕ, zero, suc, List, [], ◌∷◌, ◌++◌, Some, length, length-append, drop, slice_get, get_or, map, arith, refl, ap, sym, ◌∙◌, subst, ⊎_elim}
 use Rattle.std.proofs.lemmas.Bool.{cases_lt}
-use Rattle.std.proofs.lemmas.List.{get_or_append_left, get_or-append_right, get_or_at, length-map}
+use Rattle.std.proofs.lemmas.List.{get_or_append_left, get_or-append_right, get_or_at, get_or_push, length-map}
 use Rattle.std.proofs.lemmas.Option.{slice_get_within, none-some}
 use Rattle.match_board.specs.Board.{cell_count}
 use Rattle.match_puzzle.proofs.Prefixes.{inside}
@@ -231,6 +231,16 @@ module _ (x : Compiled) (items options roots : ℕ) (entries : List Entry) (star
       }
 
 -- ---- at first
+
+-- one item's own node more
+pub own_more : (entries entries' : List Entry) (items : ℕ) → entries' ≡ entries ++ own_entry items ∷ [] → length entries ≡ items → ((item : ℕ) → item < items → get_or entries item no_entry ≡ own_entry item)
+    → (item : ℕ) → item < items + 1 → get_or entries' item no_entry ≡ own_entry item
+own_more entries entries' items e long own item lt =
+    ap (λ es. get_or es item no_entry) e
+    ∙ ⊎_elim
+    (λ (below : item < items). get_or_append_left entries (own_entry items ∷ []) no_entry item (omega (arith, below, long)) ∙ own item below)
+    (λ (le : items ≤ item). let same : item ≡ items = omega (arith, le, lt) in get_or_push entries (own_entry items) no_entry item (omega (arith, long, same)) ∙ ap own_entry (sym same))
+    (cases_lt item items)
 
 pub laid_first : (x : Compiled) (items : ℕ) (entries : List Entry) (starts : List ℕ) → length entries ≡ items → ((item : ℕ) → item < items → get_or entries item no_entry ≡ own_entry item) → starts ≡ items ∷ [] → IsLaidOutTo x items 0 0 entries starts
 laid_first x items entries starts long own is = subst (IsLaidOutTo x items 0 0 entries) (sym is) (record {

@@ -1,5 +1,5 @@
 -- How what is found grows from node to node.
-use Rattle.std.proofs.Common.{◌≡◌, ◌≢◌, ◌<◌, ◌≤◌, ◌+◌, ◌*◌, ◌++◌, ◌∷◌, [], ℕ, List, Some, length, length-append, Contains, slice_get, append_assoc, Result, Ok, Err, Bool, true, false, IfOk, MatchBool, arith, ap, sym, ◌∙◌, subst, inl, inr, ⊎_elim}
+use Rattle.std.proofs.Common.{◌≡◌, ◌⊎◌, ◌≢◌, ◌<◌, ◌≤◌, ◌+◌, ◌*◌, ◌++◌, ◌∷◌, [], ℕ, List, Some, length, length-append, Contains, slice_get, append_assoc, Result, Ok, Err, Bool, true, false, IfOk, MatchBool, arith, ap, sym, ◌∙◌, subst, inl, inr, ⊎_elim}
 use Rattle.std.proofs.lemmas.List.Elements.{Contains-push_cases}
 use Rattle.match_limits.specs.declared.TheConstants.{MOST_CELLS, MOST_CHILDREN}
 use Rattle.match_puzzle.specs.declared.placements.Placement.{Placement}
@@ -52,6 +52,28 @@ module _ (start : Selection) where
     kept = λ n a at. new.kept n a (old.kept n a at);
     found = λ a c. ⊎_elim (λ h. old.found a h) (λ f. inr (found_before start option a (subst (λ s. IsFoundFrom s a) e f))) (new.found a c);
   }
+
+  -- fuel may be spent, and nothing is found
+  pub goes_spent : (before after : Progress) → after.found.items ≡ before.found.items → after.fuel ≤ before.fuel → GoesOn start before after
+  goes_spent before after items fuel =
+      let long = ap length items in
+      record {
+        fuel = fuel;
+        more = omega (arith, long);
+        kept = λ n a at. subst (λ xs. slice_get xs n ≡ Some a) (sym items) at;
+        found = λ a c. inl (subst (λ xs. Contains xs a) items c);
+      }
+
+  -- what goes on then goes on from before
+  pub goes_after : (first before after : Progress) → before.found.items ≡ first.found.items → before.fuel ≤ first.fuel → GoesOn start before after → GoesOn start first after
+  goes_after first before after items fuel goes =
+      let long = ap length items in
+      record {
+        fuel = let le = goes.fuel in omega (arith, le, fuel);
+        more = let le = goes.more in omega (arith, le, long);
+        kept = λ n a at. goes.kept n a (subst (λ xs. slice_get xs n ≡ Some a) (sym items) at);
+        found = λ a c. subst (λ xs. Contains xs a ⊎ IsFoundFrom start a) items (goes.found a c);
+      }
 
   -- one arrangement more, the one that stands there
   pub found_further : (before after : Progress) (a : List Placement) → after.found.items ≡ before.found.items ++ a ∷ [] → after.fuel ≡ before.fuel → IsSolutionOf start.compiled a start.chosen → GoesOn start before after

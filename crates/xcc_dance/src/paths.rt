@@ -1,7 +1,8 @@
 //! The way from the root of a search to a node: the options that are chosen on it, and their pairs.
 
-ghost use Rattle.std.specs.Prelude.{◌≡◌, ◌<◌, ◌≤◌, ◌*◌, ℕ, [], IfOk, IfSome, MatchOption, OnErr, length};
+ghost use Rattle.std.specs.Prelude.{◌≡◌, ◌<◌, ◌≤◌, ◌*◌, [], IfOk, IfSome, MatchOption, OnErr, length};
 ghost use Rattle.match_board.specs.Board.{cell_count};
+ghost use Rattle.match_puzzle.specs.Fitting.{IsNumberOf};
 ghost use Rattle.xcc_form.specs.Options.{IsCompiled, IsOptionPair, cover_of};
 ghost use Rattle.xcc_form.specs.Correspondence.{IsPairOf, IsSolutionOf};
 ghost use Rattle.xcc_dance.specs.Clashes.{IsOpen};
@@ -12,7 +13,7 @@ ghost use Rattle.xcc_dance.specs.Placing.{ArePairsOf};
 use crate::chooses::Chooses;
 use crate::open_options::OpenOptions;
 use match_limits::MOST_CELLS;
-use match_puzzle::{Arrangement, Pair};
+use match_puzzle::{Arrangement, Item, Pair};
 use std::alloc::{AllocError, Global};
 use std::marker::Model;
 use xcc_form::FormFault;
@@ -53,13 +54,14 @@ impl<E: OpenOptions + Drop> SearchPath<E> {
         &self.engine
     }
 
-    // How many cells there are, which are the first items.
-    pub(crate) fn cells(&self) -> u16
-        ensures count { result ≡ cell_count (E.selection self.now).compiled.puzzle.board }
-        ensures most { result ≤ MOST_CELLS }
-        ensures few { (item : ℕ) → item < (cover_of (E.selection self.now).compiled).primaries → item < 2 * result }
+    // The item with this number, which no chosen option has.
+    pub(crate) fn item_numbered(&self, number: u32) -> Item
+        requires { let s = E.selection self.now in IsUncovered (cover_of s.compiled) s.chosen number }
+        ensures number { IsNumberOf (cell_count (E.selection self.now).compiled.puzzle.board) number result }
+        ensures most { cell_count (E.selection self.now).compiled.puzzle.board ≤ MOST_CELLS }
+        ensures few { number < 2 * cell_count (E.selection self.now).compiled.puzzle.board }
     {
-        self.engine.xcc().cells()
+        Item::numbered(self.engine.xcc().cells(), number)
     }
 
     // The pairs of the chosen options.

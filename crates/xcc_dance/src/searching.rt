@@ -19,7 +19,6 @@ use crate::paths::SearchPath;
 use crate::progress::Progress;
 use cert_tree::Head;
 use match_limits::{MOST_CELLS, MOST_CHILDREN};
-use match_puzzle::Item;
 use std::alloc::{AllocError, Global};
 
 // Puts the tree of what is chosen behind the heads, and leaves the choices as before; or finds that the fuel does not do.
@@ -45,22 +44,19 @@ pub(crate) fn walk<E: OpenOptions + Drop, R: Chooses, C: Cites>(
         progress.old.fuel)) }
 {
     let Some(item) = path.choose_item(rule)? else {
-        let number = progress.found.len() as u32;
-        progress.found.push(path.arrangement(alloc)?)?;
-        progress.heads.push(Head::Found(number))?;
+        progress.put_found(path.arrangement(alloc)?)?;
         return Ok(true);
     };
-    let about = Item::numbered(path.cells(), item);
+    let about = path.item_numbered(item);
     let size = path.engine().size(item);
     if size == 0 {
-        progress.heads.push(Head::dead(about))?;
+        progress.put_dead_end(about)?;
         return Ok(true);
     }
     if progress.fuel == 0 {
         return Ok(false);
     }
-    progress.fuel -= 1;
-    progress.heads.push(Head::branch(about, size))?;
+    progress.put_branch(about, size)?;
     walk_options(alloc, path, item, rule, cites, progress)
 }
 

@@ -1,6 +1,6 @@
 //! Link arrays: the open options in the lists of their items, and the options that were taken out.
 
-ghost use Rattle.std.specs.Prelude.{◌≡◌, ◌<◌, ◌≤◌, ◌++◌, ◌∷◌, [], false, IfOk, length, slice_index_or, take, drop};
+ghost use Rattle.std.specs.Prelude.{◌≡◌, ◌<◌, ◌≤◌, ◌++◌, ◌∷◌, [], false, IfOk, length, replicate, slice_index_or, take, drop};
 ghost use Rattle.xcc_dance.specs.ArrayWords.{IsTable, HasOption, FitTable, ListTheOpen, CanGoBack};
 ghost use Rattle.xcc_dance.specs.ArrayWords.{arrays_of, item_at, with_back};
 ghost use Rattle.xcc_dance.specs.NodeTables.{AreOptions, has};
@@ -58,16 +58,29 @@ impl LinkArrays {
             sizes,
             trail,
         };
+        arrays.link_all(table);
+        Ok(arrays)
+    }
+
+    // Puts the nodes of all options into the lists of their items, each behind the last. All stand alone.
+    fn link_all(&mut self, table: &NodeTable)
+        requires table { IsTable table.now }
+        requires alone { AreAlone self.old.links.items (length table.now.entries.items) }
+        requires sizes { self.old.sizes.items ≡ replicate table.now.items 0 }
+        requires trail { self.old.trail.items ≡ [] }
+        ensures trail { self.new.trail.items ≡ [] }
+        ensures right { ListTheOpen table.now self.new }
+    {
+        let nodes = table.entries.len() as u32;
         for node in table.items..nodes {
             let item = table.entries[node as usize].item;
-            let last = arrays.links[item as usize].up;
-            arrays.links[node as usize] = Link {
+            let last = self.links[item as usize].up;
+            self.links[node as usize] = Link {
                 up: last,
                 down: item,
             };
-            arrays.relink(table, node);
+            self.relink(table, node);
         }
-        Ok(arrays)
     }
 
     // Takes a node out of its item's list.

@@ -1,21 +1,22 @@
-use Rattle.std.proofs.Common.{◌≡◌, ◌<◌, ◌+◌, ◌-◌, ◌*◌, ◌^◌, ◌∷◌, ◌++◌, [], ℕ, List, Some, None, IfSome, inl, length, length-append, MatchOption, arith, refl, MatchBool, append-nil, ap, sym, ◌∙◌, subst}
-use Rattle.match_limits.specs.declared.TheConstants.{MOST_CHILDREN}
+use Rattle.std.proofs.Common.{◌≡◌, ◌<◌, ◌≤◌, ◌+◌, ◌-◌, ◌*◌, ◌^◌, ◌∷◌, ◌++◌, [], List, Some, None, IfSome, inl, length, length-append, MatchOption, arith, refl, MatchBool, append-nil, ap, sym, ◌∙◌, subst}
+use Rattle.match_limits.specs.declared.TheConstants.{MOST_CELLS, MOST_CHILDREN}
 use Rattle.match_puzzle.specs.declared.placements.Pair.{Pair}
+use Rattle.match_puzzle.specs.Fitting.{IsNumberOf}
 use Rattle.match_board.specs.Board.{cell_count}
 use Rattle.xcc_form.specs.Options.{Compiled, cover_of}
 use Rattle.xcc_form.specs.Correspondence.{IsSolutionOf}
+use Rattle.cert_tree.specs.Heads.{branch_head}
 use Rattle.cert_tree.specs.Tree.{branch, dead, found, none, count}
 use Rattle.xcc_dance.specs.Clashes.{IsOpenAt}
 use Rattle.xcc_dance.specs.Chosen.{Selection, IsSelection, IsUncovered, AreAllCovered, HasSize, IsNext, IsLast, with_option}
 use Rattle.match_fits.specs.Placing.{FitInTurn}
-use Rattle.xcc_dance.specs.Progress.{IsTreeOf, AreTreesOf, PutsTree, PutsTrees}
+use Rattle.xcc_dance.specs.Progress.{GoesOn, IsTreeOf, AreTreesOf, PutsTree, PutsTrees}
 use Rattle.xcc_dance.specs.SearchTree.{IsChild, IsSearchTree, AreBranchesOf}
 use Rattle.xcc_dance.specs.Unfinished.{IsNotCited, IsUnfinished, AreUnfinished}
-use Rattle.xcc_dance.specs.declared.progress.Progress.{Progress}
 use Rattle.xcc_dance.proofs.SizeLemmas.{open_first, open_next, open_all, size_same}
 use Rattle.xcc_dance.proofs.SearchTreeLemmas.{AreBranchesBefore, children_stay, children_count, child_more, branches_count, found_searched, dead_searched, branch_searched, wanted_here, begun_there, next_begun}
 use Rattle.xcc_dance.proofs.GrowingLemmas.{next_open, with_last}
-use Rattle.xcc_dance.proofs.WalkLemmas.{branch_heads, more_heads, either_way, goes_further, found_further, leaf_tree, dead_tree, branch_tree, no_trees, one_more_tree, room_for_one}
+use Rattle.xcc_dance.proofs.WalkLemmas.{branch_heads, more_heads, either_way, goes_further, goes_spent, goes_after, found_further, leaf_tree, dead_tree, branch_tree, no_trees, one_more_tree, room_for_one}
 use Rattle.xcc_dance.proofs.searching.+walk.Goals as goal
 
 pub walk-arrangement-requires : goal.walk-arrangement-requires
@@ -30,103 +31,135 @@ walk-walk_options-requires g t c =
     let s = g.E.OpenOptions.selection c.args.path.now in
     let same = ap g.E.OpenOptions.selection c.choose_item.ensures.same in
     let room = c.requires.room in
+    let fuel = c.put_branch.ensures.fuel in
+    let found = ap length c.put_branch.ensures.found in
     let left = ap (λ (v : Selection). length v.compiled.options - length v.chosen) same in
     let uncovered = subst (λ o. MatchOption o (AreAllCovered (cover_of s.compiled) s.chosen) (IsUncovered (cover_of s.compiled) s.chosen)) c.in-Some.is c.in_ok-item.ensures.uncovered in
     let there = subst (λ (v : Selection). IsUncovered (cover_of v.compiled) v.chosen c.in-Some.item) (sym same) uncovered in
     let takes : (pairs : List Pair) → FitInTurn (g.E.OpenOptions.selection c.choose_item.new.self).compiled.puzzle pairs → g.C.Cites.takes c.args.cites.now pairs = λ pairs fit. c.requires.takes pairs (subst (λ (v : Selection). FitInTurn v.compiled.puzzle pairs) same fit) in
-    λ κs below. (omega (arith, c.decreases, left), (below.0, (below.1.0, (below.1.1, (there, (takes, omega (arith, room, c.if-progress-eq0.false)))))))
+    λ κs below. (omega (arith, c.decreases, left), (below.0, (below.1.0, (below.1.1, (there, (takes, omega (arith, room, fuel, found)))))))
 
-pub walk-returns-in_err-push-2-clause-goes_on : goal.walk-returns-in_err-push-2-clause-goes_on
-walk-returns-in_err-push-2-clause-goes_on g t c =
-    let here = ap g.E.OpenOptions.selection c.choose_item.ensures.same in
-    found_further (g.E.OpenOptions.selection c.args.path.now) c.args.progress.now _ c.in_ok-arrangement.field-0 c.in_ok-push.ensures.items refl
-    (subst (λ (v : Selection). IsSolutionOf v.compiled c.in_ok-arrangement.field-0 v.chosen) here c.in_ok-arrangement.ensures)
+pub walk-returns-in_err-item-clause-compiled : goal.walk-returns-in_err-item-clause-compiled
+walk-returns-in_err-item-clause-compiled g t c = ap (λ e. (g.E.OpenOptions.selection e).compiled) c.choose_item.ensures.same
+
+pub walk-returns-in_err-item-clause-moved : goal.walk-returns-in_err-item-clause-moved
+walk-returns-in_err-item-clause-moved g t c = g.met.C.Cites.stays c.args.cites.now
+
+pub walk-returns-in_err-item-clause-goes_on : goal.walk-returns-in_err-item-clause-goes_on
+walk-returns-in_err-item-clause-goes_on g t c =
+    goes_spent (g.E.OpenOptions.selection c.args.path.now) c.args.progress.now c.args.progress.now refl (omega arith)
+
+pub walk-returns-in_err-arrangement-clause-compiled : goal.walk-returns-in_err-arrangement-clause-compiled
+walk-returns-in_err-arrangement-clause-compiled g t c = ap (λ e. (g.E.OpenOptions.selection e).compiled) c.choose_item.ensures.same
+
+pub walk-returns-in_err-arrangement-clause-moved : goal.walk-returns-in_err-arrangement-clause-moved
+walk-returns-in_err-arrangement-clause-moved g t c = g.met.C.Cites.stays c.args.cites.now
+
+pub walk-returns-in_err-arrangement-clause-goes_on : goal.walk-returns-in_err-arrangement-clause-goes_on
+walk-returns-in_err-arrangement-clause-goes_on g t c =
+    goes_spent (g.E.OpenOptions.selection c.args.path.now) c.args.progress.now c.args.progress.now refl (omega arith)
+
+pub walk-returns-in_err-put_found-clause-compiled : goal.walk-returns-in_err-put_found-clause-compiled
+walk-returns-in_err-put_found-clause-compiled g t c = ap (λ e. (g.E.OpenOptions.selection e).compiled) c.choose_item.ensures.same
+
+pub walk-returns-in_err-put_found-clause-moved : goal.walk-returns-in_err-put_found-clause-moved
+walk-returns-in_err-put_found-clause-moved g t c = g.met.C.Cites.stays c.args.cites.now
+
+pub walk-returns-in_err-put_found-clause-goes_on : goal.walk-returns-in_err-put_found-clause-goes_on
+walk-returns-in_err-put_found-clause-goes_on g t c =
+    goes_spent (g.E.OpenOptions.selection c.args.path.now) c.args.progress.now c.put_found.new.self c.in_err-put_found.ensures.refused (let e = c.put_found.ensures.fuel in omega (arith, e))
+
+pub walk-returns-in_default-clause-compiled : goal.walk-returns-in_default-clause-compiled
+walk-returns-in_default-clause-compiled g t c = ap (λ e. (g.E.OpenOptions.selection e).compiled) c.choose_item.ensures.same
+
+pub walk-returns-in_default-clause-moved : goal.walk-returns-in_default-clause-moved
+walk-returns-in_default-clause-moved g t c = g.met.C.Cites.stays c.args.cites.now
 
 pub walk-returns-in_default-clause-goes_on : goal.walk-returns-in_default-clause-goes_on
 walk-returns-in_default-clause-goes_on g t c =
     let here = ap g.E.OpenOptions.selection c.choose_item.ensures.same in
-    found_further (g.E.OpenOptions.selection c.args.path.now) c.args.progress.now _ c.in_ok-arrangement.field-0 c.in_ok-push.ensures.items refl
+    found_further (g.E.OpenOptions.selection c.args.path.now) c.args.progress.now c.put_found.new.self c.in_ok-arrangement.field-0 c.in_ok-put_found.ensures.found c.put_found.ensures.fuel
     (subst (λ (v : Selection). IsSolutionOf v.compiled c.in_ok-arrangement.field-0 v.chosen) here c.in_ok-arrangement.ensures)
 
 pub walk-returns-in_default-clause-tree : goal.walk-returns-in_default-clause-tree
 walk-returns-in_default-clause-tree g t c =
     let s = g.E.OpenOptions.selection c.args.path.now in
     let here = ap g.E.OpenOptions.selection c.choose_item.ensures.same in
-    let number : c.len-number.result ≡ length c.args.progress.now.found.items = omega (arith, c.len-number.ensures, c.args.progress.now.found.ok.0) in
-    let items = c.in_ok-push.ensures.items in
-    let solution = subst (λ (v : Selection). IsSolutionOf v.compiled c.in_ok-arrangement.field-0 v.chosen) here c.in_ok-arrangement.ensures in (
+    let before = c.args.progress.now in
+    let after = c.put_found.new.self in
+    let a = c.in_ok-arrangement.field-0 in
+    let number = length before.found.items in
+    let items = c.in_ok-put_found.ensures.found in
+    let solution = subst (λ (v : Selection). IsSolutionOf v.compiled a v.chosen) here c.in_ok-arrangement.ensures in (
       c.choose_item.ensures.same,
       (
-        found c.len-number.result,
-        c.in_ok-push-2.ensures.items,
+        found number,
+        c.in_ok-put_found.ensures.head,
         (
-          leaf_tree s c.args.progress.now _ c.len-number.result _ number items refl,
-          found_searched (g.R.Chooses.picks c.args.rule.now) (g.C.Cites.answers c.args.cites.now) c.push.new.self.items s c.args.progress.now.found.items c.len-number.result c.in_ok-arrangement.field-0 number items solution,
+          leaf_tree s before after number a refl items c.put_found.ensures.fuel,
+          found_searched (g.R.Chooses.picks c.args.rule.now) (g.C.Cites.answers c.args.cites.now) after.found.items s before.found.items number a refl items solution,
         ),
       ),
     )
+
+pub walk-returns-in_err-put_dead_end-clause-compiled : goal.walk-returns-in_err-put_dead_end-clause-compiled
+walk-returns-in_err-put_dead_end-clause-compiled g t c = ap (λ e. (g.E.OpenOptions.selection e).compiled) c.choose_item.ensures.same
+
+pub walk-returns-in_err-put_dead_end-clause-moved : goal.walk-returns-in_err-put_dead_end-clause-moved
+walk-returns-in_err-put_dead_end-clause-moved g t c = g.met.C.Cites.stays c.args.cites.now
+
+pub walk-returns-in_err-put_dead_end-clause-goes_on : goal.walk-returns-in_err-put_dead_end-clause-goes_on
+walk-returns-in_err-put_dead_end-clause-goes_on g t c =
+    goes_spent (g.E.OpenOptions.selection c.args.path.now) c.args.progress.now c.put_dead_end.new.self c.put_dead_end.ensures.found (let e = c.put_dead_end.ensures.fuel in omega (arith, e))
+
+pub walk-returns-then-size-eq0-clause-compiled : goal.walk-returns-then-size-eq0-clause-compiled
+walk-returns-then-size-eq0-clause-compiled g t c = ap (λ e. (g.E.OpenOptions.selection e).compiled) c.choose_item.ensures.same
+
+pub walk-returns-then-size-eq0-clause-moved : goal.walk-returns-then-size-eq0-clause-moved
+walk-returns-then-size-eq0-clause-moved g t c = g.met.C.Cites.stays c.args.cites.now
+
+pub walk-returns-then-size-eq0-clause-goes_on : goal.walk-returns-then-size-eq0-clause-goes_on
+walk-returns-then-size-eq0-clause-goes_on g t c =
+    goes_spent (g.E.OpenOptions.selection c.args.path.now) c.args.progress.now c.put_dead_end.new.self c.put_dead_end.ensures.found (let e = c.put_dead_end.ensures.fuel in omega (arith, e))
 
 pub walk-returns-then-size-eq0-clause-tree : goal.walk-returns-then-size-eq0-clause-tree
 walk-returns-then-size-eq0-clause-tree g t c =
     let s = g.E.OpenOptions.selection c.args.path.now in
+    let there = ap g.E.OpenOptions.selection c.choose_item.ensures.same in
     let same = ap g.E.OpenOptions.selection (c.engine.ensures.same ∙ c.choose_item.ensures.same) in
     let picks = g.R.Chooses.picks c.args.rule.now in
     let answers = g.C.Cites.answers c.args.cites.now in
-    let sized = subst (λ (v : Selection). HasSize (cover_of v.compiled) v.chosen c.in-Some.item c.size-size.result) same c.size-size.ensures in
-    let none_left = subst (λ n. HasSize (cover_of s.compiled) s.chosen c.in-Some.item n) c.if-size-eq0.true sized in
-    let cells = c.cells.ensures.count ∙ ap (λ (v : Selection). cell_count v.compiled.puzzle.board) (ap g.E.OpenOptions.selection c.choose_item.ensures.same) in
+    let before = c.args.progress.now in
+    let after = c.put_dead_end.new.self in
+    let number = c.in-Some.item in
+    let about = c.item_numbered-about.result in
+    let sized = subst (λ (v : Selection). HasSize (cover_of v.compiled) v.chosen number c.size-size.result) same c.size-size.ensures in
+    let none_left = subst (λ n. HasSize (cover_of s.compiled) s.chosen number n) c.if-size-eq0.true sized in
     let picked = subst (λ o. IfSome o (picks s)) c.in-Some.is c.in_ok-item.ensures.picked in
-    let uncovered = subst (λ o. MatchOption o (AreAllCovered (cover_of s.compiled) s.chosen) (IsUncovered (cover_of s.compiled) s.chosen)) c.in-Some.is c.in_ok-item.ensures.uncovered in
-    let few = subst (λ (v : Selection). (item : ℕ) → item < (cover_of v.compiled).primaries → item < 2 * c.cells.result) (ap g.E.OpenOptions.selection c.choose_item.ensures.same) c.cells.ensures.few in
-    let item = c.numbered-about.result in (
+    let is = subst (λ (v : Selection). IsNumberOf (cell_count v.compiled.puzzle.board) number about) there c.item_numbered-about.ensures.number in
+    let most = subst (λ (v : Selection). cell_count v.compiled.puzzle.board ≤ MOST_CELLS) there c.item_numbered-about.ensures.most in
+    let few = subst (λ (v : Selection). number < 2 * cell_count v.compiled.puzzle.board) there c.item_numbered-about.ensures.few in
+    let same_found = c.put_dead_end.ensures.found in (
       c.choose_item.ensures.same,
       (
-        dead item,
-        c.in_ok-push-3.ensures.items ∙ ap (λ h. c.args.progress.now.heads.items ++ h ∷ []) c.dead.ensures,
+        dead about,
+        c.in_ok-put_dead_end.ensures.head,
         (
-          dead_tree s c.args.progress.now _ c.cells.result c.in-Some.item item refl refl c.cells.ensures.most (few c.in-Some.item uncovered.primary) c.numbered-about.ensures,
-          dead_searched picks answers c.args.progress.now.found.items s c.cells.result c.in-Some.item item cells picked none_left c.numbered-about.ensures,
+          dead_tree s before after (cell_count s.compiled.puzzle.board) number about same_found c.put_dead_end.ensures.fuel most few is,
+          dead_searched picks answers after.found.items s (cell_count s.compiled.puzzle.board) number about refl picked none_left is,
         ),
       ),
     )
 
-pub walk-returns-clause-tree : goal.walk-returns-clause-tree
-walk-returns-clause-tree g t c =
-    let s = g.E.OpenOptions.selection c.args.path.now in
-    let s' = g.E.OpenOptions.selection c.choose_item.new.self in
-    let there : s' ≡ s = ap g.E.OpenOptions.selection c.choose_item.ensures.same in
-    let same = ap g.E.OpenOptions.selection (c.engine.ensures.same ∙ c.choose_item.ensures.same) in
-    let old = c.args.progress.now in
-    let before : Progress = record { fuel = old.fuel - 1; found = old.found; heads = c.push-2.new.self } in
-    let after = c.walk_options.new.progress in
-    let picks = g.R.Chooses.picks c.args.rule.now in
-    let answers = g.C.Cites.answers c.walk_options.new.cites in
-    let number = c.in-Some.item in
-    let sized = subst (λ (v : Selection). HasSize (cover_of v.compiled) v.chosen number c.size-size.result) same c.size-size.ensures in
-    let right = subst (λ (v : Selection). IsSelection v.compiled v.chosen) there c.engine.ensures.right in
-    let cells = c.cells.ensures.count ∙ ap (λ (v : Selection). cell_count v.compiled.puzzle.board) there in
-    let picked = subst (λ o. IfSome o (picks s)) c.in-Some.is c.in_ok-item.ensures.picked in
-    let uncovered = subst (λ o. MatchOption o (AreAllCovered (cover_of s.compiled) s.chosen) (IsUncovered (cover_of s.compiled) s.chosen)) c.in-Some.is c.in_ok-item.ensures.uncovered in
-    let few = subst (λ (v : Selection). (item : ℕ) → item < (cover_of v.compiled).primaries → item < 2 * c.cells.result) there c.cells.ensures.few in
-    let item = c.numbered-about.result in
-    let yes : (c.walk_options.new.path ≡ c.choose_item.new.self) × PutsTrees before after (λ ts. AreTreesOf s' before after ts × AreBranchesOf picks answers after.found.items s' number ts)
-    → (c.walk_options.new.path ≡ c.args.path.now) × PutsTree old after (λ t. IsTreeOf s old after t × IsSearchTree picks answers after.found.items s t) = λ w.
-    let trees = w.1.0 in
-    let both = subst (λ (v : Selection). AreTreesOf v before after trees × AreBranchesOf picks answers after.found.items v number trees) there w.1.2 in
-    let each = branches_count picks answers after.found.items s number trees both.1 in (
-      w.0 ∙ c.choose_item.ensures.same,
-      (
-        branch item trees,
-        branch_heads old.heads.items before.heads.items after.heads.items c.branch-about.result item c.size-size.result trees c.in_ok-push-4.ensures.items c.branch-about.ensures (size_same (cover_of s.compiled) s.chosen number c.size-size.result (count trees) sized each) w.1.1,
-        (
-          branch_tree s old before after c.cells.result number c.size-size.result item trees right (omega (arith, c.if-progress-eq0.false)) refl c.cells.ensures.most (few number uncovered.primary) sized c.if-size-eq0.false each both.0 c.numbered-about.ensures,
-          branch_searched picks answers after.found.items s c.cells.result number item trees cells picked both.1 c.numbered-about.ensures,
-        ),
-      ),
-    ) in
-    let no : (after.fuel ≡ 0) × AreUnfinished picks answers after.found.items s' number before.fuel → (after.fuel ≡ 0) × IsUnfinished picks answers after.found.items s old.fuel = λ w.
-    (w.0, begun_there picks answers after.found.items s number before.fuel old.fuel picked (omega (arith, c.if-progress-eq0.false)) (subst (λ (v : Selection). AreUnfinished picks answers after.found.items v number before.fuel) there w.1)) in
-    either_way c.walk_options.result yes no c.walk_options.ensures.trees
+pub walk-returns-then-progress-eq0-clause-compiled : goal.walk-returns-then-progress-eq0-clause-compiled
+walk-returns-then-progress-eq0-clause-compiled g t c = ap (λ e. (g.E.OpenOptions.selection e).compiled) c.choose_item.ensures.same
+
+pub walk-returns-then-progress-eq0-clause-moved : goal.walk-returns-then-progress-eq0-clause-moved
+walk-returns-then-progress-eq0-clause-moved g t c = g.met.C.Cites.stays c.args.cites.now
+
+pub walk-returns-then-progress-eq0-clause-goes_on : goal.walk-returns-then-progress-eq0-clause-goes_on
+walk-returns-then-progress-eq0-clause-goes_on g t c =
+    goes_spent (g.E.OpenOptions.selection c.args.path.now) c.args.progress.now c.args.progress.now refl (omega arith)
 
 pub walk-returns-then-progress-eq0-clause-tree : goal.walk-returns-then-progress-eq0-clause-tree
 walk-returns-then-progress-eq0-clause-tree g t c =
@@ -136,6 +169,67 @@ walk-returns-then-progress-eq0-clause-tree g t c =
     let sized = subst (λ (v : Selection). HasSize (cover_of v.compiled) v.chosen c.in-Some.item c.size-size.result) same c.size-size.ensures in
     let picked = subst (λ o. IfSome o (picks s)) c.in-Some.is c.in_ok-item.ensures.picked in
     (c.if-progress-eq0.true, wanted_here picks (g.C.Cites.answers c.args.cites.now) c.args.progress.now.found.items s c.in-Some.item c.size-size.result c.args.progress.now.fuel picked sized c.if-size-eq0.false c.if-progress-eq0.true)
+
+pub walk-returns-in_err-put_branch-clause-compiled : goal.walk-returns-in_err-put_branch-clause-compiled
+walk-returns-in_err-put_branch-clause-compiled g t c = ap (λ e. (g.E.OpenOptions.selection e).compiled) c.choose_item.ensures.same
+
+pub walk-returns-in_err-put_branch-clause-moved : goal.walk-returns-in_err-put_branch-clause-moved
+walk-returns-in_err-put_branch-clause-moved g t c = g.met.C.Cites.stays c.args.cites.now
+
+pub walk-returns-in_err-put_branch-clause-goes_on : goal.walk-returns-in_err-put_branch-clause-goes_on
+walk-returns-in_err-put_branch-clause-goes_on g t c =
+    goes_spent (g.E.OpenOptions.selection c.args.path.now) c.args.progress.now c.put_branch.new.self c.put_branch.ensures.found (let e = c.put_branch.ensures.fuel in omega (arith, e))
+
+pub walk-returns-clause-compiled : goal.walk-returns-clause-compiled
+walk-returns-clause-compiled g t c = c.walk_options.ensures.compiled ∙ ap (λ e. (g.E.OpenOptions.selection e).compiled) c.choose_item.ensures.same
+
+pub walk-returns-clause-moved : goal.walk-returns-clause-moved
+walk-returns-clause-moved g t c = c.walk_options.ensures.moved
+
+pub walk-returns-clause-goes_on : goal.walk-returns-clause-goes_on
+walk-returns-clause-goes_on g t c =
+    let e = c.put_branch.ensures.fuel in
+    goes_after (g.E.OpenOptions.selection c.args.path.now) c.args.progress.now c.put_branch.new.self c.walk_options.new.progress c.put_branch.ensures.found (omega (arith, e))
+    (subst (λ (v : Selection). GoesOn v c.put_branch.new.self c.walk_options.new.progress) (ap g.E.OpenOptions.selection c.choose_item.ensures.same) c.walk_options.ensures.goes_on)
+
+pub walk-returns-clause-tree : goal.walk-returns-clause-tree
+walk-returns-clause-tree g t c =
+    let s = g.E.OpenOptions.selection c.args.path.now in
+    let s' = g.E.OpenOptions.selection c.choose_item.new.self in
+    let there : s' ≡ s = ap g.E.OpenOptions.selection c.choose_item.ensures.same in
+    let same = ap g.E.OpenOptions.selection (c.engine.ensures.same ∙ c.choose_item.ensures.same) in
+    let old = c.args.progress.now in
+    let before = c.put_branch.new.self in
+    let after = c.walk_options.new.progress in
+    let picks = g.R.Chooses.picks c.args.rule.now in
+    let answers = g.C.Cites.answers c.walk_options.new.cites in
+    let number = c.in-Some.item in
+    let about = c.item_numbered-about.result in
+    let sized = subst (λ (v : Selection). HasSize (cover_of v.compiled) v.chosen number c.size-size.result) same c.size-size.ensures in
+    let right = subst (λ (v : Selection). IsSelection v.compiled v.chosen) there c.engine.ensures.right in
+    let picked = subst (λ o. IfSome o (picks s)) c.in-Some.is c.in_ok-item.ensures.picked in
+    let is = subst (λ (v : Selection). IsNumberOf (cell_count v.compiled.puzzle.board) number about) there c.item_numbered-about.ensures.number in
+    let most = subst (λ (v : Selection). cell_count v.compiled.puzzle.board ≤ MOST_CELLS) there c.item_numbered-about.ensures.most in
+    let few = subst (λ (v : Selection). number < 2 * cell_count v.compiled.puzzle.board) there c.item_numbered-about.ensures.few in
+    let same_found = c.put_branch.ensures.found in
+    let yes : (c.walk_options.new.path ≡ c.choose_item.new.self) × PutsTrees before after (λ ts. AreTreesOf s' before after ts × AreBranchesOf picks answers after.found.items s' number ts)
+    → (c.walk_options.new.path ≡ c.args.path.now) × PutsTree old after (λ t. IsTreeOf s old after t × IsSearchTree picks answers after.found.items s t) = λ w.
+    let trees = w.1.0 in
+    let both = subst (λ (v : Selection). AreTreesOf v before after trees × AreBranchesOf picks answers after.found.items v number trees) there w.1.2 in
+    let each = branches_count picks answers after.found.items s number trees both.1 in (
+      w.0 ∙ c.choose_item.ensures.same,
+      (
+        branch about trees,
+        branch_heads old.heads.items before.heads.items after.heads.items (branch_head about c.size-size.result) about c.size-size.result trees c.in_ok-put_branch.ensures.head refl (size_same (cover_of s.compiled) s.chosen number c.size-size.result (count trees) sized each) w.1.1,
+        (
+          branch_tree s old before after (cell_count s.compiled.puzzle.board) number c.size-size.result about trees right c.put_branch.ensures.fuel same_found most few sized c.if-size-eq0.false each both.0 is,
+          branch_searched picks answers after.found.items s (cell_count s.compiled.puzzle.board) number about trees refl picked both.1 is,
+        ),
+      ),
+    ) in
+    let no : (after.fuel ≡ 0) × AreUnfinished picks answers after.found.items s' number before.fuel → (after.fuel ≡ 0) × IsUnfinished picks answers after.found.items s old.fuel = λ w.
+    (w.0, begun_there picks answers after.found.items s number before.fuel old.fuel picked c.put_branch.ensures.fuel (subst (λ (v : Selection). AreUnfinished picks answers after.found.items v number before.fuel) there w.1)) in
+    either_way c.walk_options.result yes no c.walk_options.ensures.trees
 
 pub walk_options-loop-next-init : goal.walk_options-loop-next-init
 walk_options-loop-next-init g t c =

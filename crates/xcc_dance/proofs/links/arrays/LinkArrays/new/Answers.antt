@@ -1,70 +1,12 @@
-use Rattle.std.proofs.Common.{◌≡◌, ◌<◌, ◌+◌, ◌∙◌, List, ℕ, length, set, replicate, arith, rules, ap, sym, subst}
-use Rattle.std.proofs.lemmas.List.{get_or_read}
-use Rattle.xcc_dance.specs.Rings.{AreAlone, no_link, no_entry, up_of, item_of}
-use Rattle.xcc_dance.specs.NodeTables.{AreRight}
-use Rattle.xcc_dance.proofs.MakingWords.{IsBuilt}
-use Rattle.xcc_dance.specs.declared.links.arrays.Link.{Link}
-use Rattle.xcc_dance.specs.declared.links.tables.Entry.{Entry}
-use Rattle.xcc_dance.proofs.MakingLemmas.{items_in, built_first, inside0, built_more, built_right}
+use Rattle.std.proofs.Common.{◌≡◌, length, arith, subst}
+use Rattle.xcc_dance.specs.Rings.{AreAlone}
 use Rattle.xcc_dance.proofs.links.arrays.LinkArrays.new.Goals as goal
-use Rattle.xcc_dance.proofs.links.arrays.LinkArrays.new.Goals.{After-index-in-loop-node}
 
-pub loop-node-init : goal.loop-node-init
-loop-node-init c =
+pub link_all-requires-clause-alone : goal.link_all-requires-clause-alone
+link_all-requires-clause-alone c =
     let f = c.args.table.now in
     let nodes : c.len-nodes.result ≡ length f.entries.items = omega (arith, c.len-nodes.ensures, f.entries.ok.0) in
-    let sizes : c.in_ok-sizes.sizes.items ≡ replicate f.items 0 = c.in_ok-sizes.ensures.items_if_clones_equal (λ _ same. same) in
-    record {
-      built = built_first f.primaries f.items f.options f.entries.items f.starts.items c.requires.table c.in_ok-links.links.items c.in_ok-sizes.sizes.items (subst (λ n. AreAlone c.in_ok-links.links.items n) nodes c.in_ok-links.ensures) sizes;
-      trail = c.in_ok-trail.ensures.items;
-    }
+    subst (λ n. AreAlone c.in_ok-links.links.items n) nodes c.in_ok-links.ensures
 
-within : (c : After-index-in-loop-node) → c.loop-node.node < length c.args.table.now.entries.items
-within c = omega (arith, c.len-nodes.ensures, c.args.table.now.entries.ok.0)
-
--- the links with the node between the last one of its list and the item's own
-placed : (c : After-index-in-loop-node) →
-    let f = c.args.table.now in
-    let ls = c.loop-node.arrays.links.items in
-    let m = c.loop-node.node in
-    set ls m (record { up = c.index-in-loop-node.result.now.up; down = c.index.result.now.item }) ≡ set ls m (record { up = up_of ls (item_of f.entries.items m); down = item_of f.entries.items m })
-placed c =
-    let f = c.args.table.now in
-    let b = c.loop-node.invariant.built in
-    let ls = c.loop-node.arrays.links.items in
-    let m = c.loop-node.node in
-    let entry = ap (λ (x : Entry). x.item) (get_or_read f.entries.items m c.index.result.now (within c) c.index.ensures no_entry) in
-    let up = ap (λ (x : Link). x.up) (get_or_read ls c.index.result.now.item c.index-in-loop-node.result.now (omega (arith, entry, c.requires.table.small m, b.kept.own_high, b.fits.long)) c.index-in-loop-node.ensures no_link) ∙ ap (up_of ls) entry in
-    ap (λ k. set ls m (record { up = k; down = c.index.result.now.item })) up ∙ ap (λ k. set ls m (record { up = up_of ls (item_of f.entries.items m); down = k })) entry
-
-pub relink-requires-clause-inside : goal.relink-requires-clause-inside
-relink-requires-clause-inside c =
-    let f = c.args.table.now in
-    let t = c.loop-node.arrays in
-    let at = (goal.at.relink-requires-clause-inside c).After-index-in-loop-node in
-    inside0 f.primaries f.items f.options f.entries.items f.starts.items c.requires.table t.links.items t.sizes.items c.loop-node.node c.loop-node.invariant.built (within at) _ (placed at)
-
-moved : (items : ℕ) (entries : List Entry) (l l' : List Link) (s s' : List ℕ) (n : ℕ) → l' ≡ l → s' ≡ s → IsBuilt items entries l s n → IsBuilt items entries l' s' n
-moved items entries l l' s s' n el es h = subst (λ x. IsBuilt items entries x s' n) (sym el) (subst (λ x. IsBuilt items entries l x n) (sym es) h)
-
-pub loop-node-preserved : goal.loop-node-preserved
-loop-node-preserved c =
-    let f = c.args.table.now in
-    let t = c.loop-node.arrays in
-    let m = c.loop-node.node in
-    let at = (goal.at.loop-node-preserved c).After-index-in-loop-node in
-    let h = built_more f.primaries f.items f.options f.entries.items f.starts.items c.requires.table t.links.items t.sizes.items m c.loop-node.invariant.built (within at) _ (placed at) in
-    record {
-      built = moved f.items f.entries.items _ _ _ _ (m + 1) c.relink.ensures.links c.relink.ensures.sizes h;
-      trail = c.relink.ensures.trail ∙ c.loop-node.invariant.trail;
-    }
-
-pub returns-clause-right : goal.returns-clause-right
-returns-clause-right c =
-    let f = c.args.table.now in
-    let nodes : c.len-nodes.result ≡ length f.entries.items = omega (arith, c.len-nodes.ensures, f.entries.ok.0) in
-    let le = items_in f.primaries f.items f.options f.entries.items f.starts.items c.requires.table in
-    let up = c.loop-node.auto.node-end (omega (arith, le, nodes)) in
-    let e : c.loop-node.node ≡ length f.entries.items = omega (arith, up, nodes) in
-    subst (λ t. AreRight f.items f.entries.items f.starts.items c.loop-node.arrays.links.items c.loop-node.arrays.sizes.items t) (sym c.loop-node.invariant.trail)
-    (built_right f.primaries f.items f.options f.entries.items f.starts.items c.requires.table c.loop-node.arrays.links.items c.loop-node.arrays.sizes.items c.loop-node.node e c.loop-node.invariant.built)
+pub link_all-requires-clause-sizes : goal.link_all-requires-clause-sizes
+link_all-requires-clause-sizes c = c.in_ok-sizes.ensures.items_if_clones_equal (λ _ same. same)
