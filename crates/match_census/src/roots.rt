@@ -50,14 +50,39 @@ pub(crate) fn guessed_item<E: OpenOptions>(
     ensures { engine.new ≡ engine.old }
 {
     let mut dives = Dives::new(cells);
-    if !engine.chosen().is_empty() && dives.mean(engine, DIVES_BEFORE)? < WORTH_A_GUESS {
+    if !is_worth_a_guess(engine, &mut dives)? {
         return Ok(None);
     }
-    let mut items = first_items(splitter, engine, MOST_NODES / u64::from(cells.max(1)))?;
+    let items = first_items(splitter, engine, MOST_NODES / u64::from(cells.max(1)))?;
+    best_of(splitter, engine, &mut dives, items)
+}
+
+// Whether a guess spares more than it takes: at the root, and where dives come to many nodes.
+fn is_worth_a_guess<E: OpenOptions>(engine: &mut E, dives: &mut Dives) -> Result<bool, AllocError>
+    ensures { engine.new ≡ engine.old }
+{
+    if engine.chosen().is_empty() {
+        return Ok(true);
+    }
+    let nodes = dives.mean(engine, DIVES_BEFORE)?;
+    Ok(nodes >= WORTH_A_GUESS)
+}
+
+// The best of these items, by rounds of dives, each of which leaves the better half.
+fn best_of<E: OpenOptions>(
+    splitter: &Splitter<'_>,
+    engine: &mut E,
+    dives: &mut Dives,
+    first: Vec<Ranked>,
+) -> Result<Option<u32>, AllocError>
+    requires { AreOfPuzzle (E.selection engine.old).compiled.puzzle splitter.now.symmetries.now }
+    ensures { engine.new ≡ engine.old }
+{
+    let mut items = first;
     let mut count = 1;
     for _ in 0..MOST_ROUNDS {
         let before = dives.steps();
-        items = better_half(splitter, engine, &mut dives, &items, count)?;
+        items = better_half(splitter, engine, dives, &items, count)?;
         count = next_count(
             count,
             least_of(&items),
@@ -212,9 +237,22 @@ fn guess_below<E: OpenOptions>(
     if children.len() == engine.size(item) as usize {
         return dives.mean(engine, count);
     }
+    nodes_by(engine, dives, item, &children, count)
+}
+
+// How many nodes there are where these children of an item are its branches, by so many dives for all of them.
+fn nodes_by<E: OpenOptions>(
+    engine: &mut E,
+    dives: &mut Dives,
+    item: u32,
+    children: &[Branch],
+    count: u64,
+) -> Result<u64, AllocError>
+    ensures { engine.new ≡ engine.old }
+{
     let each = (count / (children.len() as u64).max(1)).max(1);
     let mut sum: u64 = 1;
-    for child in &children {
+    for child in children {
         if let Some(option) = last_option(engine, item, child) {
             let nodes = mean_with(engine, dives, option, each)?;
             sum = sum.saturating_add(nodes);

@@ -1,12 +1,12 @@
-use Rattle.std.proofs.Common.{◌≤◌, ◌-◌, ℕ, None, Some, MatchOption, IfSome, arith, refl, ap, ◌∙◌, subst}
+use Rattle.std.proofs.Common.{◌≤◌, ◌-◌, ◌∷◌, [], ℕ, length, length-append, sym, None, Some, MatchOption, IfSome, arith, refl, ap, ◌∙◌, subst}
 use Rattle.match_puzzle.specs.Numbers.{AreSoMany, AreMoreThan}
 use Rattle.match_puzzle.proofs.NumberLemmas.{more_than_fewer}
 use Rattle.xcc_form.specs.Options.{cover_of}
-use Rattle.xcc_dance.specs.Clashes.{IsOpenAt}
-use Rattle.xcc_dance.specs.Chosen.{Selection, AreAllCovered, IsToBranchOn, with_option}
+use Rattle.xcc_dance.specs.Clashes.{IsOpen, IsOpenAt}
+use Rattle.xcc_dance.specs.Chosen.{Selection, AreAllCovered, IsUncovered, IsToBranchOn, with_option}
 use Rattle.xcc_dance.specs.Found.{IsFoundFrom}
 use Rattle.xcc_dance.proofs.GrowingLemmas.{next_open}
-use Rattle.match_census.specs.Looks.{IsPassed, IsWeight}
+use Rattle.match_census.specs.Looks.{AreLooks, IsPassed, IsWeight}
 use Rattle.match_census.proofs.ExtensionLemmas.{IsNextOrLast, one_extension}
 use Rattle.match_census.proofs.LookLemmas.{IsFoundUnder, none_under, passed_under, one_more_under, more_under, all_under}
 use Rattle.match_census.proofs.TotalLemmas.{within_share}
@@ -16,6 +16,91 @@ use Rattle.match_census.proofs.counting.+count_below.Goals as goal
 -- What `branch_item` says.
 abbrev IsBranch : Selection → ℕ → Type 0
 IsBranch s item = IsToBranchOn (cover_of s.compiled) s.chosen item
+
+pub returns-then-most-eq0-clause-same : goal.returns-then-most-eq0-clause-same
+returns-then-most-eq0-clause-same g t c = refl
+
+pub returns-else-most-eq0-clause-same : goal.returns-else-most-eq0-clause-same
+returns-else-most-eq0-clause-same g t c = refl
+
+pub returns-then-most-eq0-clause-most : goal.returns-then-most-eq0-clause-most
+returns-then-most-eq0-clause-most g t c = tt
+
+pub returns-else-most-eq0-clause-most : goal.returns-else-most-eq0-clause-most
+returns-else-most-eq0-clause-most g t c = let some = c.if-most-eq0.false in omega (arith, some)
+
+pub next_option-next-requires-clause-item : goal.next_option-next-requires-clause-item
+next_option-next-requires-clause-item g t c =
+    let s = g.E.OpenOptions.selection c.args.engine.now in
+    let branch = subst (λ o. MatchOption o (AreAllCovered (cover_of s.compiled) s.chosen) (IsBranch s)) c.in-Some.is c.branch_item.ensures in
+    branch.uncovered
+
+pub next_option-next-requires-clause-after : goal.next_option-next-requires-clause-after
+next_option-next-requires-clause-after g t c = tt
+
+pub next_option-next-requires-in-Some-next-clause-item : goal.next_option-next-requires-in-Some-next-clause-item
+next_option-next-requires-in-Some-next-clause-item g t c =
+    let s = g.E.OpenOptions.selection c.args.engine.now in
+    let branch = subst (λ o. MatchOption o (AreAllCovered (cover_of s.compiled) s.chosen) (IsBranch s)) c.in-Some.is c.branch_item.ensures in
+    subst (λ (v : Selection). IsUncovered (cover_of v.compiled) v.chosen c.in-Some.item) (sym (ap g.E.OpenOptions.selection c.loop-next.invariant.same)) branch.uncovered
+
+pub next_option-next-requires-in-Some-next-clause-after : goal.next_option-next-requires-in-Some-next-clause-after
+next_option-next-requires-in-Some-next-clause-after g t c =
+    let s = g.E.OpenOptions.selection c.args.engine.now in
+    let is_open = subst (λ o. MatchOption o (Unit {0}) (IsOpenAt (cover_of s.compiled) s.chosen c.in-Some.item)) c.in-Some-next.is c.loop-next.invariant.next in
+    subst (λ (v : Selection). IsOpenAt (cover_of v.compiled) v.chosen c.in-Some.item c.in-Some-next.option) (sym (ap g.E.OpenOptions.selection c.loop-next.invariant.same)) is_open
+
+pub weight_of-requires-clause-looks : goal.weight_of-requires-clause-looks
+weight_of-requires-clause-looks g t c = subst (λ (v : Selection). AreLooks v.compiled c.args.looks.now) (sym (ap g.E.OpenOptions.selection c.loop-next.invariant.same)) c.requires
+
+pub weight_of-requires-clause-item : goal.weight_of-requires-clause-item
+weight_of-requires-clause-item g t c =
+    let s = g.E.OpenOptions.selection c.args.engine.now in
+    let branch = subst (λ o. MatchOption o (AreAllCovered (cover_of s.compiled) s.chosen) (IsBranch s)) c.in-Some.is c.branch_item.ensures in
+    subst (λ (v : Selection). IsUncovered (cover_of v.compiled) v.chosen c.in-Some.item) (sym (ap g.E.OpenOptions.selection c.loop-next.invariant.same)) branch.uncovered
+
+pub weight_of-requires-clause-option : goal.weight_of-requires-clause-option
+weight_of-requires-clause-option g t c =
+    let s = g.E.OpenOptions.selection c.args.engine.now in
+    let is_open = subst (λ o. MatchOption o (Unit {0}) (IsOpenAt (cover_of s.compiled) s.chosen c.in-Some.item)) c.in-Some-next.is c.loop-next.invariant.next in
+    subst (λ (v : Selection). IsOpenAt (cover_of v.compiled) v.chosen c.in-Some.item c.in-Some-next.option) (sym (ap g.E.OpenOptions.selection c.loop-next.invariant.same)) is_open
+
+pub choose-requires : goal.choose-requires
+choose-requires g t c =
+    let s = g.E.OpenOptions.selection c.args.engine.now in
+    let is_open = subst (λ o. MatchOption o (Unit {0}) (IsOpenAt (cover_of s.compiled) s.chosen c.in-Some.item)) c.in-Some-next.is c.loop-next.invariant.next in
+    subst (λ (v : Selection). IsOpen (cover_of v.compiled) v.chosen c.in-Some-next.option) (sym (ap g.E.OpenOptions.selection c.loop-next.invariant.same)) is_open.open_option
+
+pub returns-in_err-choose-clause-same : goal.returns-in_err-choose-clause-same
+returns-in_err-choose-clause-same g t c = c.in_err-choose.ensures.refused ∙ c.loop-next.invariant.same
+
+pub overflow_sub-most : goal.overflow_sub-most
+overflow_sub-most g t c = c.loop-next.invariant.most
+
+pub share-requires : goal.share-requires
+share-requires g t c = c.in-Some-weight_of.ensures.least
+
+pub undo-requires : goal.undo-requires
+undo-requires g t c =
+    let same = ap (λ e. length (g.E.OpenOptions.selection e).chosen) c.count_below-below.ensures.same in
+    let more = ap (λ (v : Selection). length v.chosen) c.in_ok-choose.ensures.chosen in
+    let long = length-append (g.E.OpenOptions.selection c.loop-next.engine).chosen (c.in-Some-next.option ∷ []) in
+    omega (arith, same, more, long)
+
+pub returns-in_err-count-clause-same : goal.returns-in_err-count-clause-same
+returns-in_err-count-clause-same g t c = c.undo.ensures ∙ ap g.E.OpenOptions.taken_back c.count_below-below.ensures.same ∙ c.in_ok-choose.ensures.before ∙ c.loop-next.invariant.same
+
+pub returns-in_default-2-clause-same : goal.returns-in_default-2-clause-same
+returns-in_default-2-clause-same g t c = c.undo.ensures ∙ ap g.E.OpenOptions.taken_back c.count_below-below.ensures.same ∙ c.in_ok-choose.ensures.before ∙ c.loop-next.invariant.same
+
+pub returns-in_default-2-clause-most : goal.returns-in_default-2-clause-most
+returns-in_default-2-clause-most g t c = tt
+
+pub returns-clause-same : goal.returns-clause-same
+returns-clause-same g t c = c.loop-next.invariant.same
+
+pub returns-clause-most : goal.returns-clause-most
+returns-clause-most g t c = c.loop-next.invariant.most
 
 pub returns-then-most-eq0-clause-counted : goal.returns-then-most-eq0-clause-counted
 returns-then-most-eq0-clause-counted g t c =
