@@ -26,11 +26,7 @@ use Rattle.clap.specs.declared.error.kind.ErrorKind.TheVariants as kinds
 use Rattle.clap.proofs.OnLiterals.{clap_on_literals}
 use Rattle.clap.proofs.ValueTestLemmas.{accepts-Accepts}
 use Rattle.command_words.specs.Commands.{whole_app}
-use Rattle.command_words.specs.Orders.{HasFiles, HasFlag, HasNumber, HasText, IsExtent, IsFaultOf, IsMisfit, IsOrder, IsOrderOf, IsRefused, MayHaveNumber, NameFiles, TellsOfMisfit}
-use Rattle.command_words.specs.declared.orders.Extent.{Extent}
-use Rattle.command_words.specs.declared.orders.Extent.TheVariants as extents
-use Rattle.command_words.specs.declared.places.Files.{Files}
-use Rattle.command_words.specs.declared.orders.Order.TheVariants as orders
+use Rattle.command_words.specs.Orders.{HasFiles, HasFlag, HasNumber, HasText, IsFaultOf, IsMisfit, IsOrder, IsOrderOf, IsRefused, MayHaveNumber}
 use Rattle.command_words.specs.declared.orders.Order.{Order}
 use Rattle.command_words.specs.declared.faults.WordsFault.{WordsFault}
 use Rattle.command_words.specs.declared.faults.WordsFault.TheVariants.{Words, Memory}

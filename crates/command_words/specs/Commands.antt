@@ -131,6 +131,14 @@ commands =
     ∷ tiles_app
     ∷ []
 
+-- the program without them
+abbrev pub bare_app : App
+bare_app = on_top (λ s. record s { no_binary_name = true; has_version = true }) (new_app (codes "edgematch"))
+
+-- the program with these commands behind its own
+abbrev pub with_commands : App → List App → App
+with_commands = fold (λ app command. with_subcommand app command.top)
+
 -- the program with all of them
 abbrev pub whole_app : App
 whole_app =

@@ -1,13 +1,14 @@
 //! The program's commands, with their help.
 
-ghost use Rattle.std.specs.Prelude.{◌≡◌, IfOk, codes, false};
+ghost use Rattle.std.specs.Prelude.{◌≡◌, ◌∷◌, [], IfOk, codes, false};
 ghost use Rattle.match_limits.specs.declared.TheConstants.{LAST_ARRANGEMENT, MOST_WORKERS};
 ghost use Rattle.clap.specs.Words.{App, app_of, new_app, new_rule, rule_of, with_rule, with_subcommand};
 ghost use Rattle.command_words.specs.Commands.{IsLocal, flag, number_or_default, optional_bound, optional_number};
 ghost use Rattle.command_words.specs.Commands.{optional_text, wanted, wanted_number};
 ghost use Rattle.command_words.specs.Commands.{check_app, count_app, draw_app, expand_app, explain_app, show_app};
 ghost use Rattle.command_words.specs.Commands.{solve_app, symmetries_app, tiles_app};
-ghost use Rattle.command_words.specs.Commands.{whole_app, with_files, with_places, with_puzzle};
+ghost use Rattle.command_words.specs.Commands.{bare_app, whole_app, with_commands, with_files, with_places, with_puzzle};
+ghost use Rattle.command_words.specs.Commands.{with_rules};
 
 use clap::builder::ValueParser;
 use clap::{Arg, ArgAction, Command};
@@ -305,6 +306,28 @@ fn with_arg<'a>(
     command?.arg(arg)
 }
 
+// The command of this name, without arguments.
+fn described<'a>(alloc: Global, name: &'a str, about: &'a str, help: &'a str) -> Command<'a>
+    ensures app { app_of result ≡ new_app name.entry.now }
+    ensures local { IsLocal result }
+{
+    Command::new(alloc, name).about(about).after_help(help)
+}
+
+// The command of this name, with the file of a puzzle.
+fn of_puzzle<'a>(
+    alloc: Global,
+    name: &'a str,
+    about: &'a str,
+    help: &'a str,
+) -> Result<Command<'a>, AllocError>
+    ensures app { IfOk result (λ c. app_of c ≡ with_puzzle (new_app name.entry.now)) }
+    ensures local { IfOk result IsLocal }
+{
+    let command = Ok(described(alloc, name, about, help));
+    with_arg(command, word(alloc, "PUZZLE", "File of the puzzle"))
+}
+
 // The command of this name, with three files by their names.
 fn of_files<'a>(
     alloc: Global,
@@ -315,8 +338,7 @@ fn of_files<'a>(
     ensures app { IfOk result (λ c. app_of c ≡ with_files (new_app name.entry.now)) }
     ensures local { IfOk result IsLocal }
 {
-    let command = Ok(Command::new(alloc, name).about(about).after_help(help));
-    let command = with_arg(command, word(alloc, "PUZZLE", "File of the puzzle"));
+    let command = of_puzzle(alloc, name, about, help);
     let command = with_arg(
         command,
         word(alloc, "LIST", "File of the list of arrangements"),
@@ -325,6 +347,19 @@ fn of_files<'a>(
         command,
         word(alloc, "CERTIFICATE", "File of the certificate"),
     )
+}
+
+// The command that tells, where it is asked to, how far it is, and what has to be changed in a text that has a fault.
+fn with_reports<'a>(
+    alloc: Global,
+    command: Result<Command<'a>, AllocError>,
+) -> Result<Command<'a>, AllocError>
+    ensures app { (before : App) → IfOk command.entry (λ c. app_of c ≡ before)
+        → IfOk result (λ c. app_of c ≡ with_rules before (flag (codes "progress") ∷ flag (codes "hints") ∷ [])) }
+    ensures local { IfOk command.entry IsLocal → IfOk result IsLocal }
+{
+    let command = with_arg(command, progress(alloc));
+    with_arg(command, hints(alloc))
 }
 
 fn check<'a>(alloc: Global) -> Result<Command<'a>, AllocError>
@@ -352,8 +387,7 @@ fn check<'a>(alloc: Global) -> Result<Command<'a>, AllocError>
             "In how many levels of a tree the halves of a branch are walked at once, 0 to 6",
         ),
     );
-    let command = with_arg(command, progress(alloc));
-    with_arg(command, hints(alloc))
+    with_reports(alloc, command)
 }
 
 fn solve<'a>(alloc: Global) -> Result<Command<'a>, AllocError>
@@ -400,8 +434,7 @@ fn solve<'a>(alloc: Global) -> Result<Command<'a>, AllocError>
             "Leaves LIST and CERTIFICATE as they are until both are written",
         ),
     );
-    let command = with_arg(command, progress(alloc));
-    with_arg(command, hints(alloc))
+    with_reports(alloc, command)
 }
 
 pub(crate) fn expand<'a>(alloc: Global) -> Result<Command<'a>, AllocError>
@@ -447,7 +480,7 @@ fn of_places<'a>(
     ensures app { IfOk result (λ c. app_of c ≡ with_places (new_app name.entry.now)) }
     ensures local { IfOk result IsLocal }
 {
-    let command = Ok(Command::new(alloc, name).about(about).after_help(help));
+    let command = Ok(described(alloc, name, about, help));
     let command = with_arg(
         command,
         optional_word(alloc, "PUZZLE", "File of the puzzle"),
@@ -519,20 +552,6 @@ pub(crate) fn count<'a>(alloc: Global) -> Result<Command<'a>, AllocError>
         ),
     );
     with_arg(command, progress(alloc))
-}
-
-// The command of this name, with the file of a puzzle.
-fn of_puzzle<'a>(
-    alloc: Global,
-    name: &'a str,
-    about: &'a str,
-    help: &'a str,
-) -> Result<Command<'a>, AllocError>
-    ensures app { IfOk result (λ c. app_of c ≡ with_puzzle (new_app name.entry.now)) }
-    ensures local { IfOk result IsLocal }
-{
-    let command = Ok(Command::new(alloc, name).about(about).after_help(help));
-    with_arg(command, word(alloc, "PUZZLE", "File of the puzzle"))
 }
 
 // Which arrangement of a list is drawn.
@@ -629,11 +648,12 @@ fn tiles<'a>(alloc: Global) -> Result<Command<'a>, AllocError>
     ensures app { IfOk result (λ c. app_of c ≡ tiles_app) }
     ensures local { IfOk result IsLocal }
 {
-    let command = Ok(
-        Command::new(alloc, "tiles")
-            .about("Lists the tiles with so many sides and colours, each in one of its turns")
-            .after_help(LISTED),
-    );
+    let command = Ok(described(
+        alloc,
+        "tiles",
+        "Lists the tiles with so many sides and colours, each in one of its turns",
+        LISTED,
+    ));
     let command = with_arg(
         command,
         number(alloc, "SIDES", 3, 4, "How many sides a tile has, 3 or 4"),
@@ -670,25 +690,55 @@ fn with_command<'a>(
     program?.subcommand(command?)
 }
 
-/// The program's commands. A command's words begin after the program's name.
-pub fn program<'a>(alloc: Global) -> Result<Command<'a>, AllocError>
-    ensures { IfOk result (λ c. app_of c ≡ whole_app) }
+// The program without its commands.
+fn bare_program<'a>(alloc: Global) -> Result<Command<'a>, AllocError>
+    ensures { IfOk result (λ c. app_of c ≡ bare_app) }
 {
-    let program = Command::new(alloc, NAME)
-        .about(
-            "Finds the arrangements of edge-matching puzzles, and checks that lists of them are complete",
-        )
-        .after_help(WITHOUT_COMMAND)
-        .version(VERSION)
-        .no_binary_name(true)
-        .bin_name(NAME);
+    described(
+        alloc,
+        NAME,
+        "Finds the arrangements of edge-matching puzzles, and checks that lists of them are complete",
+        WITHOUT_COMMAND,
+    )
+    .version(VERSION)
+    .no_binary_name(true)
+    .bin_name(NAME)
+}
+
+// The program with the commands that make a list, or read one with its certificate.
+fn with_list_commands<'a>(
+    alloc: Global,
+    program: Result<Command<'a>, AllocError>,
+) -> Result<Command<'a>, AllocError>
+    ensures { (before : App) → IfOk program.entry (λ c. app_of c ≡ before)
+        → IfOk result (λ c. app_of c
+        ≡ with_commands before (check_app ∷ explain_app ∷ solve_app ∷ expand_app ∷ count_app ∷ [])) }
+{
     let program = with_command(program, check(alloc));
     let program = with_command(program, explain(alloc));
     let program = with_command(program, solve(alloc));
     let program = with_command(program, expand(alloc));
-    let program = with_command(program, count(alloc));
+    with_command(program, count(alloc))
+}
+
+// The program with the other commands.
+fn with_puzzle_commands<'a>(
+    alloc: Global,
+    program: Result<Command<'a>, AllocError>,
+) -> Result<Command<'a>, AllocError>
+    ensures { (before : App) → IfOk program.entry (λ c. app_of c ≡ before)
+        → IfOk result (λ c. app_of c ≡ with_commands before (show_app ∷ draw_app ∷ symmetries_app ∷ tiles_app ∷ [])) }
+{
     let program = with_command(program, show(alloc));
     let program = with_command(program, draw(alloc));
     let program = with_command(program, symmetries(alloc));
     with_command(program, tiles(alloc))
+}
+
+/// The program's commands. A command's words begin after the program's name.
+pub fn program<'a>(alloc: Global) -> Result<Command<'a>, AllocError>
+    ensures { IfOk result (λ c. app_of c ≡ whole_app) }
+{
+    let program = with_list_commands(alloc, bare_program(alloc));
+    with_puzzle_commands(alloc, program)
 }

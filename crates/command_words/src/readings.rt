@@ -463,6 +463,15 @@ pub fn order(alloc: Global, words: &[String]) -> Result<Order, WordsFault>
     let Some((name, matches)) = matches.subcommand() else {
         return Ok(Order::Joined);
     };
+    order_of(alloc, name, matches)
+}
+
+// What the matches of the command of this name order.
+fn order_of(alloc: Global, name: &str, matches: &ArgMatches<'_>) -> Result<Order, WordsFault>
+    requires { AreMatchesOf name.now (rows_of (found_of matches.now)) }
+    ensures order { IfOk result (IsOrderOf (Some (name.now, rows_of (found_of matches.now)))) }
+    ensures refused { IfErr result (IsMisfit (Some (name.now, rows_of (found_of matches.now)))) }
+{
     match name {
         "check" => Ok(check(alloc, matches)?),
         "explain" => explain(alloc, matches),

@@ -1,7 +1,7 @@
-use Rattle.std.proofs.Common.{rules, ◌≡◌, ◌∙◌, ap, ap₂, codes, refl}
-use Rattle.match_limits.specs.declared.TheConstants.{MOST_DEPTH, MOST_FUEL, MOST_WORKERS}
+use Rattle.std.proofs.Common.{◌≡◌, ◌∙◌, ap, ap₂, codes, refl}
+use Rattle.match_limits.specs.declared.TheConstants.{MOST_DEPTH, MOST_FUEL}
 use Rattle.clap.specs.Words.{new_app, rule_of, with_rule}
-use Rattle.command_words.specs.Commands.{flag, optional_number, with_files}
+use Rattle.command_words.specs.Commands.{optional_number, with_files}
 use Rattle.command_words.proofs.BuildingLemmas.{is_made}
 use Rattle.command_words.proofs.commands.solve.Goals as goal
 
@@ -9,20 +9,15 @@ pub returns-clause-app : goal.returns-clause-app
 returns-clause-app c =
     let base : with_files (new_app (codes "solve")) ≡ with_files (new_app (codes "solve")) = refl in
     let depth : rule_of c.optional_number.result ≡ optional_number (codes "depth") 0 MOST_DEPTH (codes "1") =
-    c.optional_number.ensures.rule ∙ ap (λ most. optional_number (codes "depth") 0 most (codes "1")) (search rules) in
+    c.optional_number.ensures.rule ∙ ap (λ most. optional_number (codes "depth") 0 most (codes "1")) c.from.ensures in
     let fuel : rule_of c.optional_number-2.result ≡ optional_number (codes "fuel") 1 MOST_FUEL (codes "1000000") =
-    c.optional_number-2.ensures.rule ∙ ap (λ most. optional_number (codes "fuel") 1 most (codes "1000000")) (search rules) in
-    let workers : rule_of c.workers.result ≡ optional_number (codes "workers") 1 MOST_WORKERS (codes "1") = c.workers.ensures.rule in
-    let keep : rule_of c.flag.result ≡ flag (codes "keep") = c.flag.ensures.rule in
-    let progress : rule_of c.progress.result ≡ flag (codes "progress") = c.progress.ensures.rule in
-    let hints : rule_of c.hints.result ≡ flag (codes "hints") = c.hints.ensures.rule in
+    c.optional_number-2.ensures.rule ∙ ap (λ most. optional_number (codes "fuel") 1 most (codes "1000000")) c.from-2.ensures in
     let with_depth = c.with_arg-command.ensures.app _ c.optional_number.ensures.local c.of_files-command.ensures.app in
     let with_fuel = c.with_arg-command-2.ensures.app _ c.optional_number-2.ensures.local with_depth in
     let with_workers = c.with_arg-command-3.ensures.app _ c.workers.ensures.local with_fuel in
     let with_keep = c.with_arg-command-4.ensures.app _ c.flag.ensures.local with_workers in
-    let with_progress = c.with_arg-command-5.ensures.app _ c.progress.ensures.local with_keep in
-    is_made _ _ _ (c.with_arg.ensures.app _ c.hints.ensures.local with_progress)
-    (ap₂ with_rule (ap₂ with_rule (ap₂ with_rule (ap₂ with_rule (ap₂ with_rule (ap₂ with_rule base depth) fuel) workers) keep) progress) hints)
+    c.with_reports.ensures.app _ (is_made _ _ _ with_keep (ap₂ with_rule (ap₂ with_rule (ap₂ with_rule (ap₂ with_rule base depth) fuel) c.workers.ensures.rule) c.flag.ensures.rule))
 
 pub returns-clause-local : goal.returns-clause-local
-returns-clause-local c = c.with_arg.ensures.local c.hints.ensures.local (c.with_arg-command-5.ensures.local c.progress.ensures.local (c.with_arg-command-4.ensures.local c.flag.ensures.local (c.with_arg-command-3.ensures.local c.workers.ensures.local (c.with_arg-command-2.ensures.local c.optional_number-2.ensures.local (c.with_arg-command.ensures.local c.optional_number.ensures.local c.of_files-command.ensures.local)))))
+returns-clause-local c =
+    c.with_reports.ensures.local (c.with_arg-command-4.ensures.local c.flag.ensures.local (c.with_arg-command-3.ensures.local c.workers.ensures.local (c.with_arg-command-2.ensures.local c.optional_number-2.ensures.local (c.with_arg-command.ensures.local c.optional_number.ensures.local c.of_files-command.ensures.local))))
