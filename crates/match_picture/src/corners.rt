@@ -10,7 +10,7 @@ use match_board::Figure;
 use match_puzzle::Puzzle;
 
 /// An end of a side, clockwise.
-#[derive(Clone, Copy, PartialEq, Eq)]
+#[derive(Clone, Copy)]
 pub enum End {
     First,
     Last,

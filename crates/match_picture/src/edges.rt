@@ -8,10 +8,11 @@ ghost use Rattle.match_picture.specs.Edges.{HasArc, HasEdge, IsEdgePath};
 use crate::forms::{Form, Next, knob_radius, side_of};
 use match_puzzle::Puzzle;
 use std::alloc::{AllocError, Global};
+use std::cmp::Ordering;
 
 /// How the edge of a colour runs: straight where the colour is its own mate; of two mates the lesser has a knob, and the
 /// greater a hollow for it.
-#[derive(Clone, Copy, PartialEq, Eq)]
+#[derive(Clone, Copy)]
 pub enum Edge {
     Flat,
     Knob,
@@ -24,12 +25,10 @@ pub fn edge_of(puzzle: &Puzzle, colour: u8) -> Edge
     ensures { HasEdge puzzle.now colour result }
 {
     let mate = puzzle.mate(colour);
-    if colour == mate {
-        Edge::Flat
-    } else if colour < mate {
-        Edge::Knob
-    } else {
-        Edge::Hollow
+    match colour.cmp(&mate) {
+        Ordering::Equal => Edge::Flat,
+        Ordering::Less => Edge::Knob,
+        Ordering::Greater => Edge::Hollow,
     }
 }
 

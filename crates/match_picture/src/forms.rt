@@ -6,7 +6,7 @@ ghost use Rattle.match_picture.specs.Sites.{begin_of};
 use std::fmt;
 
 /// How a cell is drawn: as a square, or as a triangle that points up or down. Its sides are numbered as the board's.
-#[derive(Clone, Copy, PartialEq, Eq)]
+#[derive(Clone, Copy)]
 pub enum Form {
     Square,
     Up,

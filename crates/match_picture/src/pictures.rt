@@ -41,7 +41,6 @@ pub fn write_arrangement_picture(
     Ok(text)
 }
 
-#[tactic(auto, using(crate::proofs::TileLemmas::have_tiles))]
 fn begin_arrangement(
     alloc: Global,
     puzzle: &Puzzle,
@@ -65,7 +64,6 @@ fn begin_arrangement(
 }
 
 /// A picture that has begun, with the arrangement on the board, ended.
-#[tactic(auto, using(crate::proofs::TileLemmas::have_tiles))]
 pub fn draw_arrangement(
     alloc: Global,
     puzzle: &Puzzle,

@@ -1,8 +1,14 @@
-use Rattle.std.proofs.Common.{sym, subst}
+use Rattle.std.proofs.Common.{◌<◌, All, length, sym, subst}
 use Rattle.match_picture.specs.Joined.{Wraps}
 use Rattle.match_picture.specs.Pictures.{AreBandLines, ArePartLines, IsArrangementPicture}
 use Rattle.match_picture.proofs.PictureLemmas.{pictured}
+use Rattle.match_picture.proofs.TileLemmas.{have_tiles}
 use Rattle.match_picture.proofs.pictures.draw_arrangement.Goals as goal
+
+pub put_tiles-requires-clause-tiles : goal.put_tiles-requires-clause-tiles
+put_tiles-requires-clause-tiles c =
+    let a = c.args.arrangement.now in
+    subst (λ p. All (λ x. x.tile < length p.words) a) (sym c.in_ok-canvas.ensures.puzzle) (have_tiles c.args.puzzle.now a c.requires)
 
 pub returns : goal.returns
 returns c =

@@ -1,9 +1,17 @@
-use Rattle.std.proofs.Common.{◌+◌, ◌++◌, sym, subst, ap, ◌∙◌}
-use Rattle.std.proofs.lemmas.Option.{get_or_from_slice_get}
+use Rattle.std.proofs.Common.{◌+◌, ◌++◌, refl, sym, subst, ap, arith, ◌∙◌}
+use Rattle.std.proofs.lemmas.Option.{get_or_from_slice_get, slice_get_read}
+use Rattle.match_puzzle.specs.Arrangement.{IsArrangement}
 use Rattle.match_picture.specs.Joined.{IsJoined}
 use Rattle.match_picture.specs.Pictures.{IsArrangementPicture, IsPictureAt}
 use Rattle.match_picture.proofs.JoinedLemmas.{joined_more}
 use Rattle.match_picture.proofs.sheets.thumbnails.Goals as goal
+
+pub draw_arrangement-requires : goal.draw_arrangement-requires
+draw_arrangement-requires c =
+    let listed = c.args.arrangements.now in
+    let a = c.index-arrangements-index.result in
+    let here = slice_get_read listed _ c.loop-index.index a refl (omega (arith, c.loop-index-test.true)) c.index-arrangements-index.is in
+    subst (IsArrangement c.args.puzzle.now) (sym c.placements-placements.ensures) (c.requires.arrangements c.loop-index.index a here)
 
 pub loop-index-preserved : goal.loop-index-preserved
 loop-index-preserved c =
