@@ -62,7 +62,7 @@ LIMITS = {
     "docs/MACHINE.md": ["1 to {MOST_WORKERS} workers and 1 to {MOST_WORKERS} queues"],
     "docs/SOLVING.md": ["(over {MOST_ENTRIES} items)", "(over {MOST_ARRANGEMENTS} to be listed)"],
     "crates/match_limits/README.md": ["`MOST_CELLS` ({MOST_CELLS})", "`MOST_PLAIN_CELLS` ({MOST_PLAIN_CELLS})"],
-    "crates/steal_crew/README.md": ["At most {MOST_GIVEN} jobs are given by a job"],
+    "crates/live_crew/README.md": ["At most {MOST_GIVEN} jobs are given by a job"],
     "crates/byte_streams/README.md": ["tried {MOST_TRIES} times"],
     "crates/cert_check/README.md": ["a tree of under {LEAST_FORKED} nodes"],
     "crates/cert_text/README.md": ["Below {LEAST_NODES} nodes the caller"],

@@ -12,7 +12,7 @@ use Rattle.cert_tree.specs.Limits.{IsTreeWithin}
 use Rattle.cert_text.specs.CertificateSpelling.{IsCertificateWithin}
 use Rattle.cert_text.specs.Writing.{said_by}
 use Rattle.match_puzzle.specs.Arrangement.{AreArrangements}
-use Rattle.steal_crew.specs.Counts.{total, times, once_below}
+use Rattle.crew_machine.specs.Counts.{total, times, once_below}
 use Rattle.piece_desk.specs.FlatDesks.{IsOfFlat}
 use Rattle.piece_desk.specs.declared.flat_desks.FlatDesk.{FlatDesk}
 use Rattle.xcc_form.specs.declared.faults.CompileFault.{CompileFault}

@@ -3,7 +3,7 @@
 ghost use Rattle.std.specs.Prelude.{Contains, List, IfOk, IfSome};
 ghost use Rattle.match_puzzle.specs.declared.placements.Pair.{Pair as PlacedPair};
 ghost use Rattle.match_puzzle.specs.declared.placements.Placement.{Placement};
-ghost use Rattle.steal_crew.specs.LiveHands.{Gave};
+ghost use Rattle.live_crew.specs.LiveHands.{Gave};
 ghost use Rattle.match_puzzle.specs.Arrangement.{IsArrangement, AreArrangements};
 ghost use Rattle.match_limits.specs.declared.TheConstants.{MOST_CELLS, MOST_LEVELS};
 ghost use Rattle.cert_tree.specs.Limits.{IsLemmaWithin, IsTreeWithin};
@@ -13,13 +13,13 @@ use crate::branches::{OpenBranch, fit_in_turn, rising_by_cell};
 use crate::shared::Shared;
 use crate::strategy::choices::Choices;
 use cert_tree::{PackedLemma, PackedTree};
+use live_crew::{Hand, LiveWork};
 use match_limits::{MOST_ARRANGEMENTS, MOST_FUEL};
 use match_puzzle::{Arrangement, Pair};
 use piece_desk::{FlatDesk, FlatReceipt};
 use std::alloc::AllocError;
 use std::sync::Wait;
 use std::sync::atomic::{AtomicBool, Ordering};
-use steal_crew::{Hand, LiveWork};
 use xcc_dance::{Cites, Counted, Met, OpenSets, PackedOutcome, SearchFault, SearchOver, Watch};
 use xcc_form::Xcc;
 

@@ -21,6 +21,7 @@ use crate::strategy::plans::Planner;
 use crate::strategy::roots::plan_by_dives;
 use cert_text::within_limits_with;
 use cert_tree::{AssembleFault, Certificate};
+use live_crew::run_live;
 use match_limits::{MOST_ARRANGEMENTS, MOST_LEMMAS};
 use match_puzzle::{Arrangement, Puzzle};
 use match_symmetry::suggest;
@@ -31,7 +32,7 @@ use std::alloc::{AllocError, Global};
 use std::sync::Wait;
 use std::sync::atomic::{AtomicBool, AtomicU64};
 use std::thread::Threads;
-use steal_crew::{Crew, run_live};
+use steal_crew::Crew;
 use xcc_dance::{Unwatched, Watch};
 use xcc_form::{Xcc, compile};
 

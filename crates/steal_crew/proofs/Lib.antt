@@ -1,12 +1,7 @@
-pub mod CountLemmas
 pub mod BesideLemmas
 pub mod QueueRuleLemmas
 pub mod QueueLemmas
 pub mod ResultLemmas
-pub mod MachineLemmas
 pub mod NumberSourceLemmas
 pub mod TicketLemmas
-pub mod LiveHandLemmas
 pub mod LiveQueueLemmas
-pub mod LiveWorkerLemmas
-pub mod LiveResultLemmas

@@ -6,12 +6,12 @@ use mathlib.Core.Option.{some, some-injective, some-ne-none}
 use lib.ListN.{get_elem?}
 use Rattle.crossbeam_deque.specs.Tasks.{Pushes, Takes, Finds, Forks, Merges}
 use Rattle.crossbeam_deque.proofs.Lists.{at_set, at_snoc}
-use Rattle.steal_crew.specs.declared.live.jobs.JobView.{JobView}
-use Rattle.steal_crew.specs.declared.live.jobs.NumberedJob.{NumberedJob}
+use Rattle.steal_crew.specs.declared.jobs.JobView.{JobView}
+use Rattle.steal_crew.specs.declared.jobs.NumberedJob.{NumberedJob}
 use Rattle.steal_crew.specs.LiveQueue.{job_view_with, job_numbers, JobsKept}
 use Rattle.steal_crew.specs.QueueRule.{part_count}
-use Rattle.steal_crew.specs.Counts.{total, times}
-use Rattle.steal_crew.proofs.CountLemmas.{total-set, total-append, total-alone, times-snoc}
+use Rattle.crew_machine.specs.Counts.{total, times}
+use Rattle.crew_machine.proofs.CountLemmas.{total-set, total-append, total-alone, times-snoc}
 
 abbrev parts : JobView → ℕ
 parts v = v.parts

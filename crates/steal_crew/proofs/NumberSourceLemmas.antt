@@ -9,9 +9,9 @@ use Rattle.std.specs.Prelude.{MatchBool}
 use Rattle.atomic_table.specs.Table.{State, Me, Step, step, keeps, stepped, Allows, Splits, Joins, Seen}
 use Rattle.atomic_table.proofs.Lists.{at_set, at_snoc, set_again}
 use Rattle.steal_crew.specs.declared.tickets.rules.SeatView.{SeatView}
-use Rattle.steal_crew.specs.Counts.{total, times, once_below}
+use Rattle.crew_machine.specs.Counts.{total, times, once_below}
 use Rattle.steal_crew.specs.NumberSource.{seat_view_with, IsFair, Drawn, Holds, IsDraw, IsLook}
-use Rattle.steal_crew.proofs.CountLemmas.{total-set, total-append, total-part, total-le, total-alone, times-snoc, once_below-next, once_below-above, all_below}
+use Rattle.crew_machine.proofs.CountLemmas.{total-set, total-append, total-part, total-le, total-alone, times-snoc, once_below-next, once_below-above, all_below}
 
 abbrev parts : SeatView → ℕ
 parts v = v.parts

@@ -7,10 +7,10 @@ use native.Mathlib.Decide.{ℕ_discrete}
 use Rattle.std.specs.List.{AllByRecursion}
 use Rattle.crossbeam_deque.specs.Handles.{view, IsPassOf, worker_view, worker_deque, worker_flavor, stealer_deque, stealer_flavor}
 use Rattle.steal_crew.specs.declared.queues.View.{View}
-use Rattle.steal_crew.specs.Counts.{total, times, once_below}
+use Rattle.crew_machine.specs.Counts.{total, times, once_below}
 use Rattle.steal_crew.specs.QueueRule.{view_with}
 use Rattle.steal_crew.specs.Queues.{Handle, Owner, Place, dealt_to, once_dealt, IsPlace, Places, IsOwner, Owners, IsSpent, taken_by}
-use Rattle.steal_crew.proofs.CountLemmas.{total-append, total_set_at, times-snoc, once_below-next, once_below-above, same_one}
+use Rattle.crew_machine.proofs.CountLemmas.{total-append, total_set_at, times-snoc, once_below-next, once_below-above, same_one}
 use Rattle.steal_crew.proofs.QueueRuleLemmas.{all_snoc, all_map, append_nil}
 use Rattle.steal_crew.proofs.BesideLemmas.{default, snoc_last, beside_at, beside_set, beside_more, beside_both, beside_less, beside_last}
 use Rattle.steal_crew.specs.QueueRule.{part_count}

@@ -8,9 +8,9 @@ use Rattle.std.proofs.lemmas.Bool.Decides.{nat_tests}
 use Rattle.crossbeam_deque.specs.Tasks.{Pushes, Takes, FindsFew, Forks, Merges}
 use Rattle.crossbeam_deque.proofs.Lists.{at_set, at_snoc, set_else}
 use Rattle.steal_crew.specs.declared.queues.View.{View}
-use Rattle.steal_crew.specs.Counts.{total, times}
+use Rattle.crew_machine.specs.Counts.{total, times}
 use Rattle.steal_crew.specs.QueueRule.{view_with, Rises, Kept}
-use Rattle.steal_crew.proofs.CountLemmas.{total-set, total-append, total-part, total-alone, times-snoc}
+use Rattle.crew_machine.proofs.CountLemmas.{total-set, total-append, total-part, total-alone, times-snoc}
 use Rattle.steal_crew.specs.QueueRule.{part_count}
 
 abbrev parts : View → ℕ

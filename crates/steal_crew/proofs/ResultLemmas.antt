@@ -5,12 +5,12 @@ use mathlib.Core.Logic.{dite}
 use mathlib.Core.List.{map-append}
 use native.Mathlib.Decide.{ℕ_discrete, dec_lt}
 use Rattle.std.specs.Option.{IfSome}
-use Rattle.steal_crew.specs.Counts.{times, once_below}
+use Rattle.crew_machine.specs.Counts.{times, once_below}
 use Rattle.std.proofs.lemmas.List.{get_or_append_left, get_or-append_right}
 use Rattle.steal_crew.specs.Results.{Entered, Belongs}
 use Rattle.steal_crew.specs.Results.{one_if_some, filled, left_out, done_numbers}
 use Rattle.steal_crew.proofs.BesideLemmas.{default}
-use Rattle.steal_crew.proofs.CountLemmas.{total-append, once_below-next}
+use Rattle.crew_machine.proofs.CountLemmas.{total-append, once_below-next}
 
 pub times-append : (x : ℕ) (xs ys : List ℕ) → times x (xs ++ ys) ≡ times x xs + times x ys
 times-append x xs ys = total-append (λ (z : ℕ). cond (z == x) 1 0) xs ys

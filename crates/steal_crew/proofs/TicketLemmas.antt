@@ -3,10 +3,10 @@ use Rattle.std.proofs.Common.{◌≡◌, ℕ, zero, suc, ◌+◌, ◌<◌, ◌�
 use Rattle.atomic_table.specs.declared.shared.Seat.{Seat}
 use Rattle.steal_crew.specs.declared.tickets.rules.SeatView.{SeatView}
 use Rattle.steal_crew.specs.declared.tickets.seats.TicketSeat.{TicketSeat}
-use Rattle.steal_crew.specs.Counts.{total, times, once_below}
+use Rattle.crew_machine.specs.Counts.{total, times, once_below}
 use Rattle.steal_crew.specs.NumberSource.{seat_view_with, IsLook}
 use Rattle.steal_crew.specs.Tickets.{Source, seat_source, drawn, is_out}
-use Rattle.steal_crew.proofs.CountLemmas.{total-append}
+use Rattle.crew_machine.proofs.CountLemmas.{total-append}
 use Rattle.atomic_table.specs.Table.{Me, step}
 use mathlib.Core.Option.{none}
 

@@ -1,10 +1,6 @@
-pub mod Counts
 pub mod QueueRule
 pub mod Queues
 pub mod Results
-pub mod Machine
 pub mod NumberSource
 pub mod Tickets
 pub mod LiveQueue
-pub mod LiveHands
-pub mod LiveWorkers

@@ -2,9 +2,9 @@
 use Rattle.std.specs.Prelude.{◌≡◌, ℕ, ◌+◌, List, [], map}
 use mathlib.Core.Option.{some}
 use lib.ListN.{get_elem?}
-use Rattle.steal_crew.specs.declared.live.jobs.JobView.{JobView}
-use Rattle.steal_crew.specs.declared.live.jobs.NumberedJob.{NumberedJob}
-use Rattle.steal_crew.specs.Counts.{total, times}
+use Rattle.steal_crew.specs.declared.jobs.JobView.{JobView}
+use Rattle.steal_crew.specs.declared.jobs.NumberedJob.{NumberedJob}
+use Rattle.crew_machine.specs.Counts.{total, times}
 use Rattle.steal_crew.specs.QueueRule.{part_count}
 
 -- what a pass knows: how many of the queue's parts it has, and what was dealt and what was taken by it, in order

@@ -6,7 +6,7 @@ use lib.ListN.{get_elem?}
 use Rattle.atomic_table.specs.Table.{State, Me, Step}
 use Rattle.match_limits.specs.declared.TheConstants.{MOST_WORKERS}
 use Rattle.steal_crew.specs.declared.tickets.rules.SeatView.{SeatView}
-use Rattle.steal_crew.specs.Counts.{total, times, once_below}
+use Rattle.crew_machine.specs.Counts.{total, times, once_below}
 
 -- what a seat knows: the limit, how many seats there are, how many parts of the source it has, how many of them found
 -- the limit, and what was drawn by them, in order

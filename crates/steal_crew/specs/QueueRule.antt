@@ -5,7 +5,7 @@ use lib.ListN.{get_elem?}
 use Rattle.std.specs.List.{AllByRecursion}
 use Rattle.match_limits.specs.declared.TheConstants.{MOST_WORKERS}
 use Rattle.steal_crew.specs.declared.queues.View.{View}
-use Rattle.steal_crew.specs.Counts.{total, times}
+use Rattle.crew_machine.specs.Counts.{total, times}
 
 -- the parts of a queue: one for each worker that there may be, and one that its owner keeps
 abbrev pub part_count : ℕ

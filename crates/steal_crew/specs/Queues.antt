@@ -10,7 +10,7 @@ use Rattle.steal_crew.specs.declared.queues.View.{View}
 use Rattle.steal_crew.specs.declared.queues.InOrder.{InOrder}
 use Rattle.steal_crew.specs.declared.works.Station.{Station}
 use Rattle.steal_crew.specs.declared.works.Share.{Share}
-use Rattle.steal_crew.specs.Counts.{total, times, once_below}
+use Rattle.crew_machine.specs.Counts.{total, times, once_below}
 use Rattle.steal_crew.specs.Results.{AreDone, done_numbers}
 use Rattle.steal_crew.specs.QueueRule.{part_count}
 

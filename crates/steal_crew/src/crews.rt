@@ -1,8 +1,9 @@
 //! A crew of workers.
 
-ghost use Rattle.std.specs.Prelude.{◌≡◌, ◌≤◌, ◌<◌, ◌+◌, ℕ, Vec, IfOk, OnOk, All, length, vec_len, slice_index_or};
+ghost use Rattle.std.specs.Prelude.{◌≡◌, ◌≤◌, ◌<◌, ◌+◌, ℕ, Vec, Some, IfOk, OnOk, All, length, vec_len};
+ghost use Rattle.std.specs.Prelude.{slice_index_or};
 ghost use Rattle.std.specs.declared.alloc.Global.{Global};
-ghost use Rattle.steal_crew.specs.Counts.{total, times, once_below};
+ghost use Rattle.crew_machine.specs.Counts.{total, times, once_below};
 ghost use Rattle.steal_crew.specs.Results.{Entered, Belongs, AreDone, filled};
 ghost use Rattle.steal_crew.specs.Queues.{IsStation, IsShare, ShowSpent};
 
@@ -31,6 +32,26 @@ pub struct Crew<X: Drop> {
 }
 
 impl<X: Drop> Crew<X> {
+    /// What a crew did whose jobs gave others away: the results by number, the numbers whose results each worker brought,
+    /// and what was drawn. It takes no memory.
+    pub fn with_drawn(
+        alloc: Global,
+        results: Vec<X>,
+        tallies: Vec<Vec<u32>>,
+        drawn: AllDrawn,
+    ) -> Crew<X>
+        ensures results { result.results ≡ results }
+        ensures tallies { result.tallies ≡ tallies }
+        ensures drawn { result.drawn ≡ Some drawn }
+    {
+        Crew {
+            results,
+            tallies,
+            queues: Vec::new(alloc),
+            drawn: Some(drawn),
+        }
+    }
+
     /// The results by number.
     pub fn results(&self) -> &[X]
         ensures { result.now ≡ self.now.results.items }

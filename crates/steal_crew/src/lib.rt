@@ -1,13 +1,12 @@
-//! Crews of workers that do numbered jobs: each takes from a queue of its own first, and then from the others; or all
-//! take from one queue, on which a job may put others.
+//! Crews of workers that do numbered jobs, each from a queue of its own first, and then from the others. What crews of
+//! other kinds stand on: the source of their numbers, and one queue of jobs for all.
 #![tactic(auto)]
 
 mod crews;
 mod dealing;
 mod gathering;
+pub mod jobs;
 mod joins;
-mod live;
-pub mod machine;
 mod orders;
 mod queues;
 mod results;
@@ -15,9 +14,9 @@ mod taking;
 mod tickets;
 mod works;
 
+pub use crew_machine as machine;
 pub use crews::{Crew, run_crew};
 pub use joins::both;
-pub use live::{Hand, LiveWork, run_live};
 pub use orders::run_from_last;
-pub use tickets::{TicketSeat, Tickets};
+pub use tickets::{AllDrawn, TicketSeat, Tickets};
 pub use works::Work;

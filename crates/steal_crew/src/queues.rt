@@ -76,7 +76,7 @@ pub struct Takes;
 
 impl Outcome<u32, View> for Takes {
     ghost use Rattle.steal_crew.specs.QueueRule.{part_count, view_with};
-    ghost use Rattle.steal_crew.specs.Counts.{times};
+    ghost use Rattle.crew_machine.specs.Counts.{times};
     ghost use Rattle.std.specs.Prelude.{◌≡◌, ◌++◌, ◌<◌, ℕ, length};
     ghost use Rattle.std.specs.List.{AllByRecursion};
 

@@ -1,16 +1,16 @@
 //! What a job answers when it is asked for a child: it cites, gives away, or searches on.
 
 ghost use Rattle.std.specs.Prelude.{◌≡◌, IfOk, IfSome};
-ghost use Rattle.steal_crew.specs.LiveHands.{Gave};
+ghost use Rattle.live_crew.specs.LiveHands.{Gave};
 ghost use Rattle.xcc_dance.specs.Outcome.{IsCiteWithin};
 
 use crate::branches::OpenBranch;
 use crate::shared::Shared;
 use crate::strategy::images::Occupied;
+use live_crew::Hand;
 use match_puzzle::Pair;
 use std::alloc::AllocError;
 use std::sync::atomic::Ordering;
-use steal_crew::Hand;
 use xcc_dance::{Cite, Cites, Met, Watch};
 
 // After so many children a job looks whether others wait for work, and then at each sixteenth.
@@ -112,10 +112,10 @@ impl<'a, 'h, W: Watch> Choices<'a, 'h, W> {
 }
 
 impl<'a, 'h, W: Watch> Cites for Choices<'a, 'h, W> {
-    ghost use Rattle.steal_crew.specs.LiveHands.{Gave};
+    ghost use Rattle.live_crew.specs.LiveHands.{Gave};
     ghost use Rattle.std.specs.Prelude.{◌≡◌, refl};
     ghost use Rattle.std.proofs.Common.{◌∙◌};
-    ghost use Rattle.steal_crew.proofs.LiveHandLemmas.{gave_nothing, gave_both};
+    ghost use Rattle.live_crew.proofs.LiveHandLemmas.{gave_nothing, gave_both};
 
     ghost takes = { λ _ _. Unit {0} };
 

@@ -2,7 +2,7 @@
 
 ghost use Rattle.std.specs.Prelude.{◌≡◌, ◌<◌, ◌≤◌, ◌+◌, ◌++◌, [], ◌∷◌, ℕ, true, false, All, Any};
 ghost use Rattle.std.specs.Prelude.{IfSome, IfNone, IfOk, vec_len};
-ghost use Rattle.steal_crew.specs.Counts.{total, times, once_below};
+ghost use Rattle.crew_machine.specs.Counts.{total, times, once_below};
 ghost use Rattle.steal_crew.specs.Tickets.{source_of, limit_of, seats_of, seat_source, drawn, is_out, IsFresh};
 ghost use Rattle.steal_crew.specs.Tickets.{source_drawn, all_drawn};
 
@@ -41,7 +41,7 @@ impl Tickets {
 
     /// A source of the numbers from 0 up to `limit` and without it, at least 1, and its 1 to 65 seats, of which the one
     /// that comes apart has drawn 0. All memory is taken here, and want of memory is the one error.
-    pub(crate) fn begun(
+    pub fn begun(
         alloc: Global,
         limit: u32,
         seats: u8,
@@ -92,8 +92,9 @@ impl Tickets {
         }
     }
 
-    // All seats in one, once they came back in any order, and how many numbers were drawn.
-    pub(crate) fn join_all(self, mut seats: Vec<TicketSeat>) -> (u32, AllDrawn)
+    /// All seats in one, once they came back in any order, and how many numbers were drawn. The numbers below it are
+    /// those that were drawn, and where a seat is out it is the limit.
+    pub fn join_all(self, mut seats: Vec<TicketSeat>) -> (u32, AllDrawn)
         requires ours { All (λ s. seat_source s ≡ source_of self) seats.items }
         requires all { vec_len seats ≡ seats_of self }
         ensures source { source_drawn result.1 ≡ source_of self }

@@ -1,5 +1,5 @@
 use Rattle.std.proofs.Common.{◌∙◌, ap, sym, arith}
-use Rattle.steal_crew.specs.Counts.{once_below}
+use Rattle.crew_machine.specs.Counts.{once_below}
 use Rattle.match_crew.proofs.solves.search_all.Goals as goal
 
 pub returns : goal.returns

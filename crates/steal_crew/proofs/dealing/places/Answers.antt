@@ -1,9 +1,9 @@
 use Rattle.std.proofs.Common.{◌≡◌, ◌+◌, ◌<◌, ◌≤◌, ◌++◌, ◌∷◌, [], ℕ, ap, ◌∙◌, refl, arith}
 use Rattle.crossbeam_deque.specs.Handles.{worker_view}
 use Rattle.steal_crew.specs.declared.queues.View.{View}
-use Rattle.steal_crew.specs.Counts.{once_below}
+use Rattle.crew_machine.specs.Counts.{once_below}
 use Rattle.steal_crew.specs.Queues.{taken_by}
-use Rattle.steal_crew.proofs.CountLemmas.{once_below-above}
+use Rattle.crew_machine.proofs.CountLemmas.{once_below-above}
 use Rattle.steal_crew.proofs.QueueLemmas.{taken_none, owners_out, owners_cut, owner_known, places_none, places_cut, places_len, once_none, once_all}
 use Rattle.steal_crew.proofs.QueueRuleLemmas.{forks}
 use Rattle.steal_crew.proofs.dealing.places.Goals as goal

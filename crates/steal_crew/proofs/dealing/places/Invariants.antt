@@ -1,5 +1,5 @@
 use Rattle.std.proofs.Common.{◌≡◌, ◌+◌, ℕ}
-use Rattle.steal_crew.specs.Counts.{once_below}
+use Rattle.crew_machine.specs.Counts.{once_below}
 use Rattle.steal_crew.specs.Queues.{Owners, Places, taken_by}
 use Rattle.steal_crew.proofs.dealing.places.Given as goal
 

@@ -1,6 +1,6 @@
 use Rattle.std.proofs.Common.{rules, ◌≡◌, ◌+◌, ◌<◌, ◌≤◌, ap, ◌∙◌, sym, refl, arith, length, vec_len}
 use Rattle.crossbeam_deque.specs.Handles.{worker_view}
-use Rattle.steal_crew.specs.Counts.{once_below}
+use Rattle.crew_machine.specs.Counts.{once_below}
 use Rattle.steal_crew.proofs.QueueLemmas.{owners_out, owners_less, owner_known, place_of, place_at, places_popped, places_len, once_none, once_all}
 use Rattle.steal_crew.proofs.QueueRuleLemmas.{merges}
 use Rattle.steal_crew.proofs.gathering.take_in.Goals as goal

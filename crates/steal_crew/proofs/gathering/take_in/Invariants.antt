@@ -1,5 +1,5 @@
 use Rattle.std.proofs.Common.{◌+◌, ◌≤◌, vec_len}
-use Rattle.steal_crew.specs.Counts.{once_below}
+use Rattle.crew_machine.specs.Counts.{once_below}
 use Rattle.steal_crew.specs.Queues.{Owners, Places}
 use Rattle.steal_crew.proofs.gathering.take_in.Given as goal
 

@@ -1,8 +1,8 @@
 use Rattle.std.proofs.Common.{◌≡◌, ◌+◌, ◌∙◌, All, Vec, Global, ℕ, suc, ap, arith, length, vec_len, subst}
 use Rattle.std.proofs.lemmas.List.Elements.{All-head, All-rest}
-use Rattle.steal_crew.specs.Counts.{times}
+use Rattle.crew_machine.specs.Counts.{times}
 use Rattle.steal_crew.specs.Results.{AreDone}
-use Rattle.steal_crew.proofs.CountLemmas.{tallies_more}
+use Rattle.crew_machine.proofs.CountLemmas.{tallies_more}
 use Rattle.steal_crew.proofs.results.enter_all.Goals as goal
 
 pub enter_first-requires-clause-done : goal.enter_first-requires-clause-done

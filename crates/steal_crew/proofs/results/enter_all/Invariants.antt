@@ -1,5 +1,5 @@
 use Rattle.std.proofs.Common.{◌≡◌, ◌+◌, ℕ, All, length, vec_len}
-use Rattle.steal_crew.specs.Counts.{total, times}
+use Rattle.crew_machine.specs.Counts.{total, times}
 use Rattle.steal_crew.specs.Results.{Entered, AreDone, filled}
 use Rattle.steal_crew.proofs.results.enter_all.Given as goal
 

@@ -1,5 +1,5 @@
 use Rattle.std.proofs.Common.{◌≡◌, ◌+◌, ◌<◌, ℕ, All, vec_len}
-use Rattle.steal_crew.specs.Counts.{times}
+use Rattle.crew_machine.specs.Counts.{times}
 use Rattle.steal_crew.specs.Results.{Entered}
 use Rattle.steal_crew.specs.Results.{filled, done_numbers}
 use Rattle.steal_crew.proofs.results.enter_first.Given as goal

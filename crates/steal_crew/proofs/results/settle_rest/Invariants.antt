@@ -1,5 +1,5 @@
 use Rattle.std.proofs.Common.{◌≡◌, ◌+◌, ◌<◌, ℕ, vec_len, vec_capacity}
-use Rattle.steal_crew.specs.Counts.{times, once_below}
+use Rattle.crew_machine.specs.Counts.{times, once_below}
 use Rattle.steal_crew.specs.Results.{Entered, Belongs}
 use Rattle.steal_crew.specs.Results.{filled}
 use Rattle.steal_crew.proofs.results.settle_rest.Given as goal

@@ -1,5 +1,5 @@
 use Rattle.std.proofs.Common.{◌≡◌, ◌++◌, ◌∷◌, [], ℕ, List, length, ap, sym, subst, ◌∙◌, arith}
-use Rattle.steal_crew.specs.Counts.{times}
+use Rattle.crew_machine.specs.Counts.{times}
 use Rattle.steal_crew.specs.Results.{AreDone, done_numbers}
 use Rattle.steal_crew.proofs.QueueRuleLemmas.{all_more}
 use Rattle.steal_crew.proofs.ResultLemmas.{done_more}

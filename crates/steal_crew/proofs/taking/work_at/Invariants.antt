@@ -1,5 +1,5 @@
 use Rattle.std.proofs.Common.{◌≡◌, ℕ, All, vec_len}
-use Rattle.steal_crew.specs.Counts.{times}
+use Rattle.crew_machine.specs.Counts.{times}
 use Rattle.steal_crew.specs.Results.{done_numbers}
 use Rattle.steal_crew.specs.Queues.{Places, taken_by}
 use Rattle.steal_crew.proofs.taking.work_at.Given as goal

@@ -1,5 +1,5 @@
 use Rattle.std.proofs.Common.{◌∙◌, refl}
-use Rattle.steal_crew.proofs.LiveHandLemmas.{gave_nothing, gave_both}
+use Rattle.live_crew.proofs.LiveHandLemmas.{gave_nothing, gave_both}
 use Rattle.match_crew.proofs.strategy.choices.Choices.give_planned.Goals as goal
 
 pub loop-prefix-init : goal.loop-prefix-init

@@ -1,5 +1,5 @@
 use Rattle.std.proofs.Common.{◌≡◌}
-use Rattle.steal_crew.specs.LiveHands.{Gave}
+use Rattle.live_crew.specs.LiveHands.{Gave}
 use Rattle.match_crew.proofs.strategy.choices.Choices.give_planned.Given as goal
 
 abbrev pub invariant-loop-prefix : goal.invariant-loop-prefix

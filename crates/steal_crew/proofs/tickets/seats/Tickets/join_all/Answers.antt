@@ -1,6 +1,6 @@
 use Rattle.std.proofs.Common.{◌≡◌, ◌<◌, ◌≤◌, min, rules, arith, sym, ap, ◌∙◌, length, vec_len}
 use Rattle.std.proofs.lemmas.Bool.Decides.{nat_tests}
-use Rattle.steal_crew.specs.Counts.{once_below}
+use Rattle.crew_machine.specs.Counts.{once_below}
 use Rattle.steal_crew.specs.Tickets.{Source, source_of, seats_of, seat_source}
 use Rattle.steal_crew.proofs.NumberSourceLemmas.{joins, looks}
 use Rattle.steal_crew.proofs.TicketLemmas.{Finished, finished, front, first, more, some_mark}

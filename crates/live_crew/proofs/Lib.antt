@@ -1,0 +1,3 @@
+pub mod LiveHandLemmas
+pub mod LiveWorkerLemmas
+pub mod LiveResultLemmas

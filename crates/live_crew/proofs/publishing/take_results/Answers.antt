@@ -1,0 +1,31 @@
+use Rattle.std.proofs.Common.{rules, ◌≡◌, ◌<◌, length, vec_len, arith, sym, ◌∙◌, subst}
+use Rattle.std.specs.Option.{IfSome}
+use Rattle.steal_crew.specs.Tickets.{source_drawn}
+use Rattle.live_crew.specs.LiveWorkers.{BelongsToSome}
+use Rattle.steal_crew.proofs.ResultLemmas.{entered_put, filled_other}
+use Rattle.live_crew.proofs.LiveResultLemmas.{first_stays, each_more}
+use Rattle.live_crew.proofs.publishing.take_results.Goals as goal
+
+pub loop-place-preserved : goal.loop-place-preserved
+loop-place-preserved g c = let inv = c.loop-place.invariant in let gives = g.W.LiveWork.gives c.args._work.now (source_drawn c.args._drawn.now) in
+    let n : vec_len c.loop-place.slots ≡ length c.loop-place.slots.items = c.loop-place.slots.ok.0 in
+    let inside : c.loop-place.place < length c.loop-place.slots.items = search rules in
+    let m : vec_len c.loop-place.results ≡ length c.loop-place.results.items = c.loop-place.results.ok.0 in
+    let l : vec_len c.loop-place.results ≡ c.loop-place.place = inv.results_len in
+    let some : 0 < c.loop-place.place = search rules in
+    let belongs : BelongsToSome gives c.loop-place.place c.in-Some.result =
+    subst (λ z. IfSome z (BelongsToSome gives c.loop-place.place))
+    (sym c.index_mut.ensures.value ∙ sym c.take.ensures.value ∙ c.in-Some.is)
+    (inv.slots c.loop-place.place c.index_mut.result.now inside) in record {
+      slots = entered_put (BelongsToSome gives) c.loop-place.slots.items c.loop-place.place c.take.new.self inv.slots
+          (subst (λ z. IfSome z (BelongsToSome gives c.loop-place.place)) (sym c.take.ensures.after) tt) inside;
+      len = inv.len;
+      filled = λ x le lt. subst (λ k. 0 < k) (sym
+          (filled_other c.loop-place.slots.items c.loop-place.place x c.take.new.self (λ e. absurd (omega arith))))
+          (inv.filled x (omega arith) lt);
+      results_len = search rules;
+      first = λ d. first_stays _ _ _ _ d c.push_reserved-in-loop-place.ensures.items (omega arith) inv.first;
+      each = each_more gives _ _ _ c.loop-place.place c.push_reserved-in-loop-place.ensures.items
+          (omega arith) belongs inv.each;
+      room = search rules;
+    }

@@ -1,0 +1,2 @@
+pub mod LiveHands
+pub mod LiveWorkers

@@ -1,0 +1,158 @@
+//! Results and tallies by number. What begins with `_` is there for the contracts alone.
+
+ghost use Rattle.std.specs.Prelude.{◌≡◌, ◌<◌, ◌+◌, ◌++◌, ◌∷◌, [], ℕ, IfOk, OnOk, All, Some, vec_len, slice_index_or};
+ghost use Rattle.crew_machine.specs.Counts.{total, times, once_below};
+ghost use Rattle.steal_crew.specs.Results.{Entered, filled, done_numbers};
+ghost use Rattle.steal_crew.specs.Tickets.{source_drawn};
+ghost use Rattle.live_crew.specs.LiveWorkers.{BelongsToSome, AreDoneBy};
+
+use crate::works::LiveWork;
+use std::alloc::{AllocError, Global};
+use steal_crew::{AllDrawn, Crew};
+
+// A tally, and after it the numbers of the results.
+fn with_numbers<X: Drop>(done: &Vec<(u32, X)>, mut tally: Vec<u32>) -> Result<Vec<u32>, AllocError>
+    ensures { IfOk result (λ v. v.items ≡ tally.items ++ done_numbers done.now.items) }
+{
+    for at in 0..done.len() {
+        tally.push(done[at].0)?;
+    }
+    Ok(tally)
+}
+
+// The numbers of all results, by worker. The caller's come first, and 0 before them.
+fn tallies_of<X: Drop>(
+    alloc: Global,
+    own: &Vec<(u32, X)>,
+    others: &Vec<Vec<(u32, X)>>,
+) -> Result<Vec<Vec<u32>>, AllocError>
+    ensures len { IfOk result (λ v. vec_len v ≡ vec_len others.now + 1) }
+    ensures all { IfOk result (λ v. (x : ℕ) → total (λ t. times x t.items) v.items
+        ≡ times x (0 ∷ []) + times x (done_numbers own.now.items)
+        + total (λ d. times x (done_numbers d.items)) others.now.items) }
+{
+    let mut tally = Vec::new(alloc);
+    tally.push(0)?;
+    let mut tallies = Vec::new(alloc);
+    tallies.push(with_numbers(own, tally)?)?;
+    for at in 0..others.len() {
+        tallies.push(with_numbers(&others[at], Vec::new(alloc))?)?;
+    }
+    Ok(tallies)
+}
+
+// Enters results at their numbers.
+fn enter<W: LiveWork>(
+    _work: &W,
+    _drawn: &AllDrawn,
+    slots: &mut Vec<Option<W::R>>,
+    mut done: Vec<(u32, W::R)>,
+)
+    requires done { AreDoneBy (W.gives _work.now (source_drawn _drawn.now)) done.items }
+    requires slots { Entered (BelongsToSome (W.gives _work.now (source_drawn _drawn.now))) slots.old.items }
+    ensures slots { Entered (BelongsToSome (W.gives _work.now (source_drawn _drawn.now))) slots.new.items }
+    ensures len { vec_len slots.new ≡ vec_len slots.old }
+    ensures filled { (x : ℕ) → x < vec_len slots.old
+        → 0 < filled x slots.old.items + times x (done_numbers done.items) → 0 < filled x slots.new.items }
+{
+    while let Some((number, result)) = done.pop() {
+        let place = number as usize;
+        if place < slots.len() {
+            slots[place] = Some(result);
+        }
+    }
+}
+
+// A place for each number's result.
+fn empty_slots<W: LiveWork>(
+    _work: &W,
+    _drawn: &AllDrawn,
+    alloc: Global,
+    count: u32,
+) -> Result<Vec<Option<W::R>>, AllocError>
+    ensures { IfOk result (λ v. (vec_len v ≡ count)
+        × Entered (BelongsToSome (W.gives _work.now (source_drawn _drawn.now))) v.items) }
+{
+    let mut slots = Vec::with_capacity(alloc, count as usize)?;
+    for _ in 0..count {
+        slots.push_reserved(None);
+    }
+    Ok(slots)
+}
+
+// The results by number, that of 0 first, which was kept apart.
+fn take_results<W: LiveWork>(
+    _work: &W,
+    _drawn: &AllDrawn,
+    alloc: Global,
+    first: W::R,
+    mut slots: Vec<Option<W::R>>,
+) -> Result<Vec<W::R>, AllocError>
+    requires some { 0 < vec_len slots }
+    requires slots { Entered (BelongsToSome (W.gives _work.now (source_drawn _drawn.now))) slots.items }
+    requires filled { (x : ℕ) → 0 < x → x < vec_len slots → 0 < filled x slots.items }
+    ensures len { IfOk result (λ v. vec_len v ≡ vec_len slots) }
+    ensures first { IfOk result (λ v. (d : W.R) → slice_index_or v.items 0 d ≡ first) }
+    ensures each { IfOk result (λ v. (n : ℕ) (d : W.R) → 0 < n → n < vec_len slots
+        → BelongsToSome (W.gives _work.now (source_drawn _drawn.now)) n (slice_index_or v.items n d)) }
+{
+    let mut results = Vec::with_capacity(alloc, slots.len())?;
+    results.push_reserved(first);
+    for place in 1..slots.len() {
+        let Some(result) = slots[place].take() else {
+            unreachable!()
+        };
+        results.push_reserved(result);
+    }
+    Ok(results)
+}
+
+// Enters the results of each worker.
+fn enter_all<W: LiveWork>(
+    work: &W,
+    drawn: &AllDrawn,
+    slots: &mut Vec<Option<W::R>>,
+    mut others: Vec<Vec<(u32, W::R)>>,
+)
+    requires others { All (λ d. AreDoneBy (W.gives work.now (source_drawn drawn.now)) d.items) others.items }
+    requires slots { Entered (BelongsToSome (W.gives work.now (source_drawn drawn.now))) slots.old.items }
+    ensures slots { Entered (BelongsToSome (W.gives work.now (source_drawn drawn.now))) slots.new.items }
+    ensures len { vec_len slots.new ≡ vec_len slots.old }
+    ensures filled { (x : ℕ) → x < vec_len slots.old
+        → 0 < filled x slots.old.items + total (λ d. times x (done_numbers d.items)) others.items
+        → 0 < filled x slots.new.items }
+{
+    while let Some(done) = others.pop() {
+        enter(work, drawn, slots, done);
+    }
+}
+
+// The results by number, and the tallies, where the results are those of the numbers drawn.
+pub(crate) fn publish<W: LiveWork>(
+    work: &W,
+    alloc: Global,
+    first: W::R,
+    own: Vec<(u32, W::R)>,
+    others: Vec<Vec<(u32, W::R)>>,
+    count: u32,
+    drawn: AllDrawn,
+) -> Result<Crew<W::R>, AllocError>
+    requires own { AreDoneBy (W.gives work.now (source_drawn drawn)) own.items }
+    requires others { All (λ d. AreDoneBy (W.gives work.now (source_drawn drawn)) d.items) others.items }
+    requires count { (x : ℕ) → once_below x count ≡ times x (0 ∷ []) + times x (done_numbers own.items)
+        + total (λ d. times x (done_numbers d.items)) others.items }
+    ensures some { OnOk result (0 < count) }
+    ensures drawn { IfOk result (λ c. c.drawn ≡ Some drawn) }
+    ensures len { IfOk result (λ c. (vec_len c.results ≡ count) × (vec_len c.tallies ≡ vec_len others + 1)) }
+    ensures first { IfOk result (λ c. (d : W.R) → slice_index_or c.results.items 0 d ≡ first) }
+    ensures each { IfOk result (λ c. (n : ℕ) (d : W.R) → 0 < n → n < count
+        → BelongsToSome (W.gives work.now (source_drawn drawn)) n (slice_index_or c.results.items n d)) }
+    ensures once { IfOk result (λ c. (x : ℕ) → total (λ t. times x t.items) c.tallies.items ≡ once_below x count) }
+{
+    let tallies = tallies_of(alloc, &own, &others)?;
+    let mut slots = empty_slots(work, &drawn, alloc, count)?;
+    enter(work, &drawn, &mut slots, own);
+    enter_all(work, &drawn, &mut slots, others);
+    let results = take_results(work, &drawn, alloc, first, slots)?;
+    Ok(Crew::with_drawn(alloc, results, tallies, drawn))
+}

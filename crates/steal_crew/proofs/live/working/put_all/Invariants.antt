@@ -1,9 +1,0 @@
-use Rattle.std.proofs.Common.{[]}
-use Rattle.steal_crew.specs.LiveWorkers.{IsReady, Moved}
-use Rattle.steal_crew.proofs.live.working.put_all.Given as goal
-
-abbrev pub invariant-loop : goal.invariant-loop
-invariant-loop g l = record {
-  ready : IsReady l.queue (g.W.LiveWork.gives l.work) l.worker;
-  moved : Moved [] l.initial.worker l.worker;
-}
