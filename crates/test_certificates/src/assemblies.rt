@@ -3,7 +3,7 @@
 ghost use Rattle.std.specs.Prelude.{◌<◌, ◌^◌, All, IfOk, length};
 ghost use Rattle.cert_tree.specs.Tree.{tree_of, IsNarrow};
 
-use cert_tree::{AssembleFault, Head, Lemma, Node, Pairs, assemble, assembly_laws};
+use cert_tree::{AssembleFault, Head, Lemma, Lemmas, Node, Pairs, assemble, assembly_laws};
 use std::alloc::{AllocError, Global};
 use std::test::Fail;
 
@@ -53,28 +53,37 @@ fn has_fault(
     }
 }
 
+// So many lemmas that have these numbers, and the fault of that.
+const FAULTS: [(u8, [u32; 2], AssembleFault); 3] = [
+    (3, [0, 1], AssembleFault::Missing(2)),
+    (2, [0, 0], AssembleFault::Double(0)),
+    (2, [0, 2], AssembleFault::Stranger(2)),
+];
+
 #[test]
 fn tells_the_fault_of_numbers(rt: HostRuntime) -> Result<(), Fail> {
-    for (count, numbers, fault) in [
-        (3, [0, 1], AssembleFault::Missing(2)),
-        (2, [0, 0], AssembleFault::Double(0)),
-        (2, [0, 2], AssembleFault::Stranger(2)),
-    ] {
+    for (count, numbers, fault) in FAULTS {
         assert!(rt; has_fault(rt.alloc(), count, &numbers, fault)?);
     }
     Ok(())
 }
 
+// Whether the tree of the lemma with this number finds this arrangement.
+fn finds(lemmas: &Lemmas, number: usize, found: u32) -> bool {
+    number < lemmas.len() && lemmas.at(number).tree.trees().next() == Head::Found(found)
+}
+
+// Whether three lemmas come by number that are given in another order.
+fn assembles_by_number(alloc: Global) -> Result<bool, Fail> {
+    let pieces = pieces(alloc, &[2, 0, 1])?;
+    let certificate = assemble(alloc, 3, Vec::new(alloc), pieces)?;
+    let lemmas = certificate.lemmas();
+    Ok(lemmas.len() == 3 && finds(lemmas, 0, 1) && finds(lemmas, 1, 2) && finds(lemmas, 2, 0))
+}
+
 #[test]
 fn assembles_lemmas_by_number(rt: HostRuntime) -> Result<(), Fail> {
-    let alloc = rt.alloc();
-    let certificate = assemble(alloc, 3, Vec::new(alloc), pieces(alloc, &[2, 0, 1])?)?;
-    let lemmas = certificate.lemmas();
-    assert!(rt; lemmas.len() == 3);
-    for (number, place) in [(0, 1), (1, 2), (2, 0)] {
-        let found = Head::Found(place);
-        assert!(rt; lemmas.at(number).tree.trees().next() == found);
-    }
+    assert!(rt; assembles_by_number(rt.alloc())?);
     assembly_laws();
     Ok(())
 }

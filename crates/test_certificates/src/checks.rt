@@ -1,9 +1,11 @@
 //! Certificates are checked by one call, and a tree alone, whatever is wrong with the trees before it.
 
-ghost use Rattle.std.specs.Prelude.{◌<◌, ◌^◌, IfOk, length};
+ghost use Rattle.std.specs.Prelude.{◌≡◌, ◌<◌, ◌^◌, IfOk, length};
 
 use crate::texts::{certificate_of, list_of, puzzle_of};
-use cert_check::{Answer, Fault, NodeFault, Question, TreeFault, check, one_answer, tree_fault};
+use cert_check::{
+    Answer, Fault, NodeFault, Prepared, Question, TreeFault, check, one_answer, tree_fault,
+};
 use cert_tree::Certificate;
 use match_puzzle::{Arrangement, Puzzle};
 use std::alloc::Global;
@@ -33,6 +35,16 @@ fn question_of(
     })
 }
 
+// What is right but perhaps the trees.
+fn prepared<'a>(alloc: Global, question: &'a Question<'_>) -> Result<Prepared<'a>, Fail>
+    ensures { IfOk result (λ prepared. prepared ≡ question.now) }
+{
+    match question.prepare(alloc, question.list_fault())? {
+        Ok(prepared) => Ok(prepared),
+        Err(_) => Err(Fail::from("it is refused before the trees")),
+    }
+}
+
 // What is found of this lemma's tree alone.
 fn fault_of(alloc: Global, question: &OwnedQuestion, lemma: u32) -> Result<Option<TreeFault>, Fail>
     requires { length question.now.listed.items < 2 ^ 32 }
@@ -45,13 +57,16 @@ fn fault_of(alloc: Global, question: &OwnedQuestion, lemma: u32) -> Result<Optio
     if certificate.lemmas().len() <= lemma as usize {
         return Err(Fail::from("a number is out of range"));
     }
-    let listed = listed.as_slice();
     let question = Question::new(puzzle, listed, certificate);
-    let Ok(prepared) = question.prepare(alloc, question.list_fault())? else {
-        return Err(Fail::from("it is refused before the trees"));
-    };
-    let symmetries = prepared.symmetries();
-    Ok(tree_fault(alloc, puzzle, listed, symmetries, certificate, lemma)?)
+    let prepared = prepared(alloc, &question)?;
+    Ok(tree_fault(
+        alloc,
+        puzzle,
+        listed,
+        prepared.symmetries(),
+        certificate,
+        lemma,
+    )?)
 }
 
 // Nothing is dead at cell 0, lemma 1 cites itself, and the prefix of lemma 0 isn't placed at the root's second child.
@@ -68,11 +83,12 @@ const FIVE_CELLS_LIST: &[u8] = b"list 1\narrangements 1\n0.0 2.0 1.0 3.0 4.0\nen
 const FIVE_CELLS_CERTIFICATE: &[u8] =
     b"certificate 1\nsymmetries 2\nsymmetry 0 + cells 0 1 2 3 4 colours 0 1 2 tiles 1 0 2 3 4\nsymmetry 0 + cells 0 1 2 3 4 colours 0 1 2 tiles 0 1 3 2 4\nlemmas 4\nlemma 0 prefix 0:0.0 1:2.0 tree c 2 1 c 3 1 c 4 1 f 0\nlemma 1 prefix 0:0.0 1:3.0 tree i 0 1\nlemma 2 prefix 0:0.0 tree c 1 2 s 0 s 1\nlemma 3 prefix tree c 0 2 s 2 i 2 0\nend\n";
 
-// Whether a list is complete whose trees all hold.
-fn is_complete(alloc: Global) -> Result<bool, Fail> {
-    let right = question_of(alloc, FIVE_CELLS, FIVE_CELLS_LIST, FIVE_CELLS_CERTIFICATE)?;
+// Whether this is called complete.
+fn is_complete(alloc: Global, right: &OwnedQuestion) -> Result<bool, Fail>
+    requires { length right.now.listed.items < 2 ^ 32 }
+{
     let answer = check(alloc, &right.puzzle, &right.listed, &right.certificate)?;
-    Ok(matches!(answer, Answer::Complete) && fault_of(alloc, &right, 3)?.is_none())
+    Ok(matches!(answer, Answer::Complete))
 }
 
 // Whether it is refused for lemma 0.
@@ -81,6 +97,13 @@ fn is_refused(alloc: Global, wrong: &OwnedQuestion) -> Result<bool, Fail>
 {
     let answer = check(alloc, &wrong.puzzle, &wrong.listed, &wrong.certificate)?;
     Ok(matches!(answer, Answer::Refused(Fault::Tree(0, _))))
+}
+
+// Whether this lemma's tree holds.
+fn holds(alloc: Global, question: &OwnedQuestion, lemma: u32) -> Result<bool, Fail>
+    requires { length question.now.listed.items < 2 ^ 32 }
+{
+    Ok(fault_of(alloc, question, lemma)?.is_none())
 }
 
 // Whether this lemma's tree has this fault, at the node to which these steps lead.
@@ -99,22 +122,45 @@ fn has_fault(
     }
 }
 
+// The fault of each wrong tree.
+const FAULTS: [(u32, &[u16], NodeFault); 3] = [
+    (0, &[], NodeFault::NotDead { fits: 1 }),
+    (1, &[], NodeFault::NotEarlier),
+    (2, &[1], NodeFault::NotWithin),
+];
+
+fn has_each_fault(alloc: Global, wrong: &OwnedQuestion) -> Result<bool, Fail>
+    requires { length wrong.now.listed.items < 2 ^ 32 }
+{
+    for (lemma, steps, fault) in FAULTS {
+        if !has_fault(alloc, wrong, lemma, steps, fault)? {
+            return Ok(false);
+        }
+    }
+    is_refused(alloc, wrong)
+}
+
+// Whether it is complete, and the last tree holds.
+fn has_no_fault(alloc: Global, right: &OwnedQuestion) -> Result<bool, Fail>
+    requires { length right.now.listed.items < 2 ^ 32 }
+{
+    Ok(is_complete(alloc, right)? && holds(alloc, right, 3)?)
+}
+
+fn finds_no_fault(alloc: Global) -> Result<bool, Fail> {
+    let right = question_of(alloc, FIVE_CELLS, FIVE_CELLS_LIST, FIVE_CELLS_CERTIFICATE)?;
+    has_no_fault(alloc, &right)
+}
+
+fn finds_each_fault(alloc: Global) -> Result<bool, Fail> {
+    let wrong = question_of(alloc, TURNING_TRIANGLE, TURNING_TRIANGLE_LIST, WRONG_TREES)?;
+    has_each_fault(alloc, &wrong)
+}
+
 #[test]
 fn finds_the_fault_of_each_tree(rt: HostRuntime) -> Result<(), Fail> {
-    let alloc = rt.alloc();
-    assert!(rt; is_complete(alloc)?);
-    let wrong = question_of(alloc, TURNING_TRIANGLE, TURNING_TRIANGLE_LIST, WRONG_TREES)?;
-    assert!(rt; is_refused(alloc, &wrong)?);
-    for (lemma, steps, fault) in [
-        (0, [].as_slice(), NodeFault::NotDead { fits: 1 }),
-        (1, [].as_slice(), NodeFault::NotEarlier),
-        (2, [1].as_slice(), NodeFault::NotWithin),
-    ] {
-        assert!(rt;
-            has_fault(alloc, &wrong, lemma, steps, fault)?,
-            "of {lemma}"
-        );
-    }
+    assert!(rt; finds_no_fault(rt.alloc())?);
+    assert!(rt; finds_each_fault(rt.alloc())?);
     one_answer();
     Ok(())
 }

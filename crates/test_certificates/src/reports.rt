@@ -1,22 +1,27 @@
 //! Boards and tallies are printed. Which worker takes what is chance, where there are several.
 
 use crate::texts::puzzle_of;
-use match_puzzle::Placement;
+use match_puzzle::{Placement, Puzzle};
 use match_report::{Taken, write_board, write_tally};
-use std::alloc::Global;
+use std::alloc::{AllocError, Global};
 use std::test::Fail;
 use test_samples::TURNING_TRIANGLE;
 
-// How it is printed that each worker took these.
-fn tally(alloc: Global, shares: &[&[u32]]) -> Result<Vec<u8>, Fail> {
+// Each worker took these.
+fn tally(alloc: Global, shares: &[&[u32]]) -> Result<Vec<Taken>, AllocError> {
     let mut tally = Vec::new(alloc);
     for numbers in shares {
         tally.push(Taken::new(Vec::from_slice(alloc, numbers)?))?;
     }
+    Ok(tally)
+}
+
+// Whether this is how a tally is printed.
+fn is_text_of(alloc: Global, tally: &[Taken], text: &[u8]) -> Result<bool, AllocError> {
     if tally.len() > 64 {
-        return Err(Fail::from("there are many workers"));
+        return Ok(false);
     }
-    Ok(write_tally(alloc, &tally)?)
+    Ok(write_tally(alloc, tally)?.as_slice() == text)
 }
 
 // What each worker took, and how it is printed.
@@ -26,25 +31,39 @@ const TALLIES: [(&[&[u32]], &[u8]); 3] = [
     (&[&[999_999, 10]], b"worker 0 took 999999 10\n"),
 ];
 
-// Whether each of them is printed so.
-fn prints_tallies(alloc: Global) -> Result<bool, Fail> {
-    for (shares, text) in TALLIES {
-        if tally(alloc, shares)?.as_slice() != text {
-            return Ok(false);
-        }
+fn prints_tally(alloc: Global, shares: &[&[u32]], text: &[u8]) -> Result<bool, AllocError> {
+    let tally = tally(alloc, shares)?;
+    is_text_of(alloc, &tally, text)
+}
+
+// An arrangement of the turning triangle.
+const LISTED: [Placement; 4] = [
+    Placement { tile: 2, turn: 2 },
+    Placement { tile: 1, turn: 0 },
+    Placement { tile: 0, turn: 0 },
+    Placement { tile: 3, turn: 1 },
+];
+
+const BOARD: &[u8] = b"0 2.2 020\n1 1.0 100\n2 0.0 123\n3 3.1 003\n";
+
+// Whether the arrangement is printed so.
+fn is_board_of(alloc: Global, puzzle: &Puzzle) -> Result<bool, AllocError> {
+    if puzzle.arrangement_fault(&LISTED).is_some() {
+        return Ok(false);
     }
-    Ok(true)
+    Ok(write_board(alloc, puzzle, &LISTED)?.as_slice() == BOARD)
+}
+
+fn prints_board(alloc: Global) -> Result<bool, Fail> {
+    let puzzle = puzzle_of(alloc, TURNING_TRIANGLE)?;
+    Ok(is_board_of(alloc, &puzzle)?)
 }
 
 #[test]
 fn prints_boards_and_who_took_what(rt: HostRuntime) -> Result<(), Fail> {
-    assert!(rt; prints_tallies(rt.alloc())?);
-    let puzzle = puzzle_of(rt.alloc(), TURNING_TRIANGLE)?;
-    let listed = [(2, 2), (1, 0), (0, 0), (3, 1)].map(|(tile, turn)| Placement { tile, turn });
-    let None = puzzle.arrangement_fault(&listed) else {
-        return Err(Fail::from("no arrangement"));
-    };
-    let board = write_board(rt.alloc(), &puzzle, &listed)?;
-    assert!(rt; board.as_slice() == b"0 2.2 020\n1 1.0 100\n2 0.0 123\n3 3.1 003\n".as_slice());
+    assert!(rt; prints_board(rt.alloc())?);
+    for (shares, text) in TALLIES {
+        assert!(rt; prints_tally(rt.alloc(), shares, text)?);
+    }
     Ok(())
 }

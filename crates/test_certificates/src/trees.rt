@@ -4,7 +4,7 @@ use crate::texts::{certificate_of, joined};
 use cert_text::{
     WithinLimits, certificate_laws, lemma_laws, read_lemma, write_certificate, write_lemma,
 };
-use cert_tree::head_laws;
+use cert_tree::{Certificate, head_laws};
 use std::alloc::{AllocError, Global};
 use std::test::Fail;
 use test_samples::{TURNING_TRIANGLE_CERTIFICATE, TWIN_TILES_CERTIFICATE};
@@ -57,40 +57,51 @@ fn deep(alloc: Global, first_line: &[u8], branches: u32) -> Result<Vec<u8>, Allo
     )
 }
 
-// What is written of the certificate that the text says.
-fn written(alloc: Global, text: &[u8]) -> Result<Vec<u8>, Fail> {
-    let certificate = certificate_of(alloc, text)?;
+// Whether this is written of the certificate.
+fn is_text_of(alloc: Global, certificate: &Certificate, wanted: &[u8]) -> Result<bool, Fail> {
     if !certificate.within_limits() {
         return Err(Fail::from("what was read can't be written"));
     }
-    Ok(write_certificate(alloc, &certificate)?)
+    Ok(write_certificate(alloc, certificate)?.as_slice() == wanted)
 }
 
-// The first line of what is written of a certificate with so many branches below one another.
+// Whether this is written of the certificate that the text says.
+fn is_written(alloc: Global, text: &[u8], wanted: &[u8]) -> Result<bool, Fail> {
+    let certificate = certificate_of(alloc, text)?;
+    is_text_of(alloc, &certificate, wanted)
+}
+
+// Whether a certificate with so many branches below one another is written with this first line.
+fn is_deep_written(alloc: Global, branches: u32, first_line: &[u8]) -> Result<bool, Fail> {
+    let text = deep(alloc, VERSION_2, branches)?;
+    let wanted = deep(alloc, first_line, branches)?;
+    is_written(alloc, &text, &wanted)
+}
+
 const DEPTHS: [(u32, &[u8]); 3] = [(100, VERSION_1), (101, VERSION_2), (256, VERSION_2)];
 
-// Whether each of them is written so.
-fn writes_deep_trees(alloc: Global) -> Result<bool, Fail> {
+#[test]
+fn writes_deep_trees_that_were_read(rt: HostRuntime) -> Result<(), Fail> {
     for (branches, first_line) in DEPTHS {
-        let text = deep(alloc, VERSION_2, branches)?;
-        let wanted = deep(alloc, first_line, branches)?;
-        if written(alloc, &text)?.as_slice() != wanted.as_slice() {
-            return Ok(false);
-        }
+        assert!(rt; is_deep_written(rt.alloc(), branches, first_line)?);
     }
-    Ok(true)
+    Ok(())
+}
+
+const LEMMA: &[u8] = b"lemma 1 prefix tree c 0 2 s 0 i 0 0\n";
+
+// Whether a lemma is written as it was read.
+fn is_lemma_written(alloc: Global) -> Result<bool, Fail> {
+    let lemma = read_lemma(alloc, LEMMA)?;
+    Ok(write_lemma(alloc, &lemma)?.as_slice() == LEMMA)
 }
 
 #[test]
 fn writes_certificates_that_were_read(rt: HostRuntime) -> Result<(), Fail> {
-    let alloc = rt.alloc();
     for (text, wanted) in TEXTS {
-        assert!(rt; written(alloc, text)?.as_slice() == wanted);
+        assert!(rt; is_written(rt.alloc(), text, wanted)?);
     }
-    assert!(rt; writes_deep_trees(alloc)?);
-    let line = b"lemma 1 prefix tree c 0 2 s 0 i 0 0\n".as_slice();
-    let lemma = read_lemma(alloc, line)?;
-    assert!(rt; write_lemma(alloc, &lemma)?.as_slice() == line);
+    assert!(rt; is_lemma_written(rt.alloc())?);
     certificate_laws();
     lemma_laws();
     head_laws();

@@ -1,11 +1,10 @@
-ghost use Rattle.std.specs.Prelude.{◌≤◌};
-
 use cert_check::Answer;
 use cert_text::read_certificate;
+use cert_tree::Certificate;
 use match_crew::{Gate, check_with};
 use match_limits::MOST_WORKERS;
+use match_puzzle::{Arrangement, Puzzle};
 use std::alloc::Global;
-use std::sync::Wait;
 use std::sync::atomic::{AtomicBool, AtomicU32, Ordering};
 use std::test::Fail;
 use std::thread;
@@ -70,6 +69,14 @@ impl Watch {
     }
 }
 
+// Whether it was told of each lemma.
+fn tells_all(watch: &Watch) -> Result<bool, Fail> {
+    if watch.missed.load(Ordering::SeqCst) {
+        return Err(Fail::new("no other thread came"));
+    }
+    Ok(watch.told.iter().all(|told| told.load(Ordering::SeqCst)))
+}
+
 impl Gate for Watch {
     fn enter(&self, lemma: u32) {
         if lemma >= 8 {
@@ -82,23 +89,35 @@ impl Gate for Watch {
     }
 }
 
-// Whether a check by so many workers, who are all at lemmas at once, ends well and tells of each lemma.
-fn tells_of_each<R: Threads + Wait + Sync>(rt: &R, alloc: Global, workers: u8) -> Result<bool, Fail>
-    requires { (1 ≤ workers) × (workers ≤ MOST_WORKERS) }
-{
+// Whether a check by so many workers, who are all at lemmas at once, ends well.
+fn is_complete<R: Threads + Sync>(
+    rt: &R,
+    alloc: Global,
+    puzzle: &Puzzle,
+    list: &[Arrangement],
+    certificate: &Certificate,
+    watch: &Watch,
+) -> Result<bool, Fail> {
+    let workers = watch.workers;
+    if list.len() != 1 || workers < 1 || workers > MOST_WORKERS {
+        return Err(Fail::new("another question"));
+    }
+    let answer = check_with(rt, alloc, puzzle, list, certificate, workers, 0, watch)?;
+    Ok(matches!(answer, Answer::Complete))
+}
+
+// The same of the turning triangle.
+fn holds_by<R: Threads + Sync>(rt: &R, alloc: Global, watch: &Watch) -> Result<bool, Fail> {
     let puzzle = turning_triangle(alloc)?;
     let list = turning_triangle_list(alloc)?;
-    if list.len() != 1 {
-        return Err(Fail::new("another list"));
-    }
     let certificate = read_certificate(alloc, EIGHT_LEMMAS)?;
+    is_complete(rt, alloc, &puzzle, &list, &certificate, watch)
+}
+
+// Whether it does so, and tells of each lemma.
+fn tells_of_each<R: Threads + Sync>(rt: &R, alloc: Global, workers: u8) -> Result<bool, Fail> {
     let watch = Watch::new(workers);
-    let answer = check_with(rt, alloc, &puzzle, &list, &certificate, workers, 0, &watch)?;
-    if watch.missed.load(Ordering::SeqCst) {
-        return Err(Fail::new("no other thread came"));
-    }
-    let told = watch.told.iter().all(|told| told.load(Ordering::SeqCst));
-    Ok(matches!(answer, Answer::Complete) && told)
+    Ok(holds_by(rt, alloc, &watch)? && tells_all(&watch)?)
 }
 
 #[test]

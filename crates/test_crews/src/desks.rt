@@ -12,6 +12,7 @@ use std::process::Abort;
 use std::sync::Wait;
 use std::test::Fail;
 use std::thread;
+use std::thread::Threads;
 use test_samples::{
     TWIN_TILES_AFTER_FIVE, TWIN_TILES_CERTIFICATE, TWIN_TILES_FROM_THE_ROOT, exchange_of_twins,
 };
@@ -30,6 +31,13 @@ const FOUR_LEMMAS: [&[u8]; 4] = [ZERO, ONE, TWO, THREE];
 const FOUR_TURNED: &[u8] =
     b"certificate 1\nsymmetries 1\nsymmetry 0 + cells 0 1 colours 0 1 tiles 1 0\nlemmas 4\nlemma 0 prefix 0:2.0 tree t 1 2 f 4 i 9 0\nlemma 1 prefix 0:1.0 tree c 1 1 s 4\nlemma 2 prefix 0:0.0 tree c 1 2 f 5 s 0\nlemma 3 prefix tree c 0 3 s 2 i 1 0 s 0\nend\n";
 
+// Whether this line is the lemma's.
+fn is_line(alloc: Global, lemma: &Lemma, line: &[u8]) -> Result<bool, AllocError>
+    requires { IsLemmaWithin MOST_CELLS (piece_of lemma.now) }
+{
+    Ok(write_lemma(alloc, lemma)?.as_slice() == line)
+}
+
 // Posts a lemma. Where it comes back for want of memory, it is to be the same, and is posted again.
 fn post_at_last<R: Wait>(
     rt: &R,
@@ -45,7 +53,7 @@ fn post_at_last<R: Wait>(
         Ok(receipt) => return Ok(receipt),
         Err(same) => same,
     };
-    if write_lemma(alloc, &same)?.as_slice() != text {
+    if !is_line(alloc, &same, text)? {
         return Err(Fail::new("another lemma comes back"));
     }
     match desk.post(rt, same) {
@@ -54,16 +62,22 @@ fn post_at_last<R: Wait>(
     }
 }
 
-// Posts a copy of the lemma that the text says, which is to be read back as the same text.
-fn post_text<R: Wait>(rt: &R, alloc: Global, desk: &Desk, text: &[u8]) -> Result<Receipt, Fail>
-    ensures { IfOk result (IsOf desk.now) }
+// A copy of the lemma that the text says.
+fn copied(alloc: Global, text: &[u8]) -> Result<Lemma, Fail>
+    ensures { IfOk result (λ lemma. IsLemmaWithin MOST_CELLS (piece_of lemma)) }
 {
     if text.len() > 1000 {
         return Err(Fail::new("a long text"));
     }
-    let copy = read_lemma(alloc, text)?.copy(alloc)?;
-    let receipt = post_at_last(rt, alloc, desk, copy, text)?;
-    if write_lemma(alloc, desk.read(&receipt))?.as_slice() != text {
+    Ok(read_lemma(alloc, text)?.copy(alloc)?)
+}
+
+// Posts such a copy, which is to be read back as the same text.
+fn post_text<R: Wait>(rt: &R, alloc: Global, desk: &Desk, text: &[u8]) -> Result<Receipt, Fail>
+    ensures { IfOk result (IsOf desk.now) }
+{
+    let receipt = post_at_last(rt, alloc, desk, copied(alloc, text)?, text)?;
+    if !is_line(alloc, desk.read(&receipt), text)? {
         return Err(Fail::new("another lemma is read back"));
     }
     Ok(receipt)
@@ -151,7 +165,7 @@ type Row = (
 // Two lemmas from the root, of which turn 1 is the other.
 const TWINS: &[&[u8]] = &TWIN_TILES_FROM_THE_ROOT;
 
-const ROWS: [Row; 9] = [
+const ROWS: &[Row] = &[
     (TWINS, (0, 2), &[0, 0], Ok(TWIN_TILES_CERTIFICATE)),
     (TWINS, (0, 2), &[0, 5], Ok(TWIN_TILES_AFTER_FIVE)),
     (TWINS, (1, 3), &[0, 0], Ok(TWIN_TILES_CERTIFICATE)),
@@ -183,16 +197,18 @@ const ROWS: [Row; 9] = [
     ),
 ];
 
+// Whether that comes of a row.
+fn gathers<R: Wait>(rt: &R, alloc: Global, desk: &Desk, row: &Row) -> Result<bool, Fail> {
+    let (texts, turns, listed, wanted) = *row;
+    let receipts = post_by_turns(rt, alloc, desk, texts, turns)?;
+    Ok(is_gathered(alloc, desk, &receipts, listed, wanted)?)
+}
+
 #[test]
 fn gathers_lemmas(rt: HostRuntime) -> Result<(), Fail> {
-    let alloc = rt.alloc();
-    let desk = Desk::new(alloc)?;
-    for (texts, turns, listed, wanted) in ROWS {
-        let receipts = post_by_turns(&rt, alloc, &desk, texts, turns)?;
-        assert!(rt;
-            is_gathered(alloc, &desk, &receipts, listed, wanted)?,
-            "{wanted:?}"
-        );
+    let desk = Desk::new(rt.alloc())?;
+    for (place, row) in ROWS.iter().enumerate() {
+        assert!(rt; gathers(&rt, rt.alloc(), &desk, row)?, "at {place}");
     }
     Ok(())
 }
@@ -202,7 +218,7 @@ fn read_by_turns(alloc: Global, desk: &Desk, receipts: &[Receipt]) -> Result<boo
     requires { All (IsOf desk.now) receipts.now }
 {
     for (place, receipt) in receipts.iter().enumerate() {
-        if write_lemma(alloc, desk.read(receipt))?.as_slice() != FOUR_LEMMAS[place % 4] {
+        if !is_line(alloc, desk.read(receipt), FOUR_LEMMAS[place % 4])? {
             return Ok(false);
         }
     }
@@ -268,38 +284,58 @@ fn numbers_shown(alloc: Global, desk: &Desk) -> Result<Vec<u32>, AllocError> {
     Ok(numbers)
 }
 
+// Posts the rows below 64, each on a thread of its own. What each gives.
+fn post_rows<R: Threads + Wait + Abort + Sync>(
+    rt: &R,
+    alloc: Global,
+    desk: &Desk,
+) -> Result<Vec<Result<Receipt, AllocError>>, AllocError>
+    ensures { IfOk result (λ posted. All (λ last. IfOk last (IsOf desk.now)) posted.items) }
+{
+    thread::map_vec(
+        rt,
+        (0..64u8).collect(alloc)?,
+        &|row: u8| -> Result<Receipt, AllocError>
+            ensures { IfOk result (IsOf desk.entry.now) }
+        { post_and_read(rt, alloc, desk, row) },
+    )
+}
+
+// Whether each of these is the last lemma of its row.
+fn are_last(desk: &Desk, posted: &[Result<Receipt, AllocError>]) -> Result<bool, AllocError>
+    requires { All (λ last. IfOk last (IsOf desk.now)) posted.now }
+{
+    for (row, last) in posted.iter().enumerate() {
+        let Ok(receipt) = last else {
+            return Err(AllocError);
+        };
+        let number = desk.read(receipt).number;
+        if (number as usize / 100, number % 100) != (row, 99) {
+            return Ok(false);
+        }
+    }
+    Ok(posted.len() == 64)
+}
+
 // The last lemma that each posted is read here.
+fn are_read<R: Threads + Wait + Abort + Sync>(
+    rt: &R,
+    alloc: Global,
+    desk: &Desk,
+) -> Result<bool, AllocError> {
+    let posted = post_rows(rt, alloc, desk)?;
+    are_last(desk, &posted)
+}
+
+// Whether a walk then gives each number.
+fn are_shown(alloc: Global, desk: &Desk) -> Result<bool, AllocError> {
+    Ok(numbers_shown(alloc, desk)?.iter().copied().eq(0..6400u32))
+}
+
 #[test]
 fn sixty_four_threads_post_and_read(rt: HostRuntime) -> Result<(), Fail> {
     let desk = Desk::new(rt.alloc())?;
-    let alloc = rt.alloc();
-    let (shared, wait) = (&desk, &rt);
-    let mut rows = Vec::new(alloc);
-    for row in 0..64u8 {
-        rows.push(row)?;
-    }
-    let posted = thread::map_vec(
-        &rt,
-        rows,
-        &|row: u8| -> Result<Receipt, AllocError>
-            ensures { IfOk result (IsOf shared.entry.now) }
-        { post_and_read(wait, alloc, shared, row) },
-    )?;
-    assert!(rt; posted.len() == 64);
-    for (row, last) in posted.iter().enumerate() {
-        let Ok(receipt) = last else {
-            return Err(AllocError.into());
-        };
-        let number = desk.read(receipt).number;
-        assert!(rt;
-            (number as usize / 100, number % 100) == (row, 99),
-            "of {row}"
-        );
-    }
-    let numbers = numbers_shown(alloc, &desk)?;
-    assert!(rt; numbers.len() == 6400);
-    for (place, number) in numbers.iter().enumerate() {
-        assert!(rt; place == *number as usize, "at {place}");
-    }
+    assert!(rt; are_read(&rt, rt.alloc(), &desk)?);
+    assert!(rt; are_shown(rt.alloc(), &desk)?);
     Ok(())
 }

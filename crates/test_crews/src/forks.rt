@@ -5,10 +5,13 @@ ghost use Rattle.std.specs.Prelude.{◌≤◌};
 use crate::meetings::Meeting;
 use cert_check::{Answer, NodeFault, Question, TreeFault, forked_tree_fault};
 use cert_text::read_certificate;
-use match_crew::{Gate, check_with, solve_with};
+use cert_tree::Certificate;
+use match_crew::{Gate, Solved, check_with, solve_with};
 use match_limits::MOST_FORKS;
+use match_puzzle::{Arrangement, Puzzle};
 use match_text::read_puzzle;
 use std::alloc::Global;
+use std::sync::Wait;
 use std::sync::atomic::{AtomicU8, Ordering};
 use std::test::Fail;
 use std::thread::Threads;
@@ -36,29 +39,40 @@ impl Gate for Halves {
     }
 }
 
-#[test]
-fn two_halves_of_a_tree_at_once(rt: HostRuntime) -> Result<(), Fail> {
-    let alloc = rt.alloc();
-    let puzzle = read_puzzle(alloc, SEVEN_SQUARES)?;
-    let solved = solve_with(&rt, alloc, &puzzle, 0, 1_000_000, 1)?;
-    if solved.list.len() != 5_040 {
+// Whether a check of what was solved, by these halves, ends well.
+fn holds_by<R: Threads + Sync>(
+    rt: &R,
+    alloc: Global,
+    puzzle: &Puzzle,
+    solved: &Solved,
+    halves: &Halves,
+) -> Result<bool, Fail> {
+    let list = &solved.list;
+    if list.len() != 5_040 {
         return Err(Fail::new("another list"));
     }
+    let answer = check_with(rt, alloc, puzzle, list, &solved.certificate, 1, 1, halves)?;
+    Ok(matches!(answer, Answer::Complete))
+}
+
+// The same of the seven squares.
+fn seven_squares_hold<R: Threads + Wait + Sync>(
+    rt: &R,
+    alloc: Global,
+    halves: &Halves,
+) -> Result<bool, Fail> {
+    let puzzle = read_puzzle(alloc, SEVEN_SQUARES)?;
+    let solved = solve_with(rt, alloc, &puzzle, 0, 1_000_000, 1)?;
+    holds_by(rt, alloc, &puzzle, &solved, halves)
+}
+
+#[test]
+fn two_halves_of_a_tree_at_once(rt: HostRuntime) -> Result<(), Fail> {
     let halves = Halves {
         meeting: Meeting::new(),
         met: AtomicU8::new(0),
     };
-    let answer = check_with(
-        &rt,
-        alloc,
-        &puzzle,
-        &solved.list,
-        &solved.certificate,
-        1,
-        1,
-        &halves,
-    )?;
-    assert!(rt; matches!(answer, Answer::Complete));
+    assert!(rt; seven_squares_hold(&rt, rt.alloc(), &halves)?);
     if halves.met.load(Ordering::SeqCst) != 2 {
         return Err(Fail::new("no other thread came"));
     }
@@ -70,26 +84,22 @@ fn two_halves_of_a_tree_at_once(rt: HostRuntime) -> Result<(), Fail> {
 const WRONG_CHILDREN: &[u8] =
     b"certificate 1\nsymmetries 1\nsymmetry 1 + cells 3 0 2 1 colours 0 1 2 3 tiles 0 1 2 3\nlemmas 3\nlemma 0 prefix 2:0.0 tree c 0 1 c 1 1 c 3 1 f 0\nlemma 1 prefix 2:0.2 tree i 0 0\nlemma 2 prefix tree t 0 3 s 1 s 1 s 1\nend\n";
 
-// What is found of the turning triangle's lemma with this number, where the certificate is this.
+// What is found of the lemma with this number.
 fn fault_of<R: Threads + Sync>(
     rt: &R,
     alloc: Global,
-    certificate: &[u8],
+    puzzle: &Puzzle,
+    listed: &[Arrangement],
+    certificate: &Certificate,
     lemma: u32,
     forks: u8,
 ) -> Result<Option<TreeFault>, Fail>
     requires { forks ≤ MOST_FORKS }
 {
-    let puzzle = turning_triangle(alloc)?;
-    let listed = turning_triangle_list(alloc)?;
-    if certificate.len() > 1000 {
-        return Err(Fail::new("a long text"));
-    }
-    let certificate = read_certificate(alloc, certificate)?;
     if listed.len() != 1 || certificate.lemmas().len() <= lemma as usize {
         return Err(Fail::new("another question"));
     }
-    let question = Question::new(&puzzle, &listed, &certificate);
+    let question = Question::new(puzzle, listed, certificate);
     let Ok(prepared) = question.prepare(alloc, question.list_fault())? else {
         return Err(Fail::new("it is refused before the trees"));
     };
@@ -97,24 +107,48 @@ fn fault_of<R: Threads + Sync>(
     Ok(forked_tree_fault(
         rt,
         alloc,
-        &puzzle,
-        &listed,
+        puzzle,
+        listed,
         symmetries,
-        &certificate,
+        certificate,
         lemma,
         forks,
     )?)
 }
 
+// The same of the turning triangle.
+fn fault_of_triangle<R: Threads + Sync>(
+    rt: &R,
+    alloc: Global,
+    lemma: u32,
+    forks: u8,
+) -> Result<Option<TreeFault>, Fail>
+    requires { forks ≤ MOST_FORKS }
+{
+    let puzzle = turning_triangle(alloc)?;
+    let listed = turning_triangle_list(alloc)?;
+    let certificate = read_certificate(alloc, WRONG_CHILDREN)?;
+    fault_of(rt, alloc, &puzzle, &listed, &certificate, lemma, forks)
+}
+
+// Whether it is that of the root's first child.
+fn is_first(found: Option<TreeFault>) -> bool {
+    match found {
+        Some(found) => {
+            found.path.steps() == [0].as_slice() && found.fault == NodeFault::NotWithin
+        }
+        None => false,
+    }
+}
+
 #[test]
 fn the_first_of_several_faults(rt: HostRuntime) -> Result<(), Fail> {
     for forks in 0..7 {
-        assert!(rt; fault_of(&rt, rt.alloc(), WRONG_CHILDREN, 0, forks)?.is_none());
-        let Some(found) = fault_of(&rt, rt.alloc(), WRONG_CHILDREN, 2, forks)? else {
-            return Err(Fail::new("it holds"));
-        };
-        assert!(rt; found.path.steps() == [0].as_slice(), "by {forks}");
-        assert!(rt; found.fault == NodeFault::NotWithin, "by {forks}");
+        assert!(rt; fault_of_triangle(&rt, rt.alloc(), 0, forks)?.is_none());
+        assert!(rt;
+            is_first(fault_of_triangle(&rt, rt.alloc(), 2, forks)?),
+            "by {forks}"
+        );
     }
     Ok(())
 }

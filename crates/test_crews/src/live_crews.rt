@@ -1,9 +1,14 @@
+ghost use Rattle.std.specs.Prelude.{◌≤◌};
+
 use crate::meetings::{Meeting, all_met};
-use match_limits::MOST_LEMMAS;
-use std::alloc::AllocError;
+use live_crew::{Hand, LiveWork, run_live};
+use match_limits::{MOST_LEMMAS, MOST_WORKERS};
+use std::alloc::{AllocError, Global};
+use std::sync::Wait;
 use std::test::Fail;
 use std::thread;
-use steal_crew::{Crew, Hand, LiveWork, run_live};
+use std::thread::Threads;
+use steal_crew::Crew;
 
 // A job below the last gives away the next one. Each answers itself.
 #[derive(Drop)]
@@ -67,14 +72,27 @@ fn counts_up(crew: Crew<u32>, count: u32) -> bool {
 // Each row is the last job, the limit and how many jobs are done.
 const ROWS: [(u32, u32, u32); 3] = [(3, 9, 4), (3, 2, 2), (150, MOST_LEMMAS, 151)];
 
-// Where memory is refused, that is the outcome: no job is lost.
+// Whether so many workers do all jobs of each row. Where memory is refused, that is the outcome: no job is lost.
+fn all_are_done<R: Threads + Wait + Sync>(
+    rt: &R,
+    alloc: Global,
+    workers: u8,
+) -> Result<bool, AllocError>
+    requires { (1 ≤ workers) × (workers ≤ MOST_WORKERS) }
+{
+    for (last, limit, count) in ROWS {
+        let crew = run_live(rt, alloc, &Countup { last }, 0, limit, workers)?;
+        if !counts_up(crew, count) {
+            return Ok(false);
+        }
+    }
+    Ok(true)
+}
+
 #[test]
 fn each_given_job_is_done(rt: HostRuntime) -> Result<(), Fail> {
     for workers in [1, 2, 3, 7, 64] {
-        for (last, limit, count) in ROWS {
-            let crew = run_live(&rt, rt.alloc(), &Countup { last }, 0, limit, workers)?;
-            assert!(rt; counts_up(crew, count), "by {workers}");
-        }
+        assert!(rt; all_are_done(&rt, rt.alloc(), workers)?, "by {workers}");
     }
     Ok(())
 }

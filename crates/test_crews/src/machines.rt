@@ -119,16 +119,16 @@ fn assert_steps<R: Abort>(rt: &R, state: &mut State, rows: &[Row]) -> Result<(),
     Ok(())
 }
 
-// Whether these numbers were dealt, posted and done.
-fn has_done(state: &State, dealt: &[u32], posted: &[u32], done: &[u32]) -> bool {
-    (state.dealt(), state.posted(), state.done()) == (dealt, posted, done)
+// Whether these numbers were dealt, posted and done, and that is the next to draw.
+fn has_done(state: &State, dealt: &[u32], posted: &[u32], done: &[u32], next: u32) -> bool {
+    (state.dealt(), state.posted(), state.done(), state.next()) == (dealt, posted, done, next)
 }
 
 #[test]
 fn each_event_comes_again(rt: HostRuntime) -> Result<(), Fail> {
     let mut state = State::new(rt.alloc(), 2, 2, 2)?;
     assert_steps(&rt, &mut state, EVERY_FAULT)?;
-    assert!(rt; has_done(&state, &[4, 9], &[4, 9], &[4, 9]) && state.next() == 2);
+    assert!(rt; has_done(&state, &[4, 9], &[4, 9], &[4, 9], 2));
     Ok(())
 }
 
@@ -142,17 +142,19 @@ fn are_at_work(state: &State) -> bool
     is_first_busy && is_second_idle && state.waiting(0).is_empty()
 }
 
-// The second finds the queue empty in the end.
-#[test]
-fn two_workers_at_one_queue(rt: HostRuntime) -> Result<(), Fail> {
-    let mut state = State::new(rt.alloc(), 2, 1, 2)?;
-    assert_steps(&rt, &mut state, AT_ONE_QUEUE)?;
+// Whether the second then finds the queue empty.
+fn finds_none_left(state: &mut State) -> bool {
     let empty = state.step(&Event::Take {
         worker: 1,
         queue: 0,
     });
-    assert!(rt; empty == Err(StepFault::Empty));
-    assert!(rt; are_at_work(&state));
-    assert!(rt; has_done(&state, &[5, 7], &[5], &[5]) && state.next() == 1);
+    empty == Err(StepFault::Empty) && are_at_work(state)
+}
+
+#[test]
+fn two_workers_at_one_queue(rt: HostRuntime) -> Result<(), Fail> {
+    let mut state = State::new(rt.alloc(), 2, 1, 2)?;
+    assert_steps(&rt, &mut state, AT_ONE_QUEUE)?;
+    assert!(rt; finds_none_left(&mut state) && has_done(&state, &[5, 7], &[5], &[5], 1));
     Ok(())
 }

@@ -1,9 +1,13 @@
 //! The turning triangle, worked out by hand: the sizes of its items, its tree, how many are found, and what is cited.
 
+ghost use Rattle.xcc_form.specs.Options.{cover_of};
+ghost use Rattle.xcc_dance.specs.Chosen.{IsUncovered};
+
 use cert_text::{WithinLimits, write_lemma};
 use cert_tree::{Lemma, Node, Pairs};
 use match_puzzle::Pair;
 use std::alloc::{AllocError, Global};
+use std::process::Abort;
 use std::test::Fail;
 use test_samples::turning_triangle;
 use xcc_dance::{
@@ -42,20 +46,32 @@ const FIRST: [(u32, u32); 8] = [
 // The first option of cell 2 puts tile 0 there, which leaves each other cell and tile one option.
 const CHOSEN: [(u32, u32); 6] = [(0, 1), (1, 1), (3, 1), (5, 1), (6, 1), (7, 1)];
 
-// Whether they are so at first, once a choice is made, and after it is undone.
+// Whether nothing is chosen, and they are so.
+fn is_at_first(alloc: Global, links: &Links<'_>) -> Result<bool, AllocError> {
+    let is_open = links.chosen().is_empty() && links.branch_item() == Some(0);
+    Ok(is_open && sizes_are(alloc, links, &FIRST)?)
+}
+
+// Whether they are so once that choice is made, which is then undone.
+fn has_chosen(alloc: Global, links: &mut Links<'_>) -> Result<bool, Fail>
+    requires { IsUncovered (cover_of links.old.compiled) links.old.chosen 2 }
+{
+    let Some(option) = links.next_option(2, None) else {
+        return Err(Fail::new("no option of cell 2"));
+    };
+    links.choose(option)?;
+    let then = sizes_are(alloc, links, &CHOSEN)? && links.chosen() == [6].as_slice();
+    links.undo();
+    Ok(then)
+}
+
+// Whether they are so at first, once the choice is made, and after it is undone.
 fn has_sizes<'a>(alloc: Global, xcc: &'a Xcc<'a>) -> Result<bool, Fail> {
     if xcc.primaries() != 8 {
         return Ok(false);
     }
     let mut links = Links::new(alloc, xcc)?;
-    let at_first = sizes_are(alloc, &links, &FIRST)? && links.branch_item() == Some(0);
-    let Some(option) = links.next_option(2, None) else {
-        return Err(Fail::new("no option of cell 2"));
-    };
-    links.choose(option)?;
-    let then = sizes_are(alloc, &links, &CHOSEN)? && links.chosen() == [6].as_slice();
-    links.undo();
-    Ok(at_first && then && sizes_are(alloc, &links, &FIRST)? && links.chosen().is_empty())
+    Ok(is_at_first(alloc, &links)? && has_chosen(alloc, &mut links)? && is_at_first(alloc, &links)?)
 }
 
 // The lemma with this tree, as a line.
@@ -72,12 +88,12 @@ fn lemma_line(alloc: Global, tree: Node) -> Result<Vec<u8>, Fail> {
     Ok(write_lemma(alloc, &lemma)?)
 }
 
-// What a run tells: how many it found, and its tree as the line of a lemma.
-fn told(alloc: Global, outcome: Outcome) -> Result<(usize, Vec<u8>), Fail> {
+// Whether a run found so many, and its tree is this line of a lemma.
+fn tells(alloc: Global, outcome: Outcome, count: usize, line: &[u8]) -> Result<bool, Fail> {
     let Outcome::Done { tree, found } = outcome else {
         return Err(Fail::new("gave up"));
     };
-    Ok((found.len(), lemma_line(alloc, tree)?))
+    Ok(found.len() == count && lemma_line(alloc, tree)?.as_slice() == line)
 }
 
 // Whether it runs no more.
@@ -97,7 +113,7 @@ fn outcome<E: OpenOptions + Drop>(search: &mut SearchOver<E>, fuel: u32) -> Resu
 }
 
 // Its whole tree.
-const WHOLE_TREE: &[u8; 92] =
+const WHOLE_TREE: &[u8] =
     b"lemma 0 prefix tree c 0 3 c 2 1 c 1 1 c 3 1 f 0 c 2 1 c 1 1 c 3 1 f 1 c 2 1 c 1 1 c 3 1 f 2\n";
 
 // Whether it finds its whole tree.
@@ -105,8 +121,8 @@ fn finds_all<E: OpenOptions + Drop>(
     alloc: Global,
     search: &mut SearchOver<E>,
 ) -> Result<bool, Fail> {
-    let (found, line) = told(alloc, outcome(search, 10)?)?;
-    Ok((found, search.branches()) == (3, 10) && line.as_slice() == WHOLE_TREE.as_slice())
+    let outcome = outcome(search, 10)?;
+    Ok(search.branches() == 10 && tells(alloc, outcome, 3, WHOLE_TREE)?)
 }
 
 // Whether it gives up where it may make one branch node too few, and then fails.
@@ -116,14 +132,12 @@ fn gives_up<E: OpenOptions + Drop>(search: &mut SearchOver<E>) -> Result<bool, F
 }
 
 // Whether it does so, once it has found all twice.
-fn searches<E: OpenOptions + Drop>(alloc: Global, mut search: SearchOver<E>) -> Result<bool, Fail> {
-    let begun = search.branches() == 0;
-    Ok(
-        begun
-            && finds_all(alloc, &mut search)?
-            && finds_all(alloc, &mut search)?
-            && gives_up(&mut search)?,
-    )
+fn searches<E: OpenOptions + Drop>(
+    alloc: Global,
+    search: &mut SearchOver<E>,
+) -> Result<bool, Fail> {
+    let begins = search.branches() == 0;
+    Ok(begins && finds_all(alloc, search)? && finds_all(alloc, search)? && gives_up(search)?)
 }
 
 // Knows a lemma for each tile but 1 at cell 0.
@@ -160,31 +174,40 @@ impl Cites for Known {
 // The tree that cites them.
 const CITING_TREE: &[u8] = b"lemma 0 prefix tree c 0 3 c 2 1 c 1 1 c 3 1 f 0 s 7 i 8 1\n";
 
-// Whether a search by links comes to it.
-fn cites_known<'a>(alloc: Global, xcc: &'a Xcc<'a>) -> Result<bool, Fail> {
-    let mut search = Search::new(alloc, xcc)?;
-    let (found, line) = told(alloc, search.run(&[], 4, &mut Known)?)?;
-    Ok((found, search.branches()) == (1, 4) && line.as_slice() == CITING_TREE)
+// Whether a run comes to it.
+fn cites_known(alloc: Global, search: &mut Search<'_>) -> Result<bool, Fail> {
+    let outcome = search.run(&[], 4, &mut Known)?;
+    Ok(search.branches() == 4 && tells(alloc, outcome, 1, CITING_TREE)?)
+}
+
+// The same of a search by linked lists.
+fn cites_by_links<'a>(alloc: Global, xcc: &'a Xcc<'a>) -> Result<bool, Fail> {
+    cites_known(alloc, &mut Search::new(alloc, xcc)?)
 }
 
 // By linked lists.
 fn searches_by_links<'a>(alloc: Global, xcc: &'a Xcc<'a>) -> Result<bool, Fail> {
-    searches(alloc, Search::new(alloc, xcc)?)
+    searches(alloc, &mut Search::new(alloc, xcc)?)
 }
 
 // By counts of what fits.
 fn searches_by_sets<'a>(alloc: Global, xcc: &'a Xcc<'a>) -> Result<bool, Fail> {
-    searches(alloc, SearchOver::over(alloc, OpenSets::new(alloc, xcc)?)?)
+    let sets = OpenSets::new(alloc, xcc)?;
+    searches(alloc, &mut SearchOver::over(alloc, sets)?)
+}
+
+// Asserts all of it.
+fn assert_searches<'a, R: Abort>(rt: &R, alloc: Global, xcc: &'a Xcc<'a>) -> Result<(), Fail> {
+    assert!(rt; has_sizes(alloc, xcc)?);
+    assert!(rt; searches_by_links(alloc, xcc)?);
+    assert!(rt; searches_by_sets(alloc, xcc)?);
+    assert!(rt; cites_by_links(alloc, xcc)?);
+    Ok(())
 }
 
 #[test]
 fn searches_the_turning_triangle(rt: HostRuntime) -> Result<(), Fail> {
-    let alloc = rt.alloc();
-    let puzzle = turning_triangle(alloc)?;
-    let xcc = compile(alloc, &puzzle)?;
-    assert!(rt; has_sizes(alloc, &xcc)?);
-    assert!(rt; searches_by_links(alloc, &xcc)?);
-    assert!(rt; searches_by_sets(alloc, &xcc)?);
-    assert!(rt; cites_known(alloc, &xcc)?);
-    Ok(())
+    let puzzle = turning_triangle(rt.alloc())?;
+    let xcc = compile(rt.alloc(), &puzzle)?;
+    assert_searches(&rt, rt.alloc(), &xcc)
 }

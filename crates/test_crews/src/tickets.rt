@@ -6,6 +6,7 @@ use std::alloc::{AllocError, Global};
 use std::process::Abort;
 use std::test::Fail;
 use std::thread;
+use std::thread::Threads;
 use steal_crew::{TicketSeat, Tickets};
 
 // Asserts that so many draws, by each seat in its turn, answer the numbers below the limit, and then none.
@@ -37,11 +38,15 @@ fn seats_take_turns(rt: HostRuntime) -> Result<(), Fail> {
     Ok(())
 }
 
+// A seat, and what is drawn by it.
+type Place = (TicketSeat, Vec<u32>);
+
 // Draws until none is left. There is room for all that is drawn.
-fn draw_all(tickets: &Tickets, mut seat: TicketSeat, mut into: Vec<u32>) -> (TicketSeat, Vec<u32>)
-    requires { seat_source seat ≡ source_of tickets.now }
+fn draw_all(tickets: &Tickets, place: Place) -> Place
+    requires { seat_source place.0 ≡ source_of tickets.now }
     ensures { seat_source result.0 ≡ source_of tickets.now }
 {
+    let (mut seat, mut into) = place;
     for _ in 0..u64::MAX {
         match tickets.draw(&mut seat) {
             Some(number) => {
@@ -53,31 +58,42 @@ fn draw_all(tickets: &Tickets, mut seat: TicketSeat, mut into: Vec<u32>) -> (Tic
     (seat, into)
 }
 
+// Two draw all, each on a thread of its own.
+fn draw_at_once<R: Threads>(rt: &R, tickets: &Tickets, a: Place, b: Place) -> (Place, Place)
+    requires a { seat_source a.0 ≡ source_of tickets.now }
+    requires b { seat_source b.0 ≡ source_of tickets.now }
+    ensures a { seat_source result.0.0 ≡ source_of tickets.now }
+    ensures b { seat_source result.1.0 ≡ source_of tickets.now }
+{
+    thread::join(
+        rt,
+        move ||
+            requires { seat_source a.0 ≡ source_of tickets.now }
+            ensures { seat_source result.0 ≡ source_of tickets.entry.now }
+        { draw_all(tickets, a) },
+        move ||
+            requires { seat_source b.0 ≡ source_of tickets.now }
+            ensures { seat_source result.0 ≡ source_of tickets.entry.now }
+        { draw_all(tickets, b) },
+    )
+}
+
+// Whether these are the numbers below 100, each once.
+fn are_all(mut all: Vec<u32>, more: Vec<u32>) -> Result<bool, AllocError> {
+    all.extend_from_slice(&more)?;
+    all.sort()?;
+    Ok(all.iter().copied().eq(0..100u32))
+}
+
 #[test]
 fn two_threads_draw_each_number(rt: HostRuntime) -> Result<(), Fail> {
-    let left: Vec<u32> = Vec::with_capacity(rt.alloc(), 100)?;
-    let right: Vec<u32> = Vec::with_capacity(rt.alloc(), 100)?;
+    let left = Vec::with_capacity(rt.alloc(), 100)?;
+    let right = Vec::with_capacity(rt.alloc(), 100)?;
     let (tickets, mut seats) = Tickets::new(rt.alloc(), 100, 2)?;
     let b = seats.remove(1);
     let a = seats.remove(0);
-    let shared = &tickets;
-    let ((a, mut all), (b, right)) = thread::join(
-        &rt,
-        move ||
-            requires { seat_source a ≡ source_of shared.now }
-            ensures { seat_source result.0 ≡ source_of shared.entry.now }
-        { draw_all(shared, a, left) },
-        move ||
-            requires { seat_source b ≡ source_of shared.now }
-            ensures { seat_source result.0 ≡ source_of shared.entry.now }
-        { draw_all(shared, b, right) },
-    );
-    all.extend_from_slice(&right)?;
-    all.sort()?;
-    assert!(rt; all.len() == 100);
-    for (place, number) in all.iter().enumerate() {
-        assert!(rt; place == *number as usize, "at {place}");
-    }
+    let ((a, left), (b, right)) = draw_at_once(&rt, &tickets, (a, left), (b, right));
+    assert!(rt; are_all(left, right)?);
     seats.push(a)?;
     seats.push(b)?;
     assert!(rt; tickets.finish(seats) == 100);

@@ -12,8 +12,6 @@ mod limits;
 #[cfg(test)]
 mod partials;
 #[cfg(test)]
-mod pictures;
-#[cfg(test)]
 mod second_forms;
 #[cfg(test)]
 mod symmetries;

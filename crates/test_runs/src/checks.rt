@@ -1,6 +1,7 @@
 //! Checks over readers and a writer that fail, or that move little at once, and of files whose texts are known.
 
-use crate::outcomes::with_memory;
+use crate::fakes::{FakeSources, NEVER};
+use crate::outcomes::is_as_wanted;
 use byte_streams::Fake;
 use match_limits::{Forks, Workers};
 use match_runs::{Document, Documents, RunFault, Status, run_check, run_joined};
@@ -32,35 +33,48 @@ pub const TRIANGLE: Documents<'static> = Documents {
     certificate: TURNING_TRIANGLE_CERTIFICATE,
 };
 
-// Readers that don't fail.
-pub const NEVER: [usize; 3] = [usize::MAX; 3];
+/// The line of a check whose list has one arrangement.
+pub const COMPLETE: &[u8] = b"complete 1\n";
 
-// What a check comes to whose readers move at most so many bytes a call, and fail after so many each.
+// What a check of these sources comes to.
 pub fn check_over<R: Threads + Sync>(
     rt: &R,
     alloc: Global,
-    documents: &Documents<'_>,
-    most: usize,
-    fails_after: [usize; 3],
+    sources: &mut FakeSources<'_>,
     writer: &mut Fake<'_>,
 ) -> Result<Status, RunFault> {
-    let mut puzzle = Fake::new(alloc, documents.puzzle, most, fails_after[0]);
-    let mut list = Fake::new(alloc, documents.list, most, fails_after[1]);
-    let mut certificate = Fake::new(alloc, documents.certificate, most, fails_after[2]);
     run_check(
         rt,
         alloc,
-        &mut puzzle,
-        &mut list,
-        &mut certificate,
+        &mut sources.puzzle,
+        &mut sources.list,
+        &mut sources.certificate,
         Workers::new(1),
         Forks::new(0),
         writer,
     )
 }
 
-// Asserts that it is told where a reader of this document fails at any of so many bytes, or in place of the end, and
-// that nothing is written then.
+// Whether it is told that the reader of this document fails after so many bytes, and nothing is written then.
+fn is_told<R: Threads + Sync>(
+    rt: &R,
+    alloc: Global,
+    documents: &Documents<'_>,
+    document: Document,
+    place: usize,
+) -> Result<bool, AllocError> {
+    let fails_after = match document {
+        Document::Puzzle => [place, usize::MAX, usize::MAX],
+        Document::List => [usize::MAX, place, usize::MAX],
+        _ => [usize::MAX, usize::MAX, place],
+    };
+    let mut sources = FakeSources::new(alloc, documents, 7, fails_after);
+    let mut writer = Fake::new(alloc, b"", 5, usize::MAX);
+    let outcome = check_over(rt, alloc, &mut sources, &mut writer);
+    is_as_wanted(outcome, Err(RunFault::Read(document)), &writer, b"")
+}
+
+// Asserts that for each of so many bytes, and in place of the end.
 fn assert_each_failure_is_told<R: Threads + Sync + Abort>(
     rt: &R,
     alloc: Global,
@@ -69,74 +83,82 @@ fn assert_each_failure_is_told<R: Threads + Sync + Abort>(
     len: usize,
 ) -> Result<(), AllocError> {
     for place in 0..=len {
-        let fails_after = match document {
-            Document::Puzzle => [place, usize::MAX, usize::MAX],
-            Document::List => [usize::MAX, place, usize::MAX],
-            _ => [usize::MAX, usize::MAX, place],
-        };
-        let mut writer = Fake::new(alloc, b"", 5, usize::MAX);
-        let outcome = check_over(rt, alloc, documents, 7, fails_after, &mut writer);
         assert!(rt;
-            with_memory(outcome)? == Err(RunFault::Read(document)),
+            is_told(rt, alloc, documents, document, place)?,
             "at {place}"
         );
-        assert!(rt; writer.written().is_empty());
     }
     Ok(())
 }
 
+const READ: [(Documents<'static>, Document, &[u8]); 4] = [
+    (SQUARE, Document::Puzzle, SQUARE_OF_FOUR),
+    (TRIANGLE, Document::Puzzle, TURNING_TRIANGLE),
+    (TRIANGLE, Document::List, TURNING_TRIANGLE_LIST),
+    (
+        TRIANGLE,
+        Document::Certificate,
+        TURNING_TRIANGLE_CERTIFICATE,
+    ),
+];
+
 #[test]
 fn names_the_document_whose_reader_fails(rt: HostRuntime) -> Result<(), Fail> {
-    for (documents, document, text) in [
-        (SQUARE, Document::Puzzle, SQUARE.puzzle),
-        (TRIANGLE, Document::Puzzle, TRIANGLE.puzzle),
-        (TRIANGLE, Document::List, TRIANGLE.list),
-        (TRIANGLE, Document::Certificate, TRIANGLE.certificate),
-    ] {
+    for (documents, document, text) in READ {
         assert_each_failure_is_told(&rt, rt.alloc(), &documents, document, text.len())?;
     }
     Ok(())
 }
 
-// What a joined check comes to that reads these documents and whose writer fails after so many bytes, and what was
-// written.
-fn joined_check<R: Threads + Sync>(
+// Whether a check whose writer fails after this front of the answer says so, and wrote that.
+fn writes_front<R: Threads + Sync>(
     rt: &R,
     alloc: Global,
-    documents: &Documents<'_>,
-    fails_after: usize,
-) -> Result<(Vec<u8>, Result<Status, RunFault>), AllocError> {
+    front: &[u8],
+) -> Result<bool, AllocError> {
+    let mut sources = FakeSources::new(alloc, &SQUARE, 7, NEVER);
+    let mut writer = Fake::new(alloc, b"", usize::MAX, front.len());
+    let outcome = check_over(rt, alloc, &mut sources, &mut writer);
+    is_as_wanted(outcome, Err(RunFault::Write), &writer, front)
+}
+
+// The documents, one behind the other.
+fn joined(alloc: Global, documents: &Documents<'_>) -> Result<Vec<u8>, AllocError> {
     let mut input = Vec::from_slice(alloc, documents.puzzle)?;
     input.extend_from_slice(documents.list)?;
     input.extend_from_slice(documents.certificate)?;
+    Ok(input)
+}
+
+// Whether a check of joined documents does so.
+fn writes_front_of_joined<R: Threads + Sync>(
+    rt: &R,
+    alloc: Global,
+    front: &[u8],
+) -> Result<bool, AllocError> {
+    let input = joined(alloc, &SQUARE)?;
     let mut reader = Fake::new(alloc, &input, usize::MAX, usize::MAX);
-    let mut writer = Fake::new(alloc, b"", usize::MAX, fails_after);
-    let outcome = with_memory(run_joined(
+    let mut writer = Fake::new(alloc, b"", usize::MAX, front.len());
+    let outcome = run_joined(
         rt,
         alloc,
         &mut reader,
         Workers::new(1),
         Forks::new(0),
         &mut writer,
-    ))?;
-    Ok((Vec::from_slice(alloc, writer.written())?, outcome))
+    );
+    is_as_wanted(outcome, Err(RunFault::Write), &writer, front)
 }
 
-// Apart and joined.
 #[test]
 fn writes_a_front_where_the_writer_fails(rt: HostRuntime) -> Result<(), Fail> {
-    let line = b"complete 1\n".as_slice();
-    for count in 0..line.len() {
-        let mut writer = Fake::new(rt.alloc(), b"", usize::MAX, count);
-        let outcome = check_over(&rt, rt.alloc(), &SQUARE, 7, NEVER, &mut writer);
+    for count in 0..COMPLETE.len() {
+        let front = &COMPLETE[..count];
+        assert!(rt; writes_front(&rt, rt.alloc(), front)?, "after {count}");
         assert!(rt;
-            with_memory(outcome)? == Err(RunFault::Write),
-            "after {count}"
+            writes_front_of_joined(&rt, rt.alloc(), front)?,
+            "joined, after {count}"
         );
-        assert!(rt; writer.written() == &line[..count]);
-        let (written, outcome) = joined_check(&rt, rt.alloc(), &SQUARE, count)?;
-        assert!(rt; outcome == Err(RunFault::Write), "joined, after {count}");
-        assert!(rt; written.as_slice() == &line[..count]);
     }
     Ok(())
 }

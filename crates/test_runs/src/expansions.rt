@@ -1,7 +1,8 @@
 //! Expansions where the system has no random bytes.
 
 use crate::checks::{TRIANGLE, TWINS};
-use crate::outcomes::with_memory;
+use crate::fakes::{FakeSources, NEVER};
+use crate::outcomes::is_as_wanted;
 use byte_streams::Fake;
 use match_runs::{Documents, RunFault, Status, run_expand};
 use std::alloc::{AllocError, Global};
@@ -19,40 +20,42 @@ impl RandomSource for NoRandomBytes {
     }
 }
 
-// What an expansion writes, and what it comes to.
-fn expansion<R: RandomSource>(
+// What an expansion of these sources comes to.
+pub fn expand_over<R: RandomSource>(
+    rt: &R,
+    alloc: Global,
+    sources: &mut FakeSources<'_>,
+    writer: &mut Fake<'_>,
+) -> Result<Status, RunFault> {
+    run_expand(
+        rt,
+        alloc,
+        &mut sources.puzzle,
+        &mut sources.list,
+        &mut sources.certificate,
+        writer,
+    )
+}
+
+// Whether an expansion writes this list.
+fn expands<R: RandomSource>(
     rt: &R,
     alloc: Global,
     documents: &Documents<'_>,
-) -> Result<(Vec<u8>, Result<Status, RunFault>), AllocError> {
-    let mut puzzle = Fake::new(alloc, documents.puzzle, 7, usize::MAX);
-    let mut list = Fake::new(alloc, documents.list, 7, usize::MAX);
-    let mut certificate = Fake::new(alloc, documents.certificate, 7, usize::MAX);
+    list: &[u8],
+) -> Result<bool, AllocError> {
+    let mut sources = FakeSources::new(alloc, documents, 7, NEVER);
     let mut writer = Fake::new(alloc, b"", 5, usize::MAX);
-    let status = run_expand(
-        rt,
-        alloc,
-        &mut puzzle,
-        &mut list,
-        &mut certificate,
-        &mut writer,
-    );
-    let status = with_memory(status)?;
-    Ok((Vec::from_slice(alloc, writer.written())?, status))
+    let outcome = expand_over(rt, alloc, &mut sources, &mut writer);
+    is_as_wanted(outcome, Ok(Status::Complete), &writer, list)
 }
+
+const ALL_OF_TWINS: &[u8] = b"list 1\narrangements 2\n0.0 1.0\n1.0 0.0\nend\n";
 
 #[test]
 fn prints_all_arrangements_without_a_secret(rt: HostRuntime) -> Result<(), Fail> {
-    for (documents, all) in [
-        (
-            TWINS,
-            b"list 1\narrangements 2\n0.0 1.0\n1.0 0.0\nend\n".as_slice(),
-        ),
-        (TRIANGLE, ALL_OF_TURNING_TRIANGLE),
-    ] {
-        let (written, status) = expansion(&NoRandomBytes, rt.alloc(), &documents)?;
-        assert!(rt; status == Ok(Status::Complete));
-        assert!(rt; written.as_slice() == all);
+    for (documents, all) in [(TWINS, ALL_OF_TWINS), (TRIANGLE, ALL_OF_TURNING_TRIANGLE)] {
+        assert!(rt; expands(&NoRandomBytes, rt.alloc(), &documents, all)?);
     }
     Ok(())
 }

@@ -6,58 +6,66 @@ use match_crew::SolveFault;
 use match_puzzle::PuzzleFault;
 use match_runs::{Document, RunFault, fault_text};
 use match_text::{ListTextFault, PuzzleTextFault};
+use std::alloc::{AllocError, Global};
 use std::test::Fail;
 use text_words::{TextFault, TextKind};
 
-fn of_puzzle(fault: PuzzleFault) -> RunFault {
-    RunFault::Puzzle(PuzzleTextFault::Puzzle(fault))
-}
+const TOO_DEEP: TextFault = TextFault {
+    line: 4,
+    kind: TextKind::TooDeep,
+};
 
-fn assemble(fault: AssembleFault) -> RunFault {
-    RunFault::Certificate(CertTextFault::Assemble(fault))
+const LINES: [(RunFault, &str); 8] = [
+    (RunFault::Read(Document::Input), "cannot read input\n"),
+    (RunFault::TooLong(Document::Puzzle), "too long puzzle\n"),
+    (RunFault::TooLong(Document::List), "too long list\n"),
+    (
+        RunFault::TooLong(Document::Certificate),
+        "too long certificate\n",
+    ),
+    (RunFault::TooLong(Document::Input), "too long input\n"),
+    (
+        RunFault::List(ListTextFault::Text(TOO_DEEP)),
+        "list: line 4: too-deep\n",
+    ),
+    (
+        RunFault::Puzzle(PuzzleTextFault::Puzzle(PuzzleFault::BadColour(17))),
+        "puzzle: bad-colour 17\n",
+    ),
+    (
+        RunFault::Certificate(CertTextFault::Assemble(AssembleFault::Missing(2))),
+        "certificate: missing 2\n",
+    ),
+];
+
+// Faults that are told as want of memory.
+const OF_MEMORY: [RunFault; 7] = [
+    RunFault::Puzzle(PuzzleTextFault::Memory),
+    RunFault::Puzzle(PuzzleTextFault::Puzzle(PuzzleFault::Memory)),
+    RunFault::List(ListTextFault::Memory),
+    RunFault::Certificate(CertTextFault::Memory),
+    RunFault::Certificate(CertTextFault::Assemble(AssembleFault::Memory)),
+    RunFault::Solve(SolveFault::Memory),
+    RunFault::Memory,
+];
+
+// Whether this is the line of the fault.
+fn prints(alloc: Global, fault: &RunFault, line: &str) -> Result<bool, AllocError> {
+    Ok(fault_text(alloc, fault)?.as_slice() == line.as_bytes())
 }
 
 #[test]
 fn prints_each_fault(rt: HostRuntime) -> Result<(), Fail> {
-    let too_deep = TextFault {
-        line: 4,
-        kind: TextKind::TooDeep,
-    };
-    let rows = [
-        (RunFault::Read(Document::Input), "cannot read input\n"),
-        (RunFault::TooLong(Document::Puzzle), "too long puzzle\n"),
-        (RunFault::TooLong(Document::List), "too long list\n"),
-        (
-            RunFault::TooLong(Document::Certificate),
-            "too long certificate\n",
-        ),
-        (RunFault::TooLong(Document::Input), "too long input\n"),
-        (
-            RunFault::List(ListTextFault::Text(too_deep)),
-            "list: line 4: too-deep\n",
-        ),
-        (
-            of_puzzle(PuzzleFault::BadColour(17)),
-            "puzzle: bad-colour 17\n",
-        ),
-        (
-            assemble(AssembleFault::Missing(2)),
-            "certificate: missing 2\n",
-        ),
-        (RunFault::Puzzle(PuzzleTextFault::Memory), "out of memory\n"),
-        (of_puzzle(PuzzleFault::Memory), "out of memory\n"),
-        (RunFault::List(ListTextFault::Memory), "out of memory\n"),
-        (
-            RunFault::Certificate(CertTextFault::Memory),
-            "out of memory\n",
-        ),
-        (assemble(AssembleFault::Memory), "out of memory\n"),
-        (RunFault::Solve(SolveFault::Memory), "out of memory\n"),
-        (RunFault::Memory, "out of memory\n"),
-    ];
-    for (fault, line) in rows {
-        let text = fault_text(rt.alloc(), &fault)?;
-        assert!(rt; text.as_slice() == line.as_bytes());
+    for (fault, line) in LINES {
+        assert!(rt; prints(rt.alloc(), &fault, line)?);
+    }
+    Ok(())
+}
+
+#[test]
+fn prints_want_of_memory(rt: HostRuntime) -> Result<(), Fail> {
+    for fault in OF_MEMORY {
+        assert!(rt; prints(rt.alloc(), &fault, "out of memory\n")?);
     }
     Ok(())
 }

@@ -8,6 +8,8 @@ mod documents;
 #[cfg(test)]
 mod expansions;
 #[cfg(test)]
+mod fakes;
+#[cfg(test)]
 mod faults;
 #[cfg(test)]
 mod files;

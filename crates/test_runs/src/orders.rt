@@ -1,6 +1,7 @@
 //! An order over files whose texts are known.
 
 ghost use Rattle.std.specs.Prelude.{◌≡◌, IfOk};
+ghost use Rattle.std.specs.String.{string_bytes};
 ghost use Rattle.match_runs.specs.Checking.{SpellCompleteList};
 
 use crate::checks::TWINS;
@@ -12,7 +13,7 @@ use match_crew::SolveFault;
 use match_limits::{Forks, Workers};
 use match_program::{Exit, HintedFault, Streams, run_order};
 use match_runs::RunFault;
-use std::alloc::Global;
+use std::alloc::{AllocError, Global};
 use std::random::RandomSource;
 use std::sync::Wait;
 use std::test::Fail;
@@ -21,6 +22,19 @@ use std::time::Clock;
 
 // Both tiles fit the first cell, so that it isn't dead.
 const DEAD_TWINS: &[u8] = b"certificate 1\nsymmetries 0\nlemmas 1\nlemma 0 prefix tree d 0\nend\n";
+
+// The files of these names.
+fn files_of(alloc: Global, puzzle: &str, list: &str, certificate: &str) -> Result<Files, AllocError>
+    ensures puzzle { IfOk result (λ files. string_bytes files.puzzle ≡ puzzle.now) }
+    ensures list { IfOk result (λ files. string_bytes files.list ≡ list.now) }
+    ensures certificate { IfOk result (λ files. string_bytes files.certificate ≡ certificate.now) }
+{
+    Ok(Files {
+        puzzle: String::from_str(alloc, puzzle)?,
+        list: String::from_str(alloc, list)?,
+        certificate: String::from_str(alloc, certificate)?,
+    })
+}
 
 // How a check of three files ends that hold these texts. What `run_order` says of the files is said of the texts here:
 // where it is done, they spell a list that is complete.
@@ -43,15 +57,9 @@ fn exit_of<R: Threads + Wait + Sync + RandomSource + Clock + Eprint>(
         list,
         certificate,
     };
-    let first = String::from_str(alloc, "p")?;
-    let second = String::from_str(alloc, "l")?;
-    let third = String::from_str(alloc, "c")?;
+    let files = files_of(alloc, "p", "l", "c")?;
     let order = Order::Check {
-        files: Files {
-            puzzle: first,
-            list: second,
-            certificate: third,
-        },
+        files,
         workers: Workers::new(2),
         forks: Forks::new(1),
         progress: false,
@@ -79,18 +87,33 @@ fn without_hint(ended: Result<Exit, HintedFault>) -> Result<Exit, RunFault> {
     }
 }
 
+// Whether a check of the twins with this certificate ends so.
+fn ends<R: Threads + Wait + Sync + RandomSource + Clock + Eprint>(
+    rt: &R,
+    alloc: Global,
+    certificate: &[u8],
+    exit: Exit,
+) -> Result<bool, AllocError> {
+    let ended = exit_of(rt, alloc, TWINS.puzzle, TWINS.list, certificate);
+    Ok(with_memory(without_hint(ended))? == Ok(exit))
+}
+
 #[test]
 fn a_check_that_is_done_is_of_a_complete_list(rt: HostRuntime) -> Result<(), Fail> {
-    for (certificate, exit) in [(TWINS.certificate, Exit::Done), (DEAD_TWINS, Exit::Refused)] {
-        let ended = exit_of(&rt, rt.alloc(), TWINS.puzzle, TWINS.list, certificate);
-        assert!(rt; with_memory(without_hint(ended))? == Ok(exit));
-    }
-    for (fault, code) in [
-        (RunFault::Tiles, 2),
-        (RunFault::Write, 2),
-        (RunFault::Solve(SolveFault::GaveUp), 3),
-    ] {
+    assert!(rt; ends(&rt, rt.alloc(), TWINS.certificate, Exit::Done)?);
+    assert!(rt; ends(&rt, rt.alloc(), DEAD_TWINS, Exit::Refused)?);
+    Ok(())
+}
+
+const CODES: [(RunFault, u8); 3] = [
+    (RunFault::Tiles, 2),
+    (RunFault::Write, 2),
+    (RunFault::Solve(SolveFault::GaveUp), 3),
+];
+
+#[test]
+fn faults_have_codes(rt: HostRuntime) {
+    for (fault, code) in CODES {
         assert!(rt; Exit::of_fault(&fault).code() == code);
     }
-    Ok(())
 }

@@ -1,6 +1,7 @@
 //! What runs come to.
 
-use match_runs::RunFault;
+use byte_streams::Fake;
+use match_runs::{RunFault, Status};
 use std::alloc::AllocError;
 
 // What a run comes to; where it wants memory, so does the test.
@@ -11,4 +12,14 @@ pub fn with_memory<T: Drop>(
         Err(RunFault::Memory) => Err(AllocError),
         other => Ok(other),
     }
+}
+
+// Whether a run came to what was wanted, and wrote this text.
+pub fn is_as_wanted(
+    outcome: Result<Status, RunFault>,
+    wanted: Result<Status, RunFault>,
+    writer: &Fake<'_>,
+    text: &[u8],
+) -> Result<bool, AllocError> {
+    Ok(with_memory(outcome)? == wanted && writer.written() == text)
 }

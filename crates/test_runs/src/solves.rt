@@ -1,45 +1,79 @@
 //! Solves whose readers and writers fail, and runs that may want memory.
 
-use crate::checks::{NEVER, SQUARE, TRIANGLE, TWINS, check_over};
+use crate::checks::{COMPLETE, SQUARE, TRIANGLE, TWINS, check_over};
+use crate::expansions::expand_over;
+use crate::fakes::{FakeSinks, FakeSources, NEVER};
 use crate::outcomes::with_memory;
 use byte_streams::Fake;
 use match_limits::{Depth, Fuel, Workers};
-use match_runs::{Document, Documents, RunFault, Status, run_expand, run_solve};
-use std::alloc::Global;
+use match_runs::{Document, Documents, RunFault, Status, run_solve};
+use std::alloc::{AllocError, Global};
 use std::random::RandomSource;
 use std::sync::Wait;
 use std::test::Fail;
 use std::thread::Threads;
-use test_samples::ALL_OF_TURNING_TRIANGLE;
+use test_samples::{ALL_OF_TURNING_TRIANGLE, SQUARE_OF_FOUR_LIST};
+
+// What a solve comes to whose puzzle comes from this reader.
+fn solve_over<R: Threads + Wait + Sync>(
+    rt: &R,
+    alloc: Global,
+    puzzle: &mut Fake<'_>,
+    depth: Depth,
+    fuel: Fuel,
+    sinks: &mut FakeSinks,
+) -> Result<(), RunFault> {
+    run_solve(
+        rt,
+        alloc,
+        puzzle,
+        depth,
+        fuel,
+        Workers::new(1),
+        &mut sinks.list,
+        &mut sinks.certificate,
+        &mut sinks.report,
+    )
+}
+
+// Whether a solve stops with this fault whose reader fails after so many bytes, and its writers after so many each, and
+// whether these texts were written then.
+fn stops<R: Threads + Wait + Sync>(
+    rt: &R,
+    alloc: Global,
+    read: usize,
+    written: [usize; 3],
+    fault: RunFault,
+    texts: [&[u8]; 3],
+) -> Result<bool, AllocError> {
+    let mut puzzle = Fake::new(alloc, SQUARE.puzzle, 7, read);
+    let mut sinks = FakeSinks::new(alloc, 5, written);
+    let outcome = solve_over(
+        rt,
+        alloc,
+        &mut puzzle,
+        Depth::new(0),
+        Fuel::new(4),
+        &mut sinks,
+    );
+    Ok(with_memory(outcome)? == Err(fault) && sinks.have(texts))
+}
 
 // The puzzle's reader fails, and then the certificate's writer: the report isn't begun.
+const STOPS: [(usize, [usize; 3], RunFault, [&[u8]; 3]); 2] = [
+    (20, NEVER, RunFault::Read(Document::Puzzle), [b"", b"", b""]),
+    (
+        usize::MAX,
+        [usize::MAX, 12, usize::MAX],
+        RunFault::Write,
+        [SQUARE_OF_FOUR_LIST, b"certificate ", b""],
+    ),
+];
+
 #[test]
 fn says_why_it_stops(rt: HostRuntime) -> Result<(), Fail> {
-    let alloc = rt.alloc();
-    for (read, written, fault) in [
-        (20, usize::MAX, RunFault::Read(Document::Puzzle)),
-        (usize::MAX, 12, RunFault::Write),
-    ] {
-        let mut puzzle = Fake::new(alloc, SQUARE.puzzle, 7, read);
-        let mut list = Fake::new(alloc, b"", 5, usize::MAX);
-        let mut certificate = Fake::new(alloc, b"", 5, written);
-        let mut writer = Fake::new(alloc, b"", 5, usize::MAX);
-        let outcome = run_solve(
-            &rt,
-            alloc,
-            &mut puzzle,
-            Depth::new(0),
-            Fuel::new(4),
-            Workers::new(1),
-            &mut list,
-            &mut certificate,
-            &mut writer,
-        );
-        assert!(rt; with_memory(outcome)? == Err(fault));
-        let is_listed = fault == RunFault::Write;
-        assert!(rt; is_listed == (list.written() == SQUARE.list));
-        assert!(rt; is_listed == (certificate.written() == b"certificate ".as_slice()));
-        assert!(rt; writer.written().is_empty());
+    for (read, written, fault, texts) in STOPS {
+        assert!(rt; stops(&rt, rt.alloc(), read, written, fault, texts)?);
     }
     Ok(())
 }
@@ -60,61 +94,47 @@ fn checks<R: Threads + Sync>(
     alloc: Global,
     documents: &Documents<'_>,
     most: usize,
-    line: &[u8],
 ) -> bool {
+    let mut sources = FakeSources::new(alloc, documents, most, NEVER);
     let mut writer = Fake::new(alloc, b"", most, usize::MAX);
-    let outcome = check_over(rt, alloc, documents, most, NEVER, &mut writer);
-    is_written(outcome, &writer, line)
+    let outcome = check_over(rt, alloc, &mut sources, &mut writer);
+    is_written(outcome, &writer, COMPLETE)
 }
 
 // Whether an expansion does.
 fn expands<R: RandomSource>(rt: &R, alloc: Global) -> bool {
-    let mut puzzle = Fake::new(alloc, TRIANGLE.puzzle, 7, usize::MAX);
-    let mut list = Fake::new(alloc, TRIANGLE.list, 7, usize::MAX);
-    let mut certificate = Fake::new(alloc, TRIANGLE.certificate, 7, usize::MAX);
+    let mut sources = FakeSources::new(alloc, &TRIANGLE, 7, NEVER);
     let mut writer = Fake::new(alloc, b"", 5, usize::MAX);
-    let outcome = run_expand(
-        rt,
-        alloc,
-        &mut puzzle,
-        &mut list,
-        &mut certificate,
-        &mut writer,
-    );
+    let outcome = expand_over(rt, alloc, &mut sources, &mut writer);
     is_written(outcome, &writer, ALL_OF_TURNING_TRIANGLE)
 }
 
-// Whether a solve does, with its three writers: what it wrote checks as complete.
+// Whether what a solve wrote checks as complete.
+fn is_solved<R: Threads + Sync>(rt: &R, alloc: Global, sinks: &FakeSinks) -> bool {
+    let written = Documents {
+        puzzle: TRIANGLE.puzzle,
+        list: sinks.list.written(),
+        certificate: sinks.certificate.written(),
+    };
+    checks(rt, alloc, &written, 7) && !sinks.report.written().is_empty()
+}
+
+// Whether a solve does, with its three writers.
 fn solves<R: Threads + Wait + Sync>(rt: &R, alloc: Global) -> bool {
     let mut puzzle = Fake::new(alloc, TRIANGLE.puzzle, 7, usize::MAX);
-    let mut list = Fake::new(alloc, b"", 5, usize::MAX);
-    let mut certificate = Fake::new(alloc, b"", 5, usize::MAX);
-    let mut writer = Fake::new(alloc, b"", 5, usize::MAX);
-    let outcome = run_solve(
+    let mut sinks = FakeSinks::new(alloc, 5, NEVER);
+    let outcome = solve_over(
         rt,
         alloc,
         &mut puzzle,
         Depth::new(1),
         Fuel::new(10),
-        Workers::new(1),
-        &mut list,
-        &mut certificate,
-        &mut writer,
+        &mut sinks,
     );
-    let written = Documents {
-        puzzle: TRIANGLE.puzzle,
-        list: list.written(),
-        certificate: certificate.written(),
-    };
     match outcome {
-        Ok(()) => checks(rt, alloc, &written, 7, b"complete 1\n") && !writer.written().is_empty(),
-        Err(RunFault::Write) => [list.errors(), certificate.errors(), writer.errors()].contains(&1),
-        Err(fault) => {
-            fault == RunFault::Memory
-                && list.written().is_empty()
-                && certificate.written().is_empty()
-                && writer.written().is_empty()
-        }
+        Ok(()) => is_solved(rt, alloc, &sinks),
+        Err(RunFault::Write) => sinks.has_one_error(),
+        Err(fault) => fault == RunFault::Memory && sinks.have([b"", b"", b""]),
     }
 }
 
@@ -122,10 +142,10 @@ fn solves<R: Threads + Wait + Sync>(rt: &R, alloc: Global) -> bool {
 // each in turn. With ample memory the runs write what they are to.
 #[test]
 fn nothing_written(rt: HostRuntime) {
-    for documents in [SQUARE, TWINS, TRIANGLE] {
-        for most in [1, 5, 7] {
-            assert!(rt; checks(&rt, rt.alloc(), &documents, most, b"complete 1\n"));
-        }
+    for most in [1, 5, 7] {
+        assert!(rt; checks(&rt, rt.alloc(), &SQUARE, most));
+        assert!(rt; checks(&rt, rt.alloc(), &TWINS, most));
+        assert!(rt; checks(&rt, rt.alloc(), &TRIANGLE, most));
     }
     assert!(rt; expands(&rt, rt.alloc()));
     assert!(rt; solves(&rt, rt.alloc()));

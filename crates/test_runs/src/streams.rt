@@ -5,54 +5,89 @@ use byte_streams::Fake;
 use match_runs::{
     Document, Failed, Input, Output, RunFault, Sink, Source, read_whole, write_whole,
 };
+use std::alloc::{AllocError, Global};
 use std::io::{self, ErrorKind, Read, Write};
 use std::test::Fail;
 
 // 64 bytes, and one more.
 const BYTES: &[u8; 65] = b"0123456789abcdef0123456789abcdef0123456789abcdef0123456789abcdef\n";
 
-// The bytes up to the bound come, however many come with each call; one more is too many.
+// What is wrong with reading this to its end, at most so many bytes of it.
+fn fault_of(
+    alloc: Global,
+    reader: &mut Fake<'_>,
+    bound: u32,
+    document: Document,
+) -> Result<Option<RunFault>, AllocError> {
+    Ok(with_memory(read_whole(alloc, reader, bound, document))?.err())
+}
+
+// Whether 64 bytes come that are read up to that bound.
+fn reads_up_to_the_bound(alloc: Global, most: usize) -> Result<bool, Fail> {
+    let mut reader = Fake::new(alloc, &BYTES[..64], most, usize::MAX);
+    let text = read_whole(alloc, &mut reader, 64, Document::List)?;
+    Ok(text.as_slice() == &BYTES[..64])
+}
+
+// Whether one more is too many.
+fn refuses_one_more(alloc: Global, most: usize) -> Result<bool, AllocError> {
+    let mut reader = Fake::new(alloc, BYTES, most, usize::MAX);
+    let fault = fault_of(alloc, &mut reader, 64, Document::List)?;
+    Ok(fault == Some(RunFault::TooLong(Document::List)))
+}
+
+// However many come with each call.
 #[test]
 fn reads_at_most_the_bound(rt: HostRuntime) -> Result<(), Fail> {
-    let alloc = rt.alloc();
     for most in [1, 7, 64, usize::MAX] {
-        let mut reader = Fake::new(alloc, &BYTES[..64], most, usize::MAX);
-        let text = read_whole(alloc, &mut reader, 64, Document::List)?;
-        assert!(rt; text.as_slice() == &BYTES[..64], "{most} a call");
-        let mut reader = Fake::new(alloc, BYTES, most, usize::MAX);
-        let fault = with_memory(read_whole(alloc, &mut reader, 64, Document::List))?.err();
-        assert!(rt;
-            fault == Some(RunFault::TooLong(Document::List)),
-            "{most} a call"
-        );
+        assert!(rt; reads_up_to_the_bound(rt.alloc(), most)?, "{most} a call");
+        assert!(rt; refuses_one_more(rt.alloc(), most)?, "{most} a call");
     }
     Ok(())
 }
 
+// Whether an error at this byte is told, and nothing is read then.
+fn reads_up_to(alloc: Global, place: usize) -> Result<bool, AllocError> {
+    let mut reader = Fake::new(alloc, BYTES, 2, place);
+    let fault = fault_of(alloc, &mut reader, 65, Document::Input)?;
+    let is_told = fault == Some(RunFault::Read(Document::Input));
+    Ok(is_told && reader.taken() == place && reader.errors() == 1)
+}
+
 // At each byte, and in place of the end.
 #[test]
-fn reads_and_writes_up_to_an_error(rt: HostRuntime) -> Result<(), Fail> {
+fn reads_up_to_an_error(rt: HostRuntime) -> Result<(), Fail> {
     for place in 0..=BYTES.len() {
-        let mut reader = Fake::new(rt.alloc(), BYTES, 2, place);
-        let fault = with_memory(read_whole(rt.alloc(), &mut reader, 65, Document::Input))?.err();
-        assert!(rt;
-            fault == Some(RunFault::Read(Document::Input)),
-            "at {place}"
-        );
-        assert!(rt; reader.taken() == place);
-        assert!(rt; reader.errors() == 1);
-    }
-    for (most, fails_after, outcome, front, errors) in [
-        (1, usize::MAX, Ok(()), b"complete 1\n".as_slice(), 0),
-        (2, 3, Err(Failed), b"com".as_slice(), 1),
-        (0, usize::MAX, Err(Failed), b"".as_slice(), 0),
-    ] {
-        let mut writer = Fake::new(rt.alloc(), b"", most, fails_after);
-        assert!(rt; write_whole(&mut writer, b"complete 1\n") == outcome);
-        assert!(rt; writer.written() == front);
-        assert!(rt; writer.errors() == errors);
+        assert!(rt; reads_up_to(rt.alloc(), place)?, "at {place}");
     }
     Ok(())
+}
+
+// Whether a writer with so many bytes a call that fails after so many has this front of the line, and so many errors.
+fn writes(
+    alloc: Global,
+    (most, fails_after): (usize, usize),
+    outcome: Result<(), Failed>,
+    front: &[u8],
+    errors: u64,
+) -> bool {
+    let mut writer = Fake::new(alloc, b"", most, fails_after);
+    write_whole(&mut writer, b"complete 1\n") == outcome
+        && writer.written() == front
+        && writer.errors() == errors
+}
+
+const WRITES: [((usize, usize), Result<(), Failed>, &[u8], u64); 3] = [
+    ((1, usize::MAX), Ok(()), b"complete 1\n", 0),
+    ((2, 3), Err(Failed), b"com", 1),
+    ((0, usize::MAX), Err(Failed), b"", 0),
+];
+
+#[test]
+fn writes_up_to_an_error(rt: HostRuntime) {
+    for (bounds, outcome, front, errors) in WRITES {
+        assert!(rt; writes(rt.alloc(), bounds, outcome, front, errors));
+    }
 }
 
 // Is interrupted at each other call, and gives or takes one byte at the others.
