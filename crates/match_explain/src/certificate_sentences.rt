@@ -14,26 +14,14 @@ pub(crate) fn symmetry_sentence(
     fault: SymmetryFault,
 ) -> Result<String, AllocError> {
     match fault {
-        SymmetryFault::Cells => {
-            format!(in alloc; "the images of the cells are not each cell once")
-        }
-        SymmetryFault::Colours => {
-            format!(in alloc; "the images of the colours are not each colour once")
-        }
-        SymmetryFault::Tiles => {
-            format!(in alloc; "the images of the tiles are not each tile once")
-        }
+        SymmetryFault::Cells => images_sentence(alloc, "cell"),
+        SymmetryFault::Colours => images_sentence(alloc, "colour"),
+        SymmetryFault::Tiles => images_sentence(alloc, "tile"),
         SymmetryFault::EdgeBroken(cell, side) => {
-            let name = CellSide { cell, side }.name(puzzle);
-            format!(in alloc;
-                "what the {name} of cell {cell} meets does not go to what its image meets"
-            )
+            edge_sentence(alloc, puzzle, CellSide { cell, side })
         }
         SymmetryFault::BorderBroken(cell, side) => {
-            let name = CellSide { cell, side }.name(puzzle);
-            format!(in alloc;
-                "what the border asks of the {name} of cell {cell} does not go to what it asks of its image"
-            )
+            border_sentence(alloc, puzzle, CellSide { cell, side })
         }
         SymmetryFault::TileBroken(tile) => {
             format!(in alloc; "the turns of tile {tile} do not go to those of its image")
@@ -44,6 +32,24 @@ pub(crate) fn symmetry_sentence(
         }
         SymmetryFault::Memory => format!(in alloc; "{fault}"),
     }
+}
+
+fn images_sentence(alloc: Global, name: &str) -> Result<String, AllocError> {
+    format!(in alloc; "the images of the {name}s are not each {name} once")
+}
+
+fn edge_sentence(alloc: Global, puzzle: &Puzzle, at: CellSide) -> Result<String, AllocError> {
+    let name = at.name(puzzle);
+    let cell = at.cell;
+    format!(in alloc; "what the {name} of cell {cell} meets does not go to what its image meets")
+}
+
+fn border_sentence(alloc: Global, puzzle: &Puzzle, at: CellSide) -> Result<String, AllocError> {
+    let name = at.name(puzzle);
+    let cell = at.cell;
+    format!(in alloc;
+        "what the border asks of the {name} of cell {cell} does not go to what it asks of its image"
+    )
 }
 
 // What is wrong with pairs that are no prefix. Where they have no such fault, that is named alone.
@@ -59,27 +65,42 @@ pub(crate) fn prefix_sentence(
     let Some(pair) = pairs.get(place as usize) else {
         return format!(in alloc; "{fault}");
     };
-    let Pair { cell, placement } = *pair;
-    let Placement { tile, turn } = placement;
     let last = puzzle.board().cells().saturating_sub(1);
     match fault {
-        PrefixFault::Cell(_) if cell > last => format!(in alloc;
-            "the pair {cell}:{tile}.{turn} has cell {cell}, and the cells are 0 to {last}"
-        ),
-        PrefixFault::Cell(_) => format!(in alloc;
-            "the pair {cell}:{tile}.{turn} has cell {cell}, which does not come after that of the pair before"
-        ),
-        PrefixFault::Tile(_) if tile > last => format!(in alloc;
-            "the pair {cell}:{tile}.{turn} has tile {tile}, and the tiles are 0 to {last}"
-        ),
-        PrefixFault::Tile(_) => format!(in alloc;
-            "the pair {cell}:{tile}.{turn} has tile {tile}, which an earlier pair has"
-        ),
-        PrefixFault::Turn(_) => format!(in alloc;
-            "the pair {cell}:{tile}.{turn} turns tile {tile} by {turn}, {}",
-            why_not_turned(puzzle)
-        ),
+        PrefixFault::Cell(_) => cell_sentence(alloc, *pair, last),
+        PrefixFault::Tile(_) => tile_sentence(alloc, *pair, last),
+        PrefixFault::Turn(_) => turn_sentence(alloc, *pair, why_not_turned(puzzle)),
     }
+}
+
+fn cell_sentence(alloc: Global, pair: Pair, last: u16) -> Result<String, AllocError> {
+    let Pair { cell, placement } = pair;
+    let Placement { tile, turn } = placement;
+    if cell > last {
+        return format!(in alloc;
+            "the pair {cell}:{tile}.{turn} has cell {cell}, and the cells are 0 to {last}"
+        );
+    }
+    format!(in alloc;
+        "the pair {cell}:{tile}.{turn} has cell {cell}, which does not come after that of the pair before"
+    )
+}
+
+fn tile_sentence(alloc: Global, pair: Pair, last: u16) -> Result<String, AllocError> {
+    let Pair { cell, placement } = pair;
+    let Placement { tile, turn } = placement;
+    if tile > last {
+        return format!(in alloc;
+            "the pair {cell}:{tile}.{turn} has tile {tile}, and the tiles are 0 to {last}"
+        );
+    }
+    format!(in alloc; "the pair {cell}:{tile}.{turn} has tile {tile}, which an earlier pair has")
+}
+
+fn turn_sentence(alloc: Global, pair: Pair, why: &str) -> Result<String, AllocError> {
+    let Pair { cell, placement } = pair;
+    let Placement { tile, turn } = placement;
+    format!(in alloc; "the pair {cell}:{tile}.{turn} turns tile {tile} by {turn}, {why}")
 }
 
 // What is wrong with lemmas that end at no root.

@@ -12,16 +12,24 @@ pub(crate) fn missing_sentence(
     partial: &Partial<'_>,
     lemma: u32,
 ) -> Result<String, AllocError> {
-    for pair in prefix_of(question, lemma) {
+    let Some(pair) = first_missing(partial, prefix_of(question, lemma)) else {
+        return Ok(String::new(alloc));
+    };
+    let Pair { cell, placement } = pair;
+    format!(in alloc;
+        "{cell}:{}.{} of the prefix of lemma {lemma} is not placed",
+        placement.tile, placement.turn
+    )
+}
+
+// The first of these pairs that isn't placed.
+fn first_missing(partial: &Partial<'_>, pairs: &[Pair]) -> Option<Pair> {
+    for pair in pairs {
         if !partial.holds(&[*pair]) {
-            let Pair { cell, placement } = *pair;
-            return format!(in alloc;
-                "{cell}:{}.{} of the prefix of lemma {lemma} is not placed",
-                placement.tile, placement.turn
-            );
+            return Some(*pair);
         }
     }
-    Ok(String::new(alloc))
+    None
 }
 
 // Which image of a pair of the lemma's prefix under the symmetry isn't placed.
@@ -36,23 +44,49 @@ pub(crate) fn missing_image_sentence(
     let Some(line) = lines.get(usize::from(symmetry)) else {
         return Ok(String::new(alloc));
     };
-    let motion = match Symmetry::new(alloc, question.puzzle(), line) {
-        Ok(motion) => motion,
+    let missing = match Symmetry::new(alloc, question.puzzle(), line) {
+        Ok(motion) => first_missing_image(&motion, partial, prefix_of(question, lemma)),
         Err(SymmetryFault::Memory) => return Err(AllocError),
-        Err(_) => return Ok(String::new(alloc)),
+        Err(_) => None,
     };
-    for pair in prefix_of(question, lemma) {
-        let image = image_of(&motion, *pair);
+    match missing {
+        Some(moved) => moved.sentence(alloc, lemma),
+        None => Ok(String::new(alloc)),
+    }
+}
+
+// A pair and its image under a symmetry.
+#[derive(Clone, Copy)]
+struct Moved {
+    pair: Pair,
+    image: Pair,
+}
+
+impl Moved {
+    // That the image isn't placed, of a pair of the lemma's prefix.
+    fn sentence(self, alloc: Global, lemma: u32) -> Result<String, AllocError> {
+        let Pair { cell, placement } = self.image;
+        let (from, of) = (self.pair.cell, self.pair.placement);
+        format!(in alloc;
+            "{cell}:{}.{} is not placed, which is the image of {from}:{}.{} of the prefix of lemma {lemma}",
+            placement.tile, placement.turn, of.tile, of.turn
+        )
+    }
+}
+
+// The first of these pairs whose image isn't placed.
+fn first_missing_image(
+    motion: &Symmetry<'_>,
+    partial: &Partial<'_>,
+    pairs: &[Pair],
+) -> Option<Moved> {
+    for pair in pairs {
+        let image = image_of(motion, *pair);
         if !partial.holds(&[image]) {
-            let Pair { cell, placement } = image;
-            let (from, of) = (pair.cell, pair.placement);
-            return format!(in alloc;
-                "{cell}:{}.{} is not placed, which is the image of {from}:{}.{} of the prefix of lemma {lemma}",
-                placement.tile, placement.turn, of.tile, of.turn
-            );
+            return Some(Moved { pair: *pair, image });
         }
     }
-    Ok(String::new(alloc))
+    None
 }
 
 // The prefix of the lemma, or none where there is no such lemma.

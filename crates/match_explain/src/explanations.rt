@@ -8,11 +8,11 @@ ghost use Rattle.match_explain.specs.Explanation.{IsExplanation};
 use crate::certificate_sentences::{prefix_sentence, root_sentence, symmetry_sentence};
 use crate::cited_pairs::prefix_of;
 use crate::list_sentences::Listed;
-use crate::node_explanations::explain_node;
+use crate::node_explanations::{explain_node, put_drawing};
 use crate::places::{LemmaLine, line_of};
 use cert_check::{Fault, Question};
+use cert_tree::Lemmas;
 use match_puzzle::{Arrangement, ArrangementFault, PrefixFault, Puzzle};
-use match_show::write_drawing;
 use puzzle_symmetry::SymmetryFault;
 use std::alloc::{AllocError, Global};
 use std::hash::BuildHasher;
@@ -45,11 +45,7 @@ pub fn write_explanation<S: BuildHasher + Drop>(
         Fault::Prefix(number, fault) => {
             explain_prefix(alloc, question, *number, *fault, certificate)
         }
-        Fault::Root => {
-            let sentence = root_sentence(alloc, question.lemmas())?;
-            let text = format!(in alloc; "certificate: {sentence}\n{CLOSING}")?;
-            Ok(Vec::from(text))
-        }
+        Fault::Root => explain_root(alloc, question.lemmas()),
         Fault::Tree(number, fault) => {
             let lemma = LemmaLine {
                 number: *number,
@@ -79,13 +75,32 @@ fn explain_listed(
         puzzle: question.puzzle(),
         placements: arrangement.placements(),
     };
+    let mut text = listed_line(alloc, &listed, number, fault)?;
+    put_laid_out(alloc, &mut text, &listed, cell_of(fault))?;
+    Ok(text)
+}
+
+// Puts the board behind the text, with what of the listed arrangement can be laid out.
+fn put_laid_out(
+    alloc: Global,
+    text: &mut Vec<u8>,
+    listed: &Listed<'_>,
+    mark: Option<u16>,
+) -> Result<(), AllocError> {
+    let board = listed.laid_out(alloc)?;
+    put_drawing(alloc, text, &board, mark)
+}
+
+fn listed_line(
+    alloc: Global,
+    listed: &Listed<'_>,
+    number: u32,
+    fault: ArrangementFault,
+) -> Result<Vec<u8>, AllocError> {
     let sentence = listed.sentence(alloc, fault)?;
     let line = u64::from(number) + FIRST_LINE;
     let words = format!(in alloc; "list line {line}, arrangement {number}: {sentence}\n")?;
-    let drawing = write_drawing(alloc, &listed.laid_out(alloc)?, cell_of(fault))?;
-    let mut text = Vec::from(words);
-    text.extend_from_slice(&drawing)?;
-    Ok(text)
+    Ok(Vec::from(words))
 }
 
 // The cell where a listed arrangement has the fault.
@@ -153,5 +168,11 @@ fn explain_prefix(
     let sentence = prefix_sentence(alloc, question.puzzle(), pairs, fault)?;
     let line = line_of(alloc, certificate, number)?;
     let text = format!(in alloc; "certificate line {line}, lemma {number}: {sentence}\n{CLOSING}")?;
+    Ok(Vec::from(text))
+}
+
+fn explain_root(alloc: Global, lemmas: &Lemmas) -> Result<Vec<u8>, AllocError> {
+    let sentence = root_sentence(alloc, lemmas)?;
+    let text = format!(in alloc; "certificate: {sentence}\n{CLOSING}")?;
     Ok(Vec::from(text))
 }

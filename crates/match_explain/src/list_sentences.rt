@@ -6,7 +6,7 @@ use std::alloc::{AllocError, Global};
 use text_words::letter;
 
 // A puzzle and what is listed as an arrangement of it.
-#[derive(Drop)]
+#[derive(Clone, Copy)]
 pub(crate) struct Listed<'a> {
     pub(crate) puzzle: &'a Puzzle,
     pub(crate) placements: &'a [Placement],
@@ -19,21 +19,29 @@ impl<'a> Listed<'a> {
         alloc: Global,
         fault: ArrangementFault,
     ) -> Result<String, AllocError> {
-        let sentence = match fault {
-            ArrangementFault::Length => self.length_sentence(alloc)?,
-            ArrangementFault::TileRange(cell) => self.tile_sentence(alloc, cell)?,
-            ArrangementFault::Turn(cell) => self.turn_sentence(alloc, cell)?,
-            ArrangementFault::TileTwice(cell) => self.twice_sentence(alloc, cell)?,
-            ArrangementFault::BorderBroken(cell, side) => {
-                self.border_sentence(alloc, CellSide { cell, side })?
-            }
-            ArrangementFault::EdgeBroken(cell, side) => {
-                self.edge_sentence(alloc, CellSide { cell, side })?
-            }
-        };
-        match sentence {
+        match self.found_sentence(alloc, fault)? {
             Some(sentence) => Ok(sentence),
             None => format!(in alloc; "{fault}"),
+        }
+    }
+
+    // The same, if it has this fault.
+    fn found_sentence(
+        &self,
+        alloc: Global,
+        fault: ArrangementFault,
+    ) -> Result<Option<String>, AllocError> {
+        match fault {
+            ArrangementFault::Length => self.length_sentence(alloc),
+            ArrangementFault::TileRange(cell) => self.tile_sentence(alloc, cell),
+            ArrangementFault::Turn(cell) => self.turn_sentence(alloc, cell),
+            ArrangementFault::TileTwice(cell) => self.twice_sentence(alloc, cell),
+            ArrangementFault::BorderBroken(cell, side) => {
+                self.border_sentence(alloc, CellSide { cell, side })
+            }
+            ArrangementFault::EdgeBroken(cell, side) => {
+                self.edge_sentence(alloc, CellSide { cell, side })
+            }
         }
     }
 

@@ -1,6 +1,6 @@
 //! Why a certificate is refused at a node of a tree.
 
-ghost use Rattle.std.specs.Prelude.{◌≡◌, ◌≢◌, ◌++◌, ◌∷◌, IfOk, OnOk, length, map};
+ghost use Rattle.std.specs.Prelude.{◌≡◌, ◌≢◌, ◌++◌, ◌∷◌, ℕ, List, Option, IfOk, OnOk, length, map};
 ghost use Rattle.match_board.specs.Board.{cell_count};
 ghost use Rattle.match_puzzle.specs.Fitting.{IsItem};
 ghost use Rattle.text_words.specs.Spelling.{spaced};
@@ -12,12 +12,13 @@ ghost use Rattle.cert_check.specs.Setting.{Setting};
 ghost use Rattle.cert_check.specs.TreeFaults.{IsNodeFault};
 ghost use Rattle.cert_check.specs.declared.faults.Answer.TheVariants.{Refused};
 ghost use Rattle.cert_check.specs.declared.faults.Fault.TheVariants as faults;
-ghost use Rattle.match_explain.specs.Explanation.{NamesFitting, NamesLemma, NamesWhatFits, TellsOfNode};
+ghost use Rattle.match_show.specs.Drawing.{IsDrawing};
+ghost use Rattle.match_explain.specs.Explanation.{MarksNode, NamesFitting, NamesLemma, NamesWhatFits, TellsOfNode};
 ghost use Rattle.match_explain.specs.Explanation.{miscounted_item};
 
 use crate::findings::finding_of;
 use crate::node_sentences::Node;
-use crate::places::LemmaLine;
+use crate::places::{LemmaLine, WordPlace};
 use cert_check::{NodeFault, Question, Scene, TreeFault};
 use cert_text::put_pair;
 use cert_tree::Head;
@@ -37,15 +38,15 @@ pub(crate) fn explain_node<S: BuildHasher + Drop>(
     requires { IsAnswer question.now (Refused (faults.Tree at.number fault.now)) }
     ensures { IfOk result (λ text. TellsOfNode question.now at.number fault.now text.items) }
 {
-    let LemmaLine { number, line } = at;
-    let lemma = question.lemmas().at(number as usize);
+    let lemma = question.lemmas().at(at.number as usize);
     let None = question.puzzle().prefix_fault(lemma.prefix) else {
         unreachable!();
     };
     let scene = Scene::at(alloc, question.puzzle(), &lemma, fault.path.steps())?;
+    let finding = finding_of(alloc, &*question, &scene.partial, hasher)?;
     let node = Node {
         question: &*question,
-        lemma: number,
+        lemma: at.number,
         head: scene.head(),
         partial: &scene.partial,
     };
@@ -53,38 +54,20 @@ pub(crate) fn explain_node<S: BuildHasher + Drop>(
         .words
         .saturating_add(lemma.prefix.len())
         .saturating_add(5);
-    let sentence = node.sentence(alloc, fault.fault)?;
-    let words = node.words(alloc)?;
-    let mut text = words_line(alloc, line, word, number, words.as_str(), sentence.as_str())?;
-    let fitting = write_what_fits(alloc, &scene, fault.fault)?;
-    let drawing = write_drawing(alloc, &scene.partial, node.cell())?;
-    let finding = finding_of(alloc, &*question, &scene.partial, hasher)?;
-    text.extend_from_slice(&fitting)?;
-    text.extend_from_slice(&drawing)?;
+    let place = WordPlace {
+        line: at.line,
+        word,
+    };
+    let mut text = write_node(alloc, &node, place, &scene, fault.fault)?;
     text.extend_from_slice(finding.closing())?;
     Ok(text)
 }
 
-// The line of words: where the node stands, of which lemma, what it is, and what is wrong with it.
-fn words_line(
+// What is told of the node of this scene: its words, the pairs that fit and the board.
+fn write_node(
     alloc: Global,
-    line: u32,
-    word: usize,
-    lemma: u32,
-    node: &str,
-    sentence: &str,
-) -> Result<Vec<u8>, AllocError>
-    ensures { IfOk result (λ words. NamesLemma lemma words.items) }
-{
-    let words = format!(in alloc;
-        "certificate line {line}, word {word}, lemma {lemma}: {node}: {sentence}\n"
-    )?;
-    Ok(Vec::from(words))
-}
-
-// The line of the pairs that fit at a node which says wrongly how many do; nothing of another fault.
-fn write_what_fits(
-    alloc: Global,
+    node: &Node<'_>,
+    place: WordPlace,
     scene: &Scene<'_>,
     fault: NodeFault,
 ) -> Result<Vec<u8>, AllocError>
@@ -92,12 +75,67 @@ fn write_what_fits(
     requires fault { (s : Setting) × (s.puzzle ≡ scene.now.partial.puzzle)
         × IsNodeFault s (first scene.now.trees) scene.now.partial.placed fault }
     requires long { length scene.now.partial.placed ≡ cell_count scene.now.partial.puzzle.board }
-    ensures { IfOk result (λ line.
-        NamesWhatFits scene.now.partial.puzzle scene.now.partial.placed (first scene.now.trees) fault line.items) }
+    ensures { IfOk result (λ text.
+        (words : List ℕ) × (fitting : List ℕ) × (drawing : List ℕ) × (mark : Option ℕ)
+        × NamesLemma node.now.lemma words
+        × NamesWhatFits scene.now.partial.puzzle scene.now.partial.placed (first scene.now.trees) fault fitting
+        × IsDrawing scene.now.partial mark drawing
+        × ((rest : Forest) → MarksNode (first (put node.now.head rest)) mark)
+        × (text.items ≡ (words ++ fitting) ++ drawing)) }
+{
+    let mut text = node_line(alloc, node, place, fault)?;
+    put_what_fits(&mut text, scene, fault)?;
+    put_drawing(alloc, &mut text, &scene.partial, node.cell())?;
+    Ok(text)
+}
+
+// The line of words: where the node stands, of which lemma, what it is, and what is wrong with it.
+fn node_line(
+    alloc: Global,
+    node: &Node<'_>,
+    place: WordPlace,
+    fault: NodeFault,
+) -> Result<Vec<u8>, AllocError>
+    ensures { IfOk result (λ words. NamesLemma node.now.lemma words.items) }
+{
+    let sentence = node.sentence(alloc, fault)?;
+    let name = node.words(alloc)?;
+    let lemma = node.lemma;
+    let WordPlace { line, word } = place;
+    let (name, sentence) = (name.as_str(), sentence.as_str());
+    let words = format!(in alloc;
+        "certificate line {line}, word {word}, lemma {lemma}: {name}: {sentence}\n"
+    )?;
+    Ok(Vec::from(words))
+}
+
+// Puts the board behind the text, drawn with the cell marked.
+pub(crate) fn put_drawing(
+    alloc: Global,
+    text: &mut Vec<u8>,
+    partial: &Partial<'_>,
+    mark: Option<u16>,
+) -> Result<(), AllocError>
+    ensures { OnOk result ((drawing : List ℕ) × IsDrawing partial.now mark drawing
+        × (text.new.items ≡ text.old.items ++ drawing)) }
+{
+    let drawing = write_drawing(alloc, partial, mark)?;
+    text.extend_from_slice(&drawing)
+}
+
+// Puts the line of the pairs that fit behind the text, where the node says wrongly how many do; else nothing.
+fn put_what_fits(text: &mut Vec<u8>, scene: &Scene<'_>, fault: NodeFault) -> Result<(), AllocError>
+    requires some { scene.now.trees ≢ none }
+    requires fault { (s : Setting) × (s.puzzle ≡ scene.now.partial.puzzle)
+        × IsNodeFault s (first scene.now.trees) scene.now.partial.placed fault }
+    requires long { length scene.now.partial.placed ≡ cell_count scene.now.partial.puzzle.board }
+    ensures { OnOk result ((line : List ℕ)
+        × NamesWhatFits scene.now.partial.puzzle scene.now.partial.placed (first scene.now.trees) fault line
+        × (text.new.items ≡ text.old.items ++ line)) }
 {
     match miscounted(scene.head(), fault) {
-        Some(item) => write_fitting(alloc, &scene.partial, item),
-        None => Ok(Vec::new(alloc)),
+        Some(item) => put_fitting(text, &scene.partial, item),
+        None => Ok(()),
     }
 }
 
@@ -114,16 +152,16 @@ fn miscounted(head: Head, fault: NodeFault) -> Option<Item>
     }
 }
 
-// The line of the pairs that fit and settle the item.
-fn write_fitting(alloc: Global, partial: &Partial<'_>, item: Item) -> Result<Vec<u8>, AllocError>
+// Puts the line of the pairs that fit and settle the item behind the text.
+fn put_fitting(text: &mut Vec<u8>, partial: &Partial<'_>, item: Item) -> Result<(), AllocError>
     requires { IsItem partial.now.puzzle item }
-    ensures { IfOk result (λ line. NamesFitting partial.now.puzzle partial.now.placed item line.items) }
+    ensures { OnOk result ((line : List ℕ) × NamesFitting partial.now.puzzle partial.now.placed item line
+        × (text.new.items ≡ text.old.items ++ line)) }
 {
-    let mut line = Vec::new(alloc);
-    line.extend_from_slice(b"fitting:")?;
-    put_pairs(&mut line, partial.fitting(item))?;
-    line.push(b'\n')?;
-    Ok(line)
+    text.extend_from_slice(b"fitting:")?;
+    put_pairs(text, partial.fitting(item))?;
+    text.push(b'\n')?;
+    Ok(())
 }
 
 // The pairs, each behind a space.

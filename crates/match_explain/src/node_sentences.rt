@@ -13,7 +13,7 @@ use match_puzzle::{Partial, Placement};
 use std::alloc::{AllocError, Global};
 
 // A node of a lemma's tree without its children, and what is placed there.
-#[derive(Drop)]
+#[derive(Clone, Copy)]
 pub(crate) struct Node<'a> {
     pub(crate) question: &'a Question<'a>,
     // The lemma's number.
@@ -66,17 +66,9 @@ impl<'a> Node<'a> {
             NodeFault::TileRange => format!(in alloc;
                 "tiles of the puzzle, numbered from 0: {cells}"
             ),
-            NodeFault::CellTaken | NodeFault::TileTaken => {
-                format!(in alloc; "a pair is placed already {}", self.item(alloc)?)
-            }
+            NodeFault::CellTaken | NodeFault::TileTaken => self.taken_sentence(alloc),
             NodeFault::WrongCount { fits, children } => self.count_sentence(alloc, fits, children),
-            NodeFault::NotDead { fits } => {
-                format!(in alloc;
-                    "no pair is said to fit {}, and {fits} {}",
-                    self.item(alloc)?,
-                    does(fits)
-                )
-            }
+            NodeFault::NotDead { fits } => self.dead_sentence(alloc, fits),
             NodeFault::NotWhole | NodeFault::ListRange | NodeFault::NotListed => {
                 self.found_sentence(alloc)
             }
@@ -100,6 +92,17 @@ impl<'a> Node<'a> {
         }
     }
 
+    fn taken_sentence(&self, alloc: Global) -> Result<String, AllocError> {
+        let item = self.item(alloc)?;
+        format!(in alloc; "a pair is placed already {item}")
+    }
+
+    fn dead_sentence(&self, alloc: Global, fits: u32) -> Result<String, AllocError> {
+        let item = self.item(alloc)?;
+        let does = does(fits);
+        format!(in alloc; "no pair is said to fit {item}, and {fits} {does}")
+    }
+
     fn count_sentence(
         &self,
         alloc: Global,
@@ -107,14 +110,7 @@ impl<'a> Node<'a> {
         children: u32,
     ) -> Result<String, AllocError> {
         let item = self.item(alloc)?;
-        let does = does(fits);
-        if fits == children {
-            return format!(in alloc; "no pair fits {item}: that is a dead end, and no branch");
-        }
-        if children == 1 {
-            return format!(in alloc; "1 pair is said to fit {item}, and {fits} {does}");
-        }
-        format!(in alloc; "{children} pairs are said to fit {item}, and {fits} {does}")
+        miscount_sentence(alloc, item.as_str(), fits, children)
     }
 
     fn found_sentence(&self, alloc: Global) -> Result<String, AllocError> {
@@ -129,21 +125,29 @@ impl<'a> Node<'a> {
             let count = listed.len();
             return format!(in alloc; "arrangements of the list, numbered from 0: {count}");
         };
-        let Some(
-            Difference {
-                cell,
-                placed,
-                other,
-            },
-        ) = first_difference(self.partial, arrangement.placements())
-        else {
-            return Ok(String::new(alloc));
-        };
+        match first_difference(self.partial, arrangement.placements()) {
+            Some(difference) => self.difference_sentence(alloc, number, difference),
+            None => Ok(String::new(alloc)),
+        }
+    }
+
+    // How what is placed differs from the listed one with this number, and whether it is another.
+    fn difference_sentence(
+        &self,
+        alloc: Global,
+        number: u32,
+        difference: Difference,
+    ) -> Result<String, AllocError> {
+        let Difference {
+            cell,
+            placed,
+            other,
+        } = difference;
         let mut sentence = format!(in alloc;
             "arrangement {number} has {}.{} at cell {cell}, where {}.{} is placed",
             other.tile, other.turn, placed.tile, placed.turn
         )?;
-        match place_in(listed, self.partial) {
+        match place_in(self.question.listed(), self.partial) {
             Some(found) => write!(sentence, "; what is placed is arrangement {found}")?,
             None => write!(sentence, "; what is placed is not listed")?,
         }
@@ -159,6 +163,23 @@ impl<'a> Node<'a> {
             _ => Ok(String::new(alloc)),
         }
     }
+}
+
+// That another number of pairs fits the item than the branch has children.
+fn miscount_sentence(
+    alloc: Global,
+    item: &str,
+    fits: u32,
+    children: u32,
+) -> Result<String, AllocError> {
+    let does = does(fits);
+    if fits == children {
+        return format!(in alloc; "no pair fits {item}: that is a dead end, and no branch");
+    }
+    if children == 1 {
+        return format!(in alloc; "1 pair is said to fit {item}, and {fits} {does}");
+    }
+    format!(in alloc; "{children} pairs are said to fit {item}, and {fits} {does}")
 }
 
 fn does(count: u32) -> &'static str {

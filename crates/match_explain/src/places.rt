@@ -21,3 +21,10 @@ pub(crate) struct LemmaLine {
     pub(crate) number: u32,
     pub(crate) line: u32,
 }
+
+// A line of a certificate, and one of its words, both from 1.
+#[derive(Clone, Copy)]
+pub(crate) struct WordPlace {
+    pub(crate) line: u32,
+    pub(crate) word: usize,
+}

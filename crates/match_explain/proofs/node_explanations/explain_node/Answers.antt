@@ -32,8 +32,8 @@ at-requires-clause-path g c =
     let path : IsPath question.puzzle lemma.tree (start_of question.puzzle lemma) c.args.fault.now.path = (node, placed, leads) in
     rw (c.steps.ensures, c.puzzle-2.ensures) path
 
-pub write_what_fits-requires-clause-fault : goal.write_what_fits-requires-clause-fault
-write_what_fits-requires-clause-fault g c =
+pub write_node-requires-clause-fault : goal.write_node-requires-clause-fault
+write_node-requires-clause-fault g c =
     let question = c.args.question.now in
     let lemma = flat_piece c.at-lemma.result in
     let scene = c.in_ok-scene.scene in
@@ -52,12 +52,10 @@ returns g c =
     let at = subst (λ (ls : List Piece). slice_get ls c.args.at.number ≡ Some lemma) c.lemmas.ensures.lemmas c.at-lemma.ensures in
     let leads : LeadsTo question.puzzle lemma.tree (start_of question.puzzle lemma) c.args.fault.now.path (first scene.trees) scene.partial.placed = rw (← c.steps.ensures, ← c.puzzle-2.ensures) c.in_ok-scene.ensures.leads in
     let puzzle : scene.partial.puzzle ≡ question.puzzle = c.in_ok-scene.ensures.puzzle ∙ c.puzzle-2.ensures in
-    let words = c.in_ok-text.text.items in
-    let fitting = c.in_ok-fitting.fitting.items in
-    let drawing = c.in_ok-drawing.drawing.items in
+    let (words, fitting, drawing, mark, told, names, drawn, marks, is) = c.in_ok-text.ensures in
     let finding = c.in_ok-finding.finding in
-    let written : c.extend_from_slice-3.new.self.items ≡ ((words ++ fitting) ++ drawing) ++ closing_of finding =
-    rw (c.in_ok-extend_from_slice-3.ensures.items, c.in_ok-extend_from_slice-2.ensures.items, c.in_ok-extend_from_slice.ensures.items, c.deref.ensures.value, c.deref-2.ensures.value, c.closing.ensures) refl in
+    let written : c.extend_from_slice.new.self.items ≡ ((words ++ fitting) ++ drawing) ++ closing_of finding =
+    rw (c.in_ok-extend_from_slice.ensures.items, is, c.closing.ensures) refl in
     record {
       lemma = lemma;
       is = at;
@@ -66,13 +64,13 @@ returns g c =
       leads = leads;
       has = has_fault question c.args.at.number c.args.fault.now lemma (first scene.trees) scene.partial.placed at c.requires.occurs leads;
       words = words;
-      told = c.in_ok-text.ensures;
+      told = told;
       fitting = fitting;
-      names = subst (λ (p : Task). NamesWhatFits p scene.partial.placed (first scene.trees) c.args.fault.now.fault c.in_ok-fitting.fitting.items) puzzle c.in_ok-fitting.ensures;
-      mark = c.cell.result;
-      marks = subst (λ (trees : Forest). MarksNode (first trees) c.cell.result) c.head.ensures.1 (c.cell.ensures c.head.ensures.0);
+      names = subst (λ (p : Task). NamesWhatFits p scene.partial.placed (first scene.trees) c.args.fault.now.fault fitting) puzzle names;
+      mark = mark;
+      marks = subst (λ (trees : Forest). MarksNode (first trees) mark) c.head.ensures.1 (marks c.head.ensures.0);
       drawing = drawing;
-      drawn = subst (λ (p : Task). IsDrawing (record { puzzle = p; placed = scene.partial.placed }) c.cell.result c.in_ok-drawing.drawing.items) puzzle c.in_ok-drawing.ensures;
+      drawn = subst (λ (p : Task). IsDrawing (record { puzzle = p; placed = scene.partial.placed }) mark drawing) puzzle drawn;
       finding = finding;
       finds = c.in_ok-finding.ensures;
       parts = written ∙ four_parts words fitting drawing (closing_of finding);

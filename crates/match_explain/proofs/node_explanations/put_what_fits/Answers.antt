@@ -5,10 +5,10 @@ use Rattle.cert_tree.specs.Heads.{first}
 use Rattle.cert_tree.specs.Tree.{Forest}
 use Rattle.match_explain.specs.Explanation.{miscounted_item}
 use Rattle.match_explain.proofs.NodeLemmas.{miscounted_is}
-use Rattle.match_explain.proofs.node_explanations.write_what_fits.Goals as goal
+use Rattle.match_explain.proofs.node_explanations.put_what_fits.Goals as goal
 
-pub write_fitting-requires : goal.write_fitting-requires
-write_fitting-requires c =
+pub put_fitting-requires : goal.put_fitting-requires
+put_fitting-requires c =
     let scene = c.args.scene.now in
     let (s, made, has) = c.requires.fault in
     let (rest, is) = c.head.ensures in
