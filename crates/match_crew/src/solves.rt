@@ -17,7 +17,7 @@ use crate::faults::SolveFault;
 use crate::searches::{Searched, Searches};
 use crate::shared::Shared;
 use crate::strategy::items::ItemRule;
-use crate::strategy::plans::Planner;
+use crate::strategy::plans::{Plan, Planner};
 use crate::strategy::roots::plan_by_dives;
 use cert_text::within_limits_with;
 use cert_tree::{AssembleFault, Certificate};
@@ -73,6 +73,33 @@ fn symmetries_of<'a>(
         }
     }
     Ok(symmetries)
+}
+
+// The branches that become lemmas first, and the rule by which all take their items.
+fn plan_of<'a, R: Threads + Sync>(
+    rt: &R,
+    alloc: Global,
+    xcc: &'a Xcc<'a>,
+    lines: &[SymmetryLine],
+    depth: u8,
+    workers: u8,
+) -> Result<Plan, AllocError>
+    requires lines { All (IsSymmetry xcc.now.puzzle) lines.now }
+    requires workers { (1 ≤ workers) × (workers ≤ MOST_WORKERS) }
+{
+    let symmetries = symmetries_of(alloc, xcc.puzzle(), lines)?;
+    let item_rule = if depth == 0 && workers == 1 {
+        ItemRule::fewest()
+    } else {
+        ItemRule::least(alloc, xcc, &symmetries)?
+    };
+    let planner = Planner {
+        alloc,
+        xcc,
+        symmetries: &symmetries,
+        item_rule,
+    };
+    plan_by_dives(rt, planner, depth, workers)
 }
 
 // Searches from the empty prefix, and each branch that is given away.
@@ -212,6 +239,35 @@ fn certificate_of<R: Threads + Sync>(
     Ok(certificate)
 }
 
+// Searches by the plan, and puts together what all jobs came to.
+fn solve_by<R: Threads + Wait + Sync, W: Watch + Sync>(
+    rt: &R,
+    xcc: &Xcc<'_>,
+    shared: &Shared<'_>,
+    lines: Vec<SymmetryLine>,
+    watch: &W,
+) -> Result<Solved, SolveFault>
+    requires workers { (1 ≤ shared.now.workers) × (shared.now.workers ≤ MOST_WORKERS) }
+    requires lines { vec_len lines ≤ MOST_SYMMETRIES }
+    ensures solved { IfOk result (λ s. IsSolvedBy xcc.now.puzzle shared.now.workers
+        s.list.items s.tally.items s.certificate) }
+    ensures fault { IfErr result (λ f. f ≢ SolveFault.TooMany) }
+{
+    let alloc = shared.alloc;
+    let desk = FlatDesk::new(alloc)?;
+    let (results, tally) = search_all(rt, xcc, &desk, shared, watch)?.into_parts();
+    let collected = collect(alloc, xcc.puzzle(), &desk, results)?;
+    if !list_within_limits(&collected.listed) {
+        return Err(SolveFault::Full);
+    }
+    let certificate = certificate_of(rt, shared, &desk, &collected, lines)?;
+    Ok(Solved {
+        list: collected.listed,
+        certificate,
+        tally,
+    })
+}
+
 /// Searches for all arrangements of the puzzle by 1 to 64 workers, each lemma by at most `fuel` branch nodes, 1 to
 /// 1,000,000. Their list is in the order of the lemmas' numbers on the desk, and of each lemma as they were found.
 ///
@@ -257,20 +313,7 @@ pub fn solve_watched<R: Threads + Wait + Sync, W: Watch + Sync>(
 {
     let xcc = compile(alloc, puzzle)?;
     let lines = lines_of(alloc, puzzle, depth)?;
-    let symmetries = symmetries_of(alloc, puzzle, &lines)?;
-    let item_rule = if depth == 0 && workers == 1 {
-        ItemRule::fewest()
-    } else {
-        ItemRule::least(alloc, &xcc, &symmetries)?
-    };
-    let planner = Planner {
-        alloc,
-        xcc: &xcc,
-        symmetries: &symmetries,
-        item_rule,
-    };
-    let plan = plan_by_dives(rt, planner, depth, workers)?;
-    let desk = FlatDesk::new(alloc)?;
+    let plan = plan_of(rt, alloc, &xcc, &lines, depth, workers)?;
     let shared = Shared {
         alloc,
         plan: &plan,
@@ -278,15 +321,5 @@ pub fn solve_watched<R: Threads + Wait + Sync, W: Watch + Sync>(
         workers,
         waiting: AtomicU64::new(0),
     };
-    let (results, tally) = search_all(rt, &xcc, &desk, &shared, watch)?.into_parts();
-    let collected = collect(alloc, puzzle, &desk, results)?;
-    if !list_within_limits(&collected.listed) {
-        return Err(SolveFault::Full);
-    }
-    let certificate = certificate_of(rt, &shared, &desk, &collected, lines)?;
-    Ok(Solved {
-        list: collected.listed,
-        certificate,
-        tally,
-    })
+    solve_by(rt, &xcc, &shared, lines, watch)
 }

@@ -86,7 +86,8 @@ pub struct Dives {
     placed: Vec<Pair>,
     // the most levels that a tree has
     levels: u16,
-    effort: Effort,
+    // what the dives so far took
+    pub effort: Effort,
 }
 
 impl Dives {
@@ -98,11 +99,6 @@ impl Dives {
             levels: cells,
             effort: Effort::none(),
         }
-    }
-
-    // What the dives so far took.
-    pub fn effort(&self) -> Effort {
-        self.effort
     }
 
     // How many nodes there are below these pairs, by so many dives; none where one of them doesn't fit.

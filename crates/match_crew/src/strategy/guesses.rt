@@ -87,7 +87,7 @@ impl<'a, 'p> Guesses<'a, 'p> {
     // Random numbers of its own for this part.
     fn dives(&self, plan: &Plan, part: u32) -> Dives {
         let planner = self.planner;
-        let item = u64::from(plan.item_rule.root().unwrap_or(0));
+        let item = u64::from(plan.item_rule.root.unwrap_or(0));
         let own = (item << 16) | (u64::from(self.round) << 8) | u64::from(part);
         Dives::new(planner.alloc, planner.xcc.cells(), (SEED << 48) ^ own)
     }
@@ -114,7 +114,7 @@ impl<'a, 'p> Guesses<'a, 'p> {
         }
         Ok(PartGuess {
             nodes,
-            effort: dives.effort(),
+            effort: dives.effort,
         })
     }
 

@@ -197,6 +197,35 @@ impl<'a, R: Threads + Sync> Comparison<'a, R> {
         let few = self.few_of(items)?;
         self.best_plan(&few, depth)
     }
+
+    // About how many nodes the lemmas of the plan have together.
+    fn first_guess(&mut self, plan: &Plan) -> Result<u64, AllocError> {
+        let guesses = self.guess(std::slice::from_ref(plan), FIRST_CHOICES)?;
+        Ok(guesses.first().copied().unwrap_or(0))
+    }
+
+    // The plan, which is by this item at the root, or one by another item, with which there are guessed to be much fewer
+    // nodes. It is asked on one worker whether another item is looked for, and compared by all of them.
+    fn best_beside(
+        &mut self,
+        plan: Plan,
+        item: u32,
+        depth: u8,
+        workers: u8,
+    ) -> Result<Plan, AllocError>
+        requires workers { (1 ≤ workers) × (workers ≤ MOST_WORKERS) }
+    {
+        let nodes = self.first_guess(&plan)?;
+        if nodes < FEW_NODES {
+            return Ok(plan);
+        }
+        self.workers = workers;
+        self.times = (nodes / NODES_OF_ONE_TIME).max(1).min(MOST_TIMES);
+        match self.other_plan(item, depth)? {
+            Some(other) => self.better_of(plan, other),
+            None => Ok(plan),
+        }
+    }
 }
 
 // The best of these items, so many at most; of two that are as good the lesser one first.
@@ -232,7 +261,7 @@ pub fn plan_by_dives<R: Threads + Sync>(
     requires workers { (1 ≤ workers) × (workers ≤ MOST_WORKERS) }
 {
     let plan = planner.plan(depth)?;
-    let Some(item) = planner.item_rule.root() else {
+    let Some(item) = planner.item_rule.root else {
         return Ok(plan);
     };
     let mut comparison = Comparison {
@@ -244,15 +273,5 @@ pub fn plan_by_dives<R: Threads + Sync>(
         round: 0,
         times: 1,
     };
-    let guesses = comparison.guess(std::slice::from_ref(&plan), FIRST_CHOICES)?;
-    let nodes = guesses.first().copied().unwrap_or(0);
-    if nodes < FEW_NODES {
-        return Ok(plan);
-    }
-    comparison.workers = workers;
-    comparison.times = (nodes / NODES_OF_ONE_TIME).max(1).min(MOST_TIMES);
-    let Some(other) = comparison.other_plan(item, depth)? else {
-        return Ok(plan);
-    };
-    comparison.better_of(plan, other)
+    comparison.best_beside(plan, item, depth, workers)
 }
