@@ -2,7 +2,7 @@
 use Rattle.std.proofs.Common.{[], ◌++◌, refl, sym, ap, ◌∙◌}
 use mathlib.Core.List.{append-nil, append_assoc}
 use Rattle.steal_crew.specs.Tickets.{drawn}
-use Rattle.steal_crew.specs.LiveQueue.{job_numbers}
+use Rattle.steal_crew.specs.Jobs.{job_numbers}
 use Rattle.live_crew.specs.LiveHands.{Gave}
 use Rattle.live_crew.specs.declared.hands.Hand.{Hand}
 

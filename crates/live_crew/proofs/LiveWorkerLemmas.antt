@@ -11,7 +11,7 @@ use Rattle.steal_crew.specs.declared.jobs.NumberedJob.{NumberedJob}
 use Rattle.steal_crew.specs.declared.jobs.NoneLost.{NoneLost}
 use Rattle.live_crew.specs.declared.hands.Hand.{Hand}
 use Rattle.live_crew.specs.declared.hands.LiveWorker.{LiveWorker}
-use Rattle.steal_crew.specs.LiveQueue.{job_view_with, job_numbers}
+use Rattle.steal_crew.specs.Jobs.{job_view_with, job_numbers}
 use Rattle.crew_machine.specs.Counts.{total, times}
 use Rattle.live_crew.specs.LiveHands.{Gave}
 use Rattle.steal_crew.specs.Results.{done_numbers}

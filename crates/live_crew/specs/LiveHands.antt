@@ -1,7 +1,7 @@
 -- How a hand changes.
 use Rattle.std.specs.Prelude.{◌≡◌, ℕ, List, ◌++◌}
 use Rattle.steal_crew.specs.Tickets.{source_of, drawn}
-use Rattle.steal_crew.specs.LiveQueue.{job_numbers}
+use Rattle.steal_crew.specs.Jobs.{job_numbers}
 use Rattle.live_crew.specs.declared.hands.Hand.{Hand}
 
 -- The source stays; what the seat drew more is what the list has more, in order.

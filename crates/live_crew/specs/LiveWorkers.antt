@@ -18,7 +18,7 @@ use Rattle.crew_machine.specs.Counts.{total, times, once_below}
 use Rattle.steal_crew.specs.Results.{done_numbers}
 use Rattle.steal_crew.specs.QueueRule.{part_count}
 use Rattle.steal_crew.specs.Tickets.{Source, source_of, seat_source, source_drawn, drawn, all_drawn, IsFresh}
-use Rattle.steal_crew.specs.LiveQueue.{job_view_with, job_numbers}
+use Rattle.steal_crew.specs.Jobs.{job_view_with, job_numbers}
 
 -- ---- results
 

@@ -4,7 +4,7 @@ ghost use Rattle.std.specs.Prelude.{◌≡◌, ◌≤◌, ◌<◌, ◌-◌, [], 
 ghost use Rattle.crossbeam_deque.specs.Injected.{injector_view, IsInjectorPassOf};
 ghost use Rattle.steal_crew.specs.QueueRule.{part_count};
 ghost use Rattle.steal_crew.specs.Tickets.{source_of, limit_of, IsFresh};
-ghost use Rattle.steal_crew.specs.LiveQueue.{job_view_with, job_numbers};
+ghost use Rattle.steal_crew.specs.Jobs.{job_view_with, job_numbers};
 ghost use Rattle.live_crew.specs.LiveWorkers.{IsReady, Moved, IsLiveStation, IsLiveShare};
 
 use crate::hands::{Hand, LiveShare, LiveStation, LiveWorker};

@@ -2,7 +2,7 @@
 
 ghost use Rattle.std.specs.Prelude.{◌≡◌, ◌≤◌, ◌<◌, ◌⊎◌, true, vec_len, ◌++◌, ◌∷◌, [], ℕ, IfOk, IfErr, MatchOption};
 ghost use Rattle.steal_crew.specs.Tickets.{drawn, source_of, limit_of, is_out};
-ghost use Rattle.steal_crew.specs.LiveQueue.{numbered_job, job_numbers};
+ghost use Rattle.steal_crew.specs.Jobs.{numbered_job, job_numbers};
 ghost use Rattle.live_crew.specs.LiveHands.{Gave};
 
 use crate::hands::Hand;

@@ -6,7 +6,7 @@ ghost use Rattle.steal_crew.specs.Results.{done_numbers};
 ghost use Rattle.steal_crew.specs.Tickets.{source_of, limit_of, seat_source, drawn, IsFresh};
 ghost use Rattle.crossbeam_deque.specs.Injected.{injector_view};
 ghost use Rattle.steal_crew.specs.QueueRule.{part_count};
-ghost use Rattle.steal_crew.specs.LiveQueue.{job_numbers};
+ghost use Rattle.steal_crew.specs.Jobs.{job_numbers};
 ghost use Rattle.live_crew.specs.LiveWorkers.{BelongsToSome, AreDoneBy, BelongFrom, AreDrawn};
 ghost use Rattle.live_crew.specs.LiveWorkers.{IsReady, IsLiveStation, got, put};
 

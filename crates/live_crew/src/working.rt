@@ -2,7 +2,7 @@
 
 ghost use Rattle.std.specs.Prelude.{◌≡◌, [], ◌∷◌, IfOk, OnOk};
 ghost use Rattle.steal_crew.specs.Tickets.{source_of};
-ghost use Rattle.steal_crew.specs.LiveQueue.{job_numbers};
+ghost use Rattle.steal_crew.specs.Jobs.{job_numbers};
 ghost use Rattle.live_crew.specs.LiveWorkers.{IsReady, Moved, IsDrained};
 
 use crate::hands::LiveWorker;

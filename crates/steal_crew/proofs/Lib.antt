@@ -4,4 +4,4 @@ pub mod QueueLemmas
 pub mod ResultLemmas
 pub mod NumberSourceLemmas
 pub mod TicketLemmas
-pub mod LiveQueueLemmas
+pub mod JobLemmas

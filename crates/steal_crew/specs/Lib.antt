@@ -3,4 +3,4 @@ pub mod Queues
 pub mod Results
 pub mod NumberSource
 pub mod Tickets
-pub mod LiveQueue
+pub mod Jobs

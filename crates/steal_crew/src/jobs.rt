@@ -2,7 +2,7 @@
 
 ghost use Rattle.std.specs.Prelude.{◌≡◌, ◌<◌, ◌++◌, ◌∷◌, [], MatchOption};
 ghost use Rattle.crossbeam_deque.specs.Injected.{injector_view, IsInjectorPassOf};
-ghost use Rattle.steal_crew.specs.LiveQueue.{job_view_with};
+ghost use Rattle.steal_crew.specs.Jobs.{job_view_with};
 
 use crossbeam_deque::protocol::{Join, Outcome, Protocol, Split};
 use crossbeam_deque::{Injector, InjectorPass};
@@ -30,7 +30,7 @@ pub struct NoneLost;
 
 impl<J: Drop> Protocol<NumberedJob<J>, JobView> for NoneLost {
     ghost use Rattle.steal_crew.specs.QueueRule.{part_count};
-    ghost use Rattle.steal_crew.specs.LiveQueue.{job_view_with, JobsKept};
+    ghost use Rattle.steal_crew.specs.Jobs.{job_view_with, JobsKept};
     ghost use Rattle.std.specs.Prelude.{[]};
 
     ghost holds = { JobsKept };
@@ -44,7 +44,7 @@ impl<J: Drop> Protocol<NumberedJob<J>, JobView> for NoneLost {
 pub struct Parts;
 
 impl Split<JobView> for Parts {
-    ghost use Rattle.steal_crew.specs.LiveQueue.{job_view_with};
+    ghost use Rattle.steal_crew.specs.Jobs.{job_view_with};
     ghost use Rattle.std.specs.Prelude.{[], ◌-◌};
 
     ghost left = { λ v. job_view_with (v.parts - 1) v.dealt v.taken };
@@ -53,7 +53,7 @@ impl Split<JobView> for Parts {
 }
 
 impl Join<JobView> for Parts {
-    ghost use Rattle.steal_crew.specs.LiveQueue.{job_view_with};
+    ghost use Rattle.steal_crew.specs.Jobs.{job_view_with};
     ghost use Rattle.std.specs.Prelude.{[], ◌+◌, ◌++◌};
 
     ghost both = { λ v w. job_view_with (v.parts + w.parts) (v.dealt ++ w.dealt) (v.taken ++ w.taken) };
@@ -65,7 +65,7 @@ impl Join<JobView> for Parts {
 pub struct Deals;
 
 impl<J: Drop> Outcome<NumberedJob<J>, JobView> for Deals {
-    ghost use Rattle.steal_crew.specs.LiveQueue.{job_view_with, job_numbers};
+    ghost use Rattle.steal_crew.specs.Jobs.{job_view_with, job_numbers};
     ghost use Rattle.std.specs.Prelude.{◌≡◌, ◌++◌};
 
     ghost then = { λ v xs w. w ≡ job_view_with v.parts (v.dealt ++ job_numbers xs) v.taken };
@@ -76,7 +76,7 @@ pub struct Takes;
 
 impl<J: Drop> Outcome<NumberedJob<J>, JobView> for Takes {
     ghost use Rattle.steal_crew.specs.QueueRule.{part_count};
-    ghost use Rattle.steal_crew.specs.LiveQueue.{job_view_with, job_numbers};
+    ghost use Rattle.steal_crew.specs.Jobs.{job_view_with, job_numbers};
     ghost use Rattle.crew_machine.specs.Counts.{times};
     ghost use Rattle.std.specs.Prelude.{◌≡◌, ◌++◌, ℕ};
 
@@ -88,7 +88,7 @@ impl<J: Drop> Outcome<NumberedJob<J>, JobView> for Takes {
 /// What all workers put jobs on and take them from.
 pub type JobQueue<J> = Injector<NumberedJob<J>, Global, JobView, NoneLost>;
 
-/// Puts the job on the queue. It comes back where the queue can't take it, for want of memory, say, and then nothing
+/// Puts the job on the queue. It comes back where there is no memory for it, or after nearly 2^62 jobs, and then nothing
 /// was dealt. It may wait for others that put jobs there.
 pub fn put_job<J: Drop, R: Wait>(
     rt: &R,

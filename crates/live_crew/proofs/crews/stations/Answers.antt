@@ -5,7 +5,7 @@ use Rattle.crossbeam_deque.specs.Injected.{injector_view}
 use Rattle.steal_crew.specs.Tickets.{source_of, IsFresh}
 use Rattle.live_crew.specs.LiveWorkers.{IsLiveStation}
 use Rattle.steal_crew.specs.declared.jobs.JobView.{JobView}
-use Rattle.steal_crew.proofs.LiveQueueLemmas.{forks}
+use Rattle.steal_crew.proofs.JobLemmas.{forks}
 use Rattle.steal_crew.proofs.QueueRuleLemmas.{all_more, all_popped}
 use Rattle.live_crew.proofs.LiveWorkerLemmas.{forked}
 use Rattle.live_crew.proofs.crews.stations.Goals as goal

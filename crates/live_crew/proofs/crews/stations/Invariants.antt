@@ -2,7 +2,7 @@ use Rattle.steal_crew.specs.QueueRule.{part_count}
 use Rattle.std.proofs.Common.{◌≡◌, ◌+◌, ◌-◌, [], All, vec_len, vec_capacity}
 use Rattle.crossbeam_deque.specs.Injected.{injector_view, IsInjectorPassOf}
 use Rattle.steal_crew.specs.Tickets.{source_of, IsFresh}
-use Rattle.steal_crew.specs.LiveQueue.{job_view_with}
+use Rattle.steal_crew.specs.Jobs.{job_view_with}
 use Rattle.live_crew.specs.LiveWorkers.{IsLiveStation}
 use Rattle.live_crew.proofs.crews.stations.Given as goal
 

@@ -4,7 +4,7 @@ use Rattle.steal_crew.specs.declared.jobs.JobView.{JobView}
 use Rattle.crew_machine.specs.Counts.{times}
 use Rattle.steal_crew.specs.Results.{done_numbers}
 use Rattle.steal_crew.specs.Tickets.{Source, drawn}
-use Rattle.steal_crew.specs.LiveQueue.{job_numbers}
+use Rattle.steal_crew.specs.Jobs.{job_numbers}
 use Rattle.live_crew.specs.LiveWorkers.{BelongsToSome}
 use Rattle.live_crew.proofs.crews.work_alone.Goals as goal
 

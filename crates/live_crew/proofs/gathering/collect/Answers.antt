@@ -1,7 +1,7 @@
 use Rattle.std.proofs.Common.{◌≡◌, ◌≤◌, ◌+◌, arith, vec_len, IfOk, subst}
 use Rattle.steal_crew.specs.Tickets.{source_of}
 use Rattle.live_crew.specs.LiveWorkers.{IsLiveShare}
-use Rattle.steal_crew.proofs.LiveQueueLemmas.{merges}
+use Rattle.steal_crew.proofs.JobLemmas.{merges}
 use Rattle.steal_crew.proofs.QueueRuleLemmas.{all_popped}
 use Rattle.live_crew.proofs.LiveWorkerLemmas.{brings_more}
 use Rattle.live_crew.proofs.gathering.collect.Goals as goal

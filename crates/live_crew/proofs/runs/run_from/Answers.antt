@@ -1,5 +1,5 @@
 use Rattle.std.proofs.Common.{ap}
-use Rattle.steal_crew.specs.LiveQueue.{job_numbers}
+use Rattle.steal_crew.specs.Jobs.{job_numbers}
 use Rattle.live_crew.proofs.LiveWorkerLemmas.{all_even}
 use Rattle.live_crew.proofs.runs.run_from.Goals as goal
 

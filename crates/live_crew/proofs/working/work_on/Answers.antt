@@ -1,5 +1,5 @@
 use Rattle.std.proofs.Common.{refl}
-use Rattle.steal_crew.proofs.LiveQueueLemmas.{takes, finds}
+use Rattle.steal_crew.proofs.JobLemmas.{takes, finds}
 use Rattle.live_crew.proofs.LiveWorkerLemmas.{moved_took}
 use Rattle.live_crew.proofs.working.work_on.Goals as goal
 

@@ -1,5 +1,5 @@
 use Rattle.std.proofs.Common.{◌≡◌, []}
-use Rattle.steal_crew.specs.LiveQueue.{job_numbers}
+use Rattle.steal_crew.specs.Jobs.{job_numbers}
 use Rattle.live_crew.specs.LiveWorkers.{IsReady, Moved}
 use Rattle.live_crew.proofs.working.work_on.Given as goal
 

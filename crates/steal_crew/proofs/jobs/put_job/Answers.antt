@@ -1,4 +1,4 @@
-use Rattle.steal_crew.proofs.LiveQueueLemmas.{deals}
+use Rattle.steal_crew.proofs.JobLemmas.{deals}
 use Rattle.steal_crew.proofs.jobs.put_job.Goals as goal
 
 pub push_as-requires-clause-rule : goal.push_as-requires-clause-rule

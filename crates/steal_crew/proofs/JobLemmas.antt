@@ -8,7 +8,7 @@ use Rattle.crossbeam_deque.specs.Tasks.{Pushes, Takes, Finds, Forks, Merges}
 use Rattle.crossbeam_deque.proofs.Lists.{at_set, at_snoc}
 use Rattle.steal_crew.specs.declared.jobs.JobView.{JobView}
 use Rattle.steal_crew.specs.declared.jobs.NumberedJob.{NumberedJob}
-use Rattle.steal_crew.specs.LiveQueue.{job_view_with, job_numbers, JobsKept}
+use Rattle.steal_crew.specs.Jobs.{job_view_with, job_numbers, JobsKept}
 use Rattle.steal_crew.specs.QueueRule.{part_count}
 use Rattle.crew_machine.specs.Counts.{total, times}
 use Rattle.crew_machine.proofs.CountLemmas.{total-set, total-append, total-alone, times-snoc}
