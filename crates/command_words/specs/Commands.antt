@@ -141,6 +141,4 @@ with_commands = fold (λ app command. with_subcommand app command.top)
 
 -- the program with all of them
 abbrev pub whole_app : App
-whole_app =
-    let program = on_top (λ s. record s { no_binary_name = true; has_version = true }) (new_app (codes "edgematch")) in
-    fold (λ app command. with_subcommand app command.top) program commands
+whole_app = with_commands bare_app commands
