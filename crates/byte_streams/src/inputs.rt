@@ -105,10 +105,13 @@ impl<P: Source, L: Source, C: Source> Inputs for ThreeSources<'_, '_, '_, P, L, 
         (reading_of L.Source old.list.now new.list.now) (reading_of C.Source old.certificate.now new.certificate.now) };
 
     fn read_all(&mut self, alloc: Global) -> Result<OwnedDocuments, InputFault> {
-        let puzzle = read_text(alloc, self.puzzle, Document::Puzzle)?;
-        let list = read_text(alloc, self.list, Document::List)?;
+        let mut first = TwoSources {
+            puzzle: self.puzzle,
+            list: self.list,
+        };
+        let texts = first.read_all(alloc)?;
         let certificate = read_text(alloc, self.certificate, Document::Certificate)?;
-        Ok(OwnedDocuments::apart(puzzle, list, certificate))
+        Ok(OwnedDocuments::apart(texts.puzzle, texts.list, certificate))
     }
 }
 

@@ -184,8 +184,7 @@ fn make_first<R: Files + RandomSource>(
     Ok(SystemFile::new(file, Some(place)))
 }
 
-// A file beside a plain one that was found under the name, with its mode, and with its owner as far as that is allowed.
-// Nobody else can open it before.
+// A file beside a plain one that was found under the name.
 fn make_over<R: Files + RandomSource>(
     runtime: &R,
     alloc: Global,
@@ -198,15 +197,22 @@ fn make_over<R: Files + RandomSource>(
     if !are_one(&runtime.metadata(place.path())?, found) {
         return Err(FileFault::Refused(Refusal::Other));
     }
+    let file = make_alike(runtime, place.part(), found)?;
+    Ok(SystemFile::new(file, Some(place)))
+}
+
+// A file with the mode of the one that was found, and with its owner as far as that is allowed. Nobody else can open it
+// before.
+fn make_alike<R: Files>(runtime: &R, part: &str, found: &Metadata) -> Result<R::File, FileFault> {
     let file = OpenOptions::new()
         .write(true)
         .create_new(true)
         .mode(PRIVATE)
-        .open(runtime, place.part())?;
-    let _ = runtime.chown(place.part(), Some(found.uid()), Some(found.gid()));
+        .open(runtime, part)?;
+    let _ = runtime.chown(part, Some(found.uid()), Some(found.gid()));
     if let Err(error) = file.set_permissions(Permissions::from_mode(found.mode() & MODE_BITS)) {
-        let _ = runtime.remove_file(place.part());
+        let _ = runtime.remove_file(part);
         return Err(FileFault::from(error));
     }
-    Ok(SystemFile::new(file, Some(place)))
+    Ok(file)
 }
