@@ -35,3 +35,8 @@ returns-clause-err g c =
     let entered = subst (IsEntered g.N.Numbered.numbered c.args.pieces.items c.fill.new.slots.items) c.in_default.is c.fill.ensures.entered in
     let long : length c.fill.new.slots.items ≡ c.args.count = c.fill.ensures.long ∙ ap length c.in_ok-slots.ensures ∙ length-replicate c.args.count _ in
     each_err c.take_each.result (λ fault first. missing_of g.N.Numbered.numbered c.args.count c.args.pieces.items c.requires c.fill.new.slots.items long entered fault first) c.take_each.ensures.missing
+
+pub take_each-requires : goal.take_each-requires
+take_each-requires g c =
+    let long : length c.fill.new.slots.items ≡ c.args.count = c.fill.ensures.long ∙ ap length c.in_ok-slots.ensures ∙ length-replicate c.args.count _ in
+    omega (arith, long)

@@ -1,8 +1,17 @@
-use Rattle.std.proofs.Common.{◌≡◌, ◌<◌, ◌+◌, ◌++◌, ◌∷◌, [], Some, None, length, map, take, get_or, sym, ap, ◌∙◌, arith}
-use Rattle.std.proofs.lemmas.List.{length-set, drop-set-lt, map_push, take_more}
+use Rattle.std.proofs.Common.{◌≡◌, ◌<◌, ◌+◌, ◌++◌, ◌∷◌, [], Some, None, length, map, take, get_or, refl, sym, ap, ◌∙◌, arith}
+use Rattle.std.proofs.lemmas.List.{length-set, drop-set-lt, map_push, take_all, take_more}
 use Rattle.std.proofs.lemmas.Option.{slice_get-get_or}
 use Rattle.cert_tree.proofs.AssemblyLemmas.{same_head, not_before}
 use Rattle.cert_tree.proofs.assemblies.take_each.Goals as goal
+
+pub loop-number-init : goal.loop-number-init
+loop-number-init g c = record { long = refl; left = refl; taken = ap (map Some) c.in_ok-lemmas.ensures.items }
+
+pub index_mut-requires : goal.index_mut-requires
+index_mut-requires g c = omega (arith, c.loop-number-test.true, c.len-number-end.ensures, c.args.slots.ok.0, c.loop-number.invariant.long)
+
+pub overflow_cast-result : goal.overflow_cast-result
+overflow_cast-result g c = omega (arith, c.loop-number-test.true, c.len-number-end.ensures, c.args.slots.ok.0, c.requires)
 
 pub returns-in_default-clause-missing : goal.returns-in_default-clause-missing
 returns-in_default-clause-missing g c =
@@ -29,3 +38,7 @@ loop-number-preserved g c =
           ∙ ap (λ x. take c.loop-number.number c.args.slots.items ++ x ∷ []) (sym some)
           ∙ sym (take_more c.args.slots.items c.loop-number.number c.index_mut.result.now lt);
     }
+
+pub returns-clause-all : goal.returns-clause-all
+returns-clause-all g c =
+    c.loop-number.invariant.taken ∙ take_all c.loop-number.number c.args.slots.items (omega (arith, c.loop-number-test.false, c.len-number-end.ensures, c.args.slots.ok.0))

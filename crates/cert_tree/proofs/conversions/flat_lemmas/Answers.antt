@@ -1,5 +1,6 @@
-use Rattle.std.proofs.Common.{◌≡◌, ◌+◌, ◌++◌, ◌∷◌, [], List, map, take, ap, sym, ◌∙◌}
-use Rattle.std.proofs.lemmas.List.{take_more, map-append}
+use Rattle.std.proofs.Common.{◌≡◌, ◌+◌, ◌++◌, ◌∷◌, [], List, map, take, ap, sym, subst, ◌∙◌, arith}
+use Rattle.std.specs.Prelude.{IfOk}
+use Rattle.std.proofs.lemmas.List.{take_more, take_all, map-append}
 use Rattle.cert_tree.specs.declared.certificates.Lemma.{Lemma}
 use Rattle.cert_tree.specs.Certificate.{Piece, piece_of}
 use Rattle.cert_tree.specs.Spans.{piece_in}
@@ -22,3 +23,11 @@ loop-lemma-preserved c =
           ∙ ap (λ (piece : Piece). map piece_of (take i c.args.lemmas.now) ++ piece ∷ []) put.lemma
           ∙ sym (ap (map piece_of) next ∙ map-append piece_of (take i c.args.lemmas.now) (lemma ∷ []));
     }
+
+pub of-requires : goal.of-requires
+of-requires c = c.loop-lemma.invariant.spans
+
+pub returns : goal.returns
+returns c =
+    let all = take_all c.loop-lemma.lemma-index c.args.lemmas.now (omega (arith, c.loop-lemma-test.false)) in
+    subst (λ (pieces : List Piece). IfOk c.of.result (λ flat. flat ≡ pieces)) (c.loop-lemma.invariant.lemmas ∙ ap (map piece_of) all) c.of.ensures

@@ -1,10 +1,10 @@
-use Rattle.std.proofs.Common.{◌≡◌, ◌++◌, List, length, ap, sym, arith, ◌∙◌}
+use Rattle.std.proofs.Common.{◌≡◌, ◌++◌, List, length, ap, sym, subst, arith, ◌∙◌}
 use Rattle.match_puzzle.specs.declared.placements.Pair.{Pair}
 use Rattle.cert_tree.specs.declared.heads.Head.{Head}
 use Rattle.cert_tree.specs.Tree.{tree_of}
 use Rattle.cert_tree.specs.Heads.{heads_of}
-use Rattle.cert_tree.specs.Spans.{piece_in}
-use Rattle.cert_tree.proofs.SpanLemmas.{put_tree, put_piece}
+use Rattle.cert_tree.specs.Spans.{piece_in, IsSpan}
+use Rattle.cert_tree.proofs.SpanLemmas.{is_behind, put_tree, put_piece}
 use Rattle.cert_tree.proofs.conversions.put_flat.Goals as goal
 use Rattle.cert_tree.proofs.conversions.put_flat.Goals.{After-deref-2}
 
@@ -28,3 +28,14 @@ returns-clause-lemma c =
     ∙ ap (λ (heads : List Head). piece_in c.deref.result.now heads c.of_last.result) (sym c.deref-2.ensures.value)
     ∙ put_piece (tree_of lemma.tree) c.args.heads.now.items c.deref-2.result.now c.len-heads_start.result (start here) (more here) lemma.number lemma.prefix c.args.pairs.now.items c.deref.result.now c.len-pairs_start.result pairs_start more_pairs
     (piece_in c.deref.result.now c.deref-2.result.now c.of_last.result) c.of_last.ensures.piece
+
+pub returns-clause-span : goal.returns-clause-span
+returns-clause-span c =
+    subst (λ (pairs : List Pair). IsSpan pairs c.put_node.new.heads.items c.of_last.result) c.deref.ensures.value
+    (subst (λ (heads : List Head). IsSpan c.deref.result.now heads c.of_last.result) c.deref-2.ensures.value c.of_last.ensures.span)
+
+pub returns-clause-pairs : goal.returns-clause-pairs
+returns-clause-pairs c = is_behind c.args.pairs.now.items c.extend_from_slice.new.self.items c.as_slice.result.now c.in_ok-extend_from_slice.ensures.items
+
+pub returns-clause-heads : goal.returns-clause-heads
+returns-clause-heads c = is_behind c.args.heads.now.items c.put_node.new.heads.items (heads_of (tree_of c.args.lemma.now.tree)) c.in_ok-put_node.ensures

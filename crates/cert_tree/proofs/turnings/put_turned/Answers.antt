@@ -7,11 +7,11 @@ use Rattle.cert_tree.specs.declared.heads.Head.{Head}
 use Rattle.cert_tree.specs.Tree.{Tree}
 use Rattle.cert_tree.specs.Heads.{heads_of}
 use Rattle.cert_tree.specs.Certificate.{Piece}
-use Rattle.cert_tree.specs.Spans.{piece_in}
+use Rattle.cert_tree.specs.Spans.{piece_in, IsSpan}
 use Rattle.cert_tree.specs.TurnedAssembly.{turned_tree}
 use Rattle.cert_tree.specs.Turning.{IsFoundUpTo}
 use Rattle.cert_tree.proofs.TurningLemmas.{found_below, turned_behind}
-use Rattle.cert_tree.proofs.SpanLemmas.{behind_is, put_tree, put_piece}
+use Rattle.cert_tree.proofs.SpanLemmas.{behind_is, is_behind, put_tree, put_piece}
 use Rattle.cert_tree.proofs.turnings.put_turned.Goals as goal
 use Rattle.cert_tree.proofs.turnings.put_turned.Goals.{After-deref-2}
 
@@ -55,3 +55,16 @@ returns-clause-lemma c =
     ∙ put_piece tree_turned c.args.heads.now.items c.deref-2.result.now c.len-heads_start.result (start here) (more here) c.turned_number-number.result lemma.prefix.now c.args.pairs.now.items c.deref.result.now c.len-pairs_start.result pairs_start more_pairs
     (piece_in c.deref.result.now c.deref-2.result.now c.of_last.result) c.of_last.ensures.piece
     ∙ ap (λ n. let p : Piece = record { number = n; prefix = lemma.prefix.now; tree = tree_turned } in p) c.turned_number-number.ensures
+
+pub returns-clause-span : goal.returns-clause-span
+returns-clause-span c =
+    subst (λ (pairs : List Pair). IsSpan pairs c.turn_heads.new.heads.items c.of_last.result) c.deref.ensures.value
+    (subst (λ (heads : List Head). IsSpan c.deref.result.now heads c.of_last.result) c.deref-2.ensures.value c.of_last.ensures.span)
+
+pub returns-clause-pairs : goal.returns-clause-pairs
+returns-clause-pairs c = is_behind c.args.pairs.now.items c.extend_from_slice.new.self.items c.args.lemma.now.prefix.now c.in_ok-extend_from_slice.ensures.items
+
+pub returns-clause-heads : goal.returns-clause-heads
+returns-clause-heads c =
+    let here = (goal.at.returns-clause-heads c).After-deref-2 in
+    is_behind c.args.heads.now.items c.turn_heads.new.heads.items (heads_of (turned_tree c.args.count (first here) c.args.lemma.now.tree)) (sym c.deref-2.ensures.value ∙ more here)
