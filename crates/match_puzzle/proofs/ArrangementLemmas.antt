@@ -1,5 +1,5 @@
 -- The first fault of a list of placements.
-use Rattle.std.proofs.Common.{◌≡◌, ◌≢◌, ◌<◌, ◌+◌, ℕ, Bool, true, false, MatchBool, List, Option, length, set, get_or, arith, sym, ap, ◌∙◌, subst, ⊎_elim}
+use Rattle.std.proofs.Common.{◌≡◌, ◌≢◌, ◌<◌, ◌+◌, ℕ, Bool, true, false, MatchBool, List, Option, length, set, get_or, below_more, arith, sym, ap, ◌∙◌, subst, ⊎_elim}
 use Rattle.match_limits.specs.declared.TheConstants.{MOST_TILES}
 use Rattle.std.proofs.lemmas.Option.{slice_get-get_or, get_or_from_slice_get}
 use Rattle.std.proofs.lemmas.List.{get_or-set_same, get_or-set_other}
@@ -116,6 +116,16 @@ read_stands a cell d lt = slice_get-get_or a cell d lt
 -- what stands at a cell is what is read there
 pub standing_is : (a : List Placement) (cell : ℕ) (x d : Placement) → Stands a cell x → get_or a cell d ≡ x
 standing_is a cell x d stands = get_or_from_slice_get a cell x d stands
+
+-- what is read where no cell is
+abbrev pub first_tile : Placement
+first_tile = record { tile = 0; turn = 0 }
+
+-- what holds of all that stands before a cell and of what is read there, holds of all that stands before the next
+pub one_more_stands : (P : Placement → Type 0) (a : List Placement) (cell : ℕ) (d : Placement) → ((k : ℕ) → k < cell → (x : Placement) → Stands a k x → P x) → P (get_or a cell d) →
+    (k : ℕ) → k < cell + 1 → (x : Placement) → Stands a k x → P x
+one_more_stands P a cell d before here =
+    below_more (λ k. (x : Placement) → Stands a k x → P x) cell before (λ x stands. subst P (standing_is a cell x d stands) here)
 
 -- a side that meets another one
 pub edge_matches : (p : Task) (a : List Placement) (cell side cell' side' : ℕ) (d : Placement) → cell < length a → cell' < length a → IsSide p cell side (Edge cell' side') →

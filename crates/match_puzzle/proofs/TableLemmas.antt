@@ -15,7 +15,7 @@ use Rattle.match_board.specs.Borders.{BorderRule, free, one, each, rule_of, Asks
 use Rattle.match_puzzle.specs.Colours.{HasColour, IsColourCount}
 use Rattle.match_puzzle.specs.Tables.{IsSide, IsAskedAt, AreSides, IsTurnCount, IsNextNumber}
 use Rattle.match_puzzle.specs.declared.tables.CellSides.{CellSides}
-use Rattle.match_puzzle.proofs.Words.{tile_of_word, word_at}
+use Rattle.match_puzzle.proofs.Words.{few_sides, tile_of_word, word_at}
 use Rattle.match_puzzle.specs.declared.tables.Side.TheVariants.{Border as TableBorder}
 use Rattle.std.proofs.lemmas.Option.{slice_get_within, get_or_from_slice_get}
 use Rattle.match_limits.specs.Listing.{IsListing, ComesBefore, HoldsBefore}
@@ -33,6 +33,12 @@ met_is only c' k' m = let e = same_pair (only c' k' m) in (sym e.0, sym e.1)
 -- a side that no answer meets
 pub border_is : (s : Figure) (cell side : ℕ) → cell < cell_count s → side < side_count s → ((c k : ℕ) → Meets s cell side c k → ◌≡◌ {A = Option (ℕ × ℕ)} None (Some (c, k))) → IsBorderPair s cell side
 border_is s cell side cell_in side_in only = record { cell_in = cell_in; side_in = side_in; meets_nothing = λ c k m. none_some (only c k m) }
+
+-- a side of the table is that of the cell
+pub side_there : (p : Task) (table : List CellSides) → AreSides p table → (cell side : ℕ) (sides : CellSides) → slice_get table cell ≡ Some sides → side < side_count p.board → IsSide p cell side (get_or sides.sides side (TableBorder None))
+side_there p table is cell side sides there lt =
+    let at = is.asked cell sides there side (omega (arith, lt, few_sides p.board)) in
+    subst (IsSide p cell side) (sym (get_or_from_slice_get sides.sides side at.0 (TableBorder None) at.1)) (is.is cell side sides at.0 there lt at.1)
 
 -- a place of the table is that of the side
 pub side_asked_at : (p : Task) (table : List CellSides) → AreSides p table → (cell side : ℕ) (sides : CellSides) → slice_get table cell ≡ Some sides → side < 4 → IsAskedAt p cell side (get_or sides.asked_at side 0)

@@ -13,6 +13,7 @@ use Rattle.match_puzzle.specs.PlacementSets.{AreMatesShown}
 use Rattle.match_puzzle.specs.declared.tables.Side.{Side}
 use Rattle.match_puzzle.specs.declared.tables.Side.TheVariants.{Border, Edge}
 use Rattle.match_puzzle.specs.declared.tables.CellSides.{CellSides}
+use Rattle.match_puzzle.specs.declared.tables.Tables.{Tables}
 
 -- What the table says of a side is so.
 abbrev pub IsSide : Task → (cell side : ℕ) → Side → Type 0
@@ -61,17 +62,16 @@ pub record AreTurnCounts (p : Task) (table : List ℕ) : Type 0 where
   pub is : (tile count : ℕ) → slice_get table tile ≡ Some count → IsTurnCount p tile count
 
 -- what holds of each puzzle
-pub record IsMade (p : Task) (sides_table : List CellSides) (turns_table : List ℕ) (count : ℕ) (legal_numbers : List ℕ)
-    (showing_sets shown_table asked_table : List (List ℕ)) : Type 0 where
+pub record IsMade (p : Task) (tables : Tables) : Type 0 where
   pub puzzle : IsPuzzle p
-  pub sides : AreSides p sides_table
-  pub turn_counts : AreTurnCounts p turns_table
-  pub colours : IsColourCount p count
-  pub legal : AreLegalNumbers p legal_numbers
+  pub sides : AreSides p tables.sides.items
+  pub turn_counts : AreTurnCounts p tables.turn_counts.items
+  pub colours : IsColourCount p tables.colours
+  pub legal : AreLegalNumbers p tables.sets.legal
   pub unturned : AreUnturnedLegal p
-  pub showing : AreShowingSets p.words showing_sets
-  pub shown : AreShownColours p.words shown_table
-  pub asked : AreMatesShown p.mating.mates shown_table asked_table
+  pub showing : AreShowingSets p.words tables.sets.showing.items
+  pub shown : AreShownColours p.words tables.sets.shown.items
+  pub asked : AreMatesShown p.mating.mates tables.sets.shown.items tables.sets.asked.items
 
 -- So many border pairs come before this pair.
 pub record IsNextNumber (s : Figure) (n : ℕ × ℕ) (number : ℕ) : Type 0 where

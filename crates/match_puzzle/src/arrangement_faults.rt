@@ -52,10 +52,12 @@ impl Puzzle {
             (IsLeast (HasNoTileAt self.now placements.now)) }
     {
         let cells = self.board().cells();
-        let cell = placements
-            .iter()
-            .position(|placement| placement.tile >= cells)?;
-        Some(cell as u32)
+        for cell in 0..cells {
+            if placements[usize::from(cell)].tile >= cells {
+                return Some(u32::from(cell));
+            }
+        }
+        None
     }
 
     // The first cell whose tile may not be turned so.

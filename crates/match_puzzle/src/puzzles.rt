@@ -10,9 +10,9 @@ ghost use Rattle.match_board.specs.Borders.{rule_of, IsShortRule};
 ghost use Rattle.match_puzzle.specs.PuzzleFaults.{PuzzleFails, puzzle_rank};
 
 use crate::faults::PuzzleFault;
-use crate::placement_sets::{ANY_COLOUR, PlacementSets};
+use crate::placement_sets::ANY_COLOUR;
 use crate::placements::Placement;
-use crate::tables::{CellSides, Side, colour_count, odd_tile, sides_table, turn_counts};
+use crate::tables::{Side, Tables, odd_tile};
 use match_board::{Board, Border, Figure, Tile, broken_mate, mate_in};
 use match_limits::{FixedSet, MOST_COLOURS, NumberSet, SIDES, TURNS};
 use std::alloc::{AllocError, Global};
@@ -28,10 +28,7 @@ pub struct Puzzle {
     version: u8,
     mates: Vec<u8>,
     tiles: Vec<Tile>,
-    sides: Vec<CellSides>,
-    turn_counts: Vec<u8>,
-    colours: u8,
-    sets: PlacementSets,
+    tables: Tables,
 }
 
 impl Model for Puzzle {
@@ -46,8 +43,7 @@ impl Model for Puzzle {
 
     ghost invariant = { λ p. IsMade
         (task_of p.board p.turns p.border (mating_of p.version p.mates.items) p.tiles.items)
-        p.sides.items p.turn_counts.items p.colours p.sets.legal p.sets.showing.items p.sets.shown.items
-        p.sets.asked.items };
+        p.tables };
 }
 
 impl Puzzle {
@@ -79,7 +75,10 @@ impl Puzzle {
         ensures memory { IsErrOf result PuzzleFault.Memory
             → IsPuzzle (task_of board turns border.now (mating_for board) tiles.now) }
     {
-        let version = version_for(&board);
+        let version = match board.figure() {
+            Figure::Shape { .. } => 2,
+            _ => 1,
+        };
         Puzzle::make(alloc, board, turns, border, version, &[], tiles)
     }
 
@@ -170,10 +169,7 @@ impl Puzzle {
         ensures { IfOk result (λ p. (p ≡ task_of board turns border.now
             (mating_of version mates.now) tiles.now) × IsPuzzle p) }
     {
-        let sides = sides_table(alloc, &board, border)?;
-        let turn_counts = turn_counts(alloc, turns, tiles)?;
-        let colours = colour_count(border, mates, tiles);
-        let sets = PlacementSets::new(alloc, tiles, &turn_counts, mates)?;
+        let tables = Tables::new(alloc, &board, turns, border, mates, tiles)?;
         let border = border.copy(alloc)?;
         let mates = mates.to_vec(alloc)?;
         let tiles = tiles.to_vec(alloc)?;
@@ -184,10 +180,7 @@ impl Puzzle {
             version,
             mates,
             tiles,
-            sides,
-            turn_counts,
-            colours,
-            sets,
+            tables,
         })
     }
 
@@ -250,7 +243,7 @@ impl Puzzle {
     pub fn colours(&self) -> u8
         ensures { IsColourCount self.now result }
     {
-        self.colours
+        self.tables.colours
     }
 
     /// What the border asks of a side of a cell: nothing where it meets a cell.
@@ -294,7 +287,7 @@ impl Puzzle {
         requires side { side < side_count self.now.board }
         ensures { IsSide self.now cell side result }
     {
-        self.sides[usize::from(cell)].sides[usize::from(side)]
+        self.tables.sides[usize::from(cell)].sides[usize::from(side)]
     }
 
     // Where in a table of what cells ask the colour stands that is asked of the side; none, where there is no such side.
@@ -303,7 +296,7 @@ impl Puzzle {
         requires side { side < 4 }
         ensures { IsAskedAt self.now cell side result }
     {
-        self.sides[usize::from(cell)].asked_at[usize::from(side)]
+        self.tables.sides[usize::from(cell)].asked_at[usize::from(side)]
     }
 
     // How many turns of a tile are legal.
@@ -311,7 +304,7 @@ impl Puzzle {
         requires { tile < length self.now.words }
         ensures { IsTurnCount self.now tile result }
     {
-        self.turn_counts[usize::from(tile)]
+        self.tables.turn_counts[usize::from(tile)]
     }
 
     /// The legal placements, by number.
@@ -319,7 +312,7 @@ impl Puzzle {
         ensures legal { AreLegalNumbers self.now result.now }
         ensures unturned { AreUnturnedLegal self.now }
     {
-        &self.sets.legal
+        &self.tables.sets.legal
     }
 
     /// The placements that show on the side what is asked, by number.
@@ -328,7 +321,7 @@ impl Puzzle {
         requires side { side < 4 }
         ensures { AreShowing self.now.words asked side result.now }
     {
-        &self.sets.showing[SIDES * usize::from(asked) + usize::from(side)]
+        &self.tables.sets.showing[SIDES * usize::from(asked) + usize::from(side)]
     }
 
     // What the placement shows: the colour on each side, and something on a fourth that isn't there.
@@ -336,7 +329,8 @@ impl Puzzle {
         requires { IsLegal self.now placement }
         ensures { ShowsColours self.now placement result }
     {
-        self.sets.shown[TURNS as usize * usize::from(placement.tile) + usize::from(placement.turn)]
+        self.tables.sets.shown[TURNS as usize * usize::from(placement.tile)
+            + usize::from(placement.turn)]
     }
 
     /// What the placement asks of those that it meets: the mate of the colour on each side, and something on a fourth
@@ -345,7 +339,8 @@ impl Puzzle {
         requires { IsLegal self.now placement }
         ensures { AsksColours self.now placement result }
     {
-        self.sets.asked[TURNS as usize * usize::from(placement.tile) + usize::from(placement.turn)]
+        self.tables.sets.asked[TURNS as usize * usize::from(placement.tile)
+            + usize::from(placement.turn)]
     }
 
     /// The colour that a placed tile shows on a side.
@@ -366,16 +361,6 @@ impl Puzzle {
         ensures sides { length (word result.now) ≡ side_count self.now.board }
     {
         &self.tiles[usize::from(tile)]
-    }
-}
-
-// The version of a puzzle that is made without a list of mates.
-fn version_for(board: &Board) -> u8
-    ensures { result ≡ (mating_for board.now).version }
-{
-    match board.figure() {
-        Figure::Rectangle { .. } | Figure::Triangle { .. } | Figure::Hexagon { .. } => 1,
-        Figure::Shape { .. } => 2,
     }
 }
 

@@ -10,14 +10,14 @@ ghost use Rattle.match_board.specs.Turns.{IsPeriod};
 ghost use Rattle.match_board.specs.declared.tiles.Tile.{Tile as BoardTile};
 ghost use Rattle.match_board.specs.declared.borders.Border.{Border as BorderRules};
 ghost use Rattle.match_board.specs.Mates.{Mating, mating_of};
-ghost use Rattle.match_puzzle.specs.Puzzle.{Task, task_of};
+ghost use Rattle.match_puzzle.specs.Puzzle.{Task, task_of, IsPuzzle};
 ghost use Rattle.match_board.specs.Borders.{rule_of, StandsInRule, IsAsLongAsBorder};
 ghost use Rattle.match_puzzle.specs.Colours.{IsColourCount};
-ghost use Rattle.match_puzzle.specs.Tables.{IsSide, AreSides, AreTurnCounts, IsNextNumber};
+ghost use Rattle.match_puzzle.specs.Tables.{IsSide, AreSides, AreTurnCounts, IsMade, IsNextNumber};
 ghost use Rattle.match_puzzle.specs.Tables.{place_asked, AreAskedAt};
 ghost use Rattle.match_puzzle.specs.declared.tables.Side.TheVariants as sides;
 
-use crate::placement_sets::ANY_COLOUR;
+use crate::placement_sets::{ANY_COLOUR, PlacementSets};
 use match_board::{Board, Border, Tile};
 use match_limits::{MOST_COLOURS, SIDES};
 use std::alloc::{AllocError, Global};
@@ -43,12 +43,49 @@ pub(crate) struct CellSides {
 /// colour at its own place, and behind the last one what stands for none.
 pub(crate) const FIRST_PLACE: usize = ANY_COLOUR as usize + 1;
 
-/// The sides of each cell.
-pub(crate) fn sides_table(
-    alloc: Global,
-    board: &Board,
-    border: &Border,
-) -> Result<Vec<CellSides>, AllocError>
+/// What a puzzle keeps looked up.
+#[derive(Drop)]
+pub(crate) struct Tables {
+    /// The sides of each cell.
+    pub(crate) sides: Vec<CellSides>,
+    /// How many turns of each tile are legal.
+    pub(crate) turn_counts: Vec<u8>,
+    /// One more than the greatest colour.
+    pub(crate) colours: u8,
+    /// Which placements are legal, and what they show and ask.
+    pub(crate) sets: PlacementSets,
+}
+
+impl Tables {
+    /// The tables of the puzzle of these parts, of whichever version.
+    pub(crate) fn new(
+        alloc: Global,
+        board: &Board,
+        turns: bool,
+        border: &Border,
+        mates: &[u8],
+        tiles: &[Tile],
+    ) -> Result<Tables, AllocError>
+        requires { (version : ℕ) × IsPuzzle
+            (task_of board.now turns border.now (mating_of version mates.now) tiles.now) }
+        ensures { IfOk result (λ tables. (version : ℕ)
+            → IsPuzzle (task_of board.now turns border.now (mating_of version mates.now) tiles.now)
+            → IsMade (task_of board.now turns border.now (mating_of version mates.now) tiles.now) tables) }
+    {
+        let sides = sides_table(alloc, board, border)?;
+        let turn_counts = turn_counts(alloc, turns, tiles)?;
+        let sets = PlacementSets::new(alloc, tiles, &turn_counts, mates)?;
+        Ok(Tables {
+            sides,
+            turn_counts,
+            colours: colour_count(border, mates, tiles),
+            sets,
+        })
+    }
+}
+
+// The sides of each cell.
+fn sides_table(alloc: Global, board: &Board, border: &Border) -> Result<Vec<CellSides>, AllocError>
     requires { IsAsLongAsBorder board.now (rule_of border.now) }
     ensures { IfOk result
         (λ v. (turns : Bool) (mating : Mating) (tiles : List BoardTile)
@@ -131,8 +168,8 @@ fn side_at(board: &Board, border: &Border, cell: u16, side: u8, number: &mut u16
     }
 }
 
-/// How many turns of each tile are legal.
-pub(crate) fn turn_counts(alloc: Global, turns: bool, tiles: &[Tile]) -> Result<Vec<u8>, AllocError>
+// How many turns of each tile are legal.
+fn turn_counts(alloc: Global, turns: bool, tiles: &[Tile]) -> Result<Vec<u8>, AllocError>
     ensures { IfOk result
         (λ v. (board : Figure) (border : BorderRules) (mating : Mating)
         → AreTurnCounts (task_of board turns border mating tiles.now) v.items) }
@@ -151,8 +188,8 @@ fn turn_count(turns: bool, tile: &Tile) -> u8
     if turns { tile.period() } else { 1 }
 }
 
-/// One more than the greatest colour on a tile, in the border's rule or in the list of mates.
-pub(crate) fn colour_count(border: &Border, mates: &[u8], tiles: &[Tile]) -> u8
+// One more than the greatest colour on a tile, in the border's rule or in the list of mates.
+fn colour_count(border: &Border, mates: &[u8], tiles: &[Tile]) -> u8
     requires border { (place colour : ℕ) → StandsInRule (rule_of border.now) place colour → colour < MOST_COLOURS }
     requires mates { length mates.now ≤ MOST_COLOURS }
     ensures { (board : Figure) (turns : Bool) (version : ℕ) → IsColourCount

@@ -3,8 +3,14 @@ use Rattle.std.proofs.lemmas.List.{length-map}
 use Rattle.match_board.specs.Tile.{word}
 use Rattle.match_puzzle.specs.Puzzle.{task_of}
 use Rattle.match_puzzle.specs.Tables.{IsTurnCount}
-use Rattle.match_puzzle.proofs.TableLemmas.{turn_counts_more, turn_count_is}
+use Rattle.match_puzzle.proofs.TableLemmas.{in_empty_table, turn_counts_more, turn_count_is}
 use Rattle.match_puzzle.proofs.tables.turn_counts.Goals as goal
+
+pub loop-tile-init : goal.loop-tile-init
+loop-tile-init c = record {
+  long = ap length c.in_ok-table.ensures.items;
+  is = λ tile count get. absurd (in_empty_table tile count (subst (λ (xs : List ℕ). slice_get xs tile ≡ Some count) c.in_ok-table.ensures.items get));
+}
 
 pub loop-tile-preserved : goal.loop-tile-preserved
 loop-tile-preserved c =

@@ -8,7 +8,7 @@ use Rattle.match_puzzle.proofs.puzzles.Puzzle.asked_at.Goals as goal
 pub returns : goal.returns
 returns c =
     let p = c.args.self.now in
-    let items = c.self.inside.sides.items in
+    let items = c.self.inside.tables.sides.items in
     let sides = c.index.result.now in
     let table : AreSides p items = subst (λ (q : Task). AreSides q items) c.self.view_is c.self.invariant.sides in
     let at = c.from.ensures in

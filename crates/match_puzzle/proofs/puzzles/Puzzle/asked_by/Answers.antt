@@ -10,13 +10,13 @@ use Rattle.match_puzzle.proofs.puzzles.Puzzle.asked_by.Goals.{After-from-2}
 puzzle : (c : After-from-2) → IsPuzzle c.args.self.now
 puzzle c = subst IsPuzzle c.self.view_is c.self.invariant.puzzle
 
-shown : (c : After-from-2) → AreShownColours c.args.self.now.words c.self.inside.sets.shown.items
-shown c = subst (λ (p : Task). AreShownColours p.words c.self.inside.sets.shown.items) c.self.view_is c.self.invariant.shown
+shown : (c : After-from-2) → AreShownColours c.args.self.now.words c.self.inside.tables.sets.shown.items
+shown c = subst (λ (p : Task). AreShownColours p.words c.self.inside.tables.sets.shown.items) c.self.view_is c.self.invariant.shown
 
-asked : (c : After-from-2) → AreMatesShown c.args.self.now.mating.mates c.self.inside.sets.shown.items c.self.inside.sets.asked.items
-asked c = subst (λ (p : Task). AreMatesShown p.mating.mates c.self.inside.sets.shown.items c.self.inside.sets.asked.items) c.self.view_is c.self.invariant.asked
+asked : (c : After-from-2) → AreMatesShown c.args.self.now.mating.mates c.self.inside.tables.sets.shown.items c.self.inside.tables.sets.asked.items
+asked c = subst (λ (p : Task). AreMatesShown p.mating.mates c.self.inside.tables.sets.shown.items c.self.inside.tables.sets.asked.items) c.self.view_is c.self.invariant.asked
 
-place_in : (c : After-from-2) → 4 * c.from.result + c.from-2.result < length c.self.inside.sets.asked.items
+place_in : (c : After-from-2) → 4 * c.from.result + c.from-2.result < length c.self.inside.tables.sets.asked.items
 place_in c =
     let tile = c.from.ensures in
     let turn = c.from-2.ensures in
@@ -27,16 +27,16 @@ place_in c =
     omega (arith, tile, turn, long, same, tile_in, small)
 
 pub index-requires : goal.index-requires
-index-requires c = let within = place_in c in let long = c.self.inside.sets.asked.ok.0 in omega (arith, within, long)
+index-requires c = let within = place_in c in let long = c.self.inside.tables.sets.asked.ok.0 in omega (arith, within, long)
 
 pub returns : goal.returns
 returns c =
     let there = (goal.at.returns c).After-from-2 in
     let x = c.args.placement in
-    let items = c.self.inside.sets.asked.items in
+    let items = c.self.inside.tables.sets.asked.items in
     let place = 4 * c.from.result + c.from-2.result in
     let tile = c.from.ensures in
     let turn = c.from-2.ensures in
     let at : place ≡ 4 * x.tile + x.turn = omega (arith, tile, turn) in
-    asks_colours c.args.self.now (puzzle there) c.self.inside.sets.shown.items items (shown there) (asked there) x c.requires.tile (small_turn c.args.self.now x (puzzle there) c.requires) c.index.result.now
+    asks_colours c.args.self.now (puzzle there) c.self.inside.tables.sets.shown.items items (shown there) (asked there) x c.requires.tile (small_turn c.args.self.now x (puzzle there) c.requires) c.index.result.now
     (c.index.ensures ∙ sym (get_or_default items place [] c.index.result.now (place_in there)) ∙ ap (λ k. slice_index_or items k []) at)

@@ -2,14 +2,10 @@ use Rattle.std.proofs.Common.{◌<◌, ◌∙◌, MatchBool, length, slice_index
 use Rattle.match_board.proofs.Places.{StandsAt-in_range, Meets-turned}
 use Rattle.match_puzzle.specs.Arrangement.{MatchesEdgeAt}
 use Rattle.match_puzzle.specs.ArrangementFaults.{BreaksEdgeAt}
-use Rattle.match_puzzle.specs.declared.placements.Placement.{Placement}
-use Rattle.match_puzzle.proofs.ArrangementLemmas.{read_stands, edge_matches, matches_turned, border_matches, side_in_range}
+use Rattle.match_puzzle.proofs.ArrangementLemmas.{first_tile, read_stands, edge_matches, matches_turned, border_matches, side_in_range}
 use Rattle.match_limits.proofs.FirstLemmas.{by_test}
 use Rattle.match_puzzle.proofs.puzzles.Puzzle.matches_edge.Goals as goal
 use Rattle.match_puzzle.proofs.puzzles.Puzzle.matches_edge.Goals.{In-Edge}
-
-abbrev first_tile : Placement
-first_tile = record { tile = 0; turn = 0 }
 
 other_in : (c : In-Edge) → c.in-Edge.other < length c.args.placements.now
 other_in c = omega (arith, StandsAt-in_range c.in-Edge.ensures.0.there, c.requires.long)

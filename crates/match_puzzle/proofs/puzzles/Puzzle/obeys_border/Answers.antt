@@ -1,13 +1,9 @@
 use Rattle.std.proofs.Common.{◌∙◌, ap, arith, slice_index, sym, refl}
 use Rattle.match_puzzle.proofs.Prefixes.{inside}
 use Rattle.match_puzzle.specs.Puzzle.{colour_of}
-use Rattle.match_puzzle.specs.declared.placements.Placement.{Placement}
 use Rattle.match_limits.proofs.FirstLemmas.{by_test}
-use Rattle.match_puzzle.proofs.ArrangementLemmas.{read_stands, standing_is}
+use Rattle.match_puzzle.proofs.ArrangementLemmas.{first_tile, read_stands, standing_is}
 use Rattle.match_puzzle.proofs.puzzles.Puzzle.obeys_border.Goals as goal
-
-abbrev first_tile : Placement
-first_tile = record { tile = 0; turn = 0 }
 
 pub shown-requires : goal.shown-requires
 shown-requires c = rw c.from.ensures (c.requires.legal c.args.cell _ (read_stands c.args.placements.now c.args.cell first_tile (omega (arith, c.requires.long, c.requires.cell))))

@@ -5,13 +5,9 @@ use Rattle.std.proofs.lemmas.Option.{slice_get_within}
 use Rattle.match_board.specs.Board.{cell_count}
 use Rattle.match_puzzle.specs.Puzzle.{Task, IsPuzzle}
 use Rattle.match_puzzle.specs.ArrangementFaults.{RepeatsTileAt}
-use Rattle.match_puzzle.specs.declared.placements.Placement.{Placement}
 use Rattle.match_limits.proofs.FirstLemmas.{least_at}
-use Rattle.match_puzzle.proofs.ArrangementLemmas.{read_stands, once_by_order, seen_none, seen_more, seen_repeats, unseen_once}
+use Rattle.match_puzzle.proofs.ArrangementLemmas.{first_tile, read_stands, once_by_order, seen_none, seen_more, seen_repeats, unseen_once}
 use Rattle.match_puzzle.proofs.puzzles.Puzzle.repeated_tile.Goals as goal
-
-abbrev first_tile : Placement
-first_tile = record { tile = 0; turn = 0 }
 
 -- a tile of a puzzle is below the most
 small_tile : (p : Task) (tile : ℕ) → IsPuzzle p → tile < length p.words → tile < MOST_TILES

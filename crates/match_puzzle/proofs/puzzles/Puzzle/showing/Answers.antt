@@ -7,7 +7,7 @@ use Rattle.match_puzzle.proofs.puzzles.Puzzle.showing.Goals as goal
 
 pub returns : goal.returns
 returns c =
-    let table = c.self.inside.sets.showing.items in
+    let table = c.self.inside.tables.sets.showing.items in
     let showing = c.self.invariant.showing in
     let place = 4 * c.from.result + c.from-2.result in
     let four = c.from.ensures in

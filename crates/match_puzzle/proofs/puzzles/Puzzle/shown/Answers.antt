@@ -10,10 +10,10 @@ use Rattle.match_puzzle.proofs.puzzles.Puzzle.shown.Goals.{After-from-2}
 puzzle : (c : After-from-2) → IsPuzzle c.args.self.now
 puzzle c = subst IsPuzzle c.self.view_is c.self.invariant.puzzle
 
-table : (c : After-from-2) → AreShownColours c.args.self.now.words c.self.inside.sets.shown.items
-table c = subst (λ (p : Task). AreShownColours p.words c.self.inside.sets.shown.items) c.self.view_is c.self.invariant.shown
+table : (c : After-from-2) → AreShownColours c.args.self.now.words c.self.inside.tables.sets.shown.items
+table c = subst (λ (p : Task). AreShownColours p.words c.self.inside.tables.sets.shown.items) c.self.view_is c.self.invariant.shown
 
-place_in : (c : After-from-2) → 4 * c.from.result + c.from-2.result < length c.self.inside.sets.shown.items
+place_in : (c : After-from-2) → 4 * c.from.result + c.from-2.result < length c.self.inside.tables.sets.shown.items
 place_in c =
     let tile = c.from.ensures in
     let turn = c.from-2.ensures in
@@ -23,13 +23,13 @@ place_in c =
     omega (arith, tile, turn, long, tile_in, small)
 
 pub index-requires : goal.index-requires
-index-requires c = let within = place_in c in let long = c.self.inside.sets.shown.ok.0 in omega (arith, within, long)
+index-requires c = let within = place_in c in let long = c.self.inside.tables.sets.shown.ok.0 in omega (arith, within, long)
 
 pub returns : goal.returns
 returns c =
     let there = (goal.at.returns c).After-from-2 in
     let x = c.args.placement in
-    let items = c.self.inside.sets.shown.items in
+    let items = c.self.inside.tables.sets.shown.items in
     let place = 4 * c.from.result + c.from-2.result in
     let tile = c.from.ensures in
     let turn = c.from-2.ensures in
