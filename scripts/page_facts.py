@@ -66,7 +66,7 @@ LIMITS = {
     "crates/byte_streams/README.md": ["tried {MOST_TRIES} times"],
     "crates/cert_check/README.md": ["a tree of under {LEAST_FORKED} nodes"],
     "crates/cert_text/README.md": ["Below {LEAST_NODES} nodes the caller"],
-    "crates/match_census/README.md": ["at most {MOST_BRANCHES} branches"],
+    "crates/census_splits/README.md": ["at most {MOST_BRANCHES} branches"],
     "crates/match_crew/README.md": [
         "at most {MOST_PLANNED} branches",
         "At most {MOST_PLANS} items",

@@ -9,8 +9,9 @@ use Rattle.std.proofs.lemmas.List.{take-append-drop, take_all}
 use Rattle.std.proofs.lemmas.List.Elements.{Contains-append_left, Contains-append_right}
 use Rattle.match_limits.proofs.Listings.{lt_or_le}
 use Rattle.xcc_form.specs.Options.{Compiled}
-use Rattle.match_census.specs.Branches.{WeightedBranch, HaveTogether, HaveMoreTogether, AreSelections, IsTotal}
-use Rattle.match_census.proofs.BranchLemmas.{together_join, together_cut}
+use Rattle.census_branches.specs.Branches.{WeightedBranch, HaveTogether, HaveMoreTogether, AllChoose, IsTotal}
+use Rattle.xcc_dance.specs.Chosen.{IsSelection}
+use Rattle.census_branches.proofs.BranchLemmas.{together_join, together_cut}
 use Rattle.match_census.proofs.OneNumberLemmas.{one_together}
 
 take_least : (size : ℕ) (xs : List WeightedBranch) → take (min size (length xs)) xs ≡ take size xs
@@ -27,7 +28,7 @@ chunk_is branches first size many e =
     let all = take_all (length branches - first) (drop first branches) (omega (arith, long)) in
     ap (λ k. take k (take (length branches - first) (drop first branches))) e ∙ ap (λ xs. take (min size (length xs)) xs) all ∙ take_least size (drop first branches)
 
-pub chunk_selections : (x : Compiled) (branches : List WeightedBranch) (first size : ℕ) → AreSelections x branches → AreSelections x (take size (drop first branches))
+pub chunk_selections : (x : Compiled) (branches : List WeightedBranch) (first size : ℕ) → AllChoose (IsSelection x) branches → AllChoose (IsSelection x) (take size (drop first branches))
 chunk_selections x branches first size all b c =
     all b (subst (λ these. Contains these b) (take-append-drop first branches) (Contains-append_right (take first branches) (drop first branches) b
     (subst (λ these. Contains these b) (take-append-drop size (drop first branches)) (Contains-append_left (take size (drop first branches)) (drop size (drop first branches)) b c))))

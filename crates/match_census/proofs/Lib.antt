@@ -1,14 +1,10 @@
 pub mod ExtensionLemmas
 pub mod OneNumberLemmas
-pub mod BranchLemmas
 pub mod PickingLemmas
 pub mod TotalLemmas
 pub mod SpreadLemmas
-pub mod PartLemmas
 pub mod ChunkLemmas
-pub mod CarryingLemmas
 pub mod DecidingLemmas
 pub mod ExistenceLemmas
 pub mod ExchangeLemmas
-pub mod LookLemmas
-pub mod ChildLemmas
+pub mod WeightLemmas

@@ -9,7 +9,7 @@ use Rattle.xcc_form.specs.Options.{Compiled}
 use Rattle.xcc_form.proofs.OptionLemmas.{contains_at, place_of, read_in}
 use Rattle.xcc_form.proofs.WholeLemmas.{list_from}
 use Rattle.xcc_dance.proofs.RoomLemmas.{few_different}
-use Rattle.match_census.specs.Branches.{WeightedBranch, HaveTogether}
+use Rattle.census_branches.specs.Branches.{WeightedBranch, HaveTogether}
 
 -- different things that are all in another list are no more than that has
 pub no_more : {X : Type 0} (xs ys : List X) → AreDistinct xs → ((x : X) → Contains xs x → Contains ys x) → length xs ≤ length ys

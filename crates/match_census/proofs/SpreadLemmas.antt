@@ -1,9 +1,10 @@
 -- Branches in another order.
-use Rattle.std.proofs.Common.{◌≡◌, ◌≤◌, ◌+◌, ◌*◌, ◌^◌, ◌++◌, ◌∷◌, [], ℕ, List, Option, None, Some, Result, Ok, Err, IfOk, length, arith, refl, sym, ◌∙◌, subst}
+use Rattle.std.proofs.Common.{◌≤◌, ◌+◌, ◌^◌, ◌++◌, ◌∷◌, [], ℕ, List, Option, None, Some, Result, Ok, Err, IfOk, arith, subst}
 use Rattle.std.proofs.lemmas.List.Elements.{Contains-append_left, Contains-append_right}
 use Rattle.xcc_form.specs.Options.{Compiled}
-use Rattle.match_census.specs.Branches.{WeightedBranch, HaveTogether, HaveMoreTogether, StandFor, AreSelections, IsTotal, IsSplit}
-use Rattle.match_census.proofs.BranchLemmas.{together_join, together_cut, selections_both}
+use Rattle.census_branches.specs.Branches.{WeightedBranch, HaveTogether, StandFor, AllChoose, IsTotal, IsSplit}
+use Rattle.xcc_dance.specs.Chosen.{IsSelection}
+use Rattle.census_branches.proofs.BranchLemmas.{together_join, together_cut, both_choose}
 use Rattle.match_census.proofs.OneNumberLemmas.{one_together}
 use Rattle.match_census.proofs.TotalLemmas.{some_together}
 
@@ -26,22 +27,22 @@ module _ (x : Compiled) where
       let g = q.4 in
       stand total (subst (HaveTogether x ((these ++ others) ++ (b ∷ rest))) (omega (arith, e, f, g)) (together_join x (these ++ others) (b ∷ rest) (q.0 + r.0) (q.1 + w.1) both behind))
 
-  first_of : (these those : List WeightedBranch) → AreSelections x (these ++ those) → AreSelections x these
+  first_of : (these those : List WeightedBranch) → AllChoose (IsSelection x) (these ++ those) → AllChoose (IsSelection x) these
   first_of these those are c within = are c (Contains-append_left these those c within)
 
-  last_of : (these those : List WeightedBranch) → AreSelections x (these ++ those) → AreSelections x those
+  last_of : (these those : List WeightedBranch) → AllChoose (IsSelection x) (these ++ those) → AllChoose (IsSelection x) those
   last_of these those are c within = are c (Contains-append_right these those c within)
 
-  pub selections_next : (these others rest : List WeightedBranch) (b : WeightedBranch) → AreSelections x ((these ++ others) ++ (b ∷ rest)) → AreSelections x ((others ++ (these ++ b ∷ [])) ++ rest)
+  pub selections_next : (these others rest : List WeightedBranch) (b : WeightedBranch) → AllChoose (IsSelection x) ((these ++ others) ++ (b ∷ rest)) → AllChoose (IsSelection x) ((others ++ (these ++ b ∷ [])) ++ rest)
   selections_next these others rest b are =
       let before = first_of (these ++ others) (b ∷ rest) are in
       let behind = last_of (these ++ others) (b ∷ rest) are in
-      selections_both x (others ++ (these ++ b ∷ [])) rest
-      (selections_both x others (these ++ b ∷ []) (last_of these others before) (selections_both x these (b ∷ []) (first_of these others before) (first_of (b ∷ []) rest behind)))
+      both_choose (IsSelection x) (others ++ (these ++ b ∷ [])) rest
+      (both_choose (IsSelection x) others (these ++ b ∷ []) (last_of these others before) (both_choose (IsSelection x) these (b ∷ []) (first_of these others before) (first_of (b ∷ []) rest behind)))
       (last_of (b ∷ []) rest behind)
 
   -- what is told of branches that stand for others is told of those
-  pub total_of : (these those : List WeightedBranch) (r : Option ℕ) → StandFor x these those → AreSelections x these → IsTotal x these r → IsTotal x those r
+  pub total_of : (these those : List WeightedBranch) (r : Option ℕ) → StandFor x these those → AllChoose (IsSelection x) these → IsTotal x these r → IsTotal x those r
   total_of these those None stand are many = λ total t.
       let other = some_together x these are in
       let same = one_together x those other.0 total (stand other.0 other.1) t in

@@ -1,9 +1,13 @@
 -- How many arrangements have what is chosen.
-use Rattle.std.specs.Prelude.{ℕ}
-use Rattle.match_puzzle.specs.Numbers.{AreSoMany}
+use Rattle.std.specs.Prelude.{ℕ, List}
+use Rattle.match_puzzle.specs.declared.placements.Placement.{Placement}
 use Rattle.xcc_dance.specs.Chosen.{Selection}
-use Rattle.xcc_dance.specs.Found.{IsFoundFrom}
+use Rattle.census_branches.specs.Extensions.{HasOptions, HaveOptions}
+
+-- The arrangement has all chosen options.
+abbrev pub IsExtension : Selection → List Placement → Type 0
+IsExtension s = HasOptions s.compiled s.chosen
 
 -- So many arrangements have all chosen options.
 abbrev pub HasExtensions : Selection → (count : ℕ) → Type 0
-HasExtensions s count = AreSoMany (IsFoundFrom s) count
+HasExtensions s count = HaveOptions s.compiled s.chosen count

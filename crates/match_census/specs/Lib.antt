@@ -1,6 +1,2 @@
 pub mod Extensions
-pub mod Branches
-pub mod Symmetries
-pub mod Children
-pub mod Looks
-pub mod Hash
+pub mod Weights

@@ -2,9 +2,8 @@
 
 ghost use Rattle.std.specs.Prelude.{◌≡◌, ◌≤◌, ◌/◌, IfOk, IfSome, MatchOption};
 ghost use Rattle.match_puzzle.specs.Numbers.{AreMoreThan};
-ghost use Rattle.xcc_dance.specs.Found.{IsFoundFrom};
-ghost use Rattle.match_census.specs.Looks.{AreLooks};
-ghost use Rattle.match_census.specs.Extensions.{HasExtensions};
+ghost use Rattle.census_branches.specs.Looks.{AreLooks};
+ghost use Rattle.match_census.specs.Extensions.{IsExtension, HasExtensions};
 
 use crate::weights::weight_of;
 use std::alloc::AllocError;
@@ -25,7 +24,7 @@ pub fn count_below<E: OpenOptions>(
     requires { AreLooks (E.selection engine.old).compiled looks.now }
     ensures same { engine.new ≡ engine.old }
     ensures counted { let s = E.selection engine.old in IfOk result (λ o. MatchOption o
-        (AreMoreThan most (IsFoundFrom s))
+        (AreMoreThan most (IsExtension s))
         (HasExtensions s)) }
     ensures most { IfOk result (λ o. IfSome o (λ count. count ≤ most)) }
 {

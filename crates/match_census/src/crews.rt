@@ -3,14 +3,14 @@
 ghost use Rattle.std.specs.Prelude.{◌<◌, ◌≤◌, ◌*◌, ℕ, Option, IfOk, length, slice_index_or};
 ghost use Rattle.std.specs.Fork.{slice_chunk};
 ghost use Rattle.match_limits.specs.declared.TheConstants.{MOST_LEMMAS, MOST_WORKERS};
-ghost use Rattle.match_census.specs.Branches.{AreSelections, IsTotal};
-ghost use Rattle.match_census.specs.Looks.{AreLooks};
+ghost use Rattle.census_branches.specs.Branches.{AllChoose, IsTotal};
+ghost use Rattle.xcc_dance.specs.Chosen.{IsSelection};
+ghost use Rattle.census_branches.specs.Looks.{AreLooks};
 
-use crate::branches::Branch;
-use crate::looks::looks_of;
 use crate::spreads::spread;
 use crate::totals::count_branches;
 use crate::watches::CensusWatch;
+use census_branches::{Branch, looks_of};
 use std::alloc::{AllocError, Global};
 use std::thread::Threads;
 use steal_crew::{Work, run_crew};
@@ -54,11 +54,12 @@ impl<'a, 'l, 'w, 'b, W: CensusWatch> Work for Chunks<'a, 'l, 'w, 'b, W> {
 
     ghost use Rattle.std.specs.Prelude.{◌<◌, ◌*◌, length};
     ghost use Rattle.std.specs.Fork.{slice_chunk};
-    ghost use Rattle.match_census.specs.Branches.{AreSelections, IsTotal};
-    ghost use Rattle.match_census.specs.Looks.{AreLooks};
+    ghost use Rattle.census_branches.specs.Branches.{AllChoose, IsTotal};
+    ghost use Rattle.xcc_dance.specs.Chosen.{IsSelection};
+    ghost use Rattle.census_branches.specs.Looks.{AreLooks};
 
-    ghost accepts = { λ w n. (n * w.size < length w.branches.now) × AreSelections w.means.xcc.now w.branches.now
-        × AreLooks w.means.xcc.now w.means.looks.now };
+    ghost accepts = { λ w n. (n * w.size < length w.branches.now)
+        × AllChoose (IsSelection w.means.xcc.now) w.branches.now × AreLooks w.means.xcc.now w.means.looks.now };
 
     ghost gives = { λ w n r. IsTotal w.means.xcc.now (slice_chunk w.branches.now w.size n) r };
 
@@ -81,7 +82,7 @@ pub fn count_with_crew<R: Threads + Sync, W: CensusWatch + Sync>(
     count: Count<'_, '_, W>,
     workers: u8,
 ) -> Result<Option<u64>, AllocError>
-    requires selections { AreSelections count.xcc.now count.branches.items }
+    requires selections { AllChoose (IsSelection count.xcc.now) count.branches.items }
     requires few { length count.branches.items ≤ MOST_LEMMAS }
     requires workers { (1 ≤ workers) × (workers ≤ MOST_WORKERS) }
     ensures { IfOk result (IsTotal count.entry.xcc.now count.entry.branches.items) }
@@ -110,7 +111,7 @@ fn count_chunks<R: Threads + Sync, W: CensusWatch + Sync>(
     branches: &[Branch],
     workers: u8,
 ) -> Result<Option<u64>, AllocError>
-    requires selections { AreSelections means.xcc.now branches.now }
+    requires selections { AllChoose (IsSelection means.xcc.now) branches.now }
     requires looks { AreLooks means.xcc.now means.looks.now }
     requires few { length branches.now ≤ MOST_LEMMAS }
     requires workers { (1 ≤ workers) × (workers ≤ MOST_WORKERS) }

@@ -2,9 +2,10 @@
 
 ghost use Rattle.std.specs.Prelude.{◌≡◌, ◌++◌, IfOk, length};
 ghost use Rattle.xcc_form.specs.Options.{Compiled};
-ghost use Rattle.match_census.specs.Branches.{AreSelections, StandFor};
+ghost use Rattle.census_branches.specs.Branches.{AllChoose, StandFor};
+ghost use Rattle.xcc_dance.specs.Chosen.{IsSelection};
 
-use crate::branches::Branch;
+use census_branches::Branch;
 use std::alloc::{AllocError, Global};
 use std::mem::swap;
 
@@ -21,7 +22,8 @@ const MOST_HALVINGS: u8 = 16;
 // An error where memory is refused.
 pub(crate) fn spread(alloc: Global, branches: Vec<Branch>) -> Result<Vec<Branch>, AllocError>
     ensures stand { IfOk result (λ v. (x : Compiled) → StandFor x v.items branches.items) }
-    ensures selections { IfOk result (λ v. (x : Compiled) → AreSelections x branches.items → AreSelections x v.items) }
+    ensures selections { IfOk result (λ v. (x : Compiled) → AllChoose (IsSelection x) branches.items
+        → AllChoose (IsSelection x) v.items) }
     ensures long { IfOk result (λ v. length v.items ≡ length branches.items) }
 {
     let mut spread = branches;
@@ -39,7 +41,8 @@ pub(crate) fn spread(alloc: Global, branches: Vec<Branch>) -> Result<Vec<Branch>
 // Every second branch, and then the others.
 fn halves(alloc: Global, branches: Vec<Branch>) -> Result<Vec<Branch>, AllocError>
     ensures stand { IfOk result (λ v. (x : Compiled) → StandFor x v.items branches.items) }
-    ensures selections { IfOk result (λ v. (x : Compiled) → AreSelections x branches.items → AreSelections x v.items) }
+    ensures selections { IfOk result (λ v. (x : Compiled) → AllChoose (IsSelection x) branches.items
+        → AllChoose (IsSelection x) v.items) }
     ensures long { IfOk result (λ v. length v.items ≡ length branches.items) }
 {
     let mut these = Vec::new(alloc);

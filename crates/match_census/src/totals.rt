@@ -4,17 +4,15 @@ ghost use Rattle.std.specs.Prelude.{◌≡◌, ◌≤◌, ◌++◌, [], IfOk, If
 ghost use Rattle.match_puzzle.specs.Arrangement.{IsArrangement, HasArrangements};
 ghost use Rattle.match_puzzle.specs.Numbers.{AreMoreThan};
 ghost use Rattle.xcc_dance.specs.Chosen.{IsSelection};
-ghost use Rattle.xcc_dance.specs.Found.{IsFoundFrom};
-ghost use Rattle.match_census.specs.Looks.{AreLooks};
-ghost use Rattle.match_census.specs.Branches.{AreSelections, HaveTogether, HaveMoreTogether, IsSplit};
-ghost use Rattle.match_census.specs.Extensions.{HasExtensions};
+ghost use Rattle.census_branches.specs.Looks.{AreLooks};
+ghost use Rattle.census_branches.specs.Branches.{AllChoose, HaveTogether, HaveMoreTogether, IsSplit};
+ghost use Rattle.match_census.specs.Extensions.{IsExtension, HasExtensions};
 
-use crate::branches::Branch;
 use crate::counting::count_below;
 use crate::crews::Count;
-use crate::looks::looks_of;
 use crate::spreads::spread;
 use crate::watches::CensusWatch;
+use census_branches::{Branch, looks_of};
 use std::alloc::{AllocError, Global};
 use xcc_dance::{OpenOptions, OpenSets};
 
@@ -31,7 +29,7 @@ pub(crate) fn count_branches<E: OpenOptions, W: CensusWatch>(
 ) -> Result<Option<u64>, AllocError>
     requires looks { AreLooks (E.selection engine.old).compiled looks.now }
     requires empty { (E.selection engine.old).chosen ≡ [] }
-    requires selections { AreSelections (E.selection engine.old).compiled branches.now }
+    requires selections { AllChoose (IsSelection (E.selection engine.old).compiled) branches.now }
     ensures same { engine.new ≡ engine.old }
     ensures counted { let x = (E.selection engine.old).compiled in IfOk result (λ o. MatchOption o
         (HaveMoreTogether x branches.now most)
@@ -65,7 +63,7 @@ fn count_with<E: OpenOptions>(
     ensures same { engine.new ≡ engine.old }
     ensures counted { let s = E.selection engine.old in
         let t = record s { chosen = s.chosen ++ options.now } in IfOk result (λ o. MatchOption o
-        (AreMoreThan most (IsFoundFrom t))
+        (AreMoreThan most (IsExtension t))
         (HasExtensions t)) }
     ensures most { IfOk result (λ o. IfSome o (λ count. count ≤ most)) }
 {
@@ -88,7 +86,7 @@ pub fn count_arrangements<W: CensusWatch>(
     most: u64,
 ) -> Result<Option<u64>, AllocError>
     requires split { IsSplit count.xcc.now count.branches.items }
-    requires selections { AreSelections count.xcc.now count.branches.items }
+    requires selections { AllChoose (IsSelection count.xcc.now) count.branches.items }
     ensures counted { let puzzle = count.entry.xcc.now.puzzle in IfOk result (λ o. MatchOption o
         (AreMoreThan most (IsArrangement puzzle))
         (HasArrangements puzzle)) }

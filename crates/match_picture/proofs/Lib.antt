@@ -1,5 +1,4 @@
-mod EdgeLemmas
-mod JoinedLemmas
+mod GrownLemmas
 mod SiteLemmas
 mod TileLemmas
 mod PictureLemmas

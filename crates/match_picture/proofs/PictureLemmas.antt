@@ -2,10 +2,11 @@
 use Rattle.std.proofs.Common.{◌≡◌, ◌++◌, ℕ, List, ap, length, ◌∙◌, append_assoc}
 use Rattle.match_puzzle.specs.Puzzle.{Task}
 use Rattle.match_puzzle.specs.declared.placements.Placement.{Placement}
-use Rattle.match_picture.specs.Joined.{Grows, IsWrapped, Wraps}
-use Rattle.match_picture.specs.Pictures.{AreBandLines, ArePartLines, AreUnturned, IsArrangementPicture, IsPuzzlePicture}
+use Rattle.picture_parts.specs.Elements.{AreBandLines, ArePartLines}
+use Rattle.picture_parts.specs.declared.canvases.Site.{Site}
+use Rattle.match_picture.specs.Grown.{Grows, IsWrapped, Wraps}
+use Rattle.match_picture.specs.Pictures.{AreUnturned, IsArrangementPicture, IsPuzzlePicture}
 use Rattle.match_picture.specs.Sites.{AreSites}
-use Rattle.match_picture.specs.declared.sites.Site.{Site}
 
 -- what two pieces leave, and what is written behind them
 two_pieces : {bands parts t0 t1 t2 : List ℕ} (last : List ℕ) (w : IsWrapped bands t0 t1) (v : IsWrapped parts t1 t2) → t2 ++ last ≡ t0 ++ w.front ++ bands ++ (w.back ++ v.front) ++ parts ++ (v.back ++ last)

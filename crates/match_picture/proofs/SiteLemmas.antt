@@ -5,8 +5,8 @@ use Rattle.match_board.specs.Board.{row_count, row_length, cells_above, cells_le
 use Rattle.match_board.specs.declared.figures.Figure.{Figure}
 use Rattle.match_show.proofs.ListLemmas.{each_more}
 use Rattle.match_show.proofs.RowLemmas.{left_filled, left_unfilled, here_stands}
+use Rattle.picture_parts.specs.declared.canvases.Site.{Site}
 use Rattle.match_picture.specs.Sites.{AreSitesTo, IsSite, IsSiteAt}
-use Rattle.match_picture.specs.declared.sites.Site.{Site}
 
 -- one more, of a place with a cell
 pub site_more : (s : Figure) (row place : ℕ) (sites more : List Site) (site : Site) → row < row_count s → place < row_length s row → IsFilled s row place → IsSiteAt s row place site → more ≡ sites ++ site ∷ [] → AreSitesTo s (cells_above s row + cells_left s row place) sites → AreSitesTo s (cells_above s row + cells_left s row (place + 1)) more

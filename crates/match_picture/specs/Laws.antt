@@ -1,28 +1,22 @@
 -- What follows for every picture.
-use Rattle.std.specs.Prelude.{◌≡◌, ◌≢◌, ◌⊎◌, ◌<◌, ◌+◌, ◌==◌, ℕ, List, [], Some, if◌then◌else◌, codes, length, slice_get, slice_index_or}
+use Rattle.std.specs.Prelude.{◌≡◌, ◌⊎◌, ◌<◌, ◌+◌, ◌==◌, ℕ, List, Some, if◌then◌else◌, slice_get}
 use Rattle.match_board.specs.Board.{Meets}
 use Rattle.match_board.specs.declared.figures.Figure.{Figure}
 use Rattle.match_limits.specs.declared.TheConstants.{MOST_COLOURS}
 use Rattle.match_puzzle.specs.Arrangement.{IsArrangement}
 use Rattle.match_puzzle.specs.Puzzle.{Task, IsPuzzle, colour_of, mate_of}
 use Rattle.match_puzzle.specs.declared.placements.Placement.{Placement}
-use Rattle.match_picture.specs.Edges.{FitTogether, HasEdge}
-use Rattle.match_picture.specs.Elements.{fill_of}
-use Rattle.match_picture.specs.Sites.{IsSite, begin_of}
-use Rattle.match_picture.specs.declared.edges.Edge.{Edge}
-use Rattle.match_picture.specs.declared.forms.Form.{Form}
-use Rattle.match_picture.specs.declared.forms.Form.TheVariants.{Square, Up, Down}
-use Rattle.match_picture.specs.declared.palette.TheConstants.{FILLS}
-use Rattle.match_picture.specs.declared.sites.Site.{Site}
+use Rattle.picture_parts.specs.Edges.{HasEdge}
+use Rattle.picture_parts.specs.Forms.{begin_of}
+use Rattle.picture_parts.specs.Palette.{fill_of}
+use Rattle.picture_parts.specs.declared.canvases.Site.{Site}
+use Rattle.picture_parts.specs.declared.edges.Edge.{Edge}
+use Rattle.picture_parts.specs.declared.edges.Edge.TheVariants.{Flat, Knob, Hollow}
+use Rattle.picture_parts.specs.declared.forms.Form.{Form}
+use Rattle.picture_parts.specs.declared.forms.Form.TheVariants.{Square, Up, Down}
+use Rattle.match_picture.specs.Sites.{IsSite}
 
 -- ---- fills
-
--- There is a fill for each colour, any two of them differ, and none is the paper's.
-pub record PaletteLaw : Type 0 where
-  pub many : length FILLS ≡ MOST_COLOURS
-  pub differ : (colour other : ℕ) → colour < MOST_COLOURS → other < MOST_COLOURS
-      → slice_index_or FILLS colour [] ≡ slice_index_or FILLS other [] → colour ≡ other
-  pub stand_out : (colour : ℕ) → colour < MOST_COLOURS → slice_index_or FILLS colour [] ≢ codes "fff"
 
 -- Of a puzzle colours that have one fill are one, or mates.
 abbrev pub FillLaw : Type 0
@@ -30,6 +24,18 @@ FillLaw = (p : Task) (colour other : ℕ) → IsPuzzle p → colour < MOST_COLOU
     → fill_of p colour ≡ fill_of p other → (colour ≡ other) ⊎ (colour ≡ mate_of p other)
 
 -- ---- sides that meet
+
+-- Edges that fit: two flat ones, or a knob and a hollow.
+abbrev pub FitTogether : Edge → Edge → Type 0
+FitTogether Flat Flat = Unit {0}
+FitTogether Flat Knob = ⊥
+FitTogether Flat Hollow = ⊥
+FitTogether Knob Flat = ⊥
+FitTogether Knob Knob = ⊥
+FitTogether Knob Hollow = Unit {0}
+FitTogether Hollow Flat = ⊥
+FitTogether Hollow Knob = Unit {0}
+FitTogether Hollow Hollow = ⊥
 
 -- In an arrangement sides that meet have one fill, and edges that fit.
 abbrev pub FittingLaw : Type 0

@@ -1,7 +1,5 @@
-pub mod Joined
+pub mod Grown
 pub mod Sites
-pub mod Edges
-pub mod Elements
 pub mod Pictures
 pub mod Listed
 pub mod Laws

@@ -1,22 +1,10 @@
 -- Pictures of what a list has.
-use Rattle.std.specs.Prelude.{◌≡◌, ◌+◌, ◌<◌, ◌≤◌, ℕ, List, Some, drop, length, max, slice_get, take}
-use Rattle.match_puzzle.specs.Arrangement.{AreArrangements, IsArrangement}
-use Rattle.match_puzzle.specs.ArrangementFaults.{IsArrangementFault}
+use Rattle.std.specs.Prelude.{◌≡◌, ◌<◌, ◌≤◌, ℕ, List, length}
+use Rattle.match_puzzle.specs.Arrangement.{AreArrangements}
 use Rattle.match_puzzle.specs.Puzzle.{Task}
-use Rattle.match_puzzle.specs.declared.faults.ArrangementFault.{ArrangementFault}
 use Rattle.match_puzzle.specs.declared.placements.Placement.{Placement}
+use Rattle.picture_parts.specs.Plans.{IsListedAt, to_be_drawn}
 use Rattle.match_picture.specs.Pictures.{IsArrangementPicture, IsSheet}
-use Rattle.match_picture.specs.declared.listed.NotDrawn.{NotDrawn}
-use Rattle.match_picture.specs.declared.listed.NotDrawn.TheVariants.{NoArrangement, Arrangement, Memory}
-
--- The listed arrangement of this number is so.
-abbrev pub IsListedAt : (number : ℕ) → (List Placement → Type 0) → List (List Placement) → Type 0
-IsListedAt number Is listed = (a : List Placement) × (slice_get listed number ≡ Some a) × Is a
-
--- Those that are drawn of a list: so many from this number on, or to its end; the one of this number where none are
--- asked for.
-abbrev pub to_be_drawn : (number first : ℕ) → List (List Placement) → List (List Placement)
-to_be_drawn number first listed = take (max first 1) (drop number listed)
 
 -- The picture is that of the first of these, alone, where no sheet is asked for; else a sheet of them.
 pub record IsPictureOf (first : ℕ) (p : Task) (drawn : List (List Placement)) (picture : List ℕ) : Type 0 where
@@ -28,17 +16,3 @@ pub record IsPictureFrom (number first : ℕ) (p : Task) (listed : List (List Pl
   pub some : number < length listed
   pub arrangements : AreArrangements p (to_be_drawn number first listed)
   pub drawn : IsPictureOf first p (to_be_drawn number first listed) picture
-
--- What stands so many after the first of these is no arrangement of the puzzle, by this fault, and each before it is one.
-pub record IsFirstWrong (p : Task) (drawn : List (List Placement)) (index : ℕ) (fault : ArrangementFault) : Type 0 where
-  pub wrong : IsListedAt index (λ a. IsArrangementFault p a fault) drawn
-  pub before : (earlier : ℕ) (a : List Placement) → earlier < index → slice_get drawn earlier ≡ Some a
-      → IsArrangement p a
-
--- Why nothing is drawn of a list: it is too short; or one of those that are to be drawn is no arrangement of the puzzle,
--- the first of them by its number in the list; or want of memory.
-abbrev pub IsNotDrawn : (number first : ℕ) → Task → List (List Placement) → NotDrawn → Type 0
-IsNotDrawn number first p listed (NoArrangement at) = (at ≡ number) × (length listed ≤ number)
-IsNotDrawn number first p listed (Arrangement at fault) =
-    (index : ℕ) × (at ≡ number + index) × IsFirstWrong p (to_be_drawn number first listed) index fault
-IsNotDrawn number first p listed Memory = Unit {0}

@@ -2,29 +2,10 @@
 use Rattle.std.specs.Prelude.{◌≡◌, ◌++◌, ℕ, List, Some, length, slice_get}
 use Rattle.match_puzzle.specs.Puzzle.{Task}
 use Rattle.match_puzzle.specs.declared.placements.Placement.{Placement}
-use Rattle.match_picture.specs.Elements.{IsPartLine, IsBandLine}
-use Rattle.match_picture.specs.Joined.{IsJoined}
+use Rattle.picture_parts.specs.Elements.{AreBandLines, ArePartLines}
+use Rattle.picture_parts.specs.Joined.{IsJoined}
+use Rattle.picture_parts.specs.declared.canvases.Site.{Site}
 use Rattle.match_picture.specs.Sites.{AreSites}
-use Rattle.match_picture.specs.declared.sites.Site.{Site}
-
--- the line with the parts of the tile that comes at this place, so turned, at its site
-abbrev pub IsPartLineAt : Task → (left top : ℕ) → List Site → List Placement → (n : ℕ) → List ℕ → Type 0
-IsPartLineAt p left top sites xs n text =
-    (site : Site) (x : Placement) → slice_get sites n ≡ Some site → slice_get xs n ≡ Some x
-    → IsPartLine p left top site x text
-
--- a line with the parts of each tile
-abbrev pub ArePartLines : Task → (left top : ℕ) → List Site → List Placement → List ℕ → Type 0
-ArePartLines p left top sites xs text = IsJoined (IsPartLineAt p left top sites xs) (length xs) text
-
--- the line with the bands of the cell, at its site
-abbrev pub IsBandLineAt : Task → (left top : ℕ) → List Site → (cell : ℕ) → List ℕ → Type 0
-IsBandLineAt p left top sites cell text =
-    (site : Site) → slice_get sites cell ≡ Some site → IsBandLine p left top site cell text
-
--- a line with the bands of each cell that has some
-abbrev pub AreBandLines : Task → (left top : ℕ) → List Site → List ℕ → Type 0
-AreBandLines p left top sites text = IsJoined (IsBandLineAt p left top sites) (length sites) text
 
 -- A picture of an arrangement: the board begins 40 right of and below its corner; bands where the border asks for a
 -- colour, and then a part for each side of each cell, in the order of cells and sides, with the colour that is shown there.

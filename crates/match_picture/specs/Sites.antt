@@ -1,12 +1,12 @@
 -- Where cells are drawn.
-use Rattle.std.specs.Prelude.{◌≡◌, ◌⊎◌, ◌+◌, ◌*◌, ◌==◌, ℕ, List, Some, if◌then◌else◌, length, slice_get}
+use Rattle.std.specs.Prelude.{◌≡◌, ◌⊎◌, ◌+◌, ◌*◌, ℕ, List, Some, length, slice_get}
 use Rattle.match_board.specs.Board.{cell_count, StandsAt, PointsUp, PointsDown}
 use Rattle.match_board.specs.declared.figures.Figure.{Figure}
 use Rattle.match_board.specs.declared.figures.Figure.TheVariants.{Rectangle, Triangle, Hexagon, Shape}
 use Rattle.match_show.specs.Triangles.{rows_in}
-use Rattle.match_picture.specs.declared.forms.Form.{Form}
-use Rattle.match_picture.specs.declared.forms.Form.TheVariants.{Square, Up, Down}
-use Rattle.match_picture.specs.declared.sites.Site.{Site}
+use Rattle.picture_parts.specs.declared.canvases.Site.{Site}
+use Rattle.picture_parts.specs.declared.forms.Form.{Form}
+use Rattle.picture_parts.specs.declared.forms.Form.TheVariants.{Square, Up, Down}
 
 -- the shape in which the cell at a place is drawn
 abbrev pub IsFormAt : Figure → (row place : ℕ) → Form → Type 0
@@ -52,11 +52,3 @@ pub record AreSitesTo (s : Figure) (count : ℕ) (sites : List Site) : Type 0 wh
 -- the sites of all cells, by number
 abbrev pub AreSites : Figure → List Site → Type 0
 AreSites s sites = AreSitesTo s (cell_count s) sites
-
--- Where a side begins, right of and below the corner of the box: sides run clockwise, from the upper left corner of a
--- square, and from the tip of a triangle.
-abbrev pub begin_of : Form → (side : ℕ) → ℕ × ℕ
-begin_of Square side =
-    if side == 0 then (0, 0) else (if side == 1 then (80, 0) else (if side == 2 then (80, 80) else (0, 80)))
-begin_of Up side = if side == 0 then (52, 0) else (if side == 1 then (104, 90) else (0, 90))
-begin_of Down side = if side == 0 then (52, 90) else (if side == 1 then (0, 0) else (104, 0))

@@ -2,14 +2,12 @@
 
 ghost use Rattle.std.specs.Prelude.{◌≡◌, ◌<◌, OnOk, length};
 ghost use Rattle.match_board.specs.Board.{cell_count};
-ghost use Rattle.match_picture.specs.Joined.{Grows};
+ghost use Rattle.match_picture.specs.Grown.{Grows};
 
-use crate::bands::asked;
-use crate::canvases::Canvas;
-use crate::edges::{Edge, edge_of};
-use crate::elements::{number, outline, put_group};
-use crate::forms::middle;
+use crate::elements::{outline, put_group};
+use crate::measures::middle;
 use match_puzzle::Puzzle;
+use picture_parts::{Canvas, Edge, asked, edge_of, number};
 use std::alloc::{AllocError, Global};
 
 /// Writes the outline of each cell, with the edges that the border asks of its tile, and the cells' numbers.

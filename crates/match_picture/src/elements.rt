@@ -1,17 +1,12 @@
-//! Elements of a picture.
+//! Groups, signs and outlines.
 
-ghost use Rattle.std.specs.Prelude.{◌≡◌, ◌<◌, IfOk, OnOk};
-ghost use Rattle.std.specs.String.{string_bytes};
-ghost use Rattle.match_picture.specs.Elements.{SaysNumber, fill_of};
-ghost use Rattle.match_picture.specs.Joined.{IsWrapped};
+ghost use Rattle.std.specs.Prelude.{◌<◌, OnOk};
+ghost use Rattle.match_picture.specs.Grown.{IsWrapped};
 ghost use Rattle.match_limits.specs.declared.TheConstants.{MOST_COLOURS};
 
-use crate::canvases::{Canvas, Point};
-use crate::edges::{Edge, edge_path};
-use crate::forms::{side_of, sides};
-use crate::palette::{fill, is_dark};
-use crate::sites::Site;
+use crate::measures::sides;
 use match_puzzle::Puzzle;
+use picture_parts::{Canvas, Edge, Point, Site, edge_path, side_of};
 use std::alloc::{AllocError, Global};
 use text_words::{character, put_number};
 
@@ -43,13 +38,8 @@ pub fn put_numbered(
     text.extend_from_slice(last)
 }
 
-/// The fill of the colour: mates have that of the lesser.
-pub fn fill_of(puzzle: &Puzzle, colour: u8) -> [u8; 3]
-    requires { colour < MOST_COLOURS }
-    ensures { result ≡ fill_of puzzle.now colour }
-{
-    fill(colour.min(puzzle.mate(colour)))
-}
+// The colours on whose fill a sign is white.
+const DARK: [u8; 15] = [1, 3, 9, 11, 12, 14, 17, 18, 19, 23, 24, 28, 31, 32, 35];
 
 /// The sign of the colour, with its middle at the point.
 pub fn sign(alloc: Global, puzzle: &Puzzle, colour: u8, middle: Point) -> Result<String, AllocError>
@@ -65,14 +55,9 @@ pub fn sign(alloc: Global, puzzle: &Puzzle, colour: u8, middle: Point) -> Result
     format!(in alloc; "<text x=\"{x}\" y=\"{y}\"{fill}>{sign}</text>")
 }
 
-/// The number, its base line so far below the point.
-pub fn number(alloc: Global, number: u32, at: Point, base: u8) -> Result<String, AllocError>
-    ensures { IfOk result (λ label. SaysNumber number (string_bytes label)) }
-{
-    let (x, y) = (at.x, at.y.saturating_add(u64::from(base)));
-    let begin = format!(in alloc; "<text x=\"{x}\" y=\"{y}\"")?;
-    let label = format!(in alloc; "{begin}>{number}</text>")?;
-    Ok(label)
+// Whether a sign on the fill of the colour is white.
+fn is_dark(colour: u8) -> bool {
+    DARK.contains(&colour)
 }
 
 /// The outline of a cell or a tile with these edges, side by side.

@@ -1,6 +1,7 @@
 //! What follows for every picture.
 
-ghost use Rattle.match_picture.specs.Laws.{FillLaw, FittingLaw, PaletteLaw, SeamLaw};
+ghost use Rattle.picture_parts.specs.Palette.{PaletteLaw};
+ghost use Rattle.match_picture.specs.Laws.{FillLaw, FittingLaw, SeamLaw};
 
 /// Does nothing. Its promises are laws. There are 36 different fills, none of them white, and colours of a puzzle that
 /// have one fill are one, or mates. In an arrangement sides that meet have one fill and edges that fit, a knob with a

@@ -1,24 +1,28 @@
 //! A puzzle or an arrangement as a picture.
 
 ghost use Rattle.std.specs.Prelude.{◌≡◌, ◌<◌, ◌≤◌, ◌^◌, List, All, IfOk, OnOk, length};
-ghost use Rattle.match_picture.specs.Joined.{Wraps};
-ghost use Rattle.match_picture.specs.Pictures.{AreBandLines, ArePartLines, AreUnturned, IsArrangementPicture, IsPuzzlePicture};
-ghost use Rattle.match_picture.specs.declared.sites.Site.{Site};
+ghost use Rattle.picture_parts.specs.Elements.{AreBandLines, ArePartLines};
+ghost use Rattle.picture_parts.specs.declared.canvases.Site.{Site};
+ghost use Rattle.match_picture.specs.Grown.{Wraps};
+ghost use Rattle.match_picture.specs.Pictures.{AreUnturned, IsArrangementPicture, IsPuzzlePicture};
 ghost use Rattle.match_picture.specs.Sites.{AreSites};
 ghost use Rattle.match_puzzle.specs.Arrangement.{IsArrangement};
 ghost use Rattle.match_puzzle.specs.declared.placements.Placement.{Placement};
 
-use crate::bands::put_bands;
-use crate::canvases::{Canvas, MARGIN};
 use crate::cells::put_cells;
 use crate::descriptions::{describe_arrangement, describe_tiles};
 use crate::documents::{END, begin_picture, board_words};
+use crate::signed_bands::put_bands;
 use crate::sites::{board_extent, sites_of};
 use crate::tiles::{Labels, put_tiles};
 use crate::trays::{Tray, tray_sites, unturned};
 use match_board::Board;
 use match_puzzle::{Placement, Puzzle};
+use picture_parts::Canvas;
 use std::alloc::{AllocError, Global};
+
+/// How much is left free round a board, and between a board and the tray.
+pub const MARGIN: u32 = 40;
 
 /// The arrangement with this number in its list as a picture; where they are wanted, with the number of each tile.
 pub fn write_arrangement_picture(

@@ -2,17 +2,17 @@
 
 ghost use Rattle.std.specs.Prelude.{◌≡◌, ◌<◌, ◌≤◌, ◌+◌, ◌^◌, All, IfOk, length};
 ghost use Rattle.match_puzzle.specs.Arrangement.{AreArrangements};
-ghost use Rattle.match_picture.specs.Joined.{IsJoined};
+ghost use Rattle.picture_parts.specs.Joined.{IsJoined};
 ghost use Rattle.match_picture.specs.Pictures.{IsPictureAt, IsSheet};
 
-use crate::canvases::{MARGIN, Point};
 use crate::descriptions::describe_list;
 use crate::documents::{END, EvenRows, begin_picture, board_words, even_rows};
-use crate::elements::{number, put_group, put_numbered};
-use crate::pictures::draw_arrangement;
+use crate::elements::{put_group, put_numbered};
+use crate::pictures::{MARGIN, draw_arrangement};
 use crate::sites::{Extent, board_extent};
 use crate::tiles::Labels;
 use match_puzzle::{Arrangement, Puzzle};
+use picture_parts::{Point, number};
 use std::alloc::{AllocError, Global};
 
 // The longer side of a thumbnail, how many stand in a row, and the room below each for its number.

@@ -5,19 +5,10 @@ ghost use Rattle.match_board.specs.Board.{IsBoard, cells_above, row_count};
 ghost use Rattle.match_show.specs.Triangles.{rows_in};
 ghost use Rattle.match_picture.specs.Sites.{AreSites, AreSitesTo, IsSiteAt};
 
-use crate::forms::Form;
 use match_board::Figure;
 use match_puzzle::Puzzle;
+use picture_parts::{Form, Site};
 use std::alloc::{AllocError, Global};
-
-/// Where a cell or a tile is drawn: its form, and the upper left corner of the box round it, counted from that of the
-/// board or the tray.
-#[derive(Clone, Copy)]
-pub struct Site {
-    pub form: Form,
-    pub x: u32,
-    pub y: u32,
-}
 
 /// The sites of the puzzle's cells, by number.
 pub fn sites_of(alloc: Global, puzzle: &Puzzle) -> Result<Vec<Site>, AllocError>

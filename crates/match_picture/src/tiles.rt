@@ -1,18 +1,13 @@
 //! Tiles as they lie on a board or in the tray.
 
-ghost use Rattle.std.specs.Prelude.{◌≡◌, ◌<◌, All, IfOk, OnOk, length};
-ghost use Rattle.std.specs.String.{string_bytes};
-ghost use Rattle.match_picture.specs.Elements.{SaysNumber};
-ghost use Rattle.match_picture.specs.Joined.{Grows, Wraps};
-ghost use Rattle.match_picture.specs.Pictures.{ArePartLines};
+ghost use Rattle.std.specs.Prelude.{◌≡◌, ◌<◌, All, OnOk, length};
+ghost use Rattle.picture_parts.specs.Elements.{ArePartLines};
+ghost use Rattle.match_picture.specs.Grown.{Grows, Wraps};
 
-use crate::canvases::Canvas;
-use crate::edges::{Edge, edge_of, edge_path};
-use crate::elements::{number, outline, put_group, put_numbered, sign};
-use crate::forms::{disc_radius, middle, side_of};
-use crate::parts::part_lines;
-use crate::sites::Site;
+use crate::elements::{outline, put_group, put_numbered, sign};
+use crate::measures::{disc_radius, middle};
 use match_puzzle::{Placement, Puzzle};
+use picture_parts::{Canvas, Edge, Site, edge_of, part_lines, side_of, tile_number};
 use std::alloc::{AllocError, Global};
 
 /// What is drawn on tiles.
@@ -185,23 +180,11 @@ fn put_layer(
         Layer::Signs => put_tile_signs(alloc, line, canvas, site, placement),
         Layer::Discs => put_disc(line, canvas, site),
         Layer::Numbers => {
-            let label = tile_number(alloc, canvas, site, placement)?;
+            let at = canvas.point(site, middle(site.form));
+            let label = tile_number(alloc, placement, at)?;
             line.extend_from_slice(label.as_bytes())
         }
     }
-}
-
-// The number of the tile, in its middle.
-fn tile_number(
-    alloc: Global,
-    canvas: &Canvas<'_>,
-    site: Site,
-    placement: Placement,
-) -> Result<String, AllocError>
-    ensures { IfOk result (λ label. SaysNumber placement.tile (string_bytes label)) }
-{
-    let at = canvas.point(site, middle(site.form));
-    number(alloc, u32::from(placement.tile), at, 5)
 }
 
 // The edges of the colours that are shown.

@@ -4,10 +4,10 @@ ghost use Rattle.std.specs.Prelude.{◌≡◌, ◌≤◌, ◌^◌, IfOk, length}
 ghost use Rattle.match_picture.specs.Pictures.{AreUnturned};
 
 use crate::documents::{EvenRows, even_rows};
-use crate::forms::{Form, extent};
-use crate::sites::Site;
+use crate::measures::extent;
 use match_board::Board;
 use match_puzzle::Placement;
+use picture_parts::{Form, Site};
 use std::alloc::{AllocError, Global};
 
 // Between tiles.

@@ -6,7 +6,7 @@ use Rattle.match_text.specs.Puzzles.{PuzzleReads}
 use Rattle.xcc_form.specs.Options.{Compiled, HasTooManyEntries}
 use Rattle.xcc_form.specs.declared.faults.CompileFault.{CompileFault}
 use Rattle.xcc_form.specs.declared.faults.CompileFault.TheVariants as compiles
-use Rattle.match_census.specs.Branches.{WeightedBranch, HaveTogether, IsSplit}
+use Rattle.census_branches.specs.Branches.{WeightedBranch, HaveTogether, IsSplit}
 use Rattle.command_words.specs.declared.orders.Extent.{Extent}
 use Rattle.match_runs.specs.Census.{CensusFails, IsNotCounted}
 use Rattle.match_runs.specs.FaultText.{run_of_compile}

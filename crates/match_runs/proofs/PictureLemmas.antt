@@ -2,9 +2,9 @@
 use Rattle.std.proofs.Common.{◌≡◌, ℕ, List, Ok}
 use Rattle.match_puzzle.specs.Puzzle.{Task}
 use Rattle.match_puzzle.specs.declared.placements.Placement.{Placement}
-use Rattle.match_picture.specs.Listed.{IsNotDrawn}
-use Rattle.match_picture.specs.declared.listed.NotDrawn.{NotDrawn}
-use Rattle.match_picture.specs.declared.listed.NotDrawn.TheVariants as not_drawn
+use Rattle.picture_parts.specs.Plans.{IsNotDrawn}
+use Rattle.picture_parts.specs.declared.plans.NotDrawn.{NotDrawn}
+use Rattle.picture_parts.specs.declared.plans.NotDrawn.TheVariants as not_drawn
 use Rattle.match_text.specs.Lists.{list_of}
 use Rattle.match_text.specs.Puzzles.{PuzzleReads}
 use Rattle.byte_streams.specs.declared.documents.TwoTexts.{TwoTexts}

@@ -13,7 +13,7 @@ use Rattle.symmetry_orbits.specs.declared.expansions.ExpandFault.TheVariants as 
 use Rattle.match_runs.specs.FaultText.{run_of_expand}
 use Rattle.byte_streams.specs.Documents.{Texts}
 use Rattle.match_runs.specs.Checking.{CheckFails, Spells}
-use Rattle.match_runs.specs.Printing.{AreTooMany, CompleteFails, PrintingFails}
+use Rattle.match_runs.specs.Printing.{AreTooMany, CompleteFails, PrintingFails, QuestionFails}
 use Rattle.match_runs.specs.Runs.{IsOfTexts}
 use Rattle.match_runs.specs.declared.faults.RunFault.{RunFault}
 use Rattle.match_runs.specs.declared.faults.RunFault.TheVariants as runs
@@ -55,11 +55,17 @@ pub printing_fails : (printing : Printing) (texts : Texts) (fault : RunFault) �
 printing_fails printing texts runs.Expand fails = absurd fails
 printing_fails printing texts _ fails = fails
 
--- where the list that they spell is complete, a fault of what is printed of it is one of theirs
-pub complete_fails : (printing : Printing) (texts : Texts) (question : Question) → Spells texts question → IsAnswer question Complete → (fault : RunFault) → CompleteFails printing question fault → PrintingFails printing texts fault
-complete_fails printing texts question spelled shown runs.Expand fails = (question, spelled, shown, fails)
-complete_fails printing texts question spelled shown runs.Memory fails = tt
-complete_fails printing texts question spelled shown _ fails = absurd fails
+-- where a question's list is complete, a fault of what is printed so is one of the question
+pub complete_fails : (printing : Printing) (question : Question) → IsAnswer question Complete → (fault : RunFault) → CompleteFails printing question fault → QuestionFails printing question fault
+complete_fails printing question shown runs.Expand fails = (shown, fails)
+complete_fails printing question shown runs.Memory fails = tt
+complete_fails printing question shown _ fails = absurd fails
+
+-- a fault of the question that texts spell is one of theirs
+pub question_fails : (printing : Printing) (texts : Texts) (question : Question) → Spells texts question → (fault : RunFault) → QuestionFails printing question fault → PrintingFails printing texts fault
+question_fails printing texts question spelled runs.Expand fails = (question, spelled, fails.0, fails.1)
+question_fails printing texts question spelled runs.Memory fails = tt
+question_fails printing texts question spelled _ fails = absurd fails
 
 -- what a fault of an expansion says of what is to be printed
 pub expand_fails : {T : Type 0} (printing : Printing) (question : Question) (fault : ExpandFault)

@@ -6,8 +6,8 @@ use Rattle.match_puzzle.specs.Numbers.{AreMoreThan}
 use Rattle.match_text.specs.Puzzles.{PuzzleReads}
 use Rattle.match_show.specs.Facts.{number_line}
 use Rattle.xcc_form.specs.Options.{Compiled, HasTooManyEntries}
-use Rattle.match_census.specs.Branches.{WeightedBranch, HaveTogether, IsSplit, IsTotal, every}
-use Rattle.match_census.specs.Hash.{hash_of}
+use Rattle.census_branches.specs.Branches.{WeightedBranch, HaveTogether, IsSplit, IsTotal, every}
+use Rattle.census_branches.specs.Hash.{hash_of}
 use Rattle.match_crew.specs.declared.faults.SolveFault.TheVariants as solves
 use Rattle.command_words.specs.Parts.{number_in, parts_with}
 use Rattle.command_words.specs.declared.orders.Part.{Part}

@@ -19,6 +19,7 @@ use Rattle.match_report.specs.AnswerText.{answer_line}
 use Rattle.byte_streams.specs.Documents.{Texts}
 use Rattle.match_report.specs.Statuses.{status_of}
 use Rattle.match_report.specs.declared.statuses.Status.{Status}
+use Rattle.match_report.specs.declared.statuses.Verdict.{Verdict}
 use Rattle.match_runs.specs.declared.faults.RunFault.{RunFault}
 use Rattle.match_runs.specs.declared.faults.RunFault.TheVariants as runs
 
@@ -56,6 +57,15 @@ CheckFails texts fault = ⊥
 abbrev pub SpellCompleteList : Texts → Type 0
 SpellCompleteList texts =
     (question : Question) × Spells texts question × IsCompleteList question.puzzle question.symmetries question.listed
+
+-- It is said of the question what its answer is: the line of that, and its status. Where the answer is that the list is
+-- complete, it is: the main theorem.
+pub record IsAnswered (question : Question) (verdict : Verdict) : Type 0 where
+  pub answer : Answer
+  pub answered : IsAnswer question answer
+  pub sound : IsSound question answer
+  pub line : verdict.line.items ≡ answer_line answer (length question.listed)
+  pub status : verdict.status ≡ status_of answer
 
 -- The documents spell a question, of whose answer this is so, and the status is that of the answer. Where the answer is
 -- that the list is complete, it is: the main theorem.

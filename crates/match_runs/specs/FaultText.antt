@@ -12,8 +12,8 @@ use Rattle.cert_text.specs.declared.faults.CertTextFault.{CertTextFault}
 use Rattle.cert_text.specs.declared.faults.CertTextFault.TheVariants as cert_text
 use Rattle.symmetry_orbits.specs.declared.expansions.ExpandFault.{ExpandFault}
 use Rattle.symmetry_orbits.specs.declared.expansions.ExpandFault.TheVariants as expansions
-use Rattle.match_picture.specs.declared.listed.NotDrawn.{NotDrawn}
-use Rattle.match_picture.specs.declared.listed.NotDrawn.TheVariants as not_drawn
+use Rattle.picture_parts.specs.declared.plans.NotDrawn.{NotDrawn}
+use Rattle.picture_parts.specs.declared.plans.NotDrawn.TheVariants as not_drawn
 use Rattle.match_crew.specs.declared.faults.SolveFault.{SolveFault}
 use Rattle.match_crew.specs.declared.faults.SolveFault.TheVariants as solves
 use Rattle.xcc_form.specs.declared.faults.CompileFault.{CompileFault}

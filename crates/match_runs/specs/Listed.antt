@@ -4,7 +4,7 @@ use Rattle.match_puzzle.specs.Arrangement.{IsArrangement}
 use Rattle.match_puzzle.specs.ArrangementFaults.{IsArrangementFault}
 use Rattle.match_puzzle.specs.Puzzle.{Task}
 use Rattle.match_puzzle.specs.declared.placements.Placement.{Placement}
-use Rattle.match_picture.specs.Listed.{IsListedAt}
+use Rattle.picture_parts.specs.Plans.{IsListedAt}
 use Rattle.match_show.specs.Arrangement.{IsDrawnArrangement}
 use Rattle.match_text.specs.Lists.{list_of}
 use Rattle.match_text.specs.Puzzles.{PuzzleReads}

@@ -1,8 +1,9 @@
 -- Pictures that are drawn of a list.
 use Rattle.std.specs.Prelude.{◌≡◌, ℕ, List, Ok, Err}
 use Rattle.match_puzzle.specs.Puzzle.{Task}
-use Rattle.match_picture.specs.Listed.{IsNotDrawn, IsPictureFrom}
-use Rattle.match_picture.specs.declared.listed.NotDrawn.TheVariants as not_drawn
+use Rattle.picture_parts.specs.Plans.{IsNotDrawn}
+use Rattle.picture_parts.specs.declared.plans.NotDrawn.TheVariants as not_drawn
+use Rattle.match_picture.specs.Listed.{IsPictureFrom}
 use Rattle.match_text.specs.Lists.{list_of}
 use Rattle.match_text.specs.Puzzles.{PuzzleReads}
 use Rattle.text_words.specs.declared.faults.ReadFault.TheVariants as lists

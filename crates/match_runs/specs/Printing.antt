@@ -4,7 +4,7 @@ use Rattle.match_limits.specs.declared.TheConstants.{MOST_ARRANGEMENTS}
 use Rattle.match_puzzle.specs.declared.placements.Placement.{Placement}
 use Rattle.match_text.specs.ListSpelling.{IsListText}
 use Rattle.cert_check.specs.Setting.{Question}
-use Rattle.cert_check.specs.Answer.{IsAnswer}
+use Rattle.cert_check.specs.Answer.{IsAnswer, IsSound}
 use Rattle.cert_check.specs.declared.faults.Answer.{Answer}
 use Rattle.cert_check.specs.declared.faults.Answer.TheVariants.{Complete, Refused}
 use Rattle.match_report.specs.AnswerText.{answer_line}
@@ -15,6 +15,7 @@ use Rattle.symmetry_orbits.specs.Orbits.{AreMoreListedOrInOrbit}
 use Rattle.symmetry_orbits.specs.declared.numbers.Count.{Count}
 use Rattle.byte_streams.specs.Documents.{Texts}
 use Rattle.match_runs.specs.Checking.{Answers, CheckFails, Spells}
+use Rattle.match_report.specs.Statuses.{status_of}
 use Rattle.match_report.specs.declared.statuses.Status.{Status}
 use Rattle.match_runs.specs.declared.faults.RunFault.{RunFault}
 use Rattle.match_runs.specs.declared.faults.RunFault.TheVariants as runs
@@ -59,6 +60,20 @@ abbrev pub CompleteFails : Printing → Question → RunFault → Type 0
 CompleteFails printing question runs.Expand = AreTooMany printing question
 CompleteFails printing question runs.Memory = Unit {0}
 CompleteFails printing question fault = ⊥
+
+-- What is printed of a question, and the status: what was asked of its answer.
+pub record IsPrinted (printing : Printing) (question : Question) (printed : List ℕ) (status : Status) : Type 0 where
+  pub answer : Answer
+  pub answered : IsAnswer question answer
+  pub sound : IsSound question answer
+  pub is : Prints question answer printing printed
+  pub ends : status ≡ status_of answer
+
+-- What a fault says of a question: its list is complete, and too much is to be printed so; or it is want of memory.
+abbrev pub QuestionFails : Printing → Question → RunFault → Type 0
+QuestionFails printing question runs.Expand = IsAnswer question Complete × AreTooMany printing question
+QuestionFails printing question runs.Memory = Unit {0}
+QuestionFails printing question fault = ⊥
 
 -- The list is complete, and what it reaches is too many to be printed so.
 abbrev pub SpellTooMany : Printing → Texts → Type 0

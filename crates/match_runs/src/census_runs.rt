@@ -3,8 +3,9 @@
 ghost use Rattle.std.specs.Prelude.{◌≡◌, ◌≤◌, IfOk, IfErr, MatchOption, codes, length, vec_len};
 ghost use Rattle.puzzle_symmetry.specs.Motion.{AreOfPuzzle};
 ghost use Rattle.match_show.specs.Facts.{number_line};
-ghost use Rattle.match_census.specs.Branches.{AreSelections, IsSplit};
-ghost use Rattle.match_census.specs.declared.splits.TheConstants.{MOST_BRANCHES};
+ghost use Rattle.xcc_dance.specs.Chosen.{IsSelection};
+ghost use Rattle.census_branches.specs.Branches.{AllChoose, IsSplit};
+ghost use Rattle.census_splits.specs.declared.splits.TheConstants.{MOST_BRANCHES};
 ghost use Rattle.byte_streams.specs.Moves.{reading_of, writing_of};
 ghost use Rattle.byte_streams.specs.Origins.{one_source};
 ghost use Rattle.byte_streams.specs.Targets.{one_sink};
@@ -17,10 +18,10 @@ use crate::faults::RunFault;
 use crate::hints::{HintedFault, hint_on, with_hint};
 use crate::running::run_by;
 use byte_streams::{Document, MadeText, OneSink, OneSource, Sink, Source, Text};
+use census_branches::{Branch, hash_of, part_of};
+use census_splits::split;
 use command_words::{Extent, Part};
-use match_census::{
-    Branch, CensusWatch, Count, count_arrangements, count_with_crew, hash_of, part_of, split,
-};
+use match_census::{CensusWatch, Count, count_arrangements, count_with_crew};
 use match_crew::SolveFault;
 use match_limits::Workers;
 use match_puzzle::Puzzle;
@@ -204,7 +205,7 @@ fn part_counted<R: Threads + Sync, T: CensusWatch + Sync>(
 // The branches of a split into so many at least, merged by symmetries of the puzzle.
 fn branches_of(alloc: Global, xcc: &Xcc<'_>, least: u32) -> Result<Vec<Branch>, AllocError>
     ensures split { IfOk result (λ v. IsSplit xcc.now v.items) }
-    ensures selections { IfOk result (λ v. AreSelections xcc.now v.items) }
+    ensures selections { IfOk result (λ v. AllChoose (IsSelection xcc.now) v.items) }
     ensures few { IfOk result (λ v. vec_len v ≤ MOST_BRANCHES) }
 {
     let symmetries = symmetries_of(alloc, xcc.puzzle())?;

@@ -1,11 +1,12 @@
 //! Runs of the checker.
 
+ghost use Rattle.std.specs.Prelude.{IfOk};
 ghost use Rattle.byte_streams.specs.Documents.{AreShort};
 ghost use Rattle.byte_streams.specs.LentTexts.{texts_of};
 ghost use Rattle.byte_streams.specs.Moves.{reading_of, writing_of};
 ghost use Rattle.byte_streams.specs.Origins.{joined_source, three_sources};
 ghost use Rattle.byte_streams.specs.Targets.{one_sink};
-ghost use Rattle.match_runs.specs.Checking.{CheckFails, CheckGives};
+ghost use Rattle.match_runs.specs.Checking.{CheckFails, CheckGives, IsAnswered};
 ghost use Rattle.match_runs.specs.Runs.{MadeOf, Runs, unhinted};
 
 use crate::faults::RunFault;
@@ -17,10 +18,10 @@ use byte_streams::{
     Documents, Inputs, JoinedSource, MadeText, OneSink, Outputs, OwnedDocuments, Sink, Source,
     ThreeSources,
 };
-use cert_check::{Open, check_question};
+use cert_check::{Open, Question, check_question};
 use match_limits::{Forks, Workers};
-use match_report::{Status, write_verdict};
-use std::alloc::Global;
+use match_report::{Status, Verdict, write_verdict};
+use std::alloc::{AllocError, Global};
 use std::thread::Threads;
 
 /// By what a list is checked.
@@ -156,13 +157,25 @@ fn answer_of<R: Threads + Sync, G: CheckWatch + Sync>(
     requires { AreShort (texts_of documents.now) }
     ensures { MadeOf CheckGives CheckFails (texts_of documents.now) result }
 {
-    let plan = check.plan;
-    let workers = plan.workers.get() as u8;
+    let workers = check.plan.workers.get() as u8;
     let owned = read_question_with(rt, alloc, documents, workers)?;
-    let question = owned.question();
-    check.watch.begins(question.lemmas().len() as usize);
-    let forks = plan.forks.get() as u8;
-    let answer = check_question(rt, alloc, &question, workers, forks, check.watch)?;
-    let verdict = write_verdict(alloc, &question, &answer)?;
+    let verdict = verdict_of(rt, alloc, &owned.question(), check)?;
     Ok((MadeText::new(verdict.line), verdict.status))
+}
+
+// What is said of the answer to a question.
+fn verdict_of<R: Threads + Sync, G: CheckWatch + Sync>(
+    rt: &R,
+    alloc: Global,
+    question: &Question<'_>,
+    check: &Watched<'_, CheckPlan, G>,
+) -> Result<Verdict, AllocError>
+    ensures { IfOk result (IsAnswered question.now) }
+{
+    let plan = check.plan;
+    let (workers, forks) = (plan.workers.get() as u8, plan.forks.get() as u8);
+    check.watch.begins(question.lemmas().len() as usize);
+    let answer = check_question(rt, alloc, question, workers, forks, check.watch)?;
+    let verdict = write_verdict(alloc, question, &answer)?;
+    Ok(verdict)
 }

@@ -10,7 +10,7 @@ ghost use Rattle.byte_streams.specs.LentTexts.{texts_of};
 ghost use Rattle.byte_streams.specs.Moves.{reading_of, writing_of};
 ghost use Rattle.byte_streams.specs.Origins.{three_sources};
 ghost use Rattle.byte_streams.specs.Targets.{one_sink};
-ghost use Rattle.match_runs.specs.Printing.{CompleteFails, PrintingFails, PrintingGives, Prints};
+ghost use Rattle.match_runs.specs.Printing.{CompleteFails, IsPrinted, PrintingFails, PrintingGives, Prints, QuestionFails};
 ghost use Rattle.match_runs.specs.Runs.{MadeOf, Runs, unhinted};
 
 use crate::faults::RunFault;
@@ -132,28 +132,53 @@ fn printing_of<R: RandomSource>(
     ensures { MadeOf (PrintingGives printing) (PrintingFails printing) (texts_of documents.now) result }
 {
     let owned = read_question(alloc, documents)?;
-    let question = owned.question();
-    let hasher = RandomFold::new(rt);
     let explaining = Explaining {
         certificate: documents.certificate,
-        hasher,
+        hasher: RandomFold::new(rt),
     };
-    let prepared = match question.prepare(alloc, question.list_fault())? {
-        Ok(prepared) => prepared,
+    let question = owned.question();
+    let (text, status) = question_text(alloc, &question, &explaining, printing)?;
+    Ok((MadeText::new(text), status))
+}
+
+// What is printed of the question, and the status of its answer.
+fn question_text(
+    alloc: Global,
+    question: &Question<'_>,
+    explaining: &Explaining<'_>,
+    printing: Printing,
+) -> Result<(Vec<u8>, Status), RunFault>
+    ensures gives { IfOk result (λ made. IsPrinted printing question.now made.0.items made.1) }
+    ensures fails { IfErr result (QuestionFails printing question.now) }
+{
+    match question.prepare(alloc, question.list_fault())? {
+        Ok(prepared) => prepared_text(alloc, prepared, explaining, printing),
         Err(fault) => {
-            let text = refused_text(alloc, &question, fault, &explaining, printing)?;
-            return Ok((MadeText::new(text), Status::Refused));
+            let text = refused_text(alloc, question, fault, explaining, printing)?;
+            Ok((text, Status::Refused))
         }
-    };
+    }
+}
+
+// The same where only a tree may have a fault.
+fn prepared_text(
+    alloc: Global,
+    prepared: Prepared<'_>,
+    explaining: &Explaining<'_>,
+    printing: Printing,
+) -> Result<(Vec<u8>, Status), RunFault>
+    ensures gives { IfOk result (λ made. IsPrinted printing prepared.entry made.0.items made.1) }
+    ensures fails { IfErr result (QuestionFails printing prepared.entry) }
+{
     let found = prepared.trees_fault(alloc, &Open)?;
     match prepared.answer(found) {
         Answer::Complete => {
-            let text = complete_text(alloc, prepared, hasher, printing)?;
-            Ok((MadeText::new(text), Status::Complete))
+            let text = complete_text(alloc, prepared, explaining.hasher, printing)?;
+            Ok((text, Status::Complete))
         }
         Answer::Refused(fault) => {
-            let text = refused_text(alloc, &question, fault, &explaining, printing)?;
-            Ok((MadeText::new(text), Status::Refused))
+            let text = refused_text(alloc, prepared.question(), fault, explaining, printing)?;
+            Ok((text, Status::Refused))
         }
     }
 }

@@ -1,7 +1,10 @@
 //! Runs of the solver.
 
 ghost use Rattle.std.specs.Prelude.{◌≡◌, ◌≤◌, IfOk, length};
-ghost use Rattle.match_text.specs.ListSpelling.{IsListWithin};
+ghost use Rattle.match_text.specs.ListSpelling.{IsListText, IsListWithin};
+ghost use Rattle.cert_text.specs.CertificateSpelling.{IsCertificateWithin};
+ghost use Rattle.cert_text.specs.Writing.{said_by};
+ghost use Rattle.text_crew.specs.Texts.{IsCertificateText};
 ghost use Rattle.match_limits.specs.declared.ranges.TheConstants.{SECOND};
 ghost use Rattle.match_puzzle.specs.Arrangement.{AreArrangements};
 ghost use Rattle.byte_streams.specs.Moves.{reading_of, writing_of};
@@ -146,17 +149,58 @@ fn make_products<R: Threads + Wait + Sync, T: SolveWatch + Sync>(
         search.watch,
     )?;
     let shares = shares(alloc, tally)?;
-    let texts = write_texts_with(rt, alloc, &listed, &certificate, plan.workers.get() as u8)?;
-    let report = report_on(alloc, &puzzle, &listed, &certificate, &shares)?;
+    let found = Found {
+        puzzle: &puzzle,
+        listed: &listed,
+        certificate: &certificate,
+        shares: &shares,
+    };
+    let products = products_of(rt, alloc, &found, search)?;
+    Ok((products, ()))
+}
+
+// What a solve of a puzzle found, and who took which lemma.
+#[derive(Clone, Copy)]
+struct Found<'a> {
+    puzzle: &'a Puzzle,
+    listed: &'a [Arrangement],
+    certificate: &'a Certificate,
+    shares: &'a [Taken],
+}
+
+// The texts of what was found.
+fn products_of<R: Threads + Wait + Sync, T: SolveWatch + Sync>(
+    rt: &R,
+    alloc: Global,
+    found: &Found<'_>,
+    search: &Watched<'_, SearchPlan, T>,
+) -> Result<Products, AllocError>
+    requires arrangements { AreArrangements found.now.puzzle.now found.now.listed.now }
+    requires list { IsListWithin SECOND found.now.listed.now }
+    requires certificate { IsCertificateWithin (said_by 2 found.now.certificate.now) }
+    requires workers { length found.now.shares.now ≤ MOST_WORKERS }
+    ensures list { IfOk result (λ made. IsListText found.now.listed.now made.list) }
+    ensures certificate { IfOk result (λ made. IsCertificateText found.now.certificate.now made.certificate) }
+    ensures report { IfOk result (λ made. made.report ≡ report_text found.now.puzzle.now found.now.listed.now
+        (length found.now.certificate.now.lemmas) found.now.shares.now) }
+{
+    let Found {
+        puzzle,
+        listed,
+        certificate,
+        shares,
+    } = *found;
+    let workers = search.plan.workers.get() as u8;
+    let texts = write_texts_with(rt, alloc, listed, certificate, workers)?;
+    let report = report_on(alloc, puzzle, listed, certificate, shares)?;
     search
         .watch
         .made(bytes_in(&texts.list), bytes_in(&texts.certificate));
-    let made = Products {
+    Ok(Products {
         list: MadeText::of_parts(texts.list),
         certificate: MadeText::of_parts(texts.certificate),
         report: MadeText::new(report),
-    };
-    Ok((made, ()))
+    })
 }
 
 // How many bytes these parts have, as it is told while they are written.

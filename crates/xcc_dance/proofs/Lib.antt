@@ -36,3 +36,5 @@ pub mod NodeWords
 pub mod MakingWords
 pub mod NothingChosenLemmas
 pub mod FollowingLemmas
+pub mod PickingLemmas
+pub mod UncoveredLemmas

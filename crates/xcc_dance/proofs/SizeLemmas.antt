@@ -81,6 +81,11 @@ module _ (x : Cover) (chosen : List ℕ) (item : ℕ) where
   open_next option options None is h w = below_gap (IsOpenAt x chosen item) (option + 1) (length x.options) (options ++ option ∷ []) (let real = is.open_option.real in omega (arith, real)) (λ n le lt o. h n o (omega (arith, le))) (below_one (IsOpenAt x chosen item) option options is w)
   open_next option options (Some later) is h w = below_gap (IsOpenAt x chosen item) (option + 1) later (options ++ option ∷ []) (let after = h.after_it in omega (arith, after)) (λ n le lt o. let ge = h.first n o (omega (arith, le)) in omega (arith, lt, ge)) (below_one (IsOpenAt x chosen item) option options is w)
 
+  -- the one, what comes before it, and nothing else come before the next one
+  pub before_next : (option : ℕ) → IsOpenAt x chosen item option → (next : Option ℕ) → MatchOption next (IsLast x chosen item (Some option)) (IsNext x chosen item (Some option)) → (option < bound_of (length x.options) next) × ((other : ℕ) → IsOpenAt x chosen item other → other < bound_of (length x.options) next → other ≤ option)
+  before_next option is None h = (is.open_option.real, λ other other_open lt. ⊎_elim (λ after. absurd (h other other_open after)) (λ le. le) (lt_or_le option other))
+  before_next option is (Some later) h = (h.after_it, λ other other_open lt. ⊎_elim (λ after. let le = h.first other other_open after in absurd (omega (arith, lt, le))) (λ le. le) (lt_or_le option other))
+
   -- where there is no next one, these are all
   pub open_all : (options : List ℕ) → AreOpenBefore None options → IsListing ◌<◌ (IsOpenAt x chosen item) options
   open_all options w = below_all (IsOpenAt x chosen item) (length x.options) options (λ n o. o.open_option.real) w

@@ -4,13 +4,13 @@ use Rattle.match_puzzle.proofs.NumberLemmas.{more_than_fewer}
 use Rattle.xcc_form.specs.Options.{cover_of}
 use Rattle.xcc_dance.specs.Clashes.{IsOpen, IsOpenAt}
 use Rattle.xcc_dance.specs.Chosen.{Selection, AreAllCovered, IsUncovered, IsToBranchOn, with_option}
-use Rattle.xcc_dance.specs.Found.{IsFoundFrom}
 use Rattle.xcc_dance.proofs.GrowingLemmas.{next_open}
-use Rattle.match_census.specs.Looks.{AreLooks, IsPassed, IsWeight}
+use Rattle.census_branches.specs.Looks.{AreLooks}
+use Rattle.match_census.specs.Weights.{IsPassed, IsWeight}
 use Rattle.match_census.proofs.ExtensionLemmas.{IsNextOrLast, one_extension}
-use Rattle.match_census.proofs.LookLemmas.{IsFoundUnder, none_under, passed_under, one_more_under, more_under, all_under}
+use Rattle.match_census.proofs.WeightLemmas.{IsFoundUnder, none_under, passed_under, one_more_under, more_under, all_under}
 use Rattle.match_census.proofs.TotalLemmas.{within_share}
-use Rattle.match_census.specs.Extensions.{HasExtensions}
+use Rattle.match_census.specs.Extensions.{IsExtension, HasExtensions}
 use Rattle.match_census.proofs.counting.+count_below.Goals as goal
 
 -- What `branch_item` says.
@@ -106,7 +106,7 @@ pub returns-then-most-eq0-clause-counted : goal.returns-then-most-eq0-clause-cou
 returns-then-most-eq0-clause-counted g t c =
     let s = g.E.OpenOptions.selection c.args.engine.now in
     let covered = subst (λ o. MatchOption o (AreAllCovered (cover_of s.compiled) s.chosen) (IsBranch s)) c.in_default.is c.branch_item.ensures in
-    more_than_fewer (IsFoundFrom s) c.args.most 1 (omega (arith, c.if-most-eq0.true)) (one_extension s c.chosen-right.ensures.right covered)
+    more_than_fewer (IsExtension s) c.args.most 1 (omega (arith, c.if-most-eq0.true)) (one_extension s c.chosen-right.ensures.right covered)
 
 pub returns-else-most-eq0-clause-counted : goal.returns-else-most-eq0-clause-counted
 returns-else-most-eq0-clause-counted g t c =
@@ -167,7 +167,7 @@ loop-next-preserved g t c =
     let weighs = subst (λ o. MatchOption o (IsPassed s looks item option) (IsWeight s looks item option)) c.in-Some-weight_of.is told in
     let with = c.in_ok-choose.ensures.chosen ∙ ap (λ v. with_option (g.E.OpenOptions.selection v) option) i.same in
     let back = c.undo.ensures ∙ ap g.E.OpenOptions.taken_back c.count_below-below.ensures.same ∙ c.in_ok-choose.ensures.before ∙ i.same in
-    let below = subst (λ o. MatchOption o (AreMoreThan share (IsFoundFrom chosen)) (HasExtensions chosen)) c.in-Some-2.is c.in_ok-count.ensures.counted in
+    let below = subst (λ o. MatchOption o (AreMoreThan share (IsExtension chosen)) (HasExtensions chosen)) c.in-Some-2.is c.in_ok-count.ensures.counted in
     let few = subst (λ o. IfSome o (λ n. n ≤ share)) c.in-Some-2.is c.in_ok-count.ensures.most in
     let within = within_share left weight count (subst (λ n. count ≤ n) c.share.ensures few) in
     let most = i.most in
@@ -211,10 +211,10 @@ returns-in_default-2-clause-counted g t c =
     let told = subst (λ (v : Selection). MatchOption c.weight_of.result (IsPassed v looks item option) (IsWeight v looks item option)) same c.weight_of.ensures.weight in
     let weighs = subst (λ o. MatchOption o (IsPassed s looks item option) (IsWeight s looks item option)) c.in-Some-weight_of.is told in
     let with = c.in_ok-choose.ensures.chosen ∙ ap (λ v. with_option (g.E.OpenOptions.selection v) option) i.same in
-    let below = subst (λ o. MatchOption o (AreMoreThan share (IsFoundFrom chosen)) (HasExtensions chosen)) c.in_default-2.is c.in_ok-count.ensures.counted in
+    let below = subst (λ o. MatchOption o (AreMoreThan share (IsExtension chosen)) (HasExtensions chosen)) c.in_default-2.is c.in_ok-count.ensures.counted in
     more_under s c.chosen-right.ensures.right looks c.requires item branch.uncovered option is_open c.loop-next.sum c.args.most weight i.most c.in-Some-weight_of.ensures.least weighs
     (subst (λ o. AreSoMany (IsFoundUnder s looks item o) c.loop-next.sum) c.in-Some-next.is i.counted)
-    (subst (λ n. AreMoreThan n (IsFoundFrom (with_option s option))) c.share.ensures (subst (λ v. AreMoreThan share (IsFoundFrom v)) with below))
+    (subst (λ n. AreMoreThan n (IsExtension (with_option s option))) c.share.ensures (subst (λ v. AreMoreThan share (IsExtension v)) with below))
 
 pub returns-clause-counted : goal.returns-clause-counted
 returns-clause-counted g t c =

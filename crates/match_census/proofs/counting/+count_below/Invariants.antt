@@ -3,7 +3,7 @@ use Rattle.match_puzzle.specs.Numbers.{AreSoMany}
 use Rattle.xcc_form.specs.Options.{cover_of}
 use Rattle.xcc_dance.specs.Clashes.{IsOpenAt}
 use Rattle.xcc_dance.proofs.GrowingLemmas.{left_after}
-use Rattle.match_census.proofs.LookLemmas.{IsFoundUnder}
+use Rattle.match_census.proofs.WeightLemmas.{IsFoundUnder}
 use Rattle.match_census.proofs.counting.+count_below.Given as goal
 
 abbrev pub decreases-count_below : goal.decreases-count_below

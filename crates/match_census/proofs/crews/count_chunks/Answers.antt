@@ -1,7 +1,7 @@
 use Rattle.std.proofs.Common.{◌≡◌, ◌<◌, ◌≤◌, ◌*◌, length, get_or, arith, ap, sym, ◌∙◌, subst}
 use Rattle.std.specs.Fork.{slice_chunk}
 use Rattle.std.specs.Int.{div_ceil}
-use Rattle.match_census.specs.Branches.{IsTotal}
+use Rattle.census_branches.specs.Branches.{IsTotal}
 use Rattle.match_census.proofs.ChunkLemmas.{chunk_within, chunks_all, few_chunks}
 use Rattle.match_census.proofs.crews.count_chunks.Goals as goal
 

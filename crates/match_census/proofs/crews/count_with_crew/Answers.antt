@@ -1,13 +1,14 @@
-use Rattle.std.proofs.Common.{IfOk, Result, Ok, Err, length, arith, ap, sym, subst}
-use Rattle.match_census.specs.Branches.{AreSelections, IsTotal}
-use Rattle.match_census.specs.Looks.{AreLooks}
+use Rattle.std.proofs.Common.{length, arith, ap, sym, subst}
+use Rattle.census_branches.specs.Branches.{AllChoose, IsTotal}
+use Rattle.xcc_dance.specs.Chosen.{IsSelection}
+use Rattle.census_branches.specs.Looks.{AreLooks}
 use Rattle.match_census.proofs.SpreadLemmas.{ok_then, total_of}
 use Rattle.match_census.proofs.crews.count_with_crew.Goals as goal
 
 pub count_chunks-requires-clause-selections : goal.count_chunks-requires-clause-selections
 count_chunks-requires-clause-selections g c =
     let x = c.args.count.xcc.now in
-    λ κs below. subst (AreSelections x) (sym c.deref-2.ensures.value) (c.in_ok-spread.ensures.selections x c.requires.selections)
+    λ κs below. subst (AllChoose (IsSelection x)) (sym c.deref-2.ensures.value) (c.in_ok-spread.ensures.selections x c.requires.selections)
 
 pub count_chunks-requires-clause-looks : goal.count_chunks-requires-clause-looks
 count_chunks-requires-clause-looks g c = λ κs below. subst (AreLooks c.args.count.xcc.now) (sym c.deref.ensures.value) c.in_ok-looks.ensures

@@ -1,6 +1,6 @@
 use Rattle.std.proofs.Common.{◌≡◌, ◌+◌, ◌*◌, None, length, take, arith, refl, sym, subst}
 use Rattle.std.specs.Fork.{slice_chunk}
-use Rattle.match_census.specs.Branches.{HaveTogether, IsTotal}
+use Rattle.census_branches.specs.Branches.{HaveTogether, IsTotal}
 use Rattle.match_census.proofs.ChunkLemmas.{all_chunks, chunk_more, too_many_there, too_many_with}
 use Rattle.match_census.proofs.crews.sum_of.Goals as goal
 

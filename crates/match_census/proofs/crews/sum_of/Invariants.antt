@@ -1,5 +1,5 @@
 use Rattle.std.proofs.Common.{◌*◌, take}
-use Rattle.match_census.specs.Branches.{HaveTogether}
+use Rattle.census_branches.specs.Branches.{HaveTogether}
 use Rattle.match_census.proofs.crews.sum_of.Given as goal
 
 abbrev pub invariant-loop-total : goal.invariant-loop-total

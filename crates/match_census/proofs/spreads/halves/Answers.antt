@@ -1,5 +1,6 @@
-use Rattle.std.proofs.Common.{◌≡◌, ◌++◌, ◌∷◌, [], ℕ, zero, suc, List, length, length-append, append-nil, arith, refl, ap, ap₂, sym, ◌∙◌, subst}
-use Rattle.match_census.specs.Branches.{WeightedBranch, AreSelections, HaveTogether}
+use Rattle.std.proofs.Common.{◌≡◌, ◌++◌, ◌∷◌, [], List, length, length-append, append-nil, arith, refl, ap, ap₂, sym, ◌∙◌, subst}
+use Rattle.census_branches.specs.Branches.{WeightedBranch, AllChoose, HaveTogether}
+use Rattle.xcc_dance.specs.Chosen.{IsSelection}
 use Rattle.match_census.proofs.SpreadLemmas.{stand_next, selections_next}
 use Rattle.match_census.proofs.spreads.halves.Goals as goal
 
@@ -15,7 +16,7 @@ loop-branch-init c =
     let e = ap length gives.0 in
     record {
       stand = λ x total t. subst (λ bs. HaveTogether x bs total) all t;
-      selections = λ x are. subst (AreSelections x) (sym all) are;
+      selections = λ x are. subst (AllChoose (IsSelection x)) (sym all) are;
       long = omega (arith, a, b, e);
       rest = gives.1 ∙ c.args.branches.ok.0 ∙ sym (ap length gives.0);
     }
@@ -38,7 +39,7 @@ loop-branch-preserved c =
     let before = i.long in
     record {
       stand = λ x total t. stand_next x these others rest c.args.branches.items branch (λ n u. i.stand x n (subst (λ bs. HaveTogether x ((these ++ others) ++ bs) n) (sym steps) u)) total (subst (λ bs. HaveTogether x bs total) all t);
-      selections = λ x are. subst (AreSelections x) (sym all) (selections_next x these others rest branch (subst (λ bs. AreSelections x ((these ++ others) ++ bs)) steps (i.selections x are)));
+      selections = λ x are. subst (AllChoose (IsSelection x)) (sym all) (selections_next x these others rest branch (subst (λ bs. AllChoose (IsSelection x) ((these ++ others) ++ bs)) steps (i.selections x are)));
       long = omega (arith, a, b, more, fewer, before);
       rest = (let all = i.rest in let fewer = c.in-Some.ensures.steps.1 in let long = ap length steps in omega (arith, all, fewer, long));
     }
@@ -61,7 +62,7 @@ returns-clause-selections c = λ x are.
     let both = c.loop-branch.these.items ++ c.loop-branch.others.items in
     let none = no_items c.loop-branch.branch-iterator.rest.items (sym i.rest ∙ c.in-None.ensures.steps.0) in
     let all = c.in_ok-append.ensures.items ∙ sym (append-nil both) ∙ ap (λ xs. both ++ xs) (sym none) in
-    subst (AreSelections x) (sym all) (i.selections x are)
+    subst (AllChoose (IsSelection x)) (sym all) (i.selections x are)
 
 pub returns-clause-long : goal.returns-clause-long
 returns-clause-long c =

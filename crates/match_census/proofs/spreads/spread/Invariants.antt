@@ -1,11 +1,12 @@
 use Rattle.std.proofs.Common.{◌≡◌, length}
 use Rattle.xcc_form.specs.Options.{Compiled}
-use Rattle.match_census.specs.Branches.{AreSelections, StandFor}
+use Rattle.census_branches.specs.Branches.{AllChoose, StandFor}
+use Rattle.xcc_dance.specs.Chosen.{IsSelection}
 use Rattle.match_census.proofs.spreads.spread.Given as goal
 
 abbrev pub invariant-loop : goal.invariant-loop
 invariant-loop l = record {
   stand : (x : Compiled) → StandFor x l.spread.items l.fn.branches.items;
-  selections : (x : Compiled) → AreSelections x l.fn.branches.items → AreSelections x l.spread.items;
+  selections : (x : Compiled) → AllChoose (IsSelection x) l.fn.branches.items → AllChoose (IsSelection x) l.spread.items;
   long : length l.spread.items ≡ length l.fn.branches.items;
 }

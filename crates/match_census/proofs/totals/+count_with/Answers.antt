@@ -1,10 +1,9 @@
 use Rattle.std.proofs.Common.{◌++◌, IfOk, MatchOption, arith, sym, subst}
 use Rattle.match_puzzle.specs.Numbers.{AreMoreThan}
 use Rattle.xcc_dance.specs.Chosen.{Selection, IsSelection}
-use Rattle.xcc_dance.specs.Found.{IsFoundFrom}
-use Rattle.match_census.specs.Looks.{AreLooks}
-use Rattle.match_census.proofs.PickingLemmas.{none_picked, one_picked, picked_is_open, picked_chosen}
-use Rattle.match_census.specs.Extensions.{HasExtensions}
+use Rattle.census_branches.specs.Looks.{AreLooks}
+use Rattle.xcc_dance.proofs.PickingLemmas.{none_picked, one_picked, picked_chosen, picked_is_open}
+use Rattle.match_census.specs.Extensions.{IsExtension, HasExtensions}
 use Rattle.match_census.proofs.totals.+count_with.Goals as goal
 
 pub choose-requires : goal.choose-requires
@@ -34,7 +33,7 @@ returns-in_default-clause-counted g t c =
     let s = g.E.OpenOptions.selection c.args.engine.now in
     let most = c.args.most in
     subst
-    (λ cs. IfOk c.count_below.result (λ o. MatchOption o (AreMoreThan most (IsFoundFrom (record { compiled = s.compiled; chosen = cs }))) (HasExtensions (record { compiled = s.compiled; chosen = cs }))))
+    (λ cs. IfOk c.count_below.result (λ o. MatchOption o (AreMoreThan most (IsExtension (record { compiled = s.compiled; chosen = cs }))) (HasExtensions (record { compiled = s.compiled; chosen = cs }))))
     (sym (none_picked s.chosen c.args.options.now c.in_default.ensures.cases)) c.count_below.ensures.counted
 
 pub returns-clause-counted : goal.returns-clause-counted
@@ -43,8 +42,8 @@ returns-clause-counted g t c =
     let others = c.in-Some.others.now in
     let most = c.args.most in
     let counted = subst
-    (λ (v : Selection). IfOk c.count_with-counted.result (λ o. MatchOption o (AreMoreThan most (IsFoundFrom (record { compiled = v.compiled; chosen = v.chosen ++ others }))) (HasExtensions (record { compiled = v.compiled; chosen = v.chosen ++ others }))))
+    (λ (v : Selection). IfOk c.count_with-counted.result (λ o. MatchOption o (AreMoreThan most (IsExtension (record { compiled = v.compiled; chosen = v.chosen ++ others }))) (HasExtensions (record { compiled = v.compiled; chosen = v.chosen ++ others }))))
     c.in_ok-choose.ensures.chosen c.count_with-counted.ensures.counted in
     subst
-    (λ cs. IfOk c.count_with-counted.result (λ o. MatchOption o (AreMoreThan most (IsFoundFrom (record { compiled = s.compiled; chosen = cs }))) (HasExtensions (record { compiled = s.compiled; chosen = cs }))))
+    (λ cs. IfOk c.count_with-counted.result (λ o. MatchOption o (AreMoreThan most (IsExtension (record { compiled = s.compiled; chosen = cs }))) (HasExtensions (record { compiled = s.compiled; chosen = cs }))))
     (one_picked s.chosen others c.args.options.now c.in-Some.option.now c.in-Some.ensures.cases.0) counted

@@ -1,9 +1,9 @@
 use Rattle.std.proofs.Common.{IfOk, MatchOption, sym, subst}
 use Rattle.match_puzzle.specs.Arrangement.{IsArrangement, HasArrangements}
 use Rattle.match_puzzle.specs.Numbers.{AreMoreThan}
-use Rattle.xcc_dance.specs.Chosen.{Selection}
-use Rattle.match_census.specs.Looks.{AreLooks}
-use Rattle.match_census.specs.Branches.{AreSelections, HaveTogether, HaveMoreTogether}
+use Rattle.xcc_dance.specs.Chosen.{Selection, IsSelection}
+use Rattle.census_branches.specs.Looks.{AreLooks}
+use Rattle.census_branches.specs.Branches.{AllChoose, HaveTogether, HaveMoreTogether}
 use Rattle.match_census.proofs.TotalLemmas.{told_of_split}
 use Rattle.match_census.proofs.SpreadLemmas.{ok_then, split_of}
 use Rattle.match_census.proofs.totals.count_arrangements.Goals as goal
@@ -15,8 +15,8 @@ count_branches-requires-clause-looks g c =
 pub count_branches-requires-clause-selections : goal.count_branches-requires-clause-selections
 count_branches-requires-clause-selections g c =
     let x = c.args.count.xcc.now in
-    subst (λ (v : Selection). AreSelections v.compiled c.deref-2.result.now) (sym c.in_ok-engine.ensures)
-    (subst (AreSelections x) (sym c.deref-2.ensures.value) (c.in_ok-spread.ensures.selections x c.requires.selections))
+    subst (λ (v : Selection). AllChoose (IsSelection v.compiled) c.deref-2.result.now) (sym c.in_ok-engine.ensures)
+    (subst (AllChoose (IsSelection x)) (sym c.deref-2.ensures.value) (c.in_ok-spread.ensures.selections x c.requires.selections))
 
 pub returns-clause-counted : goal.returns-clause-counted
 returns-clause-counted g c =

@@ -3,11 +3,12 @@ use Rattle.std.proofs.lemmas.List.{take_all}
 use Rattle.match_limits.proofs.ListLemmas.{contains_at}
 use Rattle.match_puzzle.specs.Numbers.{AreMoreThan}
 use Rattle.xcc_dance.specs.Chosen.{Selection}
-use Rattle.xcc_dance.specs.Found.{IsFoundFrom}
-use Rattle.match_census.specs.Branches.{HaveTogether}
-use Rattle.match_census.proofs.BranchLemmas.{read_at, chosen_for, selection_for}
+use Rattle.census_branches.specs.Branches.{HaveTogether}
+use Rattle.census_branches.proofs.BranchLemmas.{read_at}
+use Rattle.xcc_dance.proofs.PickingLemmas.{selection_for}
+use Rattle.match_census.proofs.PickingLemmas.{chosen_for}
 use Rattle.match_census.proofs.TotalLemmas.{within_share, one_more_taken, more_than_share}
-use Rattle.match_census.specs.Extensions.{HasExtensions}
+use Rattle.match_census.specs.Extensions.{IsExtension, HasExtensions}
 use Rattle.match_census.proofs.totals.count_branches.Goals as goal
 
 pub count_with-requires-clause-selection : goal.count_with-requires-clause-selection
@@ -15,7 +16,7 @@ count_with-requires-clause-selection g c =
     let s = g.E.OpenOptions.selection c.args.engine.now in
     let b = c.branch-item.result in
     let at = read_at c.args.branches.now c.loop-branch.branch-index b c.loop-branch-test.true c.branch-item.is in
-    selection_for (g.E.OpenOptions.selection c.loop-branch.engine) s b c.chosen.result.now (ap g.E.OpenOptions.selection c.loop-branch.invariant.same) c.requires.empty c.chosen.ensures
+    selection_for (g.E.OpenOptions.selection c.loop-branch.engine) s b.chosen c.chosen.result.now (ap g.E.OpenOptions.selection c.loop-branch.invariant.same) c.requires.empty c.chosen.ensures
     (c.requires.selections b (contains_at c.args.branches.now c.loop-branch.branch-index b at))
 
 pub returns-in_default-clause-counted : goal.returns-in_default-clause-counted
@@ -28,9 +29,9 @@ returns-in_default-clause-counted g c =
     let chosen = chosen_for v s b c.chosen.result.now (ap g.E.OpenOptions.selection i.same) c.requires.empty c.chosen.ensures in
     let share = (c.args.most - c.loop-branch.total) / weight in
     let here : Selection = record { compiled = v.compiled; chosen = v.chosen ++ c.chosen.result.now } in
-    let more = subst (λ o. MatchOption o (AreMoreThan share (IsFoundFrom here)) (HasExtensions here)) c.in_default.is c.in_ok-count.ensures.counted in
+    let more = subst (λ o. MatchOption o (AreMoreThan share (IsExtension here)) (HasExtensions here)) c.in_default.is c.in_ok-count.ensures.counted in
     more_than_share s.compiled c.args.branches.now c.loop-branch.branch-index b weight c.loop-branch.total c.args.most c.loop-branch-test.true c.branch-item.is c.weight-weight.ensures.value c.weight-weight.ensures.least i.total i.most
-    (subst (λ t. AreMoreThan share (IsFoundFrom t)) chosen more)
+    (subst (λ t. AreMoreThan share (IsExtension t)) chosen more)
 
 pub overflow_mul-more : goal.overflow_mul-more
 overflow_mul-more g c =
@@ -59,7 +60,7 @@ loop-branch-preserved g c =
     let chosen = chosen_for v s b c.chosen.result.now (ap g.E.OpenOptions.selection i.same) c.requires.empty c.chosen.ensures in
     let share = (c.args.most - c.loop-branch.total) / weight in
     let here : Selection = record { compiled = v.compiled; chosen = v.chosen ++ c.chosen.result.now } in
-    let counted = subst (λ o. MatchOption o (AreMoreThan share (IsFoundFrom here)) (HasExtensions here)) c.in-Some.is c.in_ok-count.ensures.counted in
+    let counted = subst (λ o. MatchOption o (AreMoreThan share (IsExtension here)) (HasExtensions here)) c.in-Some.is c.in_ok-count.ensures.counted in
     let few = subst (λ o. IfSome o (λ n. n ≤ share)) c.in-Some.is c.in_ok-count.ensures.most in
     let within = within_share (c.args.most - c.loop-branch.total) weight count few in
     let le = i.most in

@@ -1,5 +1,5 @@
 use Rattle.std.proofs.Common.{◌≡◌, ◌≤◌, take}
-use Rattle.match_census.specs.Branches.{HaveTogether}
+use Rattle.census_branches.specs.Branches.{HaveTogether}
 use Rattle.match_census.proofs.totals.count_branches.Given as goal
 
 abbrev pub invariant-loop-branch : goal.invariant-loop-branch

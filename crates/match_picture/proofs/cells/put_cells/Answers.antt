@@ -1,4 +1,4 @@
-use Rattle.match_picture.proofs.JoinedLemmas.{grows_more, wrapped_grows}
+use Rattle.match_picture.proofs.GrownLemmas.{grows_more, wrapped_grows}
 use Rattle.match_picture.proofs.cells.put_cells.Goals as goal
 
 pub returns : goal.returns

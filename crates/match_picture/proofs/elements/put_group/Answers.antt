@@ -1,6 +1,6 @@
 use Rattle.std.proofs.Common.{◌≡◌, ◌++◌, [], sym, ap, arith, ◌∙◌}
 use Rattle.std.proofs.lemmas.List.{nil_from_length, append-nil}
-use Rattle.match_picture.proofs.JoinedLemmas.{wrapped_fourth}
+use Rattle.match_picture.proofs.GrownLemmas.{wrapped_fourth}
 use Rattle.match_picture.proofs.elements.put_group.Goals as goal
 
 pub returns-then-is_empty : goal.returns-then-is_empty

@@ -1,4 +1,5 @@
-use Rattle.match_picture.proofs.LawLemmas.{palette_law, fill_law, fitting_law, seam_law}
+use Rattle.picture_parts.proofs.PaletteLemmas.{palette_law}
+use Rattle.match_picture.proofs.LawLemmas.{fill_law, fitting_law, seam_law}
 use Rattle.match_picture.proofs.laws.picture_laws.Goals as goal
 
 pub returns-clause-palette : goal.returns-clause-palette

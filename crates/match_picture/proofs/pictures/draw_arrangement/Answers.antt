@@ -1,6 +1,7 @@
 use Rattle.std.proofs.Common.{◌<◌, All, length, sym, subst}
-use Rattle.match_picture.specs.Joined.{Wraps}
-use Rattle.match_picture.specs.Pictures.{AreBandLines, ArePartLines, IsArrangementPicture}
+use Rattle.picture_parts.specs.Elements.{AreBandLines, ArePartLines}
+use Rattle.match_picture.specs.Grown.{Wraps}
+use Rattle.match_picture.specs.Pictures.{IsArrangementPicture}
 use Rattle.match_picture.proofs.PictureLemmas.{pictured}
 use Rattle.match_picture.proofs.TileLemmas.{have_tiles}
 use Rattle.match_picture.proofs.pictures.draw_arrangement.Goals as goal

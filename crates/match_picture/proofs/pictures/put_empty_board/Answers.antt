@@ -1,7 +1,7 @@
 use Rattle.std.proofs.Common.{subst}
-use Rattle.match_picture.specs.Joined.{Wraps}
-use Rattle.match_picture.specs.Pictures.{AreBandLines}
-use Rattle.match_picture.proofs.JoinedLemmas.{wrapped_more}
+use Rattle.picture_parts.specs.Elements.{AreBandLines}
+use Rattle.match_picture.specs.Grown.{Wraps}
+use Rattle.match_picture.proofs.GrownLemmas.{wrapped_more}
 use Rattle.match_picture.proofs.pictures.put_empty_board.Goals as goal
 
 pub returns : goal.returns

@@ -1,9 +1,9 @@
 use Rattle.std.proofs.Common.{◌+◌, ◌++◌, refl, sym, subst, ap, arith, ◌∙◌}
 use Rattle.std.proofs.lemmas.Option.{get_or_from_slice_get, slice_get_read}
 use Rattle.match_puzzle.specs.Arrangement.{IsArrangement}
-use Rattle.match_picture.specs.Joined.{IsJoined}
+use Rattle.picture_parts.specs.Joined.{IsJoined}
+use Rattle.picture_parts.proofs.JoinedLemmas.{joined_more}
 use Rattle.match_picture.specs.Pictures.{IsArrangementPicture, IsPictureAt}
-use Rattle.match_picture.proofs.JoinedLemmas.{joined_more}
 use Rattle.match_picture.proofs.sheets.thumbnails.Goals as goal
 
 pub draw_arrangement-requires : goal.draw_arrangement-requires

@@ -1,4 +1,4 @@
-use Rattle.match_picture.specs.Joined.{IsJoined}
+use Rattle.picture_parts.specs.Joined.{IsJoined}
 use Rattle.match_picture.specs.Pictures.{IsPictureAt}
 use Rattle.match_picture.proofs.sheets.thumbnails.Given as goal
 

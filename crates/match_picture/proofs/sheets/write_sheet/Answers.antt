@@ -1,5 +1,5 @@
 use Rattle.std.proofs.Common.{◌++◌, ap, ◌∙◌}
-use Rattle.match_picture.proofs.JoinedLemmas.{wrapped_grows}
+use Rattle.match_picture.proofs.GrownLemmas.{wrapped_grows}
 use Rattle.match_picture.proofs.PictureLemmas.{on_a_sheet}
 use Rattle.match_picture.proofs.sheets.write_sheet.Goals as goal
 

@@ -1,4 +1,4 @@
-use Rattle.match_picture.proofs.JoinedLemmas.{grows_more}
+use Rattle.match_picture.proofs.GrownLemmas.{grows_more}
 use Rattle.match_picture.proofs.tiles.put_lines_above.Goals as goal
 
 pub returns : goal.returns

@@ -1,4 +1,4 @@
-use Rattle.match_picture.proofs.JoinedLemmas.{wrapped_grows}
+use Rattle.match_picture.proofs.GrownLemmas.{wrapped_grows}
 use Rattle.match_picture.proofs.tiles.put_outlines.Goals as goal
 
 pub returns : goal.returns

@@ -1,6 +1,6 @@
 use Rattle.std.proofs.Common.{subst}
-use Rattle.match_picture.specs.Joined.{IsWrapped}
-use Rattle.match_picture.proofs.JoinedLemmas.{wrapped_more}
+use Rattle.match_picture.specs.Grown.{IsWrapped}
+use Rattle.match_picture.proofs.GrownLemmas.{wrapped_more}
 use Rattle.match_picture.proofs.tiles.put_tiles.Goals as goal
 
 pub returns : goal.returns

@@ -1,7 +1,7 @@
 use Rattle.std.proofs.Common.{None, Some, Err, length, arith, ap, subst, sym}
 use Rattle.std.proofs.lemmas.Result.{err_from_is_err_and}
 use Rattle.command_words.specs.declared.orders.Extent.TheVariants as extents
-use Rattle.match_census.specs.Branches.{AreSelections, HaveTogether, IsTotal}
+use Rattle.census_branches.specs.Branches.{HaveTogether, IsTotal}
 use Rattle.match_runs.proofs.CensusLemmas.{compile_fails, split_counts}
 use Rattle.match_runs.proofs.census_runs.all_counted.Goals as goal
 

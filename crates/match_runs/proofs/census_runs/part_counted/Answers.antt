@@ -1,8 +1,9 @@
 use Rattle.std.proofs.Common.{◌≡◌, ◌∙◌, ◌++◌, None, Some, Err, length, arith, ap, ap₂, subst, sym}
 use Rattle.std.proofs.lemmas.Result.{err_from_is_err_and}
 use Rattle.command_words.specs.declared.orders.Extent.TheVariants as extents
-use Rattle.match_census.specs.Branches.{AreSelections, HaveTogether, IsTotal, every}
-use Rattle.match_census.proofs.PartLemmas.{every_fewer, part_selections}
+use Rattle.xcc_dance.specs.Chosen.{IsSelection}
+use Rattle.census_branches.specs.Branches.{HaveTogether, IsTotal, AllChoose, every}
+use Rattle.census_branches.proofs.PartLemmas.{every_fewer, part_chooses}
 use Rattle.command_words.specs.Parts.{parts_with}
 use Rattle.match_runs.specs.Census.{part_of, split_line}
 use Rattle.match_runs.proofs.CensusLemmas.{compile_fails}
@@ -31,7 +32,7 @@ count_with_crew-requires-clause-selections g c =
     let x = c.in_ok-xcc.xcc in
     let part = c.args.part in
     let branches = c.in_ok-branches.branches.items in
-    λ κs below. subst (AreSelections x) (sym (dealt g at)) (part_selections x (parts_with part) part.before branches c.in_ok-branches.ensures.selections)
+    λ κs below. subst (AllChoose (IsSelection x)) (sym (dealt g at)) (part_chooses (IsSelection x) (parts_with part) part.before branches c.in_ok-branches.ensures.selections)
 
 pub count_with_crew-requires-clause-few : goal.count_with_crew-requires-clause-few
 count_with_crew-requires-clause-few g c =

@@ -1,7 +1,7 @@
 use Rattle.std.proofs.Common.{List, ℕ, Ok, ap, subst, sym, ◌∙◌}
 use Rattle.std.proofs.lemmas.Result.{err_from_is_err_and}
 use Rattle.match_puzzle.specs.declared.placements.Placement.{Placement}
-use Rattle.match_picture.specs.Listed.{IsNotDrawn}
+use Rattle.picture_parts.specs.Plans.{IsNotDrawn}
 use Rattle.match_text.specs.Lists.{list_of}
 use Rattle.match_text.specs.Puzzles.{PuzzleReads}
 use Rattle.match_runs.proofs.PictureLemmas.{picture_fails}

@@ -1,7 +1,7 @@
 use Rattle.std.proofs.Common.{◌-◌, ◌*◌, IfOk, MatchOption, ℕ, length, take, drop, refl, sym, subst}
 use Rattle.std.specs.Fork.{slice_chunk}
-use Rattle.xcc_dance.specs.Chosen.{Selection}
-use Rattle.match_census.specs.Branches.{AreSelections, HaveTogether, HaveMoreTogether, IsTotal}
+use Rattle.xcc_dance.specs.Chosen.{Selection, IsSelection}
+use Rattle.census_branches.specs.Branches.{AllChoose, HaveTogether, HaveMoreTogether, IsTotal}
 use Rattle.match_census.proofs.SpreadLemmas.{ok_then}
 use Rattle.match_census.proofs.ChunkLemmas.{chunk_is, chunk_selections, told}
 use Rattle.match_census.proofs.crews.ChunksWork.one.Goals as goal
@@ -11,8 +11,8 @@ count_branches-requires-clause-selections g c =
     let w = c.args.self.now in
     let first = c.args.number * w.size in
     let chunk = chunk_is w.branches.now first w.size c.min.result c.min.ensures in
-    subst (λ (v : Selection). AreSelections v.compiled (take c.min.result (take (length w.branches.now - first) (drop first w.branches.now)))) (sym c.in_ok-engine.ensures)
-    (subst (AreSelections w.means.xcc.now) (sym chunk) (chunk_selections w.means.xcc.now w.branches.now first w.size c.requires.1))
+    subst (λ (v : Selection). AllChoose (IsSelection v.compiled) (take c.min.result (take (length w.branches.now - first) (drop first w.branches.now)))) (sym c.in_ok-engine.ensures)
+    (subst (AllChoose (IsSelection w.means.xcc.now)) (sym chunk) (chunk_selections w.means.xcc.now w.branches.now first w.size c.requires.1))
 
 pub returns : goal.returns
 returns g c =

@@ -1,0 +1,5 @@
+pub mod Extensions
+pub mod Branches
+pub mod Symmetries
+pub mod Looks
+pub mod Hash

@@ -1,7 +1,0 @@
-use Rattle.match_picture.specs.Elements.{IsPart}
-use Rattle.match_picture.specs.Joined.{IsJoined}
-use Rattle.match_picture.proofs.parts.part_line.Given as goal
-
-abbrev pub invariant-loop-side : goal.invariant-loop-side
-invariant-loop-side l =
-    IsJoined (IsPart l.canvas.puzzle.now l.canvas.left l.canvas.top l.site l.placement) l.side l.line.items

@@ -1,7 +1,0 @@
-use Rattle.match_picture.specs.Joined.{IsJoined}
-use Rattle.match_picture.specs.Pictures.{IsPartLineAt}
-use Rattle.match_picture.proofs.parts.part_lines.Given as goal
-
-abbrev pub invariant-loop-index : goal.invariant-loop-index
-invariant-loop-index l =
-    IsJoined (IsPartLineAt l.canvas.puzzle.now l.canvas.left l.canvas.top l.canvas.sites.items l.placements) l.index l.lines.items

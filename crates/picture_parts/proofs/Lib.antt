@@ -1,0 +1,3 @@
+mod EdgeLemmas
+pub mod JoinedLemmas
+pub mod PaletteLemmas

@@ -1,0 +1,6 @@
+pub mod Joined
+pub mod Forms
+pub mod Edges
+pub mod Palette
+pub mod Elements
+pub mod Plans

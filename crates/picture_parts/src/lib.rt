@@ -1,0 +1,21 @@
+//! Parts of pictures: what shows colours, the numbers of tiles, and which arrangements of a list are drawn.
+#![tactic(auto)]
+
+mod bands;
+mod canvases;
+mod corners;
+mod edges;
+mod forms;
+mod numbers;
+mod palette;
+mod parts;
+mod plans;
+
+pub use bands::{asked, band_lines, put_ended};
+pub use canvases::{Canvas, Point, Site};
+pub use edges::{Edge, edge_of, edge_path};
+pub use forms::{Form, FormSide, Offset, Way, side_of};
+pub use numbers::{number, tile_number};
+pub use palette::palette_law;
+pub use parts::part_lines;
+pub use plans::{NotDrawn, PicturePlan, arrangements_to_draw};
