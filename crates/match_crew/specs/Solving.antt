@@ -15,6 +15,8 @@ use Rattle.match_puzzle.specs.Arrangement.{AreArrangements}
 use Rattle.crew_machine.specs.Counts.{total, times, once_below}
 use Rattle.piece_desk.specs.FlatDesks.{IsOfFlat}
 use Rattle.piece_desk.specs.declared.flat_desks.FlatDesk.{FlatDesk}
+use Rattle.xcc_dance.specs.declared.searches.PackedOutcome.{PackedOutcome}
+use Rattle.xcc_dance.specs.declared.searches.PackedOutcome.TheVariants as packed
 use Rattle.xcc_form.specs.declared.faults.CompileFault.{CompileFault}
 use Rattle.xcc_form.specs.declared.faults.CompileFault.TheVariants as compile
 use Rattle.match_crew.specs.declared.faults.SolveFault.{SolveFault}
@@ -30,6 +32,11 @@ solve_of_compile compile.Memory = solve.Memory
 -- Where no more was found than may be listed, the tree is within the limits of a lemma's text.
 abbrev pub IsTreeWithinWith : (found : List (List Placement)) → Tree → Type 0
 IsTreeWithinWith found tree = length found ≤ MOST_ARRANGEMENTS → IsTreeWithin MOST_CELLS MOST_LEVELS tree
+
+-- What a search found are arrangements, and its tree is so; or it gave up.
+abbrev pub IsFoundIn : Task → PackedOutcome → Type 0
+IsFoundIn p (packed.Done tree found) = AreArrangements p found.items × IsTreeWithinWith found.items tree
+IsFoundIn p packed.GaveUp = Unit {0}
 
 -- Its lemma is on the desk, and what it found are arrangements; or the branch was given up.
 abbrev pub IsOutcomeOf : Task → FlatDesk → Searched → Type 0

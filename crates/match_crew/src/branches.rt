@@ -1,11 +1,17 @@
 //! Open branches.
 
-ghost use Rattle.std.specs.Prelude.{◌≡◌, true, IfOk};
+ghost use Rattle.std.specs.Prelude.{◌≡◌, ◌≤◌, List, true, IfOk};
+ghost use Rattle.match_limits.specs.declared.TheConstants.{MOST_FUEL};
+ghost use Rattle.match_puzzle.specs.declared.placements.Pair.{Pair as PlacedPair};
 ghost use Rattle.match_puzzle.specs.Fitting.{Fits};
 ghost use Rattle.match_fits.specs.Placing.{FitInTurn};
+ghost use Rattle.match_crew.specs.Solving.{IsFoundIn};
 
+use crate::strategy::items::ItemRule;
 use match_puzzle::{Pair, Partial, Puzzle};
 use std::alloc::{AllocError, Global};
+use xcc_dance::{Cites, OpenSets, PackedOutcome, SearchFault, SearchOver};
+use xcc_form::Xcc;
 
 // A branch whose arrangements are still to be found: its pairs, in the order of their placing.
 #[derive(Drop)]
@@ -35,6 +41,33 @@ fn fits(puzzle: &Puzzle, partial: &Partial<'_>, pair: Pair) -> bool
     pair.cell < puzzle.board().cells()
         && (usize::from(pair.placement.tile) < puzzle.tiles().len()
             && puzzle.fits(partial, pair.cell, pair.placement))
+}
+
+// Searches below these pairs; gives up where they don't fit in turn, or the fuel doesn't do.
+pub fn search_below<C: Cites>(
+    alloc: Global,
+    xcc: &Xcc<'_>,
+    pairs: &[Pair],
+    fuel: u32,
+    item_rule: &ItemRule,
+    cites: &mut C,
+) -> Result<PackedOutcome, AllocError>
+    requires fuel { fuel ≤ MOST_FUEL }
+    requires takes { (asked : List PlacedPair) → C.takes cites.old asked }
+    ensures found { IfOk result (IsFoundIn xcc.now.puzzle) }
+    ensures moved { C.moves cites.old cites.new }
+{
+    if !fit_in_turn(alloc, xcc.puzzle(), pairs)? {
+        return Ok(PackedOutcome::GaveUp);
+    }
+    let engine = OpenSets::new(alloc, xcc)?;
+    let mut search = SearchOver::over(alloc, engine)?;
+    match search.run_by(pairs, fuel, item_rule, cites) {
+        Ok(outcome) => Ok(outcome),
+        // it did not run before
+        Err(SearchFault::Failed) => unreachable!(),
+        Err(SearchFault::Memory) => Err(AllocError),
+    }
 }
 
 // The same pairs by cell, as a lemma's prefix has them.

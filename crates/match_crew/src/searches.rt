@@ -1,15 +1,14 @@
 //! A job for each open branch.
 
-ghost use Rattle.std.specs.Prelude.{Contains, List, IfOk, IfSome};
-ghost use Rattle.match_puzzle.specs.declared.placements.Pair.{Pair as PlacedPair};
+ghost use Rattle.std.specs.Prelude.{IfOk, IfSome};
 ghost use Rattle.match_puzzle.specs.declared.placements.Placement.{Placement};
 ghost use Rattle.live_crew.specs.LiveHands.{Gave};
 ghost use Rattle.match_puzzle.specs.Arrangement.{IsArrangement, AreArrangements};
 ghost use Rattle.match_limits.specs.declared.TheConstants.{MOST_CELLS, MOST_LEVELS};
 ghost use Rattle.cert_tree.specs.Limits.{IsLemmaWithin, IsTreeWithin};
-ghost use Rattle.match_crew.specs.Solving.{IsOutcomeOf, IsTreeWithinWith};
+ghost use Rattle.match_crew.specs.Solving.{IsFoundIn, IsOutcomeOf, IsTreeWithinWith};
 
-use crate::branches::{OpenBranch, fit_in_turn, rising_by_cell};
+use crate::branches::{OpenBranch, rising_by_cell, search_below};
 use crate::shared::Shared;
 use crate::strategy::choices::Choices;
 use cert_tree::{PackedLemma, PackedTree};
@@ -20,7 +19,7 @@ use piece_desk::{FlatDesk, FlatReceipt};
 use std::alloc::AllocError;
 use std::sync::Wait;
 use std::sync::atomic::{AtomicBool, Ordering};
-use xcc_dance::{Cites, Counted, Met, OpenSets, PackedOutcome, SearchFault, SearchOver, Watch};
+use xcc_dance::{Counted, Met, PackedOutcome, Watch};
 use xcc_form::Xcc;
 
 // What an open branch came to.
@@ -49,66 +48,32 @@ pub struct Searches<'a, T: Wait, W: Watch> {
     pub is_over: AtomicBool,
 }
 
-// A tree, and the arrangements that it numbers.
-#[derive(Drop)]
-struct Finished {
-    tree: PackedTree,
-    found: Vec<Arrangement>,
-}
-
 impl<'a, T: Wait, W: Watch> Searches<'a, T, W> {
-    // Searches below these pairs, which fit in turn, or finds that the fuel doesn't do.
-    fn run<C: Cites>(&self, pairs: &[Pair], cites: &mut C) -> Result<Option<Finished>, AllocError>
-        requires takes { (asked : List PlacedPair) → C.takes cites.old asked }
-        ensures found { IfOk result (λ o. IfSome o
-            (λ f. AreArrangements self.now.xcc.now.puzzle f.found.items)) }
-        ensures tree { IfOk result (λ o. IfSome o (λ f. IsTreeWithinWith f.found.items f.tree)) }
-        ensures moved { C.moves cites.old cites.new }
-    {
-        let shared = self.shared;
-        if !fit_in_turn(shared.alloc, self.xcc.puzzle(), pairs)? {
-            return Ok(None);
-        }
-        let engine = OpenSets::new(shared.alloc, self.xcc)?;
-        let mut search = SearchOver::over(shared.alloc, engine)?;
-        match search.run_by(
-            pairs,
-            shared.fuel.min(MOST_FUEL),
-            &shared.plan.item_rule,
-            cites,
-        ) {
-            Ok(PackedOutcome::Done { tree, found }) => Ok(Some(Finished { tree, found })),
-            Ok(PackedOutcome::GaveUp) => Ok(None),
-            // it did not run before
-            Err(SearchFault::Failed) => unreachable!(),
-            Err(SearchFault::Memory) => Err(AllocError),
-        }
-    }
-
-    // The same of a job, which may cite lemmas and give branches away where there are several workers or levels.
+    // Searches below a job's pairs. With several workers or levels it may cite lemmas and give branches away.
     fn run_job(
         &self,
         number: u32,
         pairs: &[Pair],
         hand: &mut Hand<'_, OpenBranch>,
-    ) -> Result<Option<Finished>, AllocError>
-        ensures found { IfOk result (λ o. IfSome o
-            (λ f. AreArrangements self.now.xcc.now.puzzle f.found.items)) }
-        ensures tree { IfOk result (λ o. IfSome o (λ f. IsTreeWithinWith f.found.items f.tree)) }
+    ) -> Result<PackedOutcome, AllocError>
+        ensures found { IfOk result (IsFoundIn self.now.xcc.now.puzzle) }
         ensures gave { Gave hand.old hand.new }
     {
+        let shared = self.shared;
+        let (alloc, rule) = (shared.alloc, &shared.plan.item_rule);
+        let fuel = shared.fuel.min(MOST_FUEL);
         let cells = usize::from(self.xcc.puzzle().board().cells());
-        if self.shared.is_alone() {
+        // (one worker does one job: nobody cites or gives)
+        if shared.workers == 1 && shared.plan.prefixes.is_empty() {
             let mut cites = Counted {
                 watch: self.watch,
                 cells,
                 met: Met::at_root(pairs.len() == cells),
             };
-            let finished = self.run(pairs, &mut cites);
+            let outcome = search_below(alloc, self.xcc, pairs, fuel, rule, &mut cites);
             cites.met.tell_rest(self.watch);
-            return finished;
+            return outcome;
         }
-        let shared = self.shared;
         let mut choices = Choices {
             shared,
             watch: self.watch,
@@ -120,9 +85,9 @@ impl<'a, T: Wait, W: Watch> Searches<'a, T, W> {
             met: Met::at_root(pairs.len() == cells),
             gives: false,
         };
-        let finished = self.run(pairs, &mut choices);
+        let outcome = search_below(alloc, self.xcc, pairs, fuel, rule, &mut choices);
         choices.met.tell_rest(self.watch);
-        finished
+        outcome
     }
 
     // The lemma with this number, if number and prefix are within the limits of a lemma's text.
@@ -144,12 +109,17 @@ impl<'a, T: Wait, W: Watch> Searches<'a, T, W> {
     }
 
     // Puts the lemma with this number on the desk.
-    fn post(&self, number: u32, pairs: &[Pair], finished: Finished) -> Result<Searched, AllocError>
-        requires found { AreArrangements self.now.xcc.now.puzzle finished.found.items }
-        requires tree { IsTreeWithinWith finished.found.items finished.tree }
+    fn post(
+        &self,
+        number: u32,
+        pairs: &[Pair],
+        tree: PackedTree,
+        found: Vec<Arrangement>,
+    ) -> Result<Searched, AllocError>
+        requires found { AreArrangements self.now.xcc.now.puzzle found.items }
+        requires tree { IsTreeWithinWith found.items tree }
         ensures { IfOk result (IsOutcomeOf self.now.xcc.now.puzzle self.now.desk.now) }
     {
-        let Finished { tree, found } = finished;
         if found.len() > MOST_ARRANGEMENTS as usize {
             return Ok(Searched::Full);
         }
@@ -188,11 +158,11 @@ impl<'a, T: Wait, W: Watch> LiveWork for Searches<'a, T, W> {
         }
         let OpenBranch { pairs } = job;
         let searched = match self.run_job(number, &pairs, hand)? {
-            None => {
+            PackedOutcome::GaveUp => {
                 self.watch.gave_up(pairs.len());
                 Searched::GaveUp
             }
-            Some(finished) => self.post(number, &pairs, finished)?,
+            PackedOutcome::Done { tree, found } => self.post(number, &pairs, tree, found)?,
         };
         if !matches!(searched, Searched::Posted { .. }) {
             self.is_over.store(true, Ordering::Relaxed);

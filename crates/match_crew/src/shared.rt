@@ -16,16 +16,6 @@ pub struct Shared<'a> {
 }
 
 impl<'a> Shared<'a> {
-    // Whether nobody cites or gives: one worker does one job.
-    pub fn is_alone(&self) -> bool {
-        self.workers == 1 && self.plan.prefixes.is_empty()
-    }
-
-    // Whether so many children were asked for that the fuel nearly is spent: no more branches were made.
-    pub fn nearly_spent(&self, asked: u32) -> bool {
-        asked >= self.fuel - self.fuel / 20
-    }
-
     // Whether fewer jobs wait than there are workers.
     pub fn few_wait(&self) -> bool {
         self.workers > 1 && self.waiting.load(Ordering::Relaxed) < u64::from(self.workers)

@@ -3,9 +3,11 @@
 ghost use Rattle.std.specs.Prelude.{◌≡◌, ◌≢◌, ◌≤◌, ◌<◌, ◌+◌, ◌^◌, ◌++◌, ◌∷◌, [], All, IfOk, IfErr, IsErrOf, OnOk};
 ghost use Rattle.std.specs.Prelude.{length, vec_len};
 ghost use Rattle.match_limits.specs.declared.TheConstants.{MOST_DEPTH, MOST_FUEL, MOST_SYMMETRIES, MOST_WORKERS};
+ghost use Rattle.match_limits.specs.declared.ranges.TheConstants.{SECOND};
 ghost use Rattle.match_puzzle.specs.Arrangement.{IsArrangement, AreArrangements};
 ghost use Rattle.match_puzzle.specs.declared.placements.Placement.{Placement};
 ghost use Rattle.puzzle_symmetry.specs.Symmetry.{IsSymmetry};
+ghost use Rattle.match_text.specs.ListSpelling.{IsListWithin};
 ghost use Rattle.cert_text.specs.CertificateSpelling.{IsCertificateWithin};
 ghost use Rattle.cert_text.specs.Writing.{said_by};
 ghost use Rattle.piece_desk.specs.FlatDesks.{IsOfFlat};
@@ -156,19 +158,27 @@ fn add(
     Ok(())
 }
 
-// The receipt of a lemma, and what it found.
+// The receipt of the next lemma, and what it found, if that may be listed with what was collected.
 fn receipt_of(
     _puzzle: &Puzzle,
     _desk: &FlatDesk,
+    collected: &Collected,
     searched: Searched,
 ) -> Result<(FlatReceipt, Vec<Arrangement>), SolveFault>
-    requires { IsOutcomeOf _puzzle.now _desk.now searched }
+    requires outcome { IsOutcomeOf _puzzle.now _desk.now searched }
+    requires few { vec_len collected.now.listed ≤ MOST_ARRANGEMENTS }
     ensures receipt { IfOk result (λ r. IsOfFlat _desk.now r.0) }
     ensures found { IfOk result (λ r. AreArrangements _puzzle.now r.1.items) }
+    ensures few { IfOk result (λ r. vec_len collected.now.listed + vec_len r.1 ≤ MOST_ARRANGEMENTS) }
     ensures fault { IfErr result (λ f. f ≢ SolveFault.TooMany) }
 {
     match searched {
-        Searched::Posted { receipt, found } => Ok((receipt, found)),
+        Searched::Posted { receipt, found } => {
+            if collected.listed.len() + found.len() > MOST_ARRANGEMENTS as usize {
+                return Err(SolveFault::Full);
+            }
+            Ok((receipt, found))
+        }
         Searched::GaveUp => Err(SolveFault::GaveUp),
         Searched::Full => Err(SolveFault::Full),
     }
@@ -194,10 +204,7 @@ fn collect(
         listed: Vec::new(alloc),
     };
     for searched in results {
-        let (receipt, found) = receipt_of(_puzzle, _desk, searched)?;
-        if collected.listed.len() + found.len() > MOST_ARRANGEMENTS as usize {
-            return Err(SolveFault::Full);
-        }
+        let (receipt, found) = receipt_of(_puzzle, _desk, &collected, searched)?;
         add(&mut collected, receipt, found)?;
     }
     Ok(collected)
@@ -239,6 +246,33 @@ fn certificate_of<R: Threads + Sync>(
     Ok(certificate)
 }
 
+// The list of what all jobs found, and its certificate.
+fn put_together<R: Threads + Sync>(
+    rt: &R,
+    puzzle: &Puzzle,
+    shared: &Shared<'_>,
+    desk: &FlatDesk,
+    results: Vec<Searched>,
+    lines: Vec<SymmetryLine>,
+) -> Result<(Vec<Arrangement>, Certificate), SolveFault>
+    requires workers { (1 ≤ shared.now.workers) × (shared.now.workers ≤ MOST_WORKERS) }
+    requires outcomes { All (IsOutcomeOf puzzle.now desk.now) results.items }
+    requires few { vec_len results ≤ MOST_LEMMAS }
+    requires lines { vec_len lines ≤ MOST_SYMMETRIES }
+    ensures arrangements { IfOk result (λ r. AreArrangements puzzle.now r.0.items) }
+    ensures list { IfOk result (λ r. IsListWithin SECOND r.0.items) }
+    ensures certificate { IfOk result (λ r. IsCertificateWithin (said_by 2 r.1)) }
+    ensures many { IfOk result (λ r. length r.1.lemmas ≡ vec_len results) }
+    ensures fault { IfErr result (λ f. f ≢ SolveFault.TooMany) }
+{
+    let collected = collect(shared.alloc, puzzle, desk, results)?;
+    if !list_within_limits(&collected.listed) {
+        return Err(SolveFault::Full);
+    }
+    let certificate = certificate_of(rt, shared, desk, &collected, lines)?;
+    Ok((collected.listed, certificate))
+}
+
 // Searches by the plan, and puts together what all jobs came to.
 fn solve_by<R: Threads + Wait + Sync, W: Watch + Sync>(
     rt: &R,
@@ -253,16 +287,11 @@ fn solve_by<R: Threads + Wait + Sync, W: Watch + Sync>(
         s.list.items s.tally.items s.certificate) }
     ensures fault { IfErr result (λ f. f ≢ SolveFault.TooMany) }
 {
-    let alloc = shared.alloc;
-    let desk = FlatDesk::new(alloc)?;
+    let desk = FlatDesk::new(shared.alloc)?;
     let (results, tally) = search_all(rt, xcc, &desk, shared, watch)?.into_parts();
-    let collected = collect(alloc, xcc.puzzle(), &desk, results)?;
-    if !list_within_limits(&collected.listed) {
-        return Err(SolveFault::Full);
-    }
-    let certificate = certificate_of(rt, shared, &desk, &collected, lines)?;
+    let (list, certificate) = put_together(rt, xcc.puzzle(), shared, &desk, results, lines)?;
     Ok(Solved {
-        list: collected.listed,
+        list,
         certificate,
         tally,
     })

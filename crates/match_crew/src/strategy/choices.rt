@@ -43,14 +43,6 @@ pub struct Choices<'a, 'h, W: Watch> {
 }
 
 impl<'a, 'h, W: Watch> Choices<'a, 'h, W> {
-    // What is known to stand for the child.
-    fn known(&self, placed: &[Pair]) -> Option<Cite>
-        ensures { IfSome result IsCiteWithin }
-    {
-        let images = &self.shared.plan.images;
-        images.cite_child(placed, self.number, self.holds)
-    }
-
     // Gives the branch away, and answers what stands for it then.
     fn give(&mut self, pairs: &[Pair]) -> Result<Option<Cite>, AllocError>
         ensures within { IfOk result (λ o. IfSome o IsCiteWithin) }
@@ -84,7 +76,9 @@ impl<'a, 'h, W: Watch> Choices<'a, 'h, W> {
         ensures same { self.new.hand.ghost_name ≡ self.old.hand.ghost_name }
         ensures gave { self.new.hand.now ≡ self.old.hand.now }
     {
-        if self.shared.nearly_spent(self.met.children) {
+        // (no more branches were made than children were asked for)
+        let fuel = self.shared.fuel;
+        if self.met.children >= fuel - fuel / 20 {
             return true;
         }
         if !self.gives && self.met.children >= LONG && self.met.children % 16 == 0 {
@@ -136,7 +130,8 @@ impl<'a, 'h, W: Watch> Cites for Choices<'a, 'h, W> {
             self.give_planned()?;
         }
         self.met.child(self.watch);
-        if let Some(cite) = self.known(prefix) {
+        let images = &self.shared.plan.images;
+        if let Some(cite) = images.cite_child(prefix, self.number, self.holds) {
             return Ok(Some(cite));
         }
         let given = if self.is_to_give(prefix) {

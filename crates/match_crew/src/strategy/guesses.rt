@@ -5,6 +5,7 @@ ghost use Rattle.std.specs.Prelude.{◌≤◌};
 ghost use Rattle.match_limits.specs.declared.TheConstants.{MOST_WORKERS};
 
 use crate::strategy::dives::{Citable, Dives, Effort};
+use crate::strategy::items::ItemRule;
 use crate::strategy::plans::{Plan, Planner};
 use std::alloc::AllocError;
 use std::thread::Threads;
@@ -21,7 +22,7 @@ pub const MOST_PLANS: usize = 24;
 const PARTS: u32 = 8;
 
 // The plans by each of these items at the root: a job for each.
-#[derive(Drop)]
+#[derive(Clone, Copy)]
 struct Plannings<'a, 'i> {
     planner: Planner<'a>,
     items: &'i [u32],
@@ -38,8 +39,9 @@ impl<'a, 'i> Work for Plannings<'a, 'i> {
     ghost gives = { λ _ _ _. Unit {0} };
 
     fn one(&self, number: u32) -> Result<Plan, AllocError> {
-        let item = self.items[number as usize];
-        self.planner.by_item(item).plan(self.depth)
+        let mut planner = self.planner;
+        planner.item_rule = ItemRule::at_root(self.items[number as usize]);
+        planner.plan(self.depth)
     }
 }
 
@@ -71,7 +73,7 @@ pub struct PartGuess {
 }
 
 // Guesses of these plans' nodes by dives: a job for each part of each.
-#[derive(Drop)]
+#[derive(Clone, Copy)]
 pub struct Guesses<'a, 'p> {
     pub planner: Planner<'a>,
     pub plans: &'p [Plan],
@@ -95,27 +97,39 @@ impl<'a, 'p> Guesses<'a, 'p> {
     // The nodes of the lemmas whose numbers leave this rest where they are divided by the number of parts.
     fn part(&self, plan: &Plan, part: u32) -> Result<PartGuess, AllocError> {
         let mut engine = OpenSets::new(self.planner.alloc, self.planner.xcc)?;
+        let mut dives = self.dives(plan, part);
+        let nodes = self.nodes_of(plan, part, &mut engine, &mut dives)?;
+        Ok(PartGuess {
+            nodes,
+            effort: dives.effort,
+        })
+    }
+
+    // The same, by these dives from the root.
+    fn nodes_of(
+        &self,
+        plan: &Plan,
+        part: u32,
+        engine: &mut OpenSets<'_>,
+        dives: &mut Dives,
+    ) -> Result<u64, AllocError> {
         let each = self
             .effort
             .dives_for_each(plan.prefixes.len() as u64, self.choices);
-        let mut dives = self.dives(plan, part);
         let mut nodes: u64 = 0;
         if part == 0 {
-            nodes = self.at_root(plan, &mut engine, &mut dives, each)?;
+            nodes = self.at_root(plan, engine, dives, each)?;
         }
         let mut lemma: u32 = 0;
         for prefix in &plan.prefixes {
             lemma = lemma.saturating_add(1);
             if lemma % PARTS == part {
                 let citable = Citable::above(&plan.images, lemma, prefix);
-                let below = dives.nodes_below(&mut engine, prefix, &citable, each)?;
+                let below = dives.nodes_below(engine, prefix, &citable, each)?;
                 nodes = nodes.saturating_add(below);
             }
         }
-        Ok(PartGuess {
-            nodes,
-            effort: dives.effort,
-        })
+        Ok(nodes)
     }
 
     // The nodes of the lemma of the root, with so many dives below each child that no other lemma stands for.
@@ -129,11 +143,12 @@ impl<'a, 'p> Guesses<'a, 'p> {
         let mut planner = self.planner;
         planner.item_rule = plan.item_rule;
         let citable = Citable::above(&plan.images, 0, &[]);
+        let children = planner.children(&[])?;
         let mut nodes: u64 = 0;
-        for child in planner.children(&[])? {
-            let below = match plan.images.cite_any(&child, 0) {
+        for child in &children {
+            let below = match plan.images.cite_any(child, 0) {
                 Some(_) => 1,
-                None => dives.nodes_below(engine, &child, &citable, each)?,
+                None => dives.nodes_below(engine, child, &citable, each)?,
             };
             nodes = nodes.saturating_add(below);
         }

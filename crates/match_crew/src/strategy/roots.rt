@@ -11,7 +11,6 @@ use crate::strategy::images::image_of_pair;
 use crate::strategy::orbits::Orbits;
 use crate::strategy::plans::{Plan, Planner};
 use match_limits::MOST_WORKERS;
-use match_puzzle::Pair;
 use std::alloc::{AllocError, Global};
 use std::thread::Threads;
 use xcc_dance::{OpenOptions, OpenSets};
@@ -54,7 +53,6 @@ struct Comparison<'a, R: Threads + Sync> {
     rt: &'a R,
     workers: u8,
     planner: Planner<'a>,
-    engine: OpenSets<'a>,
     // what the dives so far took; at first a guess
     effort: Effort,
     // how many guesses of plans were made
@@ -85,48 +83,42 @@ impl<'a, R: Threads + Sync> Comparison<'a, R> {
 
     // The items that may be taken in place of this one, as many as are compared: those with the fewest options, where
     // options that are images of each other count once. Of items that symmetries take to each other it is the least.
-    fn other_items(&self, than: u32, orbits: &mut Orbits) -> Result<Vec<u32>, AllocError> {
+    fn other_items(
+        &self,
+        than: u32,
+        engine: &OpenSets<'_>,
+        orbits: &mut Orbits,
+    ) -> Result<Vec<u32>, AllocError> {
         let mut ranked = Vec::new(self.planner.alloc);
-        let mut next = self.engine.next_item(None);
+        let mut next = engine.next_item(None);
         while let Some(item) = next {
-            if item != than && self.is_least(item) {
-                let by = self.orbits_of(item, orbits);
+            if item != than && self.is_least(engine, item) {
+                let by = orbits_of(engine, item, orbits);
                 ranked.push(Ranked { by, item })?;
             }
-            next = self.engine.next_item(Some(item));
+            next = engine.next_item(Some(item));
         }
         best_of(self.planner.alloc, ranked, MOST_PLANS)
     }
 
-    // How many options an item has that are no images of each other.
-    fn orbits_of(&self, item: u32, orbits: &mut Orbits) -> u64
-        requires { IsUncovered (cover_of self.now.engine.compiled) self.now.engine.chosen item }
-    {
-        orbits.start();
-        let mut count: u64 = 0;
-        let mut next = self.engine.next_option(item, None);
-        while let Some(option) = next {
-            if orbits.meet(option) {
-                count = count.saturating_add(1);
-            }
-            next = self.engine.next_option(item, Some(option));
-        }
-        count
-    }
-
     // Whether no symmetry takes the item to a lesser one. It looks where the first open option goes.
-    fn is_least(&self, item: u32) -> bool
-        requires { IsUncovered (cover_of self.now.engine.compiled) self.now.engine.chosen item }
+    fn is_least(&self, engine: &OpenSets<'_>, item: u32) -> bool
+        requires { IsUncovered (cover_of engine.now.compiled) engine.now.chosen item }
     {
         let xcc = self.planner.xcc;
-        let Some(option) = self.engine.next_option(item, None) else {
+        let Some(option) = engine.next_option(item, None) else {
             return true;
         };
-        let pair = self.engine.xcc().pair(option);
+        let pair = engine.xcc().pair(option);
         let is_cell = item < u32::from(xcc.cells());
         for symmetry in self.planner.symmetries {
             if let Some(image) = image_of_pair(symmetry, pair) {
-                if goes_lower(is_cell, pair, image) {
+                let is_lower = if is_cell {
+                    image.cell < pair.cell
+                } else {
+                    image.placement.tile < pair.placement.tile
+                };
+                if is_lower {
                     return false;
                 }
             }
@@ -134,16 +126,23 @@ impl<'a, R: Threads + Sync> Comparison<'a, R> {
         true
     }
 
+    // The items to compare with this one, by the engine and the orbits of the puzzle.
+    fn items_beside(&self, than: u32) -> Result<Vec<u32>, AllocError> {
+        let planner = self.planner;
+        let engine = OpenSets::new(planner.alloc, planner.xcc)?;
+        let mut orbits = Orbits::new(planner.alloc, planner.xcc, planner.symmetries)?;
+        self.other_items(than, &engine, &mut orbits)
+    }
+
     // The few of these items for which plans of one level are guessed to have least.
     fn few_of(&mut self, items: Vec<u32>) -> Result<Vec<u32>, AllocError> {
         let mut few = items;
         let mut choices = ITEM_CHOICES;
         for _ in 0..MOST_ROUNDS {
-            if few.len() <= FINALISTS {
-                return Ok(few);
+            if few.len() > FINALISTS {
+                few = self.better_half(&few, choices)?;
+                choices = choices.saturating_mul(2);
             }
-            few = self.better_half(&few, choices)?;
-            choices = choices.saturating_mul(2);
         }
         Ok(few)
     }
@@ -151,10 +150,8 @@ impl<'a, R: Threads + Sync> Comparison<'a, R> {
     // The better half of these items, by plans of one level and about so many choices for each.
     fn better_half(&mut self, items: &[u32], choices: u64) -> Result<Vec<u32>, AllocError> {
         let plans = plans_by(self.rt, self.planner, items, 1, self.workers)?;
-        let mut ranked = Vec::new(self.planner.alloc);
-        for (item, by) in items.iter().zip(self.guess(&plans, choices)?) {
-            ranked.push(Ranked { by, item: *item })?;
-        }
+        let guesses = self.guess(&plans, choices)?;
+        let ranked = ranked_by(self.planner.alloc, items, &guesses)?;
         best_of(self.planner.alloc, ranked, (items.len() / 2).max(FINALISTS))
     }
 
@@ -175,25 +172,19 @@ impl<'a, R: Threads + Sync> Comparison<'a, R> {
 
     // The other plan, if it is guessed to have less than two thirds of this one's nodes, or else this one.
     fn better_of(&mut self, plan: Plan, other: Plan) -> Result<Plan, AllocError> {
-        let mut plans = Vec::new(self.planner.alloc);
-        plans.push(plan)?;
-        plans.push(other)?;
-        let is_better = match self.guess(&plans, LAST_CHOICES)?.as_slice() {
+        let plans = [plan, other];
+        let guesses = self.guess(&plans, LAST_CHOICES)?;
+        let is_better = match guesses.as_slice() {
             [most, nodes] => nodes.saturating_mul(3) < most.saturating_mul(2),
             _ => false,
         };
-        plans.truncate(if is_better { 2 } else { 1 });
-        match plans.pop() {
-            Some(plan) => Ok(plan),
-            None => unreachable!(),
-        }
+        let [plan, other] = plans;
+        Ok(if is_better { other } else { plan })
     }
 
     // The best plan by an item other than this one, if there is any.
     fn other_plan(&mut self, than: u32, depth: u8) -> Result<Option<Plan>, AllocError> {
-        let planner = self.planner;
-        let mut orbits = Orbits::new(planner.alloc, planner.xcc, planner.symmetries)?;
-        let items = self.other_items(than, &mut orbits)?;
+        let items = self.items_beside(than)?;
         let few = self.few_of(items)?;
         self.best_plan(&few, depth)
     }
@@ -228,6 +219,34 @@ impl<'a, R: Threads + Sync> Comparison<'a, R> {
     }
 }
 
+// How many options an item has that are no images of each other.
+fn orbits_of(engine: &OpenSets<'_>, item: u32, orbits: &mut Orbits) -> u64
+    requires { IsUncovered (cover_of engine.now.compiled) engine.now.chosen item }
+{
+    orbits.start();
+    let mut count: u64 = 0;
+    let mut next = engine.next_option(item, None);
+    while let Some(option) = next {
+        if orbits.meet(option) {
+            count = count.saturating_add(1);
+        }
+        next = engine.next_option(item, Some(option));
+    }
+    count
+}
+
+// These items, each ranked by the guess for it.
+fn ranked_by(alloc: Global, items: &[u32], guesses: &[u64]) -> Result<Vec<Ranked>, AllocError> {
+    let mut ranked = Vec::new(alloc);
+    for (item, by) in items.iter().zip(guesses) {
+        ranked.push(Ranked {
+            by: *by,
+            item: *item,
+        })?;
+    }
+    Ok(ranked)
+}
+
 // The best of these items, so many at most; of two that are as good the lesser one first.
 fn best_of(alloc: Global, ranked: Vec<Ranked>, most: usize) -> Result<Vec<u32>, AllocError> {
     let mut ranked = ranked;
@@ -238,15 +257,6 @@ fn best_of(alloc: Global, ranked: Vec<Ranked>, most: usize) -> Result<Vec<u32>, 
         items.push(ranked.item)?;
     }
     Ok(items)
-}
-
-// Whether the image of a pair has a lesser cell, or else a lesser tile.
-fn goes_lower(is_cell: bool, pair: Pair, image: Pair) -> bool {
-    if is_cell {
-        image.cell < pair.cell
-    } else {
-        image.placement.tile < pair.placement.tile
-    }
 }
 
 // A plan of at most `depth` levels, which is at most 3. Where the planner's rule takes an item of its own at the root,
@@ -268,7 +278,6 @@ pub fn plan_by_dives<R: Threads + Sync>(
         rt,
         workers: 1,
         planner,
-        engine: OpenSets::new(planner.alloc, planner.xcc)?,
         effort: Effort::guessed(planner.xcc.cells()),
         round: 0,
         times: 1,

@@ -11,8 +11,8 @@ use Rattle.match_limits.proofs.ListLemmas.{contains_at, place_of}
 use Rattle.match_crew.specs.Solving.{IsOutcomeOf}
 use Rattle.match_crew.proofs.solves.collect.Goals as goal
 
-pub receipt_of-requires : goal.receipt_of-requires
-receipt_of-requires c = All-head (IsOutcomeOf c.args._puzzle.now c.args._desk.now) c.in-Some.searched c.next.new.self.rest.items
+pub receipt_of-requires-clause-outcome : goal.receipt_of-requires-clause-outcome
+receipt_of-requires-clause-outcome c = All-head (IsOutcomeOf c.args._puzzle.now c.args._desk.now) c.in-Some.searched c.next.new.self.rest.items
     (subst (All (IsOutcomeOf c.args._puzzle.now c.args._desk.now)) c.in-Some.ensures.steps.0 c.loop-searched.invariant.rest)
 
 -- as many numbers and one more
@@ -43,5 +43,5 @@ loop-searched-preserved c =
       first = all_more (λ n. n ≤ MOST_ARRANGEMENTS) _ _ _ inv.first inv.few more.first;
       listed = both_are p old.listed.items _ new.listed.items more.listed inv.listed got.found;
       few = (let found = c.in_ok-receipt.found in let l : length new.listed.items ≡ length old.listed.items + length found.items = ap length more.listed ∙ length-append old.listed.items found.items in
-          omega (arith, c.if-len.false, c.len.ensures, c.len-in-loop-searched.ensures, old.listed.ok.0, new.listed.ok.0, found.ok.0));
+          omega (arith, got.few, old.listed.ok.0, new.listed.ok.0, found.ok.0));
     }

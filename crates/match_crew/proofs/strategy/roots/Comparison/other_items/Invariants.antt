@@ -5,7 +5,7 @@ use Rattle.xcc_dance.proofs.GrowingLemmas.{left_after}
 use Rattle.match_crew.proofs.strategy.roots.Comparison.other_items.Given as goal
 
 abbrev pub invariant-loop-next : goal.invariant-loop-next
-invariant-loop-next g l = IfSome l.next (IsUncovered (cover_of l.self.engine.compiled) l.self.engine.chosen)
+invariant-loop-next g l = IfSome l.next (IsUncovered (cover_of l.engine.compiled) l.engine.chosen)
 
 abbrev pub decreases-loop-next : goal.decreases-loop-next
-decreases-loop-next g l = left_after (cover_of l.self.engine.compiled).primaries l.next
+decreases-loop-next g l = left_after (cover_of l.engine.compiled).primaries l.next

@@ -2,10 +2,10 @@ use Rattle.std.proofs.Common.{IfSome, length}
 use Rattle.xcc_form.specs.Options.{cover_of}
 use Rattle.xcc_dance.specs.Clashes.{IsOpenAt}
 use Rattle.xcc_dance.proofs.GrowingLemmas.{left_after}
-use Rattle.match_crew.proofs.strategy.roots.Comparison.orbits_of.Given as goal
+use Rattle.match_crew.proofs.strategy.roots.orbits_of.Given as goal
 
 abbrev pub invariant-loop-next : goal.invariant-loop-next
-invariant-loop-next g l = IfSome l.next (IsOpenAt (cover_of l.self.engine.compiled) l.self.engine.chosen l.item)
+invariant-loop-next l = IfSome l.next (IsOpenAt (cover_of l.engine.compiled) l.engine.chosen l.item)
 
 abbrev pub decreases-loop-next : goal.decreases-loop-next
-decreases-loop-next g l = left_after (length (cover_of l.self.engine.compiled).options) l.next
+decreases-loop-next l = left_after (length (cover_of l.engine.compiled).options) l.next
