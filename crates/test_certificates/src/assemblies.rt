@@ -1,6 +1,6 @@
 //! Certificates are assembled of a caller's own lemmas.
 
-ghost use Rattle.std.specs.Prelude.{◌<◌, ◌^◌, All, IfOk, length};
+ghost use Rattle.std.specs.Prelude.{◌<◌, ◌^◌, length};
 ghost use Rattle.cert_tree.specs.Tree.{tree_of, IsNarrow};
 
 use cert_tree::{AssembleFault, Head, Lemma, Lemmas, Node, Pairs, assemble, assembly_laws};
@@ -20,40 +20,21 @@ fn piece(alloc: Global, number: u32, found: u32) -> Lemma
     }
 }
 
-// A lemma for each of the numbers, with the tree that finds the arrangement of its place here.
-fn pieces(alloc: Global, numbers: &[u32]) -> Result<Vec<Lemma>, AllocError>
-    requires { length numbers.now < 1000 }
-    ensures narrow { IfOk result (λ pieces. All (λ piece. IsNarrow (tree_of piece.tree)) pieces.items) }
-    ensures prefixes { IfOk result (λ pieces. All (λ piece. length piece.prefix < 2 ^ 32) pieces.items) }
-{
-    let mut pieces = Vec::new(alloc);
-    for (place, number) in numbers.iter().enumerate() {
-        pieces.push(piece(alloc, *number, place as u32))?;
-    }
-    Ok(pieces)
-}
-
-// Whether this is the fault of so many lemmas that have these numbers.
+// Whether this is the fault of so many lemmas, where there are two that have these numbers.
 fn has_fault(
     alloc: Global,
     count: u8,
-    numbers: &[u32],
+    [first, second]: [u32; 2],
     fault: AssembleFault,
-) -> Result<bool, AllocError>
-    requires { length numbers.now < 1000 }
-{
-    match assemble(
-        alloc,
-        u32::from(count),
-        Vec::new(alloc),
-        pieces(alloc, numbers)?,
-    ) {
+) -> Result<bool, AllocError> {
+    let pieces = vec![in alloc; piece(alloc, first, 0), piece(alloc, second, 1)]?;
+    match assemble(alloc, u32::from(count), Vec::new(alloc), pieces) {
         Err(AssembleFault::Memory) => Err(AllocError),
         outcome => Ok(outcome.err() == Some(fault)),
     }
 }
 
-// So many lemmas that have these numbers, and the fault of that.
+// So many lemmas, the numbers of two, and the fault of that.
 const FAULTS: [(u8, [u32; 2], AssembleFault); 3] = [
     (3, [0, 1], AssembleFault::Missing(2)),
     (2, [0, 0], AssembleFault::Double(0)),
@@ -62,8 +43,8 @@ const FAULTS: [(u8, [u32; 2], AssembleFault); 3] = [
 
 #[test]
 fn tells_the_fault_of_numbers(rt: HostRuntime) -> Result<(), Fail> {
-    for (count, numbers, fault) in FAULTS {
-        assert!(rt; has_fault(rt.alloc(), count, &numbers, fault)?);
+    for (count, numbers, fault) in FAULTS.iter() {
+        assert!(rt; has_fault(rt.alloc(), *count, *numbers, *fault)?);
     }
     Ok(())
 }
@@ -75,7 +56,7 @@ fn finds(lemmas: &Lemmas, number: usize, found: u32) -> bool {
 
 // Whether three lemmas come by number that are given in another order.
 fn assembles_by_number(alloc: Global) -> Result<bool, Fail> {
-    let pieces = pieces(alloc, &[2, 0, 1])?;
+    let pieces = vec![in alloc; piece(alloc, 2, 0), piece(alloc, 0, 1), piece(alloc, 1, 2)]?;
     let certificate = assemble(alloc, 3, Vec::new(alloc), pieces)?;
     let lemmas = certificate.lemmas();
     Ok(lemmas.len() == 3 && finds(lemmas, 0, 1) && finds(lemmas, 1, 2) && finds(lemmas, 2, 0))

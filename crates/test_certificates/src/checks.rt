@@ -1,73 +1,12 @@
 //! Certificates are checked by one call, and a tree alone, whatever is wrong with the trees before it.
 
-ghost use Rattle.std.specs.Prelude.{◌≡◌, ◌<◌, ◌^◌, IfOk, length};
-
 use crate::texts::{certificate_of, list_of, puzzle_of};
 use cert_check::{
     Answer, Fault, NodeFault, Prepared, Question, TreeFault, check, one_answer, tree_fault,
 };
-use cert_tree::Certificate;
-use match_puzzle::{Arrangement, Puzzle};
 use std::alloc::Global;
 use std::test::Fail;
 use test_samples::{TURNING_TRIANGLE, TURNING_TRIANGLE_LIST};
-
-// What is asked of the checker.
-#[derive(Drop)]
-struct OwnedQuestion {
-    puzzle: Puzzle,
-    listed: Vec<Arrangement>,
-    certificate: Certificate,
-}
-
-fn question_of(
-    alloc: Global,
-    puzzle: &[u8],
-    list: &[u8],
-    certificate: &[u8],
-) -> Result<OwnedQuestion, Fail>
-    ensures { IfOk result (λ question. length question.listed.items < 2 ^ 32) }
-{
-    Ok(OwnedQuestion {
-        puzzle: puzzle_of(alloc, puzzle)?,
-        listed: list_of(alloc, list)?,
-        certificate: certificate_of(alloc, certificate)?,
-    })
-}
-
-// What is right but perhaps the trees.
-fn prepared<'a>(alloc: Global, question: &'a Question<'_>) -> Result<Prepared<'a>, Fail>
-    ensures { IfOk result (λ prepared. prepared ≡ question.now) }
-{
-    match question.prepare(alloc, question.list_fault())? {
-        Ok(prepared) => Ok(prepared),
-        Err(_) => Err(Fail::from("it is refused before the trees")),
-    }
-}
-
-// What is found of this lemma's tree alone.
-fn fault_of(alloc: Global, question: &OwnedQuestion, lemma: u32) -> Result<Option<TreeFault>, Fail>
-    requires { length question.now.listed.items < 2 ^ 32 }
-{
-    let OwnedQuestion {
-        puzzle,
-        listed,
-        certificate,
-    } = question;
-    if certificate.lemmas().len() <= lemma as usize {
-        return Err(Fail::from("a number is out of range"));
-    }
-    let question = Question::new(puzzle, listed, certificate);
-    let prepared = prepared(alloc, &question)?;
-    Ok(tree_fault(
-        alloc,
-        puzzle,
-        listed,
-        prepared.symmetries(),
-        certificate,
-        lemma,
-    )?)
-}
 
 // Nothing is dead at cell 0, lemma 1 cites itself, and the prefix of lemma 0 isn't placed at the root's second child.
 const WRONG_TREES: &[u8] =
@@ -83,84 +22,106 @@ const FIVE_CELLS_LIST: &[u8] = b"list 1\narrangements 1\n0.0 2.0 1.0 3.0 4.0\nen
 const FIVE_CELLS_CERTIFICATE: &[u8] =
     b"certificate 1\nsymmetries 2\nsymmetry 0 + cells 0 1 2 3 4 colours 0 1 2 tiles 1 0 2 3 4\nsymmetry 0 + cells 0 1 2 3 4 colours 0 1 2 tiles 0 1 3 2 4\nlemmas 4\nlemma 0 prefix 0:0.0 1:2.0 tree c 2 1 c 3 1 c 4 1 f 0\nlemma 1 prefix 0:0.0 1:3.0 tree i 0 1\nlemma 2 prefix 0:0.0 tree c 1 2 s 0 s 1\nlemma 3 prefix tree c 0 2 s 2 i 2 0\nend\n";
 
-// Whether this is called complete.
-fn is_complete(alloc: Global, right: &OwnedQuestion) -> Result<bool, Fail>
-    requires { length right.now.listed.items < 2 ^ 32 }
-{
-    let answer = check(alloc, &right.puzzle, &right.listed, &right.certificate)?;
-    Ok(matches!(answer, Answer::Complete))
+// Whether the tree of the lemma with this number is refused; none: all is complete.
+fn is_answer(alloc: Global, question: &Question<'_>, refused: Option<u32>) -> Result<bool, Fail> {
+    let (puzzle, listed) = (question.puzzle(), question.listed());
+    let answer = check(alloc, puzzle, listed, question.certificate())?;
+    Ok(match &answer {
+        Answer::Complete => refused.is_none(),
+        Answer::Refused(Fault::Tree(lemma, _)) => refused == Some(*lemma),
+        Answer::Refused(_) => false,
+    })
 }
 
-// Whether it is refused for lemma 0.
-fn is_refused(alloc: Global, wrong: &OwnedQuestion) -> Result<bool, Fail>
-    requires { length wrong.now.listed.items < 2 ^ 32 }
-{
-    let answer = check(alloc, &wrong.puzzle, &wrong.listed, &wrong.certificate)?;
-    Ok(matches!(answer, Answer::Refused(Fault::Tree(0, _))))
-}
-
-// Whether this lemma's tree holds.
-fn holds(alloc: Global, question: &OwnedQuestion, lemma: u32) -> Result<bool, Fail>
-    requires { length question.now.listed.items < 2 ^ 32 }
-{
-    Ok(fault_of(alloc, question, lemma)?.is_none())
-}
-
-// Whether this lemma's tree has this fault, at the node to which these steps lead.
-fn has_fault(
-    alloc: Global,
-    question: &OwnedQuestion,
-    lemma: u32,
-    steps: &[u16],
-    fault: NodeFault,
-) -> Result<bool, Fail>
-    requires { length question.now.listed.items < 2 ^ 32 }
-{
-    match fault_of(alloc, question, lemma)? {
-        Some(found) => Ok(found.path.steps() == steps && found.fault == fault),
-        None => Ok(false),
+// What is right but perhaps the trees.
+fn prepared<'a>(alloc: Global, question: &'a Question<'_>) -> Result<Prepared<'a>, Fail> {
+    match question.prepare(alloc, question.list_fault())? {
+        Ok(prepared) => Ok(prepared),
+        Err(_) => Err(Fail::from("it is refused before the trees")),
     }
 }
 
-// The fault of each wrong tree.
-const FAULTS: [(u32, &[u16], NodeFault); 3] = [
-    (0, &[], NodeFault::NotDead { fits: 1 }),
-    (1, &[], NodeFault::NotEarlier),
-    (2, &[1], NodeFault::NotWithin),
-];
+// What is found of this lemma's tree alone.
+fn fault_of(alloc: Global, prepared: &Prepared<'_>, lemma: u32) -> Result<Option<TreeFault>, Fail> {
+    let question = prepared.question();
+    if question.lemmas().len() <= lemma as usize {
+        return Err(Fail::from("a number is out of range"));
+    }
+    Ok(tree_fault(
+        alloc,
+        question.puzzle(),
+        question.listed(),
+        prepared.symmetries(),
+        question.certificate(),
+        lemma,
+    )?)
+}
 
-fn has_each_fault(alloc: Global, wrong: &OwnedQuestion) -> Result<bool, Fail>
-    requires { length wrong.now.listed.items < 2 ^ 32 }
-{
-    for (lemma, steps, fault) in FAULTS {
-        if !has_fault(alloc, wrong, lemma, steps, fault)? {
+// Whether that is this fault, at the node to which these steps lead; none: it holds.
+fn is_found(
+    alloc: Global,
+    prepared: &Prepared<'_>,
+    lemma: u32,
+    steps: &[u16],
+    fault: Option<NodeFault>,
+) -> Result<bool, Fail> {
+    match fault_of(alloc, prepared, lemma)? {
+        Some(found) => Ok(Some(found.fault) == fault && found.path.steps() == steps),
+        None => Ok(fault.is_none()),
+    }
+}
+
+// A lemma, and what is found of its tree alone, as above.
+type Tree<'a> = (u32, &'a [u16], Option<NodeFault>);
+
+fn are_found(alloc: Global, question: &Question<'_>, trees: &[Tree<'_>]) -> Result<bool, Fail> {
+    let prepared = prepared(alloc, question)?;
+    for (lemma, steps, fault) in trees {
+        if !is_found(alloc, &prepared, *lemma, steps, *fault)? {
             return Ok(false);
         }
     }
-    is_refused(alloc, wrong)
+    Ok(true)
 }
 
-// Whether it is complete, and the last tree holds.
-fn has_no_fault(alloc: Global, right: &OwnedQuestion) -> Result<bool, Fail>
-    requires { length right.now.listed.items < 2 ^ 32 }
-{
-    Ok(is_complete(alloc, right)? && holds(alloc, right, 3)?)
+// Whether this comes of a check, and this of the trees alone.
+fn comes_of(
+    alloc: Global,
+    question: &Question<'_>,
+    refused: Option<u32>,
+    trees: &[Tree<'_>],
+) -> Result<bool, Fail> {
+    Ok(is_answer(alloc, question, refused)? && are_found(alloc, question, trees)?)
 }
 
-fn finds_no_fault(alloc: Global) -> Result<bool, Fail> {
-    let right = question_of(alloc, FIVE_CELLS, FIVE_CELLS_LIST, FIVE_CELLS_CERTIFICATE)?;
-    has_no_fault(alloc, &right)
+// Whether it comes of these texts.
+fn comes_of_texts(
+    alloc: Global,
+    [puzzle, list, certificate]: [&[u8]; 3],
+    refused: Option<u32>,
+    trees: &[Tree<'_>],
+) -> Result<bool, Fail> {
+    let puzzle = puzzle_of(alloc, puzzle)?;
+    let listed = list_of(alloc, list)?;
+    let certificate = certificate_of(alloc, certificate)?;
+    let question = Question::new(&puzzle, &listed, &certificate);
+    comes_of(alloc, &question, refused, trees)
 }
 
-fn finds_each_fault(alloc: Global) -> Result<bool, Fail> {
-    let wrong = question_of(alloc, TURNING_TRIANGLE, TURNING_TRIANGLE_LIST, WRONG_TREES)?;
-    has_each_fault(alloc, &wrong)
-}
+const RIGHT: [&[u8]; 3] = [FIVE_CELLS, FIVE_CELLS_LIST, FIVE_CELLS_CERTIFICATE];
+
+const WRONG: [&[u8]; 3] = [TURNING_TRIANGLE, TURNING_TRIANGLE_LIST, WRONG_TREES];
+
+const FAULTS: [Tree<'static>; 3] = [
+    (0, &[], Some(NodeFault::NotDead { fits: 1 })),
+    (1, &[], Some(NodeFault::NotEarlier)),
+    (2, &[1], Some(NodeFault::NotWithin)),
+];
 
 #[test]
 fn finds_the_fault_of_each_tree(rt: HostRuntime) -> Result<(), Fail> {
-    assert!(rt; finds_no_fault(rt.alloc())?);
-    assert!(rt; finds_each_fault(rt.alloc())?);
+    assert!(rt; comes_of_texts(rt.alloc(), RIGHT, None, &[(3, &[], None)])?);
+    assert!(rt; comes_of_texts(rt.alloc(), WRONG, Some(0), &FAULTS)?);
     one_answer();
     Ok(())
 }

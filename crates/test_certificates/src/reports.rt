@@ -47,22 +47,23 @@ const LISTED: [Placement; 4] = [
 const BOARD: &[u8] = b"0 2.2 020\n1 1.0 100\n2 0.0 123\n3 3.1 003\n";
 
 // Whether the arrangement is printed so.
-fn is_board_of(alloc: Global, puzzle: &Puzzle) -> Result<bool, AllocError> {
+fn is_board_of(alloc: Global, puzzle: &Puzzle) -> Result<bool, Fail> {
     if puzzle.arrangement_fault(&LISTED).is_some() {
         return Ok(false);
     }
-    Ok(write_board(alloc, puzzle, &LISTED)?.as_slice() == BOARD)
+    let written = write_board(alloc, puzzle, &LISTED)?;
+    Ok(written.as_slice() == BOARD)
 }
 
 fn prints_board(alloc: Global) -> Result<bool, Fail> {
     let puzzle = puzzle_of(alloc, TURNING_TRIANGLE)?;
-    Ok(is_board_of(alloc, &puzzle)?)
+    is_board_of(alloc, &puzzle)
 }
 
 #[test]
 fn prints_boards_and_who_took_what(rt: HostRuntime) -> Result<(), Fail> {
     assert!(rt; prints_board(rt.alloc())?);
-    for (shares, text) in TALLIES {
+    for (shares, text) in TALLIES.iter() {
         assert!(rt; prints_tally(rt.alloc(), shares, text)?);
     }
     Ok(())

@@ -1,4 +1,4 @@
-//! Texts are made and read.
+//! Texts are read.
 
 ghost use Rattle.std.specs.Prelude.{◌<◌, ◌^◌, IfOk, OnOk, length};
 
@@ -6,22 +6,11 @@ use cert_text::read_certificate;
 use cert_tree::Certificate;
 use match_puzzle::{Arrangement, Puzzle};
 use match_text::{read_list, read_puzzle};
-use std::alloc::{AllocError, Global};
+use std::alloc::Global;
 use std::test::Fail;
 
 // No test has a text of so many bytes.
 const TOO_LONG: usize = 100_000;
-
-/// The texts, one after the other, each so many times.
-pub fn joined(alloc: Global, parts: &[(&[u8], u32)]) -> Result<Vec<u8>, AllocError> {
-    let mut text = Vec::new(alloc);
-    for (part, count) in parts {
-        for _ in 0..*count {
-            text.extend_from_slice(part)?;
-        }
-    }
-    Ok(text)
-}
 
 fn short(text: &[u8]) -> Result<(), Fail>
     ensures { OnOk result (length text.now < 100000) }

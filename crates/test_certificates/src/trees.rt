@@ -1,6 +1,6 @@
 //! Certificates are read and written.
 
-use crate::texts::{certificate_of, joined};
+use crate::texts::certificate_of;
 use cert_text::{
     WithinLimits, certificate_laws, lemma_laws, read_lemma, write_certificate, write_lemma,
 };
@@ -46,15 +46,13 @@ const TEXTS: [(&[u8], &[u8]); 7] = [
 
 // A certificate with this first line, of a tree of so many branches below one another and a leaf.
 fn deep(alloc: Global, first_line: &[u8], branches: u32) -> Result<Vec<u8>, AllocError> {
-    joined(
-        alloc,
-        &[
-            (first_line, 1),
-            (b"symmetries 0\nlemmas 1\nlemma 0 prefix tree", 1),
-            (b" c 0 1", branches),
-            (b" f 0\nend\n", 1),
-        ],
-    )
+    let mut text = first_line.to_vec(alloc)?;
+    text.extend_from_slice(b"symmetries 0\nlemmas 1\nlemma 0 prefix tree")?;
+    for _ in 0..branches {
+        text.extend_from_slice(b" c 0 1")?;
+    }
+    text.extend_from_slice(b" f 0\nend\n")?;
+    Ok(text)
 }
 
 // Whether this is written of the certificate.
@@ -82,8 +80,8 @@ const DEPTHS: [(u32, &[u8]); 3] = [(100, VERSION_1), (101, VERSION_2), (256, VER
 
 #[test]
 fn writes_deep_trees_that_were_read(rt: HostRuntime) -> Result<(), Fail> {
-    for (branches, first_line) in DEPTHS {
-        assert!(rt; is_deep_written(rt.alloc(), branches, first_line)?);
+    for (branches, first_line) in DEPTHS.iter() {
+        assert!(rt; is_deep_written(rt.alloc(), *branches, first_line)?);
     }
     Ok(())
 }
@@ -93,12 +91,13 @@ const LEMMA: &[u8] = b"lemma 1 prefix tree c 0 2 s 0 i 0 0\n";
 // Whether a lemma is written as it was read.
 fn is_lemma_written(alloc: Global) -> Result<bool, Fail> {
     let lemma = read_lemma(alloc, LEMMA)?;
-    Ok(write_lemma(alloc, &lemma)?.as_slice() == LEMMA)
+    let written = write_lemma(alloc, &lemma)?;
+    Ok(written.as_slice() == LEMMA)
 }
 
 #[test]
 fn writes_certificates_that_were_read(rt: HostRuntime) -> Result<(), Fail> {
-    for (text, wanted) in TEXTS {
+    for (text, wanted) in TEXTS.iter() {
         assert!(rt; is_written(rt.alloc(), text, wanted)?);
     }
     assert!(rt; is_lemma_written(rt.alloc())?);

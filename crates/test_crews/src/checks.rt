@@ -1,6 +1,5 @@
 use cert_check::Answer;
 use cert_text::read_certificate;
-use cert_tree::Certificate;
 use match_crew::{Gate, check_with};
 use match_limits::MOST_WORKERS;
 use match_puzzle::{Arrangement, Puzzle};
@@ -74,7 +73,12 @@ fn tells_all(watch: &Watch) -> Result<bool, Fail> {
     if watch.missed.load(Ordering::SeqCst) {
         return Err(Fail::new("no other thread came"));
     }
-    Ok(watch.told.iter().all(|told| told.load(Ordering::SeqCst)))
+    for told in &watch.told {
+        if !told.load(Ordering::SeqCst) {
+            return Ok(false);
+        }
+    }
+    Ok(true)
 }
 
 impl Gate for Watch {
@@ -95,14 +99,14 @@ fn is_complete<R: Threads + Sync>(
     alloc: Global,
     puzzle: &Puzzle,
     list: &[Arrangement],
-    certificate: &Certificate,
     watch: &Watch,
 ) -> Result<bool, Fail> {
     let workers = watch.workers;
     if list.len() != 1 || workers < 1 || workers > MOST_WORKERS {
         return Err(Fail::new("another question"));
     }
-    let answer = check_with(rt, alloc, puzzle, list, certificate, workers, 0, watch)?;
+    let certificate = read_certificate(alloc, EIGHT_LEMMAS)?;
+    let answer = check_with(rt, alloc, puzzle, list, &certificate, workers, 0, watch)?;
     Ok(matches!(answer, Answer::Complete))
 }
 
@@ -110,8 +114,7 @@ fn is_complete<R: Threads + Sync>(
 fn holds_by<R: Threads + Sync>(rt: &R, alloc: Global, watch: &Watch) -> Result<bool, Fail> {
     let puzzle = turning_triangle(alloc)?;
     let list = turning_triangle_list(alloc)?;
-    let certificate = read_certificate(alloc, EIGHT_LEMMAS)?;
-    is_complete(rt, alloc, &puzzle, &list, &certificate, watch)
+    is_complete(rt, alloc, &puzzle, &list, watch)
 }
 
 // Whether it does so, and tells of each lemma.

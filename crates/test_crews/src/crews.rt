@@ -1,8 +1,10 @@
-ghost use Rattle.std.specs.Prelude.{◌≡◌, ◌*◌, ◌≤◌, vec_len};
+ghost use Rattle.std.specs.Prelude.{◌≡◌, ◌*◌, ◌≤◌, length, vec_len};
 
 use crate::meetings::{Meeting, all_met};
+use match_limits::{MOST_LEMMAS, MOST_WORKERS};
 use std::alloc::{AllocError, Global};
 use std::test::Fail;
+use std::thread::Threads;
 use steal_crew::{Crew, Work, run_crew};
 
 struct Squares;
@@ -52,32 +54,37 @@ fn taken_by(alloc: Global, crew: &Crew<u64>, workers: u8) -> Result<Vec<u32>, Al
     Ok(taken)
 }
 
-// Whether these are the squares, each of whose numbers one of so many workers took.
-fn is_done(
+// Whether so many workers come to these squares, each of whose numbers one of them took.
+fn squares_by<R: Threads + Sync>(
+    rt: &R,
     alloc: Global,
-    crew: Crew<u64>,
     workers: u8,
     squares: &[u64],
     numbers: &[u32],
 ) -> Result<bool, AllocError>
-    requires { workers ≤ vec_len crew.tallies }
+    requires workers { (1 ≤ workers) × (workers ≤ MOST_WORKERS) }
+    requires few { length squares.now ≤ MOST_LEMMAS }
 {
+    let crew = run_crew(rt, alloc, &Squares, squares.len() as u32, workers)?;
     let taken = taken_by(alloc, &crew, workers)?;
     Ok(crew.results() == squares && taken.as_slice() == numbers)
 }
 
 #[test]
 fn squares_by_any_number_of_workers(rt: HostRuntime) -> Result<(), Fail> {
-    let alloc = rt.alloc();
-    for workers in 1..65u8 {
-        let crew = run_crew(&rt, alloc, &Squares, 5, workers)?;
+    for workers in 1..65 {
         assert!(rt;
-            is_done(alloc, crew, workers, &[0, 1, 4, 9, 16], &[0, 1, 2, 3, 4])?,
+            squares_by(
+                &rt,
+                rt.alloc(),
+                workers,
+                &[0, 1, 4, 9, 16],
+                &[0, 1, 2, 3, 4]
+            )?,
             "by {workers}"
         );
     }
-    let crew = run_crew(&rt, alloc, &Squares, 0, 3)?;
-    assert!(rt; is_done(alloc, crew, 3, &[], &[])?);
+    assert!(rt; squares_by(&rt, rt.alloc(), 3, &[], &[])?);
     Ok(())
 }
 

@@ -32,7 +32,7 @@ const FOUR_TURNED: &[u8] =
     b"certificate 1\nsymmetries 1\nsymmetry 0 + cells 0 1 colours 0 1 tiles 1 0\nlemmas 4\nlemma 0 prefix 0:2.0 tree t 1 2 f 4 i 9 0\nlemma 1 prefix 0:1.0 tree c 1 1 s 4\nlemma 2 prefix 0:0.0 tree c 1 2 f 5 s 0\nlemma 3 prefix tree c 0 3 s 2 i 1 0 s 0\nend\n";
 
 // Whether this line is the lemma's.
-fn is_line(alloc: Global, lemma: &Lemma, line: &[u8]) -> Result<bool, AllocError>
+pub(crate) fn is_line(alloc: Global, lemma: &Lemma, line: &[u8]) -> Result<bool, AllocError>
     requires { IsLemmaWithin MOST_CELLS (piece_of lemma.now) }
 {
     Ok(write_lemma(alloc, lemma)?.as_slice() == line)
@@ -128,13 +128,13 @@ fn gathered(
 // Whether the certificate has a text, and it is this.
 fn is_spelled(
     alloc: Global,
-    certificate: Certificate,
+    certificate: &Certificate,
     text: Option<&[u8]>,
 ) -> Result<bool, AllocError> {
     if !certificate.within_limits() {
         return Ok(false);
     }
-    Ok(Some(write_certificate(alloc, &certificate)?.as_slice()) == text)
+    Ok(Some(write_certificate(alloc, certificate)?.as_slice()) == text)
 }
 
 // Whether that is a certificate with this text, or this fault.
@@ -148,7 +148,7 @@ fn is_gathered(
     requires { All (IsOf desk.now) receipts.now }
 {
     match gathered(alloc, desk, receipts, listed)? {
-        Ok(certificate) => is_spelled(alloc, certificate, wanted.ok()),
+        Ok(certificate) => is_spelled(alloc, &certificate, wanted.ok()),
         Err(fault) => Ok(wanted.err() == Some(fault)),
     }
 }
@@ -204,16 +204,20 @@ fn gathers<R: Wait>(rt: &R, alloc: Global, desk: &Desk, row: &Row) -> Result<boo
     Ok(is_gathered(alloc, desk, &receipts, listed, wanted)?)
 }
 
-#[test]
-fn gathers_lemmas(rt: HostRuntime) -> Result<(), Fail> {
-    let desk = Desk::new(rt.alloc())?;
+// Asserts it of each row, one after the other at one desk.
+fn assert_gathers<R: Wait + Abort>(rt: &R, alloc: Global, desk: &Desk) -> Result<(), Fail> {
     for (place, row) in ROWS.iter().enumerate() {
-        assert!(rt; gathers(&rt, rt.alloc(), &desk, row)?, "at {place}");
+        assert!(rt; gathers(rt, alloc, desk, row)?, "at {place}");
     }
     Ok(())
 }
 
-// Whether each of the receipts reads what was posted by turns.
+#[test]
+fn gathers_lemmas(rt: HostRuntime) -> Result<(), Fail> {
+    assert_gathers(&rt, rt.alloc(), &Desk::new(rt.alloc())?)
+}
+
+// Whether these are a hundred receipts, each of which reads what was posted by turns.
 fn read_by_turns(alloc: Global, desk: &Desk, receipts: &[Receipt]) -> Result<bool, AllocError>
     requires { All (IsOf desk.now) receipts.now }
 {
@@ -222,15 +226,19 @@ fn read_by_turns(alloc: Global, desk: &Desk, receipts: &[Receipt]) -> Result<boo
             return Ok(false);
         }
     }
-    Ok(true)
+    Ok(receipts.len() == 100)
 }
 
-// The four lemmas are posted by turns.
+// Whether the four lemmas, posted by turns, are read back.
+fn reads_four<R: Wait>(rt: &R, alloc: Global, desk: &Desk) -> Result<bool, Fail> {
+    let receipts = post_by_turns(rt, alloc, desk, &FOUR_LEMMAS, (0, 100))?;
+    Ok(read_by_turns(alloc, desk, &receipts)?)
+}
+
 #[test]
 fn desk_after_refusal(rt: HostRuntime) -> Result<(), Fail> {
     let desk = Desk::new(rt.alloc())?;
-    let receipts = post_by_turns(&rt, rt.alloc(), &desk, &FOUR_LEMMAS, (0, 100))?;
-    assert!(rt; receipts.len() == 100 && read_by_turns(rt.alloc(), &desk, &receipts)?);
+    assert!(rt; reads_four(&rt, rt.alloc(), &desk)?);
     Ok(())
 }
 
@@ -301,8 +309,17 @@ fn post_rows<R: Threads + Wait + Abort + Sync>(
     )
 }
 
-// Whether each of these is the last lemma of its row.
-fn are_last(desk: &Desk, posted: &[Result<Receipt, AllocError>]) -> Result<bool, AllocError>
+// Whether a walk gives each number.
+fn are_shown(alloc: Global, desk: &Desk) -> Result<bool, AllocError> {
+    Ok(numbers_shown(alloc, desk)?.iter().copied().eq(0..6400u32))
+}
+
+// Whether each of these is the last lemma of its row, and a walk gives the numbers of all rows.
+fn are_last(
+    alloc: Global,
+    desk: &Desk,
+    posted: &[Result<Receipt, AllocError>],
+) -> Result<bool, AllocError>
     requires { All (λ last. IfOk last (IsOf desk.now)) posted.now }
 {
     for (row, last) in posted.iter().enumerate() {
@@ -314,7 +331,10 @@ fn are_last(desk: &Desk, posted: &[Result<Receipt, AllocError>]) -> Result<bool,
             return Ok(false);
         }
     }
-    Ok(posted.len() == 64)
+    if posted.len() != 64 {
+        return Ok(false);
+    }
+    are_shown(alloc, desk)
 }
 
 // The last lemma that each posted is read here.
@@ -324,18 +344,12 @@ fn are_read<R: Threads + Wait + Abort + Sync>(
     desk: &Desk,
 ) -> Result<bool, AllocError> {
     let posted = post_rows(rt, alloc, desk)?;
-    are_last(desk, &posted)
-}
-
-// Whether a walk then gives each number.
-fn are_shown(alloc: Global, desk: &Desk) -> Result<bool, AllocError> {
-    Ok(numbers_shown(alloc, desk)?.iter().copied().eq(0..6400u32))
+    are_last(alloc, desk, &posted)
 }
 
 #[test]
 fn sixty_four_threads_post_and_read(rt: HostRuntime) -> Result<(), Fail> {
     let desk = Desk::new(rt.alloc())?;
     assert!(rt; are_read(&rt, rt.alloc(), &desk)?);
-    assert!(rt; are_shown(rt.alloc(), &desk)?);
     Ok(())
 }

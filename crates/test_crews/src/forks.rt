@@ -1,16 +1,15 @@
 //! Trees in whose first levels the halves of a branch are walked at once.
 
-ghost use Rattle.std.specs.Prelude.{◌≤◌};
+ghost use Rattle.std.specs.Prelude.{◌<◌, ◌≤◌, length};
 
 use crate::meetings::Meeting;
-use cert_check::{Answer, NodeFault, Question, TreeFault, forked_tree_fault};
+use cert_check::{Answer, NodeFault, Prepared, Question, TreeFault, forked_tree_fault};
 use cert_text::read_certificate;
-use cert_tree::Certificate;
 use match_crew::{Gate, Solved, check_with, solve_with};
 use match_limits::MOST_FORKS;
 use match_puzzle::{Arrangement, Puzzle};
 use match_text::read_puzzle;
-use std::alloc::Global;
+use std::alloc::{AllocError, Global};
 use std::sync::Wait;
 use std::sync::atomic::{AtomicU8, Ordering};
 use std::test::Fail;
@@ -55,15 +54,24 @@ fn holds_by<R: Threads + Sync>(
     Ok(matches!(answer, Answer::Complete))
 }
 
+// The same where it is solved.
+fn solves_and_holds<R: Threads + Wait + Sync>(
+    rt: &R,
+    alloc: Global,
+    puzzle: &Puzzle,
+    halves: &Halves,
+) -> Result<bool, Fail> {
+    let solved = solve_with(rt, alloc, puzzle, 0, 1_000_000, 1)?;
+    holds_by(rt, alloc, puzzle, &solved, halves)
+}
+
 // The same of the seven squares.
 fn seven_squares_hold<R: Threads + Wait + Sync>(
     rt: &R,
     alloc: Global,
     halves: &Halves,
 ) -> Result<bool, Fail> {
-    let puzzle = read_puzzle(alloc, SEVEN_SQUARES)?;
-    let solved = solve_with(rt, alloc, &puzzle, 0, 1_000_000, 1)?;
-    holds_by(rt, alloc, &puzzle, &solved, halves)
+    solves_and_holds(rt, alloc, &read_puzzle(alloc, SEVEN_SQUARES)?, halves)
 }
 
 #[test]
@@ -88,47 +96,24 @@ const WRONG_CHILDREN: &[u8] =
 fn fault_of<R: Threads + Sync>(
     rt: &R,
     alloc: Global,
-    puzzle: &Puzzle,
-    listed: &[Arrangement],
-    certificate: &Certificate,
+    prepared: &Prepared<'_>,
     lemma: u32,
     forks: u8,
-) -> Result<Option<TreeFault>, Fail>
-    requires { forks ≤ MOST_FORKS }
+) -> Result<Option<TreeFault>, AllocError>
+    requires lemma { lemma < length prepared.now.lemmas }
+    requires forks { forks ≤ MOST_FORKS }
 {
-    if listed.len() != 1 || certificate.lemmas().len() <= lemma as usize {
-        return Err(Fail::new("another question"));
-    }
-    let question = Question::new(puzzle, listed, certificate);
-    let Ok(prepared) = question.prepare(alloc, question.list_fault())? else {
-        return Err(Fail::new("it is refused before the trees"));
-    };
-    let symmetries = prepared.symmetries();
-    Ok(forked_tree_fault(
+    let question = prepared.question();
+    forked_tree_fault(
         rt,
         alloc,
-        puzzle,
-        listed,
-        symmetries,
-        certificate,
+        question.puzzle(),
+        question.listed(),
+        prepared.symmetries(),
+        question.certificate(),
         lemma,
         forks,
-    )?)
-}
-
-// The same of the turning triangle.
-fn fault_of_triangle<R: Threads + Sync>(
-    rt: &R,
-    alloc: Global,
-    lemma: u32,
-    forks: u8,
-) -> Result<Option<TreeFault>, Fail>
-    requires { forks ≤ MOST_FORKS }
-{
-    let puzzle = turning_triangle(alloc)?;
-    let listed = turning_triangle_list(alloc)?;
-    let certificate = read_certificate(alloc, WRONG_CHILDREN)?;
-    fault_of(rt, alloc, &puzzle, &listed, &certificate, lemma, forks)
+    )
 }
 
 // Whether it is that of the root's first child.
@@ -141,14 +126,73 @@ fn is_first(found: Option<TreeFault>) -> bool {
     }
 }
 
+// Whether nothing is found of lemma 0, and of lemma 2 the first of its faults.
+fn finds_first<R: Threads + Sync>(
+    rt: &R,
+    alloc: Global,
+    prepared: &Prepared<'_>,
+    forks: u8,
+) -> Result<bool, AllocError>
+    requires lemmas { 2 < length prepared.now.lemmas }
+    requires forks { forks ≤ MOST_FORKS }
+{
+    let is_right = fault_of(rt, alloc, prepared, 0, forks)?.is_none();
+    Ok(is_right && is_first(fault_of(rt, alloc, prepared, 2, forks)?))
+}
+
+// The same of a question that isn't prepared yet.
+fn finds_in<R: Threads + Sync>(
+    rt: &R,
+    alloc: Global,
+    question: &Question<'_>,
+    forks: u8,
+) -> Result<bool, Fail>
+    requires { forks ≤ MOST_FORKS }
+{
+    if question.lemmas().len() != 3 {
+        return Err(Fail::new("another question"));
+    }
+    match question.prepare(alloc, question.list_fault())? {
+        Ok(prepared) => Ok(finds_first(rt, alloc, &prepared, forks)?),
+        Err(_) => Err(Fail::new("it is refused before the trees")),
+    }
+}
+
+// The same of the lemmas with wrong children.
+fn finds_in_lemmas<R: Threads + Sync>(
+    rt: &R,
+    alloc: Global,
+    puzzle: &Puzzle,
+    listed: &[Arrangement],
+    forks: u8,
+) -> Result<bool, Fail>
+    requires { forks ≤ MOST_FORKS }
+{
+    if listed.len() != 1 {
+        return Err(Fail::new("another list"));
+    }
+    let certificate = read_certificate(alloc, WRONG_CHILDREN)?;
+    finds_in(
+        rt,
+        alloc,
+        &Question::new(puzzle, listed, &certificate),
+        forks,
+    )
+}
+
+// The same of the turning triangle.
+fn finds_in_triangle<R: Threads + Sync>(rt: &R, alloc: Global, forks: u8) -> Result<bool, Fail>
+    requires { forks ≤ MOST_FORKS }
+{
+    let puzzle = turning_triangle(alloc)?;
+    let listed = turning_triangle_list(alloc)?;
+    finds_in_lemmas(rt, alloc, &puzzle, &listed, forks)
+}
+
 #[test]
 fn the_first_of_several_faults(rt: HostRuntime) -> Result<(), Fail> {
     for forks in 0..7 {
-        assert!(rt; fault_of_triangle(&rt, rt.alloc(), 0, forks)?.is_none());
-        assert!(rt;
-            is_first(fault_of_triangle(&rt, rt.alloc(), 2, forks)?),
-            "by {forks}"
-        );
+        assert!(rt; finds_in_triangle(&rt, rt.alloc(), forks)?, "by {forks}");
     }
     Ok(())
 }

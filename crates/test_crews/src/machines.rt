@@ -142,19 +142,19 @@ fn are_at_work(state: &State) -> bool
     is_first_busy && is_second_idle && state.waiting(0).is_empty()
 }
 
-// Whether the second then finds the queue empty.
+// Whether the second then finds the queue empty, and 5 alone is done.
 fn finds_none_left(state: &mut State) -> bool {
     let empty = state.step(&Event::Take {
         worker: 1,
         queue: 0,
     });
-    empty == Err(StepFault::Empty) && are_at_work(state)
+    empty == Err(StepFault::Empty) && are_at_work(state) && has_done(state, &[5, 7], &[5], &[5], 1)
 }
 
 #[test]
 fn two_workers_at_one_queue(rt: HostRuntime) -> Result<(), Fail> {
     let mut state = State::new(rt.alloc(), 2, 1, 2)?;
     assert_steps(&rt, &mut state, AT_ONE_QUEUE)?;
-    assert!(rt; finds_none_left(&mut state) && has_done(&state, &[5, 7], &[5], &[5], 1));
+    assert!(rt; finds_none_left(&mut state));
     Ok(())
 }

@@ -1,13 +1,14 @@
 //! The turning triangle, worked out by hand: the sizes of its items, its tree, how many are found, and what is cited.
 
+ghost use Rattle.std.specs.Prelude.{◌≡◌, []};
 ghost use Rattle.xcc_form.specs.Options.{cover_of};
 ghost use Rattle.xcc_dance.specs.Chosen.{IsUncovered};
 
-use cert_text::{WithinLimits, write_lemma};
+use crate::desks::is_line;
+use cert_text::WithinLimits;
 use cert_tree::{Lemma, Node, Pairs};
-use match_puzzle::Pair;
+use match_puzzle::{Pair, Puzzle};
 use std::alloc::{AllocError, Global};
-use std::process::Abort;
 use std::test::Fail;
 use test_samples::turning_triangle;
 use xcc_dance::{
@@ -15,20 +16,19 @@ use xcc_dance::{
 };
 use xcc_form::{Xcc, compile};
 
-// The uncovered items, and how many open options each has.
-fn sizes(alloc: Global, links: &Links<'_>) -> Result<Vec<(u32, u32)>, AllocError> {
-    let mut sizes = Vec::new(alloc);
+// Whether these are the uncovered items, and how many open options each has.
+fn sizes_are(links: &Links<'_>, wanted: &[(u32, u32)]) -> bool {
     let mut next = links.next_item(None);
-    while let Some(item) = next {
-        sizes.push((item, links.size(item)))?;
+    for row in wanted {
+        let Some(item) = next else {
+            return false;
+        };
+        if (item, links.size(item)) != *row {
+            return false;
+        }
         next = links.next_item(Some(item));
     }
-    Ok(sizes)
-}
-
-// Whether these are they.
-fn sizes_are(alloc: Global, links: &Links<'_>, wanted: &[(u32, u32)]) -> Result<bool, AllocError> {
-    Ok(sizes(alloc, links)?.as_slice() == wanted)
+    next.is_none()
 }
 
 // The cells are the items 0 to 3, the tiles 4 to 7.
@@ -47,53 +47,57 @@ const FIRST: [(u32, u32); 8] = [
 const CHOSEN: [(u32, u32); 6] = [(0, 1), (1, 1), (3, 1), (5, 1), (6, 1), (7, 1)];
 
 // Whether nothing is chosen, and they are so.
-fn is_at_first(alloc: Global, links: &Links<'_>) -> Result<bool, AllocError> {
-    let is_open = links.chosen().is_empty() && links.branch_item() == Some(0);
-    Ok(is_open && sizes_are(alloc, links, &FIRST)?)
+fn is_at_first(links: &Links<'_>) -> bool {
+    links.chosen().is_empty() && links.branch_item() == Some(0) && sizes_are(links, &FIRST)
 }
 
 // Whether they are so once that choice is made, which is then undone.
-fn has_chosen(alloc: Global, links: &mut Links<'_>) -> Result<bool, Fail>
+fn has_chosen(links: &mut Links<'_>) -> Result<bool, AllocError>
     requires { IsUncovered (cover_of links.old.compiled) links.old.chosen 2 }
 {
     let Some(option) = links.next_option(2, None) else {
-        return Err(Fail::new("no option of cell 2"));
+        return Ok(false);
     };
     links.choose(option)?;
-    let then = sizes_are(alloc, links, &CHOSEN)? && links.chosen() == [6].as_slice();
+    let then = sizes_are(links, &CHOSEN) && links.chosen() == [6].as_slice();
     links.undo();
     Ok(then)
 }
 
 // Whether they are so at first, once the choice is made, and after it is undone.
-fn has_sizes<'a>(alloc: Global, xcc: &'a Xcc<'a>) -> Result<bool, Fail> {
+fn goes_back(mut links: Links<'_>) -> Result<bool, AllocError>
+    requires { IsUncovered (cover_of links.compiled) links.chosen 2 }
+{
+    Ok(is_at_first(&links) && has_chosen(&mut links)? && is_at_first(&links))
+}
+
+// The same of new linked lists.
+fn has_sizes<'a>(alloc: Global, xcc: &'a Xcc<'a>) -> Result<bool, AllocError> {
     if xcc.primaries() != 8 {
         return Ok(false);
     }
-    let mut links = Links::new(alloc, xcc)?;
-    Ok(is_at_first(alloc, &links)? && has_chosen(alloc, &mut links)? && is_at_first(alloc, &links)?)
+    goes_back(Links::new(alloc, xcc)?)
 }
 
-// The lemma with this tree, as a line.
-fn lemma_line(alloc: Global, tree: Node) -> Result<Vec<u8>, Fail> {
-    let prefix = Pairs::new(Vec::new(alloc));
+// Whether this line is that of a lemma with the tree.
+fn is_tree(alloc: Global, tree: Node, line: &[u8]) -> Result<bool, AllocError> {
     let lemma = Lemma {
         number: 0,
-        prefix,
+        prefix: Pairs::new(Vec::new(alloc)),
         tree,
     };
     if !lemma.within_limits() {
-        return Err(Fail::new("not within limits"));
+        return Ok(false);
     }
-    Ok(write_lemma(alloc, &lemma)?)
+    is_line(alloc, &lemma, line)
 }
 
 // Whether a run found so many, and its tree is this line of a lemma.
-fn tells(alloc: Global, outcome: Outcome, count: usize, line: &[u8]) -> Result<bool, Fail> {
-    let Outcome::Done { tree, found } = outcome else {
-        return Err(Fail::new("gave up"));
-    };
-    Ok(found.len() == count && lemma_line(alloc, tree)?.as_slice() == line)
+fn tells(alloc: Global, outcome: Outcome, count: usize, line: &[u8]) -> Result<bool, AllocError> {
+    match outcome {
+        Outcome::Done { tree, found } => Ok(is_tree(alloc, tree, line)? && found.len() == count),
+        Outcome::GaveUp => Ok(false),
+    }
 }
 
 // Whether it runs no more.
@@ -101,14 +105,16 @@ fn has_failed<E: OpenOptions + Drop>(search: &mut SearchOver<E>) -> bool {
     matches!(search.run(&[], 10, &mut NoCites), Err(SearchFault::Failed))
 }
 
-// What a run comes to. Where memory is refused, each further run is to fail.
-fn outcome<E: OpenOptions + Drop>(search: &mut SearchOver<E>, fuel: u32) -> Result<Outcome, Fail> {
+// What a run comes to. Where memory is refused, each further run is to fail; one that doesn't is a fault of its own.
+fn outcome<E: OpenOptions + Drop>(
+    search: &mut SearchOver<E>,
+    fuel: u32,
+) -> Result<Outcome, SearchFault> {
     match search.run(&[], fuel.min(1_000_000), &mut NoCites) {
-        Ok(outcome) => Ok(outcome),
-        Err(SearchFault::Memory) if has_failed(search) && has_failed(search) => Err(
-            SearchFault::Memory.into(),
+        Err(SearchFault::Memory) if !has_failed(search) || !has_failed(search) => Err(
+            SearchFault::Failed,
         ),
-        Err(_) => Err(Fail::new("runs after it failed")),
+        outcome => outcome,
     }
 }
 
@@ -120,24 +126,15 @@ const WHOLE_TREE: &[u8] =
 fn finds_all<E: OpenOptions + Drop>(
     alloc: Global,
     search: &mut SearchOver<E>,
-) -> Result<bool, Fail> {
+) -> Result<bool, SearchFault> {
     let outcome = outcome(search, 10)?;
-    Ok(search.branches() == 10 && tells(alloc, outcome, 3, WHOLE_TREE)?)
+    Ok(tells(alloc, outcome, 3, WHOLE_TREE)? && search.branches() == 10)
 }
 
 // Whether it gives up where it may make one branch node too few, and then fails.
-fn gives_up<E: OpenOptions + Drop>(search: &mut SearchOver<E>) -> Result<bool, Fail> {
+fn gives_up<E: OpenOptions + Drop>(search: &mut SearchOver<E>) -> Result<bool, SearchFault> {
     let gave_up = matches!(outcome(search, 9)?, Outcome::GaveUp) && search.branches() == 9;
     Ok(gave_up && has_failed(search) && search.branches() == 9)
-}
-
-// Whether it does so, once it has found all twice.
-fn searches<E: OpenOptions + Drop>(
-    alloc: Global,
-    search: &mut SearchOver<E>,
-) -> Result<bool, Fail> {
-    let begins = search.branches() == 0;
-    Ok(begins && finds_all(alloc, search)? && finds_all(alloc, search)? && gives_up(search)?)
 }
 
 // Knows a lemma for each tile but 1 at cell 0.
@@ -175,39 +172,62 @@ impl Cites for Known {
 const CITING_TREE: &[u8] = b"lemma 0 prefix tree c 0 3 c 2 1 c 1 1 c 3 1 f 0 s 7 i 8 1\n";
 
 // Whether a run comes to it.
-fn cites_known(alloc: Global, search: &mut Search<'_>) -> Result<bool, Fail> {
+fn cites_known<E: OpenOptions + Drop>(
+    alloc: Global,
+    search: &mut SearchOver<E>,
+) -> Result<bool, SearchFault> {
     let outcome = search.run(&[], 4, &mut Known)?;
-    Ok(search.branches() == 4 && tells(alloc, outcome, 1, CITING_TREE)?)
+    Ok(tells(alloc, outcome, 1, CITING_TREE)? && search.branches() == 4)
 }
 
-// The same of a search by linked lists.
-fn cites_by_links<'a>(alloc: Global, xcc: &'a Xcc<'a>) -> Result<bool, Fail> {
-    cites_known(alloc, &mut Search::new(alloc, xcc)?)
+// Whether it finds all twice, cites what is known, and then gives up.
+fn searches<E: OpenOptions + Drop>(
+    alloc: Global,
+    search: &mut SearchOver<E>,
+) -> Result<bool, SearchFault> {
+    let finds = search.branches() == 0 && finds_all(alloc, search)? && finds_all(alloc, search)?;
+    Ok(finds && cites_known(alloc, search)? && gives_up(search)?)
+}
+
+// The same of a search that is let go then.
+fn searches_once<E: OpenOptions + Drop>(
+    alloc: Global,
+    mut search: SearchOver<E>,
+) -> Result<bool, SearchFault> {
+    searches(alloc, &mut search)
 }
 
 // By linked lists.
-fn searches_by_links<'a>(alloc: Global, xcc: &'a Xcc<'a>) -> Result<bool, Fail> {
-    searches(alloc, &mut Search::new(alloc, xcc)?)
+fn searches_by_links<'a>(alloc: Global, xcc: &'a Xcc<'a>) -> Result<bool, SearchFault> {
+    searches_once(alloc, Search::new(alloc, xcc)?)
+}
+
+// By another engine.
+fn searches_over<E: OpenOptions + Drop>(alloc: Global, engine: E) -> Result<bool, SearchFault>
+    requires { (E.selection engine).chosen ≡ [] }
+{
+    searches_once(alloc, SearchOver::over(alloc, engine)?)
 }
 
 // By counts of what fits.
-fn searches_by_sets<'a>(alloc: Global, xcc: &'a Xcc<'a>) -> Result<bool, Fail> {
-    let sets = OpenSets::new(alloc, xcc)?;
-    searches(alloc, &mut SearchOver::over(alloc, sets)?)
+fn searches_by_sets<'a>(alloc: Global, xcc: &'a Xcc<'a>) -> Result<bool, SearchFault> {
+    searches_over(alloc, OpenSets::new(alloc, xcc)?)
 }
 
-// Asserts all of it.
-fn assert_searches<'a, R: Abort>(rt: &R, alloc: Global, xcc: &'a Xcc<'a>) -> Result<(), Fail> {
-    assert!(rt; has_sizes(alloc, xcc)?);
-    assert!(rt; searches_by_links(alloc, xcc)?);
-    assert!(rt; searches_by_sets(alloc, xcc)?);
-    assert!(rt; cites_by_links(alloc, xcc)?);
-    Ok(())
+// Whether all of it is so of what is compiled.
+fn are_right<'a>(alloc: Global, xcc: &'a Xcc<'a>) -> Result<bool, SearchFault> {
+    Ok(has_sizes(alloc, xcc)? && searches_by_links(alloc, xcc)? && searches_by_sets(alloc, xcc)?)
+}
+
+// The same of the puzzle.
+fn is_searched(alloc: Global, puzzle: &Puzzle) -> Result<bool, Fail> {
+    let xcc = compile(alloc, puzzle)?;
+    Ok(are_right(alloc, &xcc)?)
 }
 
 #[test]
 fn searches_the_turning_triangle(rt: HostRuntime) -> Result<(), Fail> {
     let puzzle = turning_triangle(rt.alloc())?;
-    let xcc = compile(rt.alloc(), &puzzle)?;
-    assert_searches(&rt, rt.alloc(), &xcc)
+    assert!(rt; is_searched(rt.alloc(), &puzzle)?);
+    Ok(())
 }

@@ -22,7 +22,7 @@ fn assert_turns<R: Abort>(
     let (tickets, mut seats) = Tickets::new(alloc, limit, seats)?;
     for turn in 0..draws {
         let at = turn as usize % seats.len();
-        let wanted = if turn < limit { Some(turn) } else { None };
+        let wanted = (turn < limit).then_some(turn);
         assert!(rt; tickets.draw(&mut seats[at]) == wanted, "at {turn}");
     }
     assert!(rt; tickets.finish(seats) == draws.min(limit));
@@ -38,64 +38,65 @@ fn seats_take_turns(rt: HostRuntime) -> Result<(), Fail> {
     Ok(())
 }
 
-// A seat, and what is drawn by it.
-type Place = (TicketSeat, Vec<u32>);
+// The drawn numbers as bits, any above 127 as 127, and how many were drawn.
+type Drawn = (u128, u32);
 
-// Draws until none is left. There is room for all that is drawn.
-fn draw_all(tickets: &Tickets, place: Place) -> Place
-    requires { seat_source place.0 ≡ source_of tickets.now }
+// Draws until none is left.
+fn draw_all(tickets: &Tickets, mut seat: TicketSeat) -> (TicketSeat, Drawn)
+    requires { seat_source seat ≡ source_of tickets.now }
     ensures { seat_source result.0 ≡ source_of tickets.now }
 {
-    let (mut seat, mut into) = place;
+    let mut bits = 0u128;
+    let mut count = 0u32;
     for _ in 0..u64::MAX {
-        match tickets.draw(&mut seat) {
-            Some(number) => {
-                let _ = into.push(number);
-            }
-            None => break,
-        }
+        let Some(number) = tickets.draw(&mut seat) else {
+            break;
+        };
+        bits |= 1u128 << number.min(127);
+        count = count.wrapping_add(1);
     }
-    (seat, into)
+    (seat, (bits, count))
 }
 
 // Two draw all, each on a thread of its own.
-fn draw_at_once<R: Threads>(rt: &R, tickets: &Tickets, a: Place, b: Place) -> (Place, Place)
-    requires a { seat_source a.0 ≡ source_of tickets.now }
-    requires b { seat_source b.0 ≡ source_of tickets.now }
+fn draw_at_once<R: Threads>(
+    rt: &R,
+    tickets: &Tickets,
+    a: TicketSeat,
+    b: TicketSeat,
+) -> ((TicketSeat, Drawn), (TicketSeat, Drawn))
+    requires a { seat_source a ≡ source_of tickets.now }
+    requires b { seat_source b ≡ source_of tickets.now }
     ensures a { seat_source result.0.0 ≡ source_of tickets.now }
     ensures b { seat_source result.1.0 ≡ source_of tickets.now }
 {
     thread::join(
         rt,
         move ||
-            requires { seat_source a.0 ≡ source_of tickets.now }
+            requires { seat_source a ≡ source_of tickets.now }
             ensures { seat_source result.0 ≡ source_of tickets.entry.now }
         { draw_all(tickets, a) },
         move ||
-            requires { seat_source b.0 ≡ source_of tickets.now }
+            requires { seat_source b ≡ source_of tickets.now }
             ensures { seat_source result.0 ≡ source_of tickets.entry.now }
         { draw_all(tickets, b) },
     )
 }
 
 // Whether these are the numbers below 100, each once.
-fn are_all(mut all: Vec<u32>, more: Vec<u32>) -> Result<bool, AllocError> {
-    all.extend_from_slice(&more)?;
-    all.sort()?;
-    Ok(all.iter().copied().eq(0..100u32))
+fn are_all(left: Drawn, right: Drawn) -> bool {
+    (left.0 | right.0, left.1.wrapping_add(right.1)) == (u128::MAX >> 28, 100)
 }
 
 #[test]
 fn two_threads_draw_each_number(rt: HostRuntime) -> Result<(), Fail> {
-    let left = Vec::with_capacity(rt.alloc(), 100)?;
-    let right = Vec::with_capacity(rt.alloc(), 100)?;
     let (tickets, mut seats) = Tickets::new(rt.alloc(), 100, 2)?;
     let b = seats.remove(1);
     let a = seats.remove(0);
-    let ((a, left), (b, right)) = draw_at_once(&rt, &tickets, (a, left), (b, right));
-    assert!(rt; are_all(left, right)?);
-    seats.push(a)?;
-    seats.push(b)?;
-    assert!(rt; tickets.finish(seats) == 100);
+    let (first, second) = draw_at_once(&rt, &tickets, a, b);
+    let (a, left) = first;
+    let (b, right) = second;
+    let seats = Vec::from_array(rt.alloc(), [a, b])?;
+    assert!(rt; (are_all(left, right), tickets.finish(seats)) == (true, 100));
     Ok(())
 }

@@ -1,14 +1,42 @@
 //! Puzzles as exact covers, worked out by hand.
 
-use crate::fixtures::{MATED_PAIR, pair, puzzle_of, turned};
+use crate::fixtures::{LISTED, MATED_PAIR, pair, puzzle_of};
 use match_puzzle::{Placement, Puzzle};
 use std::alloc::Global;
 use std::test::Fail;
-use test_samples::turning_triangle;
-use xcc_form::{Edge, FormFault, compile};
+use test_samples::{TURNING_TRIANGLE, turning_triangle};
+use xcc_form::{Edge, FormFault, Xcc, compile};
 
-// Whether the cover has so many items of either kind, options and entries, and an arrangement these options.
-fn is_covered(
+// The arrangement of the pair of mates.
+const MATES: [Placement; 2] = [
+    Placement { tile: 0, turn: 0 },
+    Placement { tile: 1, turn: 0 },
+];
+
+// Whether the cover has so many items of either kind, options and entries.
+fn has_sizes(xcc: &Xcc<'_>, sizes: [u32; 4]) -> bool {
+    let found = [
+        xcc.primaries(),
+        xcc.secondaries(),
+        xcc.options(),
+        xcc.entries(),
+    ];
+    found == sizes
+}
+
+// Whether an arrangement has these options.
+fn has_options(
+    alloc: Global,
+    xcc: &Xcc<'_>,
+    listed: &[Placement],
+    options: &[u32],
+) -> Result<bool, Fail> {
+    let found = xcc.options_of(alloc, listed)?;
+    Ok(found.as_slice() == options)
+}
+
+// Whether the puzzle's cover has these sizes, and the arrangement these options.
+fn has_cover(
     alloc: Global,
     puzzle: &Puzzle,
     sizes: [u32; 4],
@@ -16,50 +44,33 @@ fn is_covered(
     options: &[u32],
 ) -> Result<bool, Fail> {
     let xcc = compile(alloc, puzzle)?;
-    let found = [
-        xcc.primaries(),
-        xcc.secondaries(),
-        xcc.options(),
-        xcc.entries(),
-    ];
-    Ok(found == sizes && xcc.options_of(alloc, listed)?.as_slice() == options)
+    Ok(has_sizes(&xcc, sizes) && has_options(alloc, &xcc, listed, options)?)
 }
 
-// Whether that of the pair of mates is.
-fn is_pair_covered(alloc: Global) -> Result<bool, Fail> {
-    let mated = puzzle_of(alloc, MATED_PAIR)?;
-    let listed = [turned(0, 0), turned(1, 0)];
-    is_covered(alloc, &mated, [4, 1, 4, 12], &listed, &[0, 3])
-}
-
-// An arrangement of the turning triangle.
-const LISTED: [Placement; 4] = [
-    Placement { tile: 2, turn: 2 },
-    Placement { tile: 1, turn: 0 },
-    Placement { tile: 0, turn: 0 },
-    Placement { tile: 3, turn: 1 },
-];
-
-// Whether that of the turning triangle is.
-fn is_triangle_covered(alloc: Global) -> Result<bool, Fail> {
-    let triangle = turning_triangle(alloc)?;
-    is_covered(alloc, &triangle, [8, 3, 21, 87], &LISTED, &[1, 3, 6, 20])
+// Whether that of the text's puzzle is so.
+fn is_covered(
+    alloc: Global,
+    text: &[u8],
+    sizes: [u32; 4],
+    listed: &[Placement],
+    options: &[u32],
+) -> Result<bool, Fail> {
+    let puzzle = puzzle_of(alloc, text)?;
+    has_cover(alloc, &puzzle, sizes, listed, options)
 }
 
 // Whether the options of the triangle's cover, in another order, give the arrangement.
-fn gives_the_arrangement(alloc: Global) -> Result<bool, Fail> {
-    let triangle = turning_triangle(alloc)?;
-    let xcc = compile(alloc, &triangle)?;
+fn gives_the_arrangement(alloc: Global, xcc: &Xcc<'_>) -> Result<bool, Fail> {
     let found = xcc.arrangement_of(alloc, &[20, 6, 1, 3])?;
     Ok(found.placements() == LISTED.as_slice())
 }
 
 // Whether options that are no solution give none.
-fn refuses_no_solution(alloc: Global) -> Result<bool, Fail> {
-    let triangle = turning_triangle(alloc)?;
-    let xcc = compile(alloc, &triangle)?;
-    let refused = xcc.arrangement_of(alloc, &[1, 3, 6, 19]).err();
-    Ok(refused == Some(FormFault::NotASolution))
+fn refuses_no_solution(alloc: Global, xcc: &Xcc<'_>) -> bool {
+    matches!(
+        xcc.arrangement_of(alloc, &[1, 3, 6, 19]),
+        Err(FormFault::NotASolution)
+    )
 }
 
 const EDGES: [Edge; 3] = [
@@ -72,17 +83,38 @@ const EDGES: [Edge; 3] = [
 ];
 
 // Whether option 6 of the triangle puts tile 0 in the middle.
-fn shows_the_middle(alloc: Global) -> Result<bool, Fail> {
+fn shows_the_middle(xcc: &Xcc<'_>) -> bool {
+    xcc.options() > 6 && xcc.pair(6) == pair(2, 0, 0) && xcc.edges(6) == EDGES.as_slice()
+}
+
+// Whether all that is so.
+fn is_read(alloc: Global, triangle: &Puzzle) -> Result<bool, Fail> {
+    let xcc = compile(alloc, triangle)?;
+    Ok(
+        shows_the_middle(&xcc)
+            && refuses_no_solution(alloc, &xcc)
+            && gives_the_arrangement(alloc, &xcc)?,
+    )
+}
+
+fn is_triangle_read(alloc: Global) -> Result<bool, Fail> {
     let triangle = turning_triangle(alloc)?;
-    let xcc = compile(alloc, &triangle)?;
-    Ok(xcc.options() > 6 && xcc.pair(6) == pair(2, 0, 0) && xcc.edges(6) == EDGES.as_slice())
+    is_read(alloc, &triangle)
 }
 
 #[test]
 fn solutions_of_puzzles(rt: HostRuntime) -> Result<(), Fail> {
     let alloc = rt.alloc();
-    assert!(rt; is_pair_covered(alloc)? && is_triangle_covered(alloc)?);
-    assert!(rt; gives_the_arrangement(alloc)? && refuses_no_solution(alloc)?);
-    assert!(rt; shows_the_middle(alloc)?);
+    assert!(rt; is_covered(alloc, MATED_PAIR, [4, 1, 4, 12], &MATES, &[0, 3])?);
+    assert!(rt;
+        is_covered(
+            alloc,
+            TURNING_TRIANGLE,
+            [8, 3, 21, 87],
+            &LISTED,
+            &[1, 3, 6, 20]
+        )?
+    );
+    assert!(rt; is_triangle_read(alloc)?);
     Ok(())
 }

@@ -20,6 +20,14 @@ pub const MATED_PAIR: &[u8] =
 pub const CORNER_SHAPE: &[u8] =
     b"match 2\nboard shape 2 2\nrow ##\nrow #.\nturns no\nborder one 0\nmates\ntiles 3\ntile 0120\ntile 0001\ntile 2000\nend\n";
 
+/// An arrangement of the turning triangle.
+pub const LISTED: [Placement; 4] = [
+    Placement { tile: 2, turn: 2 },
+    Placement { tile: 1, turn: 0 },
+    Placement { tile: 0, turn: 0 },
+    Placement { tile: 3, turn: 1 },
+];
+
 pub fn turned(tile: u16, turn: u8) -> Placement
     ensures { result ≡ record { tile = tile; turn = turn } }
 {

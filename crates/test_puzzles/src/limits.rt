@@ -37,7 +37,7 @@ const LIMITS: [(u32, u32); 31] = [
 
 #[test]
 fn limits_of_formats(rt: HostRuntime) {
-    for (limit, number) in LIMITS {
+    for (limit, number) in LIMITS.iter() {
         assert!(rt; limit == number, "{limit} for {number}");
     }
 }

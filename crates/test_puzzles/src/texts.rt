@@ -55,8 +55,8 @@ const LISTS: [&[u8]; 4] = [
 
 #[test]
 fn writes_puzzles_that_were_read(rt: HostRuntime) -> Result<(), Fail> {
-    for text in PUZZLES {
-        assert!(rt; puzzle_again(rt.alloc(), text)?.as_slice() == text);
+    for text in PUZZLES.iter() {
+        assert!(rt; puzzle_again(rt.alloc(), text)?.as_slice() == *text);
     }
     puzzle_laws();
     Ok(())
@@ -64,8 +64,8 @@ fn writes_puzzles_that_were_read(rt: HostRuntime) -> Result<(), Fail> {
 
 #[test]
 fn writes_lists_that_were_read(rt: HostRuntime) -> Result<(), Fail> {
-    for text in LISTS {
-        assert!(rt; list_again(rt.alloc(), text)?.as_slice() == text);
+    for text in LISTS.iter() {
+        assert!(rt; list_again(rt.alloc(), text)?.as_slice() == *text);
     }
     list_laws();
     Ok(())

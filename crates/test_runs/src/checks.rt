@@ -104,8 +104,8 @@ const READ: [(Documents<'static>, Document, &[u8]); 4] = [
 
 #[test]
 fn names_the_document_whose_reader_fails(rt: HostRuntime) -> Result<(), Fail> {
-    for (documents, document, text) in READ {
-        assert_each_failure_is_told(&rt, rt.alloc(), &documents, document, text.len())?;
+    for (documents, document, text) in READ.iter() {
+        assert_each_failure_is_told(&rt, rt.alloc(), documents, *document, text.len())?;
     }
     Ok(())
 }

@@ -84,8 +84,8 @@ const READS: [([usize; 3], Option<Document>, [usize; 3]); 4] = [
 
 #[test]
 fn reads_three_documents_in_order(rt: HostRuntime) -> Result<(), Fail> {
-    for (fails_after, failed, taken) in READS {
-        assert!(rt; reads(rt.alloc(), fails_after, failed, taken)?);
+    for (fails_after, failed, taken) in READS.iter() {
+        assert!(rt; reads(rt.alloc(), *fails_after, *failed, *taken)?);
     }
     Ok(())
 }
@@ -176,8 +176,8 @@ const WRITES: [([usize; 3], bool, [&[u8]; 3]); 4] = [
 
 #[test]
 fn writes_three_texts_in_order(rt: HostRuntime) -> Result<(), Fail> {
-    for (fails_after, is_done, fronts) in WRITES {
-        assert!(rt; writes(rt.alloc(), fails_after, is_done, fronts)?);
+    for (fails_after, is_done, fronts) in WRITES.iter() {
+        assert!(rt; writes(rt.alloc(), *fails_after, *is_done, *fronts)?);
     }
     Ok(())
 }

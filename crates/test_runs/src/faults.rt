@@ -56,16 +56,16 @@ fn prints(alloc: Global, fault: &RunFault, line: &str) -> Result<bool, AllocErro
 
 #[test]
 fn prints_each_fault(rt: HostRuntime) -> Result<(), Fail> {
-    for (fault, line) in LINES {
-        assert!(rt; prints(rt.alloc(), &fault, line)?);
+    for (fault, line) in LINES.iter() {
+        assert!(rt; prints(rt.alloc(), fault, line)?);
     }
     Ok(())
 }
 
 #[test]
 fn prints_want_of_memory(rt: HostRuntime) -> Result<(), Fail> {
-    for fault in OF_MEMORY {
-        assert!(rt; prints(rt.alloc(), &fault, "out of memory\n")?);
+    for fault in OF_MEMORY.iter() {
+        assert!(rt; prints(rt.alloc(), fault, "out of memory\n")?);
     }
     Ok(())
 }

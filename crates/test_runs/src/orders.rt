@@ -40,30 +40,39 @@ fn files_of(alloc: Global, puzzle: &str, list: &str, certificate: &str) -> Resul
 // where it is done, they spell a list that is complete.
 fn exit_of<R: Threads + Wait + Sync + RandomSource + Clock + Eprint>(
     rt: &R,
-    alloc: Global,
-    puzzle: &[u8],
-    list: &[u8],
-    certificate: &[u8],
+    held: &HeldFiles<'_>,
+    streams: &mut Streams<'_, '_, '_, Fake<'_>, Fake<'_>, Fake<'_>>,
 ) -> Result<Exit, HintedFault>
     ensures { IfOk result (λ exit. exit ≡ Exit.Done → SpellCompleteList (record {
-      puzzle = puzzle.now;
-      list = list.now;
-      certificate = certificate.now;
+      puzzle = held.now.puzzle.now;
+      list = held.now.list.now;
+      certificate = held.now.certificate.now;
     })) }
 {
-    let mut system = HeldFiles {
-        alloc,
-        puzzle,
-        list,
-        certificate,
-    };
-    let files = files_of(alloc, "p", "l", "c")?;
+    let mut system = *held;
+    let files = files_of(held.alloc, "p", "l", "c")?;
     let order = Order::Check {
         files,
         workers: Workers::new(2),
         forks: Forks::new(1),
         progress: false,
         hints: false,
+    };
+    let exit = run_order(rt, held.alloc, &order, &mut system, streams)?;
+    Ok(exit)
+}
+
+// How a check of the twins with this certificate ends.
+fn exit_with<R: Threads + Wait + Sync + RandomSource + Clock + Eprint>(
+    rt: &R,
+    alloc: Global,
+    certificate: &[u8],
+) -> Result<Exit, HintedFault> {
+    let held = HeldFiles {
+        alloc,
+        puzzle: TWINS.puzzle,
+        list: TWINS.list,
+        certificate,
     };
     let mut input = Fake::new(alloc, b"", 7, usize::MAX);
     let mut output = Fake::new(alloc, b"", 5, usize::MAX);
@@ -75,8 +84,7 @@ fn exit_of<R: Threads + Wait + Sync + RandomSource + Clock + Eprint>(
         terminal: false,
         typed: false,
     };
-    let exit = run_order(rt, alloc, &order, &mut system, &mut streams)?;
-    Ok(exit)
+    exit_of(rt, &held, &mut streams)
 }
 
 // The same, without what is told beside a fault.
@@ -94,7 +102,7 @@ fn ends<R: Threads + Wait + Sync + RandomSource + Clock + Eprint>(
     certificate: &[u8],
     exit: Exit,
 ) -> Result<bool, AllocError> {
-    let ended = exit_of(rt, alloc, TWINS.puzzle, TWINS.list, certificate);
+    let ended = exit_with(rt, alloc, certificate);
     Ok(with_memory(without_hint(ended))? == Ok(exit))
 }
 
@@ -113,7 +121,7 @@ const CODES: [(RunFault, u8); 3] = [
 
 #[test]
 fn faults_have_codes(rt: HostRuntime) {
-    for (fault, code) in CODES {
-        assert!(rt; Exit::of_fault(&fault).code() == code);
+    for (fault, code) in CODES.iter() {
+        assert!(rt; Exit::of_fault(fault).code() == *code);
     }
 }

@@ -72,8 +72,8 @@ const STOPS: [(usize, [usize; 3], RunFault, [&[u8]; 3]); 2] = [
 
 #[test]
 fn says_why_it_stops(rt: HostRuntime) -> Result<(), Fail> {
-    for (read, written, fault, texts) in STOPS {
-        assert!(rt; stops(&rt, rt.alloc(), read, written, fault, texts)?);
+    for (read, written, fault, texts) in STOPS.iter() {
+        assert!(rt; stops(&rt, rt.alloc(), *read, *written, *fault, *texts)?);
     }
     Ok(())
 }

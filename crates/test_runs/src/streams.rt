@@ -85,8 +85,8 @@ const WRITES: [((usize, usize), Result<(), Failed>, &[u8], u64); 3] = [
 
 #[test]
 fn writes_up_to_an_error(rt: HostRuntime) {
-    for (bounds, outcome, front, errors) in WRITES {
-        assert!(rt; writes(rt.alloc(), bounds, outcome, front, errors));
+    for (bounds, outcome, front, errors) in WRITES.iter() {
+        assert!(rt; writes(rt.alloc(), *bounds, *outcome, front, *errors));
     }
 }
 
