@@ -5,7 +5,7 @@ use Rattle.match_puzzle.specs.Puzzle.{Task, HasRule, colour_of}
 use Rattle.match_puzzle.specs.declared.placements.Placement.{Placement}
 use Rattle.picture_parts.specs.Edges.{HasEdge, IsEdgePath}
 use Rattle.picture_parts.specs.Forms.{begin_of}
-use Rattle.picture_parts.specs.Joined.{IsJoined}
+use Rattle.picture_parts.specs.Joined.{IsJoined, ended}
 use Rattle.picture_parts.specs.Palette.{fill_of}
 use Rattle.picture_parts.specs.declared.canvases.Site.{Site}
 use Rattle.picture_parts.specs.declared.edges.Edge.{Edge}
@@ -56,7 +56,7 @@ IsBand p left top site cell side text =
 pub record IsBandLine (p : Task) (left top : ℕ) (site : Site) (cell : ℕ) (text : List ℕ) : Type 0 where
   pub bands : List ℕ
   pub joined : IsJoined (IsBand p left top site cell) (side_count p.board) bands
-  pub line : ((bands ≡ []) × (text ≡ [])) ⊎ (text ≡ bands ++ 10 ∷ [])
+  pub line : text ≡ ended bands
 
 -- the line with the bands of the cell, at its site
 abbrev pub IsBandLineAt : Task → (left top : ℕ) → List Site → (cell : ℕ) → List ℕ → Type 0

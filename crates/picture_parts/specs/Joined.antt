@@ -1,6 +1,11 @@
--- Texts of pieces.
-use Rattle.std.specs.Prelude.{◌≡◌, ℕ, List, Some, length, slice_get}
+-- Texts of pieces and of lines.
+use Rattle.std.specs.Prelude.{◌≡◌, ◌++◌, ◌∷◌, [], ℕ, List, Some, length, slice_get}
 use Rattle.std.specs.List.{flat_map}
+
+-- a line with its end, or nothing where there is nothing in it
+abbrev pub ended : List ℕ → List ℕ
+ended [] = []
+ended (first ∷ rest) = first ∷ rest ++ 10 ∷ []
 
 -- The text is so many pieces, one behind the other, of which each is as its number asks, from 0.
 pub record IsJoined (P : ℕ → List ℕ → Type 0) (count : ℕ) (text : List ℕ) : Type 0 where

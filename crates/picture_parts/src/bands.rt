@@ -1,10 +1,10 @@
 //! Bands along the sides of which the border asks for a colour.
 
-ghost use Rattle.std.specs.Prelude.{◌≡◌, ◌<◌, ◌↔◌, ◌⊎◌, ◌++◌, ◌∷◌, [], ℕ, List, Some, IfOk, IfSome, OnOk, length, slice_get};
+ghost use Rattle.std.specs.Prelude.{◌≡◌, ◌<◌, ◌↔◌, ◌++◌, ℕ, Some, IfOk, IfSome, OnOk, length, slice_get};
 ghost use Rattle.match_board.specs.Board.{cell_count, side_count};
 ghost use Rattle.match_puzzle.specs.Puzzle.{HasRule, IsPuzzle};
 ghost use Rattle.picture_parts.specs.Elements.{AreBandLines, IsAtSide, IsBand};
-ghost use Rattle.picture_parts.specs.Joined.{IsJoined};
+ghost use Rattle.picture_parts.specs.Joined.{IsJoined, ended};
 ghost use Rattle.picture_parts.specs.declared.canvases.Site.{Site};
 ghost use Rattle.match_limits.specs.declared.TheConstants.{MOST_COLOURS};
 
@@ -39,8 +39,7 @@ pub fn band_lines(alloc: Global, canvas: &Canvas<'_>) -> Result<Vec<u8>, AllocEr
 
 /// Writes the line with its end, or nothing where there is nothing in it.
 pub fn put_ended(lines: &mut Vec<u8>, line: &[u8]) -> Result<(), AllocError>
-    ensures { OnOk result ((ended : List ℕ) × (((line.now ≡ []) × (ended ≡ [])) ⊎ (ended ≡ line.now ++ 10 ∷ []))
-        × (lines.new.items ≡ lines.old.items ++ ended)) }
+    ensures { OnOk result (lines.new.items ≡ lines.old.items ++ ended line.now) }
 {
     if line.is_empty() {
         return Ok(());
