@@ -77,7 +77,7 @@ LIMITS = {
 # Where paths begin that are looked at, beside crates.
 FOLDERS = ["src", "specs", "proofs", "crates", "scripts", "cases", "docs"]
 # What is of the kit alone.
-OF_THE_KIT = {"crossbeam_queue", "RandomState"}
+OF_THE_KIT = {"atomic_blocks", "crossbeam_queue", "RandomState"}
 # The pages whose names are those of the code, beside those of the crates.
 OF_THE_CODE = [ARCHITECTURE, "docs/DECISIONS.md", "docs/FURTHER.md", "docs/PROVED.md", "docs/MACHINE.md"]
 
