@@ -143,9 +143,3 @@ leads_on p tree q path i node placed child there within leads is =
     let (next, next_placed, next_is, rest) = subst (λ (steps : List ℕ). LeadsTo p tree q steps node placed) (drop_more path i 0 within) leads in
     let same = same_child p tree q (get_or path i 0) next child next_placed there next_is is in
     subst (λ (t : Tree). LeadsTo p t there (drop (i + 1) path) node placed) same.0 (subst (λ (u : Prefix). LeadsTo p next u (drop (i + 1) path) node placed) same.1 rest)
-
--- A path of one number or more has a next one, and leads through it.
-pub next_child : (p : Task) (tree : Tree) (q : Prefix) (path : List ℕ) (i : ℕ) (node : Tree) (placed : Prefix) → i < length path → LeadsTo p tree q (drop i path) node placed → (child : Tree) × (there : Prefix) × IsChild p tree q (get_or path i 0) child there
-next_child p tree q path i node placed within leads =
-    let (next, next_placed, next_is, rest) = subst (λ (steps : List ℕ). LeadsTo p tree q steps node placed) (drop_more path i 0 within) leads in
-    (next, next_placed, next_is)

@@ -1,5 +1,5 @@
 -- Where parts of lemmas begin, one behind the other.
-use Rattle.std.proofs.Common.{◌≡◌, ◌≤◌, ◌<◌, ◌+◌, ◌-◌, ◌++◌, ℕ, List, [], ◌∷◌, length, get_or, arith, refl, sym, ap, subst, ◌∙◌, ⊎_elim}
+use Rattle.std.proofs.Common.{◌≡◌, ◌≤◌, ◌<◌, ◌+◌, ◌-◌, ◌++◌, ℕ, List, [], ◌∷◌, length, get_or, arith, sym, ap, ◌∙◌, ⊎_elim}
 use Rattle.std.proofs.lemmas.List.{length-append, get_or_append_left, get_or_push}
 use Rattle.match_limits.proofs.Listings.{lt_or_le}
 use Rattle.cert_text.specs.LemmaParts.{part_start, AreStarts}
@@ -11,24 +11,6 @@ pub record AreFirstStarts (number : ℕ) (starts : List ℕ) : Type 0 where
   pub from_first : part_start starts 0 ≡ 0
   pub rising : (n : ℕ) → n + 1 < length starts → part_start starts n ≤ part_start starts (n + 1)
   pub within : (n : ℕ) → n < length starts → part_start starts n ≤ number
-
-pub first_alone : (starts : List ℕ) → starts ≡ [] ++ 0 ∷ [] → AreFirstStarts 0 starts
-first_alone starts is = subst (AreFirstStarts 0) (sym is) (record {
-  some = omega arith;
-  few = omega arith;
-  from_first = refl;
-  rising = λ n lt. absurd (omega (arith, lt));
-  within = λ n lt. let e : n ≡ 0 = omega (arith, lt) in subst (λ k. part_start (0 ∷ []) k ≤ 0) (sym e) (omega arith);
-})
-
-pub still_first : (number further : ℕ) (starts : List ℕ) → number ≤ further → AreFirstStarts number starts → AreFirstStarts further starts
-still_first number further starts le are = record {
-  some = are.some;
-  few = are.few;
-  from_first = are.from_first;
-  rising = are.rising;
-  within = λ n lt. let w = are.within n lt in omega (arith, w, le);
-}
 
 -- a part more begins at the number
 module _ (number : ℕ) (starts longer : List ℕ) (are : AreFirstStarts number starts) (is : longer ≡ starts ++ number ∷ []) where

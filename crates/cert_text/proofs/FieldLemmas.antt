@@ -14,15 +14,6 @@ use Rattle.cert_text.specs.Entries.{entries_before_in, before_from, entries_befo
 
 -- ---- the end, and the fields before it
 
--- nothing more is read
-pub takes_give : {X : Type 0} (value : X) → TakesWords (give value) (λ _. []) (λ x. x ≡ value)
-takes_give {X} value = record {
-  is = λ p x q e.
-      let same = ok_is (value, p) (x, q) e in
-      (ap (λ (z : X × Place). z.1.words) same, ap (λ (z : X × Place). z.1.ahead) same, ap (λ (z : X × Place). z.0) (sym same));
-  passes = λ x fits line others ahead. ap (λ y. Ok (y, place line others ahead)) (sym fits);
-}
-
 -- a field, and what follows it
 pub takes_field : {A X : Type 0} (r : Read A) (words_of : A → List (List ℕ)) (Fits : A → Type 0) (f : A → Read X) (of : X → A) (others_of : X → List (List ℕ)) (FitsWith : A → X → Type 0)
     → TakesWords r words_of Fits → ((a : A) → TakesWords (f a) others_of (FitsWith a)) → ((a : A) (x : X) → FitsWith a x → of x ≡ a)

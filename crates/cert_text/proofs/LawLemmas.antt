@@ -24,13 +24,6 @@ spelled_by_limits read Within spelling alone each x false not = λ text e. not (
 
 -- ---- lemmas in any order
 
--- what is made of a certificate's lines, as what is assembled
-outcome_of : (said : Said) → Result Contents CertTextFault → Result (List Piece) AssembleFault
-outcome_of said (Ok c) = Ok c.lemmas
-outcome_of said (Err (Text fault)) = Err assemble.Memory
-outcome_of said (Err (Assemble fault)) = Err fault
-outcome_of said (Err Memory) = Err assemble.Memory
-
 abbrev assembled : List Piece → Result (List Piece) AssembleFault
 assembled pieces = Ok pieces
 

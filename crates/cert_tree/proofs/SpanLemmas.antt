@@ -258,6 +258,3 @@ alone_narrow lemmas lemma one narrow = subst (λ (ls : List Lemma). All (λ (l :
     each : All (λ (l : Lemma). IsNarrow (tree_of l.tree)) (lemma ∷ [])
     each zero d lt = narrow
     each (suc k) d lt = absurd (omega (arith, lt))
-
-pub no_spans : (pairs : List Pair) (heads : List Head) → AreSpans pairs heads []
-no_spans pairs heads span at = absurd (omega (arith, at.1))

@@ -2,10 +2,10 @@
 use Rattle.std.proofs.Common.{◌≡◌, ◌<◌, ◌≤◌, ◌+◌, ◌-◌, ◌^◌, ℕ, zero, suc, true, nat_lt, if◌then◌else◌, List, [], ◌∷◌, ◌++◌, Some, Err, length, map, reverse, take, drop, get_or, set, slice_get, refl, sym, ap, ◌∙◌, subst, arith}
 use Rattle.std.specs.Prelude.{All, Contains}
 use Rattle.std.proofs.lemmas.Bool.{lt-ltb}
-use Rattle.std.proofs.lemmas.List.{map-append, length-map, length-reverse, reverse-append, length-drop, length-take-le, get_or-append_right, get_or-reverse, set-append_right, append-nil}
+use Rattle.std.proofs.lemmas.List.{map-append, length-map, length-reverse, reverse-append, length-drop, length-take-le, get_or-append_right, get_or-reverse, set-append_right}
 use Rattle.std.proofs.lemmas.List.Elements.{All-nil, All-cons, All-append}
 use Rattle.std.proofs.lemmas.Option.{slice_get_within, slice_get-get_or, get_or_from_slice_get}
-use Rattle.std.proofs.Math.Seq.{take-length, drop-length, take-append_seam, drop-append_seam}
+use Rattle.std.proofs.Math.Seq.{take-append_seam, drop-append_seam}
 use Rattle.match_limits.specs.declared.TheConstants.{MOST_ARRANGEMENTS, MOST_CELLS, MOST_LEMMAS}
 use Rattle.match_puzzle.specs.declared.items.Item.{Item}
 use Rattle.match_puzzle.specs.declared.items.Item.TheVariants as items
@@ -119,14 +119,6 @@ module _ {X : Type 0} (f : X → X) (xs : List X) (start place : ℕ) (d : X) (s
       set-append_right (take start xs) (changed f (place - start) (drop start xs)) start place (f (get_or (drop start xs) (place - start) d)) before some
       ∙ ap (λ ys. take start xs ++ ys) (changed_more f (drop start xs) (place - start) d within)
       ∙ ap (λ n. changed_from f start n xs) (let e : suc (place - start) ≡ place + 1 - start = omega (arith, some) in e)
-
-pub changed_all : {X : Type 0} (f : X → X) (xs : List X) (start : ℕ) → changed_from f start (length xs - start) xs ≡ take start xs ++ map f (drop start xs)
-changed_all f xs start =
-    let long : length xs - start ≡ length (drop start xs) = sym (length-drop start xs) in
-    ap (λ n. changed_from f start n xs) long
-    ∙ ap (λ ys. take start xs ++ (map f ys ++ drop (length (drop start xs)) (drop start xs))) (take-length (drop start xs))
-    ∙ ap (λ ys. take start xs ++ (map f (drop start xs) ++ ys)) (drop-length (drop start xs))
-    ∙ ap (λ ys. take start xs ++ ys) (append-nil (map f (drop start xs)))
 
 -- the heads of a tree that was put behind others are turned
 pub turned_behind : (c first : ℕ) (tree : Tree) (old put turned : List Head) (start : ℕ) → start ≡ length old → put ≡ old ++ heads_of tree → turned ≡ take start put ++ map (turned_head c first) (drop start put)

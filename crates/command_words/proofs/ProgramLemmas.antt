@@ -323,12 +323,6 @@ parse_enters command m words is matches name rows named rowed =
 pub faultless_of : (command : Command) (words : List Text) → app_of command ≡ whole_app → (is_simple_and_free (app_of command) ≡ true → fault_of (app_of command) words ≡ []) → fault_of whole_app words ≡ []
 faultless_of command words is none = ap (λ (a : App). fault_of a words) (sym is) ∙ none (is_free command is)
 
--- a command that a parse entered has what it needs
-pub parse_has : (command : Command) (words : List Text) → app_of command ≡ whole_app → (is_simple_and_free (app_of command) ≡ true → fault_of (app_of command) words ≡ [])
-    → (name : Text) (rows : List Row) → subcommand_of whole_app words ≡ Some (name, rows) → IsEntered name rows
-parse_has command words is none name rows enters =
-    program_has words (faultless_of command words is none) name rows enters
-
 -- the order of the words, by what they enter
 pub order_of : (words : List Text) (name : Text) (rows : List Row) (order : Order) → subcommand_of whole_app words ≡ Some (name, rows) → IsOrderOf (Some (name, rows)) order → IsOrder words order
 order_of words name rows order enters is = subst (λ entered. IsOrderOf entered order) (sym enters) is

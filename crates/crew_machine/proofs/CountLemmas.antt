@@ -1,5 +1,5 @@
 -- Totals over lists that change at one place.
-use Rattle.std.proofs.Common.{◌≡◌, ℕ, zero, suc, ◌+◌, ◌<◌, ◌≤◌, Bool, true, cond, eqb, ◌==◌, List, [], ◌∷◌, ◌++◌, length, set, get_or, slice_index_or, All, sym, refl, ap, arith}
+use Rattle.std.proofs.Common.{◌≡◌, ℕ, zero, suc, ◌+◌, ◌<◌, ◌≤◌, Bool, true, cond, eqb, ◌==◌, List, [], ◌∷◌, ◌++◌, length, set, slice_index_or, All, sym, refl, ap, arith}
 use mathlib.Core.Option.{some, some-injective, some-ne-none}
 use lib.ListN.{get_elem?}
 use Rattle.std.specs.List.{AllByRecursion}
@@ -76,8 +76,3 @@ all_below xs n h = All-from_recursion (λ (x : ℕ). x < n) xs (below_recursion 
 -- one more tally, of what was entered meanwhile
 pub tallies_more : {A : Type 0} (f : A → ℕ) (ts ts' : List A) (t : A) (a b c : ℕ) → ts' ≡ ts ++ t ∷ [] → total f ts + a ≡ b → f t + b ≡ c → total f ts' + a ≡ c
 tallies_more f ts ts' t a b c is h more = let e = ap (total f) is in let s = total-append f ts (t ∷ []) in omega arith
-
--- the first tally grows
-pub tallies_settled : {A : Type 0} (f : A → ℕ) (ts ts' : List A) (t t' : A) (filled once : ℕ) → 0 < length ts → t ≡ get_or ts 0 t → ts' ≡ set ts 0 t' → total f ts ≡ filled → f t' + filled ≡ f t + once → total f ts' ≡ once
-tallies_settled f [] ts' t t' filled once full at is h more = absurd (omega arith)
-tallies_settled f (u ∷ ts) ts' t t' filled once full at is h more = let e : total f ts' ≡ f t' + total f ts = ap (total f) is in let a : f t ≡ f u = ap f at in let b : f u + total f ts ≡ filled = h in omega arith

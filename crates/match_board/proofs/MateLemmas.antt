@@ -1,5 +1,5 @@
 -- Mates of colours.
-use Rattle.std.proofs.Common.{◌≡◌, ◌<◌, ◌≤◌, ℕ, List, length, arith, refl, ap, ◌∙◌, inl, inr, ⊎_elim}
+use Rattle.std.proofs.Common.{◌≡◌, ◌<◌, ◌≤◌, ℕ, List, length, arith, ap, ◌∙◌, inl, ⊎_elim}
 use Rattle.std.proofs.lemmas.List.{get_or_past}
 use Rattle.match_limits.specs.declared.TheConstants.{MOST_COLOURS}
 use Rattle.match_limits.specs.First.{IsLeast}
@@ -37,6 +37,3 @@ not_without mates n has none = ⊎_elim (λ past. omega (arith, past, has.0)) (�
 -- what breaks a list of mates, where all before is right
 pub first_without : (mates : List ℕ) (colour : ℕ) → colour < MOST_COLOURS → ((n : ℕ) → n < colour → n < length mates → HasMate mates n) → HasNoMateAt mates colour → IsLeast (BreaksMatesAt mates) colour
 first_without mates colour few before none = least_at (BreaksMatesAt mates) colour (inl none) (λ n lt breaks. ⊎_elim (λ other. not_without mates n (before n lt other.0) other) (λ last. omega (arith, lt, few, last.0)) breaks)
-
-pub too_long : (mates : List ℕ) → ((n : ℕ) → n < MOST_COLOURS → n < length mates → HasMate mates n) → MOST_COLOURS < length mates → IsLeast (BreaksMatesAt mates) MOST_COLOURS
-too_long mates before long = least_at (BreaksMatesAt mates) MOST_COLOURS (inr (refl, long)) (λ n lt breaks. ⊎_elim (λ other. not_without mates n (before n lt other.0) other) (λ last. omega (arith, lt, last.0)) breaks)

@@ -135,13 +135,6 @@ AreTurnsBehind after cell turns =
     (turn : ℕ) → turn < 4 →
     (bit_at turns turn ≡ 1 → IfSome after (λ x. ComesBefore (cell_turn x) (cell, turn))) × (IfSome after (λ x. ComesBefore (cell_turn x) (cell, turn)) → bit_at turns turn ≡ 1)
 
-pub first_turns : (after : Option Pair) (cell turns : ℕ) → IsCellBehind after cell → ((turn : ℕ) → turn < 4 → (bit_at turns turn ≡ 1) ↔ IfSome after (λ x. x.placement.turn < turn)) → AreTurnsBehind after cell turns
-first_turns None cell turns e is turn lt = (λ one. tt, λ comes. (is turn lt).1 tt)
-first_turns (Some x) cell turns e is turn lt = (
-  λ one. inr (sym e, (is turn lt).0 one),
-  λ comes. (is turn lt).1 (⊎_elim (λ sooner. absurd (omega (arith, e, sooner))) (λ same. same.1) comes),
-)
-
 -- behind the pair's own cell all
 pub all_turns : (after : Option Pair) (cell : ℕ) → IfSome after (λ x. x.cell < cell) → AreTurnsBehind after cell 15
 all_turns None cell behind turn lt = (λ one. tt, λ comes. bit_at_ones 4 turn lt)
@@ -155,10 +148,6 @@ cell_behind (Some x) first cell e le = omega (arith, e, le)
 -- No pair of the tile that comes after that one fits before the cell.
 abbrev pub NoneBefore : Task → Prefix → (tile : ℕ) (after : Option Pair) (cell : ℕ) → Type 0
 NoneBefore p q tile after cell = (y : Pair) → FitsItem p q (Tile tile) y → ComesAfterPair (Tile tile) after y → y.cell < cell → ⊥
-
-pub none_before_first : (p : Task) (q : Prefix) (tile : ℕ) (after : Option Pair) (cell : ℕ) → IsCellBehind after cell → NoneBefore p q tile after cell
-none_before_first p q tile None cell e y fits comes lt = omega (arith, e, lt)
-none_before_first p q tile (Some x) cell e y fits comes lt = ⊎_elim (λ sooner. omega (arith, e, lt, sooner)) (λ same. omega (arith, e, lt, same.0)) comes
 
 pub last_of_tile : (p : Task) (pairs : List Pair) (tile : ℕ) (after : Option Pair) (cell : ℕ) → NoneBefore p (prefix_of p pairs) tile after cell → cell_count p.board ≤ cell → IsLastFitting p (prefix_of p pairs) (Tile tile) after
 last_of_tile p pairs tile after cell none all y fits comes =

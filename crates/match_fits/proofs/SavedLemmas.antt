@@ -4,7 +4,7 @@ use Rattle.std.specs.List.{concat}
 use Rattle.std.proofs.Math.Seq.{take-append_seam}
 use Rattle.std.proofs.lemmas.List.{append-nil, take-append-le, take_all, take_more, take_at, drop_at, length-take, length_push}
 use Rattle.std.proofs.lemmas.List.Folds.{concat-append}
-use Rattle.std.proofs.lemmas.Option.{slice_get_within, slice_get-get_or, none-some}
+use Rattle.std.proofs.lemmas.Option.{slice_get_within, slice_get-get_or}
 use Rattle.match_board.specs.Board.{cell_count}
 use Rattle.match_puzzle.specs.Puzzle.{Task}
 use Rattle.match_fits.specs.Placing.{prefix_of}
@@ -12,10 +12,6 @@ use Rattle.match_fits.specs.FitSizes.{AreSizes, AreSaved}
 use Rattle.match_puzzle.specs.declared.placements.Pair.{Pair}
 use Rattle.match_puzzle.proofs.PairLemmas.{taken_at}
 use Rattle.match_fits.proofs.PlacedPairLemmas.{pushed_at}
-
--- nothing is placed
-pub saved_none : (p : Task) → AreSaved p [] []
-saved_none p = record { tables = []; many = refl; joined = refl; are = λ count table at. absurd (none-some table at) }
 
 -- one pair more
 pub saved_pushed : (p : Task) (pairs : List Pair) (y : Pair) (saved sizes : List ℕ) → AreSaved p pairs saved → AreSizes p (prefix_of p pairs) sizes → AreSaved p (pairs ++ y ∷ []) (saved ++ sizes)

@@ -24,13 +24,6 @@ none_if_other m n ne = ⊎_elim (λ same. absurd (ne same.1)) (λ other. ap one_
 in_first : (x : ℕ) (xs : List ℕ) (n : ℕ) → x ≡ n → Contains (x ∷ xs) n
 in_first x xs n e = (0, omega arith, e)
 
-pub none_of_tile : (numbers : List ℕ) (tile : ℕ) → ((n : ℕ) → Contains numbers n → n / 4 ≢ tile) → count_of_group numbers tile ≡ 0
-none_of_tile [] tile none = refl
-none_of_tile (x ∷ xs) tile none =
-    let rest = none_of_tile xs tile (λ n c. none n (behind x xs n c)) in
-    let here = none_if_other (x / 4) tile (none x (in_first x xs x refl)) in
-    omega (arith, rest, here)
-
 -- ---- how often one number occurs
 
 abbrev count_of : List ℕ → (number : ℕ) → ℕ

@@ -120,10 +120,6 @@ module _ (words : List ℕ) (end place word : ℕ) (are : AreWordsFrom words end
       let at = c.2 in
       omega (arith, lt, at)
 
--- nothing is taken yet
-pub nothing_taken : (words : List ℕ) (end : ℕ) → AreWordsOfSet words end → AreWordsFrom words end 0 (get_or words 0 0)
-nothing_taken words end is = record { set = is; small = is.small 0; in_range = omega arith }
-
 pub all_left : (words : List ℕ) → length words ≡ WORDS → words_from words 0 (get_or words 0 0) ≡ words
 all_left [] long = absurd (omega (arith, long))
 all_left (word ∷ words) long = refl

@@ -1,10 +1,6 @@
 -- Texts that become longer.
-use Rattle.std.proofs.Common.{◌≡◌, ℕ, List, [], ◌++◌, ap, sym, ◌∙◌, append_assoc}
-use Rattle.std.proofs.lemmas.List.{append-nil}
+use Rattle.std.proofs.Common.{◌≡◌, ℕ, List, ◌++◌, ap, ◌∙◌, append_assoc}
 use Rattle.match_picture.specs.Grown.{Grows, IsWrapped}
-
-pub grows_none : (t : List ℕ) → Grows t t
-grows_none t = record { more = []; grown = sym (append-nil t) }
 
 pub grows_more : {a b c : List ℕ} → Grows a b → Grows b c → Grows a c
 grows_more {a} g h = record {

@@ -25,10 +25,6 @@ use Rattle.match_puzzle.proofs.ArrangementLemmas.{side_in_range}
 
 -- ---- what is asked of a side
 
-pub at_most_36 : (rule : Option ℕ) → IfSome rule (λ colour. colour < MOST_COLOURS) → unwrap_or rule MOST_COLOURS ≤ MOST_COLOURS
-at_most_36 None few = omega arith
-at_most_36 (Some rule) few = omega (arith, few)
-
 -- The number is the colour that is asked of the side, or 36 where none is.
 abbrev pub AsksBelow : Task → Prefix → (cell side asked : ℕ) → Type 0
 AsksBelow p q cell side asked = (colour : ℕ) → IsAsked p q cell side colour ↔ ((asked ≡ colour) × (colour < MOST_COLOURS))

@@ -1,6 +1,6 @@
 -- The words of a puzzle's tiles.
 use Rattle.std.proofs.lemmas.List.{length-map}
-use Rattle.std.proofs.Common.{◌≡◌, ◌<◌, ◌≤◌, ℕ, List, [], length, map, get_or, arith, ap, sym, ◌∙◌, subst, ◌↔◌, IsTrue, MatchBool, Bool, true, false, ltb, lt-ltb, Some, slice_get, refl, zero, suc, ◌∷◌}
+use Rattle.std.proofs.Common.{◌≡◌, ◌<◌, ◌≤◌, ℕ, List, [], length, map, get_or, arith, ap, sym, ◌∙◌, IsTrue, MatchBool, Bool, true, false, ltb, lt-ltb, Some, slice_get, refl, zero, suc, ◌∷◌}
 use Rattle.std.proofs.lemmas.Bool.{ltb-true}
 use borrow.Author.Tests.{ltb-true}
 use Rattle.std.proofs.lemmas.List.{get_or-map, length-map}
@@ -36,20 +36,6 @@ few_sides (Shape width height mask) = omega arith
 -- a word has one period
 pub one_period : {word : List ℕ} {m n : ℕ} → IsPeriod word m → IsPeriod word n → m ≡ n
 one_period {word} {m} {n} a b = omega (arith, a.least n b.some b.same, b.least m a.some a.same)
-
--- a turn below the period that was computed
-pub below_period : (word : List ℕ) (period turn : ℕ) → IsPeriod word period → IsBelowPeriod word turn ↔ (turn < period)
-unfolding IsBelowPeriod
-below_period word period turn is = (λ h. omega (arith, one_period is h.1, h.2), λ lt. (period, is, lt))
-
--- what a turn that may be made is, in a puzzle with turns
-pub legal_turned : (p : Task) (x : Placement) (period : ℕ) → p.turns ≡ true → x.tile < length p.words → IsPeriod (get_or p.words x.tile []) period →
-    (IsTrue (ltb x.turn period) → IsLegal p x) × (IsLegal p x → IsTrue (ltb x.turn period))
-legal_turned p x period e lt is =
-    let below = below_period _ period x.turn is in (
-      λ h. record { tile = lt; turn = subst (λ b. MatchBool b (IsBelowPeriod (get_or p.words x.tile []) x.turn) (x.turn ≡ 0)) (sym e) (below.1 (ltb-true x.turn period h)) },
-      λ h. lt-ltb x.turn period (below.0 (subst (λ b. MatchBool b (IsBelowPeriod (get_or p.words x.tile []) x.turn) (x.turn ≡ 0)) e h.turn)),
-    )
 
 -- the word of a tile that was read behind the puzzle
 pub inside_words : (words : List (List ℕ)) (ts : List Tile) (i : ℕ) (t : Tile) → map word ts ≡ words → i < length words → t ≡ get_or ts i t → word t ≡ get_or words i []

@@ -1,19 +1,14 @@
 -- What the parts of a run read.
-use Rattle.std.proofs.Common.{◌≡◌, Result, Ok, Err, IsErrOf, refl, ap, sym}
+use Rattle.std.proofs.Common.{◌≡◌, Result, Ok, Err, refl, ap, sym}
 use Rattle.text_words.specs.declared.faults.TextFault.{TextFault}
 use Rattle.cert_tree.specs.Certificate.{Contents}
 use Rattle.cert_tree.specs.declared.faults.AssembleFault.{AssembleFault}
 use Rattle.cert_text.specs.CertificateText.{Said, Makes, CertificateGives}
 use Rattle.cert_text.specs.declared.faults.CertTextFault.TheVariants.{Text, Assemble}
 use Rattle.cert_check.specs.Setting.{Question}
-use Rattle.cert_check.specs.Answer.{IsAnswer}
-use Rattle.cert_check.specs.declared.faults.Answer.TheVariants.{Complete}
-use Rattle.symmetry_orbits.specs.declared.expansions.ExpandFault.{ExpandFault}
-use Rattle.symmetry_orbits.specs.declared.expansions.ExpandFault.TheVariants as expansions
-use Rattle.match_runs.specs.FaultText.{run_of_expand}
 use Rattle.byte_streams.specs.Documents.{Texts}
 use Rattle.match_runs.specs.Checking.{CheckFails, Spells}
-use Rattle.match_runs.specs.Printing.{AreTooMany, CompleteFails, PrintingFails, QuestionFails}
+use Rattle.match_runs.specs.Printing.{PrintingFails, QuestionFails}
 use Rattle.match_runs.specs.Runs.{IsOfTexts}
 use Rattle.match_runs.specs.declared.faults.RunFault.{RunFault}
 use Rattle.match_runs.specs.declared.faults.RunFault.TheVariants as runs
@@ -55,20 +50,8 @@ pub printing_fails : (printing : Printing) (texts : Texts) (fault : RunFault) �
 printing_fails printing texts runs.Expand fails = absurd fails
 printing_fails printing texts _ fails = fails
 
--- where a question's list is complete, a fault of what is printed so is one of the question
-pub complete_fails : (printing : Printing) (question : Question) → IsAnswer question Complete → (fault : RunFault) → CompleteFails printing question fault → QuestionFails printing question fault
-complete_fails printing question shown runs.Expand fails = (shown, fails)
-complete_fails printing question shown runs.Memory fails = tt
-complete_fails printing question shown _ fails = absurd fails
-
 -- a fault of the question that texts spell is one of theirs
 pub question_fails : (printing : Printing) (texts : Texts) (question : Question) → Spells texts question → (fault : RunFault) → QuestionFails printing question fault → PrintingFails printing texts fault
 question_fails printing texts question spelled runs.Expand fails = (question, spelled, fails.0, fails.1)
 question_fails printing texts question spelled runs.Memory fails = tt
 question_fails printing texts question spelled _ fails = absurd fails
-
--- what a fault of an expansion says of what is to be printed
-pub expand_fails : {T : Type 0} (printing : Printing) (question : Question) (fault : ExpandFault)
-    → (IsErrOf {T = T} (Err fault) expansions.TooMany → AreTooMany printing question) → CompleteFails printing question (run_of_expand fault)
-expand_fails printing question expansions.TooMany too_many = too_many refl
-expand_fails printing question expansions.Memory too_many = tt

@@ -20,7 +20,7 @@ use Rattle.match_text.specs.Puzzles.{row_line, shape_by, shape_rows, AddsRow}
 use Rattle.text_words.proofs.CutLemmas.{CutsShort, place, ok_is, cuts_word, cuts_word_line}
 use Rattle.text_words.proofs.WordLemmas.{Spells, judged_ok, judged_ok_is, if_ok, both, is_clean, some, some_is}
 use Rattle.text_words.proofs.LineLemmas.{TakesLines, takes_two_words}
-use Rattle.text_words.proofs.LoopLemmas.{with_front, with_front-nil, err_is, times_goes_on, times_fail, times_done}
+use Rattle.text_words.proofs.LoopLemmas.{with_front, err_is, times_goes_on, times_fail, times_done}
 
 -- ---- marks
 
@@ -199,11 +199,6 @@ all_more width (r ∷ rows) row fits one = (fits.0, all_more width rows row fits
 joined_more : (rows : List (List Bool)) (row : List Bool) → joined (rows ++ row ∷ []) ≡ joined rows ++ row
 joined_more [] row = append-nil row
 joined_more (r ∷ rows) row = ap (λ xs. r ++ xs) (joined_more rows row) ∙ sym (append_assoc r (joined rows) row)
-
-pub no_row : (width height : ℕ) (begin : Place) → RowsRead width height 0 begin [] begin
-no_row width height begin =
-    let all : height - 0 ≡ height = omega arith in
-    record { rows = []; whole = refl; long = tt; count = refl; so_far = with_front-nil (times (height - 0) (row_line width) begin) ∙ ap (λ n. times n (row_line width) begin) all }
 
 pub one_row : (width height counter : ℕ) (begin p q : Place) (marks after : List Bool) (x : Unit {0}) → counter < height → RowsRead width height counter begin marks p → AddsRow (Ok x) marks after q (row_line width p) → RowsRead width height (counter + 1) begin after q
 one_row width height counter begin p q marks after x lt read adds =

@@ -1,12 +1,11 @@
 -- Each step of a number source keeps its rule.
-use Rattle.std.proofs.Common.{◌≡◌, ◌≢◌, ℕ, ◌+◌, ◌-◌, ◌%◌, ◌^◌, ◌<◌, ◌≤◌, min, Bool, true, false, cond, eqb, List, [], ◌∷◌, ◌++◌, set, All, sym, refl, ap, ◌∙◌, subst, arith, nat_lt, get_or, length-set, get_or-set_same, ⊎_elim}
+use Rattle.std.proofs.Common.{◌≡◌, ◌≢◌, ℕ, ◌+◌, ◌-◌, ◌%◌, ◌^◌, ◌<◌, ◌≤◌, min, true, false, cond, eqb, List, [], ◌∷◌, ◌++◌, set, All, sym, refl, ap, ◌∙◌, subst, arith, nat_lt, get_or, length-set, get_or-set_same, ⊎_elim}
 use mathlib.Core.Logic.{dite}
 use mathlib.Core.Option.{none, some}
 use native.Mathlib.Decide.{dec_lt}
 use lib.ListN.{get_elem?}
 use Rattle.std.proofs.lemmas.Bool.Decides.{nat_tests}
-use Rattle.std.specs.Prelude.{MatchBool}
-use Rattle.atomic_table.specs.Table.{State, Me, Step, step, keeps, stepped, Allows, Splits, Joins, Seen}
+use Rattle.atomic_table.specs.Table.{State, Me, step, keeps, stepped, Allows, Splits, Joins, Seen}
 use Rattle.atomic_table.proofs.Lists.{at_set, at_snoc, set_again}
 use Rattle.steal_crew.specs.declared.tickets.rules.SeatView.{SeatView}
 use Rattle.crew_machine.specs.Counts.{total, times, once_below}
@@ -175,23 +174,3 @@ looks key slots id me some_part s h _ at _ =
         ),
       ),
     )
-
--- the draw of a seat with every part, which is the first
-pub drew_first : (s : Step (Unit {0})) (limit seats found : ℕ) (v w : Me (Unit {0}) SeatView)
-    → v ≡ (seat_view_with limit seats seats 0 [], []) → 0 < limit → IsDraw s v found w
-    → w ≡ (seat_view_with limit seats seats 0 (0 ∷ []), [])
-drew_first s limit seats found v w is some_limit d =
-    let l : v.0.limit ≡ limit = ap (λ (m : Me (Unit {0}) SeatView). m.0.limit) is in
-    let p : v.0.parts ≡ seats = ap (λ (m : Me (Unit {0}) SeatView). m.0.parts) is in
-    let t : v.0.seats ≡ seats = ap (λ (m : Me (Unit {0}) SeatView). m.0.seats) is in
-    let e : found ≡ 0 = d.1 (p ∙ sym t) (ap (λ (m : Me (Unit {0}) SeatView). m.0.drawn) is) (omega arith) in
-    let yes : nat_lt found v.0.limit ≡ true = grind (arith, nat_tests) in
-    let more : (w.0 ≡ seat_view_with v.0.limit v.0.seats v.0.parts v.0.marks (v.0.drawn ++ found ∷ []))
-    × All (λ x. x < found) v.0.drawn = subst
-    (λ (b : Bool). MatchBool b ((w.0 ≡ seat_view_with v.0.limit v.0.seats v.0.parts v.0.marks (v.0.drawn ++ found ∷ []))
-    × All (λ x. x < found) v.0.drawn) (w.0 ≡ seat_view_with v.0.limit v.0.seats v.0.parts 1 v.0.drawn)) yes d.2 in
-    let became : w.0 ≡ seat_view_with limit seats seats 0 (0 ∷ []) =
-    more.0 ∙ ap (λ (m : Me (Unit {0}) SeatView). seat_view_with m.0.limit m.0.seats m.0.parts m.0.marks
-    (m.0.drawn ++ found ∷ [])) is ∙ ap (λ (k : ℕ). seat_view_with limit seats seats 0 (k ∷ [])) e in
-    let free : w.1 ≡ [] = d.0 ∙ ap (λ (m : Me (Unit {0}) SeatView). m.1) is in
-    λ i. (became i, free i)

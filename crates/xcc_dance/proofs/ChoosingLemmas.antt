@@ -7,7 +7,7 @@ use Rattle.std.proofs.lemmas.List.Elements.{Contains-append_left, Contains-appen
 use Rattle.xcc_dance.specs.declared.links.tables.Entry.{Entry}
 use Rattle.xcc_dance.specs.Rings.{item_of}
 use Rattle.xcc_dance.specs.Trails.{Arrays, put_back, back, LeadsBack}
-use Rattle.xcc_dance.specs.NodeTables.{IsNodeTable, AreRight, has, start_of}
+use Rattle.xcc_dance.specs.NodeTables.{IsNodeTable, has, start_of}
 use Rattle.xcc_dance.specs.NodeClashes.{NodeClashes, CoversItem, Excludes, NodesClash}
 use Rattle.xcc_dance.specs.Marks.{mark_of, arrays_before, HidesJust, AreRightFor, WereAlwaysRight}
 use Rattle.xcc_form.specs.Options.{Compiled}
@@ -205,21 +205,6 @@ module _ (primaries items options : ℕ) (entries : List Entry) (starts : List �
           (λ (new : Contains (option ∷ []) w.by). all p (subst (λ o. Excludes primaries items options entries o p) (one option w.by new) w.excludes))
           (Contains-append_cases chosen (option ∷ []) w.by w.among);
     }
-
--- Nothing is chosen.
-pub all_right_none : (primaries items options : ℕ) (entries : List Entry) (starts : List ℕ) (a : Arrays) (t m c : List ℕ) → t ≡ [] → m ≡ [] → c ≡ [] → AreRight items entries starts a.0 a.1 [] → WereAlwaysRight primaries items options entries starts a t m c
-all_right_none primaries items options entries starts a t m c et em ec right =
-    moved primaries items options entries starts a a [] t [] m [] c refl et em ec (record {
-      as_many = refl;
-      rising = λ k lt. absurd (omega (arith, lt));
-      real = λ o among. absurd (nothing o among);
-      apart = λ i j d lt jt. absurd (omega (arith, jt));
-      right = λ k le. right_at primaries items options entries starts [] (take k []) a _ [] _ (take_all k [] (omega arith)) (ap (λ t. back (put_back entries starts) t a) (drop_all (mark_of [] [] k) [] (omega arith))) (take_all (mark_of [] [] k) [] (omega arith))
-          (record { hides = record { only = λ p e. absurd (true≢false (sym e)); all = λ p w. absurd (nothing w.by w.among) }; right = right });
-    })
-  where
-    nothing : (o : ℕ) → Contains [] o → ⊥
-    nothing o w = omega (arith, w.1)
 
 pub inner : (x y : ℕ) → Some x ≡ Some y → x ≡ y
 inner x y e = cc

@@ -33,10 +33,6 @@ first_other items m k ne = same_tests (first_nodes items (m + 1) k) (first_nodes
     (λ e. let p = first_parts items (m + 1) k e in let x = p.1 in first_true items m k p.0 (omega (arith, x, ne)))
     (λ e. let p = first_parts items m k e in let x = p.1 in first_true items (m + 1) k p.0 (omega (arith, x)))
 
--- The links at first.
-pub alone_none : AreAlone [] 0
-alone_none = record { long = refl; up = λ k lt. absurd (omega (arith, lt)); down = λ k lt. absurd (omega (arith, lt)) }
-
 pub alone_more : (links : List Link) (n : ℕ) (links' : List Link) → links' ≡ links ++ (record { up = n; down = n }) ∷ [] → AreAlone links n → AreAlone links' (n + 1)
 alone_more links n links' e a = subst (λ l. AreAlone l (n + 1)) (sym e) (record {
   long = length-append links ((record { up = n; down = n }) ∷ []) ∙ ap (λ k. k + 1) a.long;

@@ -174,11 +174,6 @@ module _ (x : Compiled) (chosen : List ℕ) (placing : Placing) (is : IsPlacingO
     next_of_option y None none next = absurd (none (has_option item number n after before w fits y next.fits))
     next_of_option y (Some option) v next = next_by_pairs item number n after before w fits y option v next
 
--- numbers that come after another are those from the next on
-pub from_behind : (after : Option ℕ) (first number : ℕ) → MatchOption after (first ≡ 0) (λ n. first ≡ n + 1) → ComesAfter after number → first ≤ number
-from_behind None first number is comes = omega (arith, is)
-from_behind (Some n) first number is comes = omega (arith, is, comes)
-
 pub behind_from : (after : Option ℕ) (first number : ℕ) → MatchOption after (first ≡ 0) (λ n. first ≡ n + 1) → first ≤ number → ComesAfter after number
 behind_from None first number is le = tt
 behind_from (Some n) first number is le = omega (arith, is, le)
