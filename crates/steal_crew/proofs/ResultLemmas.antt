@@ -1,16 +1,16 @@
 -- Results are entered by number, and taken out.
-use Rattle.std.proofs.Common.{◌≡◌, ◌≢◌, ℕ, zero, suc, ◌+◌, ◌-◌, ◌<◌, ◌≤◌, Bool, true, cond, ◌==◌, List, [], ◌∷◌, ◌++◌, length, length-set, length-append, set, get_or, get_or-set_same, get_or-set_other, Option, Some, None, sym, refl, ap, ◌∙◌, subst, arith, ne_eqb}
+use Rattle.std.proofs.Common.{◌≡◌, ◌≢◌, ℕ, zero, suc, ◌+◌, ◌-◌, ◌<◌, ◌≤◌, Bool, true, cond, ◌==◌, List, [], ◌∷◌, ◌++◌, length, slice_index_or, length-set, length-append, set, get_or, get_or-set_same, get_or-set_other, Option, Some, None, sym, refl, ap, ◌∙◌, subst, arith, ne_eqb}
 use Rattle.std.proofs.lemmas.Bool.Decides.{nat_tests}
 use mathlib.Core.Logic.{dite}
 use mathlib.Core.List.{map-append}
 use native.Mathlib.Decide.{ℕ_discrete, dec_lt}
 use Rattle.std.specs.Option.{IfSome}
-use Rattle.crew_machine.specs.Counts.{times, once_below}
+use Rattle.crew_machine.specs.Counts.{total, times, once_below}
 use Rattle.std.proofs.lemmas.List.{get_or_append_left, get_or-append_right}
 use Rattle.steal_crew.specs.Results.{Entered, Belongs}
 use Rattle.steal_crew.specs.Results.{one_if_some, filled, left_out, done_numbers}
 use Rattle.steal_crew.proofs.BesideLemmas.{default}
-use Rattle.crew_machine.proofs.CountLemmas.{total-append, once_below-next}
+use Rattle.crew_machine.proofs.CountLemmas.{total-append, total_set_at, once_below-next}
 
 pub times-append : (x : ℕ) (xs ys : List ℕ) → times x (xs ++ ys) ≡ times x xs + times x ys
 times-append x xs ys = total-append (λ (z : ℕ). cond (z == x) 1 0) xs ys
@@ -124,3 +124,13 @@ filled-none_more (suc x) (slot ∷ slots) = filled-none_more x slots
 pub done_more : {X : Type 0} (xs xs' : List (ℕ × X)) (e : ℕ × X) → xs' ≡ xs ++ e ∷ [] → (x : ℕ) → times x (done_numbers xs') ≡ times x (done_numbers xs) + times x (e.0 ∷ [])
 done_more {X} xs xs' e is x =
     ap (λ (l : List (ℕ × X)). times x (done_numbers l)) is ∙ ap (times x) (map-append (λ (d : ℕ × X). d.0) xs (e ∷ [])) ∙ times-append x (done_numbers xs) (e.0 ∷ [])
+
+pub some_place : (n m : ℕ) → n ≡ m → 1 ≤ m → 0 < n
+some_place n m is some = omega arith
+
+-- one tally got what was left: f counts a number in a tally
+pub all_once : {A : Type 0} (f : A → ℕ) (ts : List A) (old new : A) (none filled once : ℕ) → 0 < length ts → old ≡ slice_index_or ts 0 old → none ≡ 0
+    → total f ts + none ≡ filled → f new + filled ≡ f old + once → total f (set ts 0 new) ≡ once
+all_once f ts old new none filled once some at empty entered settled =
+    let changed = total_set_at f ts 0 old new some in
+    let same : f old ≡ f (slice_index_or ts 0 old) = ap f at in omega arith
