@@ -10,7 +10,7 @@ use Rattle.std.proofs.lemmas.List.{get_or_append_left, get_or-append_right}
 use Rattle.steal_crew.specs.Results.{Entered, Belongs}
 use Rattle.steal_crew.specs.Results.{one_if_some, filled, left_out, done_numbers}
 use Rattle.steal_crew.proofs.BesideLemmas.{default}
-use Rattle.crew_machine.proofs.CountLemmas.{total-append, total_set_at, once_below-next}
+use Rattle.crew_machine.proofs.CountLemmas.{total-append, total_set_at, once_below-above, once_below-next}
 
 pub times-append : (x : ℕ) (xs ys : List ℕ) → times x (xs ++ ys) ≡ times x xs + times x ys
 times-append x xs ys = total-append (λ (z : ℕ). cond (z == x) 1 0) xs ys
@@ -134,3 +134,16 @@ pub all_once : {A : Type 0} (f : A → ℕ) (ts : List A) (old new : A) (none fi
 all_once f ts old new none filled once some at empty entered settled =
     let changed = total_set_at f ts 0 old new some in
     let same : f old ≡ f (slice_index_or ts 0 old) = ap f at in omega arith
+
+pub none_entered : (x f : ℕ) (tally : List ℕ) → tally ≡ [] → times x tally + f ≡ f
+none_entered x f tally is = let e = ap (times x) is in omega arith
+
+pub all_entered : {X : Type 0} (x f : ℕ) (done : List (ℕ × X)) → length done ≡ 0 → 0 < f + times x (done_numbers done) → 0 < f
+all_entered x f [] gone some = omega arith
+all_entered x f (e ∷ done) gone some = absurd (omega arith)
+
+pub none_settled : (x t f : ℕ) → t + f ≡ t + once_below x 0 + f
+none_settled x t f = let z = once_below-above x 0 (omega arith) in omega arith
+
+pub belongs_none : {X : Type 0} (gives : ℕ → X → Type 0) (rs : List X) → rs ≡ [] → Belongs gives rs
+belongs_none gives rs is n d low = let l = ap length is in absurd (omega arith)

@@ -127,10 +127,10 @@ first_drawn limit seats found was now some is draw =
     let zero : found ≡ 0 = draw.1 (ap (λ (v : SeatView). v.parts) view ∙ sym (ap (λ (v : SeatView). v.seats) view)) (ap (λ (v : SeatView). v.drawn) view) (omega arith) in
     let below : nat_lt found was.0.limit ≡ true = grind (arith, nat_tests) in
     let put = subst (λ (b : Bool). MatchBool b
-        ((now.0 ≡ seat_view_with was.0.limit was.0.seats was.0.parts was.0.marks (was.0.drawn ++ found ∷ [])) × All (λ x. x < found) was.0.drawn)
-        (now.0 ≡ seat_view_with was.0.limit was.0.seats was.0.parts 1 was.0.drawn)) below draw.2 in
+    ((now.0 ≡ seat_view_with was.0.limit was.0.seats was.0.parts was.0.marks (was.0.drawn ++ found ∷ [])) × All (λ x. x < found) was.0.drawn)
+    (now.0 ≡ seat_view_with was.0.limit was.0.seats was.0.parts 1 was.0.drawn)) below draw.2 in
     let now_view = put.0 ∙ ap (λ (v : SeatView). seat_view_with v.limit v.seats v.parts v.marks (v.drawn ++ found ∷ [])) view
-        ∙ ap (λ (n : ℕ). seat_view_with limit seats seats 0 (n ∷ [])) zero in
+    ∙ ap (λ (n : ℕ). seat_view_with limit seats seats 0 (n ∷ [])) zero in
     let free = draw.0 ∙ ap (λ (k : Known). k.1) is in
     λ i. (now_view i, free i)
 

@@ -1,7 +1,8 @@
-use Rattle.std.proofs.Common.{◌≡◌, ◌<◌, ◌≤◌, Some, length, vec_len, arith, sym, ◌∙◌}
+use Rattle.std.proofs.Common.{◌≡◌, ◌<◌, ◌≤◌, Some, length, vec_len, arith, refl, sym, ◌∙◌}
 use Rattle.std.proofs.lemmas.Bool.Decides.{nat_tests}
+use Rattle.std.proofs.lemmas.Result.{IfOk-from_err}
 use Rattle.steal_crew.proofs.QueueRuleLemmas.{all_popped}
-use Rattle.steal_crew.proofs.ResultLemmas.{entered_put, filled_new, filled_more, filled_kept, filled_past, entered_more}
+use Rattle.steal_crew.proofs.ResultLemmas.{entered_put, filled_new, filled_more, filled_kept, filled_past, entered_more, none_entered, all_entered}
 use Rattle.steal_crew.proofs.results.enter_first.Goals as goal
 
 pub loop-number-preserved-in_ok-push-2 : goal.loop-number-preserved-in_ok-push-2
@@ -34,3 +35,27 @@ loop-number-preserved g c = let inv = c.loop-number.invariant in let gives = g.W
       entered = λ x lt more. filled_past c.loop-number.slots.items _ _ c.in-Some.number c.in-Some.result c.in-Some.ensures.items outside x (omega arith) (inv.entered x lt more);
       tally = inv.tally;
     }
+
+pub loop-number-init : goal.loop-number-init
+loop-number-init g c = record {
+  done = c.requires.done;
+  slots = c.requires.slots;
+  len = refl;
+  entered = λ x lt more. more;
+  tally = λ x. none_entered x _ _ c.new-tally.ensures.items;
+}
+
+pub returns-in_err-push : goal.returns-in_err-push
+returns-in_err-push g c = let failed = c.from_residual.ensures.0 in record {
+  slots = IfOk-from_err _ _ failed;
+  len = IfOk-from_err _ _ failed;
+  filled = IfOk-from_err _ _ failed;
+  tally = IfOk-from_err _ _ failed;
+}
+
+pub returns-clause-slots : goal.returns-clause-slots
+returns-clause-slots g c = c.loop-number.invariant.slots
+
+pub returns-clause-filled : goal.returns-clause-filled
+returns-clause-filled g c = λ x lt more.
+    all_entered x _ c.loop-number.done.items (sym c.loop-number.done.ok.0 ∙ c.in_default.ensures.cases.0) (c.loop-number.invariant.entered x lt more)
