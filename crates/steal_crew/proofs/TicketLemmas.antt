@@ -1,13 +1,11 @@
 -- The seats that a source takes back, one by one.
-use Rattle.std.proofs.Common.{◌≡◌, ℕ, zero, suc, ◌+◌, ◌-◌, ◌<◌, ◌≤◌, Bool, true, false, nat_lt, cond, eqb, List, [], ◌∷◌, ◌++◌, length, All, sym, refl, ap, ◌∙◌, subst, arith, remove, slice_index_or, min}
-use Rattle.std.proofs.lemmas.Bool.Decides.{nat_tests}
+use Rattle.std.proofs.Common.{◌≡◌, ℕ, zero, suc, ◌+◌, ◌-◌, ◌<◌, ◌≤◌, Bool, true, false, cond, eqb, List, [], ◌∷◌, ◌++◌, length, All, sym, refl, ap, ◌∙◌, subst, arith, remove, slice_index_or, min}
 use Rattle.std.proofs.lemmas.List.Elements.{All-push}
-use Rattle.std.specs.Prelude.{MatchBool}
 use Rattle.atomic_table.specs.declared.shared.Seat.{Seat}
 use Rattle.steal_crew.specs.declared.tickets.rules.SeatView.{SeatView}
 use Rattle.steal_crew.specs.declared.tickets.seats.TicketSeat.{TicketSeat}
 use Rattle.crew_machine.specs.Counts.{total, times, once_below}
-use Rattle.steal_crew.specs.NumberSource.{seat_view_with, IsDraw, IsLook}
+use Rattle.steal_crew.specs.NumberSource.{seat_view_with, IsLook}
 use Rattle.steal_crew.specs.Tickets.{Source, seat_source, drawn, is_out, IsFresh}
 use Rattle.crew_machine.proofs.CountLemmas.{total-append}
 use Rattle.atomic_table.specs.Table.{Me, step}
@@ -117,22 +115,6 @@ one_split limit seats n m numbers was now before split more = let fewer : (seats
     split
     ∙ ap (λ (k : Known). (seat_view_with k.0.limit k.0.seats (k.0.parts - 1) k.0.marks k.0.drawn, k.1)) before
     ∙ ap (λ (parts : ℕ). (seat_view_with limit seats parts 0 numbers, [])) fewer
-
--- the first draw of all finds 0
-pub first_drawn : (limit seats found : ℕ) (was now : Known) → 0 < limit → was ≡ (seat_view_with limit seats seats 0 [], []) → IsDraw (step 0 0 0 0 none) was found now
-    → now ≡ (seat_view_with limit seats seats 0 (0 ∷ []), [])
-first_drawn limit seats found was now some is draw =
-    let view : was.0 ≡ seat_view_with limit seats seats 0 [] = ap (λ (k : Known). k.0) is in
-    let low : was.0.limit ≡ limit = ap (λ (v : SeatView). v.limit) view in
-    let zero : found ≡ 0 = draw.1 (ap (λ (v : SeatView). v.parts) view ∙ sym (ap (λ (v : SeatView). v.seats) view)) (ap (λ (v : SeatView). v.drawn) view) (omega arith) in
-    let below : nat_lt found was.0.limit ≡ true = grind (arith, nat_tests) in
-    let put = subst (λ (b : Bool). MatchBool b
-    ((now.0 ≡ seat_view_with was.0.limit was.0.seats was.0.parts was.0.marks (was.0.drawn ++ found ∷ [])) × All (λ x. x < found) was.0.drawn)
-    (now.0 ≡ seat_view_with was.0.limit was.0.seats was.0.parts 1 was.0.drawn)) below draw.2 in
-    let now_view = put.0 ∙ ap (λ (v : SeatView). seat_view_with v.limit v.seats v.parts v.marks (v.drawn ++ found ∷ [])) view
-    ∙ ap (λ (n : ℕ). seat_view_with limit seats seats 0 (n ∷ [])) zero in
-    let free = draw.0 ∙ ap (λ (k : Known). k.1) is in
-    λ i. (now_view i, free i)
 
 -- a seat more by which nothing was drawn
 pub fresh_more : (source : Source) (was now : List TicketSeat) (s : TicketSeat) (parts marked : ℕ) → All (IsFresh source) was → now ≡ was ++ s ∷ [] → s.seat.table_id ≡ source.0

@@ -1,10 +1,9 @@
 use Rattle.std.proofs.Common.{◌≡◌, rules, arith, ℕ, [], ◌∷◌, ap, refl, sym, subst, ◌∙◌, ◌+◌, ◌-◌, All, vec_len}
-use Rattle.std.proofs.lemmas.List.Elements.{All-nil}
 use Rattle.std.proofs.lemmas.Result.{IfOk-from_err}
 use Rattle.steal_crew.specs.NumberSource.{seat_view_with}
-use Rattle.steal_crew.specs.Tickets.{Source, IsFresh}
+use Rattle.steal_crew.specs.Tickets.{IsFresh}
 use Rattle.steal_crew.proofs.NumberSourceLemmas.{splits, draws}
-use Rattle.steal_crew.proofs.TicketLemmas.{none_split, one_split, first_drawn, fresh_more}
+use Rattle.steal_crew.proofs.TicketLemmas.{one_split, fresh_more}
 use Rattle.steal_crew.proofs.tickets.seats.Tickets.begun.Goals as goal
 
 pub returns-in_err-list : goal.returns-in_err-list
@@ -30,20 +29,6 @@ fetch_add-requires c = let t = c.in_ok-table.ensures in (
   draws _ _ _ _ (let p = ap (λ m. m.0.parts) t.4 in let q = ap (λ k. k.1) t.5 in search rules)
       (ap (λ m. m.0.marks) t.4),
 )
-
-pub loop-init : goal.loop-init
-loop-init c =
-    let made = c.in_ok-table.ensures in
-    let empty = c.in_ok-list.ensures in
-    let source : Source = (c.in_ok-table.table.shared.table_id, c.args.limit, c.args.seats) in
-    let first = made.4 ∙ (λ i. (seat_view_with (c.from-2.ensures i) (c.from-3.ensures i) (c.from-3.ensures i) 0 [], [])) in
-    record {
-      fresh = subst (All (IsFresh source)) (sym empty.items) (All-nil (IsFresh source));
-      count = ap (λ (n : ℕ). n + 1) empty.len;
-      room = refl;
-      same = c.fetch_add.ensures.0 ∙ made.2;
-      first = first_drawn c.args.limit c.args.seats _ _ _ c.requires.limit first c.fetch_add.ensures.2 ∙ none_split c.args.limit c.args.seats _ _ _ (0 ∷ []) refl refl empty.len;
-    }
 
 pub split_seat-seat-requires : goal.split_seat-seat-requires
 split_seat-seat-requires c = let me = c.loop.invariant.first in
