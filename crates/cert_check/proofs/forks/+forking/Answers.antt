@@ -1,5 +1,5 @@
-use Rattle.std.proofs.Common.{arith, refl, sym, subst}
-use Rattle.std.proofs.lemmas.Result.{IfOk-weaker}
+use Rattle.std.proofs.Common.{arith, IfOk, refl, sym, subst}
+use Rattle.std.proofs.lemmas.Result.{IfOk-from_err, IfOk-weaker}
 use Rattle.std.specs.Option.{option_or}
 use Rattle.match_puzzle.specs.Puzzle.{Task}
 use Rattle.cert_tree.specs.Heads.{first}
@@ -95,3 +95,22 @@ walk_halves-returns g t c =
     let right_told = subst (λ (p : Part). TellsOfPart p y) right.shows right.says.met in
     subst (TellsOfPart c.args.part.now) {x = option_or x y} (sym {b = option_or x y} is) (c.halves.ensures.both x y left_told right_told))
     c.at_once.ensures
+
+pub forked_walk-returns-in_default-clause-tells : goal.forked_walk-returns-in_default-clause-tells
+forked_walk-returns-in_default-clause-tells g t c = c.plain_walk.ensures.tells
+
+pub forked_walk-returns-in_default-clause-restored : goal.forked_walk-returns-in_default-clause-restored
+forked_walk-returns-in_default-clause-restored g t c = c.plain_walk.ensures.restored
+
+pub forked_walk-returns-clause-tells : goal.forked_walk-returns-clause-tells
+forked_walk-returns-clause-tells g t c =
+    subst (λ tree. IfOk c.forked_branch.result (Tells c.args.setting.now tree c.args.partial.now.placed)) (sym c.in-Some.ensures.tree) c.forked_branch.ensures
+
+pub forked_walk-returns-clause-restored : goal.forked_walk-returns-clause-restored
+forked_walk-returns-clause-restored g t c = IfOk-weaker c.forked_branch.result _ _ (λ _ _ _. refl) c.forked_branch.ensures
+
+pub walk_part-returns-in_err-own : goal.walk_part-returns-in_err-own
+walk_part-returns-in_err-own g t c = IfOk-from_err _ _ c.from_residual.ensures.0
+
+pub walk_children-returns-in_err-fault : goal.walk_children-returns-in_err-fault
+walk_children-returns-in_err-fault g t c = IfOk-from_err _ _ c.from_residual.ensures.0
