@@ -1,4 +1,5 @@
-use Rattle.std.proofs.Common.{◌≡◌, ◌<◌, ◌≤◌, ◌+◌, ◌-◌, ℕ, suc, None, MatchBool, ◌≢◌, arith, ap, sym, ◌∙◌, refl, subst}
+use Rattle.std.proofs.Common.{◌≡◌, ◌<◌, ◌≤◌, ◌+◌, ◌-◌, ℕ, suc, IfOk, None, MatchBool, ◌≢◌, arith, ap, sym, ◌∙◌, refl, subst}
+use Rattle.std.proofs.lemmas.Result.{IfOk-from_err}
 use Rattle.match_puzzle.specs.Puzzle.{Task}
 use Rattle.match_puzzle.specs.Prefix.{Layout}
 use Rattle.cert_tree.specs.Tree.{branch, count}
@@ -110,3 +111,44 @@ walk_branch-loop-number-preserved t c =
       past = ap (past (n - (i + 1))) gone ∙ sym (past_first (n - i) (n - (i + 1)) l.trees fewer l.invariant.counted) ∙ l.invariant.past;
       counted = subst (λ trees. n - (i + 1) ≤ count trees) (sym gone) (count_first (n - i) (n - (i + 1)) l.trees fewer l.invariant.counted);
     }
+
+pub walk-returns-in-Cell : goal.walk-returns-in-Cell
+walk-returns-in-Cell t c =
+    let walked = c.walk_branch in
+    let put = c.in-Cell.ensures.first in
+    record {
+      holds = walked.ensures.holds;
+      tells = subst (λ tree. IfOk walked.result (λ _. Tells c.args.setting.now tree c.args.partial.now.placed walked.new.fault)) (ap first put) walked.ensures.tells;
+      restored = walked.ensures.restored;
+      past = subst (λ rest. IfOk walked.result (λ _. walked.new.fault ≡ None → walked.new.trees ≡ rest)) (ap (past 1) put) walked.ensures.past;
+    }
+
+pub walk-returns-in-Tile : goal.walk-returns-in-Tile
+walk-returns-in-Tile t c =
+    let walked = c.walk_branch-in-Tile in
+    let put = c.in-Tile.ensures.first in
+    record {
+      holds = walked.ensures.holds;
+      tells = subst (λ tree. IfOk walked.result (λ _. Tells c.args.setting.now tree c.args.partial.now.placed walked.new.fault)) (ap first put) walked.ensures.tells;
+      restored = walked.ensures.restored;
+      past = subst (λ rest. IfOk walked.result (λ _. walked.new.fault ≡ None → walked.new.trees ≡ rest)) (ap (past 1) put) walked.ensures.past;
+    }
+
+pub walk_branch-returns-in_err-walk : goal.walk_branch-returns-in_err-walk
+walk_branch-returns-in_err-walk t c = let failed = c.from_residual.ensures.0 in record {
+  holds = IfOk-from_err _ _ failed;
+  tells = IfOk-from_err _ _ failed;
+  restored = IfOk-from_err _ _ failed;
+  past = IfOk-from_err _ _ failed;
+}
+
+pub walk_branch-returns-in_err-put_below : goal.walk_branch-returns-in_err-put_below
+walk_branch-returns-in_err-put_below t c = let failed = c.from_residual-in_err-put_below.ensures.0 in record {
+  holds = IfOk-from_err _ _ failed;
+  tells = IfOk-from_err _ _ failed;
+  restored = IfOk-from_err _ _ failed;
+  past = IfOk-from_err _ _ failed;
+}
+
+pub walk_branch-returns-clause-restored : goal.walk_branch-returns-clause-restored
+walk_branch-returns-clause-restored t c = λ _. c.loop-number.invariant.partial
