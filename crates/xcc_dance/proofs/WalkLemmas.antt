@@ -1,5 +1,5 @@
 -- How what is found grows from node to node.
-use Rattle.std.proofs.Common.{◌≡◌, ◌⊎◌, ◌≢◌, ◌<◌, ◌≤◌, ◌+◌, ◌*◌, ◌++◌, ◌∷◌, [], ℕ, List, Some, length, length-append, Contains, slice_get, append_assoc, Result, Ok, Err, Bool, true, false, IfOk, MatchBool, arith, ap, sym, ◌∙◌, subst, inl, inr, ⊎_elim}
+use Rattle.std.proofs.Common.{◌≡◌, ◌⊎◌, ◌≢◌, ◌<◌, ◌≤◌, ◌+◌, ◌*◌, ◌++◌, ◌∷◌, [], ℕ, List, Option, Some, MatchOption, length, length-append, Contains, slice_get, append_assoc, Result, Ok, Err, Bool, true, false, IfOk, MatchBool, arith, ap, sym, ◌∙◌, subst, inl, inr, ⊎_elim}
 use Rattle.std.proofs.lemmas.List.Elements.{Contains-push_cases}
 use Rattle.match_limits.specs.declared.TheConstants.{MOST_CELLS, MOST_CHILDREN}
 use Rattle.match_puzzle.specs.declared.placements.Placement.{Placement}
@@ -14,15 +14,18 @@ use Rattle.cert_tree.specs.declared.heads.Head.{Head}
 use Rattle.cert_tree.proofs.HeadLemmas.{count-join}
 use Rattle.std.specs.declared.alloc.AllocError.{AllocError}
 use Rattle.xcc_dance.specs.Clashes.{IsOpen, IsOpenAt}
-use Rattle.xcc_dance.specs.Chosen.{Selection, IsSelection, HasSize, with_option}
-use Rattle.xcc_dance.specs.Found.{IsFoundFrom}
+use Rattle.xcc_dance.specs.Chosen.{Selection, IsSelection, IsUncovered, AreAllCovered, HasSize, with_option}
+use Rattle.xcc_dance.specs.Found.{IsCitation, IsFoundBelow, IsFoundFrom, branch_count}
+use Rattle.xcc_dance.specs.Outcome.{IsCiteWithin}
+use Rattle.xcc_dance.specs.declared.cites.Cite.{Cite}
+use Rattle.xcc_dance.specs.declared.cites.Cite.TheVariants as cites
 use Rattle.xcc_dance.specs.Progress.{GoesOn, IsTreeOf, AreTreesOf, levels_below}
 use Rattle.xcc_dance.specs.declared.progress.Progress.{Progress}
 use Rattle.xcc_dance.proofs.PartialLemmas.{one_more}
 use Rattle.xcc_dance.proofs.RoomLemmas.{few_chosen}
 use Rattle.xcc_dance.proofs.SizeLemmas.{AreOpenBefore, below_one, size_same, few_below, few_sized}
 use Rattle.xcc_dance.proofs.GrowingLemmas.{with_last, heads_more, kept_push, total_more, all_up, all_more, found_before}
-use Rattle.xcc_dance.proofs.WithinLemmas.{found_within, dead_within, branch_within, within_more_trees}
+use Rattle.xcc_dance.proofs.WithinLemmas.{cited_within, found_within, dead_within, branch_within, within_more_trees}
 
 -- ---- heads behind heads
 
@@ -43,7 +46,50 @@ either_way (Ok true) f g w = f w
 either_way (Ok false) f g w = g w
 either_way (Err e) f g w = tt
 
+-- ---- citations
+
+cited_count : (cite : Cite) (tree : Tree) → IsCitation cite tree → branch_count tree ≡ 0
+cited_count (cites.Same lemma) tree is = ap branch_count is
+cited_count (cites.Image lemma symmetry) tree is = ap branch_count is
+
+cited_found : (n : ℕ) (cite : Cite) (tree : Tree) → IsCitation cite tree → IsFoundBelow n tree
+cited_found n (cites.Same lemma) tree is = subst (IsFoundBelow n) (sym is) tt
+cited_found n (cites.Image lemma symmetry) tree is = subst (IsFoundBelow n) (sym is) tt
+
+-- The item that a rule took is uncovered, also where the choices are seen again.
+pub taken_item : (here there : Selection) (took : Option ℕ) (item : ℕ) → there ≡ here → took ≡ Some item → MatchOption took (AreAllCovered (cover_of here.compiled) here.chosen) (IsUncovered (cover_of here.compiled) here.chosen) → IsUncovered (cover_of there.compiled) there.chosen item
+taken_item here there took item same is uncovered =
+    subst (λ (v : Selection). IsUncovered (cover_of v.compiled) v.chosen item) (sym same)
+    (subst (λ o. MatchOption o (AreAllCovered (cover_of here.compiled) here.chosen) (IsUncovered (cover_of here.compiled) here.chosen)) is uncovered)
+
+-- The option that comes next is open, also where the choices are seen again.
+pub taken_option : (here there : Selection) (item : ℕ) (next : Option ℕ) (option : ℕ) → there ≡ here → next ≡ Some option → MatchOption next (Unit {0}) (IsOpenAt (cover_of here.compiled) here.chosen item) → IsOpenAt (cover_of there.compiled) there.chosen item option
+taken_option here there item next option same is open_at =
+    subst (λ (v : Selection). IsOpenAt (cover_of v.compiled) v.chosen item option) (sym same)
+    (subst (λ o. MatchOption o (Unit {0}) (IsOpenAt (cover_of here.compiled) here.chosen item)) is open_at)
+
+-- one option is chosen at least where one more is
+pub some_chosen : (here there : Selection) (option : ℕ) → there ≡ with_option here option → 0 < length there.chosen
+some_chosen here there option e =
+    let long = ap (λ (v : Selection). length v.chosen) e ∙ length-append here.chosen (option ∷ []) in
+    omega (arith, long)
+
+-- the fuel did
+pub then_done : (P Q : Type 0) (done : Bool) → done ≡ true → MatchBool done P Q → P
+then_done P Q done is w = subst (λ b. MatchBool b P Q) is w
+
 module _ (start : Selection) where
+  -- what is found stays, and so does the fuel
+  pub goes_nowhere : (before after : Progress) → after.found.items ≡ before.found.items → after.fuel ≡ before.fuel → GoesOn start before after
+  goes_nowhere before after items fuel =
+      let long = ap length items in
+      record {
+        fuel = omega (arith, fuel);
+        more = omega (arith, long);
+        kept = λ n a at. subst (λ xs. slice_get xs n ≡ Some a) (sym items) at;
+        found = λ a c. inl (subst (λ xs. Contains xs a) items c);
+      }
+
   -- what goes on with one more option goes on without it
   pub goes_further : (chosen : Selection) (option : ℕ) (first before after : Progress) → chosen ≡ with_option start option → GoesOn start first before → GoesOn chosen before after → GoesOn start first after
   goes_further chosen option first before after e old new = record {
@@ -104,6 +150,18 @@ module _ (start : Selection) where
   dead_tree before after cells number item items fuel few lt is =
       let long = ap length items in
       record { spent = omega (arith, fuel); numbers = tt; within = λ few'. dead_within (levels_below start) cells number item few lt is; few = omega (arith, long, fuel) }
+
+  -- the node of a citation, which finds nothing
+  pub cited_tree : (before after : Progress) (cite : Cite) (tree : Tree) → IsCitation cite tree → IsCiteWithin cite → after.found.items ≡ before.found.items → after.fuel ≡ before.fuel → IsTreeOf start before after tree
+  cited_tree before after cite tree is within items fuel =
+      let long = ap length items in
+      let no_branch = cited_count cite tree is in
+      record {
+        spent = omega (arith, no_branch, fuel);
+        numbers = cited_found (length after.found.items) cite tree is;
+        within = λ few. cited_within (levels_below start) cite tree is within;
+        few = omega (arith, long, fuel);
+      }
 
   -- the node of a branch
   pub branch_tree : (first before after : Progress) (cells number size : ℕ) (item : Item) (children : Forest) → IsSelection start.compiled start.chosen

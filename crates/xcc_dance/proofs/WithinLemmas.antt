@@ -6,6 +6,10 @@ use Rattle.match_puzzle.specs.declared.items.Item.TheVariants.{Cell, Tile}
 use Rattle.cert_tree.specs.Tree.{Tree, Forest, branch, dead, found, same, image, none, more, count}
 use Rattle.cert_tree.specs.Limits.{IsItemWithin, IsTreeWithin, AreTreesWithin}
 use Rattle.match_puzzle.specs.Fitting.{IsNumberOf}
+use Rattle.xcc_dance.specs.Found.{IsCitation}
+use Rattle.xcc_dance.specs.Outcome.{IsCiteWithin}
+use Rattle.xcc_dance.specs.declared.cites.Cite.{Cite}
+use Rattle.xcc_dance.specs.declared.cites.Cite.TheVariants as cites
 use Rattle.xcc_dance.proofs.GrowingLemmas.{with_last}
 
 one_level : (levels : ℕ) (tree : Tree) → IsTreeWithin MOST_CELLS (suc levels) tree → IsTreeWithin MOST_CELLS (levels + 1) tree
@@ -23,6 +27,13 @@ dead_within levels cells number item few lt is = one_level levels (dead item) (i
 
 pub branch_within : (levels cells number : ℕ) (item : Item) (children : Forest) → cells ≤ MOST_CELLS → number < 2 * cells → 1 ≤ count children → count children ≤ MOST_CHILDREN → AreTreesWithin MOST_CELLS levels children → IsNumberOf cells number item → IsTreeWithin MOST_CELLS (levels + 1) (branch item children)
 branch_within levels cells number item children few lt some most all is = one_level levels (branch item children) (item_within cells number item few lt is, some, most, all)
+
+pub cited_within : (levels : ℕ) (cite : Cite) (tree : Tree) → IsCitation cite tree → IsCiteWithin cite → IsTreeWithin MOST_CELLS (levels + 1) tree
+cited_within levels (cites.Same lemma) tree is within = subst (IsTreeWithin MOST_CELLS (levels + 1)) (sym is) (one_level levels (same lemma) (omega (arith, within)))
+cited_within levels (cites.Image lemma symmetry) tree is within =
+    let l = within.0 in
+    let s = within.1 in
+    subst (IsTreeWithin MOST_CELLS (levels + 1)) (sym is) (one_level levels (image lemma symmetry) (omega (arith, l), omega (arith, s)))
 
 pub within_more_trees : (levels : ℕ) (trees : Forest) (tree : Tree) → AreTreesWithin MOST_CELLS levels trees → IsTreeWithin MOST_CELLS levels tree → AreTreesWithin MOST_CELLS levels (with_last trees tree)
 within_more_trees levels none tree all one = (one, tt)

@@ -1,4 +1,4 @@
-use Rattle.std.proofs.Common.{◌≡◌, ◌<◌, ◌≤◌, ◌+◌, ◌-◌, ◌*◌, ◌^◌, ◌∷◌, ◌++◌, [], List, Some, None, IfSome, inl, length, length-append, MatchOption, arith, refl, MatchBool, append-nil, ap, sym, ◌∙◌, subst}
+use Rattle.std.proofs.Common.{◌≡◌, ◌<◌, ◌≤◌, ◌+◌, ◌-◌, ◌*◌, ◌^◌, ◌∷◌, ◌++◌, [], List, Some, None, IfSome, inl, inr, length, length-append, MatchOption, arith, refl, MatchBool, append-nil, ap, sym, ◌∙◌, subst}
 use Rattle.match_limits.specs.declared.TheConstants.{MOST_CELLS, MOST_CHILDREN}
 use Rattle.match_puzzle.specs.declared.placements.Pair.{Pair}
 use Rattle.match_puzzle.specs.Fitting.{IsNumberOf}
@@ -6,17 +6,19 @@ use Rattle.match_board.specs.Board.{cell_count}
 use Rattle.xcc_form.specs.Options.{Compiled, cover_of}
 use Rattle.xcc_form.specs.Correspondence.{IsSolutionOf}
 use Rattle.cert_tree.specs.Heads.{branch_head}
+use Rattle.cert_tree.specs.declared.heads.Head.{Head}
 use Rattle.cert_tree.specs.Tree.{branch, dead, found, none, count}
 use Rattle.xcc_dance.specs.Clashes.{IsOpenAt}
 use Rattle.xcc_dance.specs.Chosen.{Selection, IsSelection, IsUncovered, AreAllCovered, HasSize, IsNext, IsLast, with_option}
 use Rattle.match_fits.specs.Placing.{FitInTurn}
+use Rattle.xcc_dance.specs.Outcome.{IsCiteWithin}
 use Rattle.xcc_dance.specs.Progress.{GoesOn, IsTreeOf, AreTreesOf, PutsTree, PutsTrees}
 use Rattle.xcc_dance.specs.SearchTree.{IsChild, IsSearchTree, AreBranchesOf}
 use Rattle.xcc_dance.specs.Unfinished.{IsNotCited, IsUnfinished, AreUnfinished}
 use Rattle.xcc_dance.proofs.SizeLemmas.{open_first, open_next, open_all, size_same}
 use Rattle.xcc_dance.proofs.SearchTreeLemmas.{AreBranchesBefore, children_stay, children_count, child_more, branches_count, found_searched, dead_searched, branch_searched, wanted_here, begun_there, next_begun}
 use Rattle.xcc_dance.proofs.GrowingLemmas.{next_open, with_last}
-use Rattle.xcc_dance.proofs.WalkLemmas.{branch_heads, more_heads, either_way, goes_further, goes_spent, goes_after, found_further, leaf_tree, dead_tree, branch_tree, no_trees, one_more_tree, room_for_one}
+use Rattle.xcc_dance.proofs.WalkLemmas.{taken_item, taken_option, some_chosen, then_done, goes_nowhere, cited_tree, branch_heads, more_heads, either_way, goes_further, goes_spent, goes_after, found_further, leaf_tree, dead_tree, branch_tree, no_trees, one_more_tree, room_for_one}
 use Rattle.xcc_dance.proofs.searching.+walk.Goals as goal
 
 pub walk-arrangement-requires : goal.walk-arrangement-requires
@@ -349,3 +351,143 @@ walk_options-returns-in_err-child-clause-goes_on g t c =
 pub walk_options-returns-then-not-branch-clause-goes_on : goal.walk_options-returns-then-not-branch-clause-goes_on
 walk_options-returns-then-not-branch-clause-goes_on g t c =
     goes_further (g.E.OpenOptions.selection c.args.path.now) (g.E.OpenOptions.selection c.choose.new.self) c.in-Some.option c.args.progress.now c.loop-next.progress c.child.new.progress (c.in_ok-choose.ensures.chosen ∙ ap (λ v. with_option (g.E.OpenOptions.selection v) c.in-Some.option) c.loop-next.invariant.path) c.loop-next.invariant.goes_on c.child.ensures.goes_on
+
+-- ---- what a rule took
+
+pub walk-item_numbered-about-requires : goal.walk-item_numbered-about-requires
+walk-item_numbered-about-requires g t c =
+    taken_item (g.E.OpenOptions.selection c.args.path.now) (g.E.OpenOptions.selection c.choose_item.new.self) _ c.in-Some.item (ap g.E.OpenOptions.selection c.choose_item.ensures.same) c.in-Some.is c.in_ok-item.ensures.uncovered
+
+pub walk-size-size-requires : goal.walk-size-size-requires
+walk-size-size-requires g t c =
+    taken_item (g.E.OpenOptions.selection c.args.path.now) (g.E.OpenOptions.selection c.engine.result.now) _ c.in-Some.item (ap g.E.OpenOptions.selection (c.engine.ensures.same ∙ c.choose_item.ensures.same)) c.in-Some.is c.in_ok-item.ensures.uncovered
+
+pub walk-put_found-requires : goal.walk-put_found-requires
+walk-put_found-requires g t c = let room = c.requires.room in omega (arith, room)
+
+pub walk-put_branch-requires : goal.walk-put_branch-requires
+walk-put_branch-requires g t c = let some = c.if-progress-eq0.false in omega (arith, some)
+
+-- ---- the options of an item
+
+pub walk_options-next_option-next-requires-clause-item : goal.walk_options-next_option-next-requires-clause-item
+walk_options-next_option-next-requires-clause-item g t c =
+    subst (λ (v : Selection). IsUncovered (cover_of v.compiled) v.chosen c.args.item) (sym (ap g.E.OpenOptions.selection c.engine.ensures.same)) c.requires.uncovered
+
+pub walk_options-choose-requires : goal.walk_options-choose-requires
+walk_options-choose-requires g t c =
+    let i = c.loop-next.invariant in
+    (taken_option (g.E.OpenOptions.selection c.args.path.now) (g.E.OpenOptions.selection c.loop-next.path) c.args.item _ c.in-Some.option (ap g.E.OpenOptions.selection i.path) c.in-Some.is i.next).open_option
+
+pub walk_options-undo-requires : goal.walk_options-undo-requires
+walk_options-undo-requires g t c =
+    let done = then_done _ _ _ c.if-not-branch.false c.in_ok-child.ensures.tree in
+    some_chosen (g.E.OpenOptions.selection c.loop-next.path) (g.E.OpenOptions.selection c.child.new.path) c.in-Some.option (ap g.E.OpenOptions.selection done.0 ∙ c.in_ok-choose.ensures.chosen)
+
+pub walk_options-next_option-next-requires-in-Some-clause-item :
+    goal.walk_options-next_option-next-requires-in-Some-clause-item
+walk_options-next_option-next-requires-in-Some-clause-item g t c =
+    let done = then_done _ _ _ c.if-not-branch.false c.in_ok-child.ensures.tree in
+    let back = c.undo.ensures ∙ ap g.E.OpenOptions.taken_back done.0 ∙ c.in_ok-choose.ensures.before ∙ c.loop-next.invariant.path in
+    subst (λ (v : Selection). IsUncovered (cover_of v.compiled) v.chosen c.args.item) (sym (ap g.E.OpenOptions.selection (c.engine-in-Some.ensures.same ∙ back))) c.requires.uncovered
+
+pub walk_options-next_option-next-requires-in-Some-clause-after :
+    goal.walk_options-next_option-next-requires-in-Some-clause-after
+walk_options-next_option-next-requires-in-Some-clause-after g t c =
+    let i = c.loop-next.invariant in
+    let done = then_done _ _ _ c.if-not-branch.false c.in_ok-child.ensures.tree in
+    let back = c.undo.ensures ∙ ap g.E.OpenOptions.taken_back done.0 ∙ c.in_ok-choose.ensures.before ∙ i.path in
+    taken_option (g.E.OpenOptions.selection c.args.path.now) (g.E.OpenOptions.selection c.engine-in-Some.result.now) c.args.item _ c.in-Some.option (ap g.E.OpenOptions.selection (c.engine-in-Some.ensures.same ∙ back)) c.in-Some.is i.next
+
+pub walk_options-returns-clause-compiled : goal.walk_options-returns-clause-compiled
+walk_options-returns-clause-compiled g t c = ap (λ e. (g.E.OpenOptions.selection e).compiled) c.loop-next.invariant.path
+
+pub walk_options-returns-clause-moved : goal.walk_options-returns-clause-moved
+walk_options-returns-clause-moved g t c = c.loop-next.invariant.moved
+
+pub walk_options-returns-clause-goes_on : goal.walk_options-returns-clause-goes_on
+walk_options-returns-clause-goes_on g t c = c.loop-next.invariant.goes_on
+
+pub walk_options-returns-in_err-choose-clause-compiled : goal.walk_options-returns-in_err-choose-clause-compiled
+walk_options-returns-in_err-choose-clause-compiled g t c = ap (λ e. (g.E.OpenOptions.selection e).compiled) (c.in_err-choose.ensures.refused ∙ c.loop-next.invariant.path)
+
+pub walk_options-returns-in_err-choose-clause-moved : goal.walk_options-returns-in_err-choose-clause-moved
+walk_options-returns-in_err-choose-clause-moved g t c = c.loop-next.invariant.moved
+
+pub walk_options-returns-in_err-choose-clause-goes_on : goal.walk_options-returns-in_err-choose-clause-goes_on
+walk_options-returns-in_err-choose-clause-goes_on g t c = c.loop-next.invariant.goes_on
+
+pub walk_options-returns-in_err-child-clause-compiled : goal.walk_options-returns-in_err-child-clause-compiled
+walk_options-returns-in_err-child-clause-compiled g t c = c.child.ensures.compiled ∙ ap (λ (v : Selection). v.compiled) c.in_ok-choose.ensures.chosen ∙ ap (λ e. (g.E.OpenOptions.selection e).compiled) c.loop-next.invariant.path
+
+pub walk_options-returns-in_err-child-clause-moved : goal.walk_options-returns-in_err-child-clause-moved
+walk_options-returns-in_err-child-clause-moved g t c = g.met.C.Cites.goes_on c.args.cites.now c.loop-next.cites c.child.new.cites c.loop-next.invariant.moved c.child.ensures.moved
+
+pub walk_options-returns-then-not-branch-clause-compiled : goal.walk_options-returns-then-not-branch-clause-compiled
+walk_options-returns-then-not-branch-clause-compiled g t c = c.child.ensures.compiled ∙ ap (λ (v : Selection). v.compiled) c.in_ok-choose.ensures.chosen ∙ ap (λ e. (g.E.OpenOptions.selection e).compiled) c.loop-next.invariant.path
+
+pub walk_options-returns-then-not-branch-clause-moved : goal.walk_options-returns-then-not-branch-clause-moved
+walk_options-returns-then-not-branch-clause-moved g t c = g.met.C.Cites.goes_on c.args.cites.now c.loop-next.cites c.child.new.cites c.loop-next.invariant.moved c.child.ensures.moved
+
+-- ---- a child
+
+pub child-cite-requires : goal.child-cite-requires
+child-cite-requires g t c = c.requires.takes c.pairs.result.now c.pairs.ensures.fit
+
+pub child-walk-requires : goal.child-walk-requires
+child-walk-requires g t c =
+    let room = c.requires.room in
+    let takes : (pairs : List Pair) → FitInTurn (g.E.OpenOptions.selection c.args.path.now).compiled.puzzle pairs → g.C.Cites.takes c.cite.new.self pairs = λ pairs fit. g.met.C.Cites.takes_still c.args.cites.now c.cite.new.self pairs c.in_ok-cite.ensures.moved (c.requires.takes pairs fit) in
+    λ κs below. (omega (arith, c.decreases), (below.0, (below.1.0, (below.1.1, (takes, room)))))
+
+pub child-returns-in_ok-push-in-Some-clause-goes_on : goal.child-returns-in_ok-push-in-Some-clause-goes_on
+child-returns-in_ok-push-in-Some-clause-goes_on g t c = goes_nowhere (g.E.OpenOptions.selection c.args.path.now) c.args.progress.now _ refl refl
+
+pub child-returns-in_ok-push-in-Some-clause-tree : goal.child-returns-in_ok-push-in-Some-clause-tree
+child-returns-in_ok-push-in-Some-clause-tree g t c =
+    let s = g.E.OpenOptions.selection c.args.path.now in
+    let heads = c.args.progress.now.heads.items in
+    let cite = c.in-Some.cite in
+    let cited = c.citation.ensures in
+    let within = subst (λ o. IfSome o IsCiteWithin) c.in-Some.is c.in_ok-cite.ensures.within in
+    let answered = subst (g.C.Cites.answers c.cite.new.self c.pairs.result.now) c.in-Some.is c.in_ok-cite.ensures.answered in (
+      refl,
+      (
+        cited.0,
+        c.in_ok-push-in-Some.ensures.items ∙ ap (λ (hs : List Head). heads ++ hs) (sym cited.2),
+        (cited_tree s c.args.progress.now _ cite cited.0 cited.1 within refl refl, (c.pairs.result.now, c.pairs.ensures.pairs, inl (cite, answered, cited.1))),
+      ),
+    )
+
+pub child-returns-in_err-push-in-Some-clause-goes_on : goal.child-returns-in_err-push-in-Some-clause-goes_on
+child-returns-in_err-push-in-Some-clause-goes_on g t c = goes_nowhere (g.E.OpenOptions.selection c.args.path.now) c.args.progress.now _ refl refl
+
+pub child-returns-in_err-cite-clause-goes_on : goal.child-returns-in_err-cite-clause-goes_on
+child-returns-in_err-cite-clause-goes_on g t c = goes_nowhere (g.E.OpenOptions.selection c.args.path.now) c.args.progress.now _ refl refl
+
+pub child-returns-in-None-clause-tree : goal.child-returns-in-None-clause-tree
+child-returns-in-None-clause-tree g t c =
+    let s = g.E.OpenOptions.selection c.args.path.now in
+    let pairs = c.pairs.result.now in
+    let before = c.args.progress.now in
+    let after = c.walk.new.progress in
+    let found = after.found.items in
+    let picks = g.R.Chooses.picks c.args.rule.now in
+    let answers = g.C.Cites.answers c.walk.new.cites in
+    let none = g.met.C.Cites.answers_still c.cite.new.self c.walk.new.cites pairs None c.walk.ensures.moved (subst (g.C.Cites.answers c.cite.new.self pairs) c.in-None.is c.in_ok-cite.ensures.answered) in
+    let not_cited : IsNotCited answers s = (pairs, c.pairs.ensures.pairs, none) in
+    let yes : (c.walk.new.path ≡ c.args.path.now) × PutsTree before after (λ t. IsTreeOf s before after t × IsSearchTree picks answers found s t)
+    → (c.walk.new.path ≡ c.args.path.now) × PutsTree before after (λ t. IsTreeOf s before after t × IsChild picks answers found s t) = λ w.
+    (w.0, (w.1.0, w.1.1, (w.1.2.0, (pairs, c.pairs.ensures.pairs, inr (none, w.1.2.1))))) in
+    let no : (after.fuel ≡ 0) × IsUnfinished picks answers found s before.fuel → (after.fuel ≡ 0) × IsNotCited answers s × IsUnfinished picks answers found s before.fuel = λ w.
+    (w.0, not_cited, w.1) in
+    either_way c.walk.result yes no c.walk.ensures.tree
+
+pub child-returns-in-None-clause-compiled : goal.child-returns-in-None-clause-compiled
+child-returns-in-None-clause-compiled g t c = c.walk.ensures.compiled
+
+pub child-returns-in-None-clause-goes_on : goal.child-returns-in-None-clause-goes_on
+child-returns-in-None-clause-goes_on g t c = c.walk.ensures.goes_on
+
+pub child-returns-in-None-clause-moved : goal.child-returns-in-None-clause-moved
+child-returns-in-None-clause-moved g t c = g.met.C.Cites.goes_on c.args.cites.now c.cite.new.self c.walk.new.cites c.in_ok-cite.ensures.moved c.walk.ensures.moved

@@ -1,5 +1,5 @@
-use Rattle.std.proofs.Common.{◌≡◌, ◌+◌, Contains, ◌++◌, ◌-◌, MatchBool, arith, ap, sym, ◌∙◌, subst, ⊎_elim, refl}
-use Rattle.match_limits.specs.declared.TheConstants.{MOST_CELLS, MOST_LEVELS}
+use Rattle.std.proofs.Common.{◌≡◌, ◌+◌, Contains, ◌++◌, ◌-◌, MatchBool, arith, ap, sym, ◌∙◌, subst, ⊎_elim, inl, length, refl}
+use Rattle.match_limits.specs.declared.TheConstants.{MOST_LEVELS}
 use Rattle.match_limits.proofs.Listings.{contains_none}
 use Rattle.cert_tree.specs.Heads.{heads_of}
 use Rattle.cert_tree.specs.Tree.{Tree}
@@ -8,14 +8,15 @@ use Rattle.xcc_form.specs.Options.{Compiled}
 use Rattle.xcc_dance.specs.Chosen.{before_any}
 use Rattle.match_fits.specs.Placing.{FitInTurn}
 use Rattle.xcc_dance.specs.Placing.{IsArrangementWith}
-use Rattle.xcc_dance.specs.Outcome.{IsSearched, IsTreeFrom}
+use Rattle.xcc_dance.specs.Outcome.{IsSearched, IsTreeFrom, IsUnfinishedFrom}
 use Rattle.xcc_dance.specs.Progress.{IsTreeOf, PutsTree, levels_below}
 use Rattle.xcc_dance.specs.declared.progress.Progress.{Progress}
 use Rattle.xcc_dance.specs.SearchTree.{IsSearchTree}
 use Rattle.xcc_dance.specs.Unfinished.{IsUnfinished}
 use Rattle.xcc_dance.proofs.PlacingLemmas.{found_extends}
 use Rattle.xcc_dance.proofs.WithinLemmas.{deeper}
-use Rattle.xcc_dance.proofs.EngineLemmas.{same_engine}
+use Rattle.xcc_dance.proofs.EngineLemmas.{same_engine, not_failed, ok_no_err, else_spent, spent_within}
+use Rattle.xcc_dance.proofs.WalkLemmas.{then_done}
 use Rattle.xcc_dance.proofs.searches.SearchOver.run_by.Goals as goal
 
 pub choose_all-requires-clause-fit : goal.choose_all-requires-clause-fit
@@ -85,3 +86,72 @@ returns-clause-outcome g c =
       engine,
       refl,
     )
+
+pub choose_all-requires-clause-empty : goal.choose_all-requires-clause-empty
+choose_all-requires-clause-empty g c = c.self.invariant c.if-self.false
+
+pub walk-walked-requires-clause-room : goal.walk-walked-requires-clause-room
+walk-walked-requires-clause-room g c =
+    let none = ap length c.new.ensures.items in
+    let most = c.requires.fuel in
+    omega (arith, none, most)
+
+pub overflow_sub-self : goal.overflow_sub-self
+overflow_sub-self g c = let less = c.walk-walked.ensures.goes_on.fuel in omega (arith, less)
+
+pub returns-in_err-choose_all-clause-compiled : goal.returns-in_err-choose_all-clause-compiled
+returns-in_err-choose_all-clause-compiled g c = c.choose_all.ensures.compiled ∙ ap (λ e. (g.E.OpenOptions.selection e).compiled) (same_engine c.self.view_is)
+
+pub returns-in_err-choose_all-clause-moved : goal.returns-in_err-choose_all-clause-moved
+returns-in_err-choose_all-clause-moved g c = g.met.C.Cites.stays c.args.cites.now
+
+pub returns-in_err-walked-clause-compiled : goal.returns-in_err-walked-clause-compiled
+returns-in_err-walked-clause-compiled g c = c.walk-walked.ensures.compiled ∙ c.choose_all.ensures.compiled ∙ ap (λ e. (g.E.OpenOptions.selection e).compiled) (same_engine c.self.view_is)
+
+pub returns-in_err-walked-clause-most : goal.returns-in_err-walked-clause-most
+returns-in_err-walked-clause-most g c = inl (spent_within c.args.fuel c.walk-walked.new.progress.fuel)
+
+pub returns-in_err-walked-clause-moved : goal.returns-in_err-walked-clause-moved
+returns-in_err-walked-clause-moved g c = c.walk-walked.ensures.moved
+
+pub returns-then-not-branch-clause-compiled : goal.returns-then-not-branch-clause-compiled
+returns-then-not-branch-clause-compiled g c = c.walk-walked.ensures.compiled ∙ c.choose_all.ensures.compiled ∙ ap (λ e. (g.E.OpenOptions.selection e).compiled) (same_engine c.self.view_is)
+
+pub returns-then-not-branch-clause-tree : goal.returns-then-not-branch-clause-tree
+returns-then-not-branch-clause-tree g c =
+    let s = g.E.OpenOptions.selection c.choose_all.new.self in
+    let picks = g.R.Chooses.picks c.args.rule.now in
+    let answers = g.C.Cites.answers c.walk-walked.new.cites in
+    let spent = else_spent _ _ _ c.if-not-branch.true c.in_ok-walked.ensures.tree in
+    let there : IsUnfinishedFrom picks answers s.compiled c.args.prefix.now c.args.fuel = (s.chosen, c.in_ok-choose_all.ensures.pairs, (c.walk-walked.new.progress.found.items, spent.1)) in
+    subst (λ (x : Compiled). IsUnfinishedFrom picks answers x c.args.prefix.now c.args.fuel) (sym c.walk-walked.ensures.compiled) there
+
+pub returns-then-not-branch-clause-most : goal.returns-then-not-branch-clause-most
+returns-then-not-branch-clause-most g c = inl (spent_within c.args.fuel c.walk-walked.new.progress.fuel)
+
+pub returns-then-not-branch-clause-failed : goal.returns-then-not-branch-clause-failed
+returns-then-not-branch-clause-failed g c = (λ h. absurd (ok_no_err _ _ h), λ e. absurd (not_failed c.self.view_is c.if-self.false e))
+
+pub returns-then-not-branch-clause-moved : goal.returns-then-not-branch-clause-moved
+returns-then-not-branch-clause-moved g c = c.walk-walked.ensures.moved
+
+pub invariant_of-self-2 : goal.invariant_of-self-2
+invariant_of-self-2 g c =
+    let done = then_done _ _ _ c.if-not-branch.false c.in_ok-walked.ensures.tree in
+    let back = c.undo_all.ensures ∙ ap (before_any g.E.OpenOptions.selection g.E.OpenOptions.taken_back) done.0 ∙ c.in_ok-choose_all.ensures.before in
+    λ e. ap (λ v. (g.E.OpenOptions.selection v).chosen) back ∙ c.self.invariant c.if-self.false
+
+pub returns-clause-compiled : goal.returns-clause-compiled
+returns-clause-compiled g c =
+    let done = then_done _ _ _ c.if-not-branch.false c.in_ok-walked.ensures.tree in
+    let back = c.undo_all.ensures ∙ ap (before_any g.E.OpenOptions.selection g.E.OpenOptions.taken_back) done.0 ∙ c.in_ok-choose_all.ensures.before in
+    ap (λ v. (g.E.OpenOptions.selection v).compiled) (back ∙ same_engine c.self.view_is)
+
+pub returns-clause-most : goal.returns-clause-most
+returns-clause-most g c = inl (spent_within c.args.fuel c.walk-walked.new.progress.fuel)
+
+pub returns-clause-failed : goal.returns-clause-failed
+returns-clause-failed g c = (λ h. absurd (ok_no_err _ _ h), λ e. absurd (not_failed c.self.view_is c.if-self.false e))
+
+pub returns-clause-moved : goal.returns-clause-moved
+returns-clause-moved g c = c.walk-walked.ensures.moved
