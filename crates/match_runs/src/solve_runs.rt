@@ -1,6 +1,7 @@
 //! Runs of the solver.
 
-ghost use Rattle.std.specs.Prelude.{◌≡◌, ◌≤◌, IfOk, length};
+ghost use Rattle.std.specs.Prelude.{◌≡◌, ◌≤◌, ℕ, List, IfOk, Ok, length};
+ghost use Rattle.match_text.specs.Puzzles.{PuzzleReads};
 ghost use Rattle.match_text.specs.ListSpelling.{IsListText, IsListWithin};
 ghost use Rattle.cert_text.specs.CertificateSpelling.{IsCertificateWithin};
 ghost use Rattle.cert_text.specs.Writing.{said_by};
@@ -133,8 +134,21 @@ fn make_products<R: Threads + Wait + Sync, T: SolveWatch + Sync>(
 ) -> Result<(Products, ()), RunFault>
     ensures { MadeOf (SolveGives search.now.plan.workers) SolveFails text.now result }
 {
-    let plan = search.plan;
     let puzzle = read_puzzle(alloc, text.bytes())?;
+    solved(rt, alloc, &puzzle, search)
+}
+
+// What is made of a puzzle that was read.
+fn solved<R: Threads + Wait + Sync, T: SolveWatch + Sync>(
+    rt: &R,
+    alloc: Global,
+    puzzle: &Puzzle,
+    search: &Watched<'_, SearchPlan, T>,
+) -> Result<(Products, ()), RunFault>
+    ensures { (text : List ℕ) → PuzzleReads text (Ok puzzle.now)
+        → MadeOf (SolveGives search.now.plan.workers) SolveFails text result }
+{
+    let plan = search.plan;
     let Solved {
         list: listed,
         certificate,
@@ -142,7 +156,7 @@ fn make_products<R: Threads + Wait + Sync, T: SolveWatch + Sync>(
     } = solve_watched(
         rt,
         alloc,
-        &puzzle,
+        puzzle,
         plan.depth.get() as u8,
         plan.fuel.get(),
         plan.workers.get() as u8,
@@ -150,7 +164,7 @@ fn make_products<R: Threads + Wait + Sync, T: SolveWatch + Sync>(
     )?;
     let shares = shares(alloc, tally)?;
     let found = Found {
-        puzzle: &puzzle,
+        puzzle,
         listed: &listed,
         certificate: &certificate,
         shares: &shares,
