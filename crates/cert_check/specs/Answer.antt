@@ -1,7 +1,7 @@
 -- What the checker has to answer.
 use Rattle.std.specs.Prelude.{◌≡◌, ◌<◌, ℕ, List, Some, slice_get}
 use Rattle.match_limits.specs.First.{Rank, IsFirst, rank_by, rank_by_two}
-use Rattle.match_puzzle.specs.Puzzle.{Task, IsPuzzle}
+use Rattle.match_puzzle.specs.Puzzle.{IsPuzzle}
 use Rattle.match_puzzle.specs.Arrangement.{AreArrangements, AreDistinct}
 use Rattle.match_puzzle.specs.ArrangementFaults.{IsArrangementFault}
 use Rattle.match_puzzle.specs.PrefixFaults.{IsPrefixFault}

@@ -1,5 +1,5 @@
 -- The nodes are put into their lists one after another.
-use Rattle.std.specs.Prelude.{◌≡◌, ◌<◌, ◌≤◌, ◌&&◌, not, ℕ, Bool, List, length, nat_lt}
+use Rattle.std.specs.Prelude.{◌≤◌, ◌&&◌, not, ℕ, Bool, List, length, nat_lt}
 use Rattle.xcc_dance.specs.declared.links.arrays.Link.{Link}
 use Rattle.xcc_dance.specs.declared.links.tables.Entry.{Entry}
 use Rattle.xcc_dance.specs.NodeTables.{AreLinked, AreCounted, AreInRange}

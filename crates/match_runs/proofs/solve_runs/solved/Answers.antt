@@ -1,4 +1,4 @@
-use Rattle.std.proofs.Common.{List, ℕ, Err, ap, length, subst, sym, ◌∙◌}
+use Rattle.std.proofs.Common.{List, Err, ap, length, subst, sym, ◌∙◌}
 use Rattle.std.proofs.lemmas.Result.{err_from_is_err_and}
 use Rattle.match_puzzle.specs.declared.placements.Placement.{Placement}
 use Rattle.match_puzzle.specs.Arrangement.{AreArrangements}
