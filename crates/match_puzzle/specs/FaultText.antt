@@ -4,6 +4,8 @@ use Rattle.match_puzzle.specs.declared.faults.PuzzleFault.{PuzzleFault}
 use Rattle.match_puzzle.specs.declared.faults.PuzzleFault.TheVariants as puzzles
 use Rattle.match_puzzle.specs.declared.faults.ArrangementFault.{ArrangementFault}
 use Rattle.match_puzzle.specs.declared.faults.ArrangementFault.TheVariants as arrangements
+use Rattle.match_puzzle.specs.declared.faults.PrefixFault.{PrefixFault}
+use Rattle.match_puzzle.specs.declared.faults.PrefixFault.TheVariants as prefixes
 
 abbrev pub puzzle_fault_text : PuzzleFault → List ℕ
 puzzle_fault_text puzzles.FixedTriangles = codes "fixed-triangles"
@@ -23,3 +25,8 @@ arrangement_fault_text (arrangements.BorderBroken cell side) =
     codes "border " ++ decimal cell ++ codes " " ++ decimal side
 arrangement_fault_text (arrangements.EdgeBroken cell side) =
     codes "edge " ++ decimal cell ++ codes " " ++ decimal side
+
+abbrev pub prefix_fault_text : PrefixFault → List ℕ
+prefix_fault_text (prefixes.Cell place) = codes "cell " ++ decimal place
+prefix_fault_text (prefixes.Tile place) = codes "tile " ++ decimal place
+prefix_fault_text (prefixes.Turn place) = codes "turn " ++ decimal place

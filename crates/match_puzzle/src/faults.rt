@@ -1,12 +1,11 @@
 //! What may be wrong with a puzzle or an arrangement.
 
 ghost use Rattle.std.specs.Prelude.{◌≡◌, Some};
-ghost use Rattle.match_puzzle.specs.FaultText.{puzzle_fault_text, arrangement_fault_text};
+ghost use Rattle.match_puzzle.specs.FaultText.{puzzle_fault_text, arrangement_fault_text, prefix_fault_text};
 ghost use Rattle.match_puzzle.specs.declared.faults.PuzzleFault.TheVariants.{Memory};
 
 use std::alloc::AllocError;
 use std::{error, fmt};
-use thiserror::Error;
 
 /// Why there is no such puzzle, in the order in which it is looked for.
 #[derive(Clone, Copy, PartialEq, Eq, Debug)]
@@ -88,15 +87,26 @@ impl fmt::Display for ArrangementFault {
 impl error::Error for ArrangementFault {}
 
 /// Why a list of pairs is no prefix: at the least place, the first kind that occurs there.
-#[derive(Clone, Copy, PartialEq, Eq, Debug, Error)]
+#[derive(Clone, Copy, PartialEq, Eq, Debug)]
 pub enum PrefixFault {
     /// The pair at this place names no cell of the board, or none after the cell before it.
-    #[error("cell {0}")]
     Cell(u32),
     /// The pair at this place names no tile of the puzzle, or one that an earlier pair has.
-    #[error("tile {0}")]
     Tile(u32),
     /// The tile of the pair at this place may not be turned so.
-    #[error("turn {0}")]
     Turn(u32),
 }
+
+impl fmt::Display for PrefixFault {
+    ghost output = { λ fault. Some (prefix_fault_text fault) };
+
+    fn fmt<W: fmt::Write>(&self, f: &mut fmt::Formatter<W>) -> fmt::Result {
+        match self {
+            PrefixFault::Cell(place) => write!(f, "cell {place}"),
+            PrefixFault::Tile(place) => write!(f, "tile {place}"),
+            PrefixFault::Turn(place) => write!(f, "turn {place}"),
+        }
+    }
+}
+
+impl error::Error for PrefixFault {}

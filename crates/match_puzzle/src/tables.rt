@@ -1,7 +1,7 @@
 //! What a puzzle looks up and does not work out anew.
 
 ghost use Rattle.std.specs.Prelude.{◌≡◌, ◌≢◌, ◌<◌, ◌≤◌, ◌+◌, ◌^◌, ℕ, Bool, List, IfOk, MatchOption, MatchBool};
-ghost use Rattle.std.specs.Prelude.{Contains, None, Some, [], length, map, slice_get, slice_index_or};
+ghost use Rattle.std.specs.Prelude.{None, Some, [], length, map, slice_get, slice_index_or};
 ghost use Rattle.match_board.specs.Board.{cell_count, side_count, IsBoard};
 ghost use Rattle.match_board.specs.declared.figures.Figure.{Figure};
 ghost use Rattle.match_limits.specs.First.{IsLeast};
@@ -197,7 +197,7 @@ fn colour_count(border: &Border, mates: &[u8], tiles: &[Tile]) -> u8
 {
     let mut count = named_colour_count(border, mates);
     for tile in tiles {
-        let of_tile = tile_colour_count(tile);
+        let of_tile = tile.colour_count();
         if of_tile > count {
             count = of_tile;
         }
@@ -215,21 +215,6 @@ fn named_colour_count(border: &Border, mates: &[u8]) -> u8
         → length mates.now ≤ other → result ≤ other }
 {
     border.colour_count().max(mates.len() as u8)
-}
-
-// One more than the greatest colour on the tile.
-fn tile_colour_count(tile: &Tile) -> u8
-    ensures above { (colour : ℕ) → Contains (word tile.now) colour → colour < result }
-    ensures least { (other : ℕ) → ((colour : ℕ) → Contains (word tile.now) colour → colour < other) → result ≤ other }
-{
-    let mut count = 0;
-    for side in 0..tile.sides() {
-        let colour = tile.shows(0, side);
-        if colour >= count {
-            count = colour + 1;
-        }
-    }
-    count
 }
 
 /// The first tile that does not have as many sides as a cell.

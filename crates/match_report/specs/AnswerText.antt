@@ -1,9 +1,8 @@
 -- How an answer is printed.
 use Rattle.std.specs.Prelude.{◌<◌, ℕ, List, [], ◌∷◌, codes, decimal}
 use Rattle.match_limits.specs.declared.TheConstants.{MOST_COLOURS}
-use Rattle.match_puzzle.specs.FaultText.{arrangement_fault_text}
-use Rattle.match_puzzle.specs.declared.faults.PrefixFault.{PrefixFault}
-use Rattle.match_puzzle.specs.declared.faults.PrefixFault.TheVariants as prefixes
+use Rattle.match_puzzle.specs.FaultText.{arrangement_fault_text, prefix_fault_text}
+use Rattle.puzzle_symmetry.specs.FaultText.{symmetry_fault_text}
 use Rattle.puzzle_symmetry.specs.declared.faults.SymmetryFault.{SymmetryFault}
 use Rattle.puzzle_symmetry.specs.declared.faults.SymmetryFault.TheVariants as symmetries
 use Rattle.cert_check.specs.declared.faults.NodeFault.{NodeFault}
@@ -15,20 +14,10 @@ use Rattle.cert_check.specs.declared.faults.Answer.TheVariants.{Complete, Refuse
 use Rattle.text_words.specs.Spelling.{colour_word, line_text}
 use Rattle.match_report.specs.Line.{path_text}
 
+-- the words of a symmetry's fault, where a colour is its character
 unfoldable pub symmetry_fault_words : SymmetryFault → List (List ℕ)
-symmetry_fault_words symmetries.Cells = codes "cells" ∷ []
-symmetry_fault_words symmetries.Colours = codes "colours" ∷ []
-symmetry_fault_words symmetries.Tiles = codes "tiles" ∷ []
-symmetry_fault_words (symmetries.EdgeBroken cell side) = codes "edge" ∷ decimal cell ∷ decimal side ∷ []
-symmetry_fault_words (symmetries.BorderBroken cell side) = codes "border" ∷ decimal cell ∷ decimal side ∷ []
-symmetry_fault_words (symmetries.TileBroken tile) = codes "tile" ∷ decimal tile ∷ []
 symmetry_fault_words (symmetries.MatesBroken colour) = codes "mates" ∷ colour_word colour ∷ []
-symmetry_fault_words symmetries.Memory = []
-
-unfoldable pub prefix_fault_words : PrefixFault → List (List ℕ)
-prefix_fault_words (prefixes.Cell place) = codes "cell" ∷ decimal place ∷ []
-prefix_fault_words (prefixes.Tile place) = codes "tile" ∷ decimal place ∷ []
-prefix_fault_words (prefixes.Turn place) = codes "turn" ∷ decimal place ∷ []
+symmetry_fault_words fault = symmetry_fault_text fault ∷ []
 
 unfoldable pub node_fault_words : NodeFault → List (List ℕ)
 node_fault_words nodes.CellRange = codes "cell-range" ∷ []
@@ -48,7 +37,7 @@ unfoldable pub fault_words : Fault → List (List ℕ)
 fault_words (faults.List number fault) = codes "list" ∷ decimal number ∷ arrangement_fault_text fault ∷ []
 fault_words (faults.Repeated number) = codes "repeated" ∷ decimal number ∷ []
 fault_words (faults.Symmetry number fault) = codes "symmetry" ∷ decimal number ∷ symmetry_fault_words fault
-fault_words (faults.Prefix lemma fault) = codes "prefix" ∷ decimal lemma ∷ prefix_fault_words fault
+fault_words (faults.Prefix lemma fault) = codes "prefix" ∷ decimal lemma ∷ prefix_fault_text fault ∷ []
 fault_words faults.Root = codes "root" ∷ []
 fault_words (faults.Tree lemma fault) =
     codes "tree" ∷ decimal lemma ∷ codes "at" ∷ path_text fault.path ∷ node_fault_words fault.fault

@@ -3,11 +3,10 @@
 ghost use Rattle.std.specs.Prelude.{◌≡◌, ◌++◌, [], ◌∷◌, decimal, IfOk, OnOk};
 ghost use Rattle.text_words.specs.Spelling.{spaced};
 ghost use Rattle.match_report.specs.AnswerText.{HasLine, HasWords, answer_line, fault_words, node_fault_words};
-ghost use Rattle.match_report.specs.AnswerText.{symmetry_fault_words, prefix_fault_words};
+ghost use Rattle.match_report.specs.AnswerText.{symmetry_fault_words};
 
 use crate::lines::Line;
 use cert_check::{Answer, Fault, NodeFault};
-use match_puzzle::PrefixFault;
 use puzzle_symmetry::SymmetryFault;
 use std::alloc::{AllocError, Global};
 use text_words::character;
@@ -26,34 +25,11 @@ fn put_symmetry_fault(line: &mut Line, fault: &SymmetryFault) -> Result<(), Allo
     ensures { OnOk result (line.new ≡ line.old ++ spaced (symmetry_fault_words fault.now)) }
 {
     match *fault {
-        SymmetryFault::Cells => line.word(b"cells"),
-        SymmetryFault::Colours => line.word(b"colours"),
-        SymmetryFault::Tiles => line.word(b"tiles"),
-        SymmetryFault::EdgeBroken(cell, side) => {
-            put_numbered(line, b"edge", cell)?;
-            line.number(side)
-        }
-        SymmetryFault::BorderBroken(cell, side) => {
-            put_numbered(line, b"border", cell)?;
-            line.number(side)
-        }
-        SymmetryFault::TileBroken(tile) => put_numbered(line, b"tile", tile),
         SymmetryFault::MatesBroken(colour) => {
             line.word(b"mates")?;
             line.word(&[character(colour as u8)])
         }
-        SymmetryFault::Memory => unreachable!(),
-    }
-}
-
-#[tactic(auto, using(crate::proofs::LineLemmas::line_laws), unfolding(crate::specs::AnswerText::prefix_fault_words))]
-fn put_prefix_fault(line: &mut Line, fault: &PrefixFault) -> Result<(), AllocError>
-    ensures { OnOk result (line.new ≡ line.old ++ spaced (prefix_fault_words fault.now)) }
-{
-    match *fault {
-        PrefixFault::Cell(place) => put_numbered(line, b"cell", place),
-        PrefixFault::Tile(place) => put_numbered(line, b"tile", place),
-        PrefixFault::Turn(place) => put_numbered(line, b"turn", place),
+        _ => line.displayed(fault),
     }
 }
 
@@ -97,7 +73,7 @@ fn put_fault(line: &mut Line, fault: &Fault) -> Result<(), AllocError>
         }
         Fault::Prefix(lemma, fault) => {
             put_numbered(line, b"prefix", *lemma)?;
-            put_prefix_fault(line, fault)
+            line.displayed(fault)
         }
         Fault::Root => line.word(b"root"),
         Fault::Tree(lemma, fault) => {

@@ -24,10 +24,10 @@ loop-tile-preserved c =
     let tiles = c.args.tiles.now in
     let i = c.loop-tile.tile-index in
     let at = word_at tiles i c.tile-item.result c.loop-tile-test.true c.tile-item.is in
-    let of_tile = c.tile_colour_count-of_tile.result in
-    let here : (colour : ℕ) → Contains (get_or (map word tiles) i []) colour → colour < of_tile = λ colour among. c.tile_colour_count-of_tile.ensures.above colour (subst (λ w. Contains w colour) at among) in
+    let of_tile = c.colour_count-of_tile.result in
+    let here : (colour : ℕ) → Contains (get_or (map word tiles) i []) colour → colour < of_tile = λ colour among. c.colour_count-of_tile.ensures.above colour (subst (λ w. Contains w colour) at among) in
     let bounds : (board : Figure) (turns : Bool) (version other : ℕ) → ((colour : ℕ) → HasColour (task_of board turns c.args.border.now (mating_of version c.args.mates.now) tiles) colour → colour < other) → of_tile ≤ other =
-    λ board turns version other bound. c.tile_colour_count-of_tile.ensures.least other (λ colour among. bound colour (inl (i, omega (arith, c.loop-tile-test.true, length-map tiles word), subst (λ w. Contains w colour) (sym at) among))) in
+    λ board turns version other bound. c.colour_count-of_tile.ensures.least other (λ colour among. bound colour (inl (i, omega (arith, c.loop-tile-test.true, length-map tiles word), subst (λ w. Contains w colour) (sym at) among))) in
     elim c.if-of_tile-count.branch [
       | then-of_tile-count v ↦ record {
         border = λ place colour stands. omega (arith, c.loop-tile.invariant.border place colour stands, v.count-is, v.if-of_tile-count.true);
