@@ -63,7 +63,7 @@ LIMITS = {
     "docs/SOLVING.md": ["(over {MOST_ENTRIES} items)", "(over {MOST_ARRANGEMENTS} to be listed)"],
     "crates/match_limits/README.md": ["`MOST_CELLS` ({MOST_CELLS})", "`MOST_PLAIN_CELLS` ({MOST_PLAIN_CELLS})"],
     "crates/live_crew/README.md": ["At most {MOST_GIVEN} jobs are given by a job"],
-    "crates/byte_streams/README.md": ["tried {MOST_TRIES} times"],
+    "crates/system_files/README.md": ["tried {MOST_TRIES} times"],
     "crates/cert_check/README.md": ["a tree of under {LEAST_FORKED} nodes"],
     "crates/cert_text/README.md": ["Below {LEAST_NODES} nodes the caller"],
     "crates/census_splits/README.md": ["at most {MOST_BRANCHES} branches"],

@@ -16,16 +16,16 @@ pub enum Refusal {
 }
 
 impl Refusal {
-    // Why a file can't be opened. What isn't found is the file.
-    pub(crate) fn of_opening(error: &io::Error) -> Refusal {
+    /// Why a file can't be opened. What isn't found is the file.
+    pub fn of_opening(error: &io::Error) -> Refusal {
         match error.kind() {
             ErrorKind::NotFound => Refusal::NoFile,
             kind => Refusal::of_kind(kind),
         }
     }
 
-    // Why a file can't be made or written. What isn't found is its folder.
-    pub(crate) fn of_making(error: &io::Error) -> Refusal {
+    /// Why a file can't be made or written. What isn't found is its folder.
+    pub fn of_making(error: &io::Error) -> Refusal {
         Refusal::of_kind(error.kind())
     }
 

@@ -19,8 +19,7 @@ mod tile_runs;
 mod watches;
 
 pub use byte_streams::{
-    Document, Documents, Failed, FileSystem, Input, Output, Sink, Source, System, cut_joined,
-    write_whole,
+    Document, Documents, Failed, FileSystem, Sink, Source, cut_joined, write_whole,
 };
 pub use census_runs::{CensusPlan, run_census};
 pub use check_runs::{CheckPlan, run_check, run_check_watched, run_joined, run_joined_watched};

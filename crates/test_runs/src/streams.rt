@@ -2,12 +2,11 @@
 
 use crate::outcomes::with_memory;
 use byte_streams::Fake;
-use match_runs::{
-    Document, Failed, Input, Output, RunFault, Sink, Source, read_whole, write_whole,
-};
+use match_runs::{Document, Failed, RunFault, Sink, Source, read_whole, write_whole};
 use std::alloc::{AllocError, Global};
 use std::io::{self, ErrorKind, Read, Write};
 use std::test::Fail;
+use system_files::{Input, Output};
 
 // 64 bytes, and one more.
 const BYTES: &[u8; 65] = b"0123456789abcdef0123456789abcdef0123456789abcdef0123456789abcdef\n";

@@ -1,12 +1,13 @@
 //! What the system gives: files, limits and random bytes.
 
 use match_program::{SystemLimits, open};
-use match_runs::{Document, FileSystem, RandomFold, RunFault, System, read_whole};
+use match_runs::{Document, FileSystem, RandomFold, RunFault, read_whole};
 use std::alloc::Global;
 use std::hash::BuildHasher;
 use std::io;
 use std::random::RandomSource;
 use std::test::Fail;
+use system_files::System;
 
 // Whether a file without bytes is opened, and read.
 fn reads_an_empty_file<S: FileSystem>(alloc: Global, system: &S) -> Result<bool, Fail> {

@@ -3,9 +3,7 @@
 ghost use Rattle.std.specs.Prelude.{◌≡◌, ◌≤◌, ◌<◌, false, IfOk, IfSome, IfNone, OnErr, length, take};
 ghost use Rattle.std.specs.Io.KnownBytes.{Appends, Consumes, IsAtEnd, Keeps};
 
-use crate::refusals::Refusal;
-use crate::sinks::Sink;
-use crate::sources::{Failed, Source};
+use byte_streams::{Failed, Refusal, Sink, Source};
 use std::io::{ErrorKind, Read, Write};
 
 // How often an interrupted call is tried in all.

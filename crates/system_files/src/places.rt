@@ -1,7 +1,6 @@
 //! Where a file of the system stands, and where it is made.
 
-use crate::faults::FileFault;
-use crate::refusals::Refusal;
+use byte_streams::{FileFault, Refusal};
 use std::alloc::{AllocError, Global};
 use std::fs::Metadata;
 use std::io::{self, ErrorKind};

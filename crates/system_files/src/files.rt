@@ -2,13 +2,9 @@
 
 ghost use Rattle.std.specs.Prelude.{◌≡◌, false, IfOk};
 
-use crate::faults::FileFault;
-use crate::files::FileSystem;
 use crate::places::{Place, are_one, folder_of, may_be_one, place_of};
-use crate::refusals::Refusal;
-use crate::sinks::Sink;
-use crate::sources::Failed;
-use crate::systems::{Input, Output};
+use crate::streams::{Input, Output};
+use byte_streams::{Failed, FileFault, FileSystem, Refusal, Sink};
 use std::alloc::{AllocError, Global};
 use std::fs::{self, Metadata, OpenFile, OpenOptions, Permissions};
 use std::io::{ErrorKind, Write};
