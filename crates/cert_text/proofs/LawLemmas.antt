@@ -3,7 +3,7 @@ use Rattle.std.proofs.Common.{◌≡◌, ◌≢◌, ℕ, Bool, true, false, List
 use Rattle.std.specs.Prelude.{MatchBool}
 use Rattle.std.specs.List.Sorted.{IsPermutation}
 use Rattle.std.proofs.lemmas.List.Sorted.{length_permutation}
-use Rattle.text_words.specs.declared.faults.TextFault.{TextFault}
+use Rattle.plain_words.specs.declared.faults.TextFault.{TextFault}
 use Rattle.text_words.specs.Laws.{ReadsSpellingsAlone, ReadsEachSpelling}
 use Rattle.match_board.specs.declared.symmetry_lines.SymmetryLine.{SymmetryLine}
 use Rattle.cert_tree.specs.declared.faults.AssembleFault.{AssembleFault}

@@ -4,13 +4,14 @@ use Rattle.match_limits.specs.declared.TheConstants.{LAST_SIDE, MOST_COLOURS, MO
 use Rattle.match_limits.specs.declared.TheConstants.{LAST_LEMMA}
 use Rattle.std.specs.Str.{bytes_eq}
 use Rattle.match_board.specs.declared.symmetry_lines.SymmetryLine.{SymmetryLine}
-use Rattle.text_words.specs.declared.faults.TextFault.{TextFault}
-use Rattle.text_words.specs.declared.faults.TextKind.{TextKind}
-use Rattle.text_words.specs.declared.faults.TextKind.TheVariants.{Word}
+use Rattle.plain_words.specs.declared.faults.TextFault.{TextFault}
+use Rattle.plain_words.specs.declared.faults.TextKind.{TextKind}
+use Rattle.plain_words.specs.declared.faults.TextKind.TheVariants.{Word}
 use Rattle.match_limits.specs.declared.ranges.Ranges.{Ranges}
 use Rattle.match_limits.specs.declared.ranges.TheConstants.{SECOND}
 use Rattle.match_limits.specs.Ranges.{ranges_of}
-use Rattle.text_words.specs.Words.{fixed_in, number_in, colour_in, pair_in}
+use Rattle.plain_words.specs.Words.{fixed_in, number_in}
+use Rattle.text_words.specs.Words.{colour_in, pair_in}
 use Rattle.text_words.specs.Place.{Read, ◌>>=◌, give, line_of, word_by, entries, opening, counted, closing, end_of_text}
 use Rattle.text_words.specs.Place.{times, start, value_of}
 use Rattle.cert_tree.specs.declared.faults.AssembleFault.TheVariants.{Memory}

@@ -1,10 +1,10 @@
 -- Entries of a line up to a word.
 use Rattle.std.specs.Prelude.{ℕ, zero, suc, List, [], ◌∷◌, Bool, false, not, Result, Ok, Err, if◌then◌else◌}
 use Rattle.std.specs.Str.{bytes_eq}
-use Rattle.text_words.specs.declared.faults.TextFault.{TextFault}
-use Rattle.text_words.specs.declared.faults.TextKind.{TextKind}
-use Rattle.text_words.specs.declared.faults.TextKind.TheVariants.{Limit}
-use Rattle.text_words.specs.Words.{◌>>=◌}
+use Rattle.plain_words.specs.declared.faults.TextFault.{TextFault}
+use Rattle.plain_words.specs.declared.faults.TextKind.{TextKind}
+use Rattle.plain_words.specs.declared.faults.TextKind.TheVariants.{Limit}
+use Rattle.plain_words.specs.Words.{◌>>=◌}
 use Rattle.text_words.specs.Place.{Place, Read, fail}
 
 -- whether a further word stands there, other than this one

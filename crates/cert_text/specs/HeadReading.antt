@@ -1,10 +1,10 @@
 -- Trees that are read head by head.
 use Rattle.std.specs.Prelude.{◌≡◌, ℕ, List, ◌++◌, Result, Ok, Err}
 use Rattle.match_limits.specs.declared.TheConstants.{LAST_ARRANGEMENT, LAST_SYMMETRY, LAST_LEMMA}
-use Rattle.text_words.specs.declared.faults.TextFault.{TextFault}
-use Rattle.text_words.specs.declared.faults.ReadFault.{ReadFault}
+use Rattle.plain_words.specs.declared.faults.TextFault.{TextFault}
+use Rattle.plain_words.specs.declared.faults.ReadFault.{ReadFault}
 use Rattle.match_limits.specs.declared.ranges.Ranges.{Ranges}
-use Rattle.text_words.specs.Words.{number_in}
+use Rattle.plain_words.specs.Words.{number_in}
 use Rattle.text_words.specs.Place.{Place, Read, ◌>>=◌, give, word_by, Fails}
 use Rattle.cert_tree.specs.declared.heads.Head.{Head}
 use Rattle.cert_tree.specs.declared.heads.Head.TheVariants as heads

@@ -1,7 +1,7 @@
 -- A certificate's text whose lemma lines are cut into parts, each read by itself.
 use Rattle.std.specs.Prelude.{◌≡◌, ◌<◌, ℕ, List, [], ◌∷◌, ◌++◌, Result, Ok, Err, Some, length, slice_get, slice_index_or}
-use Rattle.text_words.specs.declared.faults.TextFault.{TextFault}
-use Rattle.text_words.specs.declared.faults.ReadFault.{ReadFault}
+use Rattle.plain_words.specs.declared.faults.TextFault.{TextFault}
+use Rattle.plain_words.specs.declared.faults.ReadFault.{ReadFault}
 use Rattle.match_limits.specs.Ranges.{ranges_of}
 use Rattle.text_words.specs.Place.{Place, Says, closing, times, value_of}
 use Rattle.cert_tree.specs.Certificate.{Piece}

@@ -3,11 +3,11 @@ use Rattle.std.specs.Prelude.{ℕ, zero, suc, List, [], ◌∷◌, Result, Ok, E
 use Rattle.match_limits.specs.declared.TheConstants.{LAST_ARRANGEMENT, LAST_SYMMETRY, LAST_LEMMA}
 use Rattle.std.specs.Str.{bytes_eq}
 use Rattle.match_puzzle.specs.declared.items.Item.TheVariants as items
-use Rattle.text_words.specs.declared.faults.TextFault.{TextFault}
-use Rattle.text_words.specs.declared.faults.TextKind.{TextKind}
-use Rattle.text_words.specs.declared.faults.TextKind.TheVariants.{Word, TooDeep}
+use Rattle.plain_words.specs.declared.faults.TextFault.{TextFault}
+use Rattle.plain_words.specs.declared.faults.TextKind.{TextKind}
+use Rattle.plain_words.specs.declared.faults.TextKind.TheVariants.{Word, TooDeep}
 use Rattle.match_limits.specs.declared.ranges.Ranges.{Ranges}
-use Rattle.text_words.specs.Words.{number_in}
+use Rattle.plain_words.specs.Words.{number_in}
 use Rattle.text_words.specs.Place.{Place, Read, ◌>>=◌, give, fail, word_by, times}
 use Rattle.cert_tree.specs.Tree.{Tree, Forest, branch, dead, found, same, image, none, more}
 use Rattle.cert_text.specs.declared.tree_readers.NodeKind.{NodeKind}

@@ -3,10 +3,10 @@
 ghost use Rattle.std.specs.Prelude.{◌≡◌, ◌+◌, ◌<◌, ◌≤◌, ◌^◌, ◌++◌, ℕ, Ok, Err, IfOk, IfErr, IfSome, OnOk};
 ghost use Rattle.std.specs.Prelude.{length, take, drop};
 ghost use Rattle.match_limits.specs.Ranges.{AreRanges};
-ghost use Rattle.text_words.specs.Words.{Judges};
+ghost use Rattle.plain_words.specs.Words.{Judges};
 ghost use Rattle.text_words.specs.Place.{Fails, Gives, Reads, Says, fail, times, word_by};
-ghost use Rattle.text_words.specs.declared.faults.TextKind.TheVariants as kinds;
-ghost use Rattle.text_words.specs.Bytes.{line_ends};
+ghost use Rattle.plain_words.specs.declared.faults.TextKind.TheVariants as kinds;
+ghost use Rattle.plain_words.specs.Bytes.{line_ends};
 ghost use Rattle.cert_tree.specs.Certificate.{Piece, piece_of};
 ghost use Rattle.cert_tree.specs.Spans.{piece_in, IsSpan};
 ghost use Rattle.cert_tree.specs.Limits.{IsLemmaWithin};

@@ -1,6 +1,6 @@
 -- What the parts of a run read.
 use Rattle.std.proofs.Common.{◌≡◌, Result, Ok, Err, refl, ap, sym}
-use Rattle.text_words.specs.declared.faults.TextFault.{TextFault}
+use Rattle.plain_words.specs.declared.faults.TextFault.{TextFault}
 use Rattle.cert_tree.specs.Certificate.{Contents}
 use Rattle.cert_tree.specs.declared.faults.AssembleFault.{AssembleFault}
 use Rattle.cert_text.specs.CertificateText.{Said, Makes, CertificateGives}

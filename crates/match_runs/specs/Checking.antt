@@ -5,7 +5,7 @@ use Rattle.match_puzzle.specs.declared.placements.Placement.{Placement}
 use Rattle.match_text.specs.Puzzles.{PuzzleReads}
 use Rattle.match_text.specs.Lists.{list_of}
 use Rattle.match_text.specs.declared.faults.PuzzleTextFault.TheVariants as puzzles
-use Rattle.text_words.specs.declared.faults.ReadFault.TheVariants as lists
+use Rattle.plain_words.specs.declared.faults.ReadFault.TheVariants as lists
 use Rattle.cert_tree.specs.Certificate.{piece_number}
 use Rattle.cert_tree.specs.Assembly.{Assembles, IsAssembly}
 use Rattle.cert_tree.specs.declared.faults.AssembleFault.TheVariants as assemblies

@@ -6,8 +6,8 @@ use Rattle.match_text.specs.declared.faults.PuzzleTextFault.{PuzzleTextFault}
 use Rattle.match_text.specs.declared.faults.PuzzleTextFault.TheVariants as puzzle_text
 use Rattle.match_puzzle.specs.declared.faults.PuzzleFault.TheVariants as puzzles
 use Rattle.cert_tree.specs.declared.faults.AssembleFault.TheVariants as assemblies
-use Rattle.text_words.specs.declared.faults.ReadFault.{ReadFault}
-use Rattle.text_words.specs.declared.faults.ReadFault.TheVariants as list_text
+use Rattle.plain_words.specs.declared.faults.ReadFault.{ReadFault}
+use Rattle.plain_words.specs.declared.faults.ReadFault.TheVariants as list_text
 use Rattle.cert_text.specs.declared.faults.CertTextFault.{CertTextFault}
 use Rattle.cert_text.specs.declared.faults.CertTextFault.TheVariants as cert_text
 use Rattle.symmetry_orbits.specs.declared.expansions.ExpandFault.{ExpandFault}
@@ -25,7 +25,7 @@ use Rattle.byte_streams.specs.declared.faults.InputFault.TheVariants as inputs
 use Rattle.byte_streams.specs.FaultText.{document_word}
 use Rattle.match_board.specs.FaultText.{tiles_fault_text}
 use Rattle.match_puzzle.specs.FaultText.{arrangement_fault_text}
-use Rattle.text_words.specs.FaultText.{read_fault_text}
+use Rattle.plain_words.specs.FaultText.{read_fault_text}
 use Rattle.match_text.specs.FaultText.{puzzle_text_fault_text}
 use Rattle.cert_text.specs.FaultText.{cert_text_fault_text}
 use Rattle.match_crew.specs.FaultText.{solve_fault_text}

@@ -8,7 +8,7 @@ use Rattle.picture_parts.specs.Plans.{IsListedAt}
 use Rattle.match_show.specs.Arrangement.{IsDrawnArrangement}
 use Rattle.match_text.specs.Lists.{list_of}
 use Rattle.match_text.specs.Puzzles.{PuzzleReads}
-use Rattle.text_words.specs.declared.faults.ReadFault.TheVariants as lists
+use Rattle.plain_words.specs.declared.faults.ReadFault.TheVariants as lists
 use Rattle.byte_streams.specs.declared.documents.TwoTexts.{TwoTexts}
 use Rattle.match_runs.specs.Describing.{DescribeFails}
 use Rattle.match_runs.specs.declared.faults.RunFault.{RunFault}

@@ -6,7 +6,7 @@ use Rattle.picture_parts.specs.declared.plans.NotDrawn.TheVariants as not_drawn
 use Rattle.match_picture.specs.Listed.{IsPictureFrom}
 use Rattle.match_text.specs.Lists.{list_of}
 use Rattle.match_text.specs.Puzzles.{PuzzleReads}
-use Rattle.text_words.specs.declared.faults.ReadFault.TheVariants as lists
+use Rattle.plain_words.specs.declared.faults.ReadFault.TheVariants as lists
 use Rattle.byte_streams.specs.declared.documents.TwoTexts.{TwoTexts}
 use Rattle.match_runs.specs.Describing.{DescribeFails}
 use Rattle.match_runs.specs.Listed.{SpellList}

@@ -7,13 +7,13 @@ use Rattle.std.specs.List.{flat_map, AllByRecursion}
 use Rattle.std.proofs.lemmas.List.{append-nil}
 use Rattle.std.proofs.lemmas.List.Concat.{flat_map_single}
 use Rattle.match_puzzle.specs.declared.placements.Placement.{Placement}
-use Rattle.text_words.specs.declared.faults.TextKind.TheVariants.{Ends}
-use Rattle.text_words.specs.declared.faults.ReadFault.{ReadFault}
-use Rattle.text_words.specs.Bytes.{line_ends}
+use Rattle.plain_words.specs.declared.faults.TextKind.TheVariants.{Ends}
+use Rattle.plain_words.specs.declared.faults.ReadFault.{ReadFault}
+use Rattle.plain_words.specs.Bytes.{line_ends}
 use Rattle.text_words.specs.Laws.{ReadsSpellingsAlone, ReadsEachSpelling, EndsWhereCut}
 use Rattle.text_words.specs.Words.{placement_in}
 use Rattle.text_words.specs.Place.{Place, Read, ◌>>=◌, give, fail, Says, some_entries, times, opening, counted, closing, start}
-use Rattle.text_words.specs.declared.faults.TextFault.{TextFault}
+use Rattle.plain_words.specs.declared.faults.TextFault.{TextFault}
 use Rattle.match_limits.specs.declared.ranges.Ranges.{Ranges}
 use Rattle.match_limits.specs.declared.ranges.TheConstants.{FIRST, SECOND}
 use Rattle.match_limits.specs.Ranges.{ranges_of, AreRanges}
@@ -21,7 +21,7 @@ use Rattle.match_text.specs.Lists.{ListSaid, arrangement_line, list_text, list_s
 use Rattle.text_words.specs.Spelling.{text_of, placement_word, first_words, count_words, end_lines}
 use Rattle.match_text.specs.ListSpelling.{arrangement_words, list_head, list_lines, list_spelling, said_spelling, IsRowWithin, IsListWithin, IsSpelledIn, IsSaidWithin}
 use Rattle.text_words.proofs.CutLemmas.{CutsShort, LeavesNothing, place, bind_ok, ok_is, cuts_bind, cuts_give, cuts_some_entries, cuts_line, cuts_times, cuts_opening, cuts_counted, cuts_closing, leaves_closing, leaves_after}
-use Rattle.text_words.proofs.WordLemmas.{spells_placement, clean-row}
+use Rattle.text_words.proofs.PlacementLemmas.{spells_placement, clean-row}
 use Rattle.text_words.proofs.LineLemmas.{TakesLines, takes_line, takes_entries, takes_opening, takes_counted, closing_is, closing_again, times_is, times_again, lines_then, lines_apart}
 use Rattle.text_words.proofs.TextLaws.{reads_alone, reads_each, ends_where_cut}
 use Rattle.text_words.proofs.WritingLemmas.{text_of-append}

@@ -5,19 +5,20 @@ use Rattle.std.specs.List.{AllByRecursion}
 use Rattle.std.specs.Str.{bytes_eq}
 use Rattle.std.proofs.lemmas.Slice.Eq.{bytes_eq-Decides}
 use Rattle.match_board.specs.Borders.{BorderRule, free, one, each}
-use Rattle.text_words.specs.declared.faults.TextKind.TheVariants.{Word}
+use Rattle.plain_words.specs.declared.faults.TextKind.TheVariants.{Word}
 use Rattle.match_board.specs.Mates.{Mating, unmated, mated, mating_of}
 use Rattle.match_limits.specs.declared.ranges.Ranges.{Ranges}
 use Rattle.match_limits.specs.Ranges.{IsVersion}
 use Rattle.match_text.specs.declared.puzzles.BorderKind.{BorderKind}
 use Rattle.match_text.specs.declared.puzzles.BorderKind.TheVariants as kinds
-use Rattle.text_words.specs.Words.{fixed_in, colour_in, rule_in, tile_in}
+use Rattle.plain_words.specs.Words.{fixed_in}
+use Rattle.text_words.specs.Words.{colour_in, rule_in, tile_in}
 use Rattle.text_words.specs.Place.{Place, Read, ◌>>=◌, give, word_by, entries, some_entries}
 use Rattle.match_text.specs.Puzzles.{turns_in, turns_line, border_kind_in, border_rule, border_line, tile_line, mates_line, mated_part, mating_part}
 use Rattle.text_words.specs.Spelling.{text_of, colour_word, rule_word, tile_word}
 use Rattle.match_text.specs.PuzzleSpelling.{turns_word, turns_words, border_words, tile_words, IsBorderWithin, IsMatingWithin, mates_words, mates_lines}
 use Rattle.text_words.proofs.CutLemmas.{CutsShort, place, bind_ok, ok_is, cuts_bind, cuts_give, cuts_word, cuts_entries, cuts_some_entries, cuts_word_line}
-use Rattle.text_words.proofs.WordLemmas.{Spells, judged_ok, judged_ok_is, spells_fixed, clean-words, is_clean, are_clean}
+use Rattle.plain_words.proofs.WordLemmas.{Spells, judged_ok, judged_ok_is, spells_fixed, clean-words, is_clean, are_clean}
 use Rattle.text_words.proofs.ColourLemmas.{spells_colour, spells_rule, spells_tile, clean-colour, clean-rule, clean-tile}
 use Rattle.text_words.proofs.LineLemmas.{TakesRest, TakesLines, takes_word, takes_then_rest, takes_choice, takes_all, takes_line, takes_same, takes_entries, takes_any_entries, takes_two_words}
 use Rattle.text_words.specs.Within.{IsRuleWithin, IsWordWithin}

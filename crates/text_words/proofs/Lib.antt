@@ -1,7 +1,6 @@
-pub mod BytesLemmas
 pub mod FrontLemmas
 pub mod LoopLemmas
-pub mod WordLemmas
+pub mod PlacementLemmas
 pub mod CutLemmas
 pub mod LineLemmas
 pub mod TextLaws

@@ -1,7 +1,5 @@
-pub mod Bytes
 pub mod Within
 pub mod Words
 pub mod Place
 pub mod Spelling
 pub mod Laws
-pub mod FaultText

@@ -1,12 +1,13 @@
 -- Where reading stands in a text, and what it meets there.
 use Rattle.std.specs.Prelude.{◌≡◌, ℕ, zero, suc, ◌+◌, List, [], ◌∷◌, Option, Some, None, Result, Ok, Err, codes}
-use Rattle.text_words.specs.declared.faults.TextFault.{TextFault}
-use Rattle.text_words.specs.declared.faults.TextKind.{TextKind}
-use Rattle.text_words.specs.declared.faults.TextKind.TheVariants.{Word, Ends, After}
-use Rattle.text_words.specs.declared.faults.ReadFault.{ReadFault}
-use Rattle.text_words.specs.declared.faults.ReadFault.TheVariants as faults
-use Rattle.text_words.specs.Bytes.{cut_at, words_of}
-use Rattle.text_words.specs.Words.{fixed_in, version_in, number_in, entries_in}
+use Rattle.plain_words.specs.declared.faults.TextFault.{TextFault}
+use Rattle.plain_words.specs.declared.faults.TextKind.{TextKind}
+use Rattle.plain_words.specs.declared.faults.TextKind.TheVariants.{Word, Ends, After}
+use Rattle.plain_words.specs.declared.faults.ReadFault.{ReadFault}
+use Rattle.plain_words.specs.declared.faults.ReadFault.TheVariants as faults
+use Rattle.plain_words.specs.Bytes.{cut_at, words_of}
+use Rattle.plain_words.specs.Words.{fixed_in, version_in, number_in}
+use Rattle.text_words.specs.Words.{entries_in}
 
 pub record Place : Type 0 where
   -- the number of the line that is read, 0 before the first

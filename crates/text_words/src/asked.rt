@@ -1,6 +1,6 @@
 //! What a reader asks for, for those who are told of a fault.
 
-use crate::faults::TextFault;
+use plain_words::TextFault;
 
 /// What a reader asks of a word.
 #[derive(Clone, Copy)]

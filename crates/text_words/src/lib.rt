@@ -2,13 +2,12 @@
 #![tactic(auto)]
 
 mod asked;
-mod faults;
 mod scans;
 mod spellings;
 mod words;
 
 pub use asked::{Asked, FaultPlace};
-pub use faults::{ReadFault, TextFault, TextKind};
+pub use plain_words::{ReadFault, TextFault, TextKind};
 pub use scans::Scan;
 pub use spellings::{character, letter, put_end, put_number, put_number_line, put_placement};
 pub use words::row_word;

@@ -1,0 +1,3 @@
+pub mod BytesLemmas
+pub mod FrontLemmas
+pub mod WordLemmas
