@@ -3,18 +3,18 @@ use Rattle.std.proofs.Common.{◌≡◌, ◌≢◌, ℕ, Bool, true, false, List
 use Rattle.std.specs.Prelude.{MatchBool}
 use Rattle.std.specs.List.Sorted.{IsPermutation}
 use Rattle.std.proofs.lemmas.List.Sorted.{length_permutation}
+use Rattle.numbered_pieces.specs.declared.faults.AssembleFault.{AssembleFault}
+use Rattle.numbered_pieces.specs.declared.faults.AssembleFault.TheVariants as assemble
+use Rattle.numbered_pieces.specs.Assembly.{Assembles, IsSettled}
+use Rattle.numbered_pieces.proofs.OrderLemmas.{one_in_any_order}
 use Rattle.plain_words.specs.declared.faults.TextFault.{TextFault}
 use Rattle.text_words.specs.Laws.{ReadsSpellingsAlone, ReadsEachSpelling}
 use Rattle.match_board.specs.declared.symmetry_lines.SymmetryLine.{SymmetryLine}
-use Rattle.cert_tree.specs.declared.faults.AssembleFault.{AssembleFault}
-use Rattle.cert_tree.specs.declared.faults.AssembleFault.TheVariants as assemble
 use Rattle.cert_tree.specs.Certificate.{Contents, Piece, piece_number}
-use Rattle.cert_tree.specs.Assembly.{Assembles, IsSettled}
 use Rattle.cert_text.specs.declared.faults.CertTextFault.{CertTextFault}
 use Rattle.cert_text.specs.declared.faults.CertTextFault.TheVariants.{Text, Assemble, Memory}
 use Rattle.cert_text.specs.CertificateText.{Said, Makes}
 use Rattle.cert_text.specs.Laws.{MakesOneInAnyOrder}
-use Rattle.cert_tree.proofs.OrderLemmas.{one_in_any_order}
 
 -- what is within the limits has a text, and nothing else
 pub spelled_by_limits : {X : Type 0} (read : List ℕ → Result X TextFault) (Within : X → Type 0) (spelling : X → List ℕ) → ReadsSpellingsAlone read Within spelling → ReadsEachSpelling read Within spelling

@@ -8,14 +8,14 @@ use Rattle.plain_words.specs.declared.faults.TextFault.{TextFault}
 use Rattle.plain_words.specs.declared.faults.TextKind.TheVariants.{Ends}
 use Rattle.match_limits.specs.declared.ranges.Ranges.{Ranges}
 use Rattle.match_limits.specs.Ranges.{AreRanges, ranges_of}
+use Rattle.numbered_pieces.specs.declared.faults.AssembleFault.{AssembleFault}
+use Rattle.numbered_pieces.specs.declared.faults.AssembleFault.TheVariants.{Stranger, Double, Missing, Memory}
+use Rattle.numbered_pieces.specs.Assembly.{Assembles}
 use Rattle.plain_words.specs.Bytes.{line_ends}
 use Rattle.text_words.specs.Place.{Says, fail}
 use Rattle.cert_tree.specs.declared.certificates.Lemma.{Lemma}
-use Rattle.cert_tree.specs.declared.faults.AssembleFault.{AssembleFault}
-use Rattle.cert_tree.specs.declared.faults.AssembleFault.TheVariants.{Stranger, Double, Missing, Memory}
 use Rattle.plain_words.specs.declared.faults.ReadFault.{ReadFault}
 use Rattle.cert_tree.specs.Certificate.{Contents, Piece, piece_of, piece_number}
-use Rattle.cert_tree.specs.Assembly.{Assembles}
 use Rattle.cert_tree.specs.Limits.{IsLemmaWithin}
 use Rattle.cert_text.specs.declared.faults.CertTextFault.{CertTextFault}
 use Rattle.cert_text.specs.Faults.{of_assembly}

@@ -10,13 +10,13 @@ use Rattle.plain_words.specs.declared.faults.TextKind.TheVariants.{Word}
 use Rattle.match_limits.specs.declared.ranges.Ranges.{Ranges}
 use Rattle.match_limits.specs.declared.ranges.TheConstants.{SECOND}
 use Rattle.match_limits.specs.Ranges.{ranges_of}
+use Rattle.numbered_pieces.specs.declared.faults.AssembleFault.TheVariants.{Memory}
+use Rattle.numbered_pieces.specs.Assembly.{Assembles}
 use Rattle.plain_words.specs.Words.{fixed_in, number_in}
 use Rattle.text_words.specs.Words.{colour_in, pair_in}
 use Rattle.text_words.specs.Place.{Read, ◌>>=◌, give, line_of, word_by, entries, opening, counted, closing, end_of_text}
 use Rattle.text_words.specs.Place.{times, start, value_of}
-use Rattle.cert_tree.specs.declared.faults.AssembleFault.TheVariants.{Memory}
 use Rattle.cert_tree.specs.Certificate.{Contents, Piece, piece_number}
-use Rattle.cert_tree.specs.Assembly.{Assembles}
 use Rattle.cert_text.specs.declared.faults.CertTextFault.{CertTextFault}
 use Rattle.cert_text.specs.declared.faults.CertTextFault.TheVariants as faults
 use Rattle.cert_text.specs.Entries.{entries_before}

@@ -1,10 +1,5 @@
 pub mod TreeLemmas
 pub mod HeadLemmas
 pub mod SpanLemmas
-pub mod AssemblyLemmas
-pub mod NumberedLemmas
-pub mod OrderLemmas
-pub mod PieceLemmas
 pub mod ConversionLemmas
 pub mod TreeLimitLemmas
-pub mod TurningLemmas

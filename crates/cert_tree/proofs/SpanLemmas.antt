@@ -1,5 +1,5 @@
 -- Lemmas that lie among others, and stay where they are while more are put behind them.
-use Rattle.std.proofs.Common.{◌≡◌, ◌≤◌, ◌<◌, ◌^◌, ◌-◌, ◌++◌, ◌∷◌, ◌+◌, ℕ, zero, suc, List, [], Some, Contains, get_or, slice_get, length, take, drop, map, refl, sym, ap, subst, ◌∙◌, arith, ⊎_elim}
+use Rattle.std.proofs.Common.{◌≡◌, ◌≤◌, ◌<◌, ◌^◌, ◌-◌, ◌++◌, ◌∷◌, ◌+◌, ℕ, zero, suc, List, [], Some, Contains, get_or, slice_get, length, take, drop, map, Ok, refl, sym, ap, subst, ◌∙◌, arith, ⊎_elim}
 use Rattle.std.specs.List.{slice_range}
 use Rattle.std.proofs.lemmas.List.{take-append-le, drop-append-le, get_or_append_left, get_or-append-add, length-append, length-drop, length-map, map-append, take_rest}
 use Rattle.std.proofs.lemmas.List.Elements.{Contains-append_cases, Contains-push_cases}
@@ -9,12 +9,14 @@ use Rattle.cert_tree.specs.declared.heads.Head.{Head}
 use Rattle.cert_tree.specs.declared.flat_lemmas.LemmaSpan.{LemmaSpan}
 use Rattle.cert_tree.specs.Heads.{heads_of, trees_in, first, AreOfTree}
 use Rattle.std.specs.Prelude.{All}
+use Rattle.match_limits.proofs.ListLemmas.{place_of}
+use Rattle.numbered_pieces.specs.Assembly.{Assembles}
 use Rattle.match_puzzle.proofs.Prefixes.{inside}
 use Rattle.cert_tree.specs.declared.certificates.Lemma.{Lemma}
 use Rattle.cert_tree.specs.Tree.{Tree, tree_of, IsNarrow}
 use Rattle.cert_tree.specs.Certificate.{Piece, piece_of}
 use Rattle.cert_tree.specs.declared.flat_lemmas.Block.{Block}
-use Rattle.cert_tree.specs.Spans.{piece_in, piece_at, pairs_of, pairs_at, heads_of_block, heads_at, LiesIn, IsSpan, AreSpans, IsPlaced, ArePlaced, CanMove, moved_by}
+use Rattle.cert_tree.specs.Spans.{number_of, piece_in, piece_at, pairs_of, pairs_at, heads_of_block, heads_at, LiesIn, IsSpan, AreSpans, IsPlaced, ArePlaced, CanMove, moved_by}
 use Rattle.cert_tree.proofs.HeadLemmas.{of_tree}
 
 -- ---- what stands behind other things
@@ -214,6 +216,12 @@ module _ (block : Block) where
       each (span ∷ spans) are =
           ap (λ piece. piece ∷ map (piece_at (block ∷ [])) spans) (alone_piece span (are span (0, omega arith, refl)).first)
           ∙ ap (λ pieces. piece_in (pairs_of block) (heads_of_block block) span ∷ pieces) (each spans (λ other at. are other (suc at.0, omega (arith, at.1), at.2)))
+
+-- what is assembled lies there still
+pub assembled_spans : (blocks : List Block) (count : ℕ) (spans sorted : List LemmaSpan) → ArePlaced blocks spans → Assembles number_of count spans (Ok sorted) → ArePlaced blocks sorted
+assembled_spans blocks count spans sorted are is span at =
+    let place = place_of sorted span at in
+    are span (is.only place.0 span place.1).among
 
 -- ---- a lemma that was put behind the others
 

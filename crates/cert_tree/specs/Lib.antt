@@ -4,9 +4,4 @@ pub mod HeadCode
 pub mod Certificate
 pub mod Limits
 pub mod Spans
-pub mod Assembly
-pub mod TurnedAssembly
-pub mod Turning
-pub mod Slots
 pub mod HeadLaws
-pub mod FaultText

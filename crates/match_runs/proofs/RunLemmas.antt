@@ -1,8 +1,8 @@
 -- What the parts of a run read.
 use Rattle.std.proofs.Common.{◌≡◌, Result, Ok, Err, refl, ap, sym}
+use Rattle.numbered_pieces.specs.declared.faults.AssembleFault.{AssembleFault}
 use Rattle.plain_words.specs.declared.faults.TextFault.{TextFault}
 use Rattle.cert_tree.specs.Certificate.{Contents}
-use Rattle.cert_tree.specs.declared.faults.AssembleFault.{AssembleFault}
 use Rattle.cert_text.specs.CertificateText.{Said, Makes, CertificateGives}
 use Rattle.cert_text.specs.declared.faults.CertTextFault.TheVariants.{Text, Assemble}
 use Rattle.cert_check.specs.Setting.{Question}

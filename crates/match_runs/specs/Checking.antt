@@ -1,5 +1,7 @@
 -- What three documents spell, and what a check of them prints.
 use Rattle.std.specs.Prelude.{◌≡◌, ◌≢◌, List, Ok, Err, length, ℕ}
+use Rattle.numbered_pieces.specs.Assembly.{Assembles, IsAssembly}
+use Rattle.numbered_pieces.specs.declared.faults.AssembleFault.TheVariants as assemblies
 use Rattle.match_puzzle.specs.Puzzle.{Task}
 use Rattle.match_puzzle.specs.declared.placements.Placement.{Placement}
 use Rattle.match_text.specs.Puzzles.{PuzzleReads}
@@ -7,8 +9,6 @@ use Rattle.match_text.specs.Lists.{list_of}
 use Rattle.match_text.specs.declared.faults.PuzzleTextFault.TheVariants as puzzles
 use Rattle.plain_words.specs.declared.faults.ReadFault.TheVariants as lists
 use Rattle.cert_tree.specs.Certificate.{piece_number}
-use Rattle.cert_tree.specs.Assembly.{Assembles, IsAssembly}
-use Rattle.cert_tree.specs.declared.faults.AssembleFault.TheVariants as assemblies
 use Rattle.cert_text.specs.CertificateText.{Said, certificate_of}
 use Rattle.cert_text.specs.declared.faults.CertTextFault.TheVariants as certificates
 use Rattle.cert_check.specs.Setting.{Question}

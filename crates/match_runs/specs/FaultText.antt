@@ -1,11 +1,11 @@
 -- How a fault of a run is told, and printed.
 use Rattle.std.specs.Prelude.{ℕ, List, [], ◌∷◌, ◌++◌, codes, decimal}
+use Rattle.numbered_pieces.specs.declared.faults.AssembleFault.TheVariants as assemblies
 use Rattle.match_board.specs.declared.classes.TilesFault.{TilesFault}
 use Rattle.match_board.specs.declared.classes.TilesFault.TheVariants as tile_lists
 use Rattle.match_text.specs.declared.faults.PuzzleTextFault.{PuzzleTextFault}
 use Rattle.match_text.specs.declared.faults.PuzzleTextFault.TheVariants as puzzle_text
 use Rattle.match_puzzle.specs.declared.faults.PuzzleFault.TheVariants as puzzles
-use Rattle.cert_tree.specs.declared.faults.AssembleFault.TheVariants as assemblies
 use Rattle.plain_words.specs.declared.faults.ReadFault.{ReadFault}
 use Rattle.plain_words.specs.declared.faults.ReadFault.TheVariants as list_text
 use Rattle.cert_text.specs.declared.faults.CertTextFault.{CertTextFault}

@@ -1,1 +1,2 @@
+pub mod TurnedAssemblyLemmas
 pub mod TurningLemmas

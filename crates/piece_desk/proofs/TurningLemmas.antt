@@ -3,7 +3,7 @@ use Rattle.std.proofs.Common.{◌≡◌, ◌++◌, ℕ, List, map, reverse, take
 use Rattle.std.proofs.lemmas.List.{map-append, reverse-append, take-append-drop}
 use Rattle.cert_tree.specs.declared.flat_lemmas.FlatLemma.{FlatLemma}
 use Rattle.cert_tree.specs.Certificate.{Piece, flat_piece}
-use Rattle.cert_tree.specs.TurnedAssembly.{turned_piece}
+use Rattle.piece_desk.specs.TurnedAssembly.{turned_piece}
 use Rattle.piece_desk.specs.Turnings.{AreTurned}
 
 -- a list that was split

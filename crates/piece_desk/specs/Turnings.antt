@@ -4,7 +4,7 @@ use Rattle.match_limits.specs.declared.TheConstants.{MOST_ARRANGEMENTS, MOST_CEL
 use Rattle.cert_tree.specs.declared.flat_lemmas.FlatLemma.{FlatLemma}
 use Rattle.cert_tree.specs.Certificate.{Piece, flat_piece}
 use Rattle.cert_tree.specs.Limits.{IsLemmaWithin}
-use Rattle.cert_tree.specs.TurnedAssembly.{turned_piece}
+use Rattle.piece_desk.specs.TurnedAssembly.{turned_piece}
 
 -- The lemmas can be turned: each is within the limits of its text, and its number has a first listed arrangement.
 pub record CanBeTurned (first : List ℕ) (lemmas : List FlatLemma) : Type 0 where

@@ -4,12 +4,13 @@ ghost use Rattle.std.specs.Prelude.{All, ◌≡◌, ◌<◌, ◌≤◌, ◌^◌,
 ghost use Rattle.std.specs.Iterator.{at_most};
 ghost use Rattle.cert_tree.specs.Certificate.{flat_piece, lent_piece, piece_of};
 ghost use Rattle.cert_tree.specs.Limits.{IsLemmaWithin};
-ghost use Rattle.cert_tree.specs.TurnedAssembly.{AssemblesTurned};
+ghost use Rattle.piece_desk.specs.TurnedAssembly.{AssemblesTurned};
 ghost use Rattle.piece_desk.specs.Desks.{IsOf, lemma_of, posted_piece, places_left};
 
+use crate::turned_assemblies::assemble_turned;
 use boxcar::tag::Tag;
 use boxcar::{Iter, Keeps, Pushed, Vec as Places};
-use cert_tree::{AssembleFault, Certificate, FlatLemma, Lemma, PackedLemma, assemble_turned};
+use cert_tree::{AssembleFault, Certificate, FlatLemma, Lemma, PackedLemma};
 use match_board::SymmetryLine;
 use match_limits::{MOST_ARRANGEMENTS, MOST_CELLS, MOST_LEMMAS};
 use std::alloc::{AllocError, Global};

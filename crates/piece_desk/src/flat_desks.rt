@@ -4,13 +4,14 @@ ghost use Rattle.std.specs.Prelude.{All, ◌≡◌, ◌<◌, ◌≤◌, ◌^◌,
 ghost use Rattle.match_limits.specs.declared.TheConstants.{MOST_CELLS};
 ghost use Rattle.cert_tree.specs.Certificate.{flat_piece};
 ghost use Rattle.cert_tree.specs.Limits.{IsLemmaWithin};
-ghost use Rattle.cert_tree.specs.TurnedAssembly.{AssemblesTurned};
+ghost use Rattle.piece_desk.specs.TurnedAssembly.{AssemblesTurned};
 ghost use Rattle.piece_desk.specs.FlatDesks.{IsOfFlat, flat_posted};
 
+use crate::turned_assemblies::in_turned_order;
 use crate::turnings::turned_by;
 use boxcar::tag::Tag;
 use boxcar::{Keeps, Pushed, Vec as Places};
-use cert_tree::{AssembleFault, Certificate, FlatLemma, PackedLemma, in_turned_order};
+use cert_tree::{AssembleFault, Certificate, FlatLemma, PackedLemma};
 use match_board::SymmetryLine;
 use match_limits::{MOST_ARRANGEMENTS, MOST_CELLS, MOST_LEMMAS};
 use std::alloc::{AllocError, Global};

@@ -3,6 +3,7 @@
 
 mod desks;
 mod flat_desks;
+mod turned_assemblies;
 mod turnings;
 
 pub use desks::{Desk, Receipt, Shown};

@@ -5,7 +5,8 @@ ghost use Rattle.std.specs.Fn.{FnReturnsAt};
 ghost use Rattle.std.specs.Thread.{IsSync};
 ghost use Rattle.piece_desk.specs.Turnings.{AreTurned, CanBeTurned};
 
-use cert_tree::{FlatLemma, Lemmas, turned_lemmas};
+use crate::turned_assemblies::turned_lemmas;
+use cert_tree::{FlatLemma, Lemmas};
 use std::alloc::{AllocError, Global};
 use std::thread::Threads;
 use steal_crew::both;

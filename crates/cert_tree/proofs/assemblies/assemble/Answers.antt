@@ -1,18 +1,18 @@
 use Rattle.std.proofs.Common.{◌≡◌, ◌≢◌, ◌≤◌, ◌<◌, ◌^◌, List, None, length, map, ap, sym, subst, ◌∙◌}
 use Rattle.std.specs.Prelude.{All}
+use Rattle.numbered_pieces.specs.Assembly.{HaveNoStranger, TellsLeast, how_often}
+use Rattle.numbered_pieces.proofs.AssemblyLemmas.{first_stranger, no_strangers}
+use Rattle.numbered_pieces.proofs.MadeLemmas.{tells_of_made}
 use Rattle.cert_tree.specs.declared.certificates.Lemma.{Lemma}
-use Rattle.cert_tree.specs.Assembly.{HaveNoStranger, TellsLeast, how_often}
 use Rattle.cert_tree.specs.Certificate.{Piece, piece_number, piece_of}
-use Rattle.cert_tree.proofs.AssemblyLemmas.{first_stranger, no_strangers}
 use Rattle.cert_tree.proofs.ConversionLemmas.{short_pieces}
-use Rattle.cert_tree.proofs.PieceLemmas.{tells_of_pieces}
 use Rattle.cert_tree.proofs.assemblies.assemble.Goals as goal
 use Rattle.cert_tree.proofs.assemblies.assemble.Goals.{After-least_stranger}
 
 -- the least number at or past the count among the pieces
 least_of : (c : After-least_stranger) → TellsLeast (λ n. (c.args.count ≤ n) × (how_often piece_number (map piece_of c.args.pieces.items) n ≢ 0)) c.least_stranger.result
 least_of c =
-    tells_of_pieces piece_of c.args.count c.args.pieces.items c.least_stranger.result
+    tells_of_made piece_number piece_of c.args.count c.args.pieces.items c.least_stranger.result
     (subst (λ lemmas. TellsLeast (λ n. (c.args.count ≤ n) × (how_often (λ (lemma : Lemma). lemma.number) lemmas n ≢ 0)) c.least_stranger.result) c.deref.ensures.value c.least_stranger.ensures)
 
 none_past : (c : After-least_stranger) → c.least_stranger.result ≡ None → HaveNoStranger piece_number c.args.count (map piece_of c.args.pieces.items)

@@ -1,12 +1,13 @@
 use Rattle.std.proofs.Common.{ℕ, List, ◌<◌, ◌≤◌, ◌^◌, length, sym, subst, arith}
 use Rattle.match_limits.specs.declared.TheConstants.{MOST_LEMMAS}
 use Rattle.std.specs.Prelude.{All}
+use Rattle.numbered_pieces.specs.Assembly.{IsAssembly}
+use Rattle.numbered_pieces.proofs.AssemblyLemmas.{assembled_all}
+use Rattle.numbered_pieces.proofs.MadeLemmas.{assembled_made}
 use Rattle.match_board.specs.declared.symmetry_lines.SymmetryLine.{SymmetryLine}
 use Rattle.cert_tree.specs.Certificate.{Contents, Piece, IsNumbered, piece_number}
 use Rattle.cert_tree.specs.Spans.{piece_at}
-use Rattle.cert_tree.specs.Assembly.{IsAssembly}
-use Rattle.cert_tree.proofs.AssemblyLemmas.{assembled_all}
-use Rattle.cert_tree.proofs.PieceLemmas.{assembled_spans, assembled_lemmas}
+use Rattle.cert_tree.proofs.SpanLemmas.{assembled_spans}
 use Rattle.cert_tree.proofs.assemblies.assemble_flat.Goals as goal
 use Rattle.cert_tree.proofs.assemblies.assemble_flat.Goals.{After-of_blocks-lemmas}
 
@@ -26,7 +27,7 @@ of_blocks-lemmas-requires c =
 
 assembled : (c : After-of_blocks-lemmas) → IsAssembly piece_number c.args.count c.args.pieces c.of_blocks-lemmas.result
 assembled c =
-    assembled_lemmas (piece_at c.apart-blocks.result.0.items) c.args.count c.apart-blocks.result.1.items c.in_ok-spans.spans.items c.args.pieces c.of_blocks-lemmas.result c.apart-blocks.ensures.lemmas c.of_blocks-lemmas.ensures c.in_ok-spans.ensures.ok
+    assembled_made piece_number (piece_at c.apart-blocks.result.0.items) c.args.count c.apart-blocks.result.1.items c.in_ok-spans.spans.items c.args.pieces c.of_blocks-lemmas.result c.apart-blocks.ensures.lemmas c.of_blocks-lemmas.ensures c.in_ok-spans.ensures.ok
 
 pub of-requires : goal.of-requires
 of-requires c = numbered c.args.count c.args.symmetries.items c.args.pieces c.of_blocks-lemmas.result c.requires.count c.requires.symmetries c.requires.prefixes (assembled c)

@@ -1,5 +1,5 @@
+use Rattle.numbered_pieces.proofs.OrderLemmas.{one_in_any_order}
 use Rattle.cert_tree.specs.Certificate.{piece_number}
-use Rattle.cert_tree.proofs.OrderLemmas.{one_in_any_order}
 use Rattle.cert_tree.proofs.assemblies.assembly_laws.Goals as goal
 
 pub returns : goal.returns

@@ -1,0 +1,4 @@
+pub mod AssemblyLemmas
+pub mod NumberedLemmas
+pub mod OrderLemmas
+pub mod MadeLemmas
