@@ -11,10 +11,9 @@ use match_puzzle::{Pair, Puzzle};
 use std::alloc::{AllocError, Global};
 use std::test::Fail;
 use test_samples::turning_triangle;
-use xcc_dance::{
-    Cite, Cites, Links, NoCites, OpenOptions, OpenSets, Outcome, Search, SearchFault, SearchOver,
-};
+use xcc_dance::{Cite, Cites, NoCites, OpenOptions, OpenSets, Outcome, SearchFault, SearchOver};
 use xcc_form::{Xcc, compile};
+use xcc_links::{Links, Search};
 
 // Whether these are the uncovered items, and how many open options each has.
 fn sizes_are(links: &Links<'_>, wanted: &[(u32, u32)]) -> bool {

@@ -7,12 +7,3 @@ pub mod Progress
 pub mod SearchTree
 pub mod Unfinished
 pub mod Outcome
-pub mod Rings
-pub mod NodeLists
-pub mod NodeTables
-pub mod Trails
-pub mod NodeClashes
-pub mod Marks
-pub mod TableLayout
-pub mod LinkStates
-pub mod ArrayWords

@@ -1,12 +1,11 @@
-//! The search for solutions of a compiled puzzle, over an engine that keeps which options still go with the chosen ones:
-//! as linked lists, or as counts of what fits.
+//! The search for solutions of a compiled puzzle, over an engine that keeps which options still go with the chosen ones,
+//! as `OpenSets` does by counts of what fits.
 #![tactic(auto)]
 
 mod chooses;
 mod cites;
 mod faults;
 mod laws;
-mod links;
 mod lookups;
 mod open_options;
 mod open_sets;
@@ -23,9 +22,8 @@ pub use laws::{
     branch_items_have_the_fewest, open_options_are_listed, open_options_are_those_that_fit,
     options_stand_as_pairs, uncovered_items_are_open, whole_selections_are_solutions,
 };
-pub use links::{Links, links_with_nothing_chosen_are_one};
 pub use lookups::{open_option, option_behind, uncovered_item};
-pub use open_options::{OpenOptions, left_by};
+pub use open_options::{FromCompiled, OpenOptions, left_by};
 pub use open_sets::OpenSets;
-pub use searches::{Outcome, PackedOutcome, Search, SearchOver, links_of_ready_searches_are_one};
+pub use searches::{Outcome, PackedOutcome, SearchOver};
 pub use watches::{Counted, Met, Unwatched, Watch};

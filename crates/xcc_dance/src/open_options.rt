@@ -1,17 +1,16 @@
 //! What a search asks of its engine, which keeps what is chosen and what is open.
 
-ghost use Rattle.std.specs.Prelude.{◌≡◌, ◌<◌, IfOk, IfSome, OnErr, MatchOption, length};
+ghost use Rattle.std.specs.Prelude.{◌≡◌, ◌<◌, [], IfOk, IfSome, OnErr, MatchOption, length};
 ghost use Rattle.xcc_form.specs.Options.{cover_of};
 ghost use Rattle.xcc_dance.specs.Clashes.{IsOpen, IsOpenAt};
 ghost use Rattle.xcc_dance.specs.Chosen.{Selection, IsSelection, IsUncovered, AreAllCovered, with_option, without_last};
 ghost use Rattle.xcc_dance.specs.Chosen.{HasSize, IsToBranchOn, IsNextItem, IsLastItem, IsNext, IsLast};
 
-use crate::links::Links;
-use std::alloc::AllocError;
+use std::alloc::{AllocError, Global};
 use xcc_form::Xcc;
 
 /// An engine of a search: options chosen of a compiled puzzle, no two of which clash, and the open options beside them,
-/// however these are kept: `Links` has linked lists, `OpenSets` counts what fits.
+/// however these are kept: `OpenSets` counts what fits.
 ///
 /// An option is open where it clashes with no chosen one. An item is covered where a chosen option has it.
 pub trait OpenOptions {
@@ -76,47 +75,11 @@ pub trait OpenOptions {
     ghost all_but_last: { (s : Self) → selection (taken_back s) ≡ without_last (selection s) };
 }
 
-impl<'a> OpenOptions for Links<'a> {
-    ghost use Rattle.std.specs.Prelude.{refl};
-    ghost use Rattle.xcc_dance.specs.LinkStates.{selection_of, taken_back as links_taken_back};
-
-    ghost selection = { selection_of };
-
-    ghost taken_back = { links_taken_back };
-
-    ghost all_but_last = { λ s. refl };
-
-    fn xcc(&self) -> &Xcc<'_> {
-        self.xcc()
-    }
-
-    fn chosen(&self) -> &[u32] {
-        self.chosen()
-    }
-
-    fn branch_item(&self) -> Option<u32> {
-        self.branch_item()
-    }
-
-    fn next_item(&self, after: Option<u32>) -> Option<u32> {
-        self.next_item(after)
-    }
-
-    fn size(&self, item: u32) -> u32 {
-        self.size(item)
-    }
-
-    fn next_option(&self, item: u32, after: Option<u32>) -> Option<u32> {
-        self.next_option(item, after)
-    }
-
-    fn choose(&mut self, option: u32) -> Result<(), AllocError> {
-        self.choose(option)
-    }
-
-    fn undo(&mut self) {
-        self.undo();
-    }
+/// An engine that is made of a compiled puzzle, which it may borrow.
+pub trait FromCompiled<'a>: OpenOptions + Sized {
+    /// Nothing is chosen yet. An error comes where memory is refused.
+    fn from_compiled(alloc: Global, xcc: &'a Xcc<'a>) -> Result<Self, AllocError>
+        ensures { IfOk result (λ s. Self.selection s ≡ record { compiled = xcc.now; chosen = [] }) };
 }
 
 /// How much is left by an open option: one, and the fewest open options that an uncovered item has where it is chosen

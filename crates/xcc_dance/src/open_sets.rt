@@ -5,7 +5,7 @@ ghost use Rattle.xcc_form.specs.Options.{cover_of};
 ghost use Rattle.xcc_dance.specs.Chosen.{IsUncovered};
 ghost use Rattle.xcc_dance.specs.Placing.{IsPairOfAny};
 
-use crate::open_options::OpenOptions;
+use crate::open_options::{FromCompiled, OpenOptions};
 use match_fits::FitCounts;
 use match_puzzle::{Item, Pair};
 use std::alloc::{AllocError, Global};
@@ -121,5 +121,11 @@ impl<'a> OpenOptions for OpenSets<'a> {
     fn undo(&mut self) {
         self.counts.lift();
         self.chosen.pop();
+    }
+}
+
+impl<'a> FromCompiled<'a> for OpenSets<'a> {
+    fn from_compiled(alloc: Global, xcc: &'a Xcc<'a>) -> Result<OpenSets<'a>, AllocError> {
+        OpenSets::new(alloc, xcc)
     }
 }

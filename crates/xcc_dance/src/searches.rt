@@ -3,7 +3,6 @@
 ghost use Rattle.std.specs.Prelude.{◌≡◌, ◌↔◌, ◌⊎◌, ◌≤◌, [], List, IfOk, IsErrOf, OnErr, true, false};
 ghost use Rattle.cert_tree.specs.Tree.{tree_of};
 ghost use Rattle.match_puzzle.specs.declared.placements.Pair.{Pair as Placed};
-ghost use Rattle.xcc_dance.specs.LinkStates.{selection_of};
 ghost use Rattle.match_fits.specs.Placing.{FitInTurn};
 ghost use Rattle.xcc_dance.specs.Outcome.{IsOutcome, IsPackedOutcome, IsPackedSearchOf, IsSearchOf};
 ghost use Rattle.xcc_dance.specs.SearchTree.{picks_fewest};
@@ -11,8 +10,7 @@ ghost use Rattle.xcc_dance.specs.SearchTree.{picks_fewest};
 use crate::chooses::{Chooses, FewestOptions};
 use crate::cites::Cites;
 use crate::faults::SearchFault;
-use crate::links::{Links, links_with_nothing_chosen_are_one};
-use crate::open_options::OpenOptions;
+use crate::open_options::{FromCompiled, OpenOptions};
 use crate::paths::SearchPath;
 use crate::progress::Progress;
 use crate::searching::walk;
@@ -57,9 +55,6 @@ pub struct SearchOver<E: OpenOptions + Drop> {
     failed: bool,
 }
 
-/// A search over linked lists.
-pub type Search<'a> = SearchOver<Links<'a>>;
-
 impl<E: OpenOptions + Drop> Model for SearchOver<E> {
     ghost use Rattle.std.specs.Prelude.{◌≡◌, [], false};
     ghost use Rattle.xcc_dance.specs.Outcome.{SearchState};
@@ -71,15 +66,15 @@ impl<E: OpenOptions + Drop> Model for SearchOver<E> {
     ghost invariant = { λ s. s.failed ≡ false → (E.selection s.path).chosen ≡ [] };
 }
 
-impl<'a> SearchOver<Links<'a>> {
-    /// A search that did not run yet.
+impl<'a, E: FromCompiled<'a> + Drop> SearchOver<E> {
+    /// A search that did not run yet, over a new engine.
     ///
-    /// An error where memory for as many options as there are cells is refused.
-    pub fn new(alloc: Global, xcc: &'a Xcc<'a>) -> Result<Search<'a>, AllocError>
-        ensures empty { IfOk result (λ s. selection_of s.engine ≡ record { compiled = xcc.now; chosen = [] }) }
+    /// An error where memory is refused, for the engine, and for as many pairs as there are cells.
+    pub fn new(alloc: Global, xcc: &'a Xcc<'a>) -> Result<SearchOver<E>, AllocError>
+        ensures empty { IfOk result (λ s. E.selection s.engine ≡ record { compiled = xcc.now; chosen = [] }) }
         ensures ready { IfOk result (λ s. (s.branches ≡ 0) × (s.failed ≡ false)) }
     {
-        SearchOver::over(alloc, Links::new(alloc, xcc)?)
+        SearchOver::over(alloc, E::from_compiled(alloc, xcc)?)
     }
 }
 
@@ -97,6 +92,14 @@ impl<E: OpenOptions + Drop> SearchOver<E> {
             branches: 0,
             failed: false,
         })
+    }
+
+    /// The engine. Nothing is chosen where the search did not fail.
+    pub fn engine(&self) -> &E
+        ensures same { result.now ≡ self.now.engine }
+        ensures ready { self.now.failed ≡ false → (E.selection self.now.engine).chosen ≡ [] }
+    {
+        self.path.engine()
     }
 
     /// How many branch nodes the last run made that did not answer `Failed`; none before any.
@@ -202,15 +205,4 @@ impl<E: OpenOptions + Drop> SearchOver<E> {
         let tree = PackedTree::of(heads);
         Ok(PackedOutcome::Done { tree, found })
     }
-}
-
-/// Does nothing. Its promise is a law: two searches of one compiled puzzle have the same links, each link and each
-/// size, where neither failed. So one that is done has the links of a new one.
-pub fn links_of_ready_searches_are_one(first: &Search<'_>, second: &Search<'_>)
-    requires compiled { second.now.engine.compiled ≡ first.now.engine.compiled }
-    requires first { first.now.failed ≡ false }
-    requires second { second.now.failed ≡ false }
-    ensures { second.now.engine ≡ first.now.engine }
-{
-    links_with_nothing_chosen_are_one(first.path.engine(), second.path.engine());
 }

@@ -1,6 +1,0 @@
-use Rattle.std.proofs.Common.{◌≡◌, ◌++◌, map, take}
-use Rattle.xcc_dance.specs.TableLayout.{edge_entry}
-use Rattle.xcc_dance.proofs.links.tables.add_edges.Given as goal
-
-abbrev pub invariant-loop-edge : goal.invariant-loop-edge
-invariant-loop-edge l = l.entries.items ≡ l.initial.entries.items ++ map (edge_entry l.option) (take l.edge-index l.edges)

@@ -1,0 +1,9 @@
+pub mod Rings
+pub mod NodeLists
+pub mod NodeTables
+pub mod Trails
+pub mod NodeClashes
+pub mod Marks
+pub mod TableLayout
+pub mod LinkStates
+pub mod ArrayWords
