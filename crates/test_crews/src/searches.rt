@@ -1,6 +1,5 @@
 //! The turning triangle, worked out by hand: the sizes of its items, its tree, how many are found, and what is cited.
 
-ghost use Rattle.std.specs.Prelude.{◌≡◌, []};
 ghost use Rattle.xcc_form.specs.Options.{cover_of};
 ghost use Rattle.xcc_dance.specs.Chosen.{IsUncovered};
 
@@ -201,16 +200,9 @@ fn searches_by_links<'a>(alloc: Global, xcc: &'a Xcc<'a>) -> Result<bool, Search
     searches_once(alloc, Search::new(alloc, xcc)?)
 }
 
-// By another engine.
-fn searches_over<E: OpenOptions + Drop>(alloc: Global, engine: E) -> Result<bool, SearchFault>
-    requires { (E.selection engine).chosen ≡ [] }
-{
-    searches_once(alloc, SearchOver::over(alloc, engine)?)
-}
-
 // By counts of what fits.
 fn searches_by_sets<'a>(alloc: Global, xcc: &'a Xcc<'a>) -> Result<bool, SearchFault> {
-    searches_over(alloc, OpenSets::new(alloc, xcc)?)
+    searches_once(alloc, SearchOver::<OpenSets<'a>>::new(alloc, xcc)?)
 }
 
 // Whether all of it is so of what is compiled.
