@@ -1,7 +1,11 @@
 -- What is done to the files of a list and a certificate that are made beside their names.
-use Rattle.std.specs.Prelude.{◌≡◌, ◌⊎◌, ◌++◌, ◌∷◌, [], ℕ, List, Option}
+use Rattle.std.specs.Prelude.{◌≡◌, ◌⊎◌, ◌++◌, ◌∷◌, [], ℕ, List, Option, Result, Ok, Err}
 use Rattle.byte_streams.specs.Deeds.{Deed, Did, IsFileOf, did_make, did_put, did_remove}
+use Rattle.byte_streams.specs.declared.files.FileSystem.{Ghosts as FileMembers}
 use Rattle.byte_streams.specs.declared.made_files.MadeFiles.{MadeFiles}
+use Rattle.byte_streams.specs.declared.made_files.ProductNames.{ProductNames}
+use Rattle.byte_streams.specs.declared.made_files.Unsettled.{Unsettled}
+use Rattle.byte_streams.specs.declared.made_files.Unsettled.TheVariants.{NotPut, Stopped}
 use Rattle.byte_streams.specs.declared.outputs.Products.{Products}
 
 -- ---- deeds
@@ -57,3 +61,41 @@ pub record AreWritten {S W : Type 0} (makes : S → List ℕ → W → Type 0) (
     (list_name certificate_name : List ℕ) (made : MadeFiles W) (texts : Products) : Type 0 where
   pub list : IsFileOf makes written list_name made.list texts.list
   pub certificate : IsFileOf makes written certificate_name made.certificate texts.certificate
+
+-- ---- what comes of making them, and of putting them under their names
+
+module _ {S R W : Type 0} (system : FileMembers S R W) (names : ProductNames) (old new : S) where
+  -- Both were made beside their names, the list's first, and nothing else was done to a file.
+  abbrev pub MakesBoth : MadeFiles W → Type 0
+  MakesBoth made =
+      AreMade system.makes names.list.now names.certificate.now made
+      × Did system.does old (both_made names.list.now names.certificate.now) new
+
+module _ {S R W : Type 0} (system : FileMembers S R W) (written : W → Option (List ℕ)) (names : ProductNames) (made : MadeFiles W)
+  where
+    -- They took these texts.
+    abbrev pub Took : Products → Type 0
+    Took texts = AreWritten system.makes written names.list.now names.certificate.now made texts
+
+    -- They took some texts.
+    abbrev pub AreWhole : Type 0
+    AreWhole = (texts : Products) × Took texts
+
+    module _ (old new : S) where
+      -- Both are put under their names, with the texts that they took; or it fails, and both are removed, or the
+      -- certificate's alone, and the list's is put.
+      abbrev pub PutsBoth : {E : Type 0} → Result Unit E → Type 0
+      PutsBoth {E} (Ok done) =
+          (texts : Products) → Took texts
+          → Did system.does old (both_put names.list.now names.certificate.now texts) new
+      PutsBoth {E} (Err fault) =
+          (texts : Products) → Took texts
+          → PutsNoneOrHalf names.list.now names.certificate.now system.does old new texts
+
+      -- So it is where all was written. Else both are removed, and the fault comes back.
+      abbrev pub Settles : {E : Type 0} → (writes : Result Unit E) → Result Unit (Unsettled E) → Type 0
+      Settles {E} (Ok done) (Ok put) = PutsBoth {E = E} (Ok put)
+      Settles {E} (Ok done) (Err unsettled) = (unsettled ≡ NotPut) × PutsBoth (Err unsettled)
+      Settles {E} (Err fault) settled =
+          (settled ≡ Err (Stopped fault))
+          × Did system.does old (both_removed names.list.now names.certificate.now) new

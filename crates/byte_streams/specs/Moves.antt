@@ -1,5 +1,5 @@
 -- What a source and a sink tell before a call and after it.
-use Rattle.std.specs.Prelude.{◌≡◌, ◌⊎◌, ◌≤◌, ℕ, Bool, true, List, Option, Result, Ok, Err, length}
+use Rattle.std.specs.Prelude.{◌≡◌, ◌⊎◌, ◌≤◌, ℕ, Bool, true, false, List, Option, Result, Ok, Err, length}
 use Rattle.std.specs.Io.KnownBytes.{Appends}
 use Rattle.byte_streams.specs.Streams.{AppendsFront, GivesPast, GivesUpTo, GivesWhole, IsReadToEnd, one_more}
 use Rattle.byte_streams.specs.declared.faults.Document.{Document}
@@ -29,6 +29,10 @@ reading_of source old new = record {
   errors_after = source.errors new;
   Untouched = new ≡ old;
 }
+
+-- no read found its end, and no error came
+abbrev pub IsUnread : {S : Type 0} → SourceMembers S → S → Type 0
+IsUnread source reader = (source.ended reader ≡ false) × (source.errors reader ≡ 0)
 
 -- the text came whole, and then the end: it was all that was left
 abbrev pub ReadsWhole : Reading → List ℕ → Type 0
@@ -84,6 +88,10 @@ writing_of sink old new = record {
   errors_after = sink.errors new;
   Untouched = new ≡ old;
 }
+
+-- no write took nothing, and no error came
+abbrev pub IsUnwritten : {S : Type 0} → SinkMembers S → S → Type 0
+IsUnwritten sink writer = (sink.idle writer ≡ false) × (sink.errors writer ≡ 0)
 
 -- the text was written whole, and no error came
 abbrev pub Takes : Writing → (text : List ℕ) → Type 0

@@ -1,7 +1,8 @@
 //! The texts of several documents, and an input cut into three.
 
 ghost use Rattle.std.specs.Prelude.{◌≡◌, ◌==◌, ◌≤◌, ◌++◌, ◌∷◌, All, false, length, take, drop, IfSome, IfNone};
-ghost use Rattle.byte_streams.specs.Documents.{cut_document, first_of, second_of, third_of};
+ghost use Rattle.byte_streams.specs.Documents.{cut_document, texts_in};
+ghost use Rattle.byte_streams.specs.LentTexts.{texts_of};
 
 use crate::texts::Text;
 use memchr::memchr;
@@ -127,9 +128,7 @@ fn document_len(text: &[u8]) -> usize
 
 /// Cuts after the first line that is exactly `end`, and after the next such line.
 pub fn cut_joined(input: &[u8]) -> Documents<'_>
-    ensures puzzle { result.puzzle.now ≡ first_of input.now }
-    ensures list { result.list.now ≡ second_of input.now }
-    ensures certificate { result.certificate.now ≡ third_of input.now }
+    ensures texts { texts_of result ≡ texts_in input.now }
     ensures whole { input.now ≡ result.puzzle.now ++ (result.list.now ++ result.certificate.now) }
 {
     let (puzzle, others) = input.split_at(document_len(input));

@@ -30,13 +30,9 @@ impl<'a> Fake<'a> {
     /// taken, a write where so many were written.
     pub fn new(alloc: Global, bytes: &'a [u8], most: usize, fails_after: usize) -> Fake<'a>
         ensures bytes { result.bytes.now ≡ bytes.now }
-        ensures taken { result.taken ≡ 0 }
-        ensures written { result.written.items ≡ [] }
-        ensures most { result.most ≡ most }
-        ensures fails_after { result.fails_after ≡ fails_after }
-        ensures ended { result.ended ≡ false }
-        ensures idle { result.idle ≡ false }
-        ensures errors { result.errors ≡ 0 }
+        ensures bounds { (result.most ≡ most) × (result.fails_after ≡ fails_after) }
+        ensures unmoved { (result.taken ≡ 0) × (result.written.items ≡ []) }
+        ensures unasked { (result.ended ≡ false) × (result.idle ≡ false) × (result.errors ≡ 0) }
     {
         Fake {
             bytes,

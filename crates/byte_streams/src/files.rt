@@ -1,7 +1,8 @@
 //! Files by their names.
 
-ghost use Rattle.std.specs.Prelude.{◌≡◌, false, ℕ, List, IfOk, OnErr, OnOk};
+ghost use Rattle.std.specs.Prelude.{◌≡◌, ℕ, List, IfOk, OnErr, OnOk};
 ghost use Rattle.byte_streams.specs.Deeds.{Deed, IsFileOf, did_make, did_put, did_remove};
+ghost use Rattle.byte_streams.specs.Moves.{IsUnread, IsUnwritten};
 
 use crate::faults::FileFault;
 use crate::refusals::Refusal;
@@ -29,15 +30,13 @@ pub trait FileSystem {
     /// The file of this name, opened, with nothing read of it.
     fn open(&self, name: &str) -> Result<Self::Reader, Refusal>
         ensures opened { IfOk result (opens self.now name.now) }
-        ensures unread { IfOk result
-            (λ reader. (Self.Reader.ended reader ≡ false) × (Self.Reader.errors reader ≡ 0)) }
+        ensures unread { IfOk result (IsUnread Self.Reader.Source) }
         ensures refused { OnErr result (refuses self.now name.now) };
 
     /// A file that is to be put under this name, made beside it, empty. What stands under the name stands there still.
     fn make(&mut self, alloc: Global, name: &str) -> Result<Self::Writer, FileFault>
         ensures made { IfOk result (makes self.old name.now) }
-        ensures unwritten { IfOk result
-            (λ writer. (Self.Writer.idle writer ≡ false) × (Self.Writer.errors writer ≡ 0)) }
+        ensures unwritten { IfOk result (IsUnwritten Self.Writer.Sink) }
         ensures does { OnOk result (does self.old (did_make name.now) self.new) }
         ensures err { OnErr result (self.new ≡ self.old) };
 

@@ -1,10 +1,8 @@
 //! Files of a list and a certificate that are made beside their names, and put there once all is written.
 
-ghost use Rattle.std.specs.Prelude.{◌≡◌, Err, IfErr, IfOk, OnErr, OnOk};
+ghost use Rattle.std.specs.Prelude.{IfErr, IfOk, OnErr, OnOk};
 ghost use Rattle.byte_streams.specs.Deeds.{Did};
-ghost use Rattle.byte_streams.specs.MadeFiles.{AreMade, AreWritten, NotMadeUnder, PutsNoneOrHalf, Undid};
-ghost use Rattle.byte_streams.specs.MadeFiles.{both_made, both_put, both_removed};
-ghost use Rattle.byte_streams.specs.declared.outputs.Products.{Products};
+ghost use Rattle.byte_streams.specs.MadeFiles.{AreWhole, MakesBoth, NotMadeUnder, PutsBoth, Settles, Undid, both_removed};
 
 use crate::faults::FileFault;
 use crate::files::FileSystem;
@@ -40,9 +38,7 @@ pub fn make_both<'a, S: FileSystem>(
     names: &ProductNames<'a>,
     system: &mut S,
 ) -> Result<MadeFiles<S::Writer>, NotMade<'a>>
-    ensures made { IfOk result (AreMade S.makes names.now.list.now names.now.certificate.now) }
-    ensures does { OnOk result
-        (Did S.does system.old (both_made names.now.list.now names.now.certificate.now) system.new) }
+    ensures made { IfOk result (MakesBoth S.FileSystem names.now system.old system.new) }
     ensures undone { OnErr result (Undid names.now.list.now names.now.certificate.now S.does system.old system.new) }
     ensures name { IfErr result (λ failed. NotMadeUnder names.now.list.now names.now.certificate.now S.does system.old
         system.new failed.name.now) }
@@ -88,18 +84,8 @@ pub fn settle<S: FileSystem, E>(
     system: &mut S,
     written: Result<(), E>,
 ) -> Result<(), Unsettled<E>>
-    requires { OnOk written ((texts : Products)
-        × AreWritten S.makes S.Writer.written names.now.list.now names.now.certificate.now made texts) }
-    ensures removed { OnErr written
-        (Did S.does system.old (both_removed names.now.list.now names.now.certificate.now) system.new) }
-    ensures stopped { IfErr written (λ fault. result ≡ Err (Unsettled.Stopped fault)) }
-    ensures put { OnOk result ((texts : Products)
-        → AreWritten S.makes S.Writer.written names.now.list.now names.now.certificate.now made texts
-        → Did S.does system.old (both_put names.now.list.now names.now.certificate.now texts) system.new) }
-    ensures not_put { OnOk written (IfErr result (λ unsettled. unsettled ≡ Unsettled.NotPut)) }
-    ensures undone { OnOk written (OnErr result ((texts : Products)
-        → AreWritten S.makes S.Writer.written names.now.list.now names.now.certificate.now made texts
-        → PutsNoneOrHalf names.now.list.now names.now.certificate.now S.does system.old system.new texts)) }
+    requires { OnOk written (AreWhole S.FileSystem S.Writer.written names.now made) }
+    ensures { Settles S.FileSystem S.Writer.written names.now made system.old system.new written result }
 {
     match written {
         Ok(()) => {
@@ -130,14 +116,8 @@ fn put_both<S: FileSystem>(
     names: &ProductNames<'_>,
     system: &mut S,
 ) -> Result<(), Failed>
-    requires { (texts : Products)
-        × AreWritten S.makes S.Writer.written names.now.list.now names.now.certificate.now made texts }
-    ensures put { OnOk result ((texts : Products)
-        → AreWritten S.makes S.Writer.written names.now.list.now names.now.certificate.now made texts
-        → Did S.does system.old (both_put names.now.list.now names.now.certificate.now texts) system.new) }
-    ensures undone { OnErr result ((texts : Products)
-        → AreWritten S.makes S.Writer.written names.now.list.now names.now.certificate.now made texts
-        → PutsNoneOrHalf names.now.list.now names.now.certificate.now S.does system.old system.new texts) }
+    requires { AreWhole S.FileSystem S.Writer.written names.now made }
+    ensures { PutsBoth S.FileSystem S.Writer.written names.now made system.old system.new result }
 {
     if let Err(failed) = system.put(made.list, names.list) {
         system.remove(made.certificate, names.certificate);

@@ -1,10 +1,10 @@
 -- What a solve comes to, by the run that it makes and what is done to its files.
 use Rattle.std.proofs.Common.{◌≡◌, ◌⊎◌, ◌++◌, ◌∷◌, [], ℕ, List, Option, Result, Ok, Err, IfErr, ap, inl, inr, refl, subst, zero-le}
-use Rattle.std.specs.Prelude.{OnErr, OnOk}
+use Rattle.std.specs.Prelude.{OnOk}
 use Rattle.std.specs.Io.KnownBytes.{Appends, Consumes}
 use Rattle.std.proofs.KnownBytes.{Consumes-nil}
 use Rattle.byte_streams.specs.Deeds.{Deed, Did}
-use Rattle.byte_streams.specs.MadeFiles.{AreMade, AreWritten, PutsNoneOrHalf, Undid, both_made, both_removed}
+use Rattle.byte_streams.specs.MadeFiles.{AreMade, AreWritten, PutsBoth, PutsNoneOrHalf, Settles, Undid, both_made, both_removed}
 use Rattle.byte_streams.specs.Moves.{FrontOf, Takes, Writing}
 use Rattle.byte_streams.specs.Origins.{Origin, one_source}
 use Rattle.byte_streams.specs.Targets.{StopsWriting, Target, filled, products_to, three_sinks}
@@ -12,6 +12,7 @@ use Rattle.byte_streams.specs.declared.faults.Document.TheVariants as documents
 use Rattle.byte_streams.specs.declared.faults.InputFault.TheVariants as inputs
 use Rattle.byte_streams.specs.declared.files.FileSystem.{Ghosts as FileMembers}
 use Rattle.byte_streams.specs.declared.made_files.MadeFiles.{MadeFiles}
+use Rattle.byte_streams.specs.declared.made_files.ProductNames.{ProductNames}
 use Rattle.byte_streams.specs.declared.made_files.Unsettled.{Unsettled}
 use Rattle.byte_streams.specs.declared.made_files.Unsettled.TheVariants as unsettled
 use Rattle.byte_streams.specs.declared.outputs.Products.{Products}
@@ -105,31 +106,26 @@ put_stopped does files old now new report made both (inr half) takes = inr (did_
 
 -- ---- what files are settled by
 
--- what a call ensures after it ended well, or with an error
-pub after_ok : {T E A : Type 0} (result : Result T E) (value : T) → result ≡ Ok value → OnOk result A → A
-after_ok (Ok value) v is holds = holds
-after_ok (Err error) v is holds = absurd cc
-
-pub after_err : {T E A : Type 0} (result : Result T E) (error : E) → result ≡ Err error → OnErr result A → A
-after_err (Ok value) e is holds = absurd cc
-after_err (Err error) e is holds = holds
-
-module _ {E : Type 0} where
+module _ {S R W E : Type 0} (system : FileMembers S R W) (written : W → Option (List ℕ)) (names : ProductNames) (made : MadeFiles W) (old new : S) where
   -- they are put only where all was written
-  pub put_if_written : (written : Result Unit E) (settled : Result Unit (Unsettled E)) → settled ≡ Ok tt → IfErr written (λ fault. settled ≡ Err (unsettled.Stopped fault)) → written ≡ Ok tt
-  put_if_written (Ok done) settled put stopped = refl
-  put_if_written (Err fault) settled put stopped = absurd cc
+  pub put_if_written : (writes : Result Unit E) (settled : Result Unit (Unsettled E)) → settled ≡ Ok tt → Settles system written names made old new writes settled
+      → (writes ≡ Ok tt) × PutsBoth system written names made old new {E = E} (Ok tt)
+  put_if_written (Ok done) (Ok put) is settles = (refl, settles)
+  put_if_written (Ok done) (Err unsettled) is settles = absurd cc
+  put_if_written (Err fault) settled is settles = let back = settles.0 in absurd cc
 
-  pub tried_if_written : (written : Result Unit E) (settled : Result Unit (Unsettled E)) → settled ≡ Err unsettled.NotPut → IfErr written (λ fault. settled ≡ Err (unsettled.Stopped fault))
-      → written ≡ Ok tt
-  tried_if_written (Ok done) settled not_put stopped = refl
-  tried_if_written (Err fault) settled not_put stopped = absurd cc
+  pub tried_if_written : (writes : Result Unit E) (settled : Result Unit (Unsettled E)) → settled ≡ Err unsettled.NotPut → Settles system written names made old new writes settled
+      → (writes ≡ Ok tt) × PutsBoth system written names made old new {E = Unsettled E} (Err unsettled.NotPut)
+  tried_if_written (Ok done) (Ok put) is settles = absurd cc
+  tried_if_written (Ok done) (Err unsettled) is settles = (refl, settles.1)
+  tried_if_written (Err fault) settled is settles = let back = settles.0 in absurd cc
 
-  -- the fault that stopped is the one that comes back
-  pub stopped_by : (written : Result Unit E) (settled : Result Unit (Unsettled E)) (fault : E) → settled ≡ Err (unsettled.Stopped fault)
-      → IfErr written (λ f. settled ≡ Err (unsettled.Stopped f)) → OnOk written (IfErr settled (λ u. u ≡ unsettled.NotPut)) → written ≡ Err fault
-  stopped_by (Ok done) settled fault is stopped not_put = let other : unsettled.Stopped fault ≡ unsettled.NotPut = subst (λ r. IfErr r (λ u. u ≡ unsettled.NotPut)) is not_put in absurd cc
-  stopped_by (Err f) settled fault is stopped not_put = cc
+  -- the fault that stopped is the one that comes back, and both are removed
+  pub stopped_by : (writes : Result Unit E) (settled : Result Unit (Unsettled E)) (fault : E) → settled ≡ Err (unsettled.Stopped fault) → Settles system written names made old new writes settled
+      → (writes ≡ Err fault) × Did system.does old (both_removed names.list.now names.certificate.now) new
+  stopped_by (Ok done) (Ok put) fault is settles = absurd cc
+  stopped_by (Ok done) (Err u) fault is settles = let other : unsettled.Stopped fault ≡ unsettled.NotPut = subst (λ r. IfErr r (λ u. u ≡ unsettled.NotPut)) is settles.0 in absurd cc
+  stopped_by (Err f) settled fault is settles = (let back = settles.0 in cc, settles.1)
 
 -- what holds after a run that ended well
 pub after_run : {T M A : Type 0} (from : Origin T) (gives : T → M → Unit {0} → Type 0) (fails : T → RunFault → Type 0) (to : Target M) (told : Result Unit HintedFault)

@@ -1,7 +1,6 @@
 -- What words come to, by how they were read.
-use Rattle.std.proofs.Common.{◌≡◌, ◌∙◌, List, Result, refl, sym, inl, inr, ⊎_elim}
+use Rattle.std.proofs.Common.{◌≡◌, ◌∙◌, List, Result, sym, inl, inr, ⊎_elim}
 use Rattle.clap.specs.Words.{Text, kind_of}
-use Rattle.clap.specs.declared.error.Error.{Error}
 use Rattle.clap.specs.declared.error.kind.ErrorKind.{ErrorKind}
 use Rattle.clap.specs.declared.error.kind.ErrorKind.TheVariants as kinds
 use Rattle.command_words.specs.Orders.{IsRefused}
@@ -9,7 +8,7 @@ use Rattle.command_words.specs.declared.faults.WordsFault.{WordsFault}
 use Rattle.command_words.specs.declared.faults.WordsFault.TheVariants as words_faults
 use Rattle.command_words.specs.declared.orders.Order.{Order}
 use Rattle.byte_streams.specs.Moves.{Writing}
-use Rattle.match_program.specs.WordRuns.{Explains, WantsMemory, WordsGive}
+use Rattle.match_program.specs.WordRuns.{Explains, Refuses, WordsGive}
 use Rattle.match_program.specs.declared.exits.Exit.{Exit}
 use Rattle.match_program.specs.declared.exits.Exit.TheVariants.{Failed}
 use Rattle.match_runs.specs.declared.faults.RunFault.{RunFault}
@@ -20,13 +19,11 @@ refused_so output errors exit kind is explains = explains.1 (λ asks. ⊎_elim (
 
 -- of words that were refused
 pub refused : (words : List Text) (Run : Order → Result Exit RunFault → Type 0) (Unchanged : Type 0) → Unchanged → (output errors : Writing) (exit : Exit)
-    (fault : WordsFault) → IsRefused words fault
-    → (fault ≡ words_faults.Memory → WantsMemory output errors exit) → ((error : Error) → fault ≡ words_faults.Words error → Explains output errors exit (kind_of error))
-    → WordsGive words Run Unchanged output errors exit
-refused words Run Unchanged unchanged output errors exit words_faults.Memory by wants are = inr (unchanged, inl (wants refl))
-refused words Run Unchanged unchanged output errors exit (words_faults.Words error) by wants are =
+    (fault : WordsFault) → IsRefused words fault → Refuses output errors exit fault → WordsGive words Run Unchanged output errors exit
+refused words Run Unchanged unchanged output errors exit words_faults.Memory by wants = inr (unchanged, inl wants)
+refused words Run Unchanged unchanged output errors exit (words_faults.Words error) by explains =
     inr (
       unchanged,
-      ⊎_elim (λ strange. inr (inl (strange.0, kind_of error, strange.1, are error refl)))
-          (λ misfit. inr (inr (let told = refused_so output errors exit (kind_of error) misfit.1 (are error refl) in (misfit.0, told.0, told.1)))) by,
+      ⊎_elim (λ strange. inr (inl (strange.0, kind_of error, strange.1, explains)))
+          (λ misfit. inr (inr (let told = refused_so output errors exit (kind_of error) misfit.1 explains in (misfit.0, told.0, told.1)))) by,
     )

@@ -11,6 +11,9 @@ use Rattle.byte_streams.specs.declared.faults.InputFault.TheVariants as inputs
 use Rattle.byte_streams.specs.declared.files.FileSystem.{Ghosts as FileMembers}
 use Rattle.byte_streams.specs.declared.sources.Source.{Ghosts as SourceMembers}
 use Rattle.command_words.specs.declared.places.Files.{Files}
+use Rattle.match_program.specs.declared.document_readers.ThreeReaders.{ThreeReaders}
+use Rattle.match_runs.specs.declared.faults.RunFault.{RunFault}
+use Rattle.match_runs.specs.declared.faults.RunFault.TheVariants as runs
 
 -- a document, and the name of its file
 pub record Filed : Type 0 where
@@ -40,6 +43,10 @@ module _ {S R W : Type 0} (system : FileMembers S R W) (source : SourceMembers R
   CantOpen [] of = ⊥
   CantOpen (f ∷ rest) of = ((of ≡ f.document) × system.refuses at f.name) ⊎ (Opened f.name × CantOpen rest of)
 
+  -- What the fault says: one can't be opened.
+  abbrev pub IsUnopenedFile : List Filed → RunFault → Type 0
+  IsUnopenedFile files fault = (of : Document) × CantOpen files of × (fault ≡ runs.Read of)
+
   -- A file can't be opened, and so can't be read.
   abbrev pub FailsToOpen : List Filed → InputFault → Type 0
   FailsToOpen files (inputs.Read of) = CantOpen files of
@@ -53,6 +60,12 @@ module _ {S R W : Type 0} (system : FileMembers S R W) (source : SourceMembers R
         FailsToOpen (filed documents.Puzzle name ∷ []) fault
         ⊎ ((file : Opened name) × (one_source documents.Puzzle (read_from name file)).Stopped fault);
   }
+
+  -- The readers are of the files of a puzzle, a list and a certificate, as they were just opened.
+  pub record AreOfFiles (files : Files) (readers : ThreeReaders R) : Type 0 where
+    pub puzzle : system.opens at (string_bytes files.puzzle) readers.puzzle
+    pub list : system.opens at (string_bytes files.list) readers.list
+    pub certificate : system.opens at (string_bytes files.certificate) readers.certificate
 
   -- readers of the files of a puzzle, a list and a certificate
   pub record AllOpened (files : Files) : Type 0 where

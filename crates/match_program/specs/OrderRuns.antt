@@ -12,6 +12,7 @@ use Rattle.byte_streams.specs.Origins.{Origin, joined_source, no_source}
 use Rattle.byte_streams.specs.Targets.{Target, one_sink}
 use Rattle.byte_streams.specs.declared.files.FileSystem.{Ghosts as FileMembers}
 use Rattle.byte_streams.specs.declared.outputs.Products.{Products}
+use Rattle.byte_streams.specs.declared.sinks.Sink.{Ghosts as SinkMembers}
 use Rattle.byte_streams.specs.declared.sources.Source.{Ghosts as SourceMembers}
 use Rattle.match_runs.specs.Census.{CensusFails, CensusGives}
 use Rattle.match_runs.specs.Checking.{CheckFails, CheckGives, SpellCompleteList}
@@ -23,7 +24,9 @@ use Rattle.match_runs.specs.Pictures.{DrawsPicture, PictureFails}
 use Rattle.match_runs.specs.Printing.{PrintingFails, PrintingGives}
 use Rattle.match_runs.specs.Runs.{Runs}
 use Rattle.match_program.specs.PlaceOrigins.{given_documents, one_place, two_places}
+use Rattle.match_program.specs.SameStreams.{output_of}
 use Rattle.match_program.specs.SolvedFiles.{solved_files}
+use Rattle.match_program.specs.declared.streams.Streams.{Streams}
 use Rattle.match_runs.specs.Solving.{SolveFails, SolveGives}
 use Rattle.match_runs.specs.Tiles.{TileLinesGive, TilesFail, TilesGive}
 use Rattle.match_runs.specs.declared.description_runs.Description.{Description}
@@ -134,3 +137,9 @@ module _ {S R W I : Type 0} (system : FileMembers S R W) (source : SourceMembers
           (new ≡ old)
           × DescriptionOf descriptions.Symmetries (one_place system source input old given puzzle) output result
       RunOf (Tiles sides colours lines) result = (new ≡ old) × TilesOf sides colours lines output result
+
+-- What an order comes to, over files and streams in a state, and in a later one.
+abbrev pub RunOver : {S R F I W E : Type 0} → FileMembers S R F → SourceMembers R → SourceMembers I → SinkMembers W
+    → (old : S) (before : Streams I W E) (new : S) (after : Streams I W E) → Order → Result Exit RunFault → Type 0
+RunOver system source input sink old before new after =
+    RunOf system source input old before.input.now new after.input.now (output_of sink before after)

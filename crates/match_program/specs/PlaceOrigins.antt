@@ -21,6 +21,10 @@ use Rattle.command_words.specs.declared.places.TwoPlaces.{TwoPlaces}
 use Rattle.match_program.specs.DocumentReaders.{IsOfFile, ended_in, errors_in, left_in}
 use Rattle.match_program.specs.declared.document_readers.DocumentReader.{DocumentReader}
 use Rattle.match_program.specs.declared.document_readers.DocumentReader.TheVariants as readers
+use Rattle.match_program.specs.declared.document_readers.ThreeReaders.{ThreeReaders}
+use Rattle.match_program.specs.declared.document_readers.TwoReaders.{TwoReaders}
+use Rattle.match_runs.specs.declared.faults.RunFault.{RunFault}
+use Rattle.match_runs.specs.declared.faults.RunFault.TheVariants as runs
 
 -- a document, and where it stands
 pub record Placed : Type 0 where
@@ -74,6 +78,10 @@ module _ {S R W I : Type 0} (system : FileMembers S R W) (file : SourceMembers R
     CantOpenAt [] of = ⊥
     CantOpenAt (p ∷ rest) of = ((of ≡ p.document) × Refuses p.place) ⊎ (OpenedAt p.place × CantOpenAt rest of)
 
+    -- What the fault says: one can't be opened.
+    abbrev pub IsUnopened : List Placed → RunFault → Type 0
+    IsUnopened all fault = (of : Document) × CantOpenAt all of × (fault ≡ runs.Read of)
+
     -- A file can't be opened, and so can't be read.
     abbrev pub FailsToOpenAt : List Placed → InputFault → Type 0
     FailsToOpenAt all (inputs.Read of) = CantOpenAt all of
@@ -87,6 +95,11 @@ module _ {S R W I : Type 0} (system : FileMembers S R W) (file : SourceMembers R
           FailsToOpenAt (placed documents.Puzzle place ∷ []) fault
           ⊎ ((reader : OpenedAt place) × (one_source documents.Puzzle (read_at place reader)).Stopped fault);
     }
+
+    -- The readers are of a puzzle and a list that stand there, with nothing read of them.
+    pub record AreBothOf (two : TwoPlaces) (readers : TwoReaders (DocumentReader R I)) : Type 0 where
+      pub puzzle : Opens (puzzle_of_two two) readers.puzzle
+      pub list : Opens (list_of_two two) readers.list
 
     -- readers of a puzzle and a list
     pub record BothOpened (two : TwoPlaces) : Type 0 where
@@ -103,6 +116,12 @@ module _ {S R W I : Type 0} (system : FileMembers S R W) (file : SourceMembers R
       Stopped = λ fault.
           FailsToOpenAt (both_placed two) fault ⊎ ((both : BothOpened two) × (read_both two both).Stopped fault);
     }
+
+    -- The readers are of a puzzle, a list and a certificate that stand there, with nothing read of them.
+    pub record AreAllOf (three : ThreePlaces) (readers : ThreeReaders (DocumentReader R I)) : Type 0 where
+      pub puzzle : Opens (puzzle_place three) readers.puzzle
+      pub list : Opens (list_place three) readers.list
+      pub certificate : Opens (certificate_place three) readers.certificate
 
     -- readers of a puzzle, a list and a certificate
     pub record AllOpenedAt (three : ThreePlaces) : Type 0 where

@@ -1,11 +1,13 @@
 -- What the words of a command line come to.
 use Rattle.std.specs.Prelude.{◌≡◌, ◌≢◌, ◌⊎◌, ℕ, List, Result, Ok, Err, true}
 use Rattle.std.specs.Io.KnownBytes.{Appends}
-use Rattle.clap.specs.Words.{IsAmong, Text, fault_of, takes}
+use Rattle.clap.specs.Words.{IsAmong, Text, fault_of, kind_of, takes}
 use Rattle.clap.specs.declared.error.kind.ErrorKind.{ErrorKind}
 use Rattle.clap.specs.declared.error.kind.ErrorKind.TheVariants.{DisplayHelp, DisplayVersion}
 use Rattle.command_words.specs.Commands.{whole_app}
 use Rattle.command_words.specs.Orders.{IsOrder}
+use Rattle.command_words.specs.declared.faults.WordsFault.{WordsFault}
+use Rattle.command_words.specs.declared.faults.WordsFault.TheVariants as words_faults
 use Rattle.command_words.specs.declared.orders.Order.{Order}
 use Rattle.byte_streams.specs.Moves.{FrontOf, Writing}
 use Rattle.match_program.specs.Exits.{fault_exit}
@@ -47,6 +49,11 @@ abbrev pub Explains : (output errors : Writing) → Exit → ErrorKind → Type 
 Explains output errors exit kind =
     (AsksForText kind → ((exit ≡ Done) × errors.Untouched) ⊎ ((exit ≡ Failed) × TellsOfText errors))
     × ((AsksForText kind → ⊥) → (exit ≡ Failed) × output.Untouched)
+
+-- What is told of words that give no order: why `clap` refuses them, or want of memory.
+abbrev pub Refuses : (output errors : Writing) → Exit → WordsFault → Type 0
+Refuses output errors exit (words_faults.Words error) = Explains output errors exit (kind_of error)
+Refuses output errors exit words_faults.Memory = WantsMemory output errors exit
 
 -- What words come to: they are those of an order, which was carried out; or nothing was done to a file, and memory was
 -- refused while they were read, or `clap` doesn't take them, for a reason of this kind, or they are of a command, and give

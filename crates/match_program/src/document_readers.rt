@@ -3,9 +3,8 @@
 ghost use Rattle.std.specs.Prelude.{◌≡◌, ◌∷◌, [], IfOk, IfErr};
 ghost use Rattle.std.specs.String.{string_bytes};
 ghost use Rattle.byte_streams.specs.declared.faults.Document.TheVariants as documents;
-ghost use Rattle.command_words.specs.Places.{certificate_place, list_of_two, list_place, puzzle_of_two, puzzle_place};
 ghost use Rattle.match_program.specs.DocumentReaders.{IsOfFile, ended_in, errors_in, left_in};
-ghost use Rattle.match_program.specs.PlaceOrigins.{CantOpenAt, Opens, all_placed, both_placed, placed};
+ghost use Rattle.match_program.specs.PlaceOrigins.{AreAllOf, AreBothOf, IsUnopened, Opens, all_placed, both_placed, placed};
 
 use crate::files::open;
 use byte_streams::{Document, Failed, FileSystem, Source, ThreeSources};
@@ -89,10 +88,8 @@ pub(crate) fn open_place<'i, S: FileSystem, I: Source>(
     input: &'i mut I,
 ) -> Result<DocumentReader<'i, S::Reader, I>, HintedFault>
     ensures opened { IfOk result (Opens S.FileSystem S.Reader.Source I.Source system.now input.old place.now) }
-    ensures fault { IfErr result (λ hinted. (document : Document)
-        × CantOpenAt S.FileSystem S.Reader.Source I.Source system.now input.old
-        (placed documents.Puzzle place.now ∷ []) document
-        × (hinted.fault ≡ RunFault.Read document)) }
+    ensures fault { IfErr result (λ hinted. IsUnopened S.FileSystem S.Reader.Source I.Source system.now input.old
+        (placed documents.Puzzle place.now ∷ []) hinted.fault) }
 {
     match place {
         Place::File(name) => Ok(file_reader(alloc, system, name, Document::Puzzle)?),
@@ -107,13 +104,9 @@ pub(crate) fn open_two<'i, S: FileSystem, I: Source>(
     system: &S,
     input: &'i mut I,
 ) -> Result<TwoReaders<DocumentReader<'i, S::Reader, I>>, HintedFault>
-    ensures puzzle { IfOk result (λ opened.
-        Opens S.FileSystem S.Reader.Source I.Source system.now input.old (puzzle_of_two places.now) opened.puzzle) }
-    ensures list { IfOk result (λ opened.
-        Opens S.FileSystem S.Reader.Source I.Source system.now input.old (list_of_two places.now) opened.list) }
-    ensures fault { IfErr result (λ hinted. (document : Document)
-        × CantOpenAt S.FileSystem S.Reader.Source I.Source system.now input.old (both_placed places.now) document
-        × (hinted.fault ≡ RunFault.Read document)) }
+    ensures opened { IfOk result (AreBothOf S.FileSystem S.Reader.Source I.Source system.now input.old places.now) }
+    ensures fault { IfErr result (λ hinted. IsUnopened S.FileSystem S.Reader.Source I.Source system.now input.old
+        (both_placed places.now) hinted.fault) }
 {
     match places {
         TwoPlaces::Files { puzzle, list } => Ok(TwoReaders {
@@ -138,15 +131,9 @@ pub(crate) fn open_three<'i, S: FileSystem, I: Source>(
     system: &S,
     input: &'i mut I,
 ) -> Result<ThreeReaders<DocumentReader<'i, S::Reader, I>>, HintedFault>
-    ensures puzzle { IfOk result (λ opened.
-        Opens S.FileSystem S.Reader.Source I.Source system.now input.old (puzzle_place places.now) opened.puzzle) }
-    ensures list { IfOk result (λ opened.
-        Opens S.FileSystem S.Reader.Source I.Source system.now input.old (list_place places.now) opened.list) }
-    ensures certificate { IfOk result (λ opened. Opens S.FileSystem S.Reader.Source I.Source system.now input.old
-        (certificate_place places.now) opened.certificate) }
-    ensures fault { IfErr result (λ hinted. (document : Document)
-        × CantOpenAt S.FileSystem S.Reader.Source I.Source system.now input.old (all_placed places.now) document
-        × (hinted.fault ≡ RunFault.Read document)) }
+    ensures opened { IfOk result (AreAllOf S.FileSystem S.Reader.Source I.Source system.now input.old places.now) }
+    ensures fault { IfErr result (λ hinted. IsUnopened S.FileSystem S.Reader.Source I.Source system.now input.old
+        (all_placed places.now) hinted.fault) }
 {
     match places {
         ThreePlaces::Files(files) => Ok(ThreeReaders {

@@ -1,27 +1,13 @@
 //! Files of a list and a certificate that are made beside their names, and put there once all is written.
 
-ghost use Rattle.std.specs.Prelude.{◌≡◌, ◌⊎◌, IfOk, IfErr, OnErr, OnOk};
-ghost use Rattle.std.specs.String.{string_bytes};
-ghost use Rattle.byte_streams.specs.Deeds.{Did};
-ghost use Rattle.byte_streams.specs.MadeFiles.{AreMade, Undid, both_made};
+ghost use Rattle.std.specs.Prelude.{◌≡◌, ◌⊎◌, IfOk, IfErr, OnErr};
+ghost use Rattle.byte_streams.specs.MadeFiles.{MakesBoth, Undid};
 ghost use Rattle.match_program.specs.SolvedFiles.{NothingIsLost};
 
 use crate::files::hint_on;
 use byte_streams::{FileFault, FileSystem, MadeFiles, NotMade, ProductNames, make_both};
-use command_words::Files;
 use match_runs::{HintedFault, RunFault};
 use std::alloc::Global;
-
-// The names of the files that are made.
-pub(crate) fn names_of(files: &Files) -> ProductNames<'_>
-    ensures list { result.list.now ≡ string_bytes files.now.list }
-    ensures certificate { result.certificate.now ≡ string_bytes files.now.certificate }
-{
-    ProductNames {
-        list: &files.list,
-        certificate: &files.certificate,
-    }
-}
 
 // Makes both, the list's first, or none of them, and then the hint says why.
 pub(crate) fn make_files<S: FileSystem>(
@@ -29,9 +15,7 @@ pub(crate) fn make_files<S: FileSystem>(
     names: &ProductNames<'_>,
     system: &mut S,
 ) -> Result<MadeFiles<S::Writer>, HintedFault>
-    ensures made { IfOk result (AreMade S.makes names.now.list.now names.now.certificate.now) }
-    ensures does { OnOk result
-        (Did S.does system.old (both_made names.now.list.now names.now.certificate.now) system.new) }
+    ensures made { IfOk result (MakesBoth S.FileSystem names.now system.old system.new) }
     ensures undone { OnErr result (Undid names.now.list.now names.now.certificate.now S.does system.old system.new) }
     ensures fault { IfErr result (λ hinted. (hinted.fault ≡ RunFault.Write) ⊎ (hinted.fault ≡ RunFault.Memory)) }
 {

@@ -5,8 +5,8 @@ ghost use Rattle.std.specs.String.{string_bytes};
 ghost use Rattle.byte_streams.specs.Moves.{reading_of, writing_of};
 ghost use Rattle.byte_streams.specs.Origins.{joined_source, three_sources};
 ghost use Rattle.command_words.specs.declared.orders.Subject.TheVariants.{Listed};
-ghost use Rattle.match_program.specs.FileOrigins.{CantOpen, all_three, one_file, three_files};
-ghost use Rattle.match_program.specs.OrderRuns.{CensusOf, CheckOf, DescriptionOf, PictureOf, PrintingOf, RunOf, ShowOf};
+ghost use Rattle.match_program.specs.FileOrigins.{AreOfFiles, IsUnopenedFile, all_three, one_file, three_files};
+ghost use Rattle.match_program.specs.OrderRuns.{CensusOf, CheckOf, DescriptionOf, PictureOf, PrintingOf, RunOver, ShowOf};
 ghost use Rattle.match_program.specs.OrderRuns.{SolveOf, TilesOf, list_printed};
 ghost use Rattle.match_program.specs.PlaceOrigins.{given_documents, one_place, three_places};
 ghost use Rattle.match_runs.specs.Runs.{unhinted};
@@ -16,20 +16,20 @@ ghost use Rattle.match_program.specs.SolvedFiles.{solved_files};
 use crate::document_readers::{ThreeReaders, TwoReaders, open_place, open_three, open_two};
 use crate::exits::Exit;
 use crate::files::{are_apart, hint_on, open};
-use crate::made_files::{make_files, names_of};
+use crate::made_files::make_files;
 use crate::progress::{CensusProgress, CheckProgress, SolveProgress};
 use crate::streams::Streams;
 use byte_streams::{
-    Document, FileSystem, JoinedSource, MadeFiles, OneSink, OneSource, Sink, Source, ThreeSinks,
-    ThreeSources, Unsettled, settle,
+    Document, FileSystem, JoinedSource, MadeFiles, OneSink, OneSource, ProductNames, Sink, Source,
+    ThreeSinks, ThreeSources, Unsettled, settle,
 };
 use cert_check::Open;
 use command_words::{Extent, Files, Given, Order, Place, Subject, ThreePlaces, TwoPlaces};
 use match_limits::{ArrangementNumber, Colours, Drawn, Forks, Sides, Workers};
 use match_runs::{
     CensusPlan, CheckPlan, Description, HintedFault, PicturePlan, Printing, PrintingPlan, RunFault,
-    SearchPlan, Watched, run_census, run_check_watched, run_description, run_joined_watched,
-    run_listed, run_picture, run_printing, run_solve_watched, run_tile_lines, run_tiles,
+    SearchPlan, Watched, run_census, run_check_watched, run_description, run_listed, run_picture,
+    run_printing, run_solve_watched, run_tile_lines, run_tiles,
 };
 use std::alloc::Global;
 use std::random::RandomSource;
@@ -62,8 +62,8 @@ pub fn run_order<
 ) -> Result<Exit, HintedFault>
     ensures same { AreSameStreams streams.old streams.new }
     ensures errors { streams.new.errors.now ≡ streams.old.errors.now }
-    ensures run { RunOf S.FileSystem S.Reader.Source I.Source system.old streams.old.input.now system.new
-        streams.new.input.now (writing_of W.Sink streams.old.output.now streams.new.output.now) order.now (unhinted result) }
+    ensures run { RunOver S.FileSystem S.Reader.Source I.Source W.Sink system.old streams.old system.new streams.new
+        order.now (unhinted result) }
 {
     match order {
         Order::Joined => {
@@ -222,7 +222,13 @@ fn check_joined<I: Source, W: Sink, R: Threads + Sync>(
         watch: &Open,
         hints,
     };
-    let status = run_joined_watched(rt, alloc, &check, input, output)?;
+    let status = run_check_watched(
+        rt,
+        alloc,
+        &check,
+        &mut JoinedSource { input },
+        &mut OneSink { sink: output },
+    )?;
     Ok(Exit::of_status(status))
 }
 
@@ -232,13 +238,9 @@ fn open_all<S: FileSystem>(
     system: &S,
     files: &Files,
 ) -> Result<ThreeReaders<S::Reader>, HintedFault>
-    ensures puzzle { IfOk result (λ opened. S.opens system.now (string_bytes files.now.puzzle) opened.puzzle) }
-    ensures list { IfOk result (λ opened. S.opens system.now (string_bytes files.now.list) opened.list) }
-    ensures certificate { IfOk result (λ opened.
-        S.opens system.now (string_bytes files.now.certificate) opened.certificate) }
-    ensures fault { IfErr result (λ hinted. (document : Document)
-        × CantOpen S.FileSystem S.Reader.Source system.now (all_three files.now) document
-        × (hinted.fault ≡ RunFault.Read document)) }
+    ensures opened { IfOk result (AreOfFiles S.FileSystem S.Reader.Source system.now files.now) }
+    ensures fault { IfErr result (λ hinted.
+        IsUnopenedFile S.FileSystem S.Reader.Source system.now (all_three files.now) hinted.fault) }
 {
     Ok(ThreeReaders {
         puzzle: open(alloc, system, &files.puzzle, Document::Puzzle)?,
@@ -310,7 +312,10 @@ fn solve<S: FileSystem, W: Sink, R: Threads + Wait + Sync + Clock + Eprint>(
     if !are_apart(alloc, files, system)? {
         return Err(not_apart(alloc, files, system));
     }
-    let names = names_of(files);
+    let names = ProductNames {
+        list: &files.list,
+        certificate: &files.certificate,
+    };
     let mut made = make_files(alloc, &names, system)?;
     let progress = SolveProgress::new(rt, order.progress);
     let search = Watched {

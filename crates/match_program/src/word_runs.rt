@@ -3,12 +3,11 @@
 ghost use Rattle.std.specs.Prelude.{◌≡◌, map};
 ghost use Rattle.std.specs.String.{string_bytes};
 ghost use Rattle.clap.specs.Words.{kind_of};
-ghost use Rattle.clap.specs.declared.error.Error.{Error};
 ghost use Rattle.byte_streams.specs.Moves.{writing_of};
 ghost use Rattle.match_program.specs.Exits.{fault_exit};
-ghost use Rattle.match_program.specs.OrderRuns.{RunOf};
-ghost use Rattle.match_program.specs.SameStreams.{AreSameStreams};
-ghost use Rattle.match_program.specs.WordRuns.{CarriesOut, Explains, Tells, TellsFault, WantsMemory, WordsGive};
+ghost use Rattle.match_program.specs.OrderRuns.{RunOver};
+ghost use Rattle.match_program.specs.SameStreams.{AreSameStreams, errors_of, output_of};
+ghost use Rattle.match_program.specs.WordRuns.{CarriesOut, Explains, Refuses, Tells, TellsFault, WordsGive};
 
 use crate::exits::Exit;
 use crate::order_runs::run_order;
@@ -41,11 +40,9 @@ pub fn run_words<
     streams: &mut Streams<'_, '_, '_, I, W, E>,
 ) -> Exit
     ensures same { AreSameStreams streams.old streams.new }
-    ensures run { WordsGive (map string_bytes words.now) (RunOf S.FileSystem S.Reader.Source I.Source system.old
-        streams.old.input.now system.new streams.new.input.now
-        (writing_of W.Sink streams.old.output.now streams.new.output.now)) (system.new ≡ system.old)
-        (writing_of W.Sink streams.old.output.now streams.new.output.now)
-        (writing_of E.Sink streams.old.errors.now streams.new.errors.now) result }
+    ensures run { WordsGive (map string_bytes words.now) (RunOver S.FileSystem S.Reader.Source I.Source W.Sink
+        system.old streams.old system.new streams.new) (system.new ≡ system.old)
+        (output_of W.Sink streams.old streams.new) (errors_of E.Sink streams.old streams.new) result }
 {
     match order(alloc, words) {
         Ok(order) => carry_out(rt, alloc, &order, system, streams),
@@ -68,9 +65,8 @@ fn carry_out<
     streams: &mut Streams<'_, '_, '_, I, W, E>,
 ) -> Exit
     ensures same { AreSameStreams streams.old streams.new }
-    ensures run { CarriesOut (RunOf S.FileSystem S.Reader.Source I.Source system.old streams.old.input.now system.new
-        streams.new.input.now (writing_of W.Sink streams.old.output.now streams.new.output.now) order.now)
-        (writing_of E.Sink streams.old.errors.now streams.new.errors.now) result }
+    ensures run { CarriesOut (RunOver S.FileSystem S.Reader.Source I.Source W.Sink system.old streams.old system.new
+        streams.new order.now) (errors_of E.Sink streams.old streams.new) result }
 {
     if streams.terminal && streams.typed {
         tell_what_is_read(rt, order);
@@ -182,11 +178,8 @@ fn refuse<W: Sink, E: Sink>(
     output: &mut W,
     errors: &mut E,
 ) -> Exit
-    ensures memory { fault.now ≡ WordsFault.Memory
-        → WantsMemory (writing_of W.Sink output.old output.new) (writing_of E.Sink errors.old errors.new) result }
-    ensures words { (error : Error) → fault.now ≡ WordsFault.Words error
-        → Explains (writing_of W.Sink output.old output.new) (writing_of E.Sink errors.old errors.new) result
-        (kind_of error) }
+    ensures { Refuses (writing_of W.Sink output.old output.new) (writing_of E.Sink errors.old errors.new) result
+        fault.now }
 {
     match fault {
         WordsFault::Words(error) => explained(alloc, error, output, errors),

@@ -1,15 +1,23 @@
 -- What the parts of a run read.
-use Rattle.std.proofs.Common.{◌≡◌, Result, Ok, Err, refl, ap, sym}
+use Rattle.std.proofs.Common.{◌≡◌, ℕ, List, Result, Ok, Err, refl, ap, sym, subst}
 use Rattle.numbered_pieces.specs.declared.faults.AssembleFault.{AssembleFault}
 use Rattle.plain_words.specs.declared.faults.TextFault.{TextFault}
 use Rattle.cert_tree.specs.Certificate.{Contents}
-use Rattle.cert_text.specs.CertificateText.{Said, Makes, CertificateGives}
+use Rattle.cert_text.specs.CertificateText.{Said, Makes, CertificateGives, certificate_of}
+use Rattle.cert_text.specs.declared.faults.CertTextFault.{CertTextFault}
+use Rattle.cert_text.specs.declared.faults.CertTextFault.TheVariants as certificates
 use Rattle.cert_text.specs.declared.faults.CertTextFault.TheVariants.{Text, Assemble}
-use Rattle.cert_check.specs.Setting.{Question}
+use Rattle.cert_check.specs.Setting.{Question, question_of}
+use Rattle.match_puzzle.specs.Puzzle.{Task}
+use Rattle.match_puzzle.specs.declared.placements.Placement.{Placement}
+use Rattle.match_text.specs.Lists.{list_of}
+use Rattle.match_text.specs.Puzzles.{PuzzleReads}
+use Rattle.match_runs.specs.FaultText.{run_of_certificate}
 use Rattle.byte_streams.specs.Documents.{Texts}
 use Rattle.match_runs.specs.Checking.{CheckFails, Spells}
-use Rattle.match_runs.specs.Printing.{PrintingFails, QuestionFails}
-use Rattle.match_runs.specs.Runs.{IsOfTexts}
+use Rattle.match_runs.specs.Printing.{IsPrinted, PrintingFails, PrintingGives, QuestionFails}
+use Rattle.match_runs.specs.Runs.{IsOfTexts, MadeOf}
+use Rattle.match_report.specs.declared.statuses.Status.{Status}
 use Rattle.match_runs.specs.declared.faults.RunFault.{RunFault}
 use Rattle.match_runs.specs.declared.faults.RunFault.TheVariants as runs
 use Rattle.match_runs.specs.declared.printing_runs.Printing.{Printing}
@@ -28,6 +36,27 @@ text_fails fault (Err other) same = ap Err (sym same)
 pub lemmas_fail : (fault : AssembleFault) (outcome : Result Said TextFault) → CertificateGives (Err (Assemble fault)) outcome → (said : Said) × (outcome ≡ Ok said) × Makes said (Err (Assemble fault))
 lemmas_fail fault (Ok said) makes = (said, refl, makes)
 lemmas_fail fault (Err other) gives = absurd gives
+
+-- a certificate that has a fault, behind a puzzle and a list
+pub certificate_fails : (ts : Texts) (e : CertTextFault) (fault : RunFault) (p : Task) (listed : List (List Placement)) → PuzzleReads ts.puzzle (Ok p) → list_of ts.list ≡ Ok listed
+    → CertificateGives (Err e) (certificate_of ts.certificate) → fault ≡ run_of_certificate e → CheckFails ts fault
+certificate_fails ts (Text f) fault p listed reads lists gives is = subst (CheckFails ts) (sym is) (p, listed, reads, lists, text_fails f (certificate_of ts.certificate) gives)
+certificate_fails ts (Assemble f) fault p listed reads lists gives is = let w = lemmas_fail f (certificate_of ts.certificate) gives in subst (CheckFails ts) (sym is) (p, listed, reads, lists, (w.0, w.1, w.2.0, w.2.1))
+certificate_fails ts certificates.Memory fault p listed reads lists gives is = subst (CheckFails ts) (sym is) tt
+
+-- the question that was read
+pub question_spelled : (ts : Texts) (p : Task) (listed : List (List Placement)) (c : Contents) → PuzzleReads ts.puzzle (Ok p) → list_of ts.list ≡ Ok listed
+    → CertificateGives (Ok c) (certificate_of ts.certificate) → Spells ts (question_of p listed c)
+question_spelled ts p listed c reads lists gives =
+    let made = certificate_said c (certificate_of ts.certificate) gives in
+    record {
+      puzzle_read = reads;
+      list_read = lists;
+      said = made.0;
+      certificate_read = made.1;
+      symmetries = made.2.0;
+      assembled = made.2.1;
+    }
 
 -- ---- faults
 
@@ -55,3 +84,17 @@ pub question_fails : (printing : Printing) (texts : Texts) (question : Question)
 question_fails printing texts question spelled runs.Expand fails = (question, spelled, fails.0, fails.1)
 question_fails printing texts question spelled runs.Memory fails = tt
 question_fails printing texts question spelled _ fails = absurd fails
+
+-- what is printed of the question that texts spell is printed of them
+pub printed_of : (printing : Printing) (texts : Texts) (question : Question) → Spells texts question → (result : Result (List ℕ × Status) RunFault)
+    → MadeOf (IsPrinted printing) (QuestionFails printing) question result → MadeOf (PrintingGives printing) (PrintingFails printing) texts result
+printed_of printing texts question spelled (Ok made) printed = record {
+  question = question;
+  answer = printed.answer;
+  spelled = spelled;
+  answered = printed.answered;
+  sound = printed.sound;
+  is = printed.is;
+  ends = printed.ends;
+}
+printed_of printing texts question spelled (Err fault) failed = (question_fails printing texts question spelled fault failed.0, failed.1)

@@ -1,8 +1,8 @@
 -- What three documents spell, and what a check of them prints.
-use Rattle.std.specs.Prelude.{◌≡◌, ◌≢◌, List, Ok, Err, length, ℕ}
+use Rattle.std.specs.Prelude.{◌≡◌, ◌≢◌, List, Result, Ok, Err, length, ℕ}
 use Rattle.numbered_pieces.specs.Assembly.{Assembles, IsAssembly}
 use Rattle.numbered_pieces.specs.declared.faults.AssembleFault.TheVariants as assemblies
-use Rattle.match_puzzle.specs.Puzzle.{Task}
+use Rattle.match_puzzle.specs.Puzzle.{IsPuzzle, Task}
 use Rattle.match_puzzle.specs.declared.placements.Placement.{Placement}
 use Rattle.match_text.specs.Puzzles.{PuzzleReads}
 use Rattle.match_text.specs.Lists.{list_of}
@@ -51,6 +51,11 @@ CheckFails texts (runs.Certificate (certificates.Assemble fault)) =
     × (fault ≢ assemblies.Memory) × Assembles piece_number (length said.pieces) said.pieces (Err fault))
 CheckFails texts runs.Memory = Unit {0}
 CheckFails texts fault = ⊥
+
+-- What comes of reading three documents: the question that they spell, or why they spell none.
+abbrev pub ReadsQuestion : Texts → Result Question RunFault → Type 0
+ReadsQuestion texts (Ok question) = Spells texts question × IsPuzzle question.puzzle
+ReadsQuestion texts (Err fault) = CheckFails texts fault
 
 -- The documents spell a list that is complete: different arrangements are listed, from which the named symmetries reach
 -- all of the puzzle's.

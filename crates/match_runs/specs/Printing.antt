@@ -55,12 +55,6 @@ AreTooMany printings.Count question =
     AreMoreListedOrInOrbit MOST_ARRANGEMENTS question.puzzle question.symmetries question.listed
 AreTooMany printings.Explanation question = ⊥
 
--- What a fault says of a question whose list is complete: too much is to be printed so, or it is want of memory.
-abbrev pub CompleteFails : Printing → Question → RunFault → Type 0
-CompleteFails printing question runs.Expand = AreTooMany printing question
-CompleteFails printing question runs.Memory = Unit {0}
-CompleteFails printing question fault = ⊥
-
 -- What is printed of a question, and the status: what was asked of its answer.
 pub record IsPrinted (printing : Printing) (question : Question) (printed : List ℕ) (status : Status) : Type 0 where
   pub answer : Answer

@@ -1,6 +1,9 @@
 -- What a solve of a puzzle makes.
-use Rattle.std.specs.Prelude.{◌≡◌, ◌++◌, ℕ, List, [], ◌∷◌, Ok, Vec, codes, length, map}
+use Rattle.std.specs.Prelude.{◌≡◌, ◌≤◌, ◌++◌, ℕ, List, [], ◌∷◌, Ok, Vec, codes, length, map}
 use Rattle.std.specs.declared.alloc.Global.{Global}
+use Rattle.match_limits.specs.declared.TheConstants.{MOST_WORKERS}
+use Rattle.match_limits.specs.declared.ranges.TheConstants.{SECOND}
+use Rattle.match_puzzle.specs.Arrangement.{AreArrangements}
 use Rattle.match_puzzle.specs.Puzzle.{Task}
 use Rattle.match_puzzle.specs.declared.placements.Placement.{Placement}
 use Rattle.match_text.specs.Puzzles.{PuzzleReads}
@@ -8,13 +11,16 @@ use Rattle.cert_tree.specs.Certificate.{Contents}
 use Rattle.match_report.specs.BoardText.{board_text}
 use Rattle.match_report.specs.TallyText.{tally_text}
 use Rattle.xcc_form.specs.Options.{HasTooManyEntries}
-use Rattle.match_text.specs.ListSpelling.{IsListText}
+use Rattle.match_text.specs.ListSpelling.{IsListText, IsListWithin}
+use Rattle.cert_text.specs.CertificateSpelling.{IsCertificateWithin}
+use Rattle.cert_text.specs.Writing.{said_by}
 use Rattle.text_crew.specs.Texts.{IsCertificateText}
 use Rattle.match_crew.specs.Solving.{IsSolvedBy}
 use Rattle.match_crew.specs.declared.faults.SolveFault.TheVariants as solves
 use Rattle.byte_streams.specs.declared.outputs.Products.{Products}
 use Rattle.match_runs.specs.Describing.{DescribeFails}
 use Rattle.match_show.specs.Facts.{number_line}
+use Rattle.match_runs.specs.declared.solve_runs.Found.{Found}
 use Rattle.match_runs.specs.declared.faults.RunFault.{RunFault}
 use Rattle.match_runs.specs.declared.faults.RunFault.TheVariants as runs
 
@@ -33,8 +39,21 @@ report_text p listed lemmas tally =
 abbrev pub shares_of : List (Vec ℕ Global) → List (List ℕ)
 shares_of tally = map (λ (taken : Vec ℕ Global). taken.items) tally
 
--- The text spells a puzzle, and this is made of it by so many workers: the spellings of arrangements of it and of a
--- certificate, and the report on them.
+-- What was found is of the puzzle, and within the limits of the texts that say it.
+pub record IsFound (found : Found) : Type 0 where
+  pub arrangements : AreArrangements found.puzzle.now found.listed.now
+  pub list : IsListWithin SECOND found.listed.now
+  pub certificate : IsCertificateWithin (said_by 2 found.certificate.now)
+  pub few : length found.shares.now ≤ MOST_WORKERS
+
+-- The texts that are made of what was found: the spellings of the arrangements and of the certificate, and the report.
+pub record AreProducts (puzzle : Task) (listed : List (List Placement)) (contents : Contents) (tally : List (List ℕ))
+    (made : Products) : Type 0 where
+  pub list_text : IsListText listed made.list
+  pub certificate_text : IsCertificateText contents made.certificate
+  pub report : made.report ≡ report_text puzzle listed (length contents.lemmas) tally
+
+-- The text spells a puzzle, and this is made of what so many workers find of it.
 pub record SolveGives (workers : ℕ) (text : List ℕ) (made : Products) (ends : Unit {0}) : Type 0 where
   pub puzzle : Task
   pub puzzle_read : PuzzleReads text (Ok puzzle)
@@ -42,9 +61,7 @@ pub record SolveGives (workers : ℕ) (text : List ℕ) (made : Products) (ends 
   pub tally : List (Vec ℕ Global)
   pub contents : Contents
   pub solved : IsSolvedBy puzzle workers listed tally contents
-  pub list_text : IsListText listed made.list
-  pub certificate_text : IsCertificateText contents made.certificate
-  pub report : made.report ≡ report_text puzzle listed (length contents.lemmas) (shares_of tally)
+  pub products : AreProducts puzzle listed contents (shares_of tally) made
 
 -- What a fault says of the text: it spells no puzzle, with this fault, or one that is not solved for this reason; or it
 -- is want of memory.

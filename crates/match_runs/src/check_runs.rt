@@ -1,8 +1,6 @@
 //! Runs of the checker.
 
 ghost use Rattle.std.specs.Prelude.{IfOk};
-ghost use Rattle.byte_streams.specs.Documents.{AreShort};
-ghost use Rattle.byte_streams.specs.LentTexts.{texts_of};
 ghost use Rattle.byte_streams.specs.Moves.{reading_of, writing_of};
 ghost use Rattle.byte_streams.specs.Origins.{joined_source, three_sources};
 ghost use Rattle.byte_streams.specs.Targets.{one_sink};
@@ -15,8 +13,7 @@ use crate::questions::read_question_with;
 use crate::running::run_by;
 use crate::watches::{CheckWatch, Watched};
 use byte_streams::{
-    Documents, Inputs, JoinedSource, MadeText, OneSink, Outputs, OwnedDocuments, Sink, Source,
-    ThreeSources,
+    Inputs, JoinedSource, MadeText, OneSink, Outputs, OwnedDocuments, Sink, Source, ThreeSources,
 };
 use cert_check::{Open, Question, check_question};
 use match_limits::{Forks, Workers};
@@ -86,8 +83,7 @@ pub fn run_check_watched<
     inputs: &mut I,
     outputs: &mut O,
 ) -> Result<Status, HintedFault>
-    ensures inputs { I.same inputs.old inputs.new }
-    ensures outputs { O.same outputs.old outputs.new }
+    ensures same { I.same inputs.old inputs.new × O.same outputs.old outputs.new }
     ensures run { Runs (I.reads inputs.old inputs.new) CheckGives CheckFails (O.writes outputs.old outputs.new)
         (unhinted result) }
 {
@@ -95,10 +91,9 @@ pub fn run_check_watched<
     let make = |texts: &OwnedDocuments| -> Result<(MadeText, Status), RunFault>
         ensures { MadeOf CheckGives CheckFails texts.now result }
     {
-        let documents = texts.lend();
-        let made = answer_of(rt, alloc, &documents, check);
+        let made = answer_of(rt, alloc, texts, check);
         if let (true, Err(fault)) = (check.hints, &made) {
-            hint = hint_of(alloc, &documents, fault);
+            hint = hint_of(alloc, &texts.lend(), fault);
         }
         made
     };
@@ -128,37 +123,22 @@ pub fn run_joined<S: Source, W: Sink, R: Threads + Sync>(
         watch: &Open,
         hints: false,
     };
-    let ended = run_joined_watched(rt, alloc, &check, reader, writer);
+    let mut input = JoinedSource { input: reader };
+    let ended = run_check_watched(rt, alloc, &check, &mut input, &mut OneSink { sink: writer });
     without_hint(ended)
 }
 
-/// The same, with a watch and hints as [`run_check_watched`] has them.
-pub fn run_joined_watched<S: Source, W: Sink, R: Threads + Sync, G: CheckWatch + Sync>(
-    rt: &R,
-    alloc: Global,
-    check: &Watched<'_, CheckPlan, G>,
-    reader: &mut S,
-    writer: &mut W,
-) -> Result<Status, HintedFault>
-    ensures { Runs (joined_source (reading_of S.Source reader.old reader.new)) CheckGives CheckFails
-        (one_sink (writing_of W.Sink writer.old writer.new)) (unhinted result) }
-{
-    let mut input = JoinedSource { input: reader };
-    run_check_watched(rt, alloc, check, &mut input, &mut OneSink { sink: writer })
-}
-
-// The line of the answer to the documents.
+// The line of the answer to the texts.
 fn answer_of<R: Threads + Sync, G: CheckWatch + Sync>(
     rt: &R,
     alloc: Global,
-    documents: &Documents<'_>,
+    texts: &OwnedDocuments,
     check: &Watched<'_, CheckPlan, G>,
 ) -> Result<(MadeText, Status), RunFault>
-    requires { AreShort (texts_of documents.now) }
-    ensures { MadeOf CheckGives CheckFails (texts_of documents.now) result }
+    ensures { MadeOf CheckGives CheckFails texts.now result }
 {
     let workers = check.plan.workers.get() as u8;
-    let owned = read_question_with(rt, alloc, documents, workers)?;
+    let owned = read_question_with(rt, alloc, &texts.lend(), workers)?;
     let verdict = verdict_of(rt, alloc, &owned.question(), check)?;
     Ok((MadeText::new(verdict.line), verdict.status))
 }

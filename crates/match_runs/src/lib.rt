@@ -22,7 +22,7 @@ pub use byte_streams::{
     Document, Documents, Failed, FileSystem, Sink, Source, cut_joined, write_whole,
 };
 pub use census_runs::{CensusPlan, run_census};
-pub use check_runs::{CheckPlan, run_check, run_check_watched, run_joined, run_joined_watched};
+pub use check_runs::{CheckPlan, run_check, run_check_watched, run_joined};
 pub use description_runs::{Description, run_description};
 pub use faults::{RunFault, fault_text};
 pub use hints::HintedFault;

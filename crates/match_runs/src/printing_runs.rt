@@ -1,16 +1,14 @@
 //! Runs that print all arrangements, or why a list is refused.
 
-ghost use Rattle.std.specs.Prelude.{◌≡◌, IfOk, IfErr, length};
+ghost use Rattle.std.specs.Prelude.{◌≡◌, IfOk, length};
 ghost use Rattle.puzzle_symmetry.specs.Complete.{IsCompleteList};
 ghost use Rattle.cert_check.specs.Answer.{IsAnswer};
 ghost use Rattle.cert_check.specs.declared.faults.Answer.TheVariants.{Complete, Refused};
 ghost use Rattle.match_report.specs.AnswerText.{answer_line};
-ghost use Rattle.byte_streams.specs.Documents.{AreShort};
-ghost use Rattle.byte_streams.specs.LentTexts.{texts_of};
 ghost use Rattle.byte_streams.specs.Moves.{reading_of, writing_of};
 ghost use Rattle.byte_streams.specs.Origins.{three_sources};
 ghost use Rattle.byte_streams.specs.Targets.{one_sink};
-ghost use Rattle.match_runs.specs.Printing.{CompleteFails, IsPrinted, PrintingFails, PrintingGives, Prints, QuestionFails};
+ghost use Rattle.match_runs.specs.Printing.{IsPrinted, PrintingFails, PrintingGives, Prints, QuestionFails};
 ghost use Rattle.match_runs.specs.Runs.{MadeOf, Runs, unhinted};
 
 use crate::faults::RunFault;
@@ -18,7 +16,7 @@ use crate::hints::{HintedFault, hint_of, with_hint, without_hint};
 use crate::questions::read_question;
 use crate::running::run_by;
 use byte_streams::{
-    Documents, Inputs, MadeText, OneSink, Outputs, OwnedDocuments, Sink, Source, ThreeSources,
+    Inputs, MadeText, OneSink, Outputs, OwnedDocuments, Sink, Source, ThreeSources,
 };
 use cert_check::{Answer, Fault, Open, Prepared, Question};
 use match_explain::write_explanation;
@@ -101,8 +99,7 @@ pub fn run_printing<
     inputs: &mut I,
     outputs: &mut O,
 ) -> Result<Status, HintedFault>
-    ensures inputs { I.same inputs.old inputs.new }
-    ensures outputs { O.same outputs.old outputs.new }
+    ensures same { I.same inputs.old inputs.new × O.same outputs.old outputs.new }
     ensures run { Runs (I.reads inputs.old inputs.new) (PrintingGives plan.printing) (PrintingFails plan.printing)
         (O.writes outputs.old outputs.new) (unhinted result) }
 {
@@ -110,10 +107,9 @@ pub fn run_printing<
     let make = |texts: &OwnedDocuments| -> Result<(MadeText, Status), RunFault>
         ensures { MadeOf (PrintingGives plan.printing) (PrintingFails plan.printing) texts.now result }
     {
-        let documents = texts.lend();
-        let made = printing_of(rt, alloc, &documents, plan.printing);
+        let made = printing_of(rt, alloc, texts, plan.printing);
         if let (true, Err(fault)) = (plan.hints, &made) {
-            hint = hint_of(alloc, &documents, fault);
+            hint = hint_of(alloc, &texts.lend(), fault);
         }
         made
     };
@@ -125,20 +121,18 @@ pub fn run_printing<
 fn printing_of<R: RandomSource>(
     rt: &R,
     alloc: Global,
-    documents: &Documents<'_>,
+    texts: &OwnedDocuments,
     printing: Printing,
 ) -> Result<(MadeText, Status), RunFault>
-    requires { AreShort (texts_of documents.now) }
-    ensures { MadeOf (PrintingGives printing) (PrintingFails printing) (texts_of documents.now) result }
+    ensures { MadeOf (PrintingGives printing) (PrintingFails printing) texts.now result }
 {
-    let owned = read_question(alloc, documents)?;
+    let documents = texts.lend();
+    let owned = read_question(alloc, &documents)?;
     let explaining = Explaining {
         certificate: documents.certificate,
         hasher: RandomFold::new(rt),
     };
-    let question = owned.question();
-    let (text, status) = question_text(alloc, &question, &explaining, printing)?;
-    Ok((MadeText::new(text), status))
+    question_text(alloc, &owned.question(), &explaining, printing)
 }
 
 // What is printed of the question, and the status of its answer.
@@ -147,15 +141,14 @@ fn question_text(
     question: &Question<'_>,
     explaining: &Explaining<'_>,
     printing: Printing,
-) -> Result<(Vec<u8>, Status), RunFault>
-    ensures gives { IfOk result (λ made. IsPrinted printing question.now made.0.items made.1) }
-    ensures fails { IfErr result (QuestionFails printing question.now) }
+) -> Result<(MadeText, Status), RunFault>
+    ensures { MadeOf (IsPrinted printing) (QuestionFails printing) question.now result }
 {
     match question.prepare(alloc, question.list_fault())? {
         Ok(prepared) => prepared_text(alloc, prepared, explaining, printing),
         Err(fault) => {
             let text = refused_text(alloc, question, fault, explaining, printing)?;
-            Ok((text, Status::Refused))
+            Ok((MadeText::new(text), Status::Refused))
         }
     }
 }
@@ -166,40 +159,36 @@ fn prepared_text(
     prepared: Prepared<'_>,
     explaining: &Explaining<'_>,
     printing: Printing,
-) -> Result<(Vec<u8>, Status), RunFault>
-    ensures gives { IfOk result (λ made. IsPrinted printing prepared.entry made.0.items made.1) }
-    ensures fails { IfErr result (QuestionFails printing prepared.entry) }
+) -> Result<(MadeText, Status), RunFault>
+    ensures { MadeOf (IsPrinted printing) (QuestionFails printing) prepared.entry result }
 {
     let found = prepared.trees_fault(alloc, &Open)?;
     match prepared.answer(found) {
-        Answer::Complete => {
-            let text = complete_text(alloc, prepared, explaining.hasher, printing)?;
-            Ok((text, Status::Complete))
-        }
+        Answer::Complete => complete_text(alloc, prepared, explaining.hasher, printing),
         Answer::Refused(fault) => {
             let text = refused_text(alloc, prepared.question(), fault, explaining, printing)?;
-            Ok((text, Status::Refused))
+            Ok((MadeText::new(text), Status::Refused))
         }
     }
 }
 
-// What is printed where the list is complete.
+// The same where the list is complete.
 fn complete_text(
     alloc: Global,
     prepared: Prepared<'_>,
     hasher: RandomFold,
     printing: Printing,
-) -> Result<Vec<u8>, RunFault>
-    requires { IsCompleteList prepared.puzzle prepared.symmetries prepared.listed }
-    ensures prints { IfOk result (λ text. Prints prepared.entry Complete printing text.items) }
-    ensures fails { IfErr result (CompleteFails printing prepared.entry) }
+) -> Result<(MadeText, Status), RunFault>
+    requires { IsAnswer prepared Complete × IsCompleteList prepared.puzzle prepared.symmetries prepared.listed }
+    ensures { MadeOf (IsPrinted printing) (QuestionFails printing) prepared.entry result }
 {
-    match printing {
-        Printing::All => Ok(write_all(alloc, prepared, hasher)?),
-        Printing::Orbits => Ok(write_orbits(alloc, &prepared, hasher)?),
-        Printing::Count => Ok(write_counts(alloc, &prepared, hasher)?),
-        Printing::Explanation => Ok(complete_line(alloc, &prepared)?),
-    }
+    let text = match printing {
+        Printing::All => write_all(alloc, prepared, hasher)?,
+        Printing::Orbits => write_orbits(alloc, &prepared, hasher)?,
+        Printing::Count => write_counts(alloc, &prepared, hasher)?,
+        Printing::Explanation => complete_line(alloc, &prepared)?,
+    };
+    Ok((MadeText::new(text), Status::Complete))
 }
 
 // The answer that a list is complete.

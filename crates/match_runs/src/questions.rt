@@ -1,19 +1,15 @@
 //! What documents ask.
 
-ghost use Rattle.std.specs.Prelude.{◌≡◌, ◌≤◌, IfOk, IfErr, Ok, length};
-ghost use Rattle.match_limits.specs.declared.TheConstants.{MOST_ARRANGEMENTS, MOST_WORKERS};
-ghost use Rattle.match_puzzle.specs.Puzzle.{IsPuzzle};
+ghost use Rattle.std.specs.Prelude.{◌≤◌};
+ghost use Rattle.match_limits.specs.declared.TheConstants.{MOST_WORKERS};
 ghost use Rattle.byte_streams.specs.Documents.{AreShort};
 ghost use Rattle.byte_streams.specs.LentTexts.{texts_of};
-ghost use Rattle.match_text.specs.Lists.{list_of};
-ghost use Rattle.match_text.specs.Puzzles.{PuzzleReads};
-ghost use Rattle.cert_text.specs.CertificateText.{CertificateGives, certificate_of};
-ghost use Rattle.match_runs.specs.Checking.{CheckFails, Spells};
+ghost use Rattle.match_runs.specs.Checking.{ReadsQuestion};
 
 use crate::faults::RunFault;
 use byte_streams::Documents;
 use cert_check::Question;
-use cert_text::{CertTextFault, read_certificate};
+use cert_text::read_certificate;
 use cert_tree::Certificate;
 use match_puzzle::{Arrangement, Puzzle};
 use match_text::{read_list, read_puzzle};
@@ -58,41 +54,20 @@ impl OwnedQuestion {
     }
 }
 
-// The question, where the certificate was read, or else the fault of that.
-fn with_certificate(
-    _documents: &Documents<'_>,
-    puzzle: Puzzle,
-    listed: Vec<Arrangement>,
-    certificate: Result<Certificate, CertTextFault>,
-) -> Result<OwnedQuestion, RunFault>
-    requires puzzle { PuzzleReads (texts_of _documents.now).puzzle (Ok puzzle) }
-    requires listed { list_of (texts_of _documents.now).list ≡ Ok listed.items }
-    requires few { length listed.items ≤ MOST_ARRANGEMENTS }
-    requires certificate { CertificateGives certificate (certificate_of (texts_of _documents.now).certificate) }
-    ensures question { IfOk result (Spells (texts_of _documents.now)) }
-    ensures puzzle { IfOk result (λ q. IsPuzzle q.puzzle) }
-    ensures fault { IfErr result (CheckFails (texts_of _documents.now)) }
+/// The question that the documents spell, or their first fault, in the order of the documents;
+/// `Memory` only where that is refused.
+pub fn read_question(alloc: Global, documents: &Documents<'_>) -> Result<OwnedQuestion, RunFault>
+    requires { AreShort (texts_of documents.now) }
+    ensures { ReadsQuestion (texts_of documents.now) result }
 {
-    let certificate = certificate?;
+    let puzzle = read_puzzle(alloc, documents.puzzle)?;
+    let listed = read_list(alloc, documents.list)?;
+    let certificate = read_certificate(alloc, documents.certificate)?;
     Ok(OwnedQuestion {
         puzzle,
         listed,
         certificate,
     })
-}
-
-/// The question that the documents spell, or their first fault, in the order of the documents;
-/// `Memory` only where that is refused.
-pub fn read_question(alloc: Global, documents: &Documents<'_>) -> Result<OwnedQuestion, RunFault>
-    requires { AreShort (texts_of documents.now) }
-    ensures question { IfOk result (Spells (texts_of documents.now)) }
-    ensures puzzle { IfOk result (λ q. IsPuzzle q.puzzle) }
-    ensures fault { IfErr result (CheckFails (texts_of documents.now)) }
-{
-    let puzzle = read_puzzle(alloc, documents.puzzle)?;
-    let listed = read_list(alloc, documents.list)?;
-    let certificate = read_certificate(alloc, documents.certificate);
-    with_certificate(documents, puzzle, listed, certificate)
 }
 
 /// The same, of which the certificate is read by so many workers, beside the list.
@@ -104,9 +79,7 @@ pub fn read_question_with<R: Threads + Sync>(
 ) -> Result<OwnedQuestion, RunFault>
     requires short { AreShort (texts_of documents.now) }
     requires workers { (1 ≤ workers) × (workers ≤ MOST_WORKERS) }
-    ensures question { IfOk result (Spells (texts_of documents.now)) }
-    ensures puzzle { IfOk result (λ q. IsPuzzle q.puzzle) }
-    ensures fault { IfErr result (CheckFails (texts_of documents.now)) }
+    ensures { ReadsQuestion (texts_of documents.now) result }
 {
     let puzzle = read_puzzle(alloc, documents.puzzle)?;
     let ReadTexts {
@@ -114,5 +87,10 @@ pub fn read_question_with<R: Threads + Sync>(
         certificate,
     } = read_texts_with(rt, alloc, documents.list, documents.certificate, workers)?;
     let listed = listed?;
-    with_certificate(documents, puzzle, listed, certificate)
+    let certificate = certificate?;
+    Ok(OwnedQuestion {
+        puzzle,
+        listed,
+        certificate,
+    })
 }

@@ -19,8 +19,7 @@ pub(crate) fn run_by<
     requires callable { F.IsAlwaysCallable make }
     requires kind { (texts : I.Texts) (fault : RunFault) → FnOnceReturnsAt F.FnOnce make texts (Err fault)
         → IsOfTexts fault }
-    ensures inputs { I.same inputs.old inputs.new }
-    ensures outputs { O.same outputs.old outputs.new }
+    ensures same { I.same inputs.old inputs.new × O.same outputs.old outputs.new }
     ensures run { Runs (I.reads inputs.old inputs.new)
         (λ texts made ends. FnOnceReturnsAt F.FnOnce make texts (Ok (made, ends)))
         (λ texts fault. FnOnceReturnsAt F.FnOnce make texts (Err fault)) (O.writes outputs.old outputs.new) result }

@@ -1,19 +1,14 @@
 //! Runs of the solver.
 
-ghost use Rattle.std.specs.Prelude.{◌≡◌, ◌≤◌, ℕ, List, IfOk, Ok, length};
+ghost use Rattle.std.specs.Prelude.{◌≡◌, ℕ, List, IfOk, Ok, length};
 ghost use Rattle.match_text.specs.Puzzles.{PuzzleReads};
-ghost use Rattle.match_text.specs.ListSpelling.{IsListText, IsListWithin};
-ghost use Rattle.cert_text.specs.CertificateSpelling.{IsCertificateWithin};
-ghost use Rattle.cert_text.specs.Writing.{said_by};
-ghost use Rattle.text_crew.specs.Texts.{IsCertificateText};
-ghost use Rattle.match_limits.specs.declared.ranges.TheConstants.{SECOND};
 ghost use Rattle.match_puzzle.specs.Arrangement.{AreArrangements};
 ghost use Rattle.byte_streams.specs.Moves.{reading_of, writing_of};
 ghost use Rattle.byte_streams.specs.Origins.{one_source};
 ghost use Rattle.byte_streams.specs.Targets.{three_sinks};
 ghost use Rattle.byte_streams.specs.declared.faults.Document.TheVariants as documents;
 ghost use Rattle.match_runs.specs.Runs.{MadeOf, Runs, unhinted};
-ghost use Rattle.match_runs.specs.Solving.{SolveFails, SolveGives, first_board, report_text, shares_of};
+ghost use Rattle.match_runs.specs.Solving.{AreProducts, IsFound, SolveFails, SolveGives, first_board, report_text, shares_of};
 
 use crate::advice::solve_hint;
 use crate::faults::RunFault;
@@ -106,8 +101,7 @@ pub fn run_solve_watched<
     inputs: &mut I,
     outputs: &mut O,
 ) -> Result<(), HintedFault>
-    ensures inputs { I.same inputs.old inputs.new }
-    ensures outputs { O.same outputs.old outputs.new }
+    ensures same { I.same inputs.old inputs.new × O.same outputs.old outputs.new }
     ensures run { Runs (I.reads inputs.old inputs.new) (SolveGives search.now.plan.workers) SolveFails
         (O.writes outputs.old outputs.new) (unhinted result) }
 {
@@ -189,24 +183,13 @@ fn products_of<R: Threads + Wait + Sync, T: SolveWatch + Sync>(
     found: &Found<'_>,
     search: &Watched<'_, SearchPlan, T>,
 ) -> Result<Products, AllocError>
-    requires arrangements { AreArrangements found.now.puzzle.now found.now.listed.now }
-    requires list { IsListWithin SECOND found.now.listed.now }
-    requires certificate { IsCertificateWithin (said_by 2 found.now.certificate.now) }
-    requires workers { length found.now.shares.now ≤ MOST_WORKERS }
-    ensures list { IfOk result (λ made. IsListText found.now.listed.now made.list) }
-    ensures certificate { IfOk result (λ made. IsCertificateText found.now.certificate.now made.certificate) }
-    ensures report { IfOk result (λ made. made.report ≡ report_text found.now.puzzle.now found.now.listed.now
-        (length found.now.certificate.now.lemmas) found.now.shares.now) }
+    requires found { IsFound found.now }
+    ensures { IfOk result (AreProducts found.now.puzzle.now found.now.listed.now found.now.certificate.now
+        found.now.shares.now) }
 {
-    let Found {
-        puzzle,
-        listed,
-        certificate,
-        shares,
-    } = *found;
     let workers = search.plan.workers.get() as u8;
-    let texts = write_texts_with(rt, alloc, listed, certificate, workers)?;
-    let report = report_on(alloc, puzzle, listed, certificate, shares)?;
+    let texts = write_texts_with(rt, alloc, found.listed, found.certificate, workers)?;
+    let report = report_on(alloc, found)?;
     search
         .watch
         .made(bytes_in(&texts.list), bytes_in(&texts.certificate));
@@ -234,24 +217,20 @@ fn shares(alloc: Global, tally: Vec<Vec<u32>>) -> Result<Vec<Taken>, AllocError>
 }
 
 // How many were found, by how many lemmas, who took them, and the first arrangement.
-fn report_on(
-    alloc: Global,
-    puzzle: &Puzzle,
-    listed: &[Arrangement],
-    certificate: &Certificate,
-    shares: &[Taken],
-) -> Result<Vec<u8>, AllocError>
-    requires arrangements { AreArrangements puzzle.now listed.now }
-    requires list { IsListWithin SECOND listed.now }
-    requires workers { length shares.now ≤ MOST_WORKERS }
-    ensures { IfOk result (λ text. text.items
-        ≡ report_text puzzle.now listed.now (length certificate.now.lemmas) shares.now) }
+fn report_on(alloc: Global, found: &Found<'_>) -> Result<Vec<u8>, AllocError>
+    requires { IsFound found.now }
+    ensures { IfOk result (λ text. text.items ≡ report_text found.now.puzzle.now found.now.listed.now
+        (length found.now.certificate.now.lemmas) found.now.shares.now) }
 {
     let mut text = Vec::new(alloc);
-    put_number_line(&mut text, b"found", listed.len() as u64)?;
-    put_number_line(&mut text, b"lemmas", certificate.lemmas().len() as u64)?;
-    text.extend_from_slice(&write_tally(alloc, shares)?)?;
-    text.extend_from_slice(&board_of_first(alloc, puzzle, listed)?)?;
+    put_number_line(&mut text, b"found", found.listed.len() as u64)?;
+    put_number_line(
+        &mut text,
+        b"lemmas",
+        found.certificate.lemmas().len() as u64,
+    )?;
+    text.extend_from_slice(&write_tally(alloc, found.shares)?)?;
+    text.extend_from_slice(&board_of_first(alloc, found.puzzle, found.listed)?)?;
     Ok(text)
 }
 

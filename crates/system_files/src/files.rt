@@ -46,8 +46,7 @@ pub struct SystemFile<F: Write + Drop> {
 impl<F: Write + Drop> SystemFile<F> {
     // This file, with nothing written to it.
     fn new(file: F, place: Option<Place>) -> SystemFile<F>
-        ensures not_idle { result.output.idle ≡ false }
-        ensures errors { result.output.errors ≡ 0 }
+        ensures { (result.output.idle ≡ false) × (result.output.errors ≡ 0) }
     {
         SystemFile {
             output: Output::new(file),

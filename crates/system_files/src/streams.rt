@@ -23,8 +23,7 @@ impl<R: Read> Input<R> {
     /// A source over this reader.
     pub fn new(reader: R) -> Input<R>
         ensures reader { result.reader ≡ reader }
-        ensures not_ended { result.ended ≡ false }
-        ensures errors { result.errors ≡ 0 }
+        ensures unread { (result.ended ≡ false) × (result.errors ≡ 0) }
     {
         Input {
             reader,
@@ -91,8 +90,7 @@ impl<W: Write> Output<W> {
     /// A sink over this writer.
     pub fn new(writer: W) -> Output<W>
         ensures writer { result.writer ≡ writer }
-        ensures not_idle { result.idle ≡ false }
-        ensures errors { result.errors ≡ 0 }
+        ensures unwritten { (result.idle ≡ false) × (result.errors ≡ 0) }
     {
         Output {
             writer,

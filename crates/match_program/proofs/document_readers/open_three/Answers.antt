@@ -1,4 +1,4 @@
-use Rattle.std.proofs.Common.{◌≡◌, inl, inr, refl}
+use Rattle.std.proofs.Common.{inl, inr, refl}
 use Rattle.std.proofs.lemmas.Result.{err_from_is_err_and}
 use Rattle.byte_streams.specs.declared.faults.Document.TheVariants as documents
 use Rattle.match_program.specs.declared.document_readers.DocumentReader.TheVariants.{Input}

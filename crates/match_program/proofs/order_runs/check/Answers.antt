@@ -12,7 +12,7 @@ use Rattle.match_program.proofs.order_runs.check.Goals as goal
 abbrev readers : (g : _) (c : After-run_check_watched g) → AllOpened g.S.FileSystem g.S.Reader.Source c.args.system.now c.args.order.now.files.now
 readers g c =
     let first = c.sources in
-    let opened = c.in_ok-opened.ensures in
+    let opened = c.in_ok-opened.ensures.opened in
     let new = c.run_check_watched.new.inputs in
     record {
       puzzle = record { opened = first.result.puzzle.now; later = new.puzzle.now; is_opened = rw first.ensures.puzzle opened.puzzle };

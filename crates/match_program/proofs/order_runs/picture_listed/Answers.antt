@@ -9,8 +9,8 @@ use Rattle.match_program.proofs.order_runs.picture_listed.Goals as goal
 
 abbrev both : (g : _) (c : After-run_picture g) → BothOpened g.S.FileSystem g.S.Reader.Source g.I.Source c.args.system.now c.args.input.now c.args.order.now.places.now
 both g c = record {
-  puzzle = record { opened = c.in_ok-puzzle.field-0.puzzle; later = c.run_picture.new.puzzle; is_opened = c.in_ok-puzzle.ensures.puzzle };
-  list = record { opened = c.in_ok-puzzle.field-0.list; later = c.run_picture.new.list; is_opened = c.in_ok-puzzle.ensures.list };
+  puzzle = record { opened = c.in_ok-puzzle.field-0.puzzle; later = c.run_picture.new.puzzle; is_opened = c.in_ok-puzzle.ensures.opened.puzzle };
+  list = record { opened = c.in_ok-puzzle.field-0.list; later = c.run_picture.new.list; is_opened = c.in_ok-puzzle.ensures.opened.list };
 }
 
 pub returns-in_err-run_picture : goal.returns-in_err-run_picture

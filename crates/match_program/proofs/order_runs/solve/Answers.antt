@@ -7,6 +7,7 @@ use Rattle.byte_streams.specs.Moves.{Takes, Writing, writing_of}
 use Rattle.byte_streams.specs.Origins.{Origin, one_source}
 use Rattle.byte_streams.specs.Targets.{Target, three_sinks}
 use Rattle.byte_streams.specs.declared.faults.Document.TheVariants as documents
+use Rattle.byte_streams.specs.declared.made_files.ProductNames.{ProductNames}
 use Rattle.byte_streams.specs.declared.outputs.Products.{Products}
 use Rattle.match_runs.specs.Runs.{Runs, unhinted}
 use Rattle.match_runs.specs.Solving.{SolveFails, SolveGives}
@@ -16,7 +17,7 @@ use Rattle.match_program.specs.SolvedFiles.{certificate_name, list_name, solved_
 use Rattle.match_program.specs.declared.exits.Exit.TheVariants.{Done}
 use Rattle.match_program.specs.OrderRuns.{SolveOf}
 use Rattle.match_program.proofs.OrderLemmas.{opened_as}
-use Rattle.match_program.proofs.SolvedLemmas.{after_err, after_ok, after_run, are_written, did_then, named, not_begun, put_if_written, put_stopped, solve_stopped, stopped_by, tried_if_written, undone, unread}
+use Rattle.match_program.proofs.SolvedLemmas.{after_run, are_written, did_then, named, not_begun, put_if_written, put_stopped, solve_stopped, stopped_by, tried_if_written, undone, unread}
 use Rattle.match_program.proofs.order_runs.solve.Goals.{After-told-told}
 use Rattle.match_program.proofs.order_runs.solve.Goals as goal
 
@@ -62,16 +63,16 @@ returns-in_err-made g c =
     let name = string_bytes c.args.order.now.files.now.puzzle in
     let file = opened_as g.S.FileSystem g.S.Reader.Source c.args.system.now name c.deref.result.now c.in_ok-puzzle.puzzle c.in_ok-puzzle.puzzle c.deref.ensures c.in_ok-puzzle.ensures.opened in
     let to = solved_files c.args.order.now.files.now g.S.FileSystem.does c.args.system.now c.make_files.new.system (writing_of g.W.Sink c.args.output.now c.args.output.now) in
-    let undone = named (λ l k. Undid l k g.S.FileSystem.does c.args.system.now c.make_files.new.system) _ _ _ _ c.names_of-names.ensures.list c.names_of-names.ensures.certificate c.in_err-made.ensures.undone in
+    let undone = named (λ l k. Undid l k g.S.FileSystem.does c.args.system.now c.make_files.new.system) _ _ _ _ c.deref-2.ensures c.deref-3.ensures c.in_err-made.ensures.undone in
     rw (w.1, w.2) (not_begun g.S.FileSystem g.S.Reader.Source c.args.system.now name file refl c.args.order.now.plan.workers to c.in_err-made.field-0.0.fault c.in_err-made.ensures.fault (undone, refl))
 
 -- the two files took the texts that were made
 written : (g : _) (c : After-told-told g) (texts : Products) → (to g c).Took texts
-    → AreWritten g.S.FileSystem.makes g.S.Writer.Sink.written c.names_of-names.result.list.now c.names_of-names.result.certificate.now
+    → AreWritten g.S.FileSystem.makes g.S.Writer.Sink.written c.deref-2.result.now c.deref-3.result.now
     (record { list = c.run_solve_watched-solved.new.outputs.list.now; certificate = c.run_solve_watched-solved.new.outputs.certificate.now }) texts
 written g c texts took =
-    are_written g.S.FileSystem.makes g.S.Writer.Sink.written c.names_of-names.result.list.now c.names_of-names.result.certificate.now c.in_ok-made.made _ texts
-    c.in_ok-made.ensures.made took.0.0 took.1.0.0
+    are_written g.S.FileSystem.makes g.S.Writer.Sink.written c.deref-2.result.now c.deref-3.result.now c.in_ok-made.made _ texts
+    c.in_ok-made.ensures.made.0 took.0.0 took.1.0.0
 
 pub settle-requires : goal.settle-requires
 settle-requires g c =
@@ -84,15 +85,15 @@ returns-in-Err-Stopped g c =
     let at = (goal.at.returns-in-Err-Stopped g c).After-told-told in
     let does = g.S.FileSystem.does in
     let files = c.args.order.now.files.now in
-    let names = c.names_of-names.result in
+    let names : ProductNames = record { list = c.deref-2.result; certificate = c.deref-3.result } in
     let old = c.args.system.now in
     let now = c.make_files.new.system in
     let new = c.settle.new.system in
     let hinted = c.in-Err-Stopped.hinted in
-    let told : c.told-told.result ≡ Err hinted = stopped_by c.told-told.result c.settle.result hinted (c.in-Err-Stopped.is ∙ ap Err c.in-Err-Stopped.field-0-is) c.settle.ensures.stopped c.settle.ensures.not_put in
-    let removed = after_err c.told-told.result hinted told c.settle.ensures.removed in
-    let undone = named (λ l k. Undid l k does old new) _ _ _ _ c.names_of-names.ensures.list c.names_of-names.ensures.certificate
-    (undone does names.list.now names.certificate.now old now new c.in_ok-made.ensures.does removed) in
+    let stopped = stopped_by g.S.FileSystem g.S.Writer.Sink.written names _ now new c.told-told.result c.settle.result hinted (c.in-Err-Stopped.is ∙ ap Err c.in-Err-Stopped.field-0-is) c.settle.ensures in
+    let told = stopped.0 in
+    let undone = named (λ l k. Undid l k does old new) _ _ _ _ c.deref-2.ensures c.deref-3.ensures
+    (undone does names.list.now names.certificate.now old now new c.in_ok-made.ensures.made.1 stopped.1) in
     let left : c.output-1.given.0 ≡ c.run_solve_watched-solved.new.outputs.report.now = search rules in
     subst (λ o. SolveOf c.args.order.now.plan.workers (one_file g.S.FileSystem g.S.Reader.Source old (string_bytes files.puzzle)) (solved_files files does old new (writing_of g.W.Sink c.args.output.now o)) (Err hinted.fault)) (sym left)
     (solve_stopped g.S.FileSystem g.S.Reader.Source old (string_bytes files.puzzle) (file g at) c.args.order.now.plan.workers
@@ -104,18 +105,18 @@ returns g c =
     let at = (goal.at.returns g c).After-told-told in
     let does = g.S.FileSystem.does in
     let files = c.args.order.now.files.now in
-    let names = c.names_of-names.result in
+    let names : ProductNames = record { list = c.deref-2.result; certificate = c.deref-3.result } in
     let old = c.args.system.now in
     let now = c.make_files.new.system in
     let new = c.settle.new.system in
-    let told : c.told-told.result ≡ Ok tt = tried_if_written c.told-told.result c.settle.result (c.in-Err-NotPut.is ∙ ap Err c.in-Err-NotPut.field-0-is) c.settle.ensures.stopped in
-    let t = run_as g at (Ok tt) (ap unhinted told) in
-    let half = after_err c.settle.result _ c.in-Err-NotPut.is (after_ok c.told-told.result tt told c.settle.ensures.undone) t.1 (written g at t.1 t.4) in
+    let tried = tried_if_written g.S.FileSystem g.S.Writer.Sink.written names _ now new c.told-told.result c.settle.result (c.in-Err-NotPut.is ∙ ap Err c.in-Err-NotPut.field-0-is) c.settle.ensures in
+    let t = run_as g at (Ok tt) (ap unhinted tried.0) in
+    let half = tried.1 t.1 (written g at t.1 t.4) in
     let left : c.output-1.given.0 ≡ c.run_solve_watched-solved.new.outputs.report.now = search rules in
     let reported = subst (λ o. Takes (writing_of g.W.Sink c.args.output.now o) t.1.report) (sym left) t.4.1.1.0 in
-    let list = c.names_of-names.ensures.list in
-    let certificate = c.names_of-names.ensures.certificate in
-    let stopped = put_stopped does files old now new (writing_of g.W.Sink c.args.output.now c.output-1.given.0) t.1 (named (λ l k. Did does old (both_made l k) now) _ _ _ _ list certificate c.in_ok-made.ensures.does)
+    let list = c.deref-2.ensures in
+    let certificate = c.deref-3.ensures in
+    let stopped = put_stopped does files old now new (writing_of g.W.Sink c.args.output.now c.output-1.given.0) t.1 (named (λ l k. Did does old (both_made l k) now) _ _ _ _ list certificate c.in_ok-made.ensures.made.1)
     (named (λ l k. PutsNoneOrHalf l k does now new t.1) _ _ _ _ list certificate half) reported in
     rw c.from.ensures (inl (t.0, t.1, Done, (file g at, t.2), (t.3, refl), stopped))
 
@@ -123,14 +124,14 @@ pub returns-in-Ok : goal.returns-in-Ok
 returns-in-Ok g c =
     let at = (goal.at.returns-in-Ok g c).After-told-told in
     let does = g.S.FileSystem.does in
-    let names = c.names_of-names.result in
+    let names : ProductNames = record { list = c.deref-2.result; certificate = c.deref-3.result } in
     let old = c.args.system.now in
     let now = c.make_files.new.system in
     let new = c.settle.new.system in
-    let told : c.told-told.result ≡ Ok tt = put_if_written c.told-told.result c.settle.result c.in-Ok.is c.settle.ensures.stopped in
-    let t = run_as g at (Ok tt) (ap unhinted told) in
-    let put = after_ok c.settle.result tt c.in-Ok.is c.settle.ensures.put t.1 (written g at t.1 t.4) in
+    let settled = put_if_written g.S.FileSystem g.S.Writer.Sink.written names _ now new c.told-told.result c.settle.result c.in-Ok.is c.settle.ensures in
+    let t = run_as g at (Ok tt) (ap unhinted settled.0) in
+    let put = settled.1 t.1 (written g at t.1 t.4) in
     let left : c.output-1.given.0 ≡ c.run_solve_watched-solved.new.outputs.report.now = search rules in
-    let did = named (λ l k. Did does old (both_made l k ++ both_put l k t.1) new) _ _ _ _ c.names_of-names.ensures.list c.names_of-names.ensures.certificate
-    (did_then does old now new (both_made names.list.now names.certificate.now) (both_put names.list.now names.certificate.now t.1) c.in_ok-made.ensures.does put) in
+    let did = named (λ l k. Did does old (both_made l k ++ both_put l k t.1) new) _ _ _ _ c.deref-2.ensures c.deref-3.ensures
+    (did_then does old now new (both_made names.list.now names.certificate.now) (both_put names.list.now names.certificate.now t.1) c.in_ok-made.ensures.made.1 put) in
     inl (t.0, t.1, (file g at, t.2), (t.3, refl), (c.in_ok-are_apart.ensures c.if-not-branch.false, did, subst (λ o. Takes (writing_of g.W.Sink c.args.output.now o) t.1.report) (sym left) t.4.1.1.0))

@@ -14,4 +14,4 @@ returns-in-Err-clause-run g c =
     let errors = writing_of g.E.Sink c.args.streams.now.errors.now c.refuse.new.errors in
     refused (map string_bytes c.args.words.now) (RunOf g.S.FileSystem g.S.Reader.Source g.I.Source c.args.system.now c.args.streams.now.input.now c.args.system.now c.args.streams.now.input.now output)
     (c.args.system.now ≡ c.args.system.now) refl output errors c.refuse.result
-    c.in-Err.fault c.in-Err.ensures.refused c.refuse.ensures.memory c.refuse.ensures.words
+    c.in-Err.fault c.in-Err.ensures.refused c.refuse.ensures

@@ -1,4 +1,4 @@
-use Rattle.std.proofs.Common.{None, Some, Err, length, arith, ap, subst, sym}
+use Rattle.std.proofs.Common.{Err, ap, subst}
 use Rattle.std.proofs.lemmas.Result.{err_from_is_err_and}
 use Rattle.command_words.specs.declared.orders.Extent.TheVariants as extents
 use Rattle.census_branches.specs.Branches.{HaveTogether, IsTotal}

@@ -1,16 +1,17 @@
 use Rattle.std.proofs.Common.{◌∙◌, subst}
 use Rattle.std.proofs.lemmas.Result.{err_from_is_err_and}
 use Rattle.cert_check.specs.Setting.{Question}
-use Rattle.byte_streams.specs.LentTexts.{texts_of}
-use Rattle.match_runs.specs.Checking.{IsAnswered}
+use Rattle.byte_streams.specs.Documents.{Texts}
+use Rattle.match_runs.specs.Checking.{CheckFails, IsAnswered, Spells}
 use Rattle.match_runs.proofs.RunLemmas.{check_kind}
 use Rattle.match_runs.proofs.check_runs.answer_of.Goals as goal
 
 pub returns-in_err-owned : goal.returns-in_err-owned
 returns-in_err-owned g c =
     let w = err_from_is_err_and c.from_residual.result c.from_residual.ensures.1 in
-    let fails = c.in_err-owned.ensures.fault in
-    rw (w.1, w.2) (fails, check_kind (texts_of c.args.documents.now) c.in_err-owned.field-0.0 fails)
+    let fault = c.in_err-owned.field-0.0 in
+    let fails = subst (λ (t : Texts). CheckFails t fault) c.lend.ensures.texts c.in_err-owned.ensures in
+    rw (w.1, w.2) (fails, check_kind c.args.texts.now fault fails)
 
 pub returns : goal.returns
 returns g c =
@@ -19,7 +20,7 @@ returns g c =
     record {
       question = owned;
       answer = said.answer;
-      spelled = c.in_ok-owned.ensures.question;
+      spelled = subst (λ (t : Texts). Spells t owned) c.lend.ensures.texts c.in_ok-owned.ensures.0;
       answered = said.answered;
       sound = said.sound;
       is = c.new.ensures ∙ said.line;

@@ -1,8 +1,9 @@
-use Rattle.std.proofs.Common.{◌≡◌, IfErr, refl, subst}
+use Rattle.std.proofs.Common.{◌≡◌, IfErr, refl, subst, sym}
 use Rattle.match_limits.specs.First.{IsFirst}
 use Rattle.cert_check.specs.Answer.{IsAnswer, Occurs, fault_rank}
 use Rattle.cert_check.specs.declared.faults.Answer.TheVariants.{Complete, Refused}
 use Rattle.cert_check.specs.declared.faults.Fault.{Fault}
+use Rattle.match_runs.specs.Printing.{Prints}
 use Rattle.match_runs.proofs.printing_runs.question_text.Goals.{In-Err}
 use Rattle.match_runs.proofs.printing_runs.question_text.Goals as goal
 
@@ -16,12 +17,12 @@ refused_text-requires c = first (goal.at.refused_text-requires c).In-Err
 other : (fault : Fault) → Refused fault ≡ Complete → ⊥
 other fault e = cc
 
-pub returns-in_ok-text-in-Err-clause-gives : goal.returns-in_ok-text-in-Err-clause-gives
-returns-in_ok-text-in-Err-clause-gives c =
+pub returns-in_ok-text-in-Err : goal.returns-in_ok-text-in-Err
+returns-in_ok-text-in-Err c =
     record {
       answer = Refused c.in-Err.fault;
-      answered = first (goal.at.returns-in_ok-text-in-Err-clause-gives c).In-Err;
+      answered = first (goal.at.returns-in_ok-text-in-Err c).In-Err;
       sound = λ e. absurd (other c.in-Err.fault e);
-      is = c.in_ok-text-in-Err.ensures;
+      is = subst (Prints c.args.question.now (Refused c.in-Err.fault) c.args.printing) (sym c.new.ensures) c.in_ok-text-in-Err.ensures;
       ends = refl;
     }

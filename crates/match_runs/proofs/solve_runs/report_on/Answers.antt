@@ -7,8 +7,8 @@ use Rattle.match_runs.proofs.solve_runs.report_on.Goals as goal
 
 pub returns : goal.returns
 returns c =
-    let listed = c.args.listed.now in
-    let pieces = c.args.certificate.now.lemmas in
+    let listed = c.args.found.now.listed.now in
+    let pieces = c.args.found.now.certificate.now.lemmas in
     let found = number_line (codes "found") (length listed) in
     let lemmas = number_line (codes "lemmas") (length pieces) in
     let many : c.len.result ≡ length pieces = c.len.ensures ∙ ap length c.lemmas.ensures.lemmas in
@@ -17,7 +17,7 @@ returns c =
     let one = c.put_number_line.new.text.items in
     let two = c.put_number_line-2.new.text.items in
     let three = c.extend_from_slice.new.self.items in
-    four_parts _ _ _ _ _ found lemmas (tally_text c.args.shares.now) (first_board c.args.puzzle.now listed)
+    four_parts _ _ _ _ _ found lemmas (tally_text c.args.found.now.shares.now) (first_board c.args.found.now.puzzle.now listed)
     c.new-text.ensures.items
     c.in_ok-put_number_line.ensures
     (c.in_ok-put_number_line-2.ensures ∙ ap (λ n. one ++ number_line (codes "lemmas") n) many)

@@ -9,7 +9,7 @@ use Rattle.match_program.proofs.order_runs.PrintingOrder.print_apart.Goals as go
 pub returns : goal.returns
 returns g c =
     let read = c.print_of.new in
-    let opened = c.in_ok-puzzle.ensures in
+    let opened = c.in_ok-puzzle.ensures.opened in
     let printing = c.args.self.now.plan.printing in
     over_places (writing_of g.W.Sink c.args.output.now c.print_of.new.output) g.S.FileSystem g.S.Reader.Source g.I.Source c.args.system.now c.args.input.now (EndsBy (PrintingGives printing)) (PrintingFails printing)
     (one_sink (writing_of g.W.Sink c.args.output.now c.print_of.new.output)) c.args.places.now
