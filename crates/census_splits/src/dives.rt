@@ -7,7 +7,7 @@ ghost use Rattle.std.specs.Prelude.{◌≡◌};
 use rand_core::{Rng, SeedableRng};
 use rand_xoshiro::Xoshiro256PlusPlus;
 use std::alloc::AllocError;
-use xcc_dance::{OpenOptions, option_behind};
+use xcc_form::{OpenOptions, option_behind};
 
 // What the random numbers begin with. It is always the same, so that each call makes the same split.
 const SEED: u64 = 1975;

@@ -3,13 +3,13 @@
 ghost use Rattle.std.specs.Prelude.{◌≡◌, IfSome};
 ghost use Rattle.puzzle_symmetry.specs.Motion.{AreOfPuzzle};
 ghost use Rattle.xcc_form.specs.Options.{cover_of};
-ghost use Rattle.xcc_dance.specs.Clashes.{IsOpen};
+ghost use Rattle.xcc_form.specs.Clashes.{IsOpen};
 
 use crate::dives::Dives;
 use crate::splits::Splitter;
 use census_branches::Branch;
 use std::alloc::{AllocError, Global};
-use xcc_dance::{OpenOptions, open_option, uncovered_item};
+use xcc_form::{OpenOptions, open_option, uncovered_item};
 
 // How many dives tell whether a branch is worth a guess.
 const DIVES_BEFORE: u64 = 16;

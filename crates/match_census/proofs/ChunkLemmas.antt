@@ -10,7 +10,7 @@ use Rattle.std.proofs.lemmas.List.Elements.{Contains-append_left, Contains-appen
 use Rattle.match_limits.proofs.Listings.{lt_or_le}
 use Rattle.xcc_form.specs.Options.{Compiled}
 use Rattle.census_branches.specs.Branches.{WeightedBranch, HaveTogether, HaveMoreTogether, AllChoose, IsTotal}
-use Rattle.xcc_dance.specs.Chosen.{IsSelection}
+use Rattle.xcc_form.specs.Chosen.{IsSelection}
 use Rattle.census_branches.proofs.BranchLemmas.{together_join, together_cut}
 use Rattle.match_census.proofs.OneNumberLemmas.{one_together}
 

@@ -3,8 +3,8 @@ use Rattle.std.proofs.Common.{◌≡◌, ◌≢◌, ◌⊎◌, ℕ, List, Some, 
 use Rattle.xcc_form.specs.ExactCover.{ItemSet, Cover, HasPrimary}
 use Rattle.xcc_form.specs.declared.edges.Edge.{Edge}
 use Rattle.census_branches.proofs.SettledLemmas.{IsSettled, equal_or_not, below_or_not, both_or_not, not_or_so, either_or_not, settled_like, some_below, some_in, is_in, at_place}
-use Rattle.xcc_dance.specs.Clashes.{ShareAnItem, GiveTwoColours, Clash, IsOpen, IsOpenAt}
-use Rattle.xcc_dance.specs.Chosen.{IsCovered, IsUncovered, AreAllCovered}
+use Rattle.xcc_form.specs.Clashes.{ShareAnItem, GiveTwoColours, Clash, IsOpen, IsOpenAt}
+use Rattle.xcc_form.specs.Chosen.{IsCovered, IsUncovered, AreAllCovered}
 
 module _ (x : Cover) where
   pub has_primary : (option item : ℕ) → IsSettled (HasPrimary x option item)

@@ -4,8 +4,8 @@ use Rattle.match_puzzle.specs.Numbers.{AreSoMany}
 use Rattle.match_puzzle.proofs.NumberLemmas.{same_number}
 use Rattle.xcc_form.specs.ExactCover.{HasPrimary}
 use Rattle.xcc_form.specs.Options.{cover_of}
-use Rattle.xcc_dance.specs.Clashes.{IsOpen, IsOpenAt}
-use Rattle.xcc_dance.specs.Chosen.{Selection, IsSelection, IsUncovered, with_option}
+use Rattle.xcc_form.specs.Clashes.{IsOpen, IsOpenAt}
+use Rattle.xcc_form.specs.Chosen.{Selection, IsSelection, IsUncovered, with_option}
 use Rattle.xcc_dance.proofs.PartialLemmas.{one_more}
 use Rattle.xcc_dance.proofs.RoomLemmas.{room}
 use Rattle.census_branches.proofs.SettledLemmas.{equal_or_not}

@@ -8,9 +8,8 @@ use Rattle.xcc_form.specs.Correspondence.{IsFilledBy, HaveSameOptions}
 use Rattle.xcc_form.proofs.CoverLemmas.{coloured_cover}
 use Rattle.xcc_form.proofs.OptionLemmas.{many_options, pair_at, has_cell}
 use Rattle.xcc_form.proofs.WholeLemmas.{are_one_to_one}
-use Rattle.xcc_dance.specs.Clashes.{IsOpenAt}
-use Rattle.xcc_dance.specs.Chosen.{Selection, IsSelection, IsUncovered, AreAllCovered, IsNext, IsLast, with_option}
-use Rattle.xcc_dance.specs.Found.{IsFoundFrom}
+use Rattle.xcc_form.specs.Clashes.{IsOpenAt}
+use Rattle.xcc_form.specs.Chosen.{Selection, IsSelection, IsUncovered, AreAllCovered, IsNext, IsLast, with_option, IsFoundFrom}
 use Rattle.xcc_dance.proofs.SolutionLemmas.{is_solution}
 use Rattle.xcc_dance.proofs.UncoveredLemmas.{goes_open}
 use Rattle.census_branches.proofs.ExtensionLemmas.{solution_of, of_solution, has_some}

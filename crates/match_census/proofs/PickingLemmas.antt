@@ -1,7 +1,7 @@
 -- Chosen options are chosen anew, one after the other.
 use Rattle.std.proofs.Common.{◌≡◌, ◌++◌, [], ℕ, List, ap, ◌∙◌}
 use Rattle.xcc_form.specs.Options.{Compiled}
-use Rattle.xcc_dance.specs.Chosen.{Selection}
+use Rattle.xcc_form.specs.Chosen.{Selection}
 use Rattle.census_branches.specs.Branches.{WeightedBranch}
 
 -- the selection of these options

@@ -3,7 +3,7 @@ use Rattle.std.proofs.Common.{◌≤◌, ◌+◌, ◌^◌, ◌++◌, ◌∷◌, 
 use Rattle.std.proofs.lemmas.List.Elements.{Contains-append_left, Contains-append_right}
 use Rattle.xcc_form.specs.Options.{Compiled}
 use Rattle.census_branches.specs.Branches.{WeightedBranch, HaveTogether, StandFor, AllChoose, IsTotal, IsSplit}
-use Rattle.xcc_dance.specs.Chosen.{IsSelection}
+use Rattle.xcc_form.specs.Chosen.{IsSelection}
 use Rattle.census_branches.proofs.BranchLemmas.{together_join, together_cut, both_choose}
 use Rattle.match_census.proofs.OneNumberLemmas.{one_together}
 use Rattle.match_census.proofs.TotalLemmas.{some_together}

@@ -10,7 +10,7 @@ use Rattle.match_puzzle.specs.Numbers.{AreMoreThan}
 use Rattle.xcc_form.specs.Options.{Compiled}
 use Rattle.census_branches.specs.Extensions.{HasOptions, HaveOptions}
 use Rattle.census_branches.specs.Branches.{WeightedBranch, HaveTogether, HaveMoreTogether, IsSplit, AllChoose}
-use Rattle.xcc_dance.specs.Chosen.{IsSelection}
+use Rattle.xcc_form.specs.Chosen.{IsSelection}
 use Rattle.census_branches.proofs.BranchLemmas.{together_join, together_cut}
 use Rattle.match_census.proofs.ExistenceLemmas.{some_number}
 use Rattle.match_census.proofs.OneNumberLemmas.{more_are_fewer, one_together}

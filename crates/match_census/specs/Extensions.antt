@@ -1,7 +1,7 @@
 -- How many arrangements have what is chosen.
 use Rattle.std.specs.Prelude.{ℕ, List}
 use Rattle.match_puzzle.specs.declared.placements.Placement.{Placement}
-use Rattle.xcc_dance.specs.Chosen.{Selection}
+use Rattle.xcc_form.specs.Chosen.{Selection}
 use Rattle.census_branches.specs.Extensions.{HasOptions, HaveOptions}
 
 -- The arrangement has all chosen options.

@@ -7,7 +7,7 @@ ghost use Rattle.match_census.specs.Extensions.{IsExtension, HasExtensions};
 
 use crate::weights::weight_of;
 use std::alloc::AllocError;
-use xcc_dance::OpenOptions;
+use xcc_form::OpenOptions;
 
 /// How many arrangements have all options that are chosen, or `None` where there are more than `most`.
 ///

@@ -4,7 +4,7 @@ ghost use Rattle.std.specs.Prelude.{◌<◌, ◌≤◌, ◌*◌, ℕ, Option, If
 ghost use Rattle.std.specs.Fork.{slice_chunk};
 ghost use Rattle.match_limits.specs.declared.TheConstants.{MOST_LEMMAS, MOST_WORKERS};
 ghost use Rattle.census_branches.specs.Branches.{AllChoose, IsTotal};
-ghost use Rattle.xcc_dance.specs.Chosen.{IsSelection};
+ghost use Rattle.xcc_form.specs.Chosen.{IsSelection};
 ghost use Rattle.census_branches.specs.Looks.{AreLooks};
 
 use crate::spreads::spread;
@@ -55,7 +55,7 @@ impl<'a, 'l, 'w, 'b, W: CensusWatch> Work for Chunks<'a, 'l, 'w, 'b, W> {
     ghost use Rattle.std.specs.Prelude.{◌<◌, ◌*◌, length};
     ghost use Rattle.std.specs.Fork.{slice_chunk};
     ghost use Rattle.census_branches.specs.Branches.{AllChoose, IsTotal};
-    ghost use Rattle.xcc_dance.specs.Chosen.{IsSelection};
+    ghost use Rattle.xcc_form.specs.Chosen.{IsSelection};
     ghost use Rattle.census_branches.specs.Looks.{AreLooks};
 
     ghost accepts = { λ w n. (n * w.size < length w.branches.now)

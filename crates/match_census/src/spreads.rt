@@ -3,7 +3,7 @@
 ghost use Rattle.std.specs.Prelude.{◌≡◌, ◌++◌, IfOk, length};
 ghost use Rattle.xcc_form.specs.Options.{Compiled};
 ghost use Rattle.census_branches.specs.Branches.{AllChoose, StandFor};
-ghost use Rattle.xcc_dance.specs.Chosen.{IsSelection};
+ghost use Rattle.xcc_form.specs.Chosen.{IsSelection};
 
 use census_branches::Branch;
 use std::alloc::{AllocError, Global};

@@ -3,7 +3,7 @@
 ghost use Rattle.std.specs.Prelude.{◌≡◌, ◌≤◌, ◌++◌, [], IfOk, IfSome, MatchOption};
 ghost use Rattle.match_puzzle.specs.Arrangement.{IsArrangement, HasArrangements};
 ghost use Rattle.match_puzzle.specs.Numbers.{AreMoreThan};
-ghost use Rattle.xcc_dance.specs.Chosen.{IsSelection};
+ghost use Rattle.xcc_form.specs.Chosen.{IsSelection};
 ghost use Rattle.census_branches.specs.Looks.{AreLooks};
 ghost use Rattle.census_branches.specs.Branches.{AllChoose, HaveTogether, HaveMoreTogether, IsSplit};
 ghost use Rattle.match_census.specs.Extensions.{IsExtension, HasExtensions};
@@ -14,7 +14,8 @@ use crate::spreads::spread;
 use crate::watches::CensusWatch;
 use census_branches::{Branch, looks_of};
 use std::alloc::{AllocError, Global};
-use xcc_dance::{OpenOptions, OpenSets};
+use xcc_dance::OpenSets;
+use xcc_form::OpenOptions;
 
 // How many arrangements these branches have together, each as often as it weighs, or `None` where they have more than
 // `most`. Nothing is chosen before.

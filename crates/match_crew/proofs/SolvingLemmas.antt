@@ -9,7 +9,7 @@ use Rattle.match_puzzle.specs.declared.placements.Pair.{Pair}
 use Rattle.match_puzzle.specs.Arrangement.{IsArrangement}
 use Rattle.match_fits.specs.Placing.{prefix_of}
 use Rattle.match_limits.proofs.ListLemmas.{contains_at}
-use Rattle.xcc_dance.specs.Chosen.{Selection}
+use Rattle.xcc_form.specs.Chosen.{Selection}
 use Rattle.xcc_dance.specs.Outcome.{IsPackedOutcome, SearchState}
 use Rattle.xcc_dance.specs.declared.searches.PackedOutcome.{PackedOutcome}
 use Rattle.xcc_dance.specs.declared.searches.PackedOutcome.TheVariants as packed

@@ -3,7 +3,7 @@
 ghost use Rattle.std.specs.Prelude.{◌≡◌, ◌≤◌, IfOk, IfErr, MatchOption, codes, length, vec_len};
 ghost use Rattle.puzzle_symmetry.specs.Motion.{AreOfPuzzle};
 ghost use Rattle.match_show.specs.Facts.{number_line};
-ghost use Rattle.xcc_dance.specs.Chosen.{IsSelection};
+ghost use Rattle.xcc_form.specs.Chosen.{IsSelection};
 ghost use Rattle.census_branches.specs.Branches.{AllChoose, IsSplit};
 ghost use Rattle.census_splits.specs.declared.splits.TheConstants.{MOST_BRANCHES};
 ghost use Rattle.byte_streams.specs.Moves.{reading_of, writing_of};

@@ -1,7 +1,7 @@
 //! The turning triangle, worked out by hand: the sizes of its items, its tree, how many are found, and what is cited.
 
 ghost use Rattle.xcc_form.specs.Options.{cover_of};
-ghost use Rattle.xcc_dance.specs.Chosen.{IsUncovered};
+ghost use Rattle.xcc_form.specs.Chosen.{IsUncovered};
 
 use crate::desks::is_line;
 use cert_text::WithinLimits;
@@ -10,8 +10,8 @@ use match_puzzle::{Pair, Puzzle};
 use std::alloc::{AllocError, Global};
 use std::test::Fail;
 use test_samples::turning_triangle;
-use xcc_dance::{Cite, Cites, NoCites, OpenOptions, OpenSets, Outcome, SearchFault, SearchOver};
-use xcc_form::{Xcc, compile};
+use xcc_dance::{Cite, Cites, NoCites, OpenSets, Outcome, SearchFault, SearchOver};
+use xcc_form::{OpenOptions, Xcc, compile};
 use xcc_links::{Links, Search};
 
 // Whether these are the uncovered items, and how many open options each has.

@@ -1,7 +1,7 @@
 -- A state as it stood before several choices.
 use Rattle.std.proofs.Common.{◌≡◌, ◌<◌, ◌-◌, ◌∷◌, [], ℕ, suc, length, length-append, arith, ap, sym, ◌∙◌}
 use Rattle.std.proofs.lemmas.List.{length-take-le}
-use Rattle.xcc_dance.specs.Chosen.{Selection, with_option, without_last, before_last, before_any}
+use Rattle.xcc_form.specs.Chosen.{Selection, with_option, without_last, before_last, before_any}
 
 module _ (S : Type 0) (selection : S → Selection) (taken_back : S → S) where
   -- before one choice more, all is as it was before the others

@@ -9,7 +9,7 @@ use Rattle.xcc_form.specs.Options.{Choice, Compiled, IsCompiled, items_of, cover
 use Rattle.xcc_form.specs.Correspondence.{IsPairOf}
 use Rattle.xcc_form.specs.declared.edges.Edge.{Edge}
 use Rattle.xcc_form.proofs.OptionLemmas.{option_pair, one_pair, primary_of, has_cell, has_tile}
-use Rattle.xcc_dance.specs.Clashes.{Clash, ShareAnItem}
+use Rattle.xcc_form.specs.Clashes.{Clash, ShareAnItem}
 
 pub to_map : {X Y : Type 0} (f : X → Y) (xs : List X) (i : ℕ) (x : X) → slice_get xs i ≡ Some x → slice_get (map f xs) i ≡ Some (f x)
 to_map f [] i x at = absurd (none-some x at)

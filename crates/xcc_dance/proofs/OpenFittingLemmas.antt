@@ -26,8 +26,8 @@ use Rattle.xcc_form.specs.Options.{Compiled, IsCompiled, IsOptionPair, PairComes
 use Rattle.xcc_form.specs.Correspondence.{IsPairOf}
 use Rattle.xcc_form.proofs.OptionLemmas.{contains_at, place_of, read_in, option_pair, option_for, pairs_rise, one_option, one_pair, pair_at, many_options}
 use Rattle.xcc_form.proofs.PairsLemmas.{in_first, in_rest}
-use Rattle.xcc_dance.specs.Clashes.{IsPartialSolution, IsOpen, IsOpenAt}
-use Rattle.xcc_dance.specs.Chosen.{AreOpenAt, HasSize, IsUncovered, IsCovered}
+use Rattle.xcc_form.specs.Clashes.{IsPartialSolution, IsOpen, IsOpenAt}
+use Rattle.xcc_form.specs.Chosen.{AreOpenAt, HasSize, IsUncovered, IsCovered}
 use Rattle.match_puzzle.specs.Fitting.{IsNumberOf}
 use Rattle.match_fits.specs.Placing.{prefix_of}
 use Rattle.xcc_dance.specs.Placing.{ArePairsOf}

@@ -18,8 +18,8 @@ use Rattle.match_puzzle.proofs.PairLemmas.{length-with_pairs}
 use Rattle.xcc_form.specs.Options.{Compiled, IsCompiled, IsOptionPair, cover_of}
 use Rattle.xcc_form.specs.Correspondence.{IsPairOf}
 use Rattle.xcc_form.proofs.OptionLemmas.{one_option, pair_at, many_options}
-use Rattle.xcc_dance.specs.Clashes.{IsOpen, IsOpenAt}
-use Rattle.xcc_dance.specs.Chosen.{IsUncovered, AreAllCovered, HasSize, IsToBranchOn, ComesAfter, IsNext, IsLast}
+use Rattle.xcc_form.specs.Clashes.{IsOpen, IsOpenAt}
+use Rattle.xcc_form.specs.Chosen.{IsUncovered, AreAllCovered, HasSize, IsToBranchOn, ComesAfter, IsNext, IsLast}
 use Rattle.xcc_dance.specs.Placing.{ArePairsOf, IsPlacingOf, IsPairOfAny}
 use Rattle.xcc_dance.proofs.OpenFittingLemmas.{open_where_fitting, open_where_settling, uncovered_where_open, as_many_as_fitting, branched_on_where_fewest, stand_as_pairs, settled_covered, fitting_option}
 use Rattle.xcc_dance.proofs.PartialLemmas.{one_more, fewer}

@@ -7,7 +7,7 @@ use Rattle.match_puzzle.proofs.PairLemmas.{taken_at}
 use Rattle.match_fits.proofs.PlacedPairLemmas.{pushed_at}
 use Rattle.xcc_form.proofs.OptionLemmas.{contains_at}
 use Rattle.xcc_form.specs.ExactCover.{Cover}
-use Rattle.xcc_dance.specs.Clashes.{Clash, IsOpen, IsPartialSolution}
+use Rattle.xcc_form.specs.Clashes.{Clash, IsOpen, IsPartialSolution}
 
 module _ (x : Cover) (chosen : List ℕ) (partial : IsPartialSolution x chosen) where
   pub one_more : (option : ℕ) → IsOpen x chosen option → IsPartialSolution x (chosen ++ option ∷ [])

@@ -5,8 +5,8 @@ use Rattle.std.proofs.lemmas.Option.{slice_get_within}
 use Rattle.match_limits.proofs.ListLemmas.{contains_at, kept_left}
 use Rattle.xcc_form.specs.Options.{Compiled, cover_of}
 use Rattle.xcc_form.proofs.OptionLemmas.{place_of}
-use Rattle.xcc_dance.specs.Clashes.{IsOpen}
-use Rattle.xcc_dance.specs.Chosen.{Selection, IsSelection}
+use Rattle.xcc_form.specs.Clashes.{IsOpen}
+use Rattle.xcc_form.specs.Chosen.{Selection, IsSelection}
 
 -- what stands behind a list
 pub behind : {X : Type 0} (xs ys : List X) (y : X) → slice_get (xs ++ y ∷ ys) (length xs) ≡ Some y

@@ -23,11 +23,10 @@ use Rattle.xcc_form.proofs.OptionLemmas.{contains_at, place_of, read_in, option_
 use Rattle.xcc_form.proofs.EdgeLemmas.{other_cell}
 use Rattle.xcc_form.proofs.GivenLemmas.{given_alike, met}
 use Rattle.xcc_form.proofs.ShownLemmas.{shared_at}
-use Rattle.xcc_dance.specs.Clashes.{Clash, IsPartialSolution, IsOpen}
-use Rattle.xcc_dance.specs.Chosen.{Selection}
+use Rattle.xcc_form.specs.Clashes.{Clash, IsPartialSolution, IsOpen}
+use Rattle.xcc_form.specs.Chosen.{Selection, IsFoundFrom}
 use Rattle.match_fits.specs.Placing.{prefix_of, FitInTurn}
 use Rattle.xcc_dance.specs.Placing.{ArePairsOf, IsArrangementWith}
-use Rattle.xcc_dance.specs.Found.{IsFoundFrom}
 use Rattle.xcc_dance.proofs.ItemLemmas.{share_cell, share_tile, shares}
 
 module _ (x : Compiled) (is : IsCompiled x) where

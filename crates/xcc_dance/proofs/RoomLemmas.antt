@@ -14,8 +14,8 @@ use Rattle.xcc_form.specs.Options.{Compiled, IsCompiled, cover_of}
 use Rattle.xcc_form.specs.Correspondence.{IsPairOf}
 use Rattle.xcc_form.proofs.OptionLemmas.{many_options, contains_at, read_in, option_pair, pair_at, primary_of, one_option}
 use Rattle.xcc_form.proofs.WholeLemmas.{list_from}
-use Rattle.xcc_dance.specs.Clashes.{IsOpen}
-use Rattle.xcc_dance.specs.Chosen.{IsSelection}
+use Rattle.xcc_form.specs.Clashes.{IsOpen}
+use Rattle.xcc_form.specs.Chosen.{IsSelection}
 use Rattle.xcc_dance.proofs.PartialLemmas.{one_more}
 use Rattle.xcc_dance.proofs.ItemLemmas.{is_item, share_cell}
 use Rattle.xcc_dance.proofs.SolutionLemmas.{one_option as one_option_of, different}

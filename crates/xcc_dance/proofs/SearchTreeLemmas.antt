@@ -7,12 +7,12 @@ use Rattle.match_puzzle.specs.declared.items.Item.{Item}
 use Rattle.xcc_form.specs.Options.{cover_of}
 use Rattle.xcc_form.specs.Correspondence.{IsSolutionOf}
 use Rattle.cert_tree.specs.Tree.{Tree, Forest, branch, dead, found, same, image, none, more, count}
-use Rattle.xcc_dance.specs.Clashes.{IsOpenAt}
-use Rattle.xcc_dance.specs.Chosen.{Selection, AreOpenAt, HasSize, with_option}
+use Rattle.xcc_form.specs.Clashes.{IsOpenAt}
+use Rattle.xcc_form.specs.Chosen.{Selection, AreOpenAt, HasSize, with_option, Picks}
 use Rattle.match_puzzle.specs.Fitting.{IsNumberOf}
 use Rattle.xcc_dance.specs.Found.{branch_total}
 use Rattle.xcc_dance.specs.Progress.{AreKept}
-use Rattle.xcc_dance.specs.SearchTree.{Picks, Answers, IsAbout, IsSearchTree, AreChildren, IsChild, AreBranchesOf}
+use Rattle.xcc_dance.specs.SearchTree.{Answers, IsAbout, IsSearchTree, AreChildren, IsChild, AreBranchesOf}
 use Rattle.xcc_dance.specs.Unfinished.{wanted, begun, IsNotCited, IsPartOfSearch, IsUnfinished, AreUnfinished}
 use Rattle.xcc_dance.specs.declared.cites.Cite.{Cite}
 use Rattle.xcc_dance.proofs.SizeLemmas.{AreOpenBefore}

@@ -9,8 +9,8 @@ use Rattle.xcc_form.specs.ExactCover.{Cover}
 use Rattle.xcc_form.specs.Options.{Compiled, IsCompiled, cover_of}
 use Rattle.xcc_form.proofs.OptionLemmas.{contains_at}
 use Rattle.xcc_form.proofs.ListingMore.{listing_same, listing_append, listing_one, listing_nothing}
-use Rattle.xcc_dance.specs.Clashes.{IsOpenAt}
-use Rattle.xcc_dance.specs.Chosen.{HasSize, IsNext, IsLast}
+use Rattle.xcc_form.specs.Clashes.{IsOpenAt}
+use Rattle.xcc_form.specs.Chosen.{HasSize, IsNext, IsLast}
 use Rattle.xcc_dance.proofs.RoomLemmas.{AreDifferent, few_at}
 
 -- the number is below this one, and has the property

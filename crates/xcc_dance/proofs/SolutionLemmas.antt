@@ -7,8 +7,8 @@ use Rattle.xcc_form.specs.Options.{Compiled, cover_of}
 use Rattle.xcc_form.specs.declared.edges.Edge.{Edge}
 use Rattle.xcc_form.proofs.OptionLemmas.{contains_at, place_of, pair_at, many_options, has_cell}
 use Rattle.xcc_form.proofs.CoverLemmas.{coloured_cover}
-use Rattle.xcc_dance.specs.Clashes.{Clash}
-use Rattle.xcc_dance.specs.Chosen.{IsSelection, AreAllCovered}
+use Rattle.xcc_form.specs.Clashes.{Clash}
+use Rattle.xcc_form.specs.Chosen.{IsSelection, AreAllCovered}
 
 module _ (x : Compiled) (chosen : List ℕ) (is : IsSelection x chosen) where
   -- two chosen options that clash stand at one place

@@ -1,8 +1,8 @@
 -- Options of an uncovered item.
 use Rattle.std.proofs.Common.{◌≡◌, ◌<◌, ℕ, List, Contains, length, subst, ⊎_elim}
 use Rattle.xcc_form.specs.ExactCover.{Cover, HasPrimary, HasColour}
-use Rattle.xcc_dance.specs.Clashes.{IsOpenAt}
-use Rattle.xcc_dance.specs.Chosen.{IsUncovered}
+use Rattle.xcc_form.specs.Clashes.{IsOpenAt}
+use Rattle.xcc_form.specs.Chosen.{IsUncovered}
 
 -- one that goes with each chosen option is open
 pub goes_open : (x : Cover) (chosen : List ℕ) (item : ℕ) → IsUncovered x chosen item → (option : ℕ) → option < length x.options → HasPrimary x option item

@@ -13,9 +13,9 @@ use Rattle.cert_tree.specs.Heads.{branch_head, heads_in, heads_of}
 use Rattle.cert_tree.specs.declared.heads.Head.{Head}
 use Rattle.cert_tree.proofs.HeadLemmas.{count-join}
 use Rattle.std.specs.declared.alloc.AllocError.{AllocError}
-use Rattle.xcc_dance.specs.Clashes.{IsOpen, IsOpenAt}
-use Rattle.xcc_dance.specs.Chosen.{Selection, IsSelection, IsUncovered, AreAllCovered, HasSize, with_option}
-use Rattle.xcc_dance.specs.Found.{IsCitation, IsFoundBelow, IsFoundFrom, branch_count}
+use Rattle.xcc_form.specs.Clashes.{IsOpen, IsOpenAt}
+use Rattle.xcc_form.specs.Chosen.{Selection, IsSelection, IsUncovered, AreAllCovered, HasSize, with_option, IsFoundFrom}
+use Rattle.xcc_dance.specs.Found.{IsCitation, IsFoundBelow, branch_count}
 use Rattle.xcc_dance.specs.Outcome.{IsCiteWithin}
 use Rattle.xcc_dance.specs.declared.cites.Cite.{Cite}
 use Rattle.xcc_dance.specs.declared.cites.Cite.TheVariants as cites

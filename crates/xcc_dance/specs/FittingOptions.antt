@@ -9,8 +9,8 @@ use Rattle.match_puzzle.specs.declared.items.Item.{Item}
 use Rattle.match_puzzle.specs.declared.placements.Pair.{Pair}
 use Rattle.xcc_form.specs.Options.{Compiled, cover_of}
 use Rattle.xcc_form.specs.Correspondence.{IsPairOf}
-use Rattle.xcc_dance.specs.Clashes.{IsOpen, IsOpenAt}
-use Rattle.xcc_dance.specs.Chosen.{AreOpenAt, HasSize, IsUncovered, IsToBranchOn}
+use Rattle.xcc_form.specs.Clashes.{IsOpen, IsOpenAt}
+use Rattle.xcc_form.specs.Chosen.{AreOpenAt, HasSize, IsUncovered, IsToBranchOn}
 use Rattle.xcc_dance.specs.Placing.{ArePairsOf}
 
 -- An option is open just where its pair fits beside the pairs of the chosen ones.

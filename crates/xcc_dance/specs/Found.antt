@@ -1,17 +1,8 @@
 -- What a search finds, and its tree.
-use Rattle.std.specs.Prelude.{◌≡◌, ℕ, ◌+◌, ◌<◌, List, Contains}
-use Rattle.match_puzzle.specs.declared.placements.Placement.{Placement}
+use Rattle.std.specs.Prelude.{◌≡◌, ℕ, ◌+◌, ◌<◌}
 use Rattle.cert_tree.specs.Tree.{Tree, Forest, branch, dead, found, same, image, none, more}
-use Rattle.xcc_form.specs.Correspondence.{IsSolutionOf}
-use Rattle.xcc_dance.specs.Chosen.{Selection}
 use Rattle.xcc_dance.specs.declared.cites.Cite.{Cite}
 use Rattle.xcc_dance.specs.declared.cites.Cite.TheVariants as cites
-
--- The arrangement is that of a solution that has all chosen options.
-pub record IsFoundFrom (s : Selection) (a : List Placement) : Type 0 where
-  pub solution : List ℕ
-  pub is_solution : IsSolutionOf s.compiled a solution
-  pub has_chosen : (option : ℕ) → Contains s.chosen option → Contains solution option
 
 abbrev mutual
   -- how many branch nodes a tree has

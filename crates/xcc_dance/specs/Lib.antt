@@ -1,5 +1,3 @@
-pub mod Clashes
-pub mod Chosen
 pub mod Placing
 pub mod Found
 pub mod FittingOptions

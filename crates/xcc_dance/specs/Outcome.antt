@@ -6,10 +6,10 @@ use Rattle.match_puzzle.specs.declared.placements.Pair.{Pair}
 use Rattle.cert_tree.specs.Tree.{Tree, tree_of}
 use Rattle.cert_tree.specs.Limits.{IsTreeWithin}
 use Rattle.xcc_form.specs.Options.{Compiled}
-use Rattle.xcc_dance.specs.Chosen.{Selection}
+use Rattle.xcc_form.specs.Chosen.{Selection, Picks}
 use Rattle.xcc_dance.specs.Placing.{ArePairsOf, IsArrangementWith}
 use Rattle.xcc_dance.specs.Found.{branch_count, IsFoundBelow}
-use Rattle.xcc_dance.specs.SearchTree.{Picks, Answers, IsSearchTree}
+use Rattle.xcc_dance.specs.SearchTree.{Answers, IsSearchTree}
 use Rattle.xcc_dance.specs.Unfinished.{IsUnfinished}
 use Rattle.xcc_dance.specs.declared.cites.Cite.{Cite}
 use Rattle.xcc_dance.specs.declared.cites.Cite.TheVariants.{Same, Image}

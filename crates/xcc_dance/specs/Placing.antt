@@ -7,7 +7,7 @@ use Rattle.match_puzzle.specs.declared.placements.Placement.{Placement}
 use Rattle.match_puzzle.specs.declared.placements.Pair.{Pair}
 use Rattle.xcc_form.specs.Options.{Compiled}
 use Rattle.xcc_form.specs.Correspondence.{IsPairOf}
-use Rattle.xcc_dance.specs.Chosen.{IsSelection}
+use Rattle.xcc_form.specs.Chosen.{IsSelection}
 
 -- The pairs are those of the options, one for each, in their order.
 pub record ArePairsOf (x : Compiled) (options : List ℕ) (pairs : List Pair) : Type 0 where

@@ -5,8 +5,8 @@ use Rattle.match_puzzle.specs.declared.placements.Placement.{Placement}
 use Rattle.cert_tree.specs.Heads.{heads_of, heads_in}
 use Rattle.cert_tree.specs.Tree.{Tree, Forest, count}
 use Rattle.cert_tree.specs.Limits.{IsTreeWithin, AreTreesWithin}
-use Rattle.xcc_dance.specs.Chosen.{Selection}
-use Rattle.xcc_dance.specs.Found.{IsFoundFrom, branch_count, branch_total, IsFoundBelow, AreFoundBelow}
+use Rattle.xcc_form.specs.Chosen.{Selection, IsFoundFrom}
+use Rattle.xcc_dance.specs.Found.{branch_count, branch_total, IsFoundBelow, AreFoundBelow}
 use Rattle.xcc_dance.specs.declared.progress.Progress.{Progress}
 
 -- how many levels of nodes there can be below the one of these choices: one for each option that may still be chosen

@@ -7,19 +7,11 @@ use Rattle.match_puzzle.specs.declared.items.Item.{Item}
 use Rattle.cert_tree.specs.Tree.{Tree, Forest, branch, dead, found, same, image, none, more}
 use Rattle.xcc_form.specs.Options.{cover_of}
 use Rattle.xcc_form.specs.Correspondence.{IsSolutionOf}
-use Rattle.xcc_dance.specs.Chosen.{Selection, AreOpenAt, IsToBranchOn, with_option}
+use Rattle.xcc_form.specs.Chosen.{Selection, Picks, AreOpenAt, with_option}
 use Rattle.xcc_dance.specs.Placing.{ArePairsOf}
 use Rattle.match_puzzle.specs.Fitting.{IsNumberOf}
 use Rattle.xcc_dance.specs.Found.{IsCitation}
 use Rattle.xcc_dance.specs.declared.cites.Cite.{Cite}
-
--- what a rule may pick where these options are chosen, by its number
-abbrev pub Picks : Type 1
-Picks = Selection → ℕ → Type 0
-
--- of the uncovered items the one with the fewest open options, the least number at a tie
-abbrev pub picks_fewest : Picks
-picks_fewest s = IsToBranchOn (cover_of s.compiled) s.chosen
 
 -- what may be answered for a child, by its pairs in the order of their placing
 abbrev pub Answers : Type 1

@@ -6,11 +6,11 @@ use Rattle.match_puzzle.specs.declared.placements.Pair.{Pair}
 use Rattle.cert_tree.specs.Tree.{Forest}
 use Rattle.xcc_form.specs.ExactCover.{Cover}
 use Rattle.xcc_form.specs.Options.{cover_of}
-use Rattle.xcc_dance.specs.Clashes.{IsOpenAt}
-use Rattle.xcc_dance.specs.Chosen.{Selection, with_option}
+use Rattle.xcc_form.specs.Clashes.{IsOpenAt}
+use Rattle.xcc_form.specs.Chosen.{Selection, with_option, Picks}
 use Rattle.xcc_dance.specs.Placing.{ArePairsOf}
 use Rattle.xcc_dance.specs.Found.{branch_total}
-use Rattle.xcc_dance.specs.SearchTree.{Picks, Answers, AreChildren}
+use Rattle.xcc_dance.specs.SearchTree.{Answers, AreChildren}
 
 -- what is made of the tree of a search, up to a branch node that is wanted
 pub data Part : Type 0 where

@@ -4,7 +4,7 @@ ghost use Rattle.std.specs.Prelude.{ℕ, List};
 ghost use Rattle.match_puzzle.specs.declared.placements.Pair.{Pair};
 ghost use Rattle.xcc_form.specs.ExactCover.{IsSolution};
 ghost use Rattle.xcc_form.specs.Options.{Compiled, IsCompiled, cover_of};
-ghost use Rattle.xcc_dance.specs.Chosen.{IsSelection, AreAllCovered};
+ghost use Rattle.xcc_form.specs.Chosen.{IsSelection, AreAllCovered};
 ghost use Rattle.xcc_dance.specs.Placing.{ArePairsOf};
 ghost use Rattle.xcc_dance.specs.FittingOptions.{AreOpenWhereFitting, AreOpenWhereSettling, AreOpenWhereListed};
 ghost use Rattle.xcc_dance.specs.FittingOptions.{AreOpenInOrder, AreFittingInOrder, AreAsManyAsFitting};

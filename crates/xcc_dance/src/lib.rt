@@ -2,12 +2,9 @@
 //! as `OpenSets` does by counts of what fits.
 #![tactic(auto)]
 
-mod chooses;
 mod cites;
 mod faults;
 mod laws;
-mod lookups;
-mod open_options;
 mod open_sets;
 mod paths;
 mod progress;
@@ -15,15 +12,12 @@ mod searches;
 mod searching;
 mod watches;
 
-pub use chooses::{Chooses, FewestOptions, LeastLeft};
 pub use cites::{Cite, Cites, NoCites};
 pub use faults::SearchFault;
 pub use laws::{
     branch_items_have_the_fewest, open_options_are_listed, open_options_are_those_that_fit,
     options_stand_as_pairs, uncovered_items_are_open, whole_selections_are_solutions,
 };
-pub use lookups::{open_option, option_behind, uncovered_item};
-pub use open_options::{FromCompiled, OpenOptions, left_by};
 pub use open_sets::OpenSets;
 pub use searches::{Outcome, PackedOutcome, SearchOver};
 pub use watches::{Counted, Met, Unwatched, Watch};

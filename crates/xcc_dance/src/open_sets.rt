@@ -2,15 +2,14 @@
 
 ghost use Rattle.std.specs.Prelude.{◌≡◌, ◌<◌, ◌+◌, [], IfOk, IfSome, MatchOption, length};
 ghost use Rattle.xcc_form.specs.Options.{cover_of};
-ghost use Rattle.xcc_dance.specs.Chosen.{IsUncovered};
+ghost use Rattle.xcc_form.specs.Chosen.{IsUncovered};
 ghost use Rattle.xcc_dance.specs.Placing.{IsPairOfAny};
 
-use crate::open_options::{FromCompiled, OpenOptions};
 use match_fits::FitCounts;
 use match_puzzle::{Item, Pair};
 use std::alloc::{AllocError, Global};
 use std::marker::Model;
-use xcc_form::Xcc;
+use xcc_form::{FromCompiled, OpenOptions, Xcc};
 
 /// Options chosen of a compiled puzzle, no two of which clash, with the pairs that fit beside theirs: an option is open
 /// just where its pair fits. It is seen as what is chosen, and nothing more. It borrows the compiled puzzle.
@@ -22,7 +21,7 @@ pub struct OpenSets<'a> {
 }
 
 impl<'a> Model for OpenSets<'a> {
-    ghost use Rattle.xcc_dance.specs.Chosen.{Selection};
+    ghost use Rattle.xcc_form.specs.Chosen.{Selection};
     ghost use Rattle.xcc_dance.specs.Placing.{IsPlacingOf};
 
     ghost Value = { Selection };
@@ -70,7 +69,7 @@ impl<'a> OpenSets<'a> {
 
 impl<'a> OpenOptions for OpenSets<'a> {
     ghost use Rattle.std.specs.Prelude.{refl};
-    ghost use Rattle.xcc_dance.specs.Chosen.{without_last};
+    ghost use Rattle.xcc_form.specs.Chosen.{without_last};
 
     ghost selection = { λ s. s };
 

@@ -5,18 +5,16 @@ ghost use Rattle.match_board.specs.Board.{cell_count};
 ghost use Rattle.match_puzzle.specs.Fitting.{IsNumberOf};
 ghost use Rattle.xcc_form.specs.Options.{IsCompiled, IsOptionPair, cover_of};
 ghost use Rattle.xcc_form.specs.Correspondence.{IsPairOf, IsSolutionOf};
-ghost use Rattle.xcc_dance.specs.Clashes.{IsOpen};
-ghost use Rattle.xcc_dance.specs.Chosen.{IsSelection, IsUncovered, AreAllCovered, with_option, before_any};
+ghost use Rattle.xcc_form.specs.Clashes.{IsOpen};
+ghost use Rattle.xcc_form.specs.Chosen.{IsSelection, IsUncovered, AreAllCovered, with_option, before_any};
 ghost use Rattle.match_fits.specs.Placing.{FitInTurn};
 ghost use Rattle.xcc_dance.specs.Placing.{ArePairsOf};
 
-use crate::chooses::Chooses;
-use crate::open_options::OpenOptions;
 use match_limits::MOST_CELLS;
 use match_puzzle::{Arrangement, Item, Pair};
 use std::alloc::{AllocError, Global};
 use std::marker::Model;
-use xcc_form::FormFault;
+use xcc_form::{Chooses, FormFault, OpenOptions};
 
 // Chosen options with their pairs, in the order of choosing. It is seen as the engine that keeps the options.
 #[derive(Drop)]

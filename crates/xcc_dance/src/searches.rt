@@ -5,12 +5,10 @@ ghost use Rattle.cert_tree.specs.Tree.{tree_of};
 ghost use Rattle.match_puzzle.specs.declared.placements.Pair.{Pair as Placed};
 ghost use Rattle.match_fits.specs.Placing.{FitInTurn};
 ghost use Rattle.xcc_dance.specs.Outcome.{IsOutcome, IsPackedOutcome, IsPackedSearchOf, IsSearchOf};
-ghost use Rattle.xcc_dance.specs.SearchTree.{picks_fewest};
+ghost use Rattle.xcc_form.specs.Chosen.{picks_fewest};
 
-use crate::chooses::{Chooses, FewestOptions};
 use crate::cites::Cites;
 use crate::faults::SearchFault;
-use crate::open_options::{FromCompiled, OpenOptions};
 use crate::paths::SearchPath;
 use crate::progress::Progress;
 use crate::searching::walk;
@@ -19,7 +17,7 @@ use match_limits::MOST_FUEL;
 use match_puzzle::{Arrangement, Pair};
 use std::alloc::{AllocError, Global};
 use std::marker::Model;
-use xcc_form::Xcc;
+use xcc_form::{Chooses, FewestOptions, FromCompiled, OpenOptions, Xcc};
 
 /// What a run of a search comes to.
 #[derive(Drop)]

@@ -5,21 +5,20 @@ ghost use Rattle.match_puzzle.specs.declared.placements.Pair.{Pair};
 ghost use Rattle.xcc_form.specs.Options.{cover_of};
 ghost use Rattle.cert_tree.specs.Heads.{heads_of};
 ghost use Rattle.cert_tree.specs.Tree.{Tree};
-ghost use Rattle.xcc_dance.specs.Chosen.{IsUncovered};
+ghost use Rattle.xcc_form.specs.Chosen.{IsUncovered};
 ghost use Rattle.match_fits.specs.Placing.{FitInTurn};
 ghost use Rattle.xcc_dance.specs.Found.{IsCitation};
 ghost use Rattle.xcc_dance.specs.Progress.{GoesOn, IsTreeOf, AreTreesOf, PutsTree, PutsTrees};
 ghost use Rattle.xcc_dance.specs.SearchTree.{IsSearchTree, IsChild, AreBranchesOf};
 ghost use Rattle.xcc_dance.specs.Unfinished.{IsNotCited, IsUnfinished, AreUnfinished};
 
-use crate::chooses::Chooses;
 use crate::cites::{Cite, Cites};
-use crate::open_options::OpenOptions;
 use crate::paths::SearchPath;
 use crate::progress::Progress;
 use cert_tree::Head;
 use match_limits::{MOST_CELLS, MOST_CHILDREN};
 use std::alloc::{AllocError, Global};
+use xcc_form::{Chooses, OpenOptions};
 
 // Puts the tree of what is chosen behind the heads, and leaves the choices as before; or finds that the fuel does not do.
 #[cycle(walk)]

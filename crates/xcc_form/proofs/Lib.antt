@@ -12,3 +12,4 @@ pub mod SolutionLemmas
 pub mod WholeLemmas
 pub mod ConversionLemmas
 pub mod CoverLemmas
+pub mod NextLemmas

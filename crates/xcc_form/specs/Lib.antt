@@ -4,3 +4,5 @@ pub mod Correspondence
 pub mod Laws
 pub mod Numbers
 pub mod Layout
+pub mod Clashes
+pub mod Chosen

@@ -2,8 +2,8 @@
 use Rattle.std.proofs.Common.{◌≡◌, ◌≢◌, ◌<◌, ◌≤◌, ◌+◌, ◌-◌, ℕ, List, Option, None, Some, MatchOption, length, get_or, arith, refl, inl, inr, ⊎_elim}
 use Rattle.xcc_form.specs.Options.{Compiled, cover_of}
 use Rattle.xcc_form.proofs.ListingMore.{listing_same}
-use Rattle.xcc_dance.specs.Clashes.{IsOpenAt}
-use Rattle.xcc_dance.specs.Chosen.{AreAllCovered, IsToBranchOn}
+use Rattle.xcc_form.specs.Clashes.{IsOpenAt}
+use Rattle.xcc_form.specs.Chosen.{AreAllCovered, IsToBranchOn}
 use Rattle.xcc_links.specs.NodeTables.{AreRight, start_of}
 use Rattle.xcc_links.proofs.NodeWords.{IsFreeAt, IsWalking, left_to, HaveChosenNodes, HasLeastSize, IsBest}
 use Rattle.xcc_links.specs.LinkStates.{AreLinksOf}

@@ -4,8 +4,8 @@ use Rattle.std.proofs.lemmas.List.{take_all, drop_all}
 use Rattle.std.proofs.lemmas.Option.{slice_get_within, get_or_from_slice_get}
 use Rattle.xcc_form.specs.Options.{Compiled, cover_of}
 use Rattle.xcc_form.proofs.ListingMore.{listing_same}
-use Rattle.xcc_dance.specs.Clashes.{IsOpenAt}
-use Rattle.xcc_dance.specs.Chosen.{IsSelection, IsUncovered, HasSize}
+use Rattle.xcc_form.specs.Clashes.{IsOpenAt}
+use Rattle.xcc_form.specs.Chosen.{IsSelection, IsUncovered, HasSize}
 use Rattle.xcc_links.specs.Rings.{item_of}
 use Rattle.xcc_links.specs.NodeLists.{count, in_list}
 use Rattle.xcc_links.specs.NodeTables.{shown_by}

@@ -13,8 +13,8 @@ use Rattle.xcc_links.specs.NodeTables.{start_of}
 use Rattle.xcc_links.specs.NodeClashes.{NodesClash}
 use Rattle.xcc_links.proofs.NodeWords.{HasNode, HasNoChosenNode, IsFreeAt, HasChosenNode}
 use Rattle.xcc_links.specs.TableLayout.{IsTableOf, IsNodeAt}
-use Rattle.xcc_dance.specs.Clashes.{Clash, IsOpen, IsOpenAt}
-use Rattle.xcc_dance.specs.Chosen.{IsCovered, IsUncovered}
+use Rattle.xcc_form.specs.Clashes.{Clash, IsOpen, IsOpenAt}
+use Rattle.xcc_form.specs.Chosen.{IsCovered, IsUncovered}
 use Rattle.xcc_links.specs.declared.links.tables.Entry.{Entry}
 use Rattle.xcc_links.specs.declared.links.tables.NodeTable.{NodeTable}
 use Rattle.xcc_dance.proofs.ItemLemmas.{edge_has}

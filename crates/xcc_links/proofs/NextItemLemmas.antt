@@ -1,7 +1,7 @@
 -- The next uncovered item is the next in the root's list.
 use Rattle.std.proofs.Common.{◌≡◌, ◌≢◌, ◌<◌, ◌≤◌, ◌+◌, ◌-◌, ℕ, List, Option, None, Some, IfSome, length, arith, ap, sym, ◌∙◌, subst}
 use Rattle.xcc_form.specs.Options.{Compiled, cover_of}
-use Rattle.xcc_dance.specs.Chosen.{IsUncovered, ComesAfter, IsNextItem, IsLastItem}
+use Rattle.xcc_form.specs.Chosen.{IsUncovered, ComesAfter, IsNextItem, IsLastItem}
 use Rattle.xcc_links.specs.Rings.{down_of}
 use Rattle.xcc_links.specs.NodeTables.{has, start_of}
 use Rattle.xcc_links.specs.LinkStates.{AreLinksOf}

@@ -2,8 +2,8 @@
 use Rattle.std.proofs.Common.{◌≡◌, ◌≢◌, ◌<◌, ℕ, List, Option, None, Some, IfSome, length, arith, ap, sym, ◌∙◌, subst, ⊎_elim}
 use Rattle.std.proofs.lemmas.Bool.{cases_eq, cases_order}
 use Rattle.xcc_form.specs.Options.{Compiled, cover_of}
-use Rattle.xcc_dance.specs.Clashes.{IsOpenAt}
-use Rattle.xcc_dance.specs.Chosen.{ComesAfter, IsNext, IsLast}
+use Rattle.xcc_form.specs.Clashes.{IsOpenAt}
+use Rattle.xcc_form.specs.Chosen.{ComesAfter, IsNext, IsLast}
 use Rattle.xcc_links.specs.Rings.{option_of, down_of}
 use Rattle.xcc_links.specs.NodeTables.{has}
 use Rattle.xcc_links.specs.LinkStates.{AreLinksOf}

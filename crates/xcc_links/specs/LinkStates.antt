@@ -4,7 +4,7 @@ use Rattle.xcc_form.specs.Options.{Compiled, IsCompiled}
 use Rattle.xcc_links.specs.declared.links.tables.Entry.{Entry}
 use Rattle.xcc_links.specs.declared.links.tables.NodeTable.{NodeTable}
 use Rattle.xcc_links.specs.declared.links.arrays.LinkArrays.{LinkArrays}
-use Rattle.xcc_dance.specs.Chosen.{Selection}
+use Rattle.xcc_form.specs.Chosen.{Selection}
 use Rattle.xcc_links.specs.Trails.{Arrays, put_back, back}
 use Rattle.xcc_links.specs.ArrayWords.{arrays_of}
 use Rattle.xcc_links.specs.TableLayout.{IsTableOf}

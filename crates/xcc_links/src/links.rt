@@ -2,9 +2,9 @@
 
 ghost use Rattle.std.specs.Prelude.{◌≡◌, ◌<◌, ◌++◌, ◌∷◌, [], IfOk, IfSome, OnErr, MatchOption, length};
 ghost use Rattle.xcc_form.specs.Options.{cover_of};
-ghost use Rattle.xcc_dance.specs.Clashes.{IsOpen, IsOpenAt};
-ghost use Rattle.xcc_dance.specs.Chosen.{IsSelection, IsUncovered, AreAllCovered, with_option};
-ghost use Rattle.xcc_dance.specs.Chosen.{HasSize, IsToBranchOn, IsNextItem, IsLastItem, IsNext, IsLast};
+ghost use Rattle.xcc_form.specs.Clashes.{IsOpen, IsOpenAt};
+ghost use Rattle.xcc_form.specs.Chosen.{IsSelection, IsUncovered, AreAllCovered, with_option};
+ghost use Rattle.xcc_form.specs.Chosen.{HasSize, IsToBranchOn, IsNextItem, IsLastItem, IsNext, IsLast};
 ghost use Rattle.xcc_links.specs.LinkStates.{selection_of, taken_back};
 
 mod arrays;
@@ -15,8 +15,7 @@ use arrays::LinkArrays;
 use std::alloc::{AllocError, Global};
 use std::marker::Model;
 use tables::NodeTable;
-use xcc_dance::{FromCompiled, OpenOptions};
-use xcc_form::Xcc;
+use xcc_form::{FromCompiled, OpenOptions, Xcc};
 
 /// Options chosen of a compiled puzzle, no two of which clash: they share no primary item, and give no secondary item
 /// two colours. The other options are in linked lists by item: dancing links with colours (Knuth, TAOCP 4B, 7.2.2.1,

@@ -5,14 +5,14 @@
 
 ghost use Rattle.std.specs.Prelude.{◌≡◌, IfSome};
 ghost use Rattle.xcc_form.specs.Options.{cover_of};
-ghost use Rattle.xcc_dance.specs.Clashes.{IsOpen};
+ghost use Rattle.xcc_form.specs.Clashes.{IsOpen};
 
 use crate::strategy::images::PrefixImages;
 use match_puzzle::Pair;
 use rand_core::{Rng, SeedableRng};
 use rand_xoshiro::Xoshiro256PlusPlus;
 use std::alloc::{AllocError, Global};
-use xcc_dance::{OpenOptions, open_option, option_behind, uncovered_item};
+use xcc_form::{OpenOptions, open_option, option_behind, uncovered_item};
 
 // The lemmas that a search may cite: those numbered above its own.
 #[derive(Clone, Copy)]

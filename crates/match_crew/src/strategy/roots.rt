@@ -3,7 +3,7 @@
 ghost use Rattle.std.specs.Prelude.{◌≡◌, ◌≤◌};
 ghost use Rattle.match_limits.specs.declared.TheConstants.{MOST_WORKERS};
 ghost use Rattle.xcc_form.specs.Options.{cover_of};
-ghost use Rattle.xcc_dance.specs.Chosen.{IsUncovered};
+ghost use Rattle.xcc_form.specs.Chosen.{IsUncovered};
 
 use crate::strategy::dives::Effort;
 use crate::strategy::guesses::{Guesses, MOST_PLANS, plans_by};
@@ -13,7 +13,8 @@ use crate::strategy::plans::{Plan, Planner};
 use match_limits::MOST_WORKERS;
 use std::alloc::{AllocError, Global};
 use std::thread::Threads;
-use xcc_dance::{OpenOptions, OpenSets};
+use xcc_dance::OpenSets;
+use xcc_form::OpenOptions;
 
 // So many choices tell whether another item is looked for.
 const FIRST_CHOICES: u64 = 4_096;

@@ -1,6 +1,6 @@
 use Rattle.std.proofs.Common.{◌∷◌, [], length, length-append, arith, ap, ◌∙◌, sym, subst}
 use Rattle.puzzle_symmetry.specs.Motion.{AreOfPuzzle}
-use Rattle.xcc_dance.specs.Chosen.{Selection}
+use Rattle.xcc_form.specs.Chosen.{Selection}
 use Rattle.census_splits.proofs.roots.guess_with.Goals as goal
 
 pub choose-requires : goal.choose-requires

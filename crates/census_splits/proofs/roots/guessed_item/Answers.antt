@@ -1,6 +1,6 @@
 use Rattle.std.proofs.Common.{ap, sym, ◌∙◌, subst}
 use Rattle.puzzle_symmetry.specs.Motion.{AreOfPuzzle}
-use Rattle.xcc_dance.specs.Chosen.{Selection}
+use Rattle.xcc_form.specs.Chosen.{Selection}
 use Rattle.census_splits.proofs.roots.guessed_item.Goals as goal
 
 pub first_items-requires : goal.first_items-requires

@@ -1,5 +1,5 @@
 use Rattle.std.proofs.Common.{◌∷◌, [], length, length-append, arith, ap, ◌∙◌}
-use Rattle.xcc_dance.specs.Chosen.{Selection}
+use Rattle.xcc_form.specs.Chosen.{Selection}
 use Rattle.census_splits.proofs.roots.mean_with.Goals as goal
 
 pub choose-requires : goal.choose-requires

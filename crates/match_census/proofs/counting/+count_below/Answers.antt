@@ -2,9 +2,9 @@ use Rattle.std.proofs.Common.{◌≤◌, ◌-◌, ◌∷◌, [], ℕ, length, le
 use Rattle.match_puzzle.specs.Numbers.{AreSoMany, AreMoreThan}
 use Rattle.match_puzzle.proofs.NumberLemmas.{more_than_fewer}
 use Rattle.xcc_form.specs.Options.{cover_of}
-use Rattle.xcc_dance.specs.Clashes.{IsOpen, IsOpenAt}
-use Rattle.xcc_dance.specs.Chosen.{Selection, AreAllCovered, IsUncovered, IsToBranchOn, with_option}
-use Rattle.xcc_dance.proofs.GrowingLemmas.{next_open}
+use Rattle.xcc_form.specs.Clashes.{IsOpen, IsOpenAt}
+use Rattle.xcc_form.specs.Chosen.{Selection, AreAllCovered, IsUncovered, IsToBranchOn, with_option}
+use Rattle.xcc_form.proofs.NextLemmas.{next_open}
 use Rattle.census_branches.specs.Looks.{AreLooks}
 use Rattle.match_census.specs.Weights.{IsPassed, IsWeight}
 use Rattle.match_census.proofs.ExtensionLemmas.{IsNextOrLast, one_extension}

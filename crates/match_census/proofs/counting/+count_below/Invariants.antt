@@ -1,8 +1,8 @@
 use Rattle.std.proofs.Common.{◌≡◌, ◌≤◌, ◌-◌, MatchOption, length}
 use Rattle.match_puzzle.specs.Numbers.{AreSoMany}
 use Rattle.xcc_form.specs.Options.{cover_of}
-use Rattle.xcc_dance.specs.Clashes.{IsOpenAt}
-use Rattle.xcc_dance.proofs.GrowingLemmas.{left_after}
+use Rattle.xcc_form.specs.Clashes.{IsOpenAt}
+use Rattle.xcc_form.proofs.NextLemmas.{left_after}
 use Rattle.match_census.proofs.WeightLemmas.{IsFoundUnder}
 use Rattle.match_census.proofs.counting.+count_below.Given as goal
 

@@ -1,6 +1,6 @@
 use Rattle.std.proofs.Common.{length, arith, ap, sym, subst}
 use Rattle.census_branches.specs.Branches.{AllChoose, IsTotal}
-use Rattle.xcc_dance.specs.Chosen.{IsSelection}
+use Rattle.xcc_form.specs.Chosen.{IsSelection}
 use Rattle.census_branches.specs.Looks.{AreLooks}
 use Rattle.match_census.proofs.SpreadLemmas.{ok_then, total_of}
 use Rattle.match_census.proofs.crews.count_with_crew.Goals as goal

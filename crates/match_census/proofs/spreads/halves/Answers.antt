@@ -1,6 +1,6 @@
 use Rattle.std.proofs.Common.{◌≡◌, ◌++◌, ◌∷◌, [], List, length, length-append, append-nil, arith, refl, ap, ap₂, sym, ◌∙◌, subst}
 use Rattle.census_branches.specs.Branches.{WeightedBranch, AllChoose, HaveTogether}
-use Rattle.xcc_dance.specs.Chosen.{IsSelection}
+use Rattle.xcc_form.specs.Chosen.{IsSelection}
 use Rattle.match_census.proofs.SpreadLemmas.{stand_next, selections_next}
 use Rattle.match_census.proofs.spreads.halves.Goals as goal
 

@@ -1,7 +1,7 @@
 use Rattle.std.proofs.Common.{◌≡◌, length}
 use Rattle.xcc_form.specs.Options.{Compiled}
 use Rattle.census_branches.specs.Branches.{AllChoose, StandFor}
-use Rattle.xcc_dance.specs.Chosen.{IsSelection}
+use Rattle.xcc_form.specs.Chosen.{IsSelection}
 use Rattle.match_census.proofs.spreads.spread.Given as goal
 
 abbrev pub invariant-loop : goal.invariant-loop

@@ -1,6 +1,6 @@
 use Rattle.std.proofs.Common.{◌++◌, IfOk, MatchOption, arith, sym, subst}
 use Rattle.match_puzzle.specs.Numbers.{AreMoreThan}
-use Rattle.xcc_dance.specs.Chosen.{Selection, IsSelection}
+use Rattle.xcc_form.specs.Chosen.{Selection, IsSelection}
 use Rattle.census_branches.specs.Looks.{AreLooks}
 use Rattle.xcc_dance.proofs.PickingLemmas.{none_picked, one_picked, picked_chosen, picked_is_open}
 use Rattle.match_census.specs.Extensions.{IsExtension, HasExtensions}

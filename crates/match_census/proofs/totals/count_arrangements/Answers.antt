@@ -1,7 +1,7 @@
 use Rattle.std.proofs.Common.{IfOk, MatchOption, sym, subst}
 use Rattle.match_puzzle.specs.Arrangement.{IsArrangement, HasArrangements}
 use Rattle.match_puzzle.specs.Numbers.{AreMoreThan}
-use Rattle.xcc_dance.specs.Chosen.{Selection, IsSelection}
+use Rattle.xcc_form.specs.Chosen.{Selection, IsSelection}
 use Rattle.census_branches.specs.Looks.{AreLooks}
 use Rattle.census_branches.specs.Branches.{AllChoose, HaveTogether, HaveMoreTogether}
 use Rattle.match_census.proofs.TotalLemmas.{told_of_split}

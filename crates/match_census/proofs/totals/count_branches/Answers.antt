@@ -2,7 +2,7 @@ use Rattle.std.proofs.Common.{◌≤◌, ◌-◌, ◌/◌, ◌++◌, MatchOption
 use Rattle.std.proofs.lemmas.List.{take_all}
 use Rattle.match_limits.proofs.ListLemmas.{contains_at}
 use Rattle.match_puzzle.specs.Numbers.{AreMoreThan}
-use Rattle.xcc_dance.specs.Chosen.{Selection}
+use Rattle.xcc_form.specs.Chosen.{Selection}
 use Rattle.census_branches.specs.Branches.{HaveTogether}
 use Rattle.census_branches.proofs.BranchLemmas.{read_at}
 use Rattle.xcc_dance.proofs.PickingLemmas.{selection_for}

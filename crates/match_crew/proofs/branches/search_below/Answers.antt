@@ -1,7 +1,7 @@
 use Rattle.std.proofs.Common.{◌≡◌, ap, sym, subst, ◌∙◌}
 use Rattle.match_puzzle.specs.Puzzle.{Task}
 use Rattle.xcc_form.specs.Options.{Compiled}
-use Rattle.xcc_dance.specs.Chosen.{Selection}
+use Rattle.xcc_form.specs.Chosen.{Selection}
 use Rattle.xcc_dance.specs.Outcome.{SearchState}
 use Rattle.match_fits.specs.Placing.{FitInTurn}
 use Rattle.match_crew.proofs.SolvingLemmas.{found_by}

@@ -1,7 +1,7 @@
 use Rattle.std.proofs.Common.{◌≡◌, ◌∙◌, ◌++◌, None, Some, Err, length, arith, ap, ap₂, subst, sym}
 use Rattle.std.proofs.lemmas.Result.{err_from_is_err_and}
 use Rattle.command_words.specs.declared.orders.Extent.TheVariants as extents
-use Rattle.xcc_dance.specs.Chosen.{IsSelection}
+use Rattle.xcc_form.specs.Chosen.{IsSelection}
 use Rattle.census_branches.specs.Branches.{HaveTogether, IsTotal, AllChoose, every}
 use Rattle.census_branches.proofs.PartLemmas.{every_fewer, part_chooses}
 use Rattle.command_words.specs.Parts.{parts_with}

@@ -8,8 +8,8 @@ use Rattle.xcc_form.specs.Correspondence.{IsSolutionOf}
 use Rattle.cert_tree.specs.Heads.{branch_head}
 use Rattle.cert_tree.specs.declared.heads.Head.{Head}
 use Rattle.cert_tree.specs.Tree.{branch, dead, found, none, count}
-use Rattle.xcc_dance.specs.Clashes.{IsOpenAt}
-use Rattle.xcc_dance.specs.Chosen.{Selection, IsSelection, IsUncovered, AreAllCovered, HasSize, IsNext, IsLast, with_option}
+use Rattle.xcc_form.specs.Clashes.{IsOpenAt}
+use Rattle.xcc_form.specs.Chosen.{Selection, IsSelection, IsUncovered, AreAllCovered, HasSize, IsNext, IsLast, with_option}
 use Rattle.match_fits.specs.Placing.{FitInTurn}
 use Rattle.xcc_dance.specs.Outcome.{IsCiteWithin}
 use Rattle.xcc_dance.specs.Progress.{GoesOn, IsTreeOf, AreTreesOf, PutsTree, PutsTrees}
@@ -17,7 +17,8 @@ use Rattle.xcc_dance.specs.SearchTree.{IsChild, IsSearchTree, AreBranchesOf}
 use Rattle.xcc_dance.specs.Unfinished.{IsNotCited, IsUnfinished, AreUnfinished}
 use Rattle.xcc_dance.proofs.SizeLemmas.{open_first, open_next, open_all, size_same}
 use Rattle.xcc_dance.proofs.SearchTreeLemmas.{AreBranchesBefore, children_stay, children_count, child_more, branches_count, found_searched, dead_searched, branch_searched, wanted_here, begun_there, next_begun}
-use Rattle.xcc_dance.proofs.GrowingLemmas.{next_open, with_last}
+use Rattle.xcc_form.proofs.NextLemmas.{next_open}
+use Rattle.xcc_dance.proofs.GrowingLemmas.{with_last}
 use Rattle.xcc_dance.proofs.WalkLemmas.{taken_item, taken_option, some_chosen, then_done, goes_nowhere, cited_tree, branch_heads, more_heads, either_way, goes_further, goes_spent, goes_after, found_further, leaf_tree, dead_tree, branch_tree, no_trees, one_more_tree, room_for_one}
 use Rattle.xcc_dance.proofs.searching.+walk.Goals as goal
 

@@ -1,10 +1,10 @@
 use Rattle.std.proofs.Common.{◌≡◌, ◌+◌, ◌-◌, ◌*◌, MatchOption, ℕ, length}
 use Rattle.xcc_form.specs.Options.{cover_of}
-use Rattle.xcc_dance.specs.Clashes.{IsOpenAt}
-use Rattle.xcc_dance.specs.Chosen.{Selection}
+use Rattle.xcc_form.specs.Clashes.{IsOpenAt}
+use Rattle.xcc_form.specs.Chosen.{Selection}
 use Rattle.xcc_dance.specs.Progress.{GoesOn, AreTreesOf, PutsTrees}
 use Rattle.xcc_dance.proofs.SearchTreeLemmas.{AreBranchesBefore}
-use Rattle.xcc_dance.proofs.GrowingLemmas.{left_after}
+use Rattle.xcc_form.proofs.NextLemmas.{left_after}
 use Rattle.xcc_dance.proofs.searching.+walk.Given as goal
 
 -- how many options are not chosen

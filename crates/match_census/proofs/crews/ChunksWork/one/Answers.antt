@@ -1,6 +1,6 @@
 use Rattle.std.proofs.Common.{◌-◌, ◌*◌, IfOk, MatchOption, ℕ, length, take, drop, refl, sym, subst}
 use Rattle.std.specs.Fork.{slice_chunk}
-use Rattle.xcc_dance.specs.Chosen.{Selection, IsSelection}
+use Rattle.xcc_form.specs.Chosen.{Selection, IsSelection}
 use Rattle.census_branches.specs.Branches.{AllChoose, HaveTogether, HaveMoreTogether, IsTotal}
 use Rattle.match_census.proofs.SpreadLemmas.{ok_then}
 use Rattle.match_census.proofs.ChunkLemmas.{chunk_is, chunk_selections, told}

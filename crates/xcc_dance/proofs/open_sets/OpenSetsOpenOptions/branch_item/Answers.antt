@@ -2,7 +2,7 @@ use Rattle.std.proofs.Common.{◌≡◌, MatchOption, ap, sym, ◌∙◌, subst}
 use Rattle.match_board.specs.Board.{cell_count}
 use Rattle.match_puzzle.specs.Fitting.{item_place}
 use Rattle.xcc_form.specs.Options.{cover_of}
-use Rattle.xcc_dance.specs.Chosen.{Selection, AreAllCovered, IsToBranchOn}
+use Rattle.xcc_form.specs.Chosen.{Selection, AreAllCovered, IsToBranchOn}
 use Rattle.xcc_dance.specs.Placing.{IsPlacingOf}
 use Rattle.xcc_dance.proofs.OpenSetLemmas.{all_covered, fewest_branches, open_numbered}
 use Rattle.xcc_dance.proofs.open_sets.OpenSetsOpenOptions.branch_item.Goals as goal

@@ -2,8 +2,8 @@ use Rattle.std.proofs.Common.{◌++◌, ◌∷◌, [], ap, sym, ◌∙◌, subst
 use Rattle.match_fits.specs.Placing.{Placing, with_next}
 use Rattle.xcc_form.specs.Options.{cover_of}
 use Rattle.xcc_form.specs.Correspondence.{IsPairOf}
-use Rattle.xcc_dance.specs.Clashes.{IsOpen}
-use Rattle.xcc_dance.specs.Chosen.{Selection}
+use Rattle.xcc_form.specs.Clashes.{IsOpen}
+use Rattle.xcc_form.specs.Chosen.{Selection}
 use Rattle.xcc_dance.specs.Placing.{IsPlacingOf}
 use Rattle.xcc_dance.proofs.OpenSetLemmas.{open_fits_placing, placing_pushed}
 use Rattle.xcc_dance.proofs.RoomLemmas.{room}

@@ -3,7 +3,7 @@ use Rattle.std.proofs.lemmas.Bool.{false≢true}
 use Rattle.match_board.specs.Board.{cell_count}
 use Rattle.match_puzzle.specs.Fitting.{IsNumberOf}
 use Rattle.xcc_form.specs.Options.{cover_of}
-use Rattle.xcc_dance.specs.Chosen.{Selection, IsUncovered}
+use Rattle.xcc_form.specs.Chosen.{Selection, IsUncovered}
 use Rattle.xcc_dance.specs.Placing.{IsPlacingOf}
 use Rattle.xcc_dance.proofs.OpenSetLemmas.{open_uncovers, uncovered_opens, behind_from}
 use Rattle.xcc_dance.proofs.open_sets.OpenSetsOpenOptions.next_item.Goals as goal

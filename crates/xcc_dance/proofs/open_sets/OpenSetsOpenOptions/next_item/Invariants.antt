@@ -1,6 +1,6 @@
 use Rattle.std.proofs.Common.{◌≤◌, ℕ}
 use Rattle.xcc_form.specs.Options.{cover_of}
-use Rattle.xcc_dance.specs.Chosen.{IsUncovered, ComesAfter}
+use Rattle.xcc_form.specs.Chosen.{IsUncovered, ComesAfter}
 use Rattle.xcc_dance.proofs.open_sets.OpenSetsOpenOptions.next_item.Given as goal
 
 abbrev pub invariant-loop-item : goal.invariant-loop-item

@@ -3,7 +3,7 @@ use Rattle.match_board.specs.Board.{cell_count}
 use Rattle.match_puzzle.specs.Fitting.{IsNumberOf}
 use Rattle.xcc_form.specs.Options.{IsOptionPair, cover_of}
 use Rattle.xcc_form.specs.Correspondence.{IsPairOf}
-use Rattle.xcc_dance.specs.Chosen.{Selection, IsNext, IsLast}
+use Rattle.xcc_form.specs.Chosen.{Selection, IsNext, IsLast}
 use Rattle.xcc_dance.specs.Placing.{IsPlacingOf}
 use Rattle.xcc_dance.proofs.OpenSetLemmas.{uncovered_opens, pair_before, last_by_pairs, next_of_option}
 use Rattle.xcc_dance.proofs.open_sets.OpenSetsOpenOptions.next_option.Goals as goal

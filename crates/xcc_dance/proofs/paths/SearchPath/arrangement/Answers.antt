@@ -1,7 +1,7 @@
 use Rattle.std.proofs.Common.{Err, ap, sym, subst, ◌∙◌}
 use Rattle.xcc_form.specs.ExactCover.{IsSolution}
 use Rattle.xcc_form.specs.Options.{Compiled, cover_of}
-use Rattle.xcc_dance.specs.Chosen.{Selection, IsSelection}
+use Rattle.xcc_form.specs.Chosen.{Selection, IsSelection}
 use Rattle.xcc_dance.proofs.SolutionLemmas.{is_solution}
 use Rattle.xcc_dance.proofs.paths.SearchPath.arrangement.Goals as goal
 

@@ -2,8 +2,8 @@ use Rattle.std.proofs.Common.{◌<◌, List, length, sym, subst, ◌∙◌, ap, 
 use Rattle.match_puzzle.specs.declared.placements.Pair.{Pair}
 use Rattle.xcc_form.specs.Options.{Compiled, cover_of}
 use Rattle.xcc_form.specs.Correspondence.{IsPairOf}
-use Rattle.xcc_dance.specs.Clashes.{IsOpen}
-use Rattle.xcc_dance.specs.Chosen.{Selection, with_option}
+use Rattle.xcc_form.specs.Clashes.{IsOpen}
+use Rattle.xcc_form.specs.Chosen.{Selection, with_option}
 use Rattle.xcc_dance.specs.Placing.{ArePairsOf}
 use Rattle.xcc_dance.proofs.PlacingLemmas.{pairs_pushed}
 use Rattle.xcc_dance.proofs.paths.SearchPath.choose.Goals as goal

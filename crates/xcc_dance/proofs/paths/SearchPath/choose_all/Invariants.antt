@@ -1,5 +1,5 @@
 use Rattle.std.proofs.Common.{◌≡◌, take}
-use Rattle.xcc_dance.specs.Chosen.{before_any}
+use Rattle.xcc_form.specs.Chosen.{before_any}
 use Rattle.xcc_dance.specs.Placing.{ArePairsOf}
 use Rattle.xcc_dance.proofs.paths.SearchPath.choose_all.Given as goal
 

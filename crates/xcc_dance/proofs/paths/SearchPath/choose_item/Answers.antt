@@ -1,6 +1,6 @@
 use Rattle.std.proofs.Common.{IfOk, IfSome, MatchOption, ap, subst}
 use Rattle.xcc_form.specs.Options.{cover_of}
-use Rattle.xcc_dance.specs.Chosen.{Selection, IsUncovered, AreAllCovered}
+use Rattle.xcc_form.specs.Chosen.{Selection, IsUncovered, AreAllCovered}
 use Rattle.xcc_dance.proofs.paths.SearchPath.choose_item.Goals as goal
 
 pub returns-clause-uncovered : goal.returns-clause-uncovered

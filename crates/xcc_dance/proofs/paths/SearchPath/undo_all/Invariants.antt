@@ -1,5 +1,5 @@
 use Rattle.std.proofs.Common.{◌≡◌, length}
-use Rattle.xcc_dance.specs.Chosen.{before_any}
+use Rattle.xcc_form.specs.Chosen.{before_any}
 use Rattle.xcc_dance.proofs.paths.SearchPath.undo_all.Given as goal
 
 abbrev pub invariant-loop-self : goal.invariant-loop-self

@@ -5,7 +5,7 @@ use Rattle.cert_tree.specs.Heads.{heads_of}
 use Rattle.cert_tree.specs.Tree.{Tree}
 use Rattle.cert_tree.proofs.HeadLemmas.{of_tree}
 use Rattle.xcc_form.specs.Options.{Compiled}
-use Rattle.xcc_dance.specs.Chosen.{before_any}
+use Rattle.xcc_form.specs.Chosen.{before_any}
 use Rattle.match_fits.specs.Placing.{FitInTurn}
 use Rattle.xcc_dance.specs.Placing.{IsArrangementWith}
 use Rattle.xcc_dance.specs.Outcome.{IsSearched, IsTreeFrom, IsUnfinishedFrom}

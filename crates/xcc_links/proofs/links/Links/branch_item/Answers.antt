@@ -2,7 +2,7 @@ use Rattle.std.proofs.Common.{◌≡◌, ◌<◌, ◌-◌, ◌∙◌, ℕ, Some,
 use Rattle.std.specs.Option.{is_some}
 use Rattle.std.proofs.lemmas.List.{get_or_read}
 use Rattle.xcc_form.specs.Options.{cover_of}
-use Rattle.xcc_dance.specs.Chosen.{AreAllCovered, IsToBranchOn}
+use Rattle.xcc_form.specs.Chosen.{AreAllCovered, IsToBranchOn}
 use Rattle.xcc_links.specs.NodeTables.{start_of}
 use Rattle.xcc_links.specs.LinkStates.{LinkState}
 use Rattle.xcc_links.proofs.BranchItemLemmas.{root_in, first_start, so_far_none, so_far_all, node_item, node_sized, node_linked, node_down, takes, leaves}

@@ -1,9 +1,9 @@
 use Rattle.std.proofs.Common.{◌<◌, ◌∙◌, ◌++◌, ◌∷◌, [], ℕ, List, length, ap, refl, sym, subst}
 use Rattle.xcc_form.specs.Options.{cover_of}
-use Rattle.xcc_dance.specs.Clashes.{IsOpen}
+use Rattle.xcc_form.specs.Clashes.{IsOpen}
 use Rattle.xcc_links.specs.Trails.{Arrays}
 use Rattle.xcc_links.specs.Marks.{AreRightFor}
-use Rattle.xcc_dance.specs.Chosen.{with_option}
+use Rattle.xcc_form.specs.Chosen.{with_option}
 use Rattle.xcc_links.specs.LinkStates.{LinkState, selection_of}
 use Rattle.xcc_links.proofs.PurifyingLemmas.{goes_has}
 use Rattle.xcc_dance.proofs.RoomLemmas.{room}

@@ -1,5 +1,5 @@
 use Rattle.std.proofs.Common.{subst}
-use Rattle.xcc_dance.specs.Chosen.{IsSelection}
+use Rattle.xcc_form.specs.Chosen.{IsSelection}
 use Rattle.xcc_links.specs.LinkStates.{LinkState}
 use Rattle.xcc_links.proofs.LinkLemmas.{selection_is}
 use Rattle.xcc_links.proofs.links.Links.chosen.Goals as goal

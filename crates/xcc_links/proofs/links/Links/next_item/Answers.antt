@@ -1,7 +1,7 @@
 use Rattle.std.proofs.Common.{◌≡◌, ◌≢◌, ◌<◌, ◌-◌, IfSome, length, arith, ap, sym, subst}
 use Rattle.std.proofs.lemmas.List.{get_or_read}
 use Rattle.xcc_form.specs.Options.{cover_of}
-use Rattle.xcc_dance.specs.Chosen.{IsUncovered, IsNextItem, IsLastItem}
+use Rattle.xcc_form.specs.Chosen.{IsUncovered, IsNextItem, IsLastItem}
 use Rattle.xcc_links.specs.NodeTables.{start_of}
 use Rattle.xcc_links.specs.Rings.{no_link, down_of}
 use Rattle.xcc_links.specs.LinkStates.{LinkState}

@@ -1,8 +1,8 @@
 use Rattle.std.proofs.Common.{◌≡◌, ◌≢◌, ◌<◌, ◌∙◌, IfSome, length, arith, ap, sym, subst}
 use Rattle.std.proofs.lemmas.List.{get_or_read}
 use Rattle.xcc_form.specs.Options.{cover_of}
-use Rattle.xcc_dance.specs.Clashes.{IsOpenAt}
-use Rattle.xcc_dance.specs.Chosen.{IsUncovered, IsNext, IsLast}
+use Rattle.xcc_form.specs.Clashes.{IsOpenAt}
+use Rattle.xcc_form.specs.Chosen.{IsUncovered, IsNext, IsLast}
 use Rattle.xcc_links.specs.Rings.{no_link, no_entry, down_of, option_of}
 use Rattle.xcc_links.specs.LinkStates.{LinkState}
 use Rattle.xcc_links.specs.declared.links.arrays.Link.{Link}

@@ -1,7 +1,7 @@
 use Rattle.std.proofs.Common.{◌<◌, ◌∙◌, arith, sym, subst}
 use Rattle.std.proofs.lemmas.List.{get_or_read}
 use Rattle.xcc_form.specs.Options.{cover_of}
-use Rattle.xcc_dance.specs.Chosen.{IsUncovered, HasSize}
+use Rattle.xcc_form.specs.Chosen.{IsUncovered, HasSize}
 use Rattle.xcc_links.specs.LinkStates.{LinkState}
 use Rattle.xcc_links.proofs.LinkLemmas.{right_now, size_is}
 use Rattle.xcc_links.proofs.links.Links.size.Goals as goal

@@ -1,7 +1,7 @@
 use Rattle.std.proofs.Common.{IfSome}
 use Rattle.xcc_form.specs.Options.{cover_of}
-use Rattle.xcc_dance.specs.Chosen.{IsUncovered}
-use Rattle.xcc_dance.proofs.GrowingLemmas.{left_after}
+use Rattle.xcc_form.specs.Chosen.{IsUncovered}
+use Rattle.xcc_form.proofs.NextLemmas.{left_after}
 use Rattle.match_crew.proofs.strategy.roots.Comparison.other_items.Given as goal
 
 abbrev pub invariant-loop-next : goal.invariant-loop-next

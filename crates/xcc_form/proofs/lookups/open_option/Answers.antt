@@ -1,8 +1,8 @@
 use Rattle.std.proofs.Common.{◌<◌, None, Some, IfSome, length, refl, sym, subst}
 use Rattle.xcc_form.specs.Options.{cover_of}
-use Rattle.xcc_dance.specs.Clashes.{IsOpenAt}
-use Rattle.xcc_dance.proofs.GrowingLemmas.{left_after, left_smaller, comes_after, some_open}
-use Rattle.xcc_dance.proofs.lookups.option_behind.Goals as goal
+use Rattle.xcc_form.specs.Clashes.{IsOpenAt}
+use Rattle.xcc_form.proofs.NextLemmas.{left_after, left_smaller, comes_after, some_open}
+use Rattle.xcc_form.proofs.lookups.open_option.Goals as goal
 
 pub loop-next-init : goal.loop-next-init
 loop-next-init g c =

@@ -1,9 +1,9 @@
 use Rattle.std.proofs.Common.{◌<◌, None, Some, IfSome, length, refl, ap, sym, ◌∙◌, subst}
 use Rattle.xcc_form.specs.Options.{cover_of}
-use Rattle.xcc_dance.specs.Clashes.{IsOpen, IsOpenAt}
-use Rattle.xcc_dance.specs.Chosen.{Selection, IsUncovered}
-use Rattle.xcc_dance.proofs.GrowingLemmas.{left_after, left_smaller, comes_after, some_open}
-use Rattle.xcc_dance.proofs.chooses.left_by_all.Goals as goal
+use Rattle.xcc_form.specs.Clashes.{IsOpen, IsOpenAt}
+use Rattle.xcc_form.specs.Chosen.{Selection, IsUncovered}
+use Rattle.xcc_form.proofs.NextLemmas.{left_after, left_smaller, comes_after, some_open}
+use Rattle.xcc_form.proofs.chooses.left_by_all.Goals as goal
 
 pub loop-next-init : goal.loop-next-init
 loop-next-init g c =

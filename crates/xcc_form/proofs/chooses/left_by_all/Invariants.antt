@@ -1,8 +1,8 @@
 use Rattle.std.proofs.Common.{◌≡◌, IfSome, length}
 use Rattle.xcc_form.specs.Options.{cover_of}
-use Rattle.xcc_dance.specs.Clashes.{IsOpenAt}
-use Rattle.xcc_dance.proofs.GrowingLemmas.{left_after}
-use Rattle.xcc_dance.proofs.chooses.left_by_all.Given as goal
+use Rattle.xcc_form.specs.Clashes.{IsOpenAt}
+use Rattle.xcc_form.proofs.NextLemmas.{left_after}
+use Rattle.xcc_form.proofs.chooses.left_by_all.Given as goal
 
 abbrev pub invariant-loop-next : goal.invariant-loop-next
 invariant-loop-next g l = record {

@@ -2,12 +2,12 @@
 
 ghost use Rattle.std.specs.Prelude.{◌≡◌, ◌<◌, [], IfOk, IfSome, OnErr, MatchOption, length};
 ghost use Rattle.xcc_form.specs.Options.{cover_of};
-ghost use Rattle.xcc_dance.specs.Clashes.{IsOpen, IsOpenAt};
-ghost use Rattle.xcc_dance.specs.Chosen.{Selection, IsSelection, IsUncovered, AreAllCovered, with_option, without_last};
-ghost use Rattle.xcc_dance.specs.Chosen.{HasSize, IsToBranchOn, IsNextItem, IsLastItem, IsNext, IsLast};
+ghost use Rattle.xcc_form.specs.Clashes.{IsOpen, IsOpenAt};
+ghost use Rattle.xcc_form.specs.Chosen.{Selection, IsSelection, IsUncovered, AreAllCovered, with_option, without_last};
+ghost use Rattle.xcc_form.specs.Chosen.{HasSize, IsToBranchOn, IsNextItem, IsLastItem, IsNext, IsLast};
 
+use crate::xccs::Xcc;
 use std::alloc::{AllocError, Global};
-use xcc_form::Xcc;
 
 /// An engine of a search: options chosen of a compiled puzzle, no two of which clash, and the open options beside them,
 /// however these are kept: `OpenSets` counts what fits.

@@ -1,9 +1,11 @@
 -- Chosen options of a compiled puzzle, and what to branch on.
 use Rattle.std.specs.Prelude.{◌≡◌, ◌⊎◌, ◌<◌, ◌≤◌, ◌-◌, ◌++◌, ◌∷◌, [], ℕ, zero, suc, List, Option, IfSome, Contains, length, take}
 use Rattle.match_limits.specs.Listing.{IsListing}
+use Rattle.match_puzzle.specs.declared.placements.Placement.{Placement}
 use Rattle.xcc_form.specs.ExactCover.{Cover, HasPrimary}
 use Rattle.xcc_form.specs.Options.{Compiled, IsCompiled, cover_of}
-use Rattle.xcc_dance.specs.Clashes.{IsPartialSolution, IsOpenAt}
+use Rattle.xcc_form.specs.Correspondence.{IsSolutionOf}
+use Rattle.xcc_form.specs.Clashes.{IsPartialSolution, IsOpenAt}
 
 -- a compiled puzzle and the options chosen so far, in the order of choosing
 pub record Selection : Type 0 where
@@ -59,6 +61,14 @@ pub record IsToBranchOn (x : Cover) (chosen : List ℕ) (item : ℕ) : Type 0 wh
   pub fewest : (other size other_size : ℕ) → IsUncovered x chosen other → HasSize x chosen item size
       → HasSize x chosen other other_size → (size < other_size) ⊎ ((size ≡ other_size) × (item ≤ other))
 
+-- what a rule may pick where these options are chosen, by its number
+abbrev pub Picks : Type 1
+Picks = Selection → ℕ → Type 0
+
+-- of the uncovered items the one with the fewest open options, the least number at a tie
+abbrev pub picks_fewest : Picks
+picks_fewest s = IsToBranchOn (cover_of s.compiled) s.chosen
+
 -- The number comes after that one; where none is named, each does.
 abbrev pub ComesAfter : (after : Option ℕ) → (number : ℕ) → Type 0
 ComesAfter after number = IfSome after (λ before. before < number)
@@ -82,3 +92,9 @@ pub record IsNext (x : Cover) (chosen : List ℕ) (item : ℕ) (after : Option �
 -- No open option of the item comes after that one.
 abbrev pub IsLast : Cover → (chosen : List ℕ) → (item : ℕ) → (after : Option ℕ) → Type 0
 IsLast x chosen item after = (other : ℕ) → IsOpenAt x chosen item other → ComesAfter after other → ⊥
+
+-- The arrangement is that of a solution that has all chosen options.
+pub record IsFoundFrom (s : Selection) (a : List Placement) : Type 0 where
+  pub solution : List ℕ
+  pub is_solution : IsSolutionOf s.compiled a solution
+  pub has_chosen : (option : ℕ) → Contains s.chosen option → Contains solution option

@@ -1,8 +1,8 @@
 use Rattle.std.proofs.Common.{IfSome, length}
 use Rattle.xcc_form.specs.Options.{cover_of}
-use Rattle.xcc_dance.specs.Clashes.{IsOpenAt}
-use Rattle.xcc_dance.proofs.GrowingLemmas.{left_after}
-use Rattle.xcc_dance.proofs.lookups.option_behind.Given as goal
+use Rattle.xcc_form.specs.Clashes.{IsOpenAt}
+use Rattle.xcc_form.proofs.NextLemmas.{left_after}
+use Rattle.xcc_form.proofs.lookups.open_option.Given as goal
 
 abbrev pub invariant-loop-next : goal.invariant-loop-next
 invariant-loop-next g l = IfSome l.next (IsOpenAt (cover_of (g.E.OpenOptions.selection l.engine).compiled) (g.E.OpenOptions.selection l.engine).chosen l.item)

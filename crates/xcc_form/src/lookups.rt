@@ -2,8 +2,8 @@
 
 ghost use Rattle.std.specs.Prelude.{◌≡◌, IfSome};
 ghost use Rattle.xcc_form.specs.Options.{cover_of};
-ghost use Rattle.xcc_dance.specs.Chosen.{IsUncovered};
-ghost use Rattle.xcc_dance.specs.Clashes.{IsOpen, IsOpenAt};
+ghost use Rattle.xcc_form.specs.Chosen.{IsUncovered};
+ghost use Rattle.xcc_form.specs.Clashes.{IsOpen, IsOpenAt};
 
 use crate::open_options::OpenOptions;
 
