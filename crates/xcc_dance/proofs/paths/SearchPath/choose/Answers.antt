@@ -31,3 +31,14 @@ returns-clause-before g c = c.in_ok-choose.ensures.before ∙ c.self.view_is
 
 pub returns-clause-room : goal.returns-clause-room
 returns-clause-room g c = subst (λ (v : Selection). length v.chosen < length v.compiled.options) (ap g.E.OpenOptions.selection c.self.view_is) c.in_ok-choose.ensures.room
+
+pub invariant_of-self : goal.invariant_of-self
+invariant_of-self g c =
+    let s = g.E.OpenOptions.selection c.self.inside.engine in
+    subst (ArePairsOf s.compiled s.chosen) (sym {A = List Pair} c.reserve.ensures.items) c.self.invariant
+
+pub invariant_of-self-in_err-choose : goal.invariant_of-self-in_err-choose
+invariant_of-self-in_err-choose g c =
+    let s = g.E.OpenOptions.selection c.self.inside.engine in
+    subst (λ (v : Selection). ArePairsOf v.compiled v.chosen c.reserve.new.self.items) (sym (ap g.E.OpenOptions.selection c.in_err-choose.ensures.refused))
+    (subst (ArePairsOf s.compiled s.chosen) (sym {A = List Pair} c.reserve.ensures.items) c.self.invariant)
