@@ -5,10 +5,8 @@ mod branches;
 mod hashes;
 mod laws;
 mod looks;
-mod parts;
 
 pub use branches::Branch;
 pub use hashes::hash_of;
 pub use laws::{parts_make_the_whole, symmetric_options_have_as_many};
 pub use looks::looks_of;
-pub use parts::part_of;

@@ -4,6 +4,7 @@
 mod counting;
 mod crews;
 mod laws;
+mod parts;
 mod spreads;
 mod totals;
 mod watches;
@@ -14,5 +15,6 @@ pub use crews::{Count, count_with_crew};
 pub use laws::{
     extensions_are_found, options_that_show_alike_have_as_many, selections_have_a_number,
 };
+pub use parts::part_of;
 pub use totals::count_arrangements;
 pub use watches::CensusWatch;

@@ -1,7 +1,7 @@
 use Rattle.std.proofs.Common.{◌-◌, ◌++◌, ◌∷◌, [], append_assoc, append-nil, length, arith, ap, sym, ◌∙◌}
 use Rattle.census_branches.specs.Branches.{every}
 use Rattle.census_branches.proofs.PartLemmas.{every_none, every_takes, every_passes}
-use Rattle.census_branches.proofs.parts.part_of.Goals as goal
+use Rattle.match_census.proofs.parts.part_of.Goals as goal
 
 pub loop-branch-init : goal.loop-branch-init
 loop-branch-init c =

@@ -3,7 +3,7 @@
 ghost use Rattle.std.specs.Prelude.{◌≡◌, ◌<◌, IfOk};
 ghost use Rattle.census_branches.specs.Branches.{every};
 
-use crate::branches::Branch;
+use census_branches::Branch;
 use std::alloc::{AllocError, Global};
 
 /// Of these branches, dealt in turn to so many parts, those of the part with this number, from 0.

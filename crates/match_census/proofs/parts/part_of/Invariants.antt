@@ -1,6 +1,6 @@
 use Rattle.std.proofs.Common.{◌≡◌, ◌++◌, ◌<◌, length}
 use Rattle.census_branches.specs.Branches.{every}
-use Rattle.census_branches.proofs.parts.part_of.Given as goal
+use Rattle.match_census.proofs.parts.part_of.Given as goal
 
 abbrev pub invariant-loop-branch : goal.invariant-loop-branch
 invariant-loop-branch l = record {
