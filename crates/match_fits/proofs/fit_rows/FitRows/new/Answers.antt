@@ -1,5 +1,5 @@
 use Rattle.std.proofs.Common.{◌≡◌, ◌∙◌, [], length, length-set, slice_index_or, below_more, arith, sym, ap, subst}
-use Rattle.std.proofs.lemmas.List.{get_or-set_same, get_or-set_other}
+use Rattle.std.proofs.lemmas.List.{get_or-set_same, get_or-set_other, length-replicate}
 use Rattle.match_board.specs.Board.{cell_count}
 use Rattle.match_fits.specs.FitRows.{IsRow}
 use Rattle.match_fits.proofs.fit_rows.FitRows.new.Goals as goal
@@ -23,3 +23,15 @@ loop-cell-preserved c =
   where
     cells_are : c.cells-cells.result ≡ cell_count c.args.partial.now.puzzle.board
     cells_are = c.cells-cells.ensures.count ∙ ap cell_count c.board.ensures.value ∙ ap (λ t. cell_count t.board) c.puzzle.ensures.same
+
+pub loop-cell-init : goal.loop-cell-init
+loop-cell-init c =
+    let made = ap length c.in_ok-empty_rows.ensures ∙ length-replicate c.cells-cells.result [] in
+    let cells = c.cells-cells.ensures.count ∙ ap cell_count c.board.ensures.value ∙ ap (λ t. cell_count t.board) c.puzzle.ensures.same in
+    record { long = made ∙ cells; is = λ k lt. absurd (omega (arith, lt)) }
+
+pub returns : goal.returns
+returns c =
+    let past = c.loop-cell-test.false in
+    let cells : c.cells-cells.result ≡ cell_count c.args.partial.now.puzzle.board = c.cells-cells.ensures.count ∙ ap cell_count c.board.ensures.value ∙ ap (λ t. cell_count t.board) c.puzzle.ensures.same in
+    record { long = c.loop-cell.invariant.long; is = λ k lt. c.loop-cell.invariant.is k (omega (arith, lt, past, cells)) }
