@@ -1,9 +1,14 @@
--- Commands that are built step by step, where each step may fail.
-use Rattle.std.proofs.Common.{◌≡◌, Result, subst}
-use Rattle.std.specs.Result.{IfOk}
-use Rattle.clap.specs.Words.{App, app_of}
-use Rattle.clap.specs.declared.builder.command.Command.{Command}
+-- Commands that are built of tables.
+use Rattle.std.proofs.Common.{◌≡◌, ◌<◌, ◌+◌, ◌∙◌, ℕ, List, length, drop, map, get_or, sym, ap}
+use Rattle.std.proofs.lemmas.List.{at_drop_more}
+use Rattle.clap.specs.Words.{App, Rule, with_rule}
+use Rattle.command_words.specs.Commands.{with_rules}
+use Rattle.command_words.specs.Tables.{rule_by}
+use Rattle.command_words.specs.declared.commands.Argument.{Argument}
 
--- a command that is made as one is made as what equals that
-pub is_made : {E : Type 0} (made : Result Command E) (a b : App) → IfOk made (λ c. app_of c ≡ a) → a ≡ b → IfOk made (λ c. app_of c ≡ b)
-is_made made a b is same = subst (λ (app : App). IfOk made (λ c. app_of c ≡ app)) same is
+-- a command that gets the next argument becomes, with those behind it, what it became before with that one too
+pub one_more : (arguments : List Argument) (k : ℕ) (d : Argument) (before after whole : App) (rule : Rule) → k < length arguments → after ≡ with_rule before rule → rule ≡ rule_by (get_or arguments k d) → with_rules before (map rule_by (drop k arguments)) ≡ whole → with_rules after (map rule_by (drop (k + 1) arguments)) ≡ whole
+one_more arguments k d before after whole rule inside adds same all =
+    ap (λ app. with_rules app (map rule_by (drop (k + 1) arguments))) (adds ∙ ap (with_rule before) same)
+    ∙ sym (at_drop_more (λ rest. with_rules before (map rule_by rest)) arguments k d inside)
+    ∙ all

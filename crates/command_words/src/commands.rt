@@ -1,14 +1,10 @@
 //! The program's commands, with their help.
 
-ghost use Rattle.std.specs.Prelude.{◌≡◌, ◌∷◌, [], IfOk, codes, false};
-ghost use Rattle.match_limits.specs.declared.TheConstants.{LAST_ARRANGEMENT, MOST_WORKERS};
-ghost use Rattle.clap.specs.Words.{App, app_of, new_app, new_rule, rule_of, with_rule, with_subcommand};
-ghost use Rattle.command_words.specs.Commands.{IsLocal, flag, number_or_default, optional_bound, optional_number};
-ghost use Rattle.command_words.specs.Commands.{optional_text, wanted, wanted_number};
-ghost use Rattle.command_words.specs.Commands.{check_app, count_app, draw_app, expand_app, explain_app, show_app};
-ghost use Rattle.command_words.specs.Commands.{solve_app, symmetries_app, tiles_app};
-ghost use Rattle.command_words.specs.Commands.{bare_app, whole_app, with_commands, with_files, with_places, with_puzzle};
-ghost use Rattle.command_words.specs.Commands.{with_rules};
+ghost use Rattle.std.specs.Prelude.{◌≡◌, ◌∷◌, [], IfOk};
+ghost use Rattle.clap.specs.Words.{App, app_of, with_subcommand};
+ghost use Rattle.command_words.specs.Commands.{bare_app, check_app, count_app, draw_app, expand_app, explain_app};
+ghost use Rattle.command_words.specs.Commands.{show_app, solve_app, symmetries_app, tiles_app, whole_app, with_commands};
+ghost use Rattle.command_words.specs.Tables.{IsArgOf, IsCommandAs, IsNumbered, IsOfKind, app_by};
 
 use clap::builder::ValueParser;
 use clap::{Arg, ArgAction, Command};
@@ -199,483 +195,459 @@ Exit status:
 Example:
   edgematch symmetries puzzle";
 
-// A word that a command needs.
-fn word<'a>(alloc: Global, id: &'a str, help: &'a str) -> Arg<'a>
-    ensures rule { rule_of result ≡ wanted id.entry.now }
-    ensures local { result.global ≡ false }
-{
-    Arg::new(alloc, id).help(help).required(true)
+// How an argument is given.
+#[derive(Clone, Copy)]
+enum Kind {
+    // By a word at its place, which has to be there or may be left out.
+    Word { is_wanted: bool },
+    // By an option of its name, behind which its value stands. Help calls the value so.
+    Option { value: &'static str },
+    // By a flag of its name.
+    Flag,
 }
 
-// A number that a command needs, from `least` to `most`.
-fn number<'a>(alloc: Global, id: &'a str, least: u64, most: u64, help: &'a str) -> Arg<'a>
-    ensures rule { rule_of result ≡ wanted_number id.entry.now least most }
-    ensures local { result.global ≡ false }
-{
-    word(alloc, id, help).value_parser(ValueParser::unsigned(least, most))
-}
-
-// A number from `least` to `most`, which is `default` where none is given.
-fn number_or_default<'a>(
-    alloc: Global,
-    id: &'a str,
+// That a value is a number in this range, with a default or none.
+#[derive(Clone, Copy)]
+struct Number {
     least: u64,
     most: u64,
-    default: &'a str,
-    help: &'a str,
-) -> Arg<'a>
-    ensures rule { rule_of result ≡ number_or_default id.entry.now least most default.entry.now }
-    ensures local { result.global ≡ false }
-{
-    Arg::new(alloc, id)
-        .value_parser(ValueParser::unsigned(least, most))
-        .default_value(default)
-        .help(help)
+    default: Option<&'static str>,
 }
 
-// A number from `least` to `most` behind an option of this name, which is `default` where the option isn't given.
-fn optional_number<'a>(
-    alloc: Global,
-    id: &'a str,
-    least: u64,
-    most: u64,
-    default: &'a str,
-    help: &'a str,
-) -> Arg<'a>
-    ensures rule { rule_of result ≡ optional_number id.entry.now least most default.entry.now }
-    ensures local { result.global ≡ false }
-{
-    number_or_default(alloc, id, least, most, default, help)
-        .long(id)
-        .value_name("N")
+// An argument of a command.
+struct Argument {
+    id: &'static str,
+    kind: Kind,
+    // Its value is a text where this is none.
+    number: Option<Number>,
+    help: &'static str,
 }
 
-// A flag of this name.
-fn flag<'a>(alloc: Global, id: &'a str, help: &'a str) -> Arg<'a>
-    ensures rule { rule_of result ≡ flag id.entry.now }
-    ensures local { result.global ≡ false }
-{
-    Arg::new(alloc, id)
-        .long(id)
-        .action(ArgAction::SetTrue)
-        .help(help)
+// A command with its arguments.
+struct CommandTable {
+    name: &'static str,
+    about: &'static str,
+    arguments: &'static [Argument],
+    // What its help says behind the arguments.
+    help: &'static str,
 }
 
-// How many workers there are.
-fn workers<'a>(alloc: Global, help: &'a str) -> Arg<'a>
-    ensures rule { rule_of result ≡ optional_number (codes "workers") 1 MOST_WORKERS (codes "1") }
-    ensures local { result.global ≡ false }
+const PUZZLE: Argument = Argument {
+    id: "PUZZLE",
+    kind: Kind::Word { is_wanted: true },
+    number: None,
+    help: "File of the puzzle",
+};
+
+const LIST: Argument = Argument {
+    id: "LIST",
+    kind: Kind::Word { is_wanted: true },
+    number: None,
+    help: "File of the list of arrangements",
+};
+
+const CERTIFICATE: Argument = Argument {
+    id: "CERTIFICATE",
+    kind: Kind::Word { is_wanted: true },
+    number: None,
+    help: "File of the certificate",
+};
+
+// A document that a command needs only with others.
+const ANY_PUZZLE: Argument = Argument {
+    id: "PUZZLE",
+    kind: Kind::Word { is_wanted: false },
+    number: None,
+    help: "File of the puzzle",
+};
+
+const ANY_LIST: Argument = Argument {
+    id: "LIST",
+    kind: Kind::Word { is_wanted: false },
+    number: None,
+    help: "File of the list of arrangements",
+};
+
+const ANY_CERTIFICATE: Argument = Argument {
+    id: "CERTIFICATE",
+    kind: Kind::Word { is_wanted: false },
+    number: None,
+    help: "File of the certificate",
+};
+
+const WORKERS: Number = Number {
+    least: 1,
+    most: MOST_WORKERS as u64,
+    default: Some("1"),
+};
+
+const CHECKING_WORKERS: Argument = Argument {
+    id: "workers",
+    kind: Kind::Option { value: "N" },
+    number: Some(WORKERS),
+    help: "How many workers check the lemmas at once, 1 to 64",
+};
+
+const SEARCHING_WORKERS: Argument = Argument {
+    id: "workers",
+    kind: Kind::Option { value: "N" },
+    number: Some(WORKERS),
+    help: "How many workers search at once, 1 to 64",
+};
+
+const FORKS: Argument = Argument {
+    id: "forks",
+    kind: Kind::Option { value: "N" },
+    number: Some(Number {
+        least: 0,
+        most: MOST_FORKS as u64,
+        default: Some("0"),
+    }),
+    help: "In how many levels of a tree the halves of a branch are walked at once, 0 to 6",
+};
+
+const PROGRESS: Argument = Argument {
+    id: "progress",
+    kind: Kind::Flag,
+    number: None,
+    help: "Tells on standard error how far it is, at most once a second",
+};
+
+const HINTS: Argument = Argument {
+    id: "hints",
+    kind: Kind::Flag,
+    number: None,
+    help: "Tells beside a fault of a text what has to stand there, on a terminal or not",
+};
+
+const DEPTH: Argument = Argument {
+    id: "depth",
+    kind: Kind::Option { value: "N" },
+    number: Some(Number {
+        least: 0,
+        most: MOST_DEPTH as u64,
+        default: Some("1"),
+    }),
+    help: "How many levels of branches become lemmas before the search, 0 to 3",
+};
+
+const FUEL: Argument = Argument {
+    id: "fuel",
+    kind: Kind::Option { value: "N" },
+    number: Some(Number {
+        least: 1,
+        most: MOST_FUEL as u64,
+        default: Some("1000000"),
+    }),
+    help: "The most branch nodes that are made for a lemma, 1 to 1000000",
+};
+
+const KEEP: Argument = Argument {
+    id: "keep",
+    kind: Kind::Flag,
+    number: None,
+    help: "Leaves LIST and CERTIFICATE as they are until both are written",
+};
+
+const ORBITS: Argument = Argument {
+    id: "orbits",
+    kind: Kind::Flag,
+    number: None,
+    help: "Prints one arrangement of each orbit alone",
+};
+
+const MOST: Argument = Argument {
+    id: "most",
+    kind: Kind::Option { value: "M" },
+    number: Some(Number {
+        least: 0,
+        most: u64::MAX,
+        default: None,
+    }),
+    help: "Ends as soon as more than M are found, and says so; one worker searches then",
+};
+
+const PART: Argument = Argument {
+    id: "part",
+    kind: Kind::Option { value: "K/N" },
+    number: None,
+    help: "Counts in part K of N of the search, 1/N to N/N, of 1000000 parts at most",
+};
+
+const SHOWN_LIST: Argument = Argument {
+    id: "LIST",
+    kind: Kind::Word { is_wanted: false },
+    number: None,
+    help: "File of a list of arrangements, of which one is drawn",
+};
+
+const DRAWN_LIST: Argument = Argument {
+    id: "LIST",
+    kind: Kind::Word { is_wanted: false },
+    number: None,
+    help: "File of a list of arrangements, of which one is drawn, or some",
+};
+
+const NUMBER: Argument = Argument {
+    id: "N",
+    kind: Kind::Word { is_wanted: false },
+    number: Some(Number {
+        least: 0,
+        most: LAST_ARRANGEMENT as u64,
+        default: Some("0"),
+    }),
+    help: "Which arrangement of the list is drawn, 0 to 999999",
+};
+
+const FIRST: Argument = Argument {
+    id: "first",
+    kind: Kind::Option { value: "K" },
+    number: Some(Number {
+        least: 0,
+        most: MOST_DRAWN as u64,
+        default: Some("0"),
+    }),
+    help: "Draws a sheet of so many arrangements, from N on, 0 to 100; 0 draws N alone, large",
+};
+
+const NUMBERS: Argument = Argument {
+    id: "numbers",
+    kind: Kind::Flag,
+    number: None,
+    help: "Writes the number of its tile on each cell",
+};
+
+const SIDES: Argument = Argument {
+    id: "SIDES",
+    kind: Kind::Word { is_wanted: true },
+    number: Some(Number {
+        least: 3,
+        most: 4,
+        default: None,
+    }),
+    help: "How many sides a tile has, 3 or 4",
+};
+
+const COLOURS: Argument = Argument {
+    id: "COLOURS",
+    kind: Kind::Word { is_wanted: true },
+    number: Some(Number {
+        least: 1,
+        most: MOST_COLOURS as u64,
+        default: None,
+    }),
+    help: "How many colours there are, 1 to 36",
+};
+
+const LINES: Argument = Argument {
+    id: "lines",
+    kind: Kind::Flag,
+    number: None,
+    help: "Prints them as lines of a puzzle's text: tile WORD",
+};
+
+const CHECK: CommandTable = CommandTable {
+    name: "check",
+    about: "Checks that a list has every arrangement of a puzzle",
+    arguments: &[
+        PUZZLE,
+        LIST,
+        CERTIFICATE,
+        CHECKING_WORKERS,
+        FORKS,
+        PROGRESS,
+        HINTS,
+    ],
+    help: CHECKED,
+};
+
+const EXPLAIN: CommandTable = CommandTable {
+    name: "explain",
+    about: "Checks a list, and says why it is refused, or what is wrong with a puzzle",
+    arguments: &[ANY_PUZZLE, ANY_LIST, ANY_CERTIFICATE],
+    help: EXPLAINED,
+};
+
+const SOLVE: CommandTable = CommandTable {
+    name: "solve",
+    about: "Searches for every arrangement of a puzzle, and writes their list and a certificate",
+    arguments: &[
+        PUZZLE,
+        LIST,
+        CERTIFICATE,
+        DEPTH,
+        FUEL,
+        SEARCHING_WORKERS,
+        KEEP,
+        PROGRESS,
+        HINTS,
+    ],
+    help: SOLVED,
+};
+
+const EXPAND: CommandTable = CommandTable {
+    name: "expand",
+    about: "Checks a list, and prints every arrangement of the puzzle",
+    arguments: &[ANY_PUZZLE, ANY_LIST, ANY_CERTIFICATE, ORBITS, HINTS],
+    help: EXPANDED,
+};
+
+const COUNT: CommandTable = CommandTable {
+    name: "count",
+    about: "Counts the arrangements of a puzzle, by a search or by a list that is checked",
+    arguments: &[
+        ANY_PUZZLE,
+        ANY_LIST,
+        ANY_CERTIFICATE,
+        SEARCHING_WORKERS,
+        MOST,
+        PART,
+        PROGRESS,
+    ],
+    help: COUNTED,
+};
+
+const SHOW: CommandTable = CommandTable {
+    name: "show",
+    about: "Draws a puzzle's board, and counts its colours",
+    arguments: &[PUZZLE, SHOWN_LIST, NUMBER],
+    help: SHOWN,
+};
+
+const DRAW: CommandTable = CommandTable {
+    name: "draw",
+    about: "Draws a puzzle, or arrangements of a list, as a picture",
+    arguments: &[PUZZLE, DRAWN_LIST, NUMBER, FIRST, NUMBERS],
+    help: DRAWN,
+};
+
+const SYMMETRIES: CommandTable = CommandTable {
+    name: "symmetries",
+    about: "Finds symmetries of a puzzle",
+    arguments: &[PUZZLE],
+    help: NAMED,
+};
+
+const TILES: CommandTable = CommandTable {
+    name: "tiles",
+    about: "Lists the tiles with so many sides and colours, each in one of its turns",
+    arguments: &[SIDES, COLOURS, LINES],
+    help: LISTED,
+};
+
+// The argument, given as its kind says.
+fn with_kind<'a>(arg: Arg<'a>, id: &'a str, kind: Kind) -> Arg<'a>
+    ensures { IsOfKind kind id.entry.now arg.entry result }
 {
-    optional_number(alloc, "workers", 1, u64::from(MOST_WORKERS), "1", help)
+    match kind {
+        Kind::Word { is_wanted } => arg.required(is_wanted),
+        Kind::Option { value } => arg.long(id).value_name(value),
+        Kind::Flag => arg.long(id).action(ArgAction::SetTrue),
+    }
 }
 
-// That it tells how far it is.
-fn progress<'a>(alloc: Global) -> Arg<'a>
-    ensures rule { rule_of result ≡ flag (codes "progress") }
-    ensures local { result.global ≡ false }
+// The argument, whose value is such a number.
+fn with_number<'a>(arg: Arg<'a>, number: Number) -> Arg<'a>
+    ensures { IsNumbered number arg.entry result }
 {
-    flag(
-        alloc,
-        "progress",
-        "Tells on standard error how far it is, at most once a second",
-    )
+    let arg = arg.value_parser(ValueParser::unsigned(number.least, number.most));
+    match number.default {
+        Some(default) => arg.default_value(default),
+        None => arg,
+    }
 }
 
-// That it tells what has to be changed in a text that has a fault.
-fn hints<'a>(alloc: Global) -> Arg<'a>
-    ensures rule { rule_of result ≡ flag (codes "hints") }
-    ensures local { result.global ≡ false }
+// The argument as `clap` takes it.
+fn arg_of<'a>(alloc: Global, argument: &Argument) -> Arg<'a>
+    ensures { IsArgOf argument.now result }
 {
-    flag(
-        alloc,
-        "hints",
-        "Tells beside a fault of a text what has to stand there, on a terminal or not",
-    )
+    let arg = Arg::new(alloc, argument.id).help(argument.help);
+    let arg = with_kind(arg, argument.id, argument.kind);
+    match argument.number {
+        Some(number) => with_number(arg, number),
+        None => arg,
+    }
 }
 
-// The command with one argument more, where it is made. That it takes what may have failed leaves one `?` here, and none
-// behind each argument of each command: each makes a proof longer.
-fn with_arg<'a>(
-    command: Result<Command<'a>, AllocError>,
-    arg: Arg<'a>,
-) -> Result<Command<'a>, AllocError>
-    ensures app { (before : App) → arg.entry.global ≡ false → IfOk command.entry (λ c. app_of c ≡ before)
-        → IfOk result (λ c. app_of c ≡ with_rule before (rule_of arg.entry)) }
-    ensures local { arg.entry.global ≡ false → IfOk command.entry IsLocal → IfOk result IsLocal }
+// The command as `clap` takes it.
+fn command_of<'a>(alloc: Global, table: &CommandTable) -> Result<Command<'a>, AllocError>
+    ensures { IfOk result (IsCommandAs (app_by table.now)) }
 {
-    command?.arg(arg)
+    let mut command = Command::new(alloc, table.name)
+        .about(table.about)
+        .after_help(table.help);
+    for argument in table.arguments {
+        command = command.arg(arg_of(alloc, argument))?;
+    }
+    Ok(command)
 }
 
-// The command of this name, without arguments.
-fn described<'a>(alloc: Global, name: &'a str, about: &'a str, help: &'a str) -> Command<'a>
-    ensures app { app_of result ≡ new_app name.entry.now }
-    ensures local { IsLocal result }
+// The program without its commands.
+fn bare_program<'a>(alloc: Global) -> Result<Command<'a>, AllocError>
+    ensures { IfOk result (λ c. app_of c ≡ bare_app) }
 {
-    Command::new(alloc, name).about(about).after_help(help)
-}
-
-// The command of this name, with the file of a puzzle.
-fn of_puzzle<'a>(
-    alloc: Global,
-    name: &'a str,
-    about: &'a str,
-    help: &'a str,
-) -> Result<Command<'a>, AllocError>
-    ensures app { IfOk result (λ c. app_of c ≡ with_puzzle (new_app name.entry.now)) }
-    ensures local { IfOk result IsLocal }
-{
-    let command = Ok(described(alloc, name, about, help));
-    with_arg(command, word(alloc, "PUZZLE", "File of the puzzle"))
-}
-
-// The command of this name, with three files by their names.
-fn of_files<'a>(
-    alloc: Global,
-    name: &'a str,
-    about: &'a str,
-    help: &'a str,
-) -> Result<Command<'a>, AllocError>
-    ensures app { IfOk result (λ c. app_of c ≡ with_files (new_app name.entry.now)) }
-    ensures local { IfOk result IsLocal }
-{
-    let command = of_puzzle(alloc, name, about, help);
-    let command = with_arg(
-        command,
-        word(alloc, "LIST", "File of the list of arrangements"),
-    );
-    with_arg(
-        command,
-        word(alloc, "CERTIFICATE", "File of the certificate"),
-    )
-}
-
-// The command that tells, where it is asked to, how far it is, and what has to be changed in a text that has a fault.
-fn with_reports<'a>(
-    alloc: Global,
-    command: Result<Command<'a>, AllocError>,
-) -> Result<Command<'a>, AllocError>
-    ensures app { (before : App) → IfOk command.entry (λ c. app_of c ≡ before)
-        → IfOk result (λ c. app_of c ≡ with_rules before (flag (codes "progress") ∷ flag (codes "hints") ∷ [])) }
-    ensures local { IfOk command.entry IsLocal → IfOk result IsLocal }
-{
-    let command = with_arg(command, progress(alloc));
-    with_arg(command, hints(alloc))
+    Command::new(alloc, NAME)
+        .about(
+            "Finds the arrangements of edge-matching puzzles, and checks that lists of them are complete",
+        )
+        .after_help(WITHOUT_COMMAND)
+        .version(VERSION)
+        .no_binary_name(true)
+        .bin_name(NAME)
 }
 
 fn check<'a>(alloc: Global) -> Result<Command<'a>, AllocError>
-    ensures app { IfOk result (λ c. app_of c ≡ check_app) }
-    ensures local { IfOk result IsLocal }
+    ensures { IfOk result (IsCommandAs check_app) }
 {
-    let command = of_files(
-        alloc,
-        "check",
-        "Checks that a list has every arrangement of a puzzle",
-        CHECKED,
-    );
-    let command = with_arg(
-        command,
-        workers(alloc, "How many workers check the lemmas at once, 1 to 64"),
-    );
-    let command = with_arg(
-        command,
-        optional_number(
-            alloc,
-            "forks",
-            0,
-            u64::from(MOST_FORKS),
-            "0",
-            "In how many levels of a tree the halves of a branch are walked at once, 0 to 6",
-        ),
-    );
-    with_reports(alloc, command)
-}
-
-fn solve<'a>(alloc: Global) -> Result<Command<'a>, AllocError>
-    ensures app { IfOk result (λ c. app_of c ≡ solve_app) }
-    ensures local { IfOk result IsLocal }
-{
-    let command = of_files(
-        alloc,
-        "solve",
-        "Searches for every arrangement of a puzzle, and writes their list and a certificate",
-        SOLVED,
-    );
-    let command = with_arg(
-        command,
-        optional_number(
-            alloc,
-            "depth",
-            0,
-            u64::from(MOST_DEPTH),
-            "1",
-            "How many levels of branches become lemmas before the search, 0 to 3",
-        ),
-    );
-    let command = with_arg(
-        command,
-        optional_number(
-            alloc,
-            "fuel",
-            1,
-            u64::from(MOST_FUEL),
-            "1000000",
-            "The most branch nodes that are made for a lemma, 1 to 1000000",
-        ),
-    );
-    let command = with_arg(
-        command,
-        workers(alloc, "How many workers search at once, 1 to 64"),
-    );
-    let command = with_arg(
-        command,
-        flag(
-            alloc,
-            "keep",
-            "Leaves LIST and CERTIFICATE as they are until both are written",
-        ),
-    );
-    with_reports(alloc, command)
-}
-
-pub(crate) fn expand<'a>(alloc: Global) -> Result<Command<'a>, AllocError>
-    ensures app { IfOk result (λ c. app_of c ≡ expand_app) }
-    ensures local { IfOk result IsLocal }
-{
-    let command = of_places(
-        alloc,
-        "expand",
-        "Checks a list, and prints every arrangement of the puzzle",
-        EXPANDED,
-    );
-    let command = with_arg(
-        command,
-        flag(
-            alloc,
-            "orbits",
-            "Prints one arrangement of each orbit alone",
-        ),
-    );
-    with_arg(command, hints(alloc))
+    command_of(alloc, &CHECK)
 }
 
 pub(crate) fn explain<'a>(alloc: Global) -> Result<Command<'a>, AllocError>
-    ensures app { IfOk result (λ c. app_of c ≡ explain_app) }
-    ensures local { IfOk result IsLocal }
+    ensures { IfOk result (IsCommandAs explain_app) }
 {
-    of_places(
-        alloc,
-        "explain",
-        "Checks a list, and says why it is refused, or what is wrong with a puzzle",
-        EXPLAINED,
-    )
+    command_of(alloc, &EXPLAIN)
 }
 
-// The command of this name, with three documents of which none has to be named.
-fn of_places<'a>(
-    alloc: Global,
-    name: &'a str,
-    about: &'a str,
-    help: &'a str,
-) -> Result<Command<'a>, AllocError>
-    ensures app { IfOk result (λ c. app_of c ≡ with_places (new_app name.entry.now)) }
-    ensures local { IfOk result IsLocal }
+fn solve<'a>(alloc: Global) -> Result<Command<'a>, AllocError>
+    ensures { IfOk result (IsCommandAs solve_app) }
 {
-    let command = Ok(described(alloc, name, about, help));
-    let command = with_arg(
-        command,
-        optional_word(alloc, "PUZZLE", "File of the puzzle"),
-    );
-    let command = with_arg(
-        command,
-        optional_word(alloc, "LIST", "File of the list of arrangements"),
-    );
-    with_arg(
-        command,
-        optional_word(alloc, "CERTIFICATE", "File of the certificate"),
-    )
+    command_of(alloc, &SOLVE)
 }
 
-// A file that a command needs only with others.
-fn optional_word<'a>(alloc: Global, id: &'a str, help: &'a str) -> Arg<'a>
-    ensures rule { rule_of result ≡ new_rule id.entry.now }
-    ensures local { result.global ≡ false }
+pub(crate) fn expand<'a>(alloc: Global) -> Result<Command<'a>, AllocError>
+    ensures { IfOk result (IsCommandAs expand_app) }
 {
-    Arg::new(alloc, id).help(help)
-}
-
-// A text behind an option of this name.
-fn optional_text<'a>(alloc: Global, id: &'a str, value: &'a str, help: &'a str) -> Arg<'a>
-    ensures rule { rule_of result ≡ optional_text id.entry.now }
-    ensures local { result.global ≡ false }
-{
-    Arg::new(alloc, id).long(id).value_name(value).help(help)
-}
-
-// A number of 64 bits behind an option of this name.
-fn optional_bound<'a>(alloc: Global, id: &'a str, value: &'a str, help: &'a str) -> Arg<'a>
-    ensures rule { rule_of result ≡ optional_bound id.entry.now }
-    ensures local { result.global ≡ false }
-{
-    optional_text(alloc, id, value, help).value_parser(ValueParser::unsigned(0, u64::MAX))
+    command_of(alloc, &EXPAND)
 }
 
 pub(crate) fn count<'a>(alloc: Global) -> Result<Command<'a>, AllocError>
-    ensures app { IfOk result (λ c. app_of c ≡ count_app) }
-    ensures local { IfOk result IsLocal }
+    ensures { IfOk result (IsCommandAs count_app) }
 {
-    let command = of_places(
-        alloc,
-        "count",
-        "Counts the arrangements of a puzzle, by a search or by a list that is checked",
-        COUNTED,
-    );
-    let command = with_arg(
-        command,
-        workers(alloc, "How many workers search at once, 1 to 64"),
-    );
-    let command = with_arg(
-        command,
-        optional_bound(
-            alloc,
-            "most",
-            "M",
-            "Ends as soon as more than M are found, and says so; one worker searches then",
-        ),
-    );
-    let command = with_arg(
-        command,
-        optional_text(
-            alloc,
-            "part",
-            "K/N",
-            "Counts in part K of N of the search, 1/N to N/N, of 1000000 parts at most",
-        ),
-    );
-    with_arg(command, progress(alloc))
-}
-
-// Which arrangement of a list is drawn.
-fn arrangement_number<'a>(alloc: Global) -> Arg<'a>
-    ensures rule { rule_of result ≡ number_or_default (codes "N") 0 LAST_ARRANGEMENT (codes "0") }
-    ensures local { result.global ≡ false }
-{
-    number_or_default(
-        alloc,
-        "N",
-        0,
-        u64::from(LAST_ARRANGEMENT),
-        "0",
-        "Which arrangement of the list is drawn, 0 to 999999",
-    )
+    command_of(alloc, &COUNT)
 }
 
 pub(crate) fn show<'a>(alloc: Global) -> Result<Command<'a>, AllocError>
-    ensures app { IfOk result (λ c. app_of c ≡ show_app) }
-    ensures local { IfOk result IsLocal }
+    ensures { IfOk result (IsCommandAs show_app) }
 {
-    let command = of_puzzle(
-        alloc,
-        "show",
-        "Draws a puzzle's board, and counts its colours",
-        SHOWN,
-    );
-    let command = with_arg(
-        command,
-        optional_word(
-            alloc,
-            "LIST",
-            "File of a list of arrangements, of which one is drawn",
-        ),
-    );
-    with_arg(command, arrangement_number(alloc))
-}
-
-// How many arrangements a sheet has.
-fn first<'a>(alloc: Global) -> Arg<'a>
-    ensures rule { rule_of result ≡ optional_number (codes "first") 0 MOST_DRAWN (codes "0") }
-    ensures local { result.global ≡ false }
-{
-    number_or_default(
-        alloc,
-        "first",
-        0,
-        u64::from(MOST_DRAWN),
-        "0",
-        "Draws a sheet of so many arrangements, from N on, 0 to 100; 0 draws N alone, large",
-    )
-    .long("first")
-    .value_name("K")
+    command_of(alloc, &SHOW)
 }
 
 pub(crate) fn draw<'a>(alloc: Global) -> Result<Command<'a>, AllocError>
-    ensures app { IfOk result (λ c. app_of c ≡ draw_app) }
-    ensures local { IfOk result IsLocal }
+    ensures { IfOk result (IsCommandAs draw_app) }
 {
-    let command = of_puzzle(
-        alloc,
-        "draw",
-        "Draws a puzzle, or arrangements of a list, as a picture",
-        DRAWN,
-    );
-    let command = with_arg(
-        command,
-        optional_word(
-            alloc,
-            "LIST",
-            "File of a list of arrangements, of which one is drawn, or some",
-        ),
-    );
-    let command = with_arg(command, arrangement_number(alloc));
-    let command = with_arg(command, first(alloc));
-    with_arg(
-        command,
-        flag(
-            alloc,
-            "numbers",
-            "Writes the number of its tile on each cell",
-        ),
-    )
+    command_of(alloc, &DRAW)
 }
 
 fn symmetries<'a>(alloc: Global) -> Result<Command<'a>, AllocError>
-    ensures app { IfOk result (λ c. app_of c ≡ symmetries_app) }
-    ensures local { IfOk result IsLocal }
+    ensures { IfOk result (IsCommandAs symmetries_app) }
 {
-    of_puzzle(alloc, "symmetries", "Finds symmetries of a puzzle", NAMED)
+    command_of(alloc, &SYMMETRIES)
 }
 
 fn tiles<'a>(alloc: Global) -> Result<Command<'a>, AllocError>
-    ensures app { IfOk result (λ c. app_of c ≡ tiles_app) }
-    ensures local { IfOk result IsLocal }
+    ensures { IfOk result (IsCommandAs tiles_app) }
 {
-    let command = Ok(described(
-        alloc,
-        "tiles",
-        "Lists the tiles with so many sides and colours, each in one of its turns",
-        LISTED,
-    ));
-    let command = with_arg(
-        command,
-        number(alloc, "SIDES", 3, 4, "How many sides a tile has, 3 or 4"),
-    );
-    let command = with_arg(
-        command,
-        number(
-            alloc,
-            "COLOURS",
-            1,
-            u64::from(MOST_COLOURS),
-            "How many colours there are, 1 to 36",
-        ),
-    );
-    with_arg(
-        command,
-        flag(
-            alloc,
-            "lines",
-            "Prints them as lines of a puzzle's text: tile WORD",
-        ),
-    )
+    command_of(alloc, &TILES)
 }
 
 // The program with one command more, where both are made.
@@ -684,25 +656,10 @@ fn with_command<'a>(
     command: Result<Command<'a>, AllocError>,
 ) -> Result<Command<'a>, AllocError>
     ensures { (before : App) (app : App) → IfOk program.entry (λ c. app_of c ≡ before)
-        → IfOk command.entry IsLocal → IfOk command.entry (λ c. app_of c ≡ app)
+        → IfOk command.entry (IsCommandAs app)
         → IfOk result (λ c. app_of c ≡ with_subcommand before app.top) }
 {
     program?.subcommand(command?)
-}
-
-// The program without its commands.
-fn bare_program<'a>(alloc: Global) -> Result<Command<'a>, AllocError>
-    ensures { IfOk result (λ c. app_of c ≡ bare_app) }
-{
-    described(
-        alloc,
-        NAME,
-        "Finds the arrangements of edge-matching puzzles, and checks that lists of them are complete",
-        WITHOUT_COMMAND,
-    )
-    .version(VERSION)
-    .no_binary_name(true)
-    .bin_name(NAME)
 }
 
 // The program with the commands that make a list, or read one with its certificate.

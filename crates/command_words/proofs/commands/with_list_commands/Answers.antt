@@ -2,8 +2,8 @@ use Rattle.command_words.proofs.commands.with_list_commands.Goals as goal
 
 pub returns : goal.returns
 returns c = λ before is.
-    let with_check = c.with_command-program.ensures _ _ is c.check.ensures.local c.check.ensures.app in
-    let with_explain = c.with_command-program-2.ensures _ _ with_check c.explain.ensures.local c.explain.ensures.app in
-    let with_solve = c.with_command-program-3.ensures _ _ with_explain c.solve.ensures.local c.solve.ensures.app in
-    let with_expand = c.with_command-program-4.ensures _ _ with_solve c.expand.ensures.local c.expand.ensures.app in
-    c.with_command.ensures _ _ with_expand c.count.ensures.local c.count.ensures.app
+    let with_check = c.with_command-program.ensures _ _ is c.check.ensures in
+    let with_explain = c.with_command-program-2.ensures _ _ with_check c.explain.ensures in
+    let with_solve = c.with_command-program-3.ensures _ _ with_explain c.solve.ensures in
+    let with_expand = c.with_command-program-4.ensures _ _ with_solve c.expand.ensures in
+    c.with_command.ensures _ _ with_expand c.count.ensures
