@@ -222,9 +222,10 @@ fn misfit_error(
     command.error(ErrorKind::ArgumentConflict, reason)
 }
 
-fn check(alloc: Global, matches: &ArgMatches<'_>) -> Result<Order, AllocError>
+fn check(alloc: Global, matches: &ArgMatches<'_>) -> Result<Order, WordsFault>
     requires { AreMatchesOf (codes "check") (rows_of (found_of matches.now)) }
-    ensures { IfOk result (IsOrderOf (Some (codes "check", rows_of (found_of matches.now)))) }
+    ensures order { IfOk result (IsOrderOf (Some (codes "check", rows_of (found_of matches.now)))) }
+    ensures refused { IfErr result (IsMisfit (Some (codes "check", rows_of (found_of matches.now)))) }
 {
     let files = files(alloc, matches)?;
     let workers = number(matches, "workers");
@@ -240,9 +241,10 @@ fn check(alloc: Global, matches: &ArgMatches<'_>) -> Result<Order, AllocError>
     })
 }
 
-fn solve(alloc: Global, matches: &ArgMatches<'_>) -> Result<Order, AllocError>
+fn solve(alloc: Global, matches: &ArgMatches<'_>) -> Result<Order, WordsFault>
     requires { AreMatchesOf (codes "solve") (rows_of (found_of matches.now)) }
-    ensures { IfOk result (IsOrderOf (Some (codes "solve", rows_of (found_of matches.now)))) }
+    ensures order { IfOk result (IsOrderOf (Some (codes "solve", rows_of (found_of matches.now)))) }
+    ensures refused { IfErr result (IsMisfit (Some (codes "solve", rows_of (found_of matches.now)))) }
 {
     let files = files(alloc, matches)?;
     let depth = number(matches, "depth");
@@ -425,9 +427,10 @@ fn draw(alloc: Global, matches: &ArgMatches<'_>) -> Result<Order, WordsFault>
     })
 }
 
-fn symmetries(alloc: Global, matches: &ArgMatches<'_>) -> Result<Order, AllocError>
+fn symmetries(alloc: Global, matches: &ArgMatches<'_>) -> Result<Order, WordsFault>
     requires { AreMatchesOf (codes "symmetries") (rows_of (found_of matches.now)) }
-    ensures { IfOk result (IsOrderOf (Some (codes "symmetries", rows_of (found_of matches.now)))) }
+    ensures order { IfOk result (IsOrderOf (Some (codes "symmetries", rows_of (found_of matches.now)))) }
+    ensures refused { IfErr result (IsMisfit (Some (codes "symmetries", rows_of (found_of matches.now)))) }
 {
     Ok(Order::Symmetries(puzzle_place(alloc, matches)?))
 }
@@ -473,14 +476,14 @@ fn order_of(alloc: Global, name: &str, matches: &ArgMatches<'_>) -> Result<Order
     ensures refused { IfErr result (IsMisfit (Some (name.now, rows_of (found_of matches.now)))) }
 {
     match name {
-        "check" => Ok(check(alloc, matches)?),
+        "check" => check(alloc, matches),
         "explain" => explain(alloc, matches),
-        "solve" => Ok(solve(alloc, matches)?),
+        "solve" => solve(alloc, matches),
         "expand" => expand(alloc, matches),
         "count" => count(alloc, matches),
         "show" => show(alloc, matches),
         "draw" => draw(alloc, matches),
-        "symmetries" => Ok(symmetries(alloc, matches)?),
+        "symmetries" => symmetries(alloc, matches),
         "tiles" => Ok(tiles(matches)),
         // `clap` answers the words of `help` itself, by an error.
         _ => unreachable!(),

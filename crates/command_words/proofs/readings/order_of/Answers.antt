@@ -29,17 +29,29 @@ symmetries-requires c = subst (λ name. AreMatchesOf name (rows_of (found_of c.a
 pub tiles-requires : goal.tiles-requires
 tiles-requires c = subst (λ name. AreMatchesOf name (rows_of (found_of c.args.matches.now))) c.in-tiles.is c.requires
 
-pub returns-in_ok-check-in-check-clause-order : goal.returns-in_ok-check-in-check-clause-order
-returns-in_ok-check-in-check-clause-order c =
-    subst (λ name. IsOrderOf (Some (name, rows_of (found_of c.args.matches.now))) c.in_ok-check-in-check.field-0) (sym c.in-check.is) c.in_ok-check-in-check.ensures
+pub returns-in-check-clause-order : goal.returns-in-check-clause-order
+returns-in-check-clause-order c =
+    subst (λ name. IfOk c.check.result (IsOrderOf (Some (name, rows_of (found_of c.args.matches.now))))) (sym c.in-check.is) c.check.ensures.order
 
-pub returns-in_ok-solve-in-solve-clause-order : goal.returns-in_ok-solve-in-solve-clause-order
-returns-in_ok-solve-in-solve-clause-order c =
-    subst (λ name. IsOrderOf (Some (name, rows_of (found_of c.args.matches.now))) c.in_ok-solve-in-solve.field-0) (sym c.in-solve.is) c.in_ok-solve-in-solve.ensures
+pub returns-in-check-clause-refused : goal.returns-in-check-clause-refused
+returns-in-check-clause-refused c =
+    subst (λ name. IfErr c.check.result (IsMisfit (Some (name, rows_of (found_of c.args.matches.now))))) (sym c.in-check.is) c.check.ensures.refused
 
-pub returns-in_ok-symmetries-in-symmetries-clause-order : goal.returns-in_ok-symmetries-in-symmetries-clause-order
-returns-in_ok-symmetries-in-symmetries-clause-order c =
-    subst (λ name. IsOrderOf (Some (name, rows_of (found_of c.args.matches.now))) c.in_ok-symmetries-in-symmetries.field-0) (sym c.in-symmetries.is) c.in_ok-symmetries-in-symmetries.ensures
+pub returns-in-solve-clause-order : goal.returns-in-solve-clause-order
+returns-in-solve-clause-order c =
+    subst (λ name. IfOk c.solve.result (IsOrderOf (Some (name, rows_of (found_of c.args.matches.now))))) (sym c.in-solve.is) c.solve.ensures.order
+
+pub returns-in-solve-clause-refused : goal.returns-in-solve-clause-refused
+returns-in-solve-clause-refused c =
+    subst (λ name. IfErr c.solve.result (IsMisfit (Some (name, rows_of (found_of c.args.matches.now))))) (sym c.in-solve.is) c.solve.ensures.refused
+
+pub returns-in-symmetries-clause-order : goal.returns-in-symmetries-clause-order
+returns-in-symmetries-clause-order c =
+    subst (λ name. IfOk c.symmetries.result (IsOrderOf (Some (name, rows_of (found_of c.args.matches.now))))) (sym c.in-symmetries.is) c.symmetries.ensures.order
+
+pub returns-in-symmetries-clause-refused : goal.returns-in-symmetries-clause-refused
+returns-in-symmetries-clause-refused c =
+    subst (λ name. IfErr c.symmetries.result (IsMisfit (Some (name, rows_of (found_of c.args.matches.now))))) (sym c.in-symmetries.is) c.symmetries.ensures.refused
 
 pub returns-in-tiles-clause-order : goal.returns-in-tiles-clause-order
 returns-in-tiles-clause-order c = subst (λ name. IsOrderOf (Some (name, rows_of (found_of c.args.matches.now))) c.tiles.result) (sym c.in-tiles.is) c.tiles.ensures
