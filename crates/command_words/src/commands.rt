@@ -3,7 +3,8 @@
 ghost use Rattle.std.specs.Prelude.{◌≡◌, ◌∷◌, [], IfOk};
 ghost use Rattle.clap.specs.Words.{App, app_of, with_subcommand};
 ghost use Rattle.command_words.specs.Commands.{bare_app, check_app, count_app, draw_app, expand_app, explain_app};
-ghost use Rattle.command_words.specs.Commands.{show_app, solve_app, symmetries_app, tiles_app, whole_app, with_commands};
+ghost use Rattle.command_words.specs.Commands.{show_app, solve_app, symmetries_app, tiles_app, whole_app};
+ghost use Rattle.command_words.specs.Commands.{with_commands};
 ghost use Rattle.command_words.specs.Tables.{IsArgOf, IsCommandAs, IsNumbered, IsOfKind, app_by};
 
 use clap::builder::ValueParser;
