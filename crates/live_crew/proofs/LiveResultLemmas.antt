@@ -1,6 +1,6 @@
 -- The results of a run, which are entered by number and taken out.
 use Rattle.std.proofs.Common.{◌≡◌, ◌≢◌, ℕ, ◌+◌, ◌-◌, ◌<◌, Global, List, [], ◌∷◌, ◌++◌, length, get_or, take, Vec}
-use Rattle.std.proofs.Common.{Option, IsSomeAnd, sym, refl, ap, ◌∙◌, subst, arith}
+use Rattle.std.proofs.Common.{Option, IsSomeAnd, All, vec_len, sym, refl, ap, ◌∙◌, subst, arith}
 use Rattle.std.proofs.lemmas.List.{get_or_append_left, get_or-append_right, take_more}
 use Rattle.std.proofs.lemmas.Bool.Decides.{nat_tests}
 use mathlib.Core.Logic.{dite}
@@ -8,8 +8,11 @@ use native.Mathlib.Decide.{ℕ_discrete, dec_lt}
 use Rattle.crew_machine.specs.Counts.{total, times, once_below}
 use Rattle.steal_crew.specs.Results.{done_numbers, filled}
 use Rattle.steal_crew.specs.declared.tickets.seats.AllDrawn.{AllDrawn}
-use Rattle.steal_crew.specs.Tickets.{Source, source_drawn}
-use Rattle.live_crew.specs.LiveWorkers.{BelongsToSome, BelongFrom}
+use Rattle.steal_crew.specs.declared.tickets.seats.TicketSeat.{TicketSeat}
+use Rattle.steal_crew.specs.declared.crews.Crew.{Crew}
+use Rattle.steal_crew.specs.Tickets.{Source, source_drawn, drawn}
+use Rattle.live_crew.specs.declared.gathering.LiveRun.{LiveRun}
+use Rattle.live_crew.specs.LiveWorkers.{BelongsToSome, AreDoneBy, BelongFrom, AreRun, AreRest, IsPublished}
 use Rattle.steal_crew.proofs.ResultLemmas.{times-append, none_of}
 use Rattle.crew_machine.proofs.CountLemmas.{total-append}
 
@@ -77,17 +80,31 @@ pub both_entered : (f f' f'' a b : ℕ) → 0 < a + b → (0 < f + a → 0 < f')
 both_entered f f' f'' a b some first second =
     dite (dec_lt 0 a) (λ p. second (let q = first (omega arith) in omega arith)) (λ no. second (omega arith))
 
-pub belong_from : {J X : Type 0} (gives : Source → ℕ → J → X → Type 0) (source : Source) (job : J)
-    (drawn : Option AllDrawn) (rs : List X) (r : X) (n : ℕ) → IsSomeAnd drawn (λ d. source_drawn d ≡ source)
-    → length rs ≡ n → 0 < n → gives source 0 job r → ((d : X) → get_or rs 0 d ≡ r)
-    → ((k : ℕ) (d : X) → 0 < k → k < n → BelongsToSome (gives source) k (get_or rs k d))
-    → BelongFrom gives job drawn rs
-belong_from {J} {X} gives source job drawn rs r n from len some here at_first rest = record {
-  source = source;
-  drawn_from = from;
-  some = omega arith;
-  first = λ d. subst (gives source 0 job) (sym (at_first d)) here;
-  each = λ k d low. dite (dec_lt 0 k) (λ p. rest k d p (omega arith))
-      (λ no. let z : k ≡ 0 = omega arith in subst (λ (i : ℕ). BelongsToSome (gives source) i (get_or rs i d)) (sym z)
-      (job, subst (gives source 0 job) (sym (at_first d)) here));
+-- what a run leaves is published
+pub rest_run : {J X : Type 0} (gives : Source → ℕ → J → X → Type 0) (source from : Source) (n count : ℕ)
+    (run : LiveRun X) → from ≡ source → AreRun source gives n run
+    → ((x : ℕ) → total (λ (s : TicketSeat). times x (drawn s)) run.seats.items ≡ once_below x count)
+    → AreRest (gives from) count run.own.items run.others.items
+rest_run gives source from n count run same are numbers = record {
+  own_done = subst (λ (z : Source). AreDoneBy (gives z) run.own.items) (sym same) are.own;
+  others_done = subst (λ (z : Source). All (λ d. AreDoneBy (gives z) d.items) run.others.items) (sym same) are.others;
+  each = λ x. sym (numbers x) ∙ are.even x;
 }
+
+-- what is published belongs to the first job and the others
+pub belong_from : {J X : Type 0} (gives : Source → ℕ → J → X → Type 0) (source : Source) (job : J) (first : X)
+    (count n : ℕ) (all : AllDrawn) (crew : Crew X) → source_drawn all ≡ source → gives source 0 job first
+    → IsPublished (gives (source_drawn all)) first count n all crew → BelongFrom gives job crew.drawn crew.results.items
+belong_from {J} {X} gives source job first count n all crew same here is = let results = is.results in
+    let from = source_drawn all in let given = subst (λ (z : Source). gives z 0 job first) (sym same) here in
+    let len : vec_len crew.results ≡ length crew.results.items = crew.results.ok.0 in
+    let l = results.len in let some = results.some in record {
+      source = from;
+      drawn_from = subst (λ (o : Option AllDrawn). IsSomeAnd o (λ d. source_drawn d ≡ from)) (sym is.drawn_is) refl;
+      some = omega arith;
+      first = λ d. subst (gives from 0 job) (sym (results.at_first d)) given;
+      each = λ k d low. dite (dec_lt 0 k) (λ p. results.each k d p (omega arith))
+          (λ no. let z : k ≡ 0 = omega arith in
+          subst (λ (i : ℕ). BelongsToSome (gives from) i (get_or crew.results.items i d)) (sym z)
+          (job, subst (gives from 0 job) (sym (results.at_first d)) given));
+    }

@@ -1,15 +1,17 @@
 //! What the workers bring back. What begins with `_` is there for the contracts alone.
 
-ghost use Rattle.std.specs.Prelude.{◌<◌, IfOk, OnOk, All, vec_len};
+ghost use Rattle.std.specs.Prelude.{◌<◌, ◌-◌, IfOk, All, vec_len, vec_capacity};
 ghost use Rattle.crossbeam_deque.specs.Injected.{injector_view, IsInjectorPassOf};
+ghost use Rattle.steal_crew.specs.QueueRule.{part_count};
 ghost use Rattle.steal_crew.specs.Tickets.{source_of};
-ghost use Rattle.live_crew.specs.LiveWorkers.{IsLiveShare, BelongsToSome, Brings};
+ghost use Rattle.live_crew.specs.LiveWorkers.{IsAtEnd, IsFirst, BelongsToSome, Brings, AreRun};
 
-use crate::hands::LiveShare;
+use crate::hands::{JobPass, LiveWorker, SharedJobs};
+use crate::working::work_on;
 use crate::works::LiveWork;
-use crossbeam_deque::InjectorPass;
 use std::alloc::{AllocError, Global};
-use steal_crew::jobs::{JobQueue, JobView, NumberedJob, Parts};
+use std::sync::Wait;
+use steal_crew::jobs::{JobQueue, Parts};
 use steal_crew::{TicketSeat, Tickets};
 
 // The seats and the results of all workers but the caller.
@@ -18,34 +20,66 @@ pub(crate) struct Brought<X: Drop> {
     pub others: Vec<Vec<(u32, X)>>,
 }
 
-// Takes in the passes of all workers but the caller.
-pub(crate) fn collect<W: LiveWork>(
+// What was done with the jobs that were given away: the caller's results, those of each other worker, and all seats.
+pub(crate) struct LiveRun<X: Drop> {
+    pub own: Vec<(u32, X)>,
+    pub others: Vec<Vec<(u32, X)>>,
+    pub seats: Vec<TicketSeat>,
+}
+
+// Takes in the passes of all workers but the caller. The list of seats has room for one more.
+fn collect<W: LiveWork>(
     _work: &W,
     alloc: Global,
     queue: &JobQueue<W::Job>,
     _source: &Tickets,
-    pass: &mut InjectorPass<NumberedJob<W::Job>, JobView>,
-    mut shares: Vec<Result<LiveShare<W::Job, W::R>, AllocError>>,
+    pass: &mut JobPass<W::Job>,
+    mut ended: Vec<Result<LiveWorker<'_, W::Job, W::R>, AllocError>>,
 ) -> Result<Brought<W::R>, AllocError>
-    requires shares { All
-        (λ t. IfOk t (IsLiveShare queue.now (source_of _source.now) (W.gives _work.now))) shares.items }
+    requires ended { All
+        (λ t. IfOk t (IsAtEnd queue.now (source_of _source.now) (W.gives _work.now))) ended.items }
     requires pass { IsInjectorPassOf queue.now pass.old × (0 < (injector_view pass.old).parts) }
-    ensures pass { OnOk result (IsInjectorPassOf queue.now pass.new) }
-    ensures all { IfOk result (λ b. Brings (source_of _source.now)
-        (BelongsToSome (W.gives _work.now (source_of _source.now)))
-        (injector_view pass.old) (injector_view pass.new) (vec_len shares) b.seats.items b.others.items) }
+    ensures { IfOk result (λ b. IsInjectorPassOf queue.now pass.new × (vec_len b.seats < vec_capacity b.seats)
+        × Brings (source_of _source.now) (BelongsToSome (W.gives _work.now (source_of _source.now)))
+        (injector_view pass.old) (injector_view pass.new) (vec_len ended.entry) b.seats.items b.others.items) }
 {
-    let mut seats = Vec::new(alloc);
-    let mut others = Vec::new(alloc);
-    while let Some(share) = shares.pop() {
-        let LiveShare {
-            pass: part,
-            seat,
-            done,
-        } = share?;
+    let mut seats = Vec::with_capacity(alloc, ended.len() + 1)?;
+    let mut others = Vec::with_capacity(alloc, ended.len())?;
+    while let Some(worker) = ended.pop() {
+        let (part, seat, done) = worker?.into_parts();
         queue.absorb::<Parts>(pass, part);
-        seats.push(seat)?;
-        others.push(done)?;
+        seats.push_reserved(seat);
+        others.push_reserved(done);
     }
     Ok(Brought { seats, others })
+}
+
+// Takes in what the others bring, and does what is still queued, once the threads are joined.
+pub(crate) fn finish<W: LiveWork, R: Wait>(
+    rt: &R,
+    alloc: Global,
+    work: &W,
+    shared: &SharedJobs<W::Job>,
+    source: &Tickets,
+    ended: Vec<Result<LiveWorker<'_, W::Job, W::R>, AllocError>>,
+    mut worker: LiveWorker<'_, W::Job, W::R>,
+) -> Result<LiveRun<W::R>, AllocError>
+    requires ended { All
+        (λ t. IfOk t (IsAtEnd shared.now.queue (source_of source.now) (W.gives work.now))) ended.items }
+    requires worker { IsFirst shared.now.queue (source_of source.now) (W.gives work.now)
+        (part_count - vec_len ended) worker }
+    ensures { IfOk result (AreRun (source_of source.now) (W.gives work.now) (vec_len ended.entry)) }
+{
+    let Brought { mut seats, others } = collect(
+        work,
+        alloc,
+        &shared.queue,
+        source,
+        &mut worker.pass,
+        ended,
+    )?;
+    work_on(rt, work, shared, &mut worker)?;
+    let (_pass, seat, own) = worker.into_parts();
+    seats.push_reserved(seat);
+    Ok(LiveRun { own, others, seats })
 }

@@ -1,10 +1,10 @@
 //! Results and tallies by number. What begins with `_` is there for the contracts alone.
 
-ghost use Rattle.std.specs.Prelude.{◌≡◌, ◌<◌, ◌+◌, ◌++◌, ◌∷◌, [], ℕ, IfOk, OnOk, All, Some, vec_len, slice_index_or};
-ghost use Rattle.crew_machine.specs.Counts.{total, times, once_below};
+ghost use Rattle.std.specs.Prelude.{◌≡◌, ◌<◌, ◌+◌, ◌++◌, ◌∷◌, [], ℕ, IfOk, All, vec_len};
+ghost use Rattle.crew_machine.specs.Counts.{total, times};
 ghost use Rattle.steal_crew.specs.Results.{Entered, filled, done_numbers};
 ghost use Rattle.steal_crew.specs.Tickets.{source_drawn};
-ghost use Rattle.live_crew.specs.LiveWorkers.{BelongsToSome, AreDoneBy};
+ghost use Rattle.live_crew.specs.LiveWorkers.{BelongsToSome, AreDoneBy, AreByNumber, AreRest, IsPublished};
 
 use crate::works::LiveWork;
 use std::alloc::{AllocError, Global};
@@ -26,10 +26,10 @@ fn tallies_of<X: Drop>(
     own: &Vec<(u32, X)>,
     others: &Vec<Vec<(u32, X)>>,
 ) -> Result<Vec<Vec<u32>>, AllocError>
-    ensures len { IfOk result (λ v. vec_len v ≡ vec_len others.now + 1) }
-    ensures all { IfOk result (λ v. (x : ℕ) → total (λ t. times x t.items) v.items
+    ensures { IfOk result (λ v. (vec_len v ≡ vec_len others.now + 1)
+        × ((x : ℕ) → total (λ t. times x t.items) v.items
         ≡ times x (0 ∷ []) + times x (done_numbers own.now.items)
-        + total (λ d. times x (done_numbers d.items)) others.now.items) }
+        + total (λ d. times x (done_numbers d.items)) others.now.items)) }
 {
     let mut tally = Vec::new(alloc);
     tally.push(0)?;
@@ -91,10 +91,7 @@ fn take_results<W: LiveWork>(
     requires some { 0 < vec_len slots }
     requires slots { Entered (BelongsToSome (W.gives _work.now (source_drawn _drawn.now))) slots.items }
     requires filled { (x : ℕ) → 0 < x → x < vec_len slots → 0 < filled x slots.items }
-    ensures len { IfOk result (λ v. vec_len v ≡ vec_len slots) }
-    ensures first { IfOk result (λ v. (d : W.R) → slice_index_or v.items 0 d ≡ first) }
-    ensures each { IfOk result (λ v. (n : ℕ) (d : W.R) → 0 < n → n < vec_len slots
-        → BelongsToSome (W.gives _work.now (source_drawn _drawn.now)) n (slice_index_or v.items n d)) }
+    ensures { IfOk result (AreByNumber (W.gives _work.now (source_drawn _drawn.now)) first (vec_len slots)) }
 {
     let mut results = Vec::with_capacity(alloc, slots.len())?;
     results.push_reserved(first);
@@ -127,7 +124,26 @@ fn enter_all<W: LiveWork>(
     }
 }
 
-// The results by number, and the tallies, where the results are those of the numbers drawn.
+// The results by number, where those that were done are those of the numbers below the count.
+fn results_of<W: LiveWork>(
+    work: &W,
+    drawn: &AllDrawn,
+    alloc: Global,
+    first: W::R,
+    own: Vec<(u32, W::R)>,
+    others: Vec<Vec<(u32, W::R)>>,
+    count: u32,
+) -> Result<Vec<W::R>, AllocError>
+    requires { AreRest (W.gives work.now (source_drawn drawn.now)) count own.items others.items }
+    ensures { IfOk result (AreByNumber (W.gives work.now (source_drawn drawn.now)) first count) }
+{
+    let mut slots = empty_slots(work, drawn, alloc, count)?;
+    enter(work, drawn, &mut slots, own);
+    enter_all(work, drawn, &mut slots, others);
+    take_results(work, drawn, alloc, first, slots)
+}
+
+// The results by number, and the tallies.
 pub(crate) fn publish<W: LiveWork>(
     work: &W,
     alloc: Global,
@@ -137,22 +153,10 @@ pub(crate) fn publish<W: LiveWork>(
     count: u32,
     drawn: AllDrawn,
 ) -> Result<Crew<W::R>, AllocError>
-    requires own { AreDoneBy (W.gives work.now (source_drawn drawn)) own.items }
-    requires others { All (λ d. AreDoneBy (W.gives work.now (source_drawn drawn)) d.items) others.items }
-    requires count { (x : ℕ) → once_below x count ≡ times x (0 ∷ []) + times x (done_numbers own.items)
-        + total (λ d. times x (done_numbers d.items)) others.items }
-    ensures some { OnOk result (0 < count) }
-    ensures drawn { IfOk result (λ c. c.drawn ≡ Some drawn) }
-    ensures len { IfOk result (λ c. (vec_len c.results ≡ count) × (vec_len c.tallies ≡ vec_len others + 1)) }
-    ensures first { IfOk result (λ c. (d : W.R) → slice_index_or c.results.items 0 d ≡ first) }
-    ensures each { IfOk result (λ c. (n : ℕ) (d : W.R) → 0 < n → n < count
-        → BelongsToSome (W.gives work.now (source_drawn drawn)) n (slice_index_or c.results.items n d)) }
-    ensures once { IfOk result (λ c. (x : ℕ) → total (λ t. times x t.items) c.tallies.items ≡ once_below x count) }
+    requires { AreRest (W.gives work.now (source_drawn drawn)) count own.items others.items }
+    ensures { IfOk result (IsPublished (W.gives work.now (source_drawn drawn)) first count (vec_len others + 1) drawn) }
 {
     let tallies = tallies_of(alloc, &own, &others)?;
-    let mut slots = empty_slots(work, &drawn, alloc, count)?;
-    enter(work, &drawn, &mut slots, own);
-    enter_all(work, &drawn, &mut slots, others);
-    let results = take_results(work, &drawn, alloc, first, slots)?;
+    let results = results_of(work, &drawn, alloc, first, own, others, count)?;
     Ok(Crew::with_drawn(alloc, results, tallies, drawn))
 }

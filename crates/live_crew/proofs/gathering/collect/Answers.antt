@@ -1,27 +1,66 @@
-use Rattle.std.proofs.Common.{◌≡◌, ◌≤◌, ◌+◌, arith, vec_len, IfOk, subst}
+use Rattle.std.proofs.Common.{◌≡◌, ◌≤◌, ◌+◌, ◌∙◌, ap, arith, length, refl, sym, vec_len, IfOk, Result, subst}
+use Rattle.std.specs.declared.alloc.AllocError.{AllocError}
+use Rattle.crossbeam_deque.specs.Injected.{injector_view, IsInjectorPassOf}
+use Rattle.live_crew.specs.declared.hands.LiveWorker.{LiveWorker}
 use Rattle.steal_crew.specs.Tickets.{source_of}
-use Rattle.live_crew.specs.LiveWorkers.{IsLiveShare}
+use Rattle.live_crew.specs.LiveWorkers.{BelongsToSome, IsAtEnd}
 use Rattle.steal_crew.proofs.JobLemmas.{merges}
 use Rattle.steal_crew.proofs.QueueRuleLemmas.{all_popped}
-use Rattle.live_crew.proofs.LiveWorkerLemmas.{brings_more}
+use Rattle.live_crew.proofs.LiveWorkerLemmas.{brings_none, brings_more}
 use Rattle.live_crew.proofs.gathering.collect.Goals as goal
 
 pub absorb-requires-clause-rule : goal.absorb-requires-clause-rule
-absorb-requires-clause-rule g c = let p = c.loop-share.invariant.all.parts in let q = c.requires.pass.1 in
+absorb-requires-clause-rule g c = let p = c.loop-worker.invariant.all.parts in let q = c.requires.pass.1 in
     merges _ _ _ _ (omega arith)
 
-pub loop-share-preserved : goal.loop-share-preserved
-loop-share-preserved g c = let inv = c.loop-share.invariant in
-    let rest = all_popped (λ t. IfOk t (IsLiveShare c.args.queue.now (source_of c.args._source.now)
-    (g.W.LiveWork.gives c.args._work.now))) _ _ c.in-Some.share inv.shares c.in-Some.ensures.items in
-    let share = subst (λ z. IfOk z (IsLiveShare c.args.queue.now (source_of c.args._source.now)
-    (g.W.LiveWork.gives c.args._work.now))) c.in_ok-part.was rest.1 in
-    let l : vec_len c.pop.new.self + 1 ≡ vec_len c.loop-share.shares = c.in-Some.ensures.len in
-    let m : vec_len c.loop-share.shares ≤ vec_len c.args.shares = inv.len in record {
-      shares = rest.0;
+pub loop-worker-preserved : goal.loop-worker-preserved
+loop-worker-preserved g c = let inv = c.loop-worker.invariant in
+    let source = source_of c.args._source.now in let gives = g.W.LiveWork.gives c.args._work.now in
+    let rest = all_popped (λ t. IfOk t (IsAtEnd c.args.queue.now source gives)) _ _ c.in-Some.worker inv.ended
+    c.in-Some.ensures.items in
+    let end = subst (λ t. IfOk t (IsAtEnd c.args.queue.now source gives)) c.in_ok-worker.was rest.1 in
+    let l : vec_len c.pop.new.self + 1 ≡ vec_len c.loop-worker.ended = c.in-Some.ensures.len in
+    let m : vec_len c.loop-worker.ended ≤ vec_len c.args.ended = inv.len in record {
+      ended = rest.0;
       pass = c.absorb.ensures.same.0;
-      all = brings_more c.args.queue.now (source_of c.args._source.now)
-          (g.W.LiveWork.gives c.args._work.now) _ _ _ _ _ _ _ _ _ c.in_ok-part.field-0 inv.all share
-          c.absorb.ensures.rule (omega arith) c.in_ok-push.ensures.items c.in_ok-push-2.ensures.items;
+      all = brings_more c.args.queue.now source gives _ _ _ _ _ _ _ _ _ c.in_ok-worker.field-0 _ inv.all end
+          c.into_parts-part.ensures c.absorb.ensures.rule (omega arith) c.push_reserved.ensures.items
+          c.push_reserved-in-Some.ensures.items;
       len = omega arith;
+      seats_room = c.push_reserved.ensures.capacity ∙ inv.seats_room;
+      others_room = c.push_reserved-in-Some.ensures.capacity ∙ inv.others_room;
     }
+
+pub absorb-requires-clause-queue : goal.absorb-requires-clause-queue
+absorb-requires-clause-queue g c = let inv = c.loop-worker.invariant in let queue = c.args.queue.now in
+    let at_end : Result (LiveWorker g.row.W-Job.Denot g.row.W-R.Denot) AllocError
+    → Type 0 = λ t. IfOk t (IsAtEnd queue (source_of c.args._source.now) (g.W.LiveWork.gives c.args._work.now)) in
+    let rest = all_popped at_end _ _ c.in-Some.worker inv.ended c.in-Some.ensures.items in
+    let end = subst at_end c.in_ok-worker.was rest.1 in
+    (inv.pass, subst (λ p. IsInjectorPassOf queue p) (sym (ap (λ r. r.0) c.into_parts-part.ensures)) end.pass)
+
+pub loop-worker-init : goal.loop-worker-init
+loop-worker-init g c = record {
+  ended = c.requires.ended;
+  pass = c.requires.pass.0;
+  all = brings_none (source_of c.args._source.now)
+      (BelongsToSome (g.W.LiveWork.gives c.args._work.now (source_of c.args._source.now)))
+      (injector_view c.args.pass.now) _ _ _ (omega arith) c.in_ok-seats.ensures.items c.in_ok-others.ensures.items;
+  len = omega arith;
+  seats_room = refl;
+  others_room = refl;
+}
+
+pub push_reserved-requires : goal.push_reserved-requires
+push_reserved-requires g c = let inv = c.loop-worker.invariant in let room = inv.seats_room in
+    let l : vec_len c.pop.new.self + 1 ≡ vec_len c.loop-worker.ended = c.in-Some.ensures.len in
+    let m : vec_len c.loop-worker.ended ≤ vec_len c.args.ended = inv.len in let n = inv.all.seats_len in
+    let v : vec_len c.loop-worker.seats ≡ length c.loop-worker.seats.items = c.loop-worker.seats.ok.0 in
+    let k = c.in_ok-seats.ensures.capacity in omega arith
+
+pub push_reserved-requires-in-Some : goal.push_reserved-requires-in-Some
+push_reserved-requires-in-Some g c = let inv = c.loop-worker.invariant in let room = inv.others_room in
+    let l : vec_len c.pop.new.self + 1 ≡ vec_len c.loop-worker.ended = c.in-Some.ensures.len in
+    let m : vec_len c.loop-worker.ended ≤ vec_len c.args.ended = inv.len in let n = inv.all.others_len in
+    let v : vec_len c.loop-worker.others ≡ length c.loop-worker.others.items = c.loop-worker.others.ok.0 in
+    let k = c.in_ok-others.ensures.capacity in omega arith

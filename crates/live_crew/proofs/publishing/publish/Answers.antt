@@ -1,30 +1,18 @@
-use Rattle.std.proofs.Common.{◌≡◌, ◌<◌, vec_len, arith}
-use Rattle.steal_crew.specs.Results.{filled}
-use Rattle.live_crew.proofs.LiveResultLemmas.{all_filled, some_drawn, both_entered}
+use Rattle.std.proofs.Common.{◌∙◌, ℕ, Global, Vec, ap, subst, sym, vec_len}
+use Rattle.crew_machine.specs.Counts.{total, times}
+use Rattle.steal_crew.specs.Tickets.{source_drawn}
+use Rattle.live_crew.specs.LiveWorkers.{AreByNumber}
 use Rattle.live_crew.proofs.publishing.publish.Goals as goal
 
-pub take_results-requires-clause-some : goal.take_results-requires-clause-some
-take_results-requires-clause-some g c κs within = let some : 0 < c.args.count =
-    some_drawn c.args.count _ _ (c.requires.count 0) in
-    let a : vec_len c.enter_all.new.slots ≡ vec_len c.enter.new.slots = c.enter_all.ensures.len in
-    let b : vec_len c.enter.new.slots ≡ vec_len c.in_ok-slots.slots = c.enter.ensures.len in
-    let d : vec_len c.in_ok-slots.slots ≡ c.args.count = c.in_ok-slots.ensures.0 in omega arith
+pub results_of-requires-after_bounds : goal.results_of-requires-after_bounds
+results_of-requires-after_bounds g c κs within = c.requires
 
-pub take_results-requires-clause-filled : goal.take_results-requires-clause-filled
-take_results-requires-clause-filled g c κs within = λ x some lt.
-    let a : vec_len c.enter_all.new.slots ≡ vec_len c.enter.new.slots = c.enter_all.ensures.len in
-    let b : vec_len c.enter.new.slots ≡ vec_len c.in_ok-slots.slots = c.enter.ensures.len in
-    let d : vec_len c.in_ok-slots.slots ≡ c.args.count = c.in_ok-slots.ensures.0 in
-    both_entered (filled x c.in_ok-slots.slots.items) (filled x c.enter.new.slots.items)
-    (filled x c.enter_all.new.slots.items) _ _ (all_filled x c.args.count _ _ (c.requires.count x) some (omega arith))
-    (c.enter.ensures.filled x (omega arith)) (c.enter_all.ensures.filled x (omega arith))
-
-pub returns-clause-some : goal.returns-clause-some
-returns-clause-some g c = some_drawn c.args.count _ _ (c.requires.count 0)
-
-pub returns-clause-each : goal.returns-clause-each
-returns-clause-each g c = λ n d some lt.
-    let a : vec_len c.enter_all.new.slots ≡ vec_len c.enter.new.slots = c.enter_all.ensures.len in
-    let b : vec_len c.enter.new.slots ≡ vec_len c.in_ok-slots.slots = c.enter.ensures.len in
-    let l : vec_len c.in_ok-slots.slots ≡ c.args.count = c.in_ok-slots.ensures.0 in
-    rw c.with_drawn.ensures.results (c.in_ok-results.ensures.each n d some (omega arith))
+pub returns : goal.returns
+returns g c = let crew = c.with_drawn.ensures in let tallies = c.in_ok-tallies.ensures in record {
+  drawn_is = crew.drawn;
+  results = subst (AreByNumber (g.W.LiveWork.gives c.args.work.now (source_drawn c.args.drawn)) c.args.first c.args.count)
+      (sym crew.results) c.in_ok-results.ensures;
+  workers = ap (λ (v : Vec (Vec ℕ Global) Global). vec_len v) crew.tallies ∙ tallies.0;
+  once = λ x. ap (λ (v : Vec (Vec ℕ Global) Global). total (λ t. times x t.items) v.items) crew.tallies
+      ∙ tallies.1 x ∙ sym (c.requires.each x);
+}

@@ -1,9 +1,6 @@
 use Rattle.std.proofs.Common.{[]}
-use Rattle.live_crew.specs.LiveWorkers.{IsReady, Moved}
+use Rattle.live_crew.specs.LiveWorkers.{Did}
 use Rattle.live_crew.proofs.working.put_all.Given as goal
 
 abbrev pub invariant-loop : goal.invariant-loop
-invariant-loop g l = record {
-  ready : IsReady l.queue (g.W.LiveWork.gives l.work) l.worker;
-  moved : Moved [] l.initial.worker l.worker;
-}
+invariant-loop g l = Did l.shared.queue (g.W.LiveWork.gives l.work) [] l.initial.worker l.worker

@@ -1,17 +1,16 @@
-use Rattle.steal_crew.specs.QueueRule.{part_count}
-use Rattle.std.proofs.Common.{◌≡◌, ◌+◌, ◌-◌, [], All, vec_len, vec_capacity}
+use Rattle.std.proofs.Common.{◌≡◌, ◌+◌, ◌-◌, All, vec_len, vec_capacity}
 use Rattle.crossbeam_deque.specs.Injected.{injector_view, IsInjectorPassOf}
 use Rattle.steal_crew.specs.Tickets.{source_of, IsFresh}
 use Rattle.steal_crew.specs.Jobs.{job_view_with}
-use Rattle.live_crew.specs.LiveWorkers.{IsLiveStation}
-use Rattle.live_crew.proofs.crews.stations.Given as goal
+use Rattle.live_crew.specs.LiveWorkers.{IsAtStart}
+use Rattle.live_crew.proofs.crews.workers_at.Given as goal
 
 abbrev pub invariant-loop-seat : goal.invariant-loop-seat
-invariant-loop-seat g l = record {
+invariant-loop-seat g l = let start = injector_view l.initial.pass in record {
   pass : IsInjectorPassOf l.queue l.pass;
-  view_is : injector_view l.pass ≡ job_view_with (part_count - vec_len l.list) [] [];
+  view_is : injector_view l.pass ≡ job_view_with (start.parts - vec_len l.list) start.dealt start.taken;
   fresh : All (IsFresh (source_of l.source)) l.seats.items;
-  each : All (IsLiveStation l.queue (source_of l.source)) l.list.items;
+  each : All (IsAtStart l.queue (source_of l.source)) l.list.items;
   len : vec_len l.list + vec_len l.seats ≡ vec_len l.fn.seats;
   room : vec_capacity l.list ≡ vec_capacity l.initial.list;
 }
