@@ -3,6 +3,7 @@ use Rattle.std.proofs.Common.{◌≡◌, ◌≢◌, ℕ, ◌+◌, ◌-◌, ◌<�
 use Rattle.std.proofs.Common.{Option, IsSomeAnd, All, vec_len, sym, refl, ap, ◌∙◌, subst, arith}
 use Rattle.std.proofs.lemmas.List.{get_or_append_left, get_or-append_right, take_more}
 use Rattle.std.proofs.lemmas.Bool.Decides.{nat_tests}
+use mathlib.Core.List.{append_assoc}
 use mathlib.Core.Logic.{dite}
 use native.Mathlib.Decide.{ℕ_discrete, dec_lt}
 use Rattle.crew_machine.specs.Counts.{total, times, once_below}
@@ -13,7 +14,7 @@ use Rattle.steal_crew.specs.declared.crews.Crew.{Crew}
 use Rattle.steal_crew.specs.Tickets.{Source, source_drawn, drawn}
 use Rattle.live_crew.specs.declared.gathering.LiveRun.{LiveRun}
 use Rattle.live_crew.specs.LiveWorkers.{BelongsToSome, AreDoneBy, BelongFrom, AreRun, AreRest, IsPublished}
-use Rattle.steal_crew.proofs.ResultLemmas.{times-append, none_of}
+use Rattle.steal_crew.proofs.ResultLemmas.{times-append, none_of, done_snoc}
 use Rattle.crew_machine.proofs.CountLemmas.{total-append}
 
 module _ {X : Type 0} where
@@ -47,6 +48,16 @@ module _ {X : Type 0} where
       let w : times x t.items ≡ times x (n.items ++ done_numbers s.items) = ap (times x) items in
       let y = times-append x n.items (done_numbers s.items) in let z : times x n.items ≡ 0 = ap (times x) empty in
       omega arith
+
+  -- one number more
+  pub numbers_more : (tally tally' before : List ℕ) (done : List (ℕ × X)) (at : ℕ) (e : ℕ × X) → tally' ≡ tally ++ e.0 ∷ []
+      → at < length done → e ≡ get_or done at e → tally ≡ before ++ done_numbers (take at done)
+      → tally' ≡ before ++ done_numbers (take (at + 1) done)
+  numbers_more tally tally' before done at e more inside found so_far =
+      let whole : take (at + 1) done ≡ take at done ++ e ∷ [] =
+      take_more done at e inside ∙ ap (λ (y : ℕ × X). take at done ++ y ∷ []) (sym found) in
+      more ∙ ap (λ (l : List ℕ). l ++ e.0 ∷ []) so_far ∙ append_assoc before (done_numbers (take at done)) (e.0 ∷ [])
+      ∙ ap (λ (l : List ℕ). before ++ l) (sym (ap done_numbers whole ∙ done_snoc (take at done) e.0 e.1))
 
   pub first_stays : (rs rs' : List X) (r first d : X) → rs' ≡ rs ++ r ∷ [] → 0 < length rs
       → ((d : X) → get_or rs 0 d ≡ first) → get_or rs' 0 d ≡ first

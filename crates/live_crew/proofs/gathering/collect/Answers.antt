@@ -1,9 +1,9 @@
-use Rattle.std.proofs.Common.{◌≡◌, ◌≤◌, ◌+◌, ◌∙◌, ap, arith, length, refl, sym, vec_len, IfOk, Result, subst}
+use Rattle.std.proofs.Common.{rules, ℕ, ◌-◌, ◌≡◌, ◌≤◌, ◌+◌, ◌∙◌, ap, arith, length, refl, sym, vec_len, IfOk, Result, subst}
 use Rattle.std.specs.declared.alloc.AllocError.{AllocError}
 use Rattle.crossbeam_deque.specs.Injected.{injector_view, IsInjectorPassOf}
 use Rattle.live_crew.specs.declared.hands.LiveWorker.{LiveWorker}
 use Rattle.steal_crew.specs.Tickets.{source_of}
-use Rattle.live_crew.specs.LiveWorkers.{BelongsToSome, IsAtEnd}
+use Rattle.live_crew.specs.LiveWorkers.{BelongsToSome, Brings, IsAtEnd}
 use Rattle.steal_crew.proofs.JobLemmas.{merges}
 use Rattle.steal_crew.proofs.QueueRuleLemmas.{all_popped}
 use Rattle.live_crew.proofs.LiveWorkerLemmas.{brings_none, brings_more}
@@ -64,3 +64,16 @@ push_reserved-requires-in-Some g c = let inv = c.loop-worker.invariant in let ro
     let m : vec_len c.loop-worker.ended ≤ vec_len c.args.ended = inv.len in let n = inv.all.others_len in
     let v : vec_len c.loop-worker.others ≡ length c.loop-worker.others.items = c.loop-worker.others.ok.0 in
     let k = c.in_ok-others.ensures.capacity in omega arith
+
+pub returns : goal.returns
+returns g c = let inv = c.loop-worker.invariant in let none : vec_len c.loop-worker.ended ≡ 0 = search rules in
+    let n = inv.all.seats_len in let room = inv.seats_room in let k = c.in_ok-seats.ensures.capacity in
+    let v : vec_len c.loop-worker.seats ≡ length c.loop-worker.seats.items = c.loop-worker.seats.ok.0 in (
+      inv.pass,
+      omega arith,
+      subst (λ (m : ℕ). Brings (source_of c.args._source.now)
+          (BelongsToSome (g.W.LiveWork.gives c.args._work.now (source_of c.args._source.now)))
+          (injector_view c.args.pass.now) (injector_view c.loop-worker.pass) m c.loop-worker.seats.items
+          c.loop-worker.others.items)
+          (let e : vec_len c.args.ended - vec_len c.loop-worker.ended ≡ vec_len c.args.ended = omega arith in e) inv.all,
+    )

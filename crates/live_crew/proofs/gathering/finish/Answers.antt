@@ -1,4 +1,4 @@
-use Rattle.std.proofs.Common.{◌∙◌, ◌++◌, ◌∷◌, [], ap, refl, vec_len}
+use Rattle.std.proofs.Common.{arith, ◌∙◌, ◌++◌, ◌∷◌, [], ap, refl, vec_len}
 use Rattle.steal_crew.specs.Tickets.{source_of}
 use Rattle.live_crew.proofs.LiveWorkerLemmas.{all_run}
 use Rattle.live_crew.proofs.gathering.finish.Goals as goal
@@ -10,3 +10,16 @@ returns g c = let brought = c.in_ok-seats.field-0 in
     c.in_ok-seats.ensures.2 c.in_ok-work_on.ensures.0 c.in_ok-work_on.ensures.1
     (ap (λ r. r.2) c.into_parts-pass.ensures) refl
     (c.push_reserved.ensures.items ∙ ap (λ r. brought.seats.items ++ r.1 ∷ []) c.into_parts-pass.ensures)
+
+pub collect-requires-clause-ended : goal.collect-requires-clause-ended
+collect-requires-clause-ended g c κs within = c.requires.ended
+
+pub collect-requires-clause-pass : goal.collect-requires-clause-pass
+collect-requires-clause-pass g c κs within = let ready = c.requires.worker.idle.ready in (ready.pass, ready.some_part)
+
+pub work_on-requires-after_bounds : goal.work_on-requires-after_bounds
+work_on-requires-after_bounds g c κs within = let idle = c.requires.worker.idle in
+    let some = idle.ready.some_part in let parts = c.in_ok-seats.ensures.2.parts in record {
+      ready = record { pass = c.in_ok-seats.ensures.0; some_part = omega arith; done = idle.ready.done };
+      empty = idle.empty;
+    }

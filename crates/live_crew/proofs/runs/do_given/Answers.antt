@@ -22,3 +22,10 @@ finish-requires-clause-worker g c κs within = let m : vec_len c.args.seats < MO
     c.in_ok-last.field-0 _ _ _ _ _ _ c.requires.own c.in_ok-workers.ensures (omega arith) c.push_reserved.ensures.items
     c.in_ok-ended.ensures.1 (sym c.in_ok-ended.ended.ok.0 ∙ (c.in_ok-ended.ensures.0 ∙ c.push_reserved.new.self.ok.0))
     c.in-Some.ensures.items c.in_ok-last.was c.pop.new.self.ok.0).1
+
+pub workers_at-requires-clause-pass : goal.workers_at-requires-clause-pass
+workers_at-requires-clause-pass g c = let m : vec_len c.args.seats < MOST_WORKERS = c.requires.seats.1 in
+    let p = c.requires.own.parts in (c.requires.own.idle.ready.pass, omega arith)
+
+pub workers_at-requires-clause-seats : goal.workers_at-requires-clause-seats
+workers_at-requires-clause-seats g c = c.requires.seats
