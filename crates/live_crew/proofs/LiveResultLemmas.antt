@@ -50,8 +50,8 @@ module _ {X : Type 0} where
       omega arith
 
   -- one number more
-  pub numbers_more : (tally tally' before : List ℕ) (done : List (ℕ × X)) (at : ℕ) (e : ℕ × X) → tally' ≡ tally ++ e.0 ∷ []
-      → at < length done → e ≡ get_or done at e → tally ≡ before ++ done_numbers (take at done)
+  pub numbers_more : (tally tally' before : List ℕ) (done : List (ℕ × X)) (at : ℕ) (e : ℕ × X)
+      → tally' ≡ tally ++ e.0 ∷ [] → at < length done → e ≡ get_or done at e → tally ≡ before ++ done_numbers (take at done)
       → tally' ≡ before ++ done_numbers (take (at + 1) done)
   numbers_more tally tally' before done at e more inside found so_far =
       let whole : take (at + 1) done ≡ take at done ++ e ∷ [] =

@@ -19,8 +19,8 @@ use Rattle.crew_machine.specs.Counts.{total, times}
 use Rattle.live_crew.specs.LiveHands.{Gave}
 use Rattle.steal_crew.specs.Results.{done_numbers}
 use Rattle.live_crew.specs.LiveWorkers.{BelongsToSome, AreDoneBy, SharedQueue, JobPass, IsReady, IsIdle, Moved}
-use Rattle.live_crew.specs.LiveWorkers.{Worked, IsDrained, IsMade, IsAtStart, IsAtEnd, IsFirst, AllWorked, AreForked, Brings}
-use Rattle.live_crew.specs.LiveWorkers.{AreRun}
+use Rattle.live_crew.specs.LiveWorkers.{Worked, IsDrained, IsMade, IsAtStart, IsAtEnd, IsFirst, AllWorked}
+use Rattle.live_crew.specs.LiveWorkers.{AreForked, Brings, AreRun}
 use Rattle.live_crew.specs.declared.gathering.Brought.{Brought}
 use Rattle.live_crew.specs.declared.gathering.LiveRun.{LiveRun}
 use Rattle.steal_crew.specs.declared.tickets.seats.TicketSeat.{TicketSeat}
@@ -222,7 +222,8 @@ brings_more {J} {X} queue source gives old v v' n n' seats seats' others others'
     record {
       parts = (let p = ap (λ (u : JobView). u.parts) became in let q = end.parts in let r = g.parts in omega arith);
       ours = all_more (λ (s : TicketSeat). seat_source s ≡ source) seats seats' t.hand.seat g.ours end.seat more_seats;
-      seats_len = (let p = ap length more_seats in let q = length-append seats (t.hand.seat ∷ []) in let r = g.seats_len in
+      seats_len = (let p = ap length more_seats in let q = length-append seats (t.hand.seat ∷ []) in
+          let r = g.seats_len in
           omega arith);
       done = all_more (λ (s : Vec (ℕ × X) Global). All (λ e. BelongsToSome (gives source) e.0 e.1) s.items)
           others others' t.done

@@ -1,4 +1,5 @@
-use Rattle.std.proofs.Common.{rules, ℕ, ◌-◌, ◌≡◌, ◌≤◌, ◌+◌, ◌∙◌, ap, arith, length, refl, sym, vec_len, IfOk, Result, subst}
+use Rattle.std.proofs.Common.{rules, ℕ, ◌-◌, ◌≡◌, ◌≤◌, ◌+◌, ◌∙◌, ap, arith, length, refl, sym, vec_len}
+use Rattle.std.proofs.Common.{IfOk, Result, subst}
 use Rattle.std.specs.declared.alloc.AllocError.{AllocError}
 use Rattle.crossbeam_deque.specs.Injected.{injector_view, IsInjectorPassOf}
 use Rattle.live_crew.specs.declared.hands.LiveWorker.{LiveWorker}
@@ -75,5 +76,6 @@ returns g c = let inv = c.loop-worker.invariant in let none : vec_len c.loop-wor
           (BelongsToSome (g.W.LiveWork.gives c.args._work.now (source_of c.args._source.now)))
           (injector_view c.args.pass.now) (injector_view c.loop-worker.pass) m c.loop-worker.seats.items
           c.loop-worker.others.items)
-          (let e : vec_len c.args.ended - vec_len c.loop-worker.ended ≡ vec_len c.args.ended = omega arith in e) inv.all,
+          (let e : vec_len c.args.ended - vec_len c.loop-worker.ended ≡ vec_len c.args.ended = omega arith in e)
+          inv.all,
     )

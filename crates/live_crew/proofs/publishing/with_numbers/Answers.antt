@@ -13,4 +13,5 @@ loop-at-preserved g c = let done = c.args.done.now in let low = c.loop-at-test.t
 pub returns : goal.returns
 returns g c = let done = c.args.done.now in let past = c.loop-at-test.false in let end = c.len-at-end.ensures in
     let n : vec_len done ≡ length done.items = done.ok.0 in
-    c.loop-at.invariant ∙ ap (λ l. c.args.tally.items ++ done_numbers l) (take_all c.loop-at.at done.items (omega arith))
+    c.loop-at.invariant ∙ ap (λ l. c.args.tally.items ++ done_numbers l)
+    (take_all c.loop-at.at done.items (omega arith))

@@ -6,8 +6,8 @@ use Rattle.live_crew.proofs.runs.do_given.Goals as goal
 
 pub work_all-requires-after_bounds : goal.work_all-requires-after_bounds
 work_all-requires-after_bounds g c κs within = let m : vec_len c.args.seats < MOST_WORKERS = c.requires.seats.1 in
-    all_idle c.args.shared.now.queue (source_of c.args.source.now) (g.W.LiveWork.gives c.args.work.now) _ c.args.own _ _ _
-    c.requires.own c.in_ok-workers.ensures (omega arith) c.push_reserved.ensures.items
+    all_idle c.args.shared.now.queue (source_of c.args.source.now) (g.W.LiveWork.gives c.args.work.now) _ c.args.own
+    _ _ _ c.requires.own c.in_ok-workers.ensures (omega arith) c.push_reserved.ensures.items
 
 pub finish-requires-clause-ended : goal.finish-requires-clause-ended
 finish-requires-clause-ended g c κs within = let m : vec_len c.args.seats < MOST_WORKERS = c.requires.seats.1 in

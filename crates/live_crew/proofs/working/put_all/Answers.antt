@@ -14,7 +14,8 @@ returns-in_default g c = let inv = c.loop.invariant in let none = c.in_default.e
 
 pub do_one-requires-after_bounds : goal.do_one-requires-after_bounds
 do_one-requires-after_bounds g c κs within = ready_at _ _ c.loop.worker _ c.loop.invariant.ready
-    c.in-Some-next.ensures.source c.in-Some-put_job.ensures.pass (ap (λ (v : JobView). v.parts) c.in-Some-put_job.ensures.dealt.1) refl
+    c.in-Some-next.ensures.source c.in-Some-put_job.ensures.pass
+    (ap (λ (v : JobView). v.parts) c.in-Some-put_job.ensures.dealt.1) refl
 
 pub loop-preserved : goal.loop-preserved
 loop-preserved g c = let rule = c.in_default-put_job.ensures.dealt in let next = c.in-Some-next in record {
