@@ -1,5 +1,5 @@
 -- Where parts of lemmas begin, one behind the other.
-use Rattle.std.proofs.Common.{◌≡◌, ◌≤◌, ◌<◌, ◌+◌, ◌-◌, ◌++◌, ℕ, List, [], ◌∷◌, length, get_or, arith, sym, ap, ◌∙◌, ⊎_elim}
+use Rattle.std.proofs.Common.{◌≡◌, ◌≤◌, ◌<◌, ◌+◌, ◌-◌, ◌++◌, ℕ, zero, suc, List, [], ◌∷◌, length, arith, refl, sym, ap, subst, ◌∙◌, ⊎_elim}
 use Rattle.std.proofs.lemmas.List.{length-append, get_or_append_left, get_or_push}
 use Rattle.match_limits.proofs.Listings.{lt_or_le}
 use Rattle.cert_text.specs.LemmaParts.{part_start, AreStarts}
@@ -11,6 +11,33 @@ pub record AreFirstStarts (number : ℕ) (starts : List ℕ) : Type 0 where
   pub from_first : part_start starts 0 ≡ 0
   pub rising : (n : ℕ) → n + 1 < length starts → part_start starts n ≤ part_start starts (n + 1)
   pub within : (n : ℕ) → n < length starts → part_start starts n ≤ number
+
+-- the first part begins at the first lemma
+first_alone : AreFirstStarts 0 (0 ∷ [])
+first_alone = record {
+  some = omega arith;
+  few = omega arith;
+  from_first = refl;
+  rising = λ n lt. absurd (omega (arith, lt));
+  within = at_first;
+}
+  where
+    at_first : (n : ℕ) → n < 1 → part_start (0 ∷ []) n ≤ 0
+    at_first zero lt = omega arith
+    at_first (suc n) lt = absurd (omega (arith, lt))
+
+pub first_start : (starts : List ℕ) → starts ≡ 0 ∷ [] → AreFirstStarts 0 starts
+first_start starts is = subst (AreFirstStarts 0) (sym is) first_alone
+
+-- the same up to a later lemma
+pub later_starts : (number next : ℕ) (starts : List ℕ) → number ≤ next → AreFirstStarts number starts → AreFirstStarts next starts
+later_starts number next starts le are = record {
+  some = are.some;
+  few = are.few;
+  from_first = are.from_first;
+  rising = are.rising;
+  within = λ n lt. let w = are.within n lt in omega (arith, w, le);
+}
 
 -- a part more begins at the number
 module _ (number : ℕ) (starts longer : List ℕ) (are : AreFirstStarts number starts) (is : longer ≡ starts ++ number ∷ []) where

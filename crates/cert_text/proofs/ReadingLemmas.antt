@@ -1,5 +1,5 @@
 -- What calls that read have returned, by the laws of the texts.
-use Rattle.std.proofs.Common.{◌≡◌, ℕ, ◌^◌, ◌≤◌, zero, suc, ◌+◌, ◌<◌, List, [], ◌∷◌, length, take, Result, Ok, Err, refl, sym, ap, subst, ◌∙◌, arith}
+use Rattle.std.proofs.Common.{◌≡◌, ℕ, ◌^◌, ◌≤◌, zero, suc, ◌+◌, ◌<◌, List, [], ◌∷◌, length, take, drop, Result, Ok, Err, refl, sym, ap, subst, ◌∙◌, arith}
 use Rattle.match_limits.specs.declared.TheConstants.{MOST_CELLS, MOST_SYMMETRIES}
 use Rattle.std.specs.Prelude.{IfOk, All, Contains}
 use Rattle.std.specs.List.{AllByRecursion}
@@ -13,10 +13,15 @@ use Rattle.numbered_pieces.specs.declared.faults.AssembleFault.TheVariants.{Stra
 use Rattle.numbered_pieces.specs.Assembly.{Assembles}
 use Rattle.plain_words.specs.Bytes.{line_ends}
 use Rattle.text_words.specs.Place.{Says, fail}
+use Rattle.match_puzzle.specs.declared.placements.Pair.{Pair}
 use Rattle.cert_tree.specs.declared.certificates.Lemma.{Lemma}
+use Rattle.cert_tree.specs.declared.flat_lemmas.LemmaSpan.{LemmaSpan}
+use Rattle.cert_tree.specs.declared.heads.Head.{Head}
 use Rattle.plain_words.specs.declared.faults.ReadFault.{ReadFault}
 use Rattle.cert_tree.specs.Certificate.{Contents, Piece, piece_of, piece_number}
+use Rattle.cert_tree.specs.Heads.{first, trees_in}
 use Rattle.cert_tree.specs.Limits.{IsLemmaWithin}
+use Rattle.cert_tree.specs.Spans.{piece_in}
 use Rattle.cert_text.specs.declared.faults.CertTextFault.{CertTextFault}
 use Rattle.cert_text.specs.Faults.{of_assembly}
 use Rattle.cert_text.specs.CertificateText.{Said, lemma_of, certificate_of, Makes, CertificateGives}
@@ -92,3 +97,9 @@ made_within said c fits made =
 pub certificate_within_of : (text : List ℕ) (result : Result Contents CertTextFault) → CertificateGives result (certificate_of text) → IfOk result (λ c. IsCertificateWithin (said_by 2 c))
 certificate_within_of text (Err f) gives = tt
 certificate_within_of text (Ok c) gives = let found = certificate_found_of text (Ok c) gives in within_second (said_by found.0.version c) (made_within found.0 c found.1 found.3)
+
+-- The lemma whose pairs and heads are those from these places on.
+pub span_says : (number : ℕ) (span : LemmaSpan) (shown pairs : List Pair) (lent heads : List Head) (from pairs_from behind heads_from : ℕ) → shown ≡ pairs → lent ≡ heads → from ≡ pairs_from → behind ≡ heads_from
+    → piece_in shown lent span ≡ record { number = number; prefix = drop from shown; tree = first (trees_in (drop behind lent)) }
+    → record { number = number; prefix = drop pairs_from pairs; tree = first (trees_in (drop heads_from heads)) } ≡ piece_in pairs heads span
+span_says number span shown pairs lent heads from pairs_from behind heads_from same_pairs same_heads same_from same_behind is = rw (← same_pairs, ← same_heads, ← same_from, ← same_behind) (sym is)

@@ -1,17 +1,41 @@
 -- A certificate's lemmas in parts, one behind the other.
-use Rattle.std.proofs.Common.{◌≡◌, ◌≤◌, ◌<◌, ◌+◌, ◌-◌, ◌++◌, ℕ, zero, suc, Bool, true, false, List, [], ◌∷◌, Vec, length, take, get_or, arith, refl, sym, ap, subst, ◌∙◌, ⊎_elim}
+use Rattle.std.proofs.Common.{◌≡◌, ◌≤◌, ◌<◌, ◌+◌, ◌-◌, ◌++◌, ℕ, zero, suc, Bool, true, false, List, [], ◌∷◌, Vec, length, map, take, get_or, append_assoc, arith, refl, sym, ap, subst, ◌∙◌, ⊎_elim}
 use Rattle.std.specs.declared.alloc.Global.{Global}
 use Rattle.std.specs.List.{flat_map}
 use Rattle.std.proofs.lemmas.Option.{slice_get_within}
-use Rattle.std.proofs.lemmas.List.{append-nil, take_all, take_more}
+use Rattle.std.proofs.lemmas.List.{append-nil, take_all, take_more, map-append}
 use Rattle.std.proofs.lemmas.List.Concat.{flat_map-append}
 use Rattle.match_limits.proofs.ListLemmas.{member_at}
 use Rattle.match_limits.proofs.Listings.{lt_or_le}
 use Rattle.match_limits.specs.Ranges.{ranges_of}
-use Rattle.text_words.specs.Spelling.{text_of}
+use Rattle.text_words.specs.Spelling.{spaced, text_of}
+use Rattle.text_words.proofs.WritingLemmas.{spaced-append}
 use Rattle.cert_tree.specs.Certificate.{Piece}
 use Rattle.cert_text.specs.CertificateSpelling.{lemma_lines, AreWithinBetween}
 use Rattle.cert_text.specs.LemmaParts.{part_start, AreCut, AreOfParts, AreLines, TellsOfLimits}
+
+-- ---- words
+
+word_alone : (word : List ℕ) → spaced (word ∷ []) ≡ 32 ∷ word
+unfolding spaced
+word_alone word = append-nil (32 ∷ word)
+
+-- words that are written behind a text, a space before each
+module _ {X : Type 0} (word_of : X → List ℕ) (xs : List X) (old : List ℕ) where
+  pub no_word : old ≡ old ++ spaced (map word_of (take 0 xs))
+  unfolding spaced
+  no_word = sym (append-nil old)
+
+  pub one_word : (before after : List ℕ) (i : ℕ) (d : X) → i < length xs → before ≡ old ++ spaced (map word_of (take i xs)) → after ≡ before ++ 32 ∷ word_of (get_or xs i d)
+      → after ≡ old ++ spaced (map word_of (take (i + 1) xs))
+  one_word before after i d lt so_far written =
+      let word = word_of (get_or xs i d) in
+      let words = map word_of (take i xs) in
+      let more : spaced (map word_of (take (i + 1) xs)) ≡ spaced words ++ 32 ∷ word = ap (λ ys. spaced (map word_of ys)) (take_more xs i d lt) ∙ ap spaced (map-append word_of (take i xs) (get_or xs i d ∷ [])) ∙ spaced-append words (word ∷ []) ∙ ap (λ t. spaced words ++ t) (word_alone word) in
+      written ∙ ap (λ t. t ++ 32 ∷ word) so_far ∙ append_assoc old (spaced words) (32 ∷ word) ∙ ap (λ t. old ++ t) (sym more)
+
+  pub all_words : (text : List ℕ) (i : ℕ) → length xs ≤ i → text ≡ old ++ spaced (map word_of (take i xs)) → text ≡ old ++ spaced (map word_of xs)
+  all_words text i le so_far = so_far ∙ ap (λ ys. old ++ spaced (map word_of ys)) (take_all i xs le)
 
 -- ---- lines
 

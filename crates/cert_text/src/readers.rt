@@ -11,6 +11,7 @@ ghost use Rattle.cert_tree.specs.Certificate.{Piece, piece_of};
 ghost use Rattle.cert_tree.specs.Spans.{piece_in, IsSpan};
 ghost use Rattle.cert_tree.specs.Limits.{IsLemmaWithin};
 ghost use Rattle.cert_text.specs.Lines.{said_of};
+ghost use Rattle.cert_text.specs.SymmetryReading.{images_by, symmetry_by};
 ghost use Rattle.cert_text.specs.CertificateText.{Said, mirrored_in, symmetry_line, lemma_line, lemma_text, lemma_of};
 ghost use Rattle.cert_text.specs.CertificateText.{certificate_text, certificate_of, lemmas_then_end};
 ghost use Rattle.cert_text.specs.CertificateText.{CertificateGives, Makes};
@@ -32,13 +33,11 @@ use text_words::{Asked, FaultPlace, ReadFault, Scan, TextFault, TextKind};
 fn mirrored_word(word: &[u8]) -> Result<bool, TextKind>
     ensures { Judges (λ mirrored. mirrored) result (mirrored_in word.now) }
 {
-    if word == b"+".as_slice() {
-        return Ok(false);
+    match word {
+        b"+" => Ok(false),
+        b"-" => Ok(true),
+        _ => Err(TextKind::Word),
     }
-    if word == b"-".as_slice() {
-        return Ok(true);
-    }
-    Err(TextKind::Word)
 }
 
 #[tactic(auto, unfolding(text_words::specs::Place::word_by))]
@@ -50,28 +49,54 @@ fn mirrored(scan: &mut Scan) -> Result<bool, TextFault>
     scan.accept(asked, mirrored_word(word))
 }
 
-#[tactic(auto, unfolding(crate::specs::CertificateText::symmetry_line))]
+// The images of a symmetry's line, behind how far it turns the board and whether it mirrors it.
+#[tactic(auto, unfolding(crate::specs::SymmetryReading::images_by))]
+fn symmetry_images(
+    alloc: Global,
+    scan: &mut Scan,
+    ranges: &Ranges,
+    shift: u8,
+    mirrored: bool,
+) -> Result<SymmetryLine, ReadFault>
+    ensures { Reads (λ line. line) result scan.new (images_by ranges.now shift mirrored scan.old) }
+{
+    scan.word(b"cells")?;
+    let cells = cell_images(alloc, scan, ranges)?;
+    scan.word(b"colours")?;
+    let colours = colour_images(alloc, scan)?;
+    scan.word(b"tiles")?;
+    let tiles = tile_images(alloc, scan, ranges)?;
+    Ok(SymmetryLine {
+        shift,
+        mirrored,
+        cells: Images::new(cells),
+        colours: Images::new(colours),
+        tiles: Images::new(tiles),
+    })
+}
+
+#[tactic(auto, unfolding(crate::specs::SymmetryReading::symmetry_by))]
+fn symmetry_words(
+    alloc: Global,
+    scan: &mut Scan,
+    ranges: &Ranges,
+) -> Result<SymmetryLine, ReadFault>
+    ensures { Reads (λ line. line) result scan.new (symmetry_by ranges.now scan.old) }
+{
+    scan.word(b"symmetry")?;
+    let shift = scan.number(0, u32::from(LAST_SIDE))? as u8;
+    let mirrored = mirrored(scan)?;
+    symmetry_images(alloc, scan, ranges, shift, mirrored)
+}
+
+#[tactic(auto, using(crate::proofs::EntryLemmas::symmetry_line_is))]
 fn symmetry(alloc: Global, scan: &mut Scan, ranges: &Ranges) -> Result<SymmetryLine, ReadFault>
     ensures { Reads (λ line. line) result scan.new (symmetry_line ranges.now scan.old) }
 {
     scan.next_line()?;
-    scan.word(b"symmetry")?;
-    let shift = scan.number(0, u32::from(LAST_SIDE))? as u8;
-    let mirrored = mirrored(scan)?;
-    scan.word(b"cells")?;
-    let cells = Images::new(cell_images(alloc, scan, ranges)?);
-    scan.word(b"colours")?;
-    let colours = Images::new(colour_images(alloc, scan)?);
-    scan.word(b"tiles")?;
-    let tiles = Images::new(tile_images(alloc, scan, ranges)?);
+    let line = symmetry_words(alloc, scan, ranges)?;
     scan.end_of_line()?;
-    Ok(SymmetryLine {
-        shift,
-        mirrored,
-        cells,
-        colours,
-        tiles,
-    })
+    Ok(line)
 }
 
 fn symmetries(
