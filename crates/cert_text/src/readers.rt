@@ -1,19 +1,19 @@
 //! Lemmas and certificates are read.
 
-ghost use Rattle.std.specs.Prelude.{◌≡◌, ◌+◌, ◌<◌, ◌≤◌, ◌^◌, ◌++◌, ℕ, Ok, Err, IfOk, IfErr, IfSome, OnOk};
+ghost use Rattle.std.specs.Prelude.{◌≡◌, ◌+◌, ◌<◌, ◌≤◌, ◌^◌, ◌++◌, ℕ, Ok, Err, IfOk, IfSome, OnOk};
 ghost use Rattle.std.specs.Prelude.{length, take, drop};
 ghost use Rattle.match_limits.specs.Ranges.{AreRanges};
 ghost use Rattle.plain_words.specs.Words.{Judges};
-ghost use Rattle.text_words.specs.Place.{Fails, Gives, Reads, Says, fail, times, word_by};
+ghost use Rattle.text_words.specs.Place.{Gives, Reads, Says, fail, times, word_by};
 ghost use Rattle.plain_words.specs.declared.faults.TextKind.TheVariants as kinds;
 ghost use Rattle.plain_words.specs.Bytes.{line_ends};
 ghost use Rattle.cert_tree.specs.Certificate.{Piece, piece_of};
 ghost use Rattle.cert_tree.specs.Spans.{piece_in, IsSpan};
 ghost use Rattle.cert_tree.specs.Limits.{IsLemmaWithin};
-ghost use Rattle.cert_text.specs.Lines.{said_of};
+ghost use Rattle.cert_text.specs.Lines.{said_of, Begins};
 ghost use Rattle.cert_text.specs.SymmetryReading.{images_by, symmetry_by};
 ghost use Rattle.cert_text.specs.CertificateText.{Said, mirrored_in, symmetry_line, lemma_line, lemma_text, lemma_of};
-ghost use Rattle.cert_text.specs.CertificateText.{certificate_text, certificate_of, lemmas_then_end};
+ghost use Rattle.cert_text.specs.CertificateText.{certificate_text, certificate_of};
 ghost use Rattle.cert_text.specs.CertificateText.{CertificateGives, Makes};
 ghost use Rattle.cert_text.specs.Writing.{said_by};
 ghost use Rattle.cert_text.specs.CertificateSpelling.{lemma_spelling, certificate_spelling, IsCertificateWithin};
@@ -217,10 +217,8 @@ pub(crate) struct Beginning {
 
 #[tactic(auto, unfolding(crate::specs::CertificateText::certificate_text))]
 pub(crate) fn read_beginning(alloc: Global, scan: &mut Scan) -> Result<Beginning, ReadFault>
-    ensures begins { IfOk result
-        (λ it. certificate_text scan.old ≡ lemmas_then_end it.version it.symmetries.items it.count scan.new) }
+    ensures begins { Begins result scan.new (certificate_text scan.old) }
     ensures few { IfOk result (λ it. it.count ≤ MOST_LEMMAS) }
-    ensures fault { IfErr result (λ fault. Fails fault (certificate_text scan.old)) }
 {
     let version = scan.opening(b"certificate")?;
     let many = scan.counted(b"symmetries", 0, u32::from(MOST_SYMMETRIES))?;

@@ -56,3 +56,8 @@ returns-clause-reads c =
     let h = c.loop-scan.invariant in
     all_read (reads_before (codes "tree") (pair_in c.args.ranges.now)) c.loop-scan.scan h.0 (sym c.has_other.ensures ∙ c.loop-scan-test.false) h.2
     ∙ ap (λ (xs : List Pair). Ok (xs, c.loop-scan.scan)) (sym (behind_is c.args.pairs.now.items c.loop-scan.pairs.items h.0 h.1))
+
+pub returns-clause-behind : goal.returns-clause-behind
+returns-clause-behind c =
+    let h = c.loop-scan.invariant in
+    h.1 ∙ ap (λ (xs : List Pair). c.args.pairs.now.items ++ xs) (sym (behind_is c.args.pairs.now.items c.loop-scan.pairs.items h.0 h.1))

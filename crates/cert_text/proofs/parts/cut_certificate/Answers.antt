@@ -10,7 +10,7 @@ pub returns-in_err-beginning-clause-cut : goal.returns-in_err-beginning-clause-c
 returns-in_err-beginning-clause-cut c =
     let fault = c.in_err-beginning.field-0.0 in
     let p = err_from_is_err_and c.from_residual.result c.from_residual.ensures.1 in
-    rw (p.1, p.2) (fault_before c.args.text.now fault (subst (λ (p : Place). Fails fault (certificate_text p)) c.new-scan.ensures c.in_err-beginning.ensures.fault))
+    rw (p.1, p.2) (fault_before c.args.text.now fault (subst (λ (p : Place). Fails fault (certificate_text p)) c.new-scan.ensures c.in_err-beginning.ensures.begins))
 
 pub returns-clause-cut : goal.returns-clause-cut
 returns-clause-cut c =
