@@ -1,5 +1,6 @@
 -- Rows of a shape: what is read is what was written, and what was written is read again.
 use Rattle.std.proofs.Common.{◌≡◌, ℕ, zero, suc, ◌+◌, ◌-◌, ◌*◌, ◌<◌, ◌≤◌, Bool, true, false, eqb, ◌&&◌, ◌||◌, List, [], ◌∷◌, ◌++◌, length, map, take, drop, Result, Ok, Err, refl, sym, ap, subst, ◌∙◌, append_assoc, arith, codes, length-append}
+use Rattle.std.specs.Fmt.{decimal}
 use Rattle.std.specs.List.{flat_map, list_all, AllByRecursion}
 use Rattle.std.proofs.lemmas.List.{append-nil, length-map, length-take, length-drop, take-append-drop, take_all}
 use Rattle.std.proofs.lemmas.Bool.{eqb-true, eq-eqb}
@@ -255,6 +256,12 @@ row_written width left after mask before written total more e so_far =
     let all : text_of (row_lines width left mask) ≡ line_text row ++ others = ap (λ n. text_of (row_lines width n mask)) more ∙ line_first row (row_lines width after (drop width mask)) in
     ap (λ m. written ++ text_of (row_lines width after m)) (rest_is width mask) ∙ ap (λ t. t ++ others) e ∙ append_assoc before (line_text row) others ∙ ap (λ t. before ++ t) (sym all) ∙ so_far
 
+-- room for the first of them
+pub row_room : (width left after : ℕ) (mask : List Bool) → left ≡ suc after → left * width ≤ length mask → width ≤ length mask
+row_room width left after mask more room =
+    let many : left * width ≡ width + after * width = ap (λ n. n * width) more ∙ omega arith in
+    omega (arith, many, room)
+
 -- room for the rows that are left
 pub row_left : (width left after : ℕ) (mask : List Bool) → left ≡ suc after → left * width ≤ length mask → after * width ≤ length (take (length mask - width) (drop width mask))
 row_left width left after mask more room =
@@ -273,3 +280,8 @@ shape_written width height mask figure before first written is one two =
     let line = board_words (Shape width height []) ∷ [] in
     let rows = row_lines width height mask in
     two ∙ ap (λ t. t ++ text_of rows) one ∙ append_assoc before (text_of line) (text_of rows) ∙ ap (λ t. before ++ t) (sym (text_of-append line rows)) ∙ ap (λ f. before ++ text_of (board_lines f)) (sym is)
+
+-- the line of a shape, by its parts
+pub shape_line : (width height : ℕ) → codes "board shape " ++ (decimal width ++ 32 ∷ (decimal height ++ 10 ∷ [])) ≡ text_of (board_words (Shape width height []) ∷ [])
+unfolding line_text text_of
+shape_line width height = simp (append_assoc, append-nil) refl

@@ -1,6 +1,6 @@
 //! Puzzles are written.
 
-ghost use Rattle.std.specs.Prelude.{◌≡◌, ◌<◌, ◌≤◌, ◌*◌, ◌++◌, ◌∷◌, [], Ok, length, map, codes, IfOk, OnOk};
+ghost use Rattle.std.specs.Prelude.{◌≡◌, ◌<◌, ◌≤◌, ◌*◌, ◌++◌, ◌∷◌, [], Ok, length, map, codes, decimal, IfOk, OnOk};
 ghost use Rattle.std.specs.List.{AllByRecursion};
 ghost use Rattle.match_board.specs.declared.figures.Figure.{Figure};
 ghost use Rattle.match_board.specs.declared.figures.Figure.TheVariants.{Rectangle, Triangle, Hexagon, Shape};
@@ -22,16 +22,24 @@ use match_puzzle::{Border, Puzzle};
 use std::alloc::{AllocError, Global};
 use text_words::{character, put_end, put_number, put_number_line};
 
-#[tactic(auto, unfolding(text_words::specs::Spelling::text_of, text_words::specs::Spelling::line_text))]
-fn put_rectangle(text: &mut Vec<u8>, width: u16, height: u16) -> Result<(), AllocError>
-    ensures { OnOk result (text.new.items ≡ text.old.items ++ text_of (board_words (Rectangle width height) ∷ [])) }
+// These bytes, a width and a height, and the end of the line.
+fn put_lengths(text: &mut Vec<u8>, bytes: &[u8], width: u16, height: u16) -> Result<(), AllocError>
+    ensures { OnOk result (text.new.items ≡ text.old.items
+        ++ (bytes.now ++ (decimal width ++ 32 ∷ (decimal height ++ 10 ∷ [])))) }
 {
-    text.extend_from_slice(b"board rect ")?;
+    text.extend_from_slice(bytes)?;
     put_number(text, u64::from(width))?;
     text.push(b' ')?;
     put_number(text, u64::from(height))?;
     text.push(b'\n')?;
     Ok(())
+}
+
+#[tactic(auto, unfolding(text_words::specs::Spelling::text_of, text_words::specs::Spelling::line_text))]
+fn put_rectangle(text: &mut Vec<u8>, width: u16, height: u16) -> Result<(), AllocError>
+    ensures { OnOk result (text.new.items ≡ text.old.items ++ text_of (board_words (Rectangle width height) ∷ [])) }
+{
+    put_lengths(text, b"board rect ", width, height)
 }
 
 #[tactic(auto, unfolding(text_words::specs::Spelling::text_of, text_words::specs::Spelling::line_text))]
@@ -48,16 +56,10 @@ fn put_hexagon(text: &mut Vec<u8>, size: u16) -> Result<(), AllocError>
     put_number_line(text, b"board hexagon", u64::from(size))
 }
 
-#[tactic(auto, unfolding(text_words::specs::Spelling::text_of, text_words::specs::Spelling::line_text))]
 fn put_shape(text: &mut Vec<u8>, width: u16, height: u16) -> Result<(), AllocError>
     ensures { OnOk result (text.new.items ≡ text.old.items ++ text_of (board_words (Shape width height []) ∷ [])) }
 {
-    text.extend_from_slice(b"board shape ")?;
-    put_number(text, u64::from(width))?;
-    text.push(b' ')?;
-    put_number(text, u64::from(height))?;
-    text.push(b'\n')?;
-    Ok(())
+    put_lengths(text, b"board shape ", width, height)
 }
 
 fn put_marks(text: &mut Vec<u8>, row: &[bool]) -> Result<(), AllocError>

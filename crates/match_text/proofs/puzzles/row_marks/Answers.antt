@@ -1,6 +1,6 @@
 use Rattle.std.proofs.Common.{◌≡◌, Ok, Err, map, subst}
 use Rattle.std.proofs.lemmas.Result.{err_from_is_err_and}
-use Rattle.text_words.specs.Place.{fail, judged, other_words}
+use Rattle.text_words.specs.Place.{judged, other_words}
 use Rattle.text_words.specs.Words.{is_cell, marks_in}
 use Rattle.match_text.proofs.ShapeLemmas.{no_word, row_reads, row_fails}
 use Rattle.match_text.proofs.puzzles.row_marks.Goals as goal
