@@ -18,14 +18,24 @@ fn are_numbers_within(last: u16, numbers: &[u16]) -> bool
     ensures { MatchBool result (AllByRecursion (λ n. n ≤ last) numbers.now)
         (AllByRecursion (λ n. n ≤ last) numbers.now → ⊥) }
 {
-    numbers.iter().all(|number| *number <= last)
+    for number in numbers {
+        if *number > last {
+            return false;
+        }
+    }
+    true
 }
 
 fn are_colours_within(colours: &[u8]) -> bool
     ensures { MatchBool result (AllByRecursion (λ n. n < MOST_COLOURS) colours.now)
         (AllByRecursion (λ n. n < MOST_COLOURS) colours.now → ⊥) }
 {
-    colours.iter().all(|colour| *colour < MOST_COLOURS)
+    for colour in colours {
+        if *colour >= MOST_COLOURS {
+            return false;
+        }
+    }
+    true
 }
 
 fn are_images_within(ranges: &Ranges, images: &[u16]) -> bool

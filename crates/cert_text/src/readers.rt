@@ -8,9 +8,8 @@ ghost use Rattle.text_words.specs.Place.{Gives, Reads, Says, fail, times, word_b
 ghost use Rattle.plain_words.specs.declared.faults.TextKind.TheVariants as kinds;
 ghost use Rattle.plain_words.specs.Bytes.{line_ends};
 ghost use Rattle.cert_tree.specs.Certificate.{Piece, piece_of};
-ghost use Rattle.cert_tree.specs.Spans.{piece_in, IsSpan};
 ghost use Rattle.cert_tree.specs.Limits.{IsLemmaWithin};
-ghost use Rattle.cert_text.specs.Lines.{said_of, Begins};
+ghost use Rattle.cert_text.specs.Lines.{said_of, Begins, ReadsBehind};
 ghost use Rattle.cert_text.specs.SymmetryReading.{images_by, symmetry_by};
 ghost use Rattle.cert_text.specs.CertificateText.{Said, mirrored_in, symmetry_line, lemma_line, lemma_text, lemma_of};
 ghost use Rattle.cert_text.specs.CertificateText.{certificate_text, certificate_of};
@@ -33,11 +32,13 @@ use text_words::{Asked, FaultPlace, ReadFault, Scan, TextFault, TextKind};
 fn mirrored_word(word: &[u8]) -> Result<bool, TextKind>
     ensures { Judges (λ mirrored. mirrored) result (mirrored_in word.now) }
 {
-    match word {
-        b"+" => Ok(false),
-        b"-" => Ok(true),
-        _ => Err(TextKind::Word),
+    if word == b"+".as_slice() {
+        return Ok(false);
     }
+    if word == b"-".as_slice() {
+        return Ok(true);
+    }
+    Err(TextKind::Word)
 }
 
 #[tactic(auto, unfolding(text_words::specs::Place::word_by))]
@@ -124,11 +125,8 @@ fn lemma(
     heads: &mut Vec<Head>,
 ) -> Result<LemmaSpan, ReadFault>
     requires { AreRanges ranges.now }
-    ensures reads { Reads
-        (λ span. piece_in pairs.new.items heads.new.items span) result scan.new (lemma_line ranges.now scan.old) }
-    ensures span { IfOk result (IsSpan pairs.new.items heads.new.items) }
-    ensures pairs { OnOk result (pairs.new.items ≡ pairs.old.items ++ drop (length pairs.old.items) pairs.new.items) }
-    ensures heads { OnOk result (heads.new.items ≡ heads.old.items ++ drop (length heads.old.items) heads.new.items) }
+    ensures { ReadsBehind result scan.new pairs.old.items pairs.new.items heads.old.items heads.new.items
+        (lemma_line ranges.now scan.old) }
 {
     scan.next_line()?;
     scan.word(b"lemma")?;

@@ -10,7 +10,7 @@ use Rattle.cert_text.proofs.readers.read_lemmas.Goals as goal
 pub returns-in_err-span : goal.returns-in_err-span
 returns-in_err-span c =
     let p = err_from_is_err_and c.from_residual.result c.from_residual.ensures.1 in
-    rw (p.1, p.2) (times_fail (lemma_line c.args.ranges.now) c.loop.scan (c.args.count - c.loop.counter) (c.args.count - (c.loop.counter + 1)) (map (piece_in c.loop.pairs.items c.loop.heads.items) c.loop.spans.items) c.in_err-span.field-0.0 (times c.args.count (lemma_line c.args.ranges.now) c.args.scan.now) (omega arith) c.in_err-span.ensures.reads c.loop.invariant.read)
+    rw (p.1, p.2) (times_fail (lemma_line c.args.ranges.now) c.loop.scan (c.args.count - c.loop.counter) (c.args.count - (c.loop.counter + 1)) (map (piece_in c.loop.pairs.items c.loop.heads.items) c.loop.spans.items) c.in_err-span.field-0.0 (times c.args.count (lemma_line c.args.ranges.now) c.args.scan.now) (omega arith) c.in_err-span.ensures c.loop.invariant.read)
 
 pub loop-preserved : goal.loop-preserved
 loop-preserved c =
