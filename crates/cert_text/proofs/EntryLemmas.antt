@@ -5,13 +5,10 @@ use Rattle.plain_words.specs.declared.faults.TextFault.{TextFault}
 use Rattle.plain_words.specs.declared.faults.TextKind.{TextKind}
 use Rattle.plain_words.specs.declared.faults.TextKind.TheVariants.{Limit}
 use Rattle.plain_words.specs.Words.{◌>>=◌}
-use Rattle.match_limits.specs.declared.ranges.Ranges.{Ranges}
-use Rattle.text_words.specs.Place.{Place, fail, judged, line_of, word_from, word_by}
+use Rattle.text_words.specs.Place.{Place, fail, judged, word_from, word_by}
 use Rattle.text_words.proofs.CutLemmas.{place, ok_is}
 use Rattle.text_words.proofs.LoopLemmas.{with_front, err_is, ReadsEntries}
 use Rattle.cert_text.specs.Entries.{goes_on, entries_before_in, before_from, entries_before}
-use Rattle.cert_text.specs.CertificateText.{symmetry_line}
-use Rattle.cert_text.specs.SymmetryReading.{images_by, symmetry_by}
 
 module _ {X : Type 0} (stop : List ℕ) (test : List ℕ → Result X TextKind) where
   abbrev all_from : List (List ℕ) → ℕ → X → Result (List X × List (List ℕ)) TextKind
@@ -72,8 +69,3 @@ module _ {X : Type 0} (stop : List ℕ) (test : List ℕ → Result X TextKind) 
     limit = λ p on. limit_on p p.words on;
     none = λ room p off. ap (before_from p) (none_in room p.words off);
   }
-
--- a symmetry's line, whose words are read by themselves
-pub symmetry_line_is : (ranges : Ranges) (p : Place) → symmetry_line ranges p ≡ line_of (symmetry_by ranges) p
-unfolding symmetry_line symmetry_by images_by
-symmetry_line_is ranges p = refl

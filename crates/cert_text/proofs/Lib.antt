@@ -7,7 +7,6 @@ pub mod LemmaTextLemmas
 pub mod CertificateTextLemmas
 pub mod SkipLemmas
 pub mod PartLemmas
-pub mod WithinLemmas
 pub mod WiderLemmas
 pub mod ReadingLemmas
 pub mod SpacedLemmas

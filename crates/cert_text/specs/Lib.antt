@@ -3,7 +3,6 @@ pub mod Entries
 pub mod TreeText
 pub mod HeadReading
 pub mod CertificateText
-pub mod SymmetryReading
 pub mod TreeSpelling
 pub mod CertificateSpelling
 pub mod HeadSpelling

@@ -1,6 +1,6 @@
 //! Entries of a line, up to a word or to its end.
 
-ghost use Rattle.std.specs.Prelude.{◌≡◌, ◌+◌, ◌<◌, ◌++◌, OnOk, codes, length, drop};
+ghost use Rattle.std.specs.Prelude.{◌≡◌, ◌+◌, ◌<◌, ◌++◌, codes, length, drop};
 ghost use Rattle.match_limits.specs.Ranges.{AreRanges};
 ghost use Rattle.plain_words.specs.Words.{number_in};
 ghost use Rattle.text_words.specs.Words.{colour_in, pair_in};
@@ -77,7 +77,7 @@ pub fn prefix(scan: &mut Scan, ranges: &Ranges, pairs: &mut Vec<Pair>) -> Result
     requires { AreRanges ranges.now }
     ensures reads { Reads (λ _. drop (length pairs.old.items) pairs.new.items) result scan.new
         (entries_before (codes "tree") ranges.now.most_cells (pair_in ranges.now) scan.old) }
-    ensures behind { OnOk result (pairs.new.items ≡ pairs.old.items ++ drop (length pairs.old.items) pairs.new.items) }
+    ensures behind { pairs.new.items ≡ pairs.old.items ++ drop (length pairs.old.items) pairs.new.items }
 {
     let start = pairs.len();
     while has_other(scan, b"tree") {

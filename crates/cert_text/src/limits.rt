@@ -18,24 +18,14 @@ fn are_numbers_within(last: u16, numbers: &[u16]) -> bool
     ensures { MatchBool result (AllByRecursion (λ n. n ≤ last) numbers.now)
         (AllByRecursion (λ n. n ≤ last) numbers.now → ⊥) }
 {
-    for number in numbers {
-        if *number > last {
-            return false;
-        }
-    }
-    true
+    numbers.iter().all(|number| *number <= last)
 }
 
 fn are_colours_within(colours: &[u8]) -> bool
     ensures { MatchBool result (AllByRecursion (λ n. n < MOST_COLOURS) colours.now)
         (AllByRecursion (λ n. n < MOST_COLOURS) colours.now → ⊥) }
 {
-    for colour in colours {
-        if *colour >= MOST_COLOURS {
-            return false;
-        }
-    }
-    true
+    colours.iter().all(|colour| *colour < MOST_COLOURS)
 }
 
 fn are_images_within(ranges: &Ranges, images: &[u16]) -> bool

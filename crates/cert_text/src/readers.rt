@@ -1,7 +1,7 @@
 //! Lemmas and certificates are read.
 
-ghost use Rattle.std.specs.Prelude.{◌≡◌, ◌+◌, ◌<◌, ◌≤◌, ◌^◌, ◌++◌, ℕ, Ok, Err, IfOk, IfSome, OnOk};
-ghost use Rattle.std.specs.Prelude.{length, take, drop};
+ghost use Rattle.std.specs.Prelude.{◌≡◌, ◌+◌, ◌<◌, ◌≤◌, ◌^◌, ◌++◌, ℕ, Ok, Err, IfOk, IfSome};
+ghost use Rattle.std.specs.Prelude.{length, take};
 ghost use Rattle.match_limits.specs.Ranges.{AreRanges};
 ghost use Rattle.plain_words.specs.Words.{Judges};
 ghost use Rattle.text_words.specs.Place.{Gives, Reads, Says, fail, times, word_by};
@@ -10,7 +10,6 @@ ghost use Rattle.plain_words.specs.Bytes.{line_ends};
 ghost use Rattle.cert_tree.specs.Certificate.{Piece, piece_of};
 ghost use Rattle.cert_tree.specs.Limits.{IsLemmaWithin};
 ghost use Rattle.cert_text.specs.Lines.{said_of, Begins, ReadsBehind};
-ghost use Rattle.cert_text.specs.SymmetryReading.{images_by, symmetry_by};
 ghost use Rattle.cert_text.specs.CertificateText.{Said, mirrored_in, symmetry_line, lemma_line, lemma_text, lemma_of};
 ghost use Rattle.cert_text.specs.CertificateText.{certificate_text, certificate_of};
 ghost use Rattle.cert_text.specs.CertificateText.{CertificateGives, Makes};
@@ -50,54 +49,28 @@ fn mirrored(scan: &mut Scan) -> Result<bool, TextFault>
     scan.accept(asked, mirrored_word(word))
 }
 
-// The images of a symmetry's line, behind how far it turns the board and whether it mirrors it.
-#[tactic(auto, unfolding(crate::specs::SymmetryReading::images_by))]
-fn symmetry_images(
-    alloc: Global,
-    scan: &mut Scan,
-    ranges: &Ranges,
-    shift: u8,
-    mirrored: bool,
-) -> Result<SymmetryLine, ReadFault>
-    ensures { Reads (λ line. line) result scan.new (images_by ranges.now shift mirrored scan.old) }
-{
-    scan.word(b"cells")?;
-    let cells = cell_images(alloc, scan, ranges)?;
-    scan.word(b"colours")?;
-    let colours = colour_images(alloc, scan)?;
-    scan.word(b"tiles")?;
-    let tiles = tile_images(alloc, scan, ranges)?;
-    Ok(SymmetryLine {
-        shift,
-        mirrored,
-        cells: Images::new(cells),
-        colours: Images::new(colours),
-        tiles: Images::new(tiles),
-    })
-}
-
-#[tactic(auto, unfolding(crate::specs::SymmetryReading::symmetry_by))]
-fn symmetry_words(
-    alloc: Global,
-    scan: &mut Scan,
-    ranges: &Ranges,
-) -> Result<SymmetryLine, ReadFault>
-    ensures { Reads (λ line. line) result scan.new (symmetry_by ranges.now scan.old) }
-{
-    scan.word(b"symmetry")?;
-    let shift = scan.number(0, u32::from(LAST_SIDE))? as u8;
-    let mirrored = mirrored(scan)?;
-    symmetry_images(alloc, scan, ranges, shift, mirrored)
-}
-
-#[tactic(auto, using(crate::proofs::EntryLemmas::symmetry_line_is))]
+#[tactic(auto, unfolding(crate::specs::CertificateText::symmetry_line))]
 fn symmetry(alloc: Global, scan: &mut Scan, ranges: &Ranges) -> Result<SymmetryLine, ReadFault>
     ensures { Reads (λ line. line) result scan.new (symmetry_line ranges.now scan.old) }
 {
     scan.next_line()?;
-    let line = symmetry_words(alloc, scan, ranges)?;
+    scan.word(b"symmetry")?;
+    let shift = scan.number(0, u32::from(LAST_SIDE))? as u8;
+    let mirrored = mirrored(scan)?;
+    scan.word(b"cells")?;
+    let cells = Images::new(cell_images(alloc, scan, ranges)?);
+    scan.word(b"colours")?;
+    let colours = Images::new(colour_images(alloc, scan)?);
+    scan.word(b"tiles")?;
+    let tiles = Images::new(tile_images(alloc, scan, ranges)?);
     scan.end_of_line()?;
-    Ok(line)
+    Ok(SymmetryLine {
+        shift,
+        mirrored,
+        cells,
+        colours,
+        tiles,
+    })
 }
 
 fn symmetries(
