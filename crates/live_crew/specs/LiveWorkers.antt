@@ -94,7 +94,7 @@ module _ {J X : Type 0} where
     pub some_part : 0 < (injector_view w.pass).parts
     pub done : AreDoneBy (gives (source_of w.hand.source.now)) w.done.items
 
-  -- and whose list is empty
+  -- The worker is ready for jobs, and its list of jobs to give away is empty.
   pub record IsIdle (queue : SharedQueue J) (gives : Source → ℕ → J → X → Type 0) (w : LiveWorker J X) : Type 0 where
     pub ready : IsReady queue gives w
     pub empty : job_numbers w.hand.jobs.items ≡ []
@@ -111,7 +111,7 @@ module _ {J X : Type 0} where
     pub ready : IsReady queue gives new
     pub moved : Moved held old new
 
-  -- and its list is empty
+  -- The worker did jobs, of which it held some numbers before, and is idle.
   pub record Worked (queue : SharedQueue J) (gives : Source → ℕ → J → X → Type 0) (held : List ℕ)
       (old new : LiveWorker J X) : Type 0 where
     pub idle : IsIdle queue gives new
