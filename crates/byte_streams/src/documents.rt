@@ -9,7 +9,7 @@ use memchr::memchr;
 use std::marker::Model;
 
 /// The three documents of an input.
-#[derive(Clone, Copy, Debug)]
+#[derive(Clone, Copy)]
 pub struct Documents<'a> {
     pub puzzle: &'a [u8],
     pub list: &'a [u8],

@@ -7,7 +7,7 @@ use match_puzzle::Pair;
 use std::marker::Model;
 
 /// Pairs of cells and placements, in order. Nothing is promised of them.
-#[derive(Debug, Drop)]
+#[derive(Drop)]
 pub struct Pairs {
     pairs: Vec<Pair>,
 }

@@ -8,7 +8,7 @@ use match_puzzle::Item;
 /// in this order, say which trees they are of. Nothing is promised of the numbers; those that were read from a text are
 /// within the ranges of its version for cells, tiles and children, of which a branch has at least one, below 1,000,000
 /// for arrangements and lemmas, and below 1,024 for symmetries. A head takes 8 bytes.
-#[derive(Clone, Copy, Debug, PartialEq, Eq)]
+#[derive(Clone, Copy, PartialEq, Eq)]
 pub enum Head {
     /// A branch on the cell, with so many children.
     Cell { cell: u16, children: u32 },

@@ -6,7 +6,7 @@ use match_limits::{
 };
 
 /// A part of a search that is dealt to several, by how many parts come before it and behind it.
-#[derive(Clone, Copy, PartialEq, Eq, Debug)]
+#[derive(Clone, Copy)]
 pub struct Part {
     pub before: OtherParts,
     pub behind: OtherParts,
@@ -35,7 +35,7 @@ impl Part {
 }
 
 /// Of which arrangements a search counts how many there are.
-#[derive(Clone, Copy, PartialEq, Eq, Debug)]
+#[derive(Clone, Copy)]
 pub enum Extent {
     /// All.
     All,
@@ -46,7 +46,7 @@ pub enum Extent {
 }
 
 /// What is shown or drawn.
-#[derive(Debug, Drop)]
+#[derive(Drop)]
 pub enum Subject {
     /// The empty board of the puzzle that stands there.
     Board(Place),
@@ -58,7 +58,7 @@ pub enum Subject {
 }
 
 /// What words order.
-#[derive(Debug, Drop)]
+#[derive(Drop)]
 pub enum Order {
     /// To check the documents that stand on standard input, joined.
     Joined,

@@ -6,7 +6,7 @@ ghost use Rattle.command_words.specs.Places.{puzzle_place};
 ghost use Rattle.command_words.specs.declared.places.Place.TheVariants.{Input};
 
 /// Three files by their names.
-#[derive(Debug, Drop)]
+#[derive(Drop)]
 pub struct Files {
     pub puzzle: String,
     pub list: String,
@@ -14,7 +14,7 @@ pub struct Files {
 }
 
 /// Where a document stands.
-#[derive(Debug, Drop)]
+#[derive(Drop)]
 pub enum Place {
     /// On standard input, which nothing else of the order is read from.
     Input,
@@ -23,7 +23,7 @@ pub enum Place {
 }
 
 /// Where a puzzle and a list stand: on standard input one of them at most.
-#[derive(Debug, Drop)]
+#[derive(Drop)]
 pub enum TwoPlaces {
     /// In these files.
     Files { puzzle: String, list: String },
@@ -49,7 +49,7 @@ impl TwoPlaces {
 }
 
 /// Where a puzzle, a list and a certificate stand: on standard input one of them at most.
-#[derive(Debug, Drop)]
+#[derive(Drop)]
 pub enum ThreePlaces {
     /// In these files.
     Files(Files),
@@ -93,7 +93,7 @@ impl ThreePlaces {
 }
 
 /// How a puzzle, a list and a certificate are given.
-#[derive(Debug, Drop)]
+#[derive(Drop)]
 pub enum Given {
     /// Joined, on standard input.
     Joined,

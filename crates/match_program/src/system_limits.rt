@@ -8,7 +8,7 @@ use std::rt::Files;
 const LIMITS: &str = "/proc/self/limits";
 
 /// Limits of a process, in bytes. None where there is none, or the system doesn't tell it.
-#[derive(Clone, Copy, PartialEq, Eq, Debug)]
+#[derive(Clone, Copy)]
 pub struct SystemLimits {
     stack: Option<u64>,
     memory: Option<u64>,

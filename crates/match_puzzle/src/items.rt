@@ -6,7 +6,7 @@ ghost use Rattle.match_puzzle.specs.Fitting.{item_place};
 
 /// What each arrangement settles once: the tile of a cell, or the cell of a tile.
 /// These are the primary items of the exact cover (Knuth, TAOCP 4B, 7.2.2.1).
-#[derive(Clone, Copy, PartialEq, Eq, Debug)]
+#[derive(Clone, Copy, PartialEq, Eq)]
 pub enum Item {
     /// The cell with this number is filled.
     Cell(u16),

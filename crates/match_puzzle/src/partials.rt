@@ -248,7 +248,7 @@ fn is_filled(placed: &[Option<Placement>]) -> bool
     ensures { MatchBool result ((cell : ℕ) → slice_get placed.now cell ≡ Some None → ⊥)
         ((cell : ℕ) × (slice_get placed.now cell ≡ Some None)) }
 {
-    placed.iter().all(|standing| standing.is_some())
+    !placed.contains(&None)
 }
 
 // Whether each of these pairs stands.

@@ -23,7 +23,7 @@ use match_limits::{MOST_COLOURS, SIDES};
 use std::alloc::{AllocError, Global};
 
 /// What a side of a cell is.
-#[derive(Clone, Copy, PartialEq, Eq, Debug)]
+#[derive(Clone, Copy)]
 pub(crate) enum Side {
     /// It meets nothing, and the border may ask for a colour.
     Border(Option<u8>),
@@ -32,7 +32,7 @@ pub(crate) enum Side {
 }
 
 /// The sides of a cell, in order; a triangle has no fourth.
-#[derive(Clone, Copy, PartialEq, Eq, Debug)]
+#[derive(Clone, Copy)]
 pub(crate) struct CellSides {
     pub(crate) sides: [Side; SIDES],
     /// Where in a table of what cells ask the colour stands that is asked of each side.

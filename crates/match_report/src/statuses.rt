@@ -31,7 +31,7 @@ impl Status {
 }
 
 /// The line of an answer, and what the answer comes to.
-#[derive(Debug, Drop)]
+#[derive(Drop)]
 pub struct Verdict {
     pub line: Vec<u8>,
     pub status: Status,

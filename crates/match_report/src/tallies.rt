@@ -9,7 +9,7 @@ use std::marker::Model;
 use text_words::put_number;
 
 /// The numbers that a worker took, in the order of taking.
-#[derive(Debug, Drop)]
+#[derive(Drop)]
 pub struct Taken {
     numbers: Vec<u32>,
 }

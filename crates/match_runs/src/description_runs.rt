@@ -25,7 +25,7 @@ use std::alloc::{AllocError, Global};
 use xcc_form::{CompileFault, compile};
 
 /// What is written of a puzzle.
-#[derive(Clone, Copy, PartialEq, Eq, Debug)]
+#[derive(Clone, Copy)]
 pub enum Description {
     /// Its empty board, drawn, with the numbers of its cells and the colours that the border asks for, and then how
     /// many cells, tiles and colours there are, where each colour stands, how many options a search has, and an estimate

@@ -26,7 +26,7 @@ use std::random::RandomSource;
 use symmetry_orbits::RandomFold;
 
 /// What is printed of a puzzle, a list and a certificate.
-#[derive(Clone, Copy, PartialEq, Eq, Debug)]
+#[derive(Clone, Copy)]
 pub enum Printing {
     /// The list of all arrangements.
     All,

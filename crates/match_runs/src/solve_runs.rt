@@ -31,7 +31,7 @@ use text_crew::write_texts_with;
 use text_words::put_number_line;
 
 /// By what a puzzle is searched.
-#[derive(Clone, Copy, PartialEq, Eq, Debug)]
+#[derive(Clone, Copy)]
 pub struct SearchPlan {
     /// Of how many levels of branches lemmas are made before the search begins.
     pub depth: Depth,

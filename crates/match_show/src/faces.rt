@@ -11,7 +11,7 @@ use match_puzzle::{Partial, Placement, Puzzle};
 use text_words::character;
 
 /// What is seen of a cell: its number, whether it is marked, the tile that stands there, and a sign at each side.
-#[derive(Clone, Copy, Debug)]
+#[derive(Clone, Copy)]
 pub struct Face {
     pub cell: u16,
     pub marked: bool,

@@ -11,7 +11,7 @@ use match_puzzle::Puzzle;
 use std::alloc::{AllocError, Global};
 
 /// A secondary item of an option, with the colour that it has there.
-#[derive(Clone, Copy, PartialEq, Eq, Debug)]
+#[derive(Clone, Copy, PartialEq, Eq)]
 pub struct Edge {
     /// The number of the item: secondary items follow the primary ones.
     pub item: u32,
@@ -21,7 +21,7 @@ pub struct Edge {
 }
 
 /// Two sides that meet: the lesser (cell, side), and the other.
-#[derive(Clone, Copy, PartialEq, Eq, Debug)]
+#[derive(Clone, Copy)]
 pub(crate) struct SharedEdge {
     pub(crate) cell: u16,
     pub(crate) side: u8,
