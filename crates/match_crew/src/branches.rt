@@ -1,6 +1,6 @@
 //! Open branches.
 
-ghost use Rattle.std.specs.Prelude.{◌≡◌, ◌≤◌, List, true, IfOk};
+ghost use Rattle.std.specs.Prelude.{◌≡◌, ◌≤◌, List, false, true, IfOk};
 ghost use Rattle.match_limits.specs.declared.TheConstants.{MOST_FUEL};
 ghost use Rattle.match_puzzle.specs.declared.placements.Pair.{Pair as PlacedPair};
 ghost use Rattle.match_puzzle.specs.Fitting.{Fits};
@@ -60,8 +60,25 @@ pub fn search_below<C: Cites>(
     if !fit_in_turn(alloc, xcc.puzzle(), pairs)? {
         return Ok(PackedOutcome::GaveUp);
     }
-    let engine = OpenSets::new(alloc, xcc)?;
-    let mut search = SearchOver::over(alloc, engine)?;
+    let mut search: SearchOver<OpenSets<'_>> = SearchOver::new(alloc, xcc)?;
+    run_first(&mut search, pairs, fuel, item_rule, cites)
+}
+
+// The first run of a search, which is below these pairs.
+fn run_first<C: Cites>(
+    search: &mut SearchOver<OpenSets<'_>>,
+    pairs: &[Pair],
+    fuel: u32,
+    item_rule: &ItemRule,
+    cites: &mut C,
+) -> Result<PackedOutcome, AllocError>
+    requires first { search.old.failed ≡ false }
+    requires fit { FitInTurn search.old.engine.compiled.puzzle pairs.now }
+    requires fuel { fuel ≤ MOST_FUEL }
+    requires takes { (asked : List PlacedPair) → C.takes cites.old asked }
+    ensures found { IfOk result (IsFoundIn search.old.engine.compiled.puzzle) }
+    ensures moved { C.moves cites.old cites.new }
+{
     match search.run_by(pairs, fuel, item_rule, cites) {
         Ok(outcome) => Ok(outcome),
         // it did not run before

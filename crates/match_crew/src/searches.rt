@@ -8,12 +8,12 @@ ghost use Rattle.match_limits.specs.declared.TheConstants.{MOST_CELLS, MOST_LEVE
 ghost use Rattle.cert_tree.specs.Limits.{IsLemmaWithin, IsTreeWithin};
 ghost use Rattle.match_crew.specs.Solving.{IsFoundIn, IsOutcomeOf, IsTreeWithinWith};
 
-use crate::branches::{OpenBranch, rising_by_cell, search_below};
+use crate::branches::{OpenBranch, rising_by_cell};
 use crate::shared::Shared;
 use crate::strategy::choices::Choices;
 use cert_tree::{PackedLemma, PackedTree};
 use live_crew::{Hand, LiveWork};
-use match_limits::{MOST_ARRANGEMENTS, MOST_FUEL};
+use match_limits::MOST_ARRANGEMENTS;
 use match_puzzle::{Arrangement, Pair};
 use piece_desk::{FlatDesk, FlatReceipt};
 use std::alloc::AllocError;
@@ -59,35 +59,12 @@ impl<'a, T: Wait, W: Watch> Searches<'a, T, W> {
         ensures found { IfOk result (IsFoundIn self.now.xcc.now.puzzle) }
         ensures gave { Gave hand.old hand.new }
     {
-        let shared = self.shared;
-        let (alloc, rule) = (shared.alloc, &shared.plan.item_rule);
-        let fuel = shared.fuel.min(MOST_FUEL);
-        let cells = usize::from(self.xcc.puzzle().board().cells());
         // (one worker does one job: nobody cites or gives)
-        if shared.workers == 1 && shared.plan.prefixes.is_empty() {
-            let mut cites = Counted {
-                watch: self.watch,
-                cells,
-                met: Met::at_root(pairs.len() == cells),
-            };
-            let outcome = search_below(alloc, self.xcc, pairs, fuel, rule, &mut cites);
-            cites.met.tell_rest(self.watch);
-            return outcome;
+        if self.shared.workers == 1 && self.shared.plan.prefixes.is_empty() {
+            run_alone(self.shared, self.xcc, self.watch, pairs)
+        } else {
+            run_with_others(self.shared, self.xcc, self.watch, number, pairs, hand)
         }
-        let mut choices = Choices {
-            shared,
-            watch: self.watch,
-            hand,
-            number,
-            level: pairs.len(),
-            holds: shared.plan.images.cite_any(pairs, number).is_some(),
-            cells,
-            met: Met::at_root(pairs.len() == cells),
-            gives: false,
-        };
-        let outcome = search_below(alloc, self.xcc, pairs, fuel, rule, &mut choices);
-        choices.met.tell_rest(self.watch);
-        outcome
     }
 
     // The lemma with this number, if number and prefix are within the limits of a lemma's text.
@@ -169,4 +146,53 @@ impl<'a, T: Wait, W: Watch> LiveWork for Searches<'a, T, W> {
         }
         Ok(searched)
     }
+}
+
+// Searches below a job's pairs, where no lemma is cited and no branch given away.
+fn run_alone<W: Watch>(
+    shared: &Shared<'_>,
+    xcc: &Xcc<'_>,
+    watch: &W,
+    pairs: &[Pair],
+) -> Result<PackedOutcome, AllocError>
+    ensures { IfOk result (IsFoundIn xcc.now.puzzle) }
+{
+    let cells = usize::from(xcc.puzzle().board().cells());
+    let mut cites = Counted {
+        watch,
+        cells,
+        met: Met::at_root(pairs.len() == cells),
+    };
+    let outcome = shared.search(xcc, pairs, &mut cites);
+    cites.met.tell_rest(watch);
+    outcome
+}
+
+// The same, where lemmas may be cited and branches given away.
+fn run_with_others<W: Watch>(
+    shared: &Shared<'_>,
+    xcc: &Xcc<'_>,
+    watch: &W,
+    number: u32,
+    pairs: &[Pair],
+    hand: &mut Hand<'_, OpenBranch>,
+) -> Result<PackedOutcome, AllocError>
+    ensures found { IfOk result (IsFoundIn xcc.now.puzzle) }
+    ensures gave { Gave hand.old hand.new }
+{
+    let cells = usize::from(xcc.puzzle().board().cells());
+    let mut choices = Choices {
+        shared,
+        watch,
+        hand,
+        number,
+        level: pairs.len(),
+        holds: shared.plan.images.cite_any(pairs, number).is_some(),
+        cells,
+        met: Met::at_root(pairs.len() == cells),
+        gives: false,
+    };
+    let outcome = shared.search(xcc, pairs, &mut choices);
+    choices.met.tell_rest(watch);
+    outcome
 }

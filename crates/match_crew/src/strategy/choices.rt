@@ -59,15 +59,32 @@ impl<'a, 'h, W: Watch> Choices<'a, 'h, W> {
         }
     }
 
-    // Gives the planned branches away, which then have the numbers from 1 on: nobody drew before.
+    // Gives the planned branches away, if this is the first child that the root's job is asked for. They have the numbers
+    // from 1 on then: nobody drew before.
     fn give_planned(&mut self) -> Result<(), AllocError>
         ensures same { self.new.hand.ghost_name ≡ self.old.hand.ghost_name }
         ensures gave { Gave self.old.hand.now self.new.hand.now }
     {
+        if self.number > 0 || self.met.children > 0 {
+            return Ok(());
+        }
         for prefix in &self.shared.plan.prefixes {
             let _cite = self.give(prefix)?;
         }
         Ok(())
+    }
+
+    // Gives the child away, if it is to be, and answers what stands for it then.
+    fn give_if_due(&mut self, placed: &[Pair]) -> Result<Option<Cite>, AllocError>
+        ensures within { IfOk result (λ o. IfSome o IsCiteWithin) }
+        ensures same { self.new.hand.ghost_name ≡ self.old.hand.ghost_name }
+        ensures gave { Gave self.old.hand.now self.new.hand.now }
+    {
+        if self.is_to_give(placed) {
+            self.give(placed)
+        } else {
+            Ok(None)
+        }
     }
 
     // Whether the child is to be given away: where little fuel is left, or others wait for work and no later lemma may
@@ -126,19 +143,13 @@ impl<'a, 'h, W: Watch> Cites for Choices<'a, 'h, W> {
     ghost answers_still = { λ _ _ _ _ _ _. tt };
 
     fn cite(&mut self, prefix: &[Pair]) -> Result<Option<Cite>, AllocError> {
-        if self.number == 0 && self.met.children == 0 {
-            self.give_planned()?;
-        }
+        self.give_planned()?;
         self.met.child(self.watch);
         let images = &self.shared.plan.images;
         if let Some(cite) = images.cite_child(prefix, self.number, self.holds) {
             return Ok(Some(cite));
         }
-        let given = if self.is_to_give(prefix) {
-            self.give(prefix)?
-        } else {
-            None
-        };
+        let given = self.give_if_due(prefix)?;
         if given.is_none() && prefix.len() == self.cells {
             self.met.arrangement();
         }

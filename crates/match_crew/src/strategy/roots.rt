@@ -183,19 +183,6 @@ impl<'a, R: Threads + Sync> Comparison<'a, R> {
         Ok(if is_better { other } else { plan })
     }
 
-    // The best plan by an item other than this one, if there is any.
-    fn other_plan(&mut self, than: u32, depth: u8) -> Result<Option<Plan>, AllocError> {
-        let items = self.items_beside(than)?;
-        let few = self.few_of(items)?;
-        self.best_plan(&few, depth)
-    }
-
-    // About how many nodes the lemmas of the plan have together.
-    fn first_guess(&mut self, plan: &Plan) -> Result<u64, AllocError> {
-        let guesses = self.guess(std::slice::from_ref(plan), FIRST_CHOICES)?;
-        Ok(guesses.first().copied().unwrap_or(0))
-    }
-
     // The plan, which is by this item at the root, or one by another item, with which there are guessed to be much fewer
     // nodes. It is asked on one worker whether another item is looked for, and compared by all of them.
     fn best_beside(
@@ -207,13 +194,16 @@ impl<'a, R: Threads + Sync> Comparison<'a, R> {
     ) -> Result<Plan, AllocError>
         requires workers { (1 ≤ workers) × (workers ≤ MOST_WORKERS) }
     {
-        let nodes = self.first_guess(&plan)?;
+        let guesses = self.guess(std::slice::from_ref(&plan), FIRST_CHOICES)?;
+        let nodes = guesses.first().copied().unwrap_or(0);
         if nodes < FEW_NODES {
             return Ok(plan);
         }
         self.workers = workers;
         self.times = (nodes / NODES_OF_ONE_TIME).max(1).min(MOST_TIMES);
-        match self.other_plan(item, depth)? {
+        let others = self.items_beside(item)?;
+        let few = self.few_of(others)?;
+        match self.best_plan(&few, depth)? {
             Some(other) => self.better_of(plan, other),
             None => Ok(plan),
         }

@@ -1,19 +1,34 @@
-use Rattle.std.proofs.Common.{◌≡◌, ap, sym, subst, ◌∙◌}
+use Rattle.std.proofs.Common.{◌≡◌, IfOk, ap, sym, subst, ◌∙◌}
 use Rattle.match_puzzle.specs.Puzzle.{Task}
-use Rattle.xcc_form.specs.Options.{Compiled}
-use Rattle.xcc_form.specs.Chosen.{Selection}
-use Rattle.xcc_dance.specs.Outcome.{SearchState}
 use Rattle.match_fits.specs.Placing.{FitInTurn}
-use Rattle.match_crew.proofs.SolvingLemmas.{found_by}
+use Rattle.xcc_form.specs.Chosen.{Selection}
+use Rattle.match_crew.specs.Solving.{IsFoundIn}
 use Rattle.match_crew.proofs.branches.search_below.Goals as goal
 
-pub run_by-requires-clause-prefix : goal.run_by-requires-clause-prefix
-run_by-requires-clause-prefix g c =
-    let compiled : c.in_ok-search.search.engine.compiled.puzzle ≡ c.args.xcc.now.puzzle = ap (λ (v : SearchState Selection). v.engine.compiled.puzzle) c.in_ok-search.ensures ∙ ap (λ (v : Selection). v.compiled.puzzle) c.in_ok-engine.ensures in
+pub returns-in_err-fit_in_turn-clause-moved : goal.returns-in_err-fit_in_turn-clause-moved
+returns-in_err-fit_in_turn-clause-moved g c = g.met.C.Cites.stays c.args.cites.now
+
+pub returns-then-not-branch-clause-moved : goal.returns-then-not-branch-clause-moved
+returns-then-not-branch-clause-moved g c = g.met.C.Cites.stays c.args.cites.now
+
+pub returns-in_err-search-clause-moved : goal.returns-in_err-search-clause-moved
+returns-in_err-search-clause-moved g c = g.met.C.Cites.stays c.args.cites.now
+
+pub run_first-requires-clause-first : goal.run_first-requires-clause-first
+run_first-requires-clause-first g c = c.in_ok-search.ensures.ready.1
+
+pub run_first-requires-clause-fit : goal.run_first-requires-clause-fit
+run_first-requires-clause-fit g c =
+    let compiled : c.in_ok-search.search.engine.compiled.puzzle ≡ c.args.xcc.now.puzzle = ap (λ (v : Selection). v.compiled.puzzle) c.in_ok-search.ensures.empty in
     subst (λ (p : Task). FitInTurn p c.args.pairs.now) (c.puzzle.ensures.value ∙ sym compiled) (c.in_ok-fit_in_turn.ensures c.if-not-branch.false)
 
-pub returns-in-Ok-clause-found : goal.returns-in-Ok-clause-found
-returns-in-Ok-clause-found g c =
-    let w = c.in-Ok in
-    let compiled : c.run_by.new.self.engine.compiled.puzzle ≡ c.args.xcc.now.puzzle = ap (λ (x : Compiled). x.puzzle) w.ensures.compiled ∙ ap (λ (v : SearchState Selection). v.engine.compiled.puzzle) c.in_ok-search.ensures ∙ ap (λ (v : Selection). v.compiled.puzzle) c.in_ok-engine.ensures in
-    found_by c.args.xcc.now.puzzle c.in_ok-search.search c.run_by.new.self c.args.pairs.now _ w.outcome compiled w.ensures.outcome
+pub run_first-requires-clause-takes : goal.run_first-requires-clause-takes
+run_first-requires-clause-takes g c = c.requires.takes
+
+pub returns-clause-found : goal.returns-clause-found
+returns-clause-found g c =
+    let compiled : c.in_ok-search.search.engine.compiled.puzzle ≡ c.args.xcc.now.puzzle = ap (λ (v : Selection). v.compiled.puzzle) c.in_ok-search.ensures.empty in
+    subst (λ (p : Task). IfOk c.run_first.result (IsFoundIn p)) compiled c.run_first.ensures.found
+
+pub returns-clause-moved : goal.returns-clause-moved
+returns-clause-moved g c = c.run_first.ensures.moved

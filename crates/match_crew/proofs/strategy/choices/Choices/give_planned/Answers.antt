@@ -2,6 +2,9 @@ use Rattle.std.proofs.Common.{◌∙◌, refl}
 use Rattle.live_crew.proofs.LiveHandLemmas.{gave_nothing, gave_both}
 use Rattle.match_crew.proofs.strategy.choices.Choices.give_planned.Goals as goal
 
+pub returns-then-self-gt0-clause-gave : goal.returns-then-self-gt0-clause-gave
+returns-then-self-gt0-clause-gave g c = gave_nothing c.args.self.now.hand.now
+
 pub loop-prefix-init : goal.loop-prefix-init
 loop-prefix-init g c = record { same = refl; gave = gave_nothing c.args.self.now.hand.now }
 
