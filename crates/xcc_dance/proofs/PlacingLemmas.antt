@@ -3,6 +3,7 @@ use Rattle.std.proofs.Common.{◌≡◌, ◌≢◌, ◌<◌, ◌≤◌, ◌+◌,
 use Rattle.std.proofs.lemmas.Bool.Decides.{eqb_tells}
 use Rattle.std.proofs.lemmas.Option.{slice_get_within}
 use Rattle.std.proofs.lemmas.List.{length-replicate, length-take}
+use Rattle.match_limits.proofs.OptionLemmas.{none_some}
 use Rattle.match_board.specs.Board.{Meets}
 use Rattle.match_board.proofs.Places.{Meets-turned}
 use Rattle.match_puzzle.specs.Puzzle.{Task, colour_of, GoTogether}
@@ -178,6 +179,10 @@ option_pair_at p pairs fit place y at =
     let lt = slice_get_within (prefix_of p before) y.cell None good.free in
     let long = length-with_pairs before (empty_prefix p) ∙ length-replicate {A = Option Placement} (cell_count p.board) None in
     record { cell = omega (arith, lt, long); legal = good.legal; border = good.border }
+
+-- no options and no pairs
+pub no_pairs : (x : Compiled) → ArePairsOf x [] []
+no_pairs x = record { long = refl; each = λ place o y at at'. absurd (none_some at') }
 
 -- one option and its pair more, and one less
 pub pairs_pushed : (x : Compiled) (chosen : List ℕ) (pairs : List Pair) (option : ℕ) (y : Pair) → IsPairOf x option y → ArePairsOf x chosen pairs → ArePairsOf x (chosen ++ option ∷ []) (pairs ++ y ∷ [])
