@@ -1,9 +1,10 @@
 -- What is kept of placed pairs, with one more and one less.
-use Rattle.std.proofs.Common.{◌≡◌, ◌<◌, ◌≤◌, ◌+◌, ◌*◌, ◌++◌, ◌∷◌, [], ℕ, List, Option, None, length, take, drop, arith, ap, sym, ◌∙◌, subst}
+use Rattle.std.proofs.Common.{◌≡◌, ◌<◌, ◌≤◌, ◌+◌, ◌*◌, ◌++◌, ◌∷◌, [], ℕ, List, Option, None, length, take, drop, arith, refl, ap, sym, ◌∙◌, subst}
 use Rattle.std.proofs.lemmas.List.{length-replicate}
 use Rattle.std.proofs.lemmas.Option.{slice_get_within}
 use Rattle.match_board.specs.Board.{cell_count}
-use Rattle.match_puzzle.specs.Puzzle.{Task}
+use Rattle.match_limits.proofs.OptionLemmas.{none_some}
+use Rattle.match_puzzle.specs.Puzzle.{Task, IsPuzzle}
 use Rattle.match_puzzle.specs.Prefix.{Prefix, Has, with_pair, without_cell, empty_prefix}
 use Rattle.match_puzzle.specs.Fitting.{Fits}
 use Rattle.match_fits.specs.Placing.{prefix_of}
@@ -15,6 +16,17 @@ use Rattle.match_puzzle.proofs.PairLemmas.{length-with_pairs}
 use Rattle.match_fits.proofs.PlacedPairLemmas.{fit_pushed, fit_popped, last_fits, last_has, last_taken, prefix_pushed}
 use Rattle.match_fits.proofs.SavedLemmas.{saved_pushed, saved_before, sizes_before, last_long}
 use Rattle.match_fits.proofs.FitRowLemmas.{rows_lifted}
+
+-- nothing is placed yet
+pub kept_none : (p : Task) (q : Prefix) (rows : List (List ℕ)) (sizes : List ℕ) → IsPuzzle p → q ≡ empty_prefix p → AreRows p q rows → AreSizes p q sizes → AreKeptBeside p [] q rows sizes []
+kept_none p q rows sizes puzzle empty are_rows are_sizes = record {
+  puzzle = puzzle;
+  fit = λ place x at. absurd (none_some at);
+  placed = empty;
+  rows = are_rows;
+  sizes = are_sizes;
+  saved = record { tables = []; many = refl; joined = refl; are = λ count table at. absurd (none_some at) };
+}
 
 pub kept_pushed : (p : Task) (pairs : List Pair) (y : Pair) (q : Prefix) (rows : List (List ℕ)) (sizes saved : List ℕ) → AreKeptBeside p pairs q rows sizes saved → Fits p q y.cell y.placement → (rows' : List (List ℕ)) (sizes' : List ℕ) → AreRows p (with_pair q y.cell y.placement) rows' → AreSizes p (with_pair q y.cell y.placement) sizes' →
     AreKeptBeside p (pairs ++ y ∷ []) (with_pair q y.cell y.placement) rows' sizes' (saved ++ sizes)
