@@ -1,8 +1,8 @@
 -- Turns of a word.
-use Rattle.std.proofs.Common.{◌≡◌, ◌<◌, ◌≤◌, ◌+◌, ◌-◌, ◌%◌, ℕ, take, get_or, List, length, arith, ap, sym, ◌∙◌, slice_index}
+use Rattle.std.proofs.Common.{◌≡◌, ◌<◌, ◌≤◌, ◌+◌, ◌-◌, ◌%◌, ℕ, take, get_or, List, length, arith, ap, subst, sym, ◌∙◌, slice_index}
 use Rattle.std.proofs.Math.Nat.{add-mod_left, add-mod_right, add-mod-mod, mod-eq_of_lt}
 use Rattle.std.proofs.lemmas.List.{get_or-take}
-use Rattle.match_board.specs.Turns.{shown, IsSameAfter}
+use Rattle.match_board.specs.Turns.{shown, IsSameAfter, IsLessAfter}
 
 -- a whole turn gives the same word
 pub whole_turn : (word : List ℕ) → IsSameAfter word (length word)
@@ -35,3 +35,11 @@ pub shown_at : (colours : List ℕ) (sides turn side place : ℕ) → length (ta
 unfolding shown
 shown_at colours sides turn side place long lt e =
     sym (get_or-take sides colours place 0 lt) ∙ ap (λ k. get_or (take sides colours) k 0) (sym e ∙ ap (λ n. (side + turn) % n) (sym long))
+
+-- a word that is less after some turns has the lesser colour at the side where it first differs
+pub less_at : (word : List ℕ) (turns side : ℕ) → ((before : ℕ) → before < side → shown word turns before ≡ shown word 0 before) → (shown word turns side ≡ shown word 0 side → ⊥) → IsLessAfter word turns → shown word turns side < shown word 0 side
+less_at word turns side same differs less =
+    let not_before : (less.side < side → ⊥) = λ lt. omega (arith, same less.side lt, less.less) in
+    let not_behind : (side < less.side → ⊥) = λ lt. differs (less.same side lt) in
+    let here : less.side ≡ side = omega (arith, not_before, not_behind) in
+    subst (λ k. shown word turns k < shown word 0 k) here less.less

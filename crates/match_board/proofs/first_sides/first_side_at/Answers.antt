@@ -1,4 +1,4 @@
-use Rattle.std.proofs.Common.{◌≡◌, ◌<◌, ℕ, Bool, false, arith, below_more, subst}
+use Rattle.std.proofs.Common.{false, arith, below_more, subst}
 use Rattle.match_board.proofs.first_sides.first_side_at.Goals as goal
 
 pub loop-side-init : goal.loop-side-init
