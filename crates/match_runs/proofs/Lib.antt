@@ -4,3 +4,4 @@ pub mod PictureLemmas
 pub mod RunLemmas
 pub mod RunningLemmas
 pub mod SolvingLemmas
+mod TileLemmas
