@@ -3,9 +3,10 @@
 ghost use Rattle.std.specs.Prelude.{◌<◌, ◌^◌, length};
 ghost use Rattle.cert_tree.specs.Tree.{tree_of, IsNarrow};
 
-use cert_tree::{AssembleFault, Head, Lemma, Lemmas, Node, Pairs, assemble, assembly_laws};
+use cert_tree::{AssembleFault, Head, Lemma, Lemmas, Node, assemble, assembly_laws};
 use std::alloc::{AllocError, Global};
 use std::test::Fail;
+use test_samples::lemma_without_prefix;
 
 // A lemma whose one node is the arrangement with this number.
 #[tactic(auto, using(cert_tree::proofs::TreeLemmas::tree_laws))]
@@ -13,11 +14,7 @@ fn piece(alloc: Global, number: u32, found: u32) -> Lemma
     ensures narrow { IsNarrow (tree_of result.tree) }
     ensures prefix { length result.prefix < 2 ^ 32 }
 {
-    Lemma {
-        number,
-        prefix: Pairs::new(Vec::new(alloc)),
-        tree: Node::Found(found),
-    }
+    lemma_without_prefix(alloc, number, Node::Found(found))
 }
 
 // Whether this is the fault of so many lemmas, where there are two that have these numbers.

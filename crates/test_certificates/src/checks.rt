@@ -1,12 +1,11 @@
 //! Certificates are checked by one call, and a tree alone, whatever is wrong with the trees before it.
 
-use crate::texts::{certificate_of, list_of, puzzle_of};
 use cert_check::{
     Answer, Fault, NodeFault, Prepared, Question, TreeFault, check, one_answer, tree_fault,
 };
 use std::alloc::Global;
 use std::test::Fail;
-use test_samples::{TURNING_TRIANGLE, TURNING_TRIANGLE_LIST};
+use test_samples::{TURNING_TRIANGLE, TURNING_TRIANGLE_LIST, certificate_of, list_of, puzzle_of};
 
 // Nothing is dead at cell 0, lemma 1 cites itself, and the prefix of lemma 0 isn't placed at the root's second child.
 const WRONG_TREES: &[u8] =

@@ -8,6 +8,4 @@ mod checks;
 #[cfg(test)]
 mod reports;
 #[cfg(test)]
-mod texts;
-#[cfg(test)]
 mod trees;

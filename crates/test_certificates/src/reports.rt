@@ -1,11 +1,10 @@
 //! Boards and tallies are printed. Which worker takes what is chance, where there are several.
 
-use crate::texts::puzzle_of;
-use match_puzzle::{Placement, Puzzle};
+use match_puzzle::Puzzle;
 use match_report::{Taken, write_board, write_tally};
 use std::alloc::{AllocError, Global};
 use std::test::Fail;
-use test_samples::TURNING_TRIANGLE;
+use test_samples::{TURNING_TRIANGLE_PLACED, turning_triangle};
 
 // Each worker took these.
 fn tally(alloc: Global, shares: &[&[u32]]) -> Result<Vec<Taken>, AllocError> {
@@ -36,27 +35,20 @@ fn prints_tally(alloc: Global, shares: &[&[u32]], text: &[u8]) -> Result<bool, A
     is_text_of(alloc, &tally, text)
 }
 
-// An arrangement of the turning triangle.
-const LISTED: [Placement; 4] = [
-    Placement { tile: 2, turn: 2 },
-    Placement { tile: 1, turn: 0 },
-    Placement { tile: 0, turn: 0 },
-    Placement { tile: 3, turn: 1 },
-];
-
+// How the turning triangle's arrangement is printed.
 const BOARD: &[u8] = b"0 2.2 020\n1 1.0 100\n2 0.0 123\n3 3.1 003\n";
 
-// Whether the arrangement is printed so.
+// Whether it is printed so.
 fn is_board_of(alloc: Global, puzzle: &Puzzle) -> Result<bool, Fail> {
-    if puzzle.arrangement_fault(&LISTED).is_some() {
+    if puzzle.arrangement_fault(&TURNING_TRIANGLE_PLACED).is_some() {
         return Ok(false);
     }
-    let written = write_board(alloc, puzzle, &LISTED)?;
+    let written = write_board(alloc, puzzle, &TURNING_TRIANGLE_PLACED)?;
     Ok(written.as_slice() == BOARD)
 }
 
 fn prints_board(alloc: Global) -> Result<bool, Fail> {
-    let puzzle = puzzle_of(alloc, TURNING_TRIANGLE)?;
+    let puzzle = turning_triangle(alloc)?;
     is_board_of(alloc, &puzzle)
 }
 

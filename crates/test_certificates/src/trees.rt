@@ -1,13 +1,12 @@
 //! Certificates are read and written.
 
-use crate::texts::certificate_of;
-use cert_text::{
-    WithinLimits, certificate_laws, lemma_laws, read_lemma, write_certificate, write_lemma,
-};
-use cert_tree::{Certificate, head_laws};
+use cert_text::{certificate_laws, lemma_laws};
+use cert_tree::head_laws;
 use std::alloc::{AllocError, Global};
 use std::test::Fail;
-use test_samples::{TURNING_TRIANGLE_CERTIFICATE, TWIN_TILES_CERTIFICATE};
+use test_samples::{
+    TURNING_TRIANGLE_CERTIFICATE, TWIN_TILES_CERTIFICATE, certificate_again, is_line, lemma_of,
+};
 
 // Each kind of node, and a symmetry with a mirror and colours that are letters.
 const EACH_NODE: &[u8] =
@@ -55,25 +54,11 @@ fn deep(alloc: Global, first_line: &[u8], branches: u32) -> Result<Vec<u8>, Allo
     Ok(text)
 }
 
-// Whether this is written of the certificate.
-fn is_text_of(alloc: Global, certificate: &Certificate, wanted: &[u8]) -> Result<bool, Fail> {
-    if !certificate.within_limits() {
-        return Err(Fail::from("what was read can't be written"));
-    }
-    Ok(write_certificate(alloc, certificate)?.as_slice() == wanted)
-}
-
-// Whether this is written of the certificate that the text says.
-fn is_written(alloc: Global, text: &[u8], wanted: &[u8]) -> Result<bool, Fail> {
-    let certificate = certificate_of(alloc, text)?;
-    is_text_of(alloc, &certificate, wanted)
-}
-
 // Whether a certificate with so many branches below one another is written with this first line.
 fn is_deep_written(alloc: Global, branches: u32, first_line: &[u8]) -> Result<bool, Fail> {
     let text = deep(alloc, VERSION_2, branches)?;
     let wanted = deep(alloc, first_line, branches)?;
-    is_written(alloc, &text, &wanted)
+    Ok(certificate_again(alloc, &text)? == wanted)
 }
 
 const DEPTHS: [(u32, &[u8]); 3] = [(100, VERSION_1), (101, VERSION_2), (256, VERSION_2)];
@@ -90,15 +75,14 @@ const LEMMA: &[u8] = b"lemma 1 prefix tree c 0 2 s 0 i 0 0\n";
 
 // Whether a lemma is written as it was read.
 fn is_lemma_written(alloc: Global) -> Result<bool, Fail> {
-    let lemma = read_lemma(alloc, LEMMA)?;
-    let written = write_lemma(alloc, &lemma)?;
-    Ok(written.as_slice() == LEMMA)
+    let lemma = lemma_of(alloc, LEMMA)?;
+    Ok(is_line(alloc, &lemma, LEMMA)?)
 }
 
 #[test]
 fn writes_certificates_that_were_read(rt: HostRuntime) -> Result<(), Fail> {
     for (text, wanted) in TEXTS.iter() {
-        assert!(rt; is_written(rt.alloc(), text, wanted)?);
+        assert!(rt; certificate_again(rt.alloc(), text)?.as_slice() == *wanted);
     }
     assert!(rt; is_lemma_written(rt.alloc())?);
     certificate_laws();

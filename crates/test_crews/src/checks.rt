@@ -1,5 +1,4 @@
 use cert_check::Answer;
-use cert_text::read_certificate;
 use match_crew::{Gate, check_with};
 use match_limits::MOST_WORKERS;
 use match_puzzle::{Arrangement, Puzzle};
@@ -8,7 +7,7 @@ use std::sync::atomic::{AtomicBool, AtomicU32, Ordering};
 use std::test::Fail;
 use std::thread;
 use std::thread::Threads;
-use test_samples::{turning_triangle, turning_triangle_list};
+use test_samples::{certificate_of, turning_triangle, turning_triangle_list};
 
 // Eight lemmas of the turning triangle, of which the last is the root's.
 const EIGHT_LEMMAS: &[u8] = b"certificate 1\nsymmetries 1\n\
@@ -105,7 +104,7 @@ fn is_complete<R: Threads + Sync>(
     if list.len() != 1 || workers < 1 || workers > MOST_WORKERS {
         return Err(Fail::new("another question"));
     }
-    let certificate = read_certificate(alloc, EIGHT_LEMMAS)?;
+    let certificate = certificate_of(alloc, EIGHT_LEMMAS)?;
     let answer = check_with(rt, alloc, puzzle, list, &certificate, workers, 0, watch)?;
     Ok(matches!(answer, Answer::Complete))
 }

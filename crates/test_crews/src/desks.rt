@@ -4,8 +4,8 @@ ghost use Rattle.cert_tree.specs.Certificate.{piece_of};
 ghost use Rattle.cert_tree.specs.Limits.{IsLemmaWithin};
 ghost use Rattle.piece_desk.specs.Desks.{IsOf};
 
-use cert_text::{WithinLimits, read_lemma, write_certificate, write_lemma};
-use cert_tree::{AssembleFault, Certificate, Lemma, Node, Pairs};
+use cert_text::{WithinLimits, write_certificate};
+use cert_tree::{AssembleFault, Certificate, Lemma, Node};
 use piece_desk::{Desk, Receipt};
 use std::alloc::{AllocError, Global};
 use std::process::Abort;
@@ -15,6 +15,7 @@ use std::thread;
 use std::thread::Threads;
 use test_samples::{
     TWIN_TILES_AFTER_FIVE, TWIN_TILES_CERTIFICATE, TWIN_TILES_FROM_THE_ROOT, exchange_of_twins,
+    is_line, lemma_of, lemma_without_prefix,
 };
 
 // Four lemmas, which cite each other, a lemma at their count and one past it.
@@ -30,13 +31,6 @@ const FOUR_LEMMAS: [&[u8]; 4] = [ZERO, ONE, TWO, THREE];
 
 const FOUR_TURNED: &[u8] =
     b"certificate 1\nsymmetries 1\nsymmetry 0 + cells 0 1 colours 0 1 tiles 1 0\nlemmas 4\nlemma 0 prefix 0:2.0 tree t 1 2 f 4 i 9 0\nlemma 1 prefix 0:1.0 tree c 1 1 s 4\nlemma 2 prefix 0:0.0 tree c 1 2 f 5 s 0\nlemma 3 prefix tree c 0 3 s 2 i 1 0 s 0\nend\n";
-
-// Whether this line is the lemma's.
-pub(crate) fn is_line(alloc: Global, lemma: &Lemma, line: &[u8]) -> Result<bool, AllocError>
-    requires { IsLemmaWithin MOST_CELLS (piece_of lemma.now) }
-{
-    Ok(write_lemma(alloc, lemma)?.as_slice() == line)
-}
 
 // Posts a lemma. Where it comes back for want of memory, it is to be the same, and is posted again.
 fn post_at_last<R: Wait>(
@@ -66,10 +60,7 @@ fn post_at_last<R: Wait>(
 fn copied(alloc: Global, text: &[u8]) -> Result<Lemma, Fail>
     ensures { IfOk result (λ lemma. IsLemmaWithin MOST_CELLS (piece_of lemma)) }
 {
-    if text.len() > 1000 {
-        return Err(Fail::new("a long text"));
-    }
-    Ok(read_lemma(alloc, text)?.copy(alloc)?)
+    Ok(lemma_of(alloc, text)?.copy(alloc)?)
 }
 
 // Posts such a copy, which is to be read back as the same text.
@@ -251,11 +242,7 @@ fn post_leaf<R: Wait>(
 ) -> Result<Receipt, AllocError>
     ensures { IfOk result (IsOf desk.now) }
 {
-    let lemma = Lemma {
-        number,
-        prefix: Pairs::new(Vec::new(alloc)),
-        tree: Node::Found(number),
-    };
+    let lemma = lemma_without_prefix(alloc, number, Node::Found(number));
     if !lemma.within_limits() {
         return Err(AllocError);
     }

@@ -4,17 +4,15 @@ ghost use Rattle.std.specs.Prelude.{◌<◌, ◌≤◌, length};
 
 use crate::meetings::Meeting;
 use cert_check::{Answer, NodeFault, Prepared, Question, TreeFault, forked_tree_fault};
-use cert_text::read_certificate;
 use match_crew::{Gate, Solved, check_with, solve_with};
 use match_limits::MOST_FORKS;
 use match_puzzle::{Arrangement, Puzzle};
-use match_text::read_puzzle;
 use std::alloc::{AllocError, Global};
 use std::sync::Wait;
 use std::sync::atomic::{AtomicU8, Ordering};
 use std::test::Fail;
 use std::thread::Threads;
-use test_samples::{turning_triangle, turning_triangle_list};
+use test_samples::{certificate_of, puzzle_of, turning_triangle, turning_triangle_list};
 
 // Seven equal squares in a row, which stand there in each order: the tree of all has 13,700 nodes, more than are walked
 // by one thread for being few.
@@ -71,7 +69,7 @@ fn seven_squares_hold<R: Threads + Wait + Sync>(
     alloc: Global,
     halves: &Halves,
 ) -> Result<bool, Fail> {
-    solves_and_holds(rt, alloc, &read_puzzle(alloc, SEVEN_SQUARES)?, halves)
+    solves_and_holds(rt, alloc, &puzzle_of(alloc, SEVEN_SQUARES)?, halves)
 }
 
 #[test]
@@ -171,7 +169,7 @@ fn finds_in_lemmas<R: Threads + Sync>(
     if listed.len() != 1 {
         return Err(Fail::new("another list"));
     }
-    let certificate = read_certificate(alloc, WRONG_CHILDREN)?;
+    let certificate = certificate_of(alloc, WRONG_CHILDREN)?;
     finds_in(
         rt,
         alloc,

@@ -3,13 +3,12 @@
 ghost use Rattle.xcc_form.specs.Options.{cover_of};
 ghost use Rattle.xcc_form.specs.Chosen.{IsUncovered};
 
-use crate::desks::is_line;
 use cert_text::WithinLimits;
-use cert_tree::{Lemma, Node, Pairs};
+use cert_tree::Node;
 use match_puzzle::{Pair, Puzzle};
 use std::alloc::{AllocError, Global};
 use std::test::Fail;
-use test_samples::turning_triangle;
+use test_samples::{is_line, lemma_without_prefix, turning_triangle};
 use xcc_dance::{Cite, Cites, NoCites, OpenSets, Outcome, SearchFault, SearchOver};
 use xcc_form::{OpenOptions, Xcc, compile};
 use xcc_links::{Links, Search};
@@ -79,11 +78,7 @@ fn has_sizes<'a>(alloc: Global, xcc: &'a Xcc<'a>) -> Result<bool, AllocError> {
 
 // Whether this line is that of a lemma with the tree.
 fn is_tree(alloc: Global, tree: Node, line: &[u8]) -> Result<bool, AllocError> {
-    let lemma = Lemma {
-        number: 0,
-        prefix: Pairs::new(Vec::new(alloc)),
-        tree,
-    };
+    let lemma = lemma_without_prefix(alloc, 0, tree);
     if !lemma.within_limits() {
         return Ok(false);
     }

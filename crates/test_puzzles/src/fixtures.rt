@@ -1,11 +1,4 @@
-//! What several tests make.
-
-ghost use Rattle.std.specs.Prelude.{◌≡◌};
-
-use match_puzzle::{Pair, Placement, Puzzle};
-use match_text::read_puzzle;
-use std::alloc::Global;
-use std::test::Fail;
+//! Puzzles that several tests have.
 
 /// Six triangles round a point, with 0 all round; the colours 1 to 6 go round.
 pub const SIX_TRIANGLES: &[u8] =
@@ -19,34 +12,3 @@ pub const MATED_PAIR: &[u8] =
 /// A puzzle on three squares of four, the corner at the top and at the left with its two neighbours.
 pub const CORNER_SHAPE: &[u8] =
     b"match 2\nboard shape 2 2\nrow ##\nrow #.\nturns no\nborder one 0\nmates\ntiles 3\ntile 0120\ntile 0001\ntile 2000\nend\n";
-
-/// An arrangement of the turning triangle.
-pub const LISTED: [Placement; 4] = [
-    Placement { tile: 2, turn: 2 },
-    Placement { tile: 1, turn: 0 },
-    Placement { tile: 0, turn: 0 },
-    Placement { tile: 3, turn: 1 },
-];
-
-pub fn turned(tile: u16, turn: u8) -> Placement
-    ensures { result ≡ record { tile = tile; turn = turn } }
-{
-    Placement { tile, turn }
-}
-
-pub fn pair(cell: u16, tile: u16, turn: u8) -> Pair
-    ensures { result ≡ record { cell = cell; placement = record { tile = tile; turn = turn } } }
-{
-    Pair {
-        cell,
-        placement: turned(tile, turn),
-    }
-}
-
-/// The puzzle of a short text.
-pub fn puzzle_of(alloc: Global, text: &[u8]) -> Result<Puzzle, Fail> {
-    if text.len() > 10_000 {
-        return Err(Fail::from("too long"));
-    }
-    Ok(read_puzzle(alloc, text)?)
-}

@@ -3,11 +3,10 @@
 ghost use Rattle.std.specs.Prelude.{◌≡◌, ◌<◌, length};
 ghost use Rattle.match_board.specs.Board.{cell_count};
 
-use crate::fixtures::{pair, turned};
 use match_puzzle::{Pair, Partial, Placement, Puzzle};
 use std::alloc::{AllocError, Global};
 use std::test::Fail;
-use test_samples::turning_triangle;
+use test_samples::{pair, turned, turning_triangle};
 
 const MIDDLE: Pair = Pair {
     cell: 2,

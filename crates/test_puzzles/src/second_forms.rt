@@ -1,12 +1,12 @@
 //! Puzzles in their second form.
 
-use crate::fixtures::{CORNER_SHAPE, MATED_PAIR, SIX_TRIANGLES, puzzle_of};
+use crate::fixtures::{CORNER_SHAPE, MATED_PAIR, SIX_TRIANGLES};
 use match_board::{Board, BoardFault};
 use match_puzzle::Puzzle;
 use match_text::write_puzzle;
 use std::alloc::Global;
 use std::test::Fail;
-use test_samples::SQUARE_OF_FOUR;
+use test_samples::{SQUARE_OF_FOUR, puzzle_of};
 
 const SQUARE_OF_FOUR_AS_A_SHAPE: &[u8] =
     b"match 2\nboard shape 2 2\nrow ##\nrow ##\nturns no\nborder one 5\nmates\ntiles 4\ntile 5135\ntile 5541\ntile 3255\ntile 4552\nend\n";

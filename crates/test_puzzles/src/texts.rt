@@ -1,12 +1,11 @@
 //! Texts of puzzles and lists that are read, and written again.
 
-use crate::fixtures::{CORNER_SHAPE, MATED_PAIR, SIX_TRIANGLES, puzzle_of};
-use match_text::{list_laws, puzzle_laws, read_list, write_list, write_puzzle};
-use std::alloc::Global;
+use crate::fixtures::{CORNER_SHAPE, MATED_PAIR, SIX_TRIANGLES};
+use match_text::{list_laws, puzzle_laws};
 use std::test::Fail;
 use test_samples::{
     SQUARE_OF_FOUR, SQUARE_OF_FOUR_LIST, TURNING_TRIANGLE, TURNING_TRIANGLE_LIST, TWIN_TILES,
-    TWIN_TILES_LIST,
+    TWIN_TILES_LIST, list_again, puzzle_again,
 };
 
 // A puzzle with a rule of its own for each of the border's four pairs.
@@ -19,21 +18,6 @@ const EVERY_COLOUR_MATED: &[u8] =
 
 // Rows of one to three placements.
 const UNEVEN_LIST: &[u8] = b"list 1\narrangements 3\n10.1 2.0\n3.3 4.2 50.0\n6.1\nend\n";
-
-// What is written of the list of a short text.
-fn list_again(alloc: Global, text: &[u8]) -> Result<Vec<u8>, Fail> {
-    if text.len() > 1000 {
-        return Err(Fail::from("too long"));
-    }
-    let list = read_list(alloc, text)?;
-    Ok(write_list(alloc, &list)?)
-}
-
-// What is written of the puzzle of a text.
-fn puzzle_again(alloc: Global, text: &[u8]) -> Result<Vec<u8>, Fail> {
-    let puzzle = puzzle_of(alloc, text)?;
-    Ok(write_puzzle(alloc, &puzzle)?)
-}
 
 const PUZZLES: [&[u8]; 8] = [
     SQUARE_OF_FOUR,

@@ -1,9 +1,12 @@
-//! Texts are read.
+//! What the texts of tests say.
 
 ghost use Rattle.std.specs.Prelude.{◌<◌, ◌^◌, IfOk, OnOk, length};
+ghost use Rattle.match_limits.specs.declared.TheConstants.{MOST_CELLS};
+ghost use Rattle.cert_tree.specs.Certificate.{piece_of};
+ghost use Rattle.cert_tree.specs.Limits.{IsLemmaWithin};
 
-use cert_text::read_certificate;
-use cert_tree::Certificate;
+use cert_text::{read_certificate, read_lemma};
+use cert_tree::{Certificate, Lemma};
 use match_puzzle::{Arrangement, Puzzle};
 use match_text::{read_list, read_puzzle};
 use std::alloc::Global;
@@ -12,7 +15,7 @@ use std::test::Fail;
 // No test has a text of so many bytes.
 const TOO_LONG: usize = 100_000;
 
-fn short(text: &[u8]) -> Result<(), Fail>
+pub(crate) fn short(text: &[u8]) -> Result<(), Fail>
     ensures { OnOk result (length text.now < 100000) }
 {
     if text.len() >= TOO_LONG {
@@ -43,4 +46,12 @@ pub fn list_of(alloc: Global, text: &[u8]) -> Result<Vec<Arrangement>, Fail>
 pub fn certificate_of(alloc: Global, text: &[u8]) -> Result<Certificate, Fail> {
     short(text)?;
     Ok(read_certificate(alloc, text)?)
+}
+
+/// The lemma of this line.
+pub fn lemma_of(alloc: Global, line: &[u8]) -> Result<Lemma, Fail>
+    ensures { IfOk result (λ lemma. IsLemmaWithin MOST_CELLS (piece_of lemma)) }
+{
+    short(line)?;
+    Ok(read_lemma(alloc, line)?)
 }
