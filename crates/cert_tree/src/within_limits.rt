@@ -13,7 +13,7 @@ use crate::flat_trees::Trees;
 use crate::heads::Head;
 use crate::nodes::Node;
 use crate::packed_lemmas::PackedLemma;
-use match_limits::{LAST_ARRANGEMENT, LAST_LEMMA, LAST_SYMMETRY, LAST_TURN, MOST_CELLS};
+use match_limits::{LAST_ARRANGEMENT, LAST_LEMMA, LAST_SYMMETRY, LAST_TURN, MOST_CELLS, TURNS};
 use match_puzzle::Pair;
 
 // Stops below the last level.
@@ -47,7 +47,7 @@ fn are_children_within(cells: u16, nodes: &[Node], room: u32) -> bool
         (AreChildrenWithin cells room (forest_of nodes.now) → ⊥) }
 {
     let count = nodes.len();
-    let most = 4 * usize::from(cells);
+    let most = TURNS as usize * usize::from(cells);
     count > 0 && (count <= most && are_nodes_within(cells, nodes, room))
 }
 
@@ -114,7 +114,7 @@ fn are_first_within(cells: u16, trees: &mut Trees<'_>, room: u32, children: u32)
     if children == 0 {
         return false;
     }
-    let most = 4 * u32::from(cells);
+    let most = TURNS as u32 * u32::from(cells);
     if children > most {
         return false;
     }

@@ -10,7 +10,8 @@ ghost use Rattle.command_words.specs.Tables.{IsArgOf, IsCommandAs, IsNumbered, I
 use clap::builder::ValueParser;
 use clap::{Arg, ArgAction, Command};
 use match_limits::{
-    LAST_ARRANGEMENT, MOST_COLOURS, MOST_DEPTH, MOST_DRAWN, MOST_FORKS, MOST_FUEL, MOST_WORKERS,
+    LAST_ARRANGEMENT, MOST_COLOURS, MOST_DEPTH, MOST_DRAWN, MOST_FORKS, MOST_FUEL, MOST_SIDES,
+    MOST_WORKERS,
 };
 use std::alloc::{AllocError, Global};
 
@@ -423,7 +424,7 @@ const SIDES: Argument = Argument {
     kind: Kind::Word { is_wanted: true },
     number: Some(Number {
         least: 3,
-        most: 4,
+        most: MOST_SIDES as u64,
         default: None,
     }),
     help: "How many sides a tile has, 3 or 4",

@@ -12,7 +12,7 @@ pub are_first_within-returns-then-children-most-clause-within :
 are_first_within-returns-then-children-most-clause-within t c = λ within.
     let many = count-front c.args.children c.args.trees.now c.requires in
     let over = c.if-children-most.true in
-    omega (arith, within.1, many, over, c.from-most.ensures)
+    omega (arith, within.1, many, over, c.from.ensures)
 
 pub are_first_within-loop-preserved : goal.are_first_within-loop-preserved
 are_first_within-loop-preserved t c =
@@ -36,7 +36,7 @@ pub are_first_within-returns-clause-within : goal.are_first_within-returns-claus
 are_first_within-returns-clause-within t c =
     let many = count-front c.args.children c.args.trees.now c.requires in
     let zero : c.args.children - c.loop.counter ≡ 0 = omega arith in
-    (omega (arith, many, c.if-children-eq0.false), omega (arith, many, c.if-children-most.false, c.from-most.ensures), c.loop.invariant.back (subst (λ k. AreTreesWithin c.args.cells c.args.room (front k c.loop.trees)) (sym zero) tt))
+    (omega (arith, many, c.if-children-eq0.false), omega (arith, many, c.if-children-most.false, c.from.ensures), c.loop.invariant.back (subst (λ k. AreTreesWithin c.args.cells c.args.room (front k c.loop.trees)) (sym zero) tt))
 
 pub is_first_within-returns-then-cell-cells-clause-within :
     goal.is_first_within-returns-then-cell-cells-clause-within

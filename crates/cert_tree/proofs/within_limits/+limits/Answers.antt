@@ -11,11 +11,11 @@ use Rattle.cert_tree.proofs.within_limits.+limits.Goals as goal
 
 pub are_children_within-returns-then-count-most :
     goal.are_children_within-returns-then-count-most
-are_children_within-returns-then-count-most t c = children_by_nodes c.args.cells c.args.room c.args.nodes.now c.are_nodes_within.result c.if-count-gt0.true (omega (arith, c.if-count-most.true, c.from-most.ensures)) c.are_nodes_within.ensures
+are_children_within-returns-then-count-most t c = children_by_nodes c.args.cells c.args.room c.args.nodes.now c.are_nodes_within.result c.if-count-gt0.true (omega (arith, c.if-count-most.true, c.from.ensures)) c.are_nodes_within.ensures
 
 pub are_children_within-returns-else-count-most :
     goal.are_children_within-returns-else-count-most
-are_children_within-returns-else-count-most t c = rw (lt-leb (length c.args.nodes.now) (4 * c.from-most.result) c.if-count-most.false) (too_many c.args.cells c.args.room c.args.nodes.now (omega (arith, c.if-count-most.false, c.from-most.ensures)))
+are_children_within-returns-else-count-most t c = rw (lt-leb (length c.args.nodes.now) (4 * c.from.result) c.if-count-most.false) (too_many c.args.cells c.args.room c.args.nodes.now (omega (arith, c.if-count-most.false, c.from.ensures)))
 
 pub are_children_within-returns-else-count-gt0 :
     goal.are_children_within-returns-else-count-gt0
