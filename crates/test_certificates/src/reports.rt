@@ -4,7 +4,7 @@ use match_puzzle::Puzzle;
 use match_report::{Taken, write_board, write_tally};
 use std::alloc::{AllocError, Global};
 use std::test::Fail;
-use test_samples::{TURNING_TRIANGLE_PLACED, turning_triangle};
+use test_samples::{TURNING_TRIANGLE_ARRANGEMENT, turning_triangle};
 
 // Each worker took these.
 fn tally(alloc: Global, shares: &[&[u32]]) -> Result<Vec<Taken>, AllocError> {
@@ -40,10 +40,13 @@ const BOARD: &[u8] = b"0 2.2 020\n1 1.0 100\n2 0.0 123\n3 3.1 003\n";
 
 // Whether it is printed so.
 fn is_board_of(alloc: Global, puzzle: &Puzzle) -> Result<bool, Fail> {
-    if puzzle.arrangement_fault(&TURNING_TRIANGLE_PLACED).is_some() {
+    if puzzle
+        .arrangement_fault(&TURNING_TRIANGLE_ARRANGEMENT)
+        .is_some()
+    {
         return Ok(false);
     }
-    let written = write_board(alloc, puzzle, &TURNING_TRIANGLE_PLACED)?;
+    let written = write_board(alloc, puzzle, &TURNING_TRIANGLE_ARRANGEMENT)?;
     Ok(written.as_slice() == BOARD)
 }
 

@@ -5,7 +5,8 @@ use cert_tree::head_laws;
 use std::alloc::{AllocError, Global};
 use std::test::Fail;
 use test_samples::{
-    TURNING_TRIANGLE_CERTIFICATE, TWIN_TILES_CERTIFICATE, certificate_again, is_line, lemma_of,
+    TURNING_TRIANGLE_CERTIFICATE, TWIN_TILES_CERTIFICATE, certificate_again, is_lemma_line,
+    lemma_of,
 };
 
 // Each kind of node, and a symmetry with a mirror and colours that are letters.
@@ -76,7 +77,7 @@ const LEMMA: &[u8] = b"lemma 1 prefix tree c 0 2 s 0 i 0 0\n";
 // Whether a lemma is written as it was read.
 fn is_lemma_written(alloc: Global) -> Result<bool, Fail> {
     let lemma = lemma_of(alloc, LEMMA)?;
-    Ok(is_line(alloc, &lemma, LEMMA)?)
+    Ok(is_lemma_line(alloc, &lemma, LEMMA)?)
 }
 
 #[test]

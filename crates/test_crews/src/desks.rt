@@ -15,7 +15,7 @@ use std::thread;
 use std::thread::Threads;
 use test_samples::{
     TWIN_TILES_AFTER_FIVE, TWIN_TILES_CERTIFICATE, TWIN_TILES_FROM_THE_ROOT, exchange_of_twins,
-    is_line, lemma_of, lemma_without_prefix,
+    is_lemma_line, lemma_of, lemma_without_prefix,
 };
 
 // Four lemmas, which cite each other, a lemma at their count and one past it.
@@ -47,7 +47,7 @@ fn post_at_last<R: Wait>(
         Ok(receipt) => return Ok(receipt),
         Err(same) => same,
     };
-    if !is_line(alloc, &same, text)? {
+    if !is_lemma_line(alloc, &same, text)? {
         return Err(Fail::new("another lemma comes back"));
     }
     match desk.post(rt, same) {
@@ -68,7 +68,7 @@ fn post_text<R: Wait>(rt: &R, alloc: Global, desk: &Desk, text: &[u8]) -> Result
     ensures { IfOk result (IsOf desk.now) }
 {
     let receipt = post_at_last(rt, alloc, desk, copied(alloc, text)?, text)?;
-    if !is_line(alloc, desk.read(&receipt), text)? {
+    if !is_lemma_line(alloc, desk.read(&receipt), text)? {
         return Err(Fail::new("another lemma is read back"));
     }
     Ok(receipt)
@@ -213,7 +213,7 @@ fn read_by_turns(alloc: Global, desk: &Desk, receipts: &[Receipt]) -> Result<boo
     requires { All (IsOf desk.now) receipts.now }
 {
     for (place, receipt) in receipts.iter().enumerate() {
-        if !is_line(alloc, desk.read(receipt), FOUR_LEMMAS[place % 4])? {
+        if !is_lemma_line(alloc, desk.read(receipt), FOUR_LEMMAS[place % 4])? {
             return Ok(false);
         }
     }

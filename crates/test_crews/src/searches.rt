@@ -8,7 +8,7 @@ use cert_tree::Node;
 use match_puzzle::{Pair, Puzzle};
 use std::alloc::{AllocError, Global};
 use std::test::Fail;
-use test_samples::{is_line, lemma_without_prefix, turning_triangle};
+use test_samples::{is_lemma_line, lemma_without_prefix, turning_triangle};
 use xcc_dance::{Cite, Cites, NoCites, OpenSets, Outcome, SearchFault, SearchOver};
 use xcc_form::{OpenOptions, Xcc, compile};
 use xcc_links::{Links, Search};
@@ -82,7 +82,7 @@ fn is_tree(alloc: Global, tree: Node, line: &[u8]) -> Result<bool, AllocError> {
     if !lemma.within_limits() {
         return Ok(false);
     }
-    is_line(alloc, &lemma, line)
+    is_lemma_line(alloc, &lemma, line)
 }
 
 // Whether a run found so many, and its tree is this line of a lemma.

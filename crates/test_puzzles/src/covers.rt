@@ -4,7 +4,9 @@ use crate::fixtures::MATED_PAIR;
 use match_puzzle::{Placement, Puzzle};
 use std::alloc::Global;
 use std::test::Fail;
-use test_samples::{TURNING_TRIANGLE, TURNING_TRIANGLE_PLACED, pair, puzzle_of, turning_triangle};
+use test_samples::{
+    TURNING_TRIANGLE, TURNING_TRIANGLE_ARRANGEMENT, pair, puzzle_of, turning_triangle,
+};
 use xcc_form::{Edge, FormFault, Xcc, compile};
 
 // The arrangement of the pair of mates.
@@ -62,7 +64,7 @@ fn is_covered(
 // Whether the options of the triangle's cover, in another order, give the arrangement.
 fn gives_the_arrangement(alloc: Global, xcc: &Xcc<'_>) -> Result<bool, Fail> {
     let found = xcc.arrangement_of(alloc, &[20, 6, 1, 3])?;
-    Ok(found.placements() == TURNING_TRIANGLE_PLACED.as_slice())
+    Ok(found.placements() == TURNING_TRIANGLE_ARRANGEMENT.as_slice())
 }
 
 // Whether options that are no solution give none.
@@ -111,7 +113,7 @@ fn solutions_of_puzzles(rt: HostRuntime) -> Result<(), Fail> {
             alloc,
             TURNING_TRIANGLE,
             [8, 3, 21, 87],
-            &TURNING_TRIANGLE_PLACED,
+            &TURNING_TRIANGLE_ARRANGEMENT,
             &[1, 3, 6, 20]
         )?
     );

@@ -11,8 +11,9 @@ pub use places::{lemma_without_prefix, pair, turned};
 pub use readings::{certificate_of, lemma_of, list_of, puzzle_of};
 pub use samples::{
     ALL_OF_TURNING_TRIANGLE, SQUARE_OF_FOUR, SQUARE_OF_FOUR_CERTIFICATE, SQUARE_OF_FOUR_LIST,
-    TURNING_TRIANGLE, TURNING_TRIANGLE_CERTIFICATE, TURNING_TRIANGLE_LIST, TURNING_TRIANGLE_PLACED,
-    TWIN_TILES, TWIN_TILES_AFTER_FIVE, TWIN_TILES_CERTIFICATE, TWIN_TILES_FROM_THE_ROOT,
-    TWIN_TILES_LIST, exchange_of_twins, images_of, turning_triangle, turning_triangle_list,
+    TURNING_TRIANGLE, TURNING_TRIANGLE_ARRANGEMENT, TURNING_TRIANGLE_CERTIFICATE,
+    TURNING_TRIANGLE_LIST, TWIN_TILES, TWIN_TILES_AFTER_FIVE, TWIN_TILES_CERTIFICATE,
+    TWIN_TILES_FROM_THE_ROOT, TWIN_TILES_LIST, exchange_of_twins, images_of, turning_triangle,
+    turning_triangle_list,
 };
-pub use writings::{certificate_again, is_line, list_again, puzzle_again};
+pub use writings::{certificate_again, is_lemma_line, list_again, puzzle_again};

@@ -1,4 +1,4 @@
-//! What the texts of tests say.
+//! What the texts of tests say. Each call fails where its text has a fault or 100,000 bytes, and for want of memory.
 
 ghost use Rattle.std.specs.Prelude.{◌<◌, ◌^◌, IfOk, OnOk, length};
 ghost use Rattle.match_limits.specs.declared.TheConstants.{MOST_CELLS};

@@ -52,8 +52,8 @@ pub const ALL_OF_TURNING_TRIANGLE: &[u8] =
 pub const TURNING_TRIANGLE_CERTIFICATE: &[u8] =
     b"certificate 1\nsymmetries 1\nsymmetry 1 + cells 3 0 2 1 colours 0 1 2 3 tiles 0 1 2 3\nlemmas 3\nlemma 0 prefix 2:0.0 tree c 0 1 c 1 1 c 3 1 f 0\nlemma 1 prefix 2:0.2 tree i 0 0\nlemma 2 prefix tree t 0 3 s 0 i 1 0 s 1\nend\n";
 
-/// What [`TURNING_TRIANGLE_LIST`] lists.
-pub const TURNING_TRIANGLE_PLACED: [Placement; 4] = [
+/// The arrangement that [`TURNING_TRIANGLE_LIST`] lists.
+pub const TURNING_TRIANGLE_ARRANGEMENT: [Placement; 4] = [
     Placement { tile: 2, turn: 2 },
     Placement { tile: 1, turn: 0 },
     Placement { tile: 0, turn: 0 },

@@ -1,4 +1,4 @@
-//! How what tests read is written again.
+//! How what tests read is written again. Each call fails where that which reads its text does, and for want of memory.
 
 ghost use Rattle.match_limits.specs.declared.TheConstants.{MOST_CELLS};
 ghost use Rattle.cert_tree.specs.Certificate.{piece_of};
@@ -34,7 +34,7 @@ pub fn certificate_again(alloc: Global, text: &[u8]) -> Result<Vec<u8>, Fail> {
 }
 
 /// Whether this line is written of the lemma.
-pub fn is_line(alloc: Global, lemma: &Lemma, line: &[u8]) -> Result<bool, AllocError>
+pub fn is_lemma_line(alloc: Global, lemma: &Lemma, line: &[u8]) -> Result<bool, AllocError>
     requires { IsLemmaWithin MOST_CELLS (piece_of lemma.now) }
 {
     Ok(write_lemma(alloc, lemma)?.as_slice() == line)
