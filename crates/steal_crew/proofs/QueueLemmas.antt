@@ -1,5 +1,5 @@
 -- What one step does to the queues of a crew.
-use Rattle.std.proofs.Common.{◌≡◌, ◌≢◌, ℕ, zero, suc, ◌+◌, ◌-◌, ◌<◌, ◌≤◌, ◌%◌, Bool, true, false, cond, eqb, ◌==◌, List, [], ◌∷◌, ◌++◌, length, set, get_or, get_or-set_same, get_or-set_other, sym, ◌∙◌, ap, subst, refl, arith, length-set, length-append, add-one, ne_eqb}
+use Rattle.std.proofs.Common.{◌≡◌, ◌≢◌, ℕ, zero, suc, ◌+◌, ◌-◌, ◌<◌, ◌≤◌, ◌%◌, Bool, true, false, cond, eqb, ◌==◌, List, [], ◌∷◌, ◌++◌, length, set, get_or, get_or-set_same, get_or-set_other, sym, ◌∙◌, ap, subst, refl, arith, length-set, length-append, add-one, ne_eqb, All, Result, Ok, Err, Vec, Global, vec_len}
 use Rattle.std.proofs.lemmas.Bool.Decides.{nat_tests}
 use Rattle.std.proofs.lemmas.List.{get_or_append_left}
 use mathlib.Core.Logic.{dite}
@@ -9,7 +9,13 @@ use Rattle.crossbeam_deque.specs.Handles.{view, IsPassOf, worker_view, worker_de
 use Rattle.steal_crew.specs.declared.queues.View.{View}
 use Rattle.crew_machine.specs.Counts.{total, times, once_below}
 use Rattle.steal_crew.specs.QueueRule.{view_with}
-use Rattle.steal_crew.specs.Queues.{Handle, Owner, Place, dealt_to, once_dealt, IsPlace, Places, IsOwner, Owners, IsSpent, taken_by}
+use Rattle.steal_crew.specs.declared.queues.Queues.{Queues}
+use Rattle.steal_crew.specs.Queues.{Handle, Owner, Place, dealt_to, once_dealt, IsPlace, Places, IsOwner, Owners, AreQueues, AreDealt, AreKnown, AreSpent, IsOfShares, IsShare, IsSpent, taken_by}
+use Rattle.steal_crew.specs.declared.works.Share.{Share}
+use Rattle.steal_crew.specs.Results.{AreDone}
+use Rattle.std.proofs.lemmas.List.Elements.{All-contains}
+use Rattle.std.specs.Result.{IfOk}
+use Rattle.std.specs.declared.alloc.AllocError.{AllocError}
 use Rattle.crew_machine.proofs.CountLemmas.{total-append, total_set_at, times-snoc, once_below-next, once_below-above, same_one}
 use Rattle.steal_crew.proofs.QueueRuleLemmas.{all_snoc, all_map, append_nil}
 use Rattle.steal_crew.proofs.BesideLemmas.{default, snoc_last, beside_at, beside_set, beside_more, beside_both, beside_less, beside_last}
@@ -276,3 +282,50 @@ histories_more w n q ps ps' p h len is spent j d lt = subst (λ (z : List Place)
 
 pub left_more : (w n q : ℕ) (os : List Owner) (o' : Owner) → ((j : ℕ) (o : Owner) → q ≤ j → j < w → IsSpent w n j (worker_view (get_or os j o))) → (j : ℕ) (o : Owner) → q + 1 ≤ j → j < w → IsSpent w n j (worker_view (get_or (set os q o') j o))
 left_more w n q os o' h j o le lt = subst (λ (z : Owner). IsSpent w n j (worker_view z)) (sym (get_or-set_other os q j o' o (λ (e : j ≡ q). omega arith))) (h j o (omega arith) lt)
+
+-- the queues are counted otherwise
+pub owners_counted : (k : ℕ → ℕ) (w w' n n' : ℕ) (ts : List Handle) (os : List Owner) → w ≡ w' → n ≡ n' → Owners k w n ts os → Owners k w' n' ts os
+owners_counted k w w' n n' ts os e f h = subst (λ (i : ℕ). Owners k i n' ts os) e (subst (λ (i : ℕ). Owners k w i ts os) f h)
+
+-- the queues as they say of themselves
+pub stand_here : (handles : Vec Handle Global) (n out : ℕ) (q : Queues) → AreDealt handles n out q → AreQueues q
+stand_here handles n out q h = subst (λ (ts : Vec Handle Global). Owners (λ _. q.out) (vec_len ts) q.count ts.items q.owners.items) (sym h.same)
+    (owners_out (λ _. out) (λ _. q.out) (vec_len handles) q.count handles.items q.owners.items (λ _ _. sym h.out) (owners_counted (λ _. out) (vec_len handles) (vec_len handles) n q.count handles.items q.owners.items refl (sym h.count) h.owners))
+
+-- what stands as they said of themselves
+pub stand_from : (handles : Vec Handle Global) (n out out' : ℕ) (q q' : Queues) → AreDealt handles n out q → AreDealt q.handles q.count out' q' → AreDealt handles n out' q'
+stand_from handles n out out' q q' h h' = subst (λ (ts : Vec Handle Global). AreDealt ts n out' q') h.same (subst (λ (m : ℕ). AreDealt q.handles m out' q') h.count h')
+
+-- places at the queues as they say of themselves
+pub places_from : (handles : Vec Handle Global) (n out : ℕ) (q : Queues) (ps : List Place) → AreDealt handles n out q → Places (vec_len q.handles) q.count q.handles.items ps → Places (vec_len handles) n handles.items ps
+places_from handles n out q ps h places = subst (λ (ts : Vec Handle Global). Places (vec_len ts) n ts.items ps) h.same (subst (λ (m : ℕ). Places (vec_len q.handles) m q.handles.items ps) h.count places)
+
+pub places_here : (handles : Vec Handle Global) (n out : ℕ) (q : Queues) (ps : List Place) → AreDealt handles n out q → Places (vec_len handles) n handles.items ps → Places (vec_len q.handles) q.count q.handles.items ps
+places_here handles n out q ps h places = subst (λ (ts : Vec Handle Global). Places (vec_len ts) q.count ts.items ps) (sym h.same) (subst (λ (m : ℕ). Places (vec_len handles) m handles.items ps) (sym h.count) places)
+
+pub dealt_self : (handles : Vec Handle Global) (n out out' : ℕ) (q : Queues) → AreDealt handles n out q → out ≡ out' → AreDealt q.handles q.count out' q
+dealt_self handles n out out' q h e = record { same = refl; count = refl; out = h.out ∙ e; owners = owners_out (λ _. q.out) (λ _. out') _ _ _ _ (λ _ _. h.out ∙ e) (stand_here handles n out q h) }
+
+pub known_self : (handles : Vec Handle Global) (n : ℕ) (q : Queues) → AreKnown handles n q → AreKnown q.handles q.count q
+known_self handles n q h = record {
+  same = refl;
+  count = refl;
+  len = h.len ∙ ap (λ (ts : Vec Handle Global). vec_len ts) (sym h.same);
+  spent = subst (λ (ts : Vec Handle Global). AreSpent (vec_len ts) q.count q.owners.items) (sym h.same) (subst (λ (m : ℕ). AreSpent (vec_len handles) m q.owners.items) (sym h.count) h.spent);
+}
+
+-- ---- what is brought
+
+ok_with : {X : Type 0} (P Q : X → Type 0) (r : Result X AllocError) → ((x : X) → P x → Q x) → IfOk r P → IfOk r Q
+ok_with P Q (Ok x) f h = f x h
+ok_with P Q (Err e) f h = tt
+
+-- the shares have places
+pub shares_placed : {X : Type 0} (w n : ℕ) (ts : List Handle) (gives : ℕ → X → Type 0) (shares : List (Result (Share X) AllocError)) → All (λ t. IfOk t (IsShare w n ts gives)) shares → All (λ t. IfOk t (λ (share : Share X). Places w n ts share.places.items)) shares
+shares_placed w n ts gives shares all k d lt = ok_with _ _ (get_or shares k d) (λ share h. h.places) (all k d lt)
+
+-- what was done belongs to its number
+pub brought_done : {X : Type 0} (w n : ℕ) (ts : List Handle) (gives : ℕ → X → Type 0) (shares : List (Result (Share X) AllocError)) (brought : List (Vec (ℕ × X) Global)) → All (λ t. IfOk t (IsShare w n ts gives)) shares → All (IsOfShares shares) brought → All (λ (done : Vec (ℕ × X) Global). AreDone gives done.items) brought
+brought_done {X} w n ts gives shares brought all of k d lt =
+    let here = of k d lt in
+    subst (λ (done : Vec (ℕ × X) Global). AreDone gives done.items) here.2 (All-contains (λ t. IfOk t (IsShare w n ts gives)) shares (Ok here.0) all here.1).done

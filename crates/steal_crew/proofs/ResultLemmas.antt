@@ -147,3 +147,11 @@ none_settled x t f = let z = once_below-above x 0 (omega arith) in omega arith
 
 pub belongs_none : {X : Type 0} (gives : ℕ → X → Type 0) (rs : List X) → rs ≡ [] → Belongs gives rs
 belongs_none gives rs is n d low = let l = ap length is in absurd (omega arith)
+
+at_none : {X : Type 0} (P : X → Type 0) (slot : Option X) → one_if_some slot ≡ 0 → IfSome slot P
+at_none P None e = tt
+at_none P (Some r) e = absurd (omega (arith, e))
+
+-- where no result is entered, each that is entered belongs to its number
+pub none_is_entered : {X : Type 0} (gives : ℕ → X → Type 0) (slots : List (Option X)) → ((x : ℕ) → filled x slots ≡ 0) → Entered gives slots
+none_is_entered gives slots none n d lt = at_none (gives n) (get_or slots n d) (ap one_if_some (default slots n d None lt) ∙ none n)

@@ -29,7 +29,7 @@ pub record Drawn (limit seats n : ℕ) (views : List SeatView) : Type 0 where
   pub word : n ≤ limit + total (λ v. v.marks) views
   pub fair : (id : ℕ) (v : SeatView) → get_elem? views id ≡ some v → IsFair limit seats n v
 
--- the same of a table with one word, by the limit and the count of seats
+-- the rule of the source's table, which has one word, by the limit and the count of seats
 pub record Holds (key : ℕ × ℕ) (s : State (Unit {0}) SeatView) : Type 0 where
   pub small : (key.0 < 2 ^ 32) × (key.1 ≤ MOST_WORKERS + 1)
   pub one_word : length s.words ≡ 1

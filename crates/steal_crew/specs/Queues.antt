@@ -1,11 +1,13 @@
 -- A crew's queues: one for each worker, from which all workers take.
 use Rattle.std.specs.Prelude.{◌≡◌, ℕ, zero, suc, ◌+◌, ◌<◌, ◌≤◌, ◌%◌, ◌==◌, cond, List, [], ◌∷◌, ◌++◌, length}
-use Rattle.std.specs.Prelude.{slice_index_or}
+use Rattle.std.specs.Prelude.{Contains, Ok, Result, Vec, vec_len, slice_index_or}
+use Rattle.std.specs.declared.alloc.AllocError.{AllocError}
 use Rattle.std.specs.declared.alloc.Global.{Global}
 use Rattle.crossbeam_deque.specs.Handles.{Pass, view, IsPassOf, worker_view, worker_deque, worker_flavor}
 use Rattle.crossbeam_deque.specs.Handles.{stealer_deque, stealer_flavor}
 use Rattle.crossbeam_deque.specs.declared.handles.Stealer.{Stealer}
 use Rattle.crossbeam_deque.specs.declared.handles.Worker.{Worker}
+use Rattle.steal_crew.specs.declared.queues.Queues.{Queues}
 use Rattle.steal_crew.specs.declared.queues.View.{View}
 use Rattle.steal_crew.specs.declared.queues.InOrder.{InOrder}
 use Rattle.steal_crew.specs.declared.works.Station.{Station}
@@ -86,6 +88,21 @@ pub record Owners (out : ℕ → ℕ) (queues n : ℕ) (list : List Handle) (own
   pub each : (q : ℕ) (h : Handle) (o : Owner) → q < queues
       → IsOwner (out q) queues n q (slice_index_or list q h) (slice_index_or owners q o)
 
+-- A crew's queues are as they say: the numbers below `count` were dealt to them, and `out` parts of each are out.
+abbrev pub AreQueues : Queues → Type 0
+AreQueues q = Owners (λ _. q.out) (vec_len q.handles) q.count q.handles.items q.owners.items
+
+-- The queues have these handles, the numbers below n were dealt to them, and so many parts of each are out.
+pub record AreDealt (handles : Vec Handle Global) (n away : ℕ) (q : Queues) : Type 0 where
+  pub same : q.handles ≡ handles
+  pub count : q.count ≡ n
+  pub out : q.out ≡ away
+  pub owners : Owners (λ _. away) (vec_len handles) n handles.items q.owners.items
+
+-- what one of the shares has done
+abbrev pub IsOfShares : {X : Type 0} → List (Result (Share X) AllocError) → (done : Vec (ℕ × X) Global) → Type 0
+IsOfShares {X} shares done = (share : Share X) × Contains shares (Ok share) × (share.done ≡ done)
+
 -- All is known of queue q: the numbers that were dealt to it were taken from it, each once.
 pub record IsSpent (queues count q : ℕ) (known : View) : Type 0 where
   pub whole : known.parts ≡ part_count
@@ -93,12 +110,19 @@ pub record IsSpent (queues count q : ℕ) (known : View) : Type 0 where
   pub taken : (x : ℕ) → times x known.taken ≡ times x known.dealt
   pub once : (x : ℕ) → times x known.taken ≡ once_dealt queues q count x
 
--- the same of each queue, by what its owner knows
+-- All is known of each queue by its owner.
 abbrev pub AreSpent : (queues count : ℕ) → List Owner → Type 0
 AreSpent queues count owners =
     (q : ℕ) (o : Owner) → q < queues → IsSpent queues count q (worker_view (slice_index_or owners q o))
 
--- the same by a pass that knows all that the owner did
+-- The queues have these handles, the numbers below n were dealt to them, and all is known of each.
+pub record AreKnown (handles : Vec Handle Global) (n : ℕ) (q : Queues) : Type 0 where
+  pub same : q.handles ≡ handles
+  pub count : q.count ≡ n
+  pub len : vec_len q.owners ≡ vec_len handles
+  pub spent : AreSpent (vec_len handles) n q.owners.items
+
+-- All is known of each queue by a pass, which knows what the owner did.
 abbrev pub ShowSpent : (queues count : ℕ) → List Place → Type 0
 ShowSpent queues count passes =
     (q : ℕ) (p : Place) → q < queues → IsSpent queues count q (view (slice_index_or passes q p))

@@ -7,9 +7,7 @@ ghost use Rattle.crew_machine.specs.Counts.{total, times, once_below};
 ghost use Rattle.steal_crew.specs.Results.{Entered, Belongs, AreDone, filled};
 ghost use Rattle.steal_crew.specs.Queues.{IsStation, IsShare, ShowSpent};
 
-use crate::dealing::{deal, open, stations};
-use crate::gathering::{collect, drain_all, histories};
-use crate::queues::{Handle, View};
+use crate::queues::{Queues, View};
 use crate::results::{enter_all, settle_rest};
 use crate::taking::work_at;
 use crate::tickets::AllDrawn;
@@ -86,19 +84,21 @@ fn work_all<W: Work + Sync, R: Threads + Sync>(
     rt: &R,
     alloc: Global,
     work: &W,
-    handles: &Vec<Handle>,
-    places: Vec<Station>,
-    count: u32,
+    queues: &Queues,
+    stations: Vec<Station>,
 ) -> Result<Vec<Result<Share<W::R>, AllocError>>, AllocError>
-    requires each { All (IsStation (vec_len handles.now) count handles.now.items) places.items }
-    requires accepts { (n : ℕ) → n < count → W.accepts work.now n }
-    ensures shares { IfOk result (λ v.
-        All (λ t. IfOk t (IsShare (vec_len handles.now) count handles.now.items (W.gives work.now))) v.items) }
-    ensures len { IfOk result (λ v. vec_len v ≡ vec_len places) }
+    requires each { let q = queues.now in
+        All (IsStation (vec_len q.handles) q.count q.handles.items) stations.items }
+    requires accepts { (n : ℕ) → n < queues.now.count → W.accepts work.now n }
+    ensures shares { let q = queues.now in IfOk result (λ v.
+        All (λ t. IfOk t (IsShare (vec_len q.handles) q.count q.handles.items (W.gives work.now))) v.items) }
+    ensures len { IfOk result (λ v. vec_len v ≡ vec_len stations) }
 {
+    let handles = &queues.handles;
+    let count = queues.count;
     thread::map_vec(
         rt,
-        places,
+        stations,
         &|station: Station| -> Result<Share<W::R>, AllocError>
             requires { IsStation (vec_len handles.now) count handles.now.items station
                 × ((n : ℕ) → n < count → W.accepts work.now n) }
@@ -108,13 +108,9 @@ fn work_all<W: Work + Sync, R: Threads + Sync>(
     )
 }
 
-// A place for each number's result.
-fn empty_slots<W: Work>(
-    _work: &W,
-    alloc: Global,
-    count: u32,
-) -> Result<Vec<Option<W::R>>, AllocError>
-    ensures some { IfOk result (λ v. (vec_len v ≡ count) × Entered (W.gives _work.now) v.items) }
+// A place for the result of each number below the count.
+fn empty_slots<X: Drop>(alloc: Global, count: u32) -> Result<Vec<Option<X>>, AllocError>
+    ensures len { IfOk result (λ v. vec_len v ≡ count) }
     ensures none { IfOk result (λ v. (x : ℕ) → filled x v.items ≡ 0) }
 {
     let mut slots = Vec::with_capacity(alloc, count as usize)?;
@@ -136,21 +132,21 @@ fn work_queues<W: Work + Sync, R: Threads + Sync>(
     alloc: Global,
     work: &W,
     count: u32,
-    queues: usize,
+    workers: usize,
 ) -> Result<Worked<W::R>, AllocError>
-    requires queues { (1 ≤ queues) × (queues ≤ MOST_WORKERS) }
+    requires workers { (1 ≤ workers) × (workers ≤ MOST_WORKERS) }
     requires accepts { (n : ℕ) → n < count → W.accepts work.now n }
-    ensures queues { IfOk result (λ w. (vec_len w.queues ≡ queues) × ShowSpent queues count w.queues.items) }
-    ensures brought { IfOk result (λ w. (vec_len w.brought ≡ queues)
+    ensures queues { IfOk result (λ w. (vec_len w.queues ≡ workers) × ShowSpent workers count w.queues.items) }
+    ensures brought { IfOk result (λ w. (vec_len w.brought ≡ workers)
         × All (λ done. AreDone (W.gives work.now) done.items) w.brought.items) }
 {
-    let (mut owners, handles) = open(alloc, queues)?;
-    deal(&mut owners, &handles, queues, count)?;
-    let places = stations(alloc, &mut owners, &handles, queues, count)?;
-    let shares = work_all(rt, alloc, work, &handles, places, count)?;
-    let brought = collect(work, alloc, &mut owners, &handles, shares, queues, count)?;
-    drain_all(&mut owners, &handles, queues, count);
-    let histories = histories(alloc, &mut owners, queues, count)?;
+    let mut queues = Queues::open(alloc, workers)?;
+    queues.deal(count)?;
+    let stations = queues.stations(alloc)?;
+    let shares = work_all(rt, alloc, work, &queues, stations)?;
+    let brought = queues.collect(alloc, shares)?;
+    queues.drain_all();
+    let histories = queues.histories(alloc)?;
     Ok(Worked {
         queues: histories,
         brought,
@@ -180,8 +176,8 @@ pub fn run_crew<W: Work + Sync, R: Threads + Sync>(
 {
     let worked = work_queues(rt, alloc, work, count, usize::from(workers))?;
     let Worked { queues, brought } = worked;
-    let mut slots = empty_slots(work, alloc, count)?;
-    let mut tallies = enter_all(work, alloc, &mut slots, brought)?;
+    let mut slots = empty_slots(alloc, count)?;
+    let mut tallies = enter_all::<W>(alloc, &mut slots, brought)?;
     let results = settle_rest(work, alloc, slots, &mut tallies[0])?;
     Ok(Crew {
         results,

@@ -9,7 +9,7 @@ use crate::works::Work;
 use std::alloc::{AllocError, Global};
 use std::thread::Threads;
 
-// The same work, counted from the other end.
+// Work whose numbers are counted from the other end.
 #[derive(Drop)]
 struct FromLast<'a, W: Work> {
     work: &'a W,

@@ -5,6 +5,16 @@ use crossbeam_deque::{Stealer, Worker};
 use std::alloc::Global;
 use std::collections::LinkedList;
 
+// A crew's queues, one for each worker, with a handle of each for the others. The numbers below `count` were dealt to
+// them, and `out` parts of each are out.
+#[derive(Drop)]
+pub struct Queues {
+    pub(crate) owners: Vec<Owner>,
+    pub(crate) handles: Vec<Handle>,
+    pub(crate) count: u32,
+    pub(crate) out: usize,
+}
+
 // What a pass knows of its queue. No value of it is made.
 pub struct View {
     pub parts: u64,

@@ -9,14 +9,12 @@ use std::alloc::{AllocError, Global};
 
 // Enters the results of one worker, and answers the numbers that were entered. A second result of a number goes.
 pub fn enter_first<W: Work>(
-    _work: &W,
     alloc: Global,
     slots: &mut Vec<Option<W::R>>,
     mut done: Vec<(u32, W::R)>,
 ) -> Result<Vec<u32>, AllocError>
-    requires done { AreDone (W.gives _work.now) done.items }
-    requires slots { Entered (W.gives _work.now) slots.old.items }
-    ensures slots { OnOk result (Entered (W.gives _work.now) slots.new.items) }
+    ensures slots { (work : W) → AreDone (W.gives work) done.items → Entered (W.gives work) slots.old.items
+        → OnOk result (Entered (W.gives work) slots.new.items) }
     ensures len { OnOk result (vec_len slots.new ≡ vec_len slots.old) }
     ensures filled { OnOk result ((x : ℕ) → x < vec_len slots.old
         → 0 < filled x slots.old.items + times x (done_numbers done.items) → 0 < filled x slots.new.items) }
@@ -38,14 +36,12 @@ pub fn enter_first<W: Work>(
 
 // Enters what each worker brought, and answers the numbers of each that were entered.
 pub fn enter_all<W: Work>(
-    work: &W,
     alloc: Global,
     slots: &mut Vec<Option<W::R>>,
     brought: Vec<Vec<(u32, W::R)>>,
 ) -> Result<Vec<Vec<u32>>, AllocError>
-    requires brought { All (λ done. AreDone (W.gives work.now) done.items) brought.items }
-    requires slots { Entered (W.gives work.now) slots.old.items }
-    ensures slots { OnOk result (Entered (W.gives work.now) slots.new.items) }
+    ensures slots { (work : W) → All (λ done. AreDone (W.gives work) done.items) brought.items
+        → Entered (W.gives work) slots.old.items → OnOk result (Entered (W.gives work) slots.new.items) }
     ensures slots_len { OnOk result (vec_len slots.new ≡ vec_len slots.old) }
     ensures tallies { IfOk result (λ v. (x : ℕ)
         → total (λ t. times x t.items) v.items + filled x slots.old.items ≡ filled x slots.new.items) }
@@ -53,7 +49,7 @@ pub fn enter_all<W: Work>(
 {
     let mut tallies = Vec::new(alloc);
     for done in brought {
-        let tally = enter_first(work, alloc, slots, done)?;
+        let tally = enter_first::<W>(alloc, slots, done)?;
         tallies.push(tally)?;
     }
     Ok(tallies)

@@ -5,8 +5,8 @@ use Rattle.steal_crew.proofs.results.enter_all.Given as goal
 
 abbrev pub invariant-loop-done : goal.invariant-loop-done
 invariant-loop-done g l = record {
-  rest : All (λ done. AreDone (g.W.Work.gives l.work) done.items) l.done-iterator.rest.items;
-  slots : Entered (g.W.Work.gives l.work) l.slots.items;
+  belong : (work : _) → All (λ done. AreDone (g.W.Work.gives work) done.items) l.fn.brought.items → Entered (g.W.Work.gives work) l.initial.slots.items
+      → All (λ done. AreDone (g.W.Work.gives work) done.items) l.done-iterator.rest.items × Entered (g.W.Work.gives work) l.slots.items;
   slots_len : vec_len l.slots ≡ vec_len l.initial.slots;
   tallies : (x : ℕ) → total (λ t. times x t.items) l.tallies.items + filled x l.initial.slots.items ≡ filled x l.slots.items;
   len : vec_len l.tallies + length l.done-iterator.rest.items ≡ length l.fn.brought.items;
