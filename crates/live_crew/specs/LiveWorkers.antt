@@ -47,13 +47,17 @@ pub record AreByNumber {J X : Type 0} (gives : ℕ → J → X → Type 0) (firs
   pub at_first : (d : X) → slice_index_or results.items 0 d ≡ first
   pub each : (n : ℕ) (d : X) → 0 < n → n < count → BelongsToSome gives n (slice_index_or results.items n d)
 
--- The caller's results and those of all others belong to the numbers below the count but 0, each once.
+-- The caller and all others have done the numbers below the count but 0, each once.
+abbrev pub AreOfEach : {X : Type 0} → (count : ℕ) → (own : List (ℕ × X)) → (others : List (Vec (ℕ × X) Global)) → Type 0
+AreOfEach {X} count own others = (x : ℕ) → once_below x count
+    ≡ times x (0 ∷ []) + times x (done_numbers own) + total (λ d. times x (done_numbers d.items)) others
+
+-- The caller's results and those of all others belong to their numbers: those below the count but 0, each once.
 pub record AreRest {J X : Type 0} (gives : ℕ → J → X → Type 0) (count : ℕ) (own : List (ℕ × X))
     (others : List (Vec (ℕ × X) Global)) : Type 0 where
   pub own_done : AreDoneBy gives own
   pub others_done : All (λ d. AreDoneBy gives d.items) others
-  pub each : (x : ℕ) → once_below x count
-      ≡ times x (0 ∷ []) + times x (done_numbers own) + total (λ d. times x (done_numbers d.items)) others
+  pub each : AreOfEach count own others
 
 -- A crew of n workers has these results, and its tallies are together the numbers below the count, each once.
 pub record IsPublished {J X : Type 0} (gives : ℕ → J → X → Type 0) (first : X) (count n : ℕ) (drawn : AllDrawn)

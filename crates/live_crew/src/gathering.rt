@@ -1,9 +1,9 @@
-//! What the workers bring back. What begins with `_` is there for the contracts alone.
+//! What the workers bring back.
 
 ghost use Rattle.std.specs.Prelude.{◌<◌, ◌-◌, IfOk, All, vec_len, vec_capacity};
 ghost use Rattle.crossbeam_deque.specs.Injected.{injector_view, IsInjectorPassOf};
 ghost use Rattle.steal_crew.specs.QueueRule.{part_count};
-ghost use Rattle.steal_crew.specs.Tickets.{source_of};
+ghost use Rattle.steal_crew.specs.Tickets.{Source, source_of};
 ghost use Rattle.live_crew.specs.LiveWorkers.{IsAtEnd, IsFirst, BelongsToSome, Brings, AreRun};
 
 use crate::hands::{JobPass, LiveWorker, SharedJobs};
@@ -29,19 +29,19 @@ pub(crate) struct LiveRun<X: Drop> {
 
 // Takes in the passes of all workers but the caller. The list of seats has room for one more.
 fn collect<W: LiveWork>(
-    _work: &W,
     alloc: Global,
     queue: &JobQueue<W::Job>,
-    _source: &Tickets,
     pass: &mut JobPass<W::Job>,
     mut ended: Vec<Result<LiveWorker<'_, W::Job, W::R>, AllocError>>,
 ) -> Result<Brought<W::R>, AllocError>
-    requires ended { All
-        (λ t. IfOk t (IsAtEnd queue.now (source_of _source.now) (W.gives _work.now))) ended.items }
+    requires ended { (work : W) × (source : Source)
+        × All (λ t. IfOk t (IsAtEnd queue.now source (W.gives work))) ended.items }
     requires pass { IsInjectorPassOf queue.now pass.old × (0 < (injector_view pass.old).parts) }
-    ensures { IfOk result (λ b. IsInjectorPassOf queue.now pass.new × (vec_len b.seats < vec_capacity b.seats)
-        × Brings (source_of _source.now) (BelongsToSome (W.gives _work.now (source_of _source.now)))
-        (injector_view pass.old) (injector_view pass.new) (vec_len ended.entry) b.seats.items b.others.items) }
+    ensures room { IfOk result (λ b. IsInjectorPassOf queue.now pass.new × (vec_len b.seats < vec_capacity b.seats)) }
+    ensures brought { (work : W) (source : Source)
+        → All (λ t. IfOk t (IsAtEnd queue.now source (W.gives work))) ended.entry.items
+        → IfOk result (λ b. Brings source (BelongsToSome (W.gives work source)) (injector_view pass.old)
+        (injector_view pass.new) (vec_len ended.entry) b.seats.items b.others.items) }
 {
     let mut seats = Vec::with_capacity(alloc, ended.len() + 1)?;
     let mut others = Vec::with_capacity(alloc, ended.len())?;
@@ -70,11 +70,9 @@ pub(crate) fn finish<W: LiveWork, R: Wait>(
         (part_count - vec_len ended) worker }
     ensures { IfOk result (AreRun (source_of source.now) (W.gives work.now) (vec_len ended.entry)) }
 {
-    let Brought { mut seats, others } = collect(
-        work,
+    let Brought { mut seats, others } = collect::<W>(
         alloc,
         &shared.queue,
-        source,
         &mut worker.pass,
         ended,
     )?;

@@ -1,10 +1,10 @@
-//! Results and tallies by number. What begins with `_` is there for the contracts alone.
+//! Results and tallies by number.
 
 ghost use Rattle.std.specs.Prelude.{◌≡◌, ◌<◌, ◌+◌, ◌++◌, ◌∷◌, [], ℕ, IfOk, All, vec_len};
 ghost use Rattle.crew_machine.specs.Counts.{total, times};
 ghost use Rattle.steal_crew.specs.Results.{Entered, filled, done_numbers};
-ghost use Rattle.steal_crew.specs.Tickets.{source_drawn};
-ghost use Rattle.live_crew.specs.LiveWorkers.{BelongsToSome, AreDoneBy, AreByNumber, AreRest, IsPublished};
+ghost use Rattle.steal_crew.specs.Tickets.{Source, source_drawn};
+ghost use Rattle.live_crew.specs.LiveWorkers.{BelongsToSome, AreDoneBy, AreByNumber, AreOfEach, AreRest, IsPublished};
 
 use crate::works::LiveWork;
 use std::alloc::{AllocError, Global};
@@ -42,15 +42,10 @@ fn tallies_of<X: Drop>(
 }
 
 // Enters results at their numbers.
-fn enter<W: LiveWork>(
-    _work: &W,
-    _drawn: &AllDrawn,
-    slots: &mut Vec<Option<W::R>>,
-    mut done: Vec<(u32, W::R)>,
-)
-    requires done { AreDoneBy (W.gives _work.now (source_drawn _drawn.now)) done.items }
-    requires slots { Entered (BelongsToSome (W.gives _work.now (source_drawn _drawn.now))) slots.old.items }
-    ensures slots { Entered (BelongsToSome (W.gives _work.now (source_drawn _drawn.now))) slots.new.items }
+fn enter<W: LiveWork>(slots: &mut Vec<Option<W::R>>, mut done: Vec<(u32, W::R)>)
+    ensures slots { (work : W) (source : Source) → AreDoneBy (W.gives work source) done.items
+        → Entered (BelongsToSome (W.gives work source)) slots.old.items
+        → Entered (BelongsToSome (W.gives work source)) slots.new.items }
     ensures len { vec_len slots.new ≡ vec_len slots.old }
     ensures filled { (x : ℕ) → x < vec_len slots.old
         → 0 < filled x slots.old.items + times x (done_numbers done.items) → 0 < filled x slots.new.items }
@@ -64,14 +59,9 @@ fn enter<W: LiveWork>(
 }
 
 // A place for each number's result.
-fn empty_slots<W: LiveWork>(
-    _work: &W,
-    _drawn: &AllDrawn,
-    alloc: Global,
-    count: u32,
-) -> Result<Vec<Option<W::R>>, AllocError>
+fn empty_slots<W: LiveWork>(alloc: Global, count: u32) -> Result<Vec<Option<W::R>>, AllocError>
     ensures { IfOk result (λ v. (vec_len v ≡ count)
-        × Entered (BelongsToSome (W.gives _work.now (source_drawn _drawn.now))) v.items) }
+        × ((work : W) (source : Source) → Entered (BelongsToSome (W.gives work source)) v.items)) }
 {
     let mut slots = Vec::with_capacity(alloc, count as usize)?;
     for _ in 0..count {
@@ -82,16 +72,14 @@ fn empty_slots<W: LiveWork>(
 
 // The results by number, that of 0 first, which was kept apart.
 fn take_results<W: LiveWork>(
-    _work: &W,
-    _drawn: &AllDrawn,
     alloc: Global,
     first: W::R,
     mut slots: Vec<Option<W::R>>,
 ) -> Result<Vec<W::R>, AllocError>
     requires some { 0 < vec_len slots }
-    requires slots { Entered (BelongsToSome (W.gives _work.now (source_drawn _drawn.now))) slots.items }
     requires filled { (x : ℕ) → 0 < x → x < vec_len slots → 0 < filled x slots.items }
-    ensures { IfOk result (AreByNumber (W.gives _work.now (source_drawn _drawn.now)) first (vec_len slots)) }
+    ensures { (work : W) (source : Source) → Entered (BelongsToSome (W.gives work source)) slots.items
+        → IfOk result (AreByNumber (W.gives work source) first (vec_len slots)) }
 {
     let mut results = Vec::with_capacity(alloc, slots.len())?;
     results.push_reserved(first);
@@ -105,47 +93,40 @@ fn take_results<W: LiveWork>(
 }
 
 // Enters the results of each worker.
-fn enter_all<W: LiveWork>(
-    work: &W,
-    drawn: &AllDrawn,
-    slots: &mut Vec<Option<W::R>>,
-    mut others: Vec<Vec<(u32, W::R)>>,
-)
-    requires others { All (λ d. AreDoneBy (W.gives work.now (source_drawn drawn.now)) d.items) others.items }
-    requires slots { Entered (BelongsToSome (W.gives work.now (source_drawn drawn.now))) slots.old.items }
-    ensures slots { Entered (BelongsToSome (W.gives work.now (source_drawn drawn.now))) slots.new.items }
+fn enter_all<W: LiveWork>(slots: &mut Vec<Option<W::R>>, mut others: Vec<Vec<(u32, W::R)>>)
+    ensures slots { (work : W) (source : Source) → All (λ d. AreDoneBy (W.gives work source) d.items) others.items
+        → Entered (BelongsToSome (W.gives work source)) slots.old.items
+        → Entered (BelongsToSome (W.gives work source)) slots.new.items }
     ensures len { vec_len slots.new ≡ vec_len slots.old }
     ensures filled { (x : ℕ) → x < vec_len slots.old
         → 0 < filled x slots.old.items + total (λ d. times x (done_numbers d.items)) others.items
         → 0 < filled x slots.new.items }
 {
     while let Some(done) = others.pop() {
-        enter(work, drawn, slots, done);
+        enter::<W>(slots, done);
     }
 }
 
 // The results by number, where those that were done are those of the numbers below the count.
 fn results_of<W: LiveWork>(
-    work: &W,
-    drawn: &AllDrawn,
     alloc: Global,
     first: W::R,
     own: Vec<(u32, W::R)>,
     others: Vec<Vec<(u32, W::R)>>,
     count: u32,
 ) -> Result<Vec<W::R>, AllocError>
-    requires { AreRest (W.gives work.now (source_drawn drawn.now)) count own.items others.items }
-    ensures { IfOk result (AreByNumber (W.gives work.now (source_drawn drawn.now)) first count) }
+    requires { AreOfEach count own.items others.items }
+    ensures { (work : W) (source : Source) → AreRest (W.gives work source) count own.items others.items
+        → IfOk result (AreByNumber (W.gives work source) first count) }
 {
-    let mut slots = empty_slots(work, drawn, alloc, count)?;
-    enter(work, drawn, &mut slots, own);
-    enter_all(work, drawn, &mut slots, others);
-    take_results(work, drawn, alloc, first, slots)
+    let mut slots = empty_slots::<W>(alloc, count)?;
+    enter::<W>(&mut slots, own);
+    enter_all::<W>(&mut slots, others);
+    take_results::<W>(alloc, first, slots)
 }
 
 // The results by number, and the tallies.
 pub(crate) fn publish<W: LiveWork>(
-    work: &W,
     alloc: Global,
     first: W::R,
     own: Vec<(u32, W::R)>,
@@ -153,10 +134,11 @@ pub(crate) fn publish<W: LiveWork>(
     count: u32,
     drawn: AllDrawn,
 ) -> Result<Crew<W::R>, AllocError>
-    requires { AreRest (W.gives work.now (source_drawn drawn)) count own.items others.items }
-    ensures { IfOk result (IsPublished (W.gives work.now (source_drawn drawn)) first count (vec_len others + 1) drawn) }
+    requires { AreOfEach count own.items others.items }
+    ensures { (work : W) → AreRest (W.gives work (source_drawn drawn)) count own.items others.items
+        → IfOk result (IsPublished (W.gives work (source_drawn drawn)) first count (vec_len others + 1) drawn) }
 {
     let tallies = tallies_of(alloc, &own, &others)?;
-    let results = results_of(work, &drawn, alloc, first, own, others, count)?;
+    let results = results_of::<W>(alloc, first, own, others, count)?;
     Ok(Crew::with_drawn(alloc, results, tallies, drawn))
 }

@@ -100,6 +100,6 @@ pub fn run_live<W: LiveWork + Sync, R: Threads + Wait + Sync>(
     let (first, given) = run_from(rt, alloc, work, &source, seat, seats, first)?;
     let LiveRun { own, others, seats } = given;
     let (count, drawn) = source.join_all(seats);
-    let crew = publish(work, alloc, first, own, others, count, drawn)?;
+    let crew = publish::<W>(alloc, first, own, others, count, drawn)?;
     Ok(crew)
 }

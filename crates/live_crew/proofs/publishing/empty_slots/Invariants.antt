@@ -1,12 +1,12 @@
 use Rattle.std.proofs.Common.{◌≡◌, vec_len, vec_capacity}
 use Rattle.steal_crew.specs.Results.{Entered}
-use Rattle.steal_crew.specs.Tickets.{source_drawn}
+use Rattle.steal_crew.specs.Tickets.{Source}
 use Rattle.live_crew.specs.LiveWorkers.{BelongsToSome}
 use Rattle.live_crew.proofs.publishing.empty_slots.Given as goal
 
 abbrev pub invariant-loop : goal.invariant-loop
 invariant-loop g l = record {
   len : vec_len l.slots ≡ l.counter;
-  entered : Entered (BelongsToSome (g.W.LiveWork.gives l._work (source_drawn l._drawn))) l.slots.items;
+  entered : (work : _) (source : Source) → Entered (BelongsToSome (g.W.LiveWork.gives work source)) l.slots.items;
   room : vec_capacity l.slots ≡ vec_capacity l.initial.slots;
 }

@@ -1,14 +1,16 @@
-use Rattle.std.proofs.Common.{◌≡◌, ◌+◌, ◌<◌, ℕ, All, vec_len}
+use Rattle.std.proofs.Common.{◌≡◌, ◌+◌, ◌<◌, ℕ, vec_len}
 use Rattle.crew_machine.specs.Counts.{times}
 use Rattle.steal_crew.specs.Results.{done_numbers, Entered, filled}
-use Rattle.steal_crew.specs.Tickets.{source_drawn}
-use Rattle.live_crew.specs.LiveWorkers.{BelongsToSome}
+use Rattle.steal_crew.specs.Tickets.{Source}
+use Rattle.live_crew.specs.LiveWorkers.{AreDoneBy, BelongsToSome}
 use Rattle.live_crew.proofs.publishing.enter.Given as goal
 
 abbrev pub invariant-loop-number : goal.invariant-loop-number
 invariant-loop-number g l = record {
-  done : All (λ e. BelongsToSome (g.W.LiveWork.gives l._work (source_drawn l._drawn)) e.0 e.1) l.done.items;
-  slots : Entered (BelongsToSome (g.W.LiveWork.gives l._work (source_drawn l._drawn))) l.slots.items;
+  belong : (work : _) (source : Source) → AreDoneBy (g.W.LiveWork.gives work source) l.fn.done.items
+      → Entered (BelongsToSome (g.W.LiveWork.gives work source)) l.initial.slots.items
+      → AreDoneBy (g.W.LiveWork.gives work source) l.done.items
+      × Entered (BelongsToSome (g.W.LiveWork.gives work source)) l.slots.items;
   len : vec_len l.slots ≡ vec_len l.initial.slots;
   filled : (x : ℕ) → x < vec_len l.initial.slots
       → 0 < filled x l.initial.slots.items + times x (done_numbers l.fn.done.items)

@@ -1,22 +1,20 @@
-use Rattle.std.proofs.Common.{◌≡◌, All, vec_len, arith, ◌∙◌}
-use Rattle.steal_crew.specs.Tickets.{source_drawn}
-use Rattle.live_crew.specs.LiveWorkers.{BelongsToSome}
+use Rattle.std.proofs.Common.{◌≡◌, vec_len, arith, ◌∙◌}
+use Rattle.live_crew.specs.LiveWorkers.{AreDoneBy}
 use Rattle.steal_crew.proofs.QueueRuleLemmas.{all_popped}
 use Rattle.live_crew.proofs.LiveResultLemmas.{filled_share}
 use Rattle.live_crew.proofs.publishing.enter_all.Goals as goal
 
-pub enter-requires-clause-done : goal.enter-requires-clause-done
-enter-requires-clause-done g c κs within =
-    (all_popped (λ s. All (λ e. BelongsToSome (g.W.LiveWork.gives c.args.work.now (source_drawn c.args.drawn.now)) e.0 e.1) s.items) _ _
-    c.in-Some.done c.loop-done.invariant.others c.in-Some.ensures.items).1
-
 pub loop-done-preserved : goal.loop-done-preserved
 loop-done-preserved g c = let inv = c.loop-done.invariant in
     let l : vec_len c.loop-done.slots ≡ vec_len c.args.slots.now = inv.len in record {
-      others = (all_popped (λ s. All (λ e. BelongsToSome (g.W.LiveWork.gives c.args.work.now (source_drawn c.args.drawn.now)) e.0 e.1) s.items) _ _
-          c.in-Some.done inv.others c.in-Some.ensures.items).0;
-      slots = c.enter.ensures.slots;
+      belong = λ work source others entered.
+          let old = inv.belong work source others entered in
+          let rest = all_popped (λ s. AreDoneBy (g.W.LiveWork.gives work source) s.items) _ _ c.in-Some.done old.0 c.in-Some.ensures.items in
+          (rest.0, c.enter.ensures.slots work source rest.1 old.1);
       len = c.enter.ensures.len ∙ inv.len;
       filled = λ x lt some. filled_share c.loop-done.slots.items _ c.loop-done.others.items _ c.in-Some.done x
           c.in-Some.ensures.items (c.enter.ensures.filled x (omega arith)) (inv.filled x lt some);
     }
+
+pub returns-clause-slots : goal.returns-clause-slots
+returns-clause-slots g c = λ work source others entered. (c.loop-done.invariant.belong work source others entered).1
