@@ -15,7 +15,7 @@ pub record StandsInRow (p : Task) (q : Prefix) (cell number : ℕ) : Type 0 wher
   pub legal : IsLegal p (numbered number)
   pub shows : (side colour : ℕ) → IsAsked p q cell side colour → colour_of p (numbered number) side ≡ colour
 
--- all placements that do
+-- all numbers of placements that stand in the cell's row, rising
 abbrev pub IsRow : Task → Prefix → (cell : ℕ) → List ℕ → Type 0
 IsRow p q cell numbers = IsListing ◌<◌ (StandsInRow p q cell) numbers
 
@@ -24,8 +24,8 @@ pub record AreRows (p : Task) (q : Prefix) (rows : List (List ℕ)) : Type 0 whe
   pub long : length rows ≡ cell_count p.board
   pub is : (cell : ℕ) → cell < cell_count p.board → IsRow p q cell (slice_index_or rows cell [])
 
--- The same where a pair is placed, of whose sides so many are looked at: the placement shows what is asked by what
--- stood before, and by these sides.
+-- A pair is placed, and so many of its sides are looked at: the cell is empty, and the placement is legal and shows
+-- there what was asked before the pair, and what these sides ask.
 pub record StandsBeside (p : Task) (q : Prefix) (x : Pair) (sides cell number : ℕ) : Type 0 where
   pub free : IsFree (with_pair q x.cell x.placement) cell
   pub legal : IsLegal p (numbered number)
@@ -33,7 +33,7 @@ pub record StandsBeside (p : Task) (q : Prefix) (x : Pair) (sides cell number : 
   pub beside : (side met : ℕ) → side < sides → Meets p.board x.cell side cell met
       → colour_of p (numbered number) met ≡ mate_of p (colour_of p x.placement side)
 
--- all placements that do, for each cell
+-- for each cell all placements that stand in its row where so many sides of the pair are looked at
 pub record AreRowsBeside (p : Task) (q : Prefix) (x : Pair) (sides : ℕ) (rows : List (List ℕ)) : Type 0 where
   pub long : length rows ≡ cell_count p.board
   pub is : (cell : ℕ) → cell < cell_count p.board

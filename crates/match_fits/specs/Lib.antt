@@ -1,3 +1,4 @@
 pub mod Placing
 pub mod FitRows
 pub mod FitSizes
+pub mod Counts

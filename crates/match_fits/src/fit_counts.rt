@@ -17,7 +17,7 @@ ghost use Rattle.match_puzzle.specs.declared.placements.Pair.{Pair as Placed};
 use crate::behind::{EACH_TURN, number_behind, place_behind};
 use crate::fit_rows::FitRows;
 use crate::fit_sizes::{COVERED, STEP, least_size};
-use crate::placing::take_out;
+use crate::placing::Counts;
 use match_limits::TURNS;
 use match_puzzle::{Item, Pair, Partial, Placement, Puzzle};
 use std::alloc::{AllocError, Global};
@@ -33,11 +33,9 @@ pub struct FitCounts<'a> {
     partial: Partial<'a>,
     // in the order of placing
     pairs: Vec<Pair>,
-    // for each cell what shows there what is asked
-    rows: FitRows,
-    // how many pairs fit and settle each item
-    sizes: Vec<u32>,
-    // the same as it was before each pair that is placed
+    // what fits beside them
+    counts: Counts,
+    // how many pairs fitted and settled each item, before each pair that is placed
     saved: Vec<u32>,
 }
 
@@ -49,8 +47,8 @@ impl<'a> Model for FitCounts<'a> {
 
     ghost view = { λ f. record { puzzle = f.partial.puzzle; pairs = f.pairs.items } };
 
-    ghost invariant = { λ f. AreKeptBeside f.partial.puzzle f.pairs.items f.partial.placed f.rows f.sizes.items
-        f.saved.items };
+    ghost invariant = { λ f. AreKeptBeside f.partial.puzzle f.pairs.items f.partial.placed
+        f.counts.rows f.counts.sizes.items f.saved.items };
 }
 
 impl<'a> FitCounts<'a> {
@@ -65,8 +63,7 @@ impl<'a> FitCounts<'a> {
         Ok(FitCounts {
             partial,
             pairs: Vec::new(alloc),
-            rows,
-            sizes,
+            counts: Counts { rows, sizes },
             saved: Vec::new(alloc),
         })
     }
@@ -92,7 +89,7 @@ impl<'a> FitCounts<'a> {
         requires { IsItem self.now.puzzle item }
         ensures { IsTrue result ↔ IsOpen self.now.puzzle (placed_by self.now) item }
     {
-        self.sizes[self.place_of(item)] != COVERED
+        self.counts.sizes[self.place_of(item)] != COVERED
     }
 
     /// How many pairs fit and settle an open item.
@@ -101,7 +98,7 @@ impl<'a> FitCounts<'a> {
         ensures { (xs : List Placed) × AreFitting self.now.puzzle (placed_by self.now) item xs
             × (length xs ≡ result) }
     {
-        self.sizes[self.place_of(item)] / STEP
+        self.counts.sizes[self.place_of(item)] / STEP
     }
 
     /// The open item with the fewest pairs that fit, the first at a tie: cells by number, then tiles. `None` where each
@@ -112,7 +109,7 @@ impl<'a> FitCounts<'a> {
             (HasFewestFitting self.now.puzzle (placed_by self.now)) }
     {
         let cells = self.cells();
-        let least = least_size(&self.sizes);
+        let least = least_size(&self.counts.sizes);
         if least == COVERED {
             return None;
         }
@@ -143,9 +140,9 @@ impl<'a> FitCounts<'a> {
         ensures refused { OnErr result (self.new ≡ self.old) }
     {
         self.pairs.reserve(1)?;
-        self.saved.extend_from_slice(&self.sizes)?;
+        self.saved.extend_from_slice(&self.counts.sizes)?;
         self.pairs.push_reserved(pair);
-        take_out(&self.partial, pair, &mut self.rows, &mut self.sizes);
+        self.counts.take_out(&self.partial, pair);
         self.partial.place(pair.cell, pair.placement);
         Ok(())
     }
@@ -156,11 +153,11 @@ impl<'a> FitCounts<'a> {
         ensures { self.new ≡ without_last self.old }
     {
         if let Some(pair) = self.pairs.pop() {
-            let before = self.saved.len() - self.sizes.len();
-            self.sizes.copy_from_slice(&self.saved[before..]);
+            let before = self.saved.len() - self.counts.sizes.len();
+            self.counts.sizes.copy_from_slice(&self.saved[before..]);
             self.saved.truncate(before);
             self.partial.lift(pair.cell);
-            self.rows.put_beside(&self.partial, pair.cell);
+            self.counts.rows.put_beside(&self.partial, pair.cell);
         }
     }
 
@@ -190,7 +187,7 @@ impl<'a> FitCounts<'a> {
             (IsLastFitting self.now.puzzle (placed_by self.now) (items.Cell cell) after)
             (IsNextFitting self.now.puzzle (placed_by self.now) (items.Cell cell) after) }
     {
-        let row = self.rows.at(cell);
+        let row = self.counts.rows.at(cell);
         let number = row.next_in_both(self.partial.free(), number_behind(after))?;
         let placement = Placement {
             tile: number / TURNS,
@@ -207,10 +204,10 @@ impl<'a> FitCounts<'a> {
             (IsLastFitting self.now.puzzle (placed_by self.now) (items.Tile tile) after)
             (IsNextFitting self.now.puzzle (placed_by self.now) (items.Tile tile) after) }
     {
-        let cells = self.rows.len() as u16;
+        let cells = self.counts.rows.len() as u16;
         let (first, mut turns) = place_behind(after);
         for cell in first..cells {
-            let fitting = self.rows.at(cell).group(tile) & turns;
+            let fitting = self.counts.rows.at(cell).group(tile) & turns;
             if fitting != 0 {
                 let turn = fitting.trailing_zeros() as u8;
                 let placement = Placement { tile, turn };

@@ -9,7 +9,7 @@ use Rattle.match_fits.proofs.fit_counts.FitCounts.fewest.Goals.{After-least_size
 are_sizes : (c : After-least_size-least) → AreSizes c.args.self.now.puzzle (placed_by c.args.self.now) c.deref.result.now
 are_sizes c =
     subst (AreSizes c.args.self.now.puzzle (placed_by c.args.self.now)) (sym c.deref.ensures.value)
-    (kept_sizes c.self.inside.partial.puzzle c.self.inside.pairs.items c.self.inside.partial.placed c.self.inside.rows c.self.inside.sizes.items c.self.inside.saved.items c.self.invariant c.args.self.now c.self.view_is)
+    (kept_sizes c.self.inside.partial.puzzle c.self.inside.pairs.items c.self.inside.partial.placed c.self.inside.counts.rows c.self.inside.counts.sizes.items c.self.inside.saved.items c.self.invariant c.args.self.now c.self.view_is)
 
 pub returns-then-least : goal.returns-then-least
 returns-then-least c =

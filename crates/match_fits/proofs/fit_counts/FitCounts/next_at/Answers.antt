@@ -13,31 +13,31 @@ use Rattle.match_fits.proofs.fit_counts.FitCounts.next_at.Goals.{After-free}
 puzzle : (c : After-free) → IsPuzzle c.args.self.now.puzzle
 puzzle c =
     let i = c.self.inside in
-    puzzle_now i.partial.puzzle i.pairs.items i.partial.placed i.rows i.sizes.items i.saved.items c.self.invariant c.args.self.now c.self.view_is
+    puzzle_now i.partial.puzzle i.pairs.items i.partial.placed i.counts.rows i.counts.sizes.items i.saved.items c.self.invariant c.args.self.now c.self.view_is
 
-rows : (c : After-free) → AreRows c.args.self.now.puzzle (placed_by c.args.self.now) c.self.inside.rows
+rows : (c : After-free) → AreRows c.args.self.now.puzzle (placed_by c.args.self.now) c.self.inside.counts.rows
 rows c =
     let i = c.self.inside in
-    rows_now i.partial.puzzle i.pairs.items i.partial.placed i.rows i.sizes.items i.saved.items c.self.invariant c.args.self.now c.self.view_is
+    rows_now i.partial.puzzle i.pairs.items i.partial.placed i.counts.rows i.counts.sizes.items i.saved.items c.self.invariant c.args.self.now c.self.view_is
 
 cell_in : (c : After-free) → c.args.cell < cell_count c.args.self.now.puzzle.board
 cell_in c = cells_of_pairs c.args.self.now.puzzle c.args.self.now.pairs c.args.cell c.requires.item
 
 -- the row of the cell
-row_there : (c : After-free) → AreRows c.args.self.now.puzzle (placed_by c.args.self.now) c.self.inside.rows → c.args.cell < cell_count c.args.self.now.puzzle.board → IsRow c.args.self.now.puzzle (placed_by c.args.self.now) c.args.cell c.at-row.result.now
+row_there : (c : After-free) → AreRows c.args.self.now.puzzle (placed_by c.args.self.now) c.self.inside.counts.rows → c.args.cell < cell_count c.args.self.now.puzzle.board → IsRow c.args.self.now.puzzle (placed_by c.args.self.now) c.args.cell c.at-row.result.now
 row_there c are lt = subst (IsRow c.args.self.now.puzzle (placed_by c.args.self.now) c.args.cell) (sym c.at-row.ensures) (are.is c.args.cell lt)
 
 free : (c : After-free) → AreFreeNumbers c.args.self.now.puzzle (placed_by c.args.self.now) c.free.result.now
 free c =
     let i = c.self.inside in
-    free_now i.partial.puzzle i.pairs.items i.partial.placed i.rows i.sizes.items i.saved.items c.self.invariant c.args.self.now c.self.view_is c.free.result.now c.free.ensures
+    free_now i.partial.puzzle i.pairs.items i.partial.placed i.counts.rows i.counts.sizes.items i.saved.items c.self.invariant c.args.self.now c.self.view_is c.free.result.now c.free.ensures
 
 pub at-row-requires : goal.at-row-requires
 at-row-requires c =
     let i = c.self.inside in
     let v = c.args.self.now in
     let lt = cells_of_pairs v.puzzle v.pairs c.args.cell c.requires.item in
-    let are = rows_now i.partial.puzzle i.pairs.items i.partial.placed i.rows i.sizes.items i.saved.items c.self.invariant v c.self.view_is in
+    let are = rows_now i.partial.puzzle i.pairs.items i.partial.placed i.counts.rows i.counts.sizes.items i.saved.items c.self.invariant v c.self.view_is in
     let long = are.long in
     omega (arith, lt, long)
 

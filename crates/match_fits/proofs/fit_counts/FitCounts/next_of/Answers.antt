@@ -11,19 +11,19 @@ use Rattle.match_fits.proofs.fit_counts.FitCounts.next_of.Goals.{After-len-cells
 puzzle : (c : After-len-cells) → IsPuzzle c.args.self.now.puzzle
 puzzle c =
     let i = c.self.inside in
-    puzzle_now i.partial.puzzle i.pairs.items i.partial.placed i.rows i.sizes.items i.saved.items c.self.invariant c.args.self.now c.self.view_is
+    puzzle_now i.partial.puzzle i.pairs.items i.partial.placed i.counts.rows i.counts.sizes.items i.saved.items c.self.invariant c.args.self.now c.self.view_is
 
-rows : (c : After-len-cells) → AreRows c.args.self.now.puzzle (placed_by c.args.self.now) c.self.inside.rows
+rows : (c : After-len-cells) → AreRows c.args.self.now.puzzle (placed_by c.args.self.now) c.self.inside.counts.rows
 rows c =
     let i = c.self.inside in
-    rows_now i.partial.puzzle i.pairs.items i.partial.placed i.rows i.sizes.items i.saved.items c.self.invariant c.args.self.now c.self.view_is
+    rows_now i.partial.puzzle i.pairs.items i.partial.placed i.counts.rows i.counts.sizes.items i.saved.items c.self.invariant c.args.self.now c.self.view_is
 
 -- there is a row for each cell
 many : (c : After-len-cells) → c.len-cells.result ≡ cell_count c.args.self.now.puzzle.board
 many c = let long = (rows c).long in c.len-cells.ensures ∙ long
 
 -- the row of the cell
-row_there : (c : After-at) → AreRows c.args.self.now.puzzle (placed_by c.args.self.now) c.self.inside.rows → c.loop-cell.cell < cell_count c.args.self.now.puzzle.board → IsRow c.args.self.now.puzzle (placed_by c.args.self.now) c.loop-cell.cell c.at.result.now
+row_there : (c : After-at) → AreRows c.args.self.now.puzzle (placed_by c.args.self.now) c.self.inside.counts.rows → c.loop-cell.cell < cell_count c.args.self.now.puzzle.board → IsRow c.args.self.now.puzzle (placed_by c.args.self.now) c.loop-cell.cell c.at.result.now
 row_there c are lt = subst (IsRow c.args.self.now.puzzle (placed_by c.args.self.now) c.loop-cell.cell) (sym c.at.ensures) (are.is c.loop-cell.cell lt)
 
 pub place_behind-first-requires : goal.place_behind-first-requires

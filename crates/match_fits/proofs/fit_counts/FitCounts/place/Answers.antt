@@ -23,36 +23,33 @@ invariant_of-self-2 c =
     let q = i.partial.placed in
     let kept = c.self.invariant in
     let pair = c.args.pair in
-    let rows = c.take_out.new.rows in
-    let sizes = c.take_out.new.sizes.items in
+    let rows = c.take_out.new.self.rows in
+    let sizes = c.take_out.new.self.sizes.items in
     let fits = pair_fits (goal.at.invariant_of-self-2 c).After-reserve in
     let pairs = c.push_reserved.ensures.items ∙ ap (λ ps. ps ++ pair ∷ []) c.reserve.ensures.items in
     let saved = c.in_ok-extend_from_slice.ensures.items ∙ ap (λ s. i.saved.items ++ s) c.deref.ensures.value in
-    let all = kept_pushed p i.pairs.items pair q i.rows i.sizes.items i.saved.items kept fits rows sizes c.take_out.ensures.rows c.take_out.ensures.sizes in
+    let all = kept_pushed p i.pairs.items pair q i.counts.rows i.counts.sizes.items i.saved.items kept fits rows sizes c.take_out.ensures.rows c.take_out.ensures.sizes in
     let after = with_pair q pair.cell pair.placement in
     subst (λ (v : Layout). AreKeptBeside v.puzzle c.push_reserved.new.self.items v.placed rows sizes c.extend_from_slice.new.self.items) (sym c.place.ensures)
-    (subst (λ s. AreKeptBeside p c.push_reserved.new.self.items after rows sizes s) (sym saved) (subst (λ ps. AreKeptBeside p ps after rows sizes (i.saved.items ++ i.sizes.items)) (sym pairs) all))
+    (subst (λ s. AreKeptBeside p c.push_reserved.new.self.items after rows sizes s) (sym saved) (subst (λ ps. AreKeptBeside p ps after rows sizes (i.saved.items ++ i.counts.sizes.items)) (sym pairs) all))
 
 pub invariant_of-self : goal.invariant_of-self
 invariant_of-self c =
     let i = c.self.inside in
-    subst (λ ps. AreKeptBeside i.partial.puzzle ps i.partial.placed i.rows i.sizes.items i.saved.items) (sym c.reserve.ensures.items) c.self.invariant
+    subst (λ ps. AreKeptBeside i.partial.puzzle ps i.partial.placed i.counts.rows i.counts.sizes.items i.saved.items) (sym c.reserve.ensures.items) c.self.invariant
 
 pub invariant_of-self-in_err-extend_from_slice : goal.invariant_of-self-in_err-extend_from_slice
 invariant_of-self-in_err-extend_from_slice c =
     let i = c.self.inside in
     let same = c.in_err-extend_from_slice.ensures.items in
-    subst (AreKeptBeside i.partial.puzzle c.reserve.new.self.items i.partial.placed i.rows i.sizes.items) (sym same)
-    (subst (λ ps. AreKeptBeside i.partial.puzzle ps i.partial.placed i.rows i.sizes.items i.saved.items) (sym c.reserve.ensures.items) c.self.invariant)
+    subst (AreKeptBeside i.partial.puzzle c.reserve.new.self.items i.partial.placed i.counts.rows i.counts.sizes.items) (sym same)
+    (subst (λ ps. AreKeptBeside i.partial.puzzle ps i.partial.placed i.counts.rows i.counts.sizes.items i.saved.items) (sym c.reserve.ensures.items) c.self.invariant)
 
 pub take_out-requires-clause-fits : goal.take_out-requires-clause-fits
 take_out-requires-clause-fits c = pair_fits (goal.at.take_out-requires-clause-fits c).After-reserve
 
-pub take_out-requires-clause-rows : goal.take_out-requires-clause-rows
-take_out-requires-clause-rows c = c.self.invariant.rows
-
-pub take_out-requires-clause-sizes : goal.take_out-requires-clause-sizes
-take_out-requires-clause-sizes c = c.self.invariant.sizes
+pub take_out-requires-clause-counts : goal.take_out-requires-clause-counts
+take_out-requires-clause-counts c = record { rows = c.self.invariant.rows; sizes = c.self.invariant.sizes }
 
 pub place-requires-clause-legal : goal.place-requires-clause-legal
 place-requires-clause-legal c = (pair_fits (goal.at.place-requires-clause-legal c).After-reserve).legal

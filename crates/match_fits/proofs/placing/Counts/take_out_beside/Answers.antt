@@ -6,8 +6,8 @@ use Rattle.match_fits.specs.FitRows.{AreRowsBeside}
 use Rattle.match_fits.specs.FitSizes.{FitsPair, FitsBeside, AreSizesOf}
 use Rattle.match_fits.proofs.FitRowLemmas.{rows_last}
 use Rattle.match_fits.proofs.BesideLemmas.{beside_fits, fits_beside, sizes_as}
-use Rattle.match_fits.proofs.placing.take_out_beside.Goals as goal
-use Rattle.match_fits.proofs.placing.take_out_beside.Goals.{After-loop-side}
+use Rattle.match_fits.proofs.placing.Counts.take_out_beside.Goals as goal
+use Rattle.match_fits.proofs.placing.Counts.take_out_beside.Goals.{After-loop-side}
 
 -- all sides were looked at
 at_end : (c : After-loop-side) → c.loop-side.side ≡ side_count c.args.partial.now.puzzle.board
@@ -16,15 +16,17 @@ at_end c =
     let past = c.loop-side-test.false in
     omega (arith, past, sides, c.loop-side.auto.side-end)
 
-pub returns-clause-rows : goal.returns-clause-rows
-returns-clause-rows c =
-    let w = c.args.partial.now in
-    rows_last w.puzzle w.placed c.args.pair c.requires.fits.free c.loop-side.rows (subst (λ k. AreRowsBeside w.puzzle w.placed c.args.pair k c.loop-side.rows) (at_end (goal.at.returns-clause-rows c).After-loop-side) c.loop-side.invariant.rows)
-
-pub returns-clause-open_items : goal.returns-clause-open_items
-returns-clause-open_items c =
+pub returns : goal.returns
+returns c =
     let w = c.args.partial.now in
     let x = c.args.pair in
     let q = with_pair w.placed x.cell x.placement in
-    sizes_as w.puzzle q (FitsBeside w.puzzle w.placed x (side_count w.puzzle.board)) (FitsPair w.puzzle q) c.loop-side.sizes.items (beside_fits w.puzzle w.placed x c.requires.fits) (fits_beside w.puzzle w.placed x c.requires.fits)
-    (subst (λ k. AreSizesOf w.puzzle q (FitsBeside w.puzzle w.placed x k) c.loop-side.sizes.items) (at_end (goal.at.returns-clause-open_items c).After-loop-side) c.loop-side.invariant.open_items)
+    let end = at_end (goal.at.returns c).After-loop-side in
+    let counts = c.loop-side.invariant in
+    let sizes = c.loop-side.self.sizes.items in
+    record {
+      rows = rows_last w.puzzle w.placed x c.requires.fits.free c.loop-side.self.rows (subst (λ k. AreRowsBeside w.puzzle w.placed x k c.loop-side.self.rows) end counts.rows);
+      open_items = sizes_as w.puzzle q (FitsBeside w.puzzle w.placed x (side_count w.puzzle.board)) (FitsPair w.puzzle q) sizes (beside_fits w.puzzle w.placed x c.requires.fits) (fits_beside w.puzzle w.placed x c.requires.fits)
+          (subst (λ k. AreSizesOf w.puzzle q (FitsBeside w.puzzle w.placed x k) sizes) end counts.open_items);
+      settled = counts.settled;
+    }
