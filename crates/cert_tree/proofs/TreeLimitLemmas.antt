@@ -5,7 +5,7 @@ use Rattle.match_puzzle.specs.declared.items.Item.{Item}
 use Rattle.match_limits.specs.declared.TheConstants.{MOST_CELLS}
 use Rattle.cert_tree.specs.declared.nodes.Node.{Node}
 use Rattle.cert_tree.specs.Tree.{Tree, Forest, branch, dead, found, same, image, none, more, tree_of, forest_of, IsNarrow, AreNarrow}
-use Rattle.cert_tree.specs.Limits.{IsItemWithin, IsTreeWithin, AreTreesWithin, AreChildrenWithin}
+use Rattle.cert_tree.specs.Limits.{HasLevels, HaveLevels, IsItemWithin, IsTreeWithin, AreTreesWithin, AreChildrenWithin}
 use Rattle.cert_tree.proofs.TreeLemmas.{count-forest_of, forest_of-drop}
 
 -- ---- a level
@@ -42,6 +42,20 @@ mutual
   all_narrow_within : (cells : ℕ) → cells ≤ MOST_CELLS → (room : ℕ) (trees : Forest) → AreTreesWithin cells room trees → AreNarrow trees
   all_narrow_within cells few room none fits = tt
   all_narrow_within cells few room (more tree trees) fits = (narrow_within cells few room tree fits.0, all_narrow_within cells few room trees fits.1)
+
+-- a tree within the limits of its text has no more levels than these allow
+mutual
+  pub levels_within : (cells room : ℕ) (tree : Tree) → IsTreeWithin cells room tree → HasLevels room tree
+  levels_within cells zero tree fits = absurd fits
+  levels_within cells (suc room) (branch item children) fits = all_levels_within cells room children fits.3
+  levels_within cells (suc room) (dead item) fits = tt
+  levels_within cells (suc room) (found number) fits = tt
+  levels_within cells (suc room) (same lemma) fits = tt
+  levels_within cells (suc room) (image lemma symmetry) fits = tt
+
+  all_levels_within : (cells room : ℕ) (trees : Forest) → AreTreesWithin cells room trees → HaveLevels room trees
+  all_levels_within cells room none fits = tt
+  all_levels_within cells room (more tree trees) fits = (levels_within cells room tree fits.0, all_levels_within cells room trees fits.1)
 
 -- ---- a child
 

@@ -8,6 +8,20 @@ use Rattle.match_puzzle.specs.declared.placements.Pair.{Pair}
 use Rattle.cert_tree.specs.Tree.{Tree, Forest, branch, dead, found, same, image, none, more, count}
 use Rattle.cert_tree.specs.Certificate.{Piece}
 
+abbrev mutual
+  -- The tree has at most so many levels of nodes.
+  pub HasLevels : (room : ℕ) → Tree → Type 0
+  HasLevels zero tree = ⊥
+  HasLevels (suc room) (branch item children) = HaveLevels room children
+  HasLevels (suc room) (dead item) = Unit {0}
+  HasLevels (suc room) (found number) = Unit {0}
+  HasLevels (suc room) (same lemma) = Unit {0}
+  HasLevels (suc room) (image lemma symmetry) = Unit {0}
+
+  pub HaveLevels : (room : ℕ) → Forest → Type 0
+  HaveLevels room none = Unit {0}
+  HaveLevels room (more tree trees) = HasLevels room tree × HaveLevels room trees
+
 abbrev pub IsItemWithin : (cells : ℕ) → Item → Type 0
 IsItemWithin cells (items.Cell cell) = cell < cells
 IsItemWithin cells (items.Tile tile) = tile < cells
@@ -29,7 +43,7 @@ abbrev mutual
   AreTreesWithin cells room none = Unit {0}
   AreTreesWithin cells room (more tree trees) = IsTreeWithin cells room tree × AreTreesWithin cells room trees
 
--- The same of the children of a branch, of which there is at least one.
+-- The children of a branch are at least one and at most as many as it may have, and each is within the limits.
 abbrev pub AreChildrenWithin : (cells room : ℕ) → Forest → Type 0
 AreChildrenWithin cells room children =
     (1 ≤ count children) × (count children ≤ 4 * cells) × AreTreesWithin cells room children

@@ -88,7 +88,7 @@ fn put_flat(
     Ok(LemmaSpan::of_last(lemma.number, pairs, pairs_start, heads, heads_start))
 }
 
-/// The same lemmas laid out flat, in order.
+/// Equal lemmas, laid out flat, in order.
 pub(crate) fn flat_lemmas(alloc: Global, lemmas: &[Lemma]) -> Result<Lemmas, AllocError>
     requires { All (λ lemma. IsNarrow (tree_of lemma.tree)) lemmas.now }
     ensures { IfOk result (λ flat. flat ≡ map piece_of lemmas.now) }
@@ -128,7 +128,7 @@ pub(crate) fn first_node(alloc: Global, trees: &mut Trees<'_>) -> Result<Node, A
     }
 }
 
-// The same of the first so many trees, as the children of a branch.
+// The first so many trees as the children of a branch, and the walk goes past them.
 #[cycle(building)]
 fn first_children(
     alloc: Global,
@@ -150,9 +150,13 @@ fn first_children(
 impl<'a> FlatLemma<'a> {
     ghost use Rattle.std.specs.Prelude.{◌≡◌, IfOk};
     ghost use Rattle.cert_tree.specs.Certificate.{piece_of, flat_piece};
+    ghost use Rattle.cert_tree.specs.Limits.{HasLevels};
+    ghost use Rattle.match_limits.specs.declared.TheConstants.{MOST_LEVELS};
 
-    /// An equal lemma of nodes that own their children, by a recursion that is as deep as the tree.
+    /// An equal lemma of nodes that own their children. It is made by a recursion that is as deep as the tree, so this
+    /// has to have no more levels than a lemma's text may have.
     pub fn to_lemma(&self, alloc: Global) -> Result<Lemma, AllocError>
+        requires { HasLevels MOST_LEVELS (flat_piece self.now).tree }
         ensures { IfOk result (λ lemma. piece_of lemma ≡ flat_piece self.now) }
     {
         let prefix = Pairs::new(Vec::from_slice(alloc, self.prefix)?);

@@ -33,6 +33,8 @@ impl Model for PackedTree {
 impl PackedTree {
     ghost use Rattle.std.specs.Prelude.{◌≡◌, IfOk};
     ghost use Rattle.cert_tree.specs.Heads.{trees_in, first, AreOfTree};
+    ghost use Rattle.cert_tree.specs.Limits.{HasLevels};
+    ghost use Rattle.match_limits.specs.declared.TheConstants.{MOST_LEVELS};
     ghost use Rattle.cert_tree.specs.Tree.{tree_of};
 
     /// The tree with these heads.
@@ -50,8 +52,10 @@ impl PackedTree {
         FlatTree::of(&self.heads)
     }
 
-    /// An equal tree of nodes that own their children, by a recursion that is as deep as the tree.
+    /// An equal tree of nodes that own their children. It is made by a recursion that is as deep as the tree, so this
+    /// has to have no more levels than a lemma's text may have.
     pub fn to_node(&self, alloc: Global) -> Result<Node, AllocError>
+        requires { HasLevels MOST_LEVELS self.now }
         ensures { IfOk result (λ node. tree_of node ≡ self.now) }
     {
         first_node(alloc, &mut self.lend().trees())
