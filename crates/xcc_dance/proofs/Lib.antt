@@ -14,3 +14,4 @@ pub mod SearchTreeLemmas
 pub mod WalkLemmas
 pub mod PickingLemmas
 pub mod UncoveredLemmas
+pub mod WalkingLemmas

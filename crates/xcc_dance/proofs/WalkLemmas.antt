@@ -1,5 +1,5 @@
 -- How what is found grows from node to node.
-use Rattle.std.proofs.Common.{◌≡◌, ◌⊎◌, ◌≢◌, ◌<◌, ◌≤◌, ◌+◌, ◌*◌, ◌++◌, ◌∷◌, [], ℕ, List, Option, Some, MatchOption, length, length-append, Contains, slice_get, append_assoc, Result, Ok, Err, Bool, true, false, IfOk, MatchBool, arith, ap, sym, ◌∙◌, subst, inl, inr, ⊎_elim}
+use Rattle.std.proofs.Common.{◌≡◌, ◌⊎◌, ◌≢◌, ◌<◌, ◌≤◌, ◌+◌, ◌*◌, ◌++◌, ◌∷◌, [], ℕ, List, Option, Some, MatchOption, length, length-append, Contains, slice_get, append_assoc, Bool, true, MatchBool, arith, ap, sym, ◌∙◌, subst, inl, inr, ⊎_elim}
 use Rattle.std.proofs.lemmas.List.Elements.{Contains-push_cases}
 use Rattle.match_limits.specs.declared.TheConstants.{MOST_CELLS, MOST_CHILDREN}
 use Rattle.match_puzzle.specs.declared.placements.Placement.{Placement}
@@ -8,13 +8,12 @@ use Rattle.xcc_form.specs.Correspondence.{IsSolutionOf}
 use Rattle.match_puzzle.specs.Fitting.{IsNumberOf}
 use Rattle.match_puzzle.specs.declared.items.Item.{Item}
 use Rattle.cert_tree.specs.Tree.{Tree, Forest, branch, dead, found, none, more, count}
-use Rattle.cert_tree.specs.Limits.{IsTreeWithin}
+use Rattle.cert_tree.specs.Limits.{HasLevels, IsTreeWithin}
 use Rattle.cert_tree.specs.Heads.{branch_head, heads_in, heads_of}
 use Rattle.cert_tree.specs.declared.heads.Head.{Head}
 use Rattle.cert_tree.proofs.HeadLemmas.{count-join}
-use Rattle.std.specs.declared.alloc.AllocError.{AllocError}
 use Rattle.xcc_form.specs.Clashes.{IsOpen, IsOpenAt}
-use Rattle.xcc_form.specs.Chosen.{Selection, IsSelection, IsUncovered, AreAllCovered, HasSize, with_option, IsFoundFrom}
+use Rattle.xcc_form.specs.Chosen.{Selection, IsSelection, HasSize, with_option, IsFoundFrom}
 use Rattle.xcc_dance.specs.Found.{IsCitation, IsFoundBelow, branch_count}
 use Rattle.xcc_dance.specs.Outcome.{IsCiteWithin}
 use Rattle.xcc_dance.specs.declared.cites.Cite.{Cite}
@@ -25,7 +24,7 @@ use Rattle.xcc_dance.proofs.PartialLemmas.{one_more}
 use Rattle.xcc_dance.proofs.RoomLemmas.{few_chosen}
 use Rattle.xcc_dance.proofs.SizeLemmas.{AreOpenBefore, below_one, size_same, few_below, few_sized}
 use Rattle.xcc_dance.proofs.GrowingLemmas.{with_last, heads_more, kept_push, total_more, all_up, all_more, found_before}
-use Rattle.xcc_dance.proofs.WithinLemmas.{cited_within, found_within, dead_within, branch_within, within_more_trees}
+use Rattle.xcc_dance.proofs.WithinLemmas.{cited_within, found_within, dead_within, branch_within, within_more_trees, leaf_levels, dead_levels, branch_levels, cited_levels, levels_more}
 
 -- ---- heads behind heads
 
@@ -40,12 +39,6 @@ pub more_heads : (old before after : List Head) (trees : Forest) (tree : Tree) �
 more_heads old before after trees tree put put' =
     put' ∙ ap (λ xs. xs ++ heads_of tree) put ∙ append_assoc old (heads_in trees) (heads_of tree) ∙ ap (λ xs. old ++ xs) (sym (heads_more trees tree))
 
--- whether the fuel did, each with more that is said of it
-pub either_way : {P P' Q Q' : Type 0} → (r : Result Bool AllocError) → (P → P') → (Q → Q') → IfOk r (λ done. MatchBool done P Q) → IfOk r (λ done. MatchBool done P' Q')
-either_way (Ok true) f g w = f w
-either_way (Ok false) f g w = g w
-either_way (Err e) f g w = tt
-
 -- ---- citations
 
 cited_count : (cite : Cite) (tree : Tree) → IsCitation cite tree → branch_count tree ≡ 0
@@ -55,12 +48,6 @@ cited_count (cites.Image lemma symmetry) tree is = ap branch_count is
 cited_found : (n : ℕ) (cite : Cite) (tree : Tree) → IsCitation cite tree → IsFoundBelow n tree
 cited_found n (cites.Same lemma) tree is = subst (IsFoundBelow n) (sym is) tt
 cited_found n (cites.Image lemma symmetry) tree is = subst (IsFoundBelow n) (sym is) tt
-
--- The item that a rule took is uncovered, also where the choices are seen again.
-pub taken_item : (here there : Selection) (took : Option ℕ) (item : ℕ) → there ≡ here → took ≡ Some item → MatchOption took (AreAllCovered (cover_of here.compiled) here.chosen) (IsUncovered (cover_of here.compiled) here.chosen) → IsUncovered (cover_of there.compiled) there.chosen item
-taken_item here there took item same is uncovered =
-    subst (λ (v : Selection). IsUncovered (cover_of v.compiled) v.chosen item) (sym same)
-    (subst (λ o. MatchOption o (AreAllCovered (cover_of here.compiled) here.chosen) (IsUncovered (cover_of here.compiled) here.chosen)) is uncovered)
 
 -- The option that comes next is open, also where the choices are seen again.
 pub taken_option : (here there : Selection) (item : ℕ) (next : Option ℕ) (option : ℕ) → there ≡ here → next ≡ Some option → MatchOption next (Unit {0}) (IsOpenAt (cover_of here.compiled) here.chosen item) → IsOpenAt (cover_of there.compiled) there.chosen item option
@@ -79,17 +66,6 @@ pub then_done : (P Q : Type 0) (done : Bool) → done ≡ true → MatchBool don
 then_done P Q done is w = subst (λ b. MatchBool b P Q) is w
 
 module _ (start : Selection) where
-  -- what is found stays, and so does the fuel
-  pub goes_nowhere : (before after : Progress) → after.found.items ≡ before.found.items → after.fuel ≡ before.fuel → GoesOn start before after
-  goes_nowhere before after items fuel =
-      let long = ap length items in
-      record {
-        fuel = omega (arith, fuel);
-        more = omega (arith, long);
-        kept = λ n a at. subst (λ xs. slice_get xs n ≡ Some a) (sym items) at;
-        found = λ a c. inl (subst (λ xs. Contains xs a) items c);
-      }
-
   -- what goes on with one more option goes on without it
   pub goes_further : (chosen : Selection) (option : ℕ) (first before after : Progress) → chosen ≡ with_option start option → GoesOn start first before → GoesOn chosen before after → GoesOn start first after
   goes_further chosen option first before after e old new = record {
@@ -141,6 +117,7 @@ module _ (start : Selection) where
       record {
         spent = omega (arith, fuel);
         numbers = omega (arith, is, long);
+        levels = leaf_levels (levels_below start) number;
         within = λ few. found_within (levels_below start) number (length after.found.items) (omega (arith, is, long)) few;
         few = omega (arith, long, fuel);
       }
@@ -149,7 +126,7 @@ module _ (start : Selection) where
   pub dead_tree : (before after : Progress) (cells number : ℕ) (item : Item) → after.found.items ≡ before.found.items → after.fuel ≡ before.fuel → cells ≤ MOST_CELLS → number < 2 * cells → IsNumberOf cells number item → IsTreeOf start before after (dead item)
   dead_tree before after cells number item items fuel few lt is =
       let long = ap length items in
-      record { spent = omega (arith, fuel); numbers = tt; within = λ few'. dead_within (levels_below start) cells number item few lt is; few = omega (arith, long, fuel) }
+      record { spent = omega (arith, fuel); numbers = tt; levels = dead_levels (levels_below start) item; within = λ few'. dead_within (levels_below start) cells number item few lt is; few = omega (arith, long, fuel) }
 
   -- the node of a citation, which finds nothing
   pub cited_tree : (before after : Progress) (cite : Cite) (tree : Tree) → IsCitation cite tree → IsCiteWithin cite → after.found.items ≡ before.found.items → after.fuel ≡ before.fuel → IsTreeOf start before after tree
@@ -159,6 +136,7 @@ module _ (start : Selection) where
       record {
         spent = omega (arith, no_branch, fuel);
         numbers = cited_found (length after.found.items) cite tree is;
+        levels = cited_levels (levels_below start) cite tree is;
         within = λ few. cited_within (levels_below start) cite tree is within;
         few = omega (arith, long, fuel);
       }
@@ -176,6 +154,7 @@ module _ (start : Selection) where
       record {
         spent = omega (arith, spent, fuel);
         numbers = trees.numbers;
+        levels = branch_levels (levels_below start) item children trees.levels;
         within = λ few'. branch_within (levels_below start) cells number item children few lt (omega (arith, same, some)) most (trees.within few') is;
         few = omega (arith, many, most, fuel, long);
       }
@@ -184,7 +163,7 @@ module _ (start : Selection) where
 
   -- none yet
   pub no_trees : (progress : Progress) → AreTreesOf start progress progress none
-  no_trees progress = record { spent = omega arith; numbers = tt; within = λ few. tt; few = omega arith }
+  no_trees progress = record { spent = omega arith; numbers = tt; levels = tt; within = λ few. tt; few = omega arith }
 
   module _ (right : IsSelection start.compiled start.chosen) (option : ℕ) where
     -- one level fewer is left below a child
@@ -211,6 +190,7 @@ module _ (start : Selection) where
         record {
           spent = omega (arith, total, spent, spent');
           numbers = all_more (length after.found.items) trees tree (all_up (length before.found.items) (length after.found.items) more' trees old.numbers) new.numbers;
+          levels = levels_more (levels_below start) trees tree old.levels (subst (λ n. HasLevels n tree) levels new.levels);
           within = λ few. within_more_trees (levels_below start) trees tree (old.within (omega (arith, few, more'))) (subst (λ n. IsTreeWithin MOST_CELLS n tree) levels (new.within few));
           few = omega (arith, many, many', counted);
         }

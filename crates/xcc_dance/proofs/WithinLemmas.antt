@@ -1,10 +1,10 @@
--- Nodes that are within the limits of a lemma.
+-- How many levels nodes have, and that they are within the limits of a lemma.
 use Rattle.std.proofs.Common.{◌<◌, ◌≤◌, ◌+◌, ◌*◌, ℕ, zero, suc, arith, add-one, sym, subst}
 use Rattle.match_limits.specs.declared.TheConstants.{MOST_ARRANGEMENTS, MOST_CELLS, MOST_CHILDREN}
 use Rattle.match_puzzle.specs.declared.items.Item.{Item}
 use Rattle.match_puzzle.specs.declared.items.Item.TheVariants.{Cell, Tile}
 use Rattle.cert_tree.specs.Tree.{Tree, Forest, branch, dead, found, same, image, none, more, count}
-use Rattle.cert_tree.specs.Limits.{IsItemWithin, IsTreeWithin, AreTreesWithin}
+use Rattle.cert_tree.specs.Limits.{HasLevels, HaveLevels, IsItemWithin, IsTreeWithin, AreTreesWithin}
 use Rattle.match_puzzle.specs.Fitting.{IsNumberOf}
 use Rattle.xcc_dance.specs.Found.{IsCitation}
 use Rattle.xcc_dance.specs.Outcome.{IsCiteWithin}
@@ -14,6 +14,45 @@ use Rattle.xcc_dance.proofs.GrowingLemmas.{with_last}
 
 one_level : (levels : ℕ) (tree : Tree) → IsTreeWithin MOST_CELLS (suc levels) tree → IsTreeWithin MOST_CELLS (levels + 1) tree
 one_level levels tree h = subst (λ n. IsTreeWithin MOST_CELLS n tree) (sym (add-one levels)) h
+
+some_levels : (levels : ℕ) (tree : Tree) → HasLevels (suc levels) tree → HasLevels (levels + 1) tree
+some_levels levels tree h = subst (λ n. HasLevels n tree) (sym (add-one levels)) h
+
+-- ---- how many levels a node has
+
+pub leaf_levels : (levels number : ℕ) → HasLevels (levels + 1) (found number)
+leaf_levels levels number = some_levels levels (found number) tt
+
+pub dead_levels : (levels : ℕ) (item : Item) → HasLevels (levels + 1) (dead item)
+dead_levels levels item = some_levels levels (dead item) tt
+
+pub branch_levels : (levels : ℕ) (item : Item) (children : Forest) → HaveLevels levels children → HasLevels (levels + 1) (branch item children)
+branch_levels levels item children below = some_levels levels (branch item children) below
+
+pub cited_levels : (levels : ℕ) (cite : Cite) (tree : Tree) → IsCitation cite tree → HasLevels (levels + 1) tree
+cited_levels levels (cites.Same lemma) tree is = subst (HasLevels (levels + 1)) (sym is) (some_levels levels (same lemma) tt)
+cited_levels levels (cites.Image lemma symmetry) tree is = subst (HasLevels (levels + 1)) (sym is) (some_levels levels (image lemma symmetry) tt)
+
+pub levels_more : (levels : ℕ) (trees : Forest) (tree : Tree) → HaveLevels levels trees → HasLevels levels tree → HaveLevels levels (with_last trees tree)
+levels_more levels none tree all one = (one, tt)
+levels_more levels (more t trees) tree all one = (all.0, levels_more levels trees tree all.1 one)
+
+mutual
+  -- a tree with so many levels has no more than more
+  pub levels_up : (m n : ℕ) → m ≤ n → (t : Tree) → HasLevels m t → HasLevels n t
+  levels_up zero n le t h = absurd h
+  levels_up (suc m) zero le t h = absurd (omega (arith, le))
+  levels_up (suc m) (suc n) le (branch item children) h = all_levels_up m n (omega (arith, le)) children h
+  levels_up (suc m) (suc n) le (dead item) h = h
+  levels_up (suc m) (suc n) le (found number) h = h
+  levels_up (suc m) (suc n) le (same lemma) h = h
+  levels_up (suc m) (suc n) le (image lemma symmetry) h = h
+
+  all_levels_up : (m n : ℕ) → m ≤ n → (ts : Forest) → HaveLevels m ts → HaveLevels n ts
+  all_levels_up m n le none h = tt
+  all_levels_up m n le (more t ts) h = (levels_up m n le t h.0, all_levels_up m n le ts h.1)
+
+-- ---- the limits of a text
 
 pub found_within : (levels number n : ℕ) → number < n → n ≤ MOST_ARRANGEMENTS → IsTreeWithin MOST_CELLS (levels + 1) (found number)
 found_within levels number n lt few = one_level levels (found number) (omega (arith, lt, few))

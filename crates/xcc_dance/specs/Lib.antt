@@ -5,3 +5,4 @@ pub mod Progress
 pub mod SearchTree
 pub mod Unfinished
 pub mod Outcome
+pub mod Walking

@@ -4,7 +4,7 @@ use Rattle.match_limits.specs.declared.TheConstants.{MOST_ARRANGEMENTS, MOST_CEL
 use Rattle.match_puzzle.specs.declared.placements.Placement.{Placement}
 use Rattle.match_puzzle.specs.declared.placements.Pair.{Pair}
 use Rattle.cert_tree.specs.Tree.{Tree, tree_of}
-use Rattle.cert_tree.specs.Limits.{IsTreeWithin}
+use Rattle.cert_tree.specs.Limits.{HasLevels, IsTreeWithin}
 use Rattle.xcc_form.specs.Options.{Compiled}
 use Rattle.xcc_form.specs.Chosen.{Selection, Picks}
 use Rattle.xcc_dance.specs.Placing.{ArePairsOf, IsArrangementWith}
@@ -29,13 +29,15 @@ pub record SearchState (S : Type 0) : Type 0 where
   pub branches : ℕ
   pub failed : Bool
 
--- What was found are arrangements that extend the prefix, which the tree numbers; it has so many branch nodes, and is
--- within the limits of a lemma's text where no more was found than may be listed.
+-- What was found are arrangements that extend the prefix, which the tree numbers; it has so many branch nodes, and no
+-- more levels than a lemma's text may have. It is within all limits of that text where no more was found than may be
+-- listed.
 pub record IsSearched (x : Compiled) (prefix : List Pair) (tree : Tree) (found : List (List Placement))
     (branches : ℕ) : Type 0 where
   pub found_are : (a : List Placement) → Contains found a → IsArrangementWith x.puzzle prefix a
   pub numbers : IsFoundBelow (length found) tree
   pub branch_nodes : branch_count tree ≡ branches
+  pub levels : HasLevels MOST_LEVELS tree
   pub within : length found ≤ MOST_ARRANGEMENTS → IsTreeWithin MOST_CELLS MOST_LEVELS tree
 
 -- All was found, and the engine is what it was, with link arrays each link and each size.
@@ -56,7 +58,7 @@ IsOutcome selection before after prefix fuel (plain.Done tree found) =
     IsDone selection before after prefix (tree_of tree) found.items
 IsOutcome selection before after prefix fuel plain.GaveUp = IsGivenUp after fuel
 
--- The same, with a tree that is packed.
+-- The outcome of a run with a packed tree, by what the search was before and is then.
 abbrev pub IsPackedOutcome : {S : Type 0} → (selection : S → Selection) → (before after : SearchState S) → List Pair
     → (fuel : ℕ) → PackedOutcome → Type 0
 IsPackedOutcome selection before after prefix fuel (packed.Done tree found) =
@@ -80,7 +82,8 @@ IsSearchOf picks answers x prefix fuel (plain.Done tree found) =
     IsTreeFrom picks answers x prefix (tree_of tree) found.items
 IsSearchOf picks answers x prefix fuel plain.GaveUp = IsUnfinishedFrom picks answers x prefix fuel
 
--- The same, with a tree that is packed.
+-- The packed tree that a run came to is that of a search from the options of the prefix. Where it gave up, such a search
+-- is unfinished after as many branch nodes as there was fuel.
 abbrev pub IsPackedSearchOf : Picks → Answers → Compiled → List Pair → (fuel : ℕ) → PackedOutcome → Type 0
 IsPackedSearchOf picks answers x prefix fuel (packed.Done tree found) =
     IsTreeFrom picks answers x prefix tree found.items

@@ -4,7 +4,7 @@ use Rattle.match_limits.specs.declared.TheConstants.{MOST_ARRANGEMENTS, MOST_CEL
 use Rattle.match_puzzle.specs.declared.placements.Placement.{Placement}
 use Rattle.cert_tree.specs.Heads.{heads_of, heads_in}
 use Rattle.cert_tree.specs.Tree.{Tree, Forest, count}
-use Rattle.cert_tree.specs.Limits.{IsTreeWithin, AreTreesWithin}
+use Rattle.cert_tree.specs.Limits.{HasLevels, HaveLevels, IsTreeWithin, AreTreesWithin}
 use Rattle.xcc_form.specs.Chosen.{Selection, IsFoundFrom}
 use Rattle.xcc_dance.specs.Found.{branch_count, branch_total, IsFoundBelow, AreFoundBelow}
 use Rattle.xcc_dance.specs.declared.progress.Progress.{Progress}
@@ -37,6 +37,7 @@ pub record GoesOn (s : Selection) (before after : Progress) : Type 0 where
 pub record IsTreeOf (s : Selection) (before after : Progress) (tree : Tree) : Type 0 where
   pub spent : after.fuel + branch_count tree ≡ before.fuel
   pub numbers : IsFoundBelow (length after.found.items) tree
+  pub levels : HasLevels (levels_below s + 1) tree
   pub within : length after.found.items ≤ MOST_ARRANGEMENTS → IsTreeWithin MOST_CELLS (levels_below s + 1) tree
   pub few : length after.found.items + MOST_CHILDREN * after.fuel
       ≤ length before.found.items + MOST_CHILDREN * before.fuel + 1
@@ -45,6 +46,7 @@ pub record IsTreeOf (s : Selection) (before after : Progress) (tree : Tree) : Ty
 pub record AreTreesOf (s : Selection) (before after : Progress) (trees : Forest) : Type 0 where
   pub spent : after.fuel + branch_total trees ≡ before.fuel
   pub numbers : AreFoundBelow (length after.found.items) trees
+  pub levels : HaveLevels (levels_below s) trees
   pub within : length after.found.items ≤ MOST_ARRANGEMENTS → AreTreesWithin MOST_CELLS (levels_below s) trees
   pub few : length after.found.items + MOST_CHILDREN * after.fuel
       ≤ length before.found.items + MOST_CHILDREN * before.fuel + count trees

@@ -5,10 +5,11 @@ ghost use Rattle.match_board.specs.Board.{cell_count};
 ghost use Rattle.match_puzzle.specs.Fitting.{IsNumberOf};
 ghost use Rattle.xcc_form.specs.Options.{IsCompiled, IsOptionPair, cover_of};
 ghost use Rattle.xcc_form.specs.Correspondence.{IsPairOf, IsSolutionOf};
-ghost use Rattle.xcc_form.specs.Clashes.{IsOpen};
-ghost use Rattle.xcc_form.specs.Chosen.{IsSelection, IsUncovered, AreAllCovered, with_option, before_any};
+ghost use Rattle.xcc_form.specs.Clashes.{IsOpen, IsOpenAt};
+ghost use Rattle.xcc_form.specs.Chosen.{IsSelection, IsUncovered, AreAllCovered, IsLast, IsNext, with_option, before_any};
 ghost use Rattle.match_fits.specs.Placing.{FitInTurn};
 ghost use Rattle.xcc_dance.specs.Placing.{ArePairsOf};
+ghost use Rattle.xcc_dance.specs.Walking.{IsBranchAt};
 
 use match_limits::MOST_CELLS;
 use match_puzzle::{Arrangement, Item, Pair};
@@ -16,9 +17,18 @@ use std::alloc::{AllocError, Global};
 use std::marker::Model;
 use xcc_form::{Chooses, FormFault, OpenOptions};
 
+// The item that a rule branches on, with its number, and how many open options it has.
+#[derive(Clone, Copy)]
+pub(crate) struct Branch {
+    pub(crate) number: u32,
+    pub(crate) about: Item,
+    pub(crate) size: u32,
+}
+
 // Chosen options with their pairs, in the order of choosing. It is seen as the engine that keeps the options.
 #[derive(Drop)]
 pub(crate) struct SearchPath<E: OpenOptions + Drop> {
+    alloc: Global,
     engine: E,
     pairs: Vec<Pair>,
 }
@@ -40,7 +50,11 @@ impl<E: OpenOptions + Drop> SearchPath<E> {
         ensures { IfOk result (λ p. p ≡ engine) }
     {
         let pairs = Vec::with_capacity(alloc, usize::from(engine.xcc().cells()))?;
-        Ok(SearchPath { engine, pairs })
+        Ok(SearchPath {
+            alloc,
+            engine,
+            pairs,
+        })
     }
 
     // What is chosen, and what is open beside it.
@@ -80,6 +94,40 @@ impl<E: OpenOptions + Drop> SearchPath<E> {
         ensures picked { IfOk result (λ o. IfSome o (R.picks rule.now (E.selection self.old))) }
     {
         rule.choose_item(&mut self.engine)
+    }
+
+    // The branch that a rule takes, or `None` where all primary items are covered.
+    pub(crate) fn choose_branch<R: Chooses>(
+        &mut self,
+        rule: &R,
+    ) -> Result<Option<Branch>, AllocError>
+        ensures same { self.new ≡ self.old }
+        ensures node { let s = E.selection self.old in IfOk result (λ o. MatchOption o
+            (AreAllCovered (cover_of s.compiled) s.chosen)
+            (IsBranchAt (R.picks rule.now) s)) }
+    {
+        let Some(number) = self.choose_item(rule)? else {
+            return Ok(None);
+        };
+        let about = self.item_numbered(number);
+        let size = self.engine().size(number);
+        Ok(Some(Branch {
+            number,
+            about,
+            size,
+        }))
+    }
+
+    // The open option of an uncovered item that comes next after this one of them, by number, or the first of them.
+    pub(crate) fn next_option(&self, item: u32, after: Option<u32>) -> Option<u32>
+        requires item { let s = E.selection self.now in IsUncovered (cover_of s.compiled) s.chosen item }
+        requires after { let s = E.selection self.now in IfSome after (IsOpenAt (cover_of s.compiled) s.chosen item) }
+        ensures next { let s = E.selection self.now in MatchOption result
+            (IsLast (cover_of s.compiled) s.chosen item after)
+            (IsNext (cover_of s.compiled) s.chosen item after) }
+        ensures right { let s = E.selection self.now in IsSelection s.compiled s.chosen }
+    {
+        self.engine().next_option(item, after)
     }
 
     // Chooses an open option. Where memory is refused, nothing changes.
@@ -131,14 +179,14 @@ impl<E: OpenOptions + Drop> SearchPath<E> {
     }
 
     // The arrangement of the chosen options, which cover all primary items.
-    pub(crate) fn arrangement(&self, alloc: Global) -> Result<Arrangement, AllocError>
+    pub(crate) fn arrangement(&self) -> Result<Arrangement, AllocError>
         requires { let s = E.selection self.now in AreAllCovered (cover_of s.compiled) s.chosen }
         ensures { let s = E.selection self.now in IfOk result (λ a. IsSolutionOf s.compiled a s.chosen) }
     {
         match self
             .engine
             .xcc()
-            .arrangement_of(alloc, self.engine.chosen())
+            .arrangement_of(self.alloc, self.engine.chosen())
         {
             Ok(arrangement) => Ok(arrangement),
             // whole selections are solutions

@@ -1,6 +1,8 @@
 //! Searches of a compiled puzzle.
 
 ghost use Rattle.std.specs.Prelude.{◌≡◌, ◌↔◌, ◌⊎◌, ◌≤◌, [], List, IfOk, IsErrOf, OnErr, true, false};
+ghost use Rattle.match_limits.specs.declared.TheConstants.{MOST_LEVELS};
+ghost use Rattle.cert_tree.specs.Limits.{HasLevels};
 ghost use Rattle.cert_tree.specs.Tree.{tree_of};
 ghost use Rattle.match_puzzle.specs.declared.placements.Pair.{Pair as Placed};
 ghost use Rattle.match_fits.specs.Placing.{FitInTurn};
@@ -29,7 +31,7 @@ pub enum Outcome {
     GaveUp,
 }
 
-/// The same, with a tree whose nodes lie one after the other.
+/// What a run of a search comes to, with a tree whose nodes lie one after the other.
 #[derive(Drop)]
 pub enum PackedOutcome {
     /// As in [`Outcome`]; `Head::Found(i)` is number i of the arrangements.
@@ -146,7 +148,8 @@ impl<E: OpenOptions + Drop> SearchOver<E> {
 
     // The tree of a run that is done, with nodes that own their children.
     fn nodes_of(&mut self, tree: &PackedTree) -> Result<Node, AllocError>
-        requires { self.old.failed ≡ false }
+        requires ready { self.old.failed ≡ false }
+        requires levels { HasLevels MOST_LEVELS tree.now }
         ensures engine { self.new.engine ≡ self.old.engine }
         ensures branches { self.new.branches ≡ self.old.branches }
         ensures node { IfOk result (λ node. (self.new.failed ≡ false) × (tree_of node ≡ tree.now)) }
@@ -158,8 +161,8 @@ impl<E: OpenOptions + Drop> SearchOver<E> {
         Ok(node)
     }
 
-    /// The same, with branches on the items that the rule takes, and a tree whose nodes lie one after the other. Memory
-    /// may be refused to the rule too.
+    /// Searches as `run` does, but branches on the items that the rule takes, and answers a tree whose nodes lie one
+    /// after the other. `Memory` comes where memory is refused to the rule, too.
     pub fn run_by<R: Chooses, C: Cites>(
         &mut self,
         prefix: &[Pair],
@@ -192,7 +195,7 @@ impl<E: OpenOptions + Drop> SearchOver<E> {
             found: Vec::new(self.alloc),
             heads: Vec::new(self.alloc),
         };
-        let walked = walk(self.alloc, &mut self.path, rule, cites, &mut progress);
+        let walked = walk(&mut self.path, rule, cites, &mut progress);
         self.branches = fuel - progress.fuel;
         if !walked? {
             return Ok(PackedOutcome::GaveUp);

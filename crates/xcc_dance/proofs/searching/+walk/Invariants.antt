@@ -2,8 +2,8 @@ use Rattle.std.proofs.Common.{◌≡◌, ◌+◌, ◌-◌, ◌*◌, MatchOption,
 use Rattle.xcc_form.specs.Options.{cover_of}
 use Rattle.xcc_form.specs.Clashes.{IsOpenAt}
 use Rattle.xcc_form.specs.Chosen.{Selection}
-use Rattle.xcc_dance.specs.Progress.{GoesOn, AreTreesOf, PutsTrees}
-use Rattle.xcc_dance.proofs.SearchTreeLemmas.{AreBranchesBefore}
+use Rattle.xcc_dance.specs.Walking.{WalksOn}
+use Rattle.xcc_dance.proofs.WalkingLemmas.{MadeBefore}
 use Rattle.xcc_form.proofs.NextLemmas.{left_after}
 use Rattle.xcc_dance.proofs.searching.+walk.Given as goal
 
@@ -21,13 +21,11 @@ abbrev pub decreases-walk_options : goal.decreases-walk_options
 decreases-walk_options g l = 3 * left_of (g.E.OpenOptions.selection l.path.now)
 
 abbrev pub invariant-walk_options-loop-next : goal.invariant-walk_options-loop-next
-invariant-walk_options-loop-next g l = record {
+invariant-walk_options-loop-next g l = let s = g.E.OpenOptions.selection l.initial.path in record {
   path : l.path ≡ l.initial.path;
-  next : MatchOption l.next (Unit {0}) (IsOpenAt (cover_of (g.E.OpenOptions.selection l.initial.path).compiled) (g.E.OpenOptions.selection l.initial.path).chosen l.item);
-  made : PutsTrees l.initial.progress l.progress (λ ts. AreTreesOf (g.E.OpenOptions.selection l.initial.path) l.initial.progress l.progress ts
-      × AreBranchesBefore (g.R.Chooses.picks l.rule) (g.C.Cites.answers l.cites) l.progress.found.items (g.E.OpenOptions.selection l.initial.path) l.item l.next ts);
-  moved : g.C.Cites.moves l.initial.cites l.cites;
-  goes_on : GoesOn (g.E.OpenOptions.selection l.initial.path) l.initial.progress l.progress;
+  next : MatchOption l.next (Unit {0}) (IsOpenAt (cover_of s.compiled) s.chosen l.item);
+  made : MadeBefore (g.R.Chooses.picks l.rule) (g.C.Cites.answers l.cites) s l.item l.next l.initial.progress l.progress;
+  on : WalksOn g.E.OpenOptions.selection g.C.Cites.moves l.initial.path l.path l.initial.cites l.cites l.initial.progress l.progress;
 }
 
 abbrev pub decreases-walk_options-loop-next : goal.decreases-walk_options-loop-next
