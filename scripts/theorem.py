@@ -21,6 +21,8 @@ TOP = os.path.join(os.path.dirname(os.path.abspath(__file__)), "..")
 PAGE, README = "docs/THEOREM.md", "README.md"
 
 COMPLETE = "puzzle_symmetry/specs/Complete.antt", "IsCompleteList"
+# The law by which each listed arrangement has every tile.
+PLACED = "match_puzzle/specs/Arrangement.antt", "AllTilesArePlaced"
 LINE = "match_report/specs/AnswerText.antt", "answer_line"
 HAS = "match_puzzle/specs/Arrangement.antt", "HasArrangements"
 COUNT = [
@@ -34,12 +36,13 @@ SPELLED = "match_runs/specs/Checking.antt", "SpellCompleteList"
 # The rows of the page's table, with the definitions that say it. The README has the numbers of the first.
 ROWS = {
     "a list is complete": [COMPLETE],
+    "its arrangements have every tile": [PLACED],
     "the line `complete N` says so": [COMPLETE, LINE],
     "what `count` prints": COUNT,
     "a count by a search": SEARCH,
     "the line says so of the bytes of three files": [SPELLED, LINE],
 }
-QUOTED = [COMPLETE, LINE, *COUNT, *SEARCH]
+QUOTED = [COMPLETE, PLACED, LINE, *COUNT, *SEARCH]
 # What binds these to the program is quoted too, but not what that rests on beside.
 CARRIERS = [
     ("cert_check/specs/Answer.antt", "IsSound"),

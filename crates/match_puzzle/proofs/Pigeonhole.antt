@@ -1,12 +1,12 @@
 -- Each tile stands somewhere, where there are as many tiles as cells and none stands twice.
-use Rattle.std.proofs.Common.{◌≡◌, ◌⊎◌, ◌||◌, ◌<◌, ℕ, zero, suc, Bool, true, false, List, [], ◌∷◌, map, length, eqb, arith, refl, sym, subst, ⊎_elim, inl, inr}
+use Rattle.std.proofs.Common.{◌≡◌, ◌⊎◌, ◌||◌, ◌<◌, ℕ, zero, suc, Bool, true, false, List, [], ◌∷◌, map, length, eqb, arith, refl, sym, subst, ⊎_elim, inl, inr, ◌∙◌}
 use Rattle.std.specs.List.{IsDistinct, list_any, AllByRecursion}
 use Rattle.std.proofs.lemmas.Map.Steps.{length-le_from_distinct_below}
 use Rattle.std.proofs.lemmas.Map.Keys.{IsDistinct-cons}
 use Rattle.std.proofs.lemmas.Bool.{eqb-true, false≢true}
 use Rattle.std.proofs.lemmas.List.{length-map}
 use Rattle.match_puzzle.proofs.Prefixes.{inside}
-use Rattle.match_puzzle.specs.Arrangement.{Stands}
+use Rattle.match_puzzle.specs.Arrangement.{Stands, AllTilesArePlaced}
 use Rattle.match_puzzle.specs.declared.placements.Placement.{Placement}
 
 -- a tile that stands somewhere, or nowhere
@@ -57,3 +57,7 @@ placed_somewhere a n long below once tile lt = ⊎_elim (λ w. w) (λ none. absu
         by_place : (c : ℕ) (x : Placement) → Stands ((let y : Placement = record { tile = tile; turn = 0 } in y) ∷ a) c x → x.tile < n
         by_place zero x s = subst (λ (y : Placement). y.tile < n) (inside s) lt
         by_place (suc c) x s = below c x s
+
+-- The law of arrangements: where there are as many tiles as cells, each tile stands.
+pub all_placed : AllTilesArePlaced
+all_placed p a many is = placed_somewhere a (length p.words) (is.cells ∙ sym many) (λ cell x s. (is.legal cell x s).tile) is.once

@@ -49,7 +49,6 @@ module _ (turns : Bool) (border : BorderRule) (mates : List ℕ) (words : List (
       cells = is.cells ∙ a.cells;
       legal = λ cell x stands. legal_alike a v w x (is.legal cell x stands);
       once = is.once;
-      placed = is.placed;
       border = λ cell side colour x stands rule.
           same_colour back w v x side ∙ is.border cell side colour x stands (rule_alike back w v rule);
       edges = λ cell side cell' side' x y meets here there.

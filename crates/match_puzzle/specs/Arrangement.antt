@@ -20,10 +20,6 @@ AreLegal p a = (cell : ℕ) (x : Placement) → Stands a cell x → IsLegal p x
 abbrev pub StandOnce : List Placement → Type 0
 StandOnce a = (cell cell' : ℕ) (x y : Placement) → Stands a cell x → Stands a cell' y → x.tile ≡ y.tile → cell ≡ cell'
 
--- Each tile of the puzzle stands at a cell.
-abbrev pub AreAllPlaced : Task → List Placement → Type 0
-AreAllPlaced p a = (tile : ℕ) → tile < length p.words → (cell : ℕ) × (x : Placement) × Stands a cell x × (x.tile ≡ tile)
-
 -- Each border pair with a rule shows that colour.
 abbrev pub ObeyBorder : Task → List Placement → Type 0
 ObeyBorder p a =
@@ -39,15 +35,22 @@ MatchesEdgeAt p a cell side =
 abbrev pub MatchEdges : Task → List Placement → Type 0
 MatchEdges p a = (cell side : ℕ) → MatchesEdgeAt p a cell side
 
--- A legal placement for each cell, each tile at just one cell, the border as asked, and sides that meet match (MacMahon
--- 1921).
+-- A legal placement for each cell, no tile at two cells, the border as asked, and sides that meet match (MacMahon 1921).
 pub record IsArrangement (p : Task) (a : List Placement) : Type 0 where
   pub cells : length a ≡ cell_count p.board
   pub legal : AreLegal p a
   pub once : StandOnce a
-  pub placed : AreAllPlaced p a
   pub border : ObeyBorder p a
   pub edges : MatchEdges p a
+
+-- Each tile of the puzzle stands at a cell.
+abbrev pub AreAllPlaced : Task → List Placement → Type 0
+AreAllPlaced p a = (tile : ℕ) → tile < length p.words → (cell : ℕ) × (x : Placement) × Stands a cell x × (x.tile ≡ tile)
+
+-- Where there are as many tiles as cells, an arrangement has each tile.
+abbrev pub AllTilesArePlaced : Type 0
+AllTilesArePlaced =
+    (p : Task) (a : List Placement) → length p.words ≡ cell_count p.board → IsArrangement p a → AreAllPlaced p a
 
 -- Each listed one is an arrangement of the puzzle.
 abbrev pub AreArrangements : Task → List (List Placement) → Type 0

@@ -2,15 +2,18 @@
 
 ghost use Rattle.std.specs.Prelude.{◌≡◌, ◌↔◌, ℕ, List, []};
 ghost use Rattle.match_puzzle.specs.Puzzle.{Task, IsPuzzle, GoTogether, second_form_of};
-ghost use Rattle.match_puzzle.specs.Arrangement.{IsArrangement};
+ghost use Rattle.match_puzzle.specs.Arrangement.{IsArrangement, AllTilesArePlaced};
 ghost use Rattle.match_puzzle.specs.Prefix.{Prefix};
 ghost use Rattle.match_puzzle.specs.Fitting.{Fits};
 ghost use Rattle.match_puzzle.specs.declared.placements.Placement.{Placement};
 
-/// Does nothing. Its promises are laws. In a puzzle, whether colours go together is the same from either side, and in
-/// one without mates those do that are equal. A puzzle's second form, of version 2 with a shape in place of a rectangle,
-/// is a puzzle, has the same arrangements, and the same fits a prefix.
+/// Does nothing. Its promises are laws:
+/// - Where there are as many tiles as cells, an arrangement has each tile.
+/// - In a puzzle, whether colours go together is the same from either side. Without mates equal colours do.
+/// - A puzzle's second form, of version 2 with a shape in place of a rectangle, is a puzzle, has the same arrangements,
+///   and the same fits a prefix.
 pub fn puzzle_laws()
+    ensures placed { AllTilesArePlaced }
     ensures turned { (p : Task) (colour other : ℕ) → IsPuzzle p → GoTogether p colour other → GoTogether p other colour }
     ensures alike { (p : Task) (colour other : ℕ) → p.mating.mates ≡ [] → GoTogether p colour other ↔ (colour ≡ other) }
     ensures puzzle { (p : Task) → IsPuzzle p → IsPuzzle (second_form_of p) }

@@ -7,6 +7,7 @@ use Rattle.match_puzzle.specs.Puzzle.{colour_of, GoTogether}
 use Rattle.match_puzzle.specs.Arrangement.{IsArrangement, Stands}
 use Rattle.match_puzzle.specs.declared.placements.Placement.{Placement}
 use Rattle.match_puzzle.specs.declared.placements.Pair.{Pair}
+use Rattle.match_puzzle.proofs.Pigeonhole.{all_placed}
 use Rattle.match_puzzle.proofs.Prefixes.{inside}
 use Rattle.xcc_form.specs.ExactCover.{IsSolution, IsInExactlyOne, HasPrimary, HasColour}
 use Rattle.xcc_form.specs.Options.{Compiled, IsCompiled, IsSharedEdge, IsSideOf, colour_given, cover_of, primary_count}
@@ -73,12 +74,6 @@ module _ (x : Compiled) (is : IsCompiled x) where
           let both = one_chosen_of o.0 o'.0 (pair cell y) (pair cell' z) o.1 o'.1 o.2 o'.2 e in
           ap (λ (q : Pair). q.cell) (one_pair x is o.0 (pair cell y) (pair cell' z) o.2 (subst (λ n. IsPairOf x n (pair cell' z)) (sym both) o'.2))
 
-      placed : (tile : ℕ) → tile < length x.puzzle.words → (cell : ℕ) × (y : Placement) × Stands a cell y × (y.tile ≡ tile)
-      placed tile lt =
-          let one = solution.covered (cells + tile) (omega (arith, lt)) in
-          let of = primary_of x is one.0 (cells + tile) one.2 in
-          (of.0.cell, of.0.placement, same.stands one.0 of.0 one.1 of.1, tile_of one.0 of.0 tile of.1 of.2)
-
       match_at : (cell side cell' side' : ℕ) (y z : Placement) → Meets x.puzzle.board cell side cell' side' → Stands a cell y → Stands a cell' z → GoTogether x.puzzle (colour_of x.puzzle y side) (colour_of x.puzzle z side')
       match_at cell side cell' side' y z meets s t =
           let o = same.put cell y s in
@@ -101,7 +96,6 @@ module _ (x : Compiled) (is : IsCompiled x) where
         cells = same.cells;
         legal = λ cell y s. let o = same.put cell y s in (option_pair x is o.0 (pair cell y) o.2).legal;
         once = once;
-        placed = placed;
         border = λ cell side colour y s rule. let o = same.put cell y s in (option_pair x is o.0 (pair cell y) o.2).border side colour rule;
         edges = λ cell side cell' side' y z meets s t. match_at cell side cell' side' y z meets s t;
       }
@@ -135,7 +129,7 @@ module _ (x : Compiled) (is : IsCompiled x) where
 
     tile_in_one : (tile : ℕ) → tile < length x.puzzle.words → IsInExactlyOne (cover_of x) chosen (cells + tile)
     tile_in_one tile lt =
-        let here = whole.placed tile lt in
+        let here = all_placed x.puzzle a many_tiles whole tile lt in
         let o = same.put here.0 here.1 here.2 in (
           o.0,
           o.1,

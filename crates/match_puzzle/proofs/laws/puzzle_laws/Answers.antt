@@ -1,6 +1,10 @@
+use Rattle.match_puzzle.proofs.Pigeonhole.{all_placed}
 use Rattle.match_puzzle.proofs.TogetherLemmas.{together_turned, together_alike}
 use Rattle.match_puzzle.proofs.PuzzleAlike.{same_arrangements, same_fits, second_is_puzzle}
 use Rattle.match_puzzle.proofs.laws.puzzle_laws.Goals as goal
+
+pub returns-clause-placed : goal.returns-clause-placed
+returns-clause-placed c = all_placed
 
 pub returns-clause-turned : goal.returns-clause-turned
 returns-clause-turned c = λ p colour other puzzle together. together_turned p puzzle colour other together

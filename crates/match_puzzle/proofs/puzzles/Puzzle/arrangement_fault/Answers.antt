@@ -1,6 +1,5 @@
-use Rattle.std.proofs.Common.{◌∙◌, ap, arith, length}
+use Rattle.std.proofs.Common.{◌∙◌, ap}
 use Rattle.match_board.specs.Board.{cell_count}
-use Rattle.match_puzzle.proofs.Pigeonhole.{placed_somewhere}
 use Rattle.match_puzzle.proofs.ArrangementLemmas.{first_range, first_turn, first_twice, first_border, first_edge, no_range, no_turn, no_twice, no_border}
 use Rattle.match_puzzle.proofs.puzzles.Puzzle.arrangement_fault.Goals as goal
 
@@ -33,7 +32,6 @@ returns c =
       cells = long;
       legal = c.in_default-turn_out_of_range.ensures;
       once = c.in_default-repeated_tile.ensures;
-      placed = placed_somewhere c.args.placements.now (length c.args.self.now.words) (omega (arith, long, c.board.ensures.puzzle.tiles)) c.in_default.ensures c.in_default-repeated_tile.ensures;
       border = c.in_default-broken_border.ensures;
       edges = c.in_default-broken_edge.ensures;
     }
