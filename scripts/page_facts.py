@@ -4,11 +4,10 @@
 usage: page_facts.py [--write]
 
 The pages are README.md, CONTRIBUTING.md, CHANGELOG.md, those of docs/, and a README.md in the folder of each crate. It
-prints how large those are that have a bound, and looks at how long lines of prose and sentences are, whether a sentence
-stands twice, and whether two empty lines follow each other. With --write the counts are made anew. It takes a second,
-and ends with 0 where all pages are right, and with 1 where one isn't, and says where. A quotation of the code begins
-with its file and the function that has it, as `// match_board/src/boards.rt, meets`; `..` in a line of its own stands
-for lines that are left out.
+also looks at how long lines of prose and sentences are, whether a sentence stands twice, and whether two empty lines
+follow each other. With --write the counts are made anew. It takes a second, and ends with 0 where all pages are right,
+and with 1 where one isn't, and says where. A quotation of the code begins with its file and the function that has it,
+as `// match_board/src/boards.rt, meets`; `..` in a line of its own stands for lines that are left out.
 """
 import collections
 import functools
@@ -26,10 +25,8 @@ from try_further_edits import MOST_IN_THE_GATE, edits_in
 TOP = os.path.join(os.path.dirname(os.path.abspath(__file__)), "..")
 README, CONTRIBUTING, ARCHITECTURE = "README.md", "CONTRIBUTING.md", "docs/ARCHITECTURE.md"
 MANUAL, GATE = "docs/edgematch.1", ".ci/run"
-# The most bytes of a page, the most lines of a crate's, the most characters of a line of prose, and the most words of a
-# sentence, in the mean and of each.
-BOUNDS = {README: 10_000, ARCHITECTURE: 9_000, "docs/DECISIONS.md": 5_000, "docs/PROVED.md": 12_000}
-MOST_LINES, MOST_CHARACTERS, MOST_IN_THE_MEAN, MOST_WORDS = 60, 120, 25, 45
+# The most characters of a line of prose, and the most words of a sentence, in the mean and of each.
+MOST_CHARACTERS, MOST_IN_THE_MEAN, MOST_WORDS = 120, 25, 45
 # A sentence of so many words is to stand in one place.
 LONG = 12
 # What stands on a page by the limits of the code and of scripts. A number stands there as text, with commas.
@@ -53,7 +50,6 @@ LIMITS = {
     ],
     CONTRIBUTING: [
         "at most {MOST_IN_THE_MEAN} words in the mean and none over {MOST_WORDS}",
-        "A crate's page has at most {MOST_LINES} lines",
         "lines of at most {MOST_CHARACTERS} characters",
         "So at most {MOST_IN_THE_GATE} stand in",
     ],
@@ -141,7 +137,7 @@ def plain(text):
 
 
 def page_faults():
-    """What a crate's page lacks: the page, its name, or room."""
+    """What is wrong with a crate's page: it is missing, lacks its name, or names a crate that this one doesn't use."""
     for crate in crates():
         if not is_there(page_of(crate)):
             yield f"crates/{crate} has no README.md"
@@ -149,8 +145,6 @@ def page_faults():
         lines = text_of(page_of(crate)).splitlines()
         if lines[0] != f"# `{crate}`":
             yield f"{page_of(crate)} begins with another line than # `{crate}`"
-        if len(lines) > MOST_LINES:
-            yield f"{page_of(crate)} has {len(lines)} lines, and {MOST_LINES} at most are to stand there"
         named = set(SPAN.findall(text_of(page_of(crate)).split("\n## ")[0])) & {*crates()}
         yield from (f"{page_of(crate)}: it doesn't stand on {it}" for it in sorted(named - below(crate) - {crate}))
 
@@ -335,15 +329,6 @@ def count_faults():
         yield f"docs/GALLERY.md has {rows} rows for {puzzles} puzzles, or {README} not: {puzzles - 1} puzzles more"
 
 
-def size_faults():
-    """The pages that are larger than their bound."""
-    for page, bound in BOUNDS.items():
-        size = len(text_of(page).encode())
-        print(f"{page}: {size:,} of {bound:,} bytes")
-        if size > bound:
-            yield f"{page} is larger"
-
-
 # ---- prose
 
 
@@ -404,7 +389,7 @@ def repetition_faults():
 
 PARTS = [
     page_faults, layer_faults, quotation_faults, name_faults, path_faults, command_faults, limit_faults, link_faults,
-    count_faults, size_faults, layout_faults, length_faults, repetition_faults,
+    count_faults, layout_faults, length_faults, repetition_faults,
 ]
 
 
