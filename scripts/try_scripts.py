@@ -43,7 +43,6 @@ WRONG_PAGES = [
     ("crates/match_limits/src/lib.rt", "MOST_COLOURS: u8 = 36", "MOST_COLOURS: u8 = 35", "doesn't say: 35 colours"),
     ("README.md", "(docs/LARGE.md)", "(docs/LARGER.md)", "leads to docs/LARGER.md, which isn't there"),
     (".ci/run", 'part "pages"', 'part "leaves"', "CONTRIBUTING.md has the parts"),
-    ("docs/DECISIONS.md", None, f"\n{MANY}. {MANY}. {MANY}. {MANY}. {MANY}. {MANY}.\n", "docs/DECISIONS.md is larger"),
     ("docs/BY_HAND.md", None, f"\n\n{121 * 'w'}\n", "empty lines follow each other\ndocs/BY_HAND.md: 121 characters"),
     ("docs/LARGE.md", None, f"\n{AGAIN}\n", "docs/LARGE.md, docs/MACHINE.md: twice: this sentence"),
     ("docs/MACHINE.md", None, f"\n{AGAIN} {MANY}.\n", "docs/MACHINE.md: 50 words: Words"),
