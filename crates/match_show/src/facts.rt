@@ -6,6 +6,7 @@ ghost use Rattle.match_board.specs.Tile.{word};
 ghost use Rattle.match_puzzle.specs.Puzzle.{Task, IsPuzzle};
 ghost use Rattle.match_board.specs.Borders.{rule_of};
 ghost use Rattle.match_show.specs.Facts.{IsFacts, border_count, tile_count, colour_line, is_colour, is_rule};
+ghost use Rattle.match_show.specs.Facts.{mate_line, mates_text, named, own_mate_line, pair_line, turns_line};
 
 use match_board::Tile;
 use match_limits::{MOST_COLOURS, MOST_TILES};
@@ -14,7 +15,9 @@ use std::alloc::{AllocError, Global};
 use text_words::{character, put_number, put_number_line};
 
 /// Facts of a puzzle: the lines `cells N`, `tiles N` and `colours N`, and for each colour C, from 0 on, a line
-/// `colour C: N on the border, N on tiles` with how many outer sides ask for it, and how many sides of tiles have it.
+/// `colour C: N on the border, N on tiles` with how many outer sides ask for it, and how many sides of tiles have it;
+/// then `tiles may be turned` or `tiles may not be turned`; and `equal colours meet`, or where the puzzle has mates a line
+/// `colours C and D are mates` or `colour C is its own mate` for each colour but the greater of two mates.
 ///
 /// An `Err` where memory is refused, and nowhere else. It asks what each side of each cell meets, and goes through the
 /// tiles once for each colour.
@@ -29,6 +32,8 @@ pub fn write_facts(alloc: Global, puzzle: &Puzzle) -> Result<Vec<u8>, AllocError
     put_number_line(&mut text, b"tiles", u64::from(board.cells()))?;
     put_number_line(&mut text, b"colours", u64::from(colours))?;
     put_colour_lines(&mut text, puzzle, board.border_len(), colours)?;
+    put_turns_line(&mut text, puzzle.turns())?;
+    put_mates(&mut text, puzzle, colours)?;
     Ok(text)
 }
 
@@ -63,15 +68,96 @@ fn put_colour_line(
     text.extend_from_slice(b"colour ")?;
     text.push(character(colour))?;
     text.extend_from_slice(b": ")?;
-    put_number(text, on_border(puzzle.border(), outer, colour) as u64)?;
+    put_number(text, sides_asked(puzzle.border(), outer, colour) as u64)?;
     text.extend_from_slice(b" on the border, ")?;
-    put_number(text, on_tiles(puzzle.tiles(), colour) as u64)?;
+    put_number(text, sides_shown(puzzle.tiles(), colour) as u64)?;
     text.extend_from_slice(b" on tiles\n")?;
     Ok(())
 }
 
-// How many of so many outer sides ask for the colour.
-fn on_border(border: &Border, outer: u16, colour: u8) -> usize
+// Whether tiles may be turned.
+fn put_turns_line(text: &mut Vec<u8>, turns: bool) -> Result<(), AllocError>
+    ensures { OnOk result (text.new.items ≡ text.old.items ++ turns_line turns) }
+{
+    if turns {
+        text.extend_from_slice(b"tiles may be turned\n")
+    } else {
+        text.extend_from_slice(b"tiles may not be turned\n")
+    }
+}
+
+// Which of so many colours are mates.
+fn put_mates(text: &mut Vec<u8>, puzzle: &Puzzle, colours: u8) -> Result<(), AllocError>
+    requires colours { colours ≤ MOST_COLOURS }
+    requires puzzle { IsPuzzle puzzle.now }
+    ensures { OnOk result (text.new.items ≡ text.old.items ++ mates_text puzzle.now puzzle.now.mating.mates colours) }
+{
+    match puzzle.mates() {
+        [] => text.extend_from_slice(b"equal colours meet\n"),
+        [_, ..] => put_mate_lines(text, puzzle, colours),
+    }
+}
+
+// A line for each pair of mates, and for each colour that is its own mate.
+fn put_mate_lines(text: &mut Vec<u8>, puzzle: &Puzzle, colours: u8) -> Result<(), AllocError>
+    requires colours { colours ≤ MOST_COLOURS }
+    requires puzzle { IsPuzzle puzzle.now }
+    ensures { OnOk result (text.new.items ≡ text.old.items
+        ++ flat_map (mate_line puzzle.now) (range_with_len 0 colours)) }
+{
+    for colour in 0..colours {
+        put_mate_line(text, puzzle, colour)?;
+    }
+    Ok(())
+}
+
+fn put_mate_line(text: &mut Vec<u8>, puzzle: &Puzzle, colour: u8) -> Result<(), AllocError>
+    requires colour { colour < MOST_COLOURS }
+    requires puzzle { IsPuzzle puzzle.now }
+    ensures { OnOk result (text.new.items ≡ text.old.items ++ mate_line puzzle.now colour) }
+{
+    let mate = puzzle.mate(colour);
+    if mate == colour {
+        return put_own_mate(text, colour);
+    }
+    if colour < mate {
+        return put_pair(text, colour, mate);
+    }
+    Ok(())
+}
+
+fn put_own_mate(text: &mut Vec<u8>, colour: u8) -> Result<(), AllocError>
+    requires { colour < MOST_COLOURS }
+    ensures { OnOk result (text.new.items ≡ text.old.items ++ own_mate_line colour) }
+{
+    put_named(text, b"colour ", colour)?;
+    text.extend_from_slice(b" is its own mate\n")?;
+    Ok(())
+}
+
+fn put_pair(text: &mut Vec<u8>, colour: u8, mate: u8) -> Result<(), AllocError>
+    requires colour { colour < MOST_COLOURS }
+    requires mate { mate < MOST_COLOURS }
+    ensures { OnOk result (text.new.items ≡ text.old.items ++ pair_line colour mate) }
+{
+    put_named(text, b"colours ", colour)?;
+    put_named(text, b" and ", mate)?;
+    text.extend_from_slice(b" are mates\n")?;
+    Ok(())
+}
+
+/// Writes the words, and the sign of the colour.
+pub fn put_named(text: &mut Vec<u8>, words: &[u8], colour: u8) -> Result<(), AllocError>
+    requires { colour < MOST_COLOURS }
+    ensures { OnOk result (text.new.items ≡ text.old.items ++ named words.now colour) }
+{
+    text.extend_from_slice(words)?;
+    text.push(character(colour))?;
+    Ok(())
+}
+
+/// How many of so many outer sides ask for the colour.
+pub fn sides_asked(border: &Border, outer: u16, colour: u8) -> usize
     ensures { result ≡ border_count (rule_of border.now) outer colour }
 {
     match border {
@@ -108,8 +194,8 @@ fn asks(rule: Option<u8>, colour: u8) -> bool
     }
 }
 
-// How many sides of tiles have the colour.
-fn on_tiles(tiles: &[Tile], colour: u8) -> usize
+/// How many sides of tiles have the colour.
+pub fn sides_shown(tiles: &[Tile], colour: u8) -> usize
     requires { length tiles.now ≤ MOST_TILES }
     ensures { result ≡ sum_by (count_by (is_colour colour)) (map word tiles.now) }
 {

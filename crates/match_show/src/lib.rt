@@ -15,5 +15,5 @@ mod triangles;
 pub use arrangements::write_arrangement;
 pub use drawings::write_drawing;
 pub use estimates::{Estimate, estimate_of, write_estimate};
-pub use facts::write_facts;
+pub use facts::{put_named, sides_asked, sides_shown, write_facts};
 pub use laws::drawing_laws;

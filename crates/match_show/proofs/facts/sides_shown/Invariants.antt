@@ -1,7 +1,7 @@
 use Rattle.std.proofs.Common.{◌≡◌, ◌≤◌, ◌+◌, ◌*◌, count_by, sum_by, map, drop}
 use Rattle.match_board.specs.Tile.{word}
 use Rattle.match_show.specs.Facts.{is_colour}
-use Rattle.match_show.proofs.facts.on_tiles.Given as goal
+use Rattle.match_show.proofs.facts.sides_shown.Given as goal
 
 abbrev pub invariant-loop-tile : goal.invariant-loop-tile
 invariant-loop-tile l = record {
