@@ -291,13 +291,18 @@ def explain(trial, wanted, why):
 
 
 def explain_puzzle(trial, wanted):
-    """An explanation of the puzzle alone: its fault, or that it has none."""
+    """An explanation of the puzzle alone: its fault, or that it has none, and reasons only where nothing is listed."""
     got = trial.run(["explain", trial.path("puzzle")])
     if wanted.stderr.startswith(b"puzzle: "):
         fault = b"".join(got.stderr.splitlines(True)[:1])
         trial.wants_outcome("explain PUZZLE", wanted, Outcome(got.status, got.stdout, fault))
     else:
-        trial.wants_outcome("explain PUZZLE", Outcome(0, b"puzzle: no fault\n", b""), got)
+        reasons = got.stdout.removeprefix(b"puzzle: no fault\n")
+        trial.wants_outcome("explain PUZZLE", Outcome(0, b"puzzle: no fault\n" + reasons, b""), got)
+        if any(not line.startswith(b"no arrangement: ") for line in reasons.splitlines()):
+            trial.differs("explain PUZZLE", "what stands below, which is no reason", b"", reasons)
+        if wanted.status == 0 and reasons and b"complete 0" not in wanted.stdout:
+            trial.differs("explain PUZZLE", "what stands below, where there is an arrangement", b"", reasons)
 
 
 def hint(trial, wanted, told):

@@ -10,6 +10,7 @@ use Rattle.match_picture.specs.Pictures.{IsPuzzlePicture}
 use Rattle.match_show.specs.Drawing.{IsDrawing}
 use Rattle.match_show.specs.Facts.{IsEstimateLine, IsFacts}
 use Rattle.xcc_form.specs.Options.{Compiled, HasTooManyEntries, IsCompiled, entries_of}
+use Rattle.puzzle_reasons.specs.Sentences.{TellsReasons}
 use Rattle.puzzle_symmetry.specs.Symmetry.{IsSymmetry}
 use Rattle.match_board.specs.declared.symmetry_lines.SymmetryLine.{SymmetryLine}
 use Rattle.cert_text.specs.CertificateSpelling.{symmetries_spelling, IsSymmetryWithin}
@@ -51,16 +52,22 @@ pub record IsSymmetriesText (puzzle : Task) (text : List ℕ) : Type 0 where
   pub few : length lines ≤ MOST_SYMMETRIES
   pub spelled : text ≡ symmetries_spelling lines
 
--- what is printed of a puzzle that is only to have no fault
+-- what is printed first of a puzzle that is to have no fault
 abbrev pub no_fault_text : List ℕ
 no_fault_text = codes "puzzle: no fault\n"
+
+-- The text says that the puzzle has no fault, and then what makes an arrangement of it impossible.
+pub record IsNoFaultText (puzzle : Task) (text : List ℕ) : Type 0 where
+  pub reasons : List ℕ
+  pub told : TellsReasons puzzle reasons
+  pub parts : text ≡ no_fault_text ++ reasons
 
 -- What is printed of a puzzle.
 abbrev pub DescribesPuzzle : Description → (puzzle : Task) (printed : List ℕ) → Type 0
 DescribesPuzzle descriptions.Board puzzle printed = IsBoardText puzzle printed
 DescribesPuzzle descriptions.Picture puzzle printed = IsPuzzlePicture puzzle printed
 DescribesPuzzle descriptions.Symmetries puzzle printed = IsSymmetriesText puzzle printed
-DescribesPuzzle descriptions.NoFault puzzle printed = printed ≡ no_fault_text
+DescribesPuzzle descriptions.NoFault puzzle printed = IsNoFaultText puzzle printed
 
 -- What is printed of the puzzle that the text spells.
 abbrev pub Describes : Description → (text printed : List ℕ) → (ends : Unit {0}) → Type 0

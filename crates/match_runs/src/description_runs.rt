@@ -6,8 +6,8 @@ ghost use Rattle.byte_streams.specs.Moves.{reading_of, writing_of};
 ghost use Rattle.byte_streams.specs.Origins.{one_source};
 ghost use Rattle.byte_streams.specs.Targets.{one_sink};
 ghost use Rattle.byte_streams.specs.declared.faults.Document.TheVariants as documents;
-ghost use Rattle.match_runs.specs.Describing.{CountsOptions, Describes, IsBoardText, IsSymmetriesText, DescribeFails};
-ghost use Rattle.match_runs.specs.Describing.{options_text};
+ghost use Rattle.match_runs.specs.Describing.{CountsOptions, Describes, IsBoardText, IsNoFaultText, IsSymmetriesText};
+ghost use Rattle.match_runs.specs.Describing.{DescribeFails, options_text};
 ghost use Rattle.match_runs.specs.Runs.{MadeOf, Runs, unhinted};
 
 use crate::faults::RunFault;
@@ -21,6 +21,7 @@ use match_puzzle::{Partial, Puzzle};
 use match_show::{write_drawing, write_estimate, write_facts};
 use match_symmetry::suggest;
 use match_text::read_puzzle;
+use puzzle_reasons::write_reasons;
 use std::alloc::{AllocError, Global};
 use xcc_form::{CompileFault, compile};
 
@@ -36,7 +37,7 @@ pub enum Description {
     /// Symmetries of it, at most 1,024: how many they are, and then the line of each, as a certificate has them. They
     /// are those that a solve of the puzzle may cite by.
     Symmetries,
-    /// That it has no fault.
+    /// That it has no fault, and what makes an arrangement of it impossible, as far as that is seen without a search.
     NoFault,
 }
 
@@ -84,7 +85,7 @@ fn described(
         Description::Board => board_text(alloc, &puzzle)?,
         Description::Picture => write_puzzle_picture(alloc, &puzzle)?,
         Description::Symmetries => symmetries_text(alloc, &puzzle)?,
-        Description::NoFault => Vec::from_slice(alloc, b"puzzle: no fault\n")?,
+        Description::NoFault => no_fault_text(alloc, &puzzle)?,
     };
     Ok((MadeText::new(printed), ()))
 }
@@ -101,6 +102,16 @@ fn board_text(alloc: Global, puzzle: &Puzzle) -> Result<Vec<u8>, AllocError>
     text.extend_from_slice(&facts)?;
     text.extend_from_slice(&options)?;
     text.extend_from_slice(&estimate)?;
+    Ok(text)
+}
+
+// That the puzzle has no fault, and the reasons why it has no arrangement.
+fn no_fault_text(alloc: Global, puzzle: &Puzzle) -> Result<Vec<u8>, AllocError>
+    ensures { IfOk result (λ text. IsNoFaultText puzzle.now text.items) }
+{
+    let reasons = write_reasons(alloc, puzzle)?;
+    let mut text = Vec::from_slice(alloc, b"puzzle: no fault\n")?;
+    text.extend_from_slice(&reasons)?;
     Ok(text)
 }
 

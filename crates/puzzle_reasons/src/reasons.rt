@@ -1,0 +1,34 @@
+//! The reasons.
+
+/// Why a puzzle has no arrangement.
+#[derive(Clone, Copy, PartialEq, Eq, Debug)]
+pub enum Reason {
+    /// The border asks for the colour on so many sides, and tiles show it on fewer.
+    ColourShort {
+        colour: u8,
+        asked: usize,
+        shown: usize,
+    },
+    /// Each outer side has a rule, and when the border has what it asks for, an odd number of sides is left of a colour
+    /// that meets itself.
+    Odd {
+        colour: u8,
+        left: usize,
+    },
+    /// Each outer side has a rule, and when the border has what it asks for, different numbers of sides are left of a
+    /// colour and of its mate, which is the greater.
+    Unequal {
+        colour: u8,
+        left: usize,
+        mate: u8,
+        mate_left: usize,
+    },
+    /// No tile fits at the cell of the empty board.
+    DeadCell {
+        cell: u16,
+    },
+    /// The tile fits at no cell of the empty board.
+    DeadTile {
+        tile: u16,
+    },
+}
