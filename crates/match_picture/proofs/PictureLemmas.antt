@@ -2,7 +2,8 @@
 use Rattle.std.proofs.Common.{◌≡◌, ◌++◌, ℕ, List, ap, length, ◌∙◌, append_assoc}
 use Rattle.match_puzzle.specs.Puzzle.{Task}
 use Rattle.match_puzzle.specs.declared.placements.Placement.{Placement}
-use Rattle.picture_parts.specs.Elements.{AreBandLines, ArePartLines}
+use Rattle.picture_parts.specs.Arrows.{AreTileLines}
+use Rattle.picture_parts.specs.Elements.{AreBandLines}
 use Rattle.picture_parts.specs.declared.canvases.Site.{Site}
 use Rattle.match_picture.specs.Grown.{Grows, IsWrapped, Wraps}
 use Rattle.match_picture.specs.Pictures.{AreUnturned, IsArrangementPicture, IsPuzzlePicture}
@@ -17,7 +18,7 @@ two_pieces {bands} {parts} {t0} {t1} {t2} last w v =
     ∙ ap (λ t. t ++ v.front ++ parts ++ (v.back ++ last)) w.grown
     ∙ ap (λ t. t ++ parts ++ (v.back ++ last)) (append_assoc head w.back v.front)
 
-pub pictured : (p : Task) (a : List Placement) (sites : List Site) (t0 t1 t2 last : List ℕ) → AreSites p.board sites → Wraps (AreBandLines p 40 40 sites) t0 t1 → Wraps (ArePartLines p 40 40 sites a) t1 t2 → IsArrangementPicture p a (t2 ++ last)
+pub pictured : (p : Task) (a : List Placement) (sites : List Site) (t0 t1 t2 last : List ℕ) → AreSites p.board sites → Wraps (AreBandLines p 40 40 sites) t0 t1 → Wraps (AreTileLines p 40 40 sites a) t1 t2 → IsArrangementPicture p a (t2 ++ last)
 pictured p a sites t0 t1 t2 last are w v = record {
   sites = sites;
   are_sites = are;
@@ -31,7 +32,7 @@ pictured p a sites t0 t1 t2 last are w v = record {
   written = two_pieces last w.2 v.2;
 }
 
-pub puzzle_pictured : (p : Task) (xs : List Placement) (sites tray : List Site) (left tray_left tray_top : ℕ) (t0 t1 t2 last : List ℕ) → AreSites p.board sites → length tray ≡ length xs → AreUnturned (length p.words) xs → Wraps (AreBandLines p left 40 sites) t0 t1 → Wraps (ArePartLines p tray_left tray_top tray xs) t1 t2 → IsPuzzlePicture p (t2 ++ last)
+pub puzzle_pictured : (p : Task) (xs : List Placement) (sites tray : List Site) (left tray_left tray_top : ℕ) (t0 t1 t2 last : List ℕ) → AreSites p.board sites → length tray ≡ length xs → AreUnturned (length p.words) xs → Wraps (AreBandLines p left 40 sites) t0 t1 → Wraps (AreTileLines p tray_left tray_top tray xs) t1 t2 → IsPuzzlePicture p (t2 ++ last)
 puzzle_pictured p xs sites tray left tray_left tray_top t0 t1 t2 last are room unturned w v = record {
   left = left;
   sites = sites;

@@ -2,13 +2,15 @@
 use Rattle.std.specs.Prelude.{◌≡◌, ◌++◌, ℕ, List, Some, length, slice_get}
 use Rattle.match_puzzle.specs.Puzzle.{Task}
 use Rattle.match_puzzle.specs.declared.placements.Placement.{Placement}
-use Rattle.picture_parts.specs.Elements.{AreBandLines, ArePartLines}
+use Rattle.picture_parts.specs.Arrows.{AreTileLines}
+use Rattle.picture_parts.specs.Elements.{AreBandLines}
 use Rattle.picture_parts.specs.Joined.{IsJoined}
 use Rattle.picture_parts.specs.declared.canvases.Site.{Site}
 use Rattle.match_picture.specs.Sites.{AreSites}
 
 -- A picture of an arrangement: the board begins 40 right of and below its corner; bands where the border asks for a
--- colour, and then a part for each side of each cell, in the order of cells and sides, with the colour that is shown there.
+-- colour, and then a part for each side of each cell, in the order of cells and sides, with the colour that is shown
+-- there; behind the parts an arrow for each cell, where tiles may not be turned.
 pub record IsArrangementPicture (p : Task) (a : List Placement) (text : List ℕ) : Type 0 where
   pub sites : List Site
   pub are_sites : AreSites p.board sites
@@ -17,7 +19,7 @@ pub record IsArrangementPicture (p : Task) (a : List Placement) (text : List ℕ
   pub are_bands : AreBandLines p 40 40 sites bands
   pub between : List ℕ
   pub parts : List ℕ
-  pub are_parts : ArePartLines p 40 40 sites a parts
+  pub are_parts : AreTileLines p 40 40 sites a parts
   pub after : List ℕ
   pub written : text ≡ before ++ bands ++ between ++ parts ++ after
 
@@ -27,7 +29,8 @@ pub record AreUnturned (count : ℕ) (xs : List Placement) : Type 0 where
   pub tiles : (tile : ℕ) (x : Placement) → slice_get xs tile ≡ Some x → (x.tile ≡ tile) × (x.turn ≡ 0)
 
 -- A picture of a puzzle: bands where the border asks for a colour, along the empty board, and then a part for each side
--- of each tile, in order, unturned, with the colour that it has there.
+-- of each tile, in order, unturned, with the colour that it has there; behind the parts an arrow for each tile, where
+-- tiles may not be turned.
 pub record IsPuzzlePicture (p : Task) (text : List ℕ) : Type 0 where
   pub left : ℕ
   pub sites : List Site
@@ -43,7 +46,7 @@ pub record IsPuzzlePicture (p : Task) (text : List ℕ) : Type 0 where
   pub room : length tray ≡ length tiles
   pub are_tiles : AreUnturned (length p.words) tiles
   pub parts : List ℕ
-  pub are_parts : ArePartLines p tray_left tray_top tray tiles parts
+  pub are_parts : AreTileLines p tray_left tray_top tray tiles parts
   pub after : List ℕ
   pub written : text ≡ before ++ bands ++ between ++ parts ++ after
 

@@ -6,9 +6,19 @@ use match_puzzle::{Arrangement, Placement, Puzzle};
 use std::alloc::{AllocError, Global};
 use text_words::character;
 
+// What is said first where tiles may not be turned.
+fn turns_said(puzzle: &Puzzle) -> &'static str {
+    if puzzle.turns() {
+        ""
+    } else {
+        "Tiles may not be turned. "
+    }
+}
+
 /// Each tile with its colours.
 pub fn describe_tiles(alloc: Global, puzzle: &Puzzle) -> Result<String, AllocError> {
     let mut text = String::new(alloc);
+    text.push_str(turns_said(puzzle))?;
     text.push_str("Its tiles:")?;
     for tile in puzzle.tiles() {
         text.push(' ')?;
@@ -28,6 +38,7 @@ pub fn describe_arrangement(
     requires { All (λ x. x.tile < length puzzle.now.words) placements.now }
 {
     let mut text = String::new(alloc);
+    text.push_str(turns_said(puzzle))?;
     text.push_str("By cell the tile, its turns and its colours:")?;
     let mut before = "";
     for placement in placements {
@@ -54,10 +65,12 @@ fn word_shown(alloc: Global, puzzle: &Puzzle, placement: Placement) -> Result<St
 /// Arrangements, numbered from the first on.
 pub fn describe_list(
     alloc: Global,
+    puzzle: &Puzzle,
     arrangements: &[Arrangement],
     first: u32,
 ) -> Result<String, AllocError> {
     let mut text = String::new(alloc);
+    text.push_str(turns_said(puzzle))?;
     text.push_str("By arrangement and cell the tile and its turns:")?;
     let mut before = " ";
     let mut number = first;

@@ -1,7 +1,8 @@
 //! A puzzle or an arrangement as a picture.
 
 ghost use Rattle.std.specs.Prelude.{◌≡◌, ◌<◌, ◌≤◌, ◌^◌, List, All, IfOk, OnOk, length};
-ghost use Rattle.picture_parts.specs.Elements.{AreBandLines, ArePartLines};
+ghost use Rattle.picture_parts.specs.Arrows.{AreTileLines};
+ghost use Rattle.picture_parts.specs.Elements.{AreBandLines};
 ghost use Rattle.picture_parts.specs.declared.canvases.Site.{Site};
 ghost use Rattle.match_picture.specs.Grown.{Wraps};
 ghost use Rattle.match_picture.specs.Pictures.{AreUnturned, IsArrangementPicture, IsPuzzlePicture};
@@ -163,7 +164,7 @@ fn put_tray(
 ) -> Result<(), AllocError>
     ensures { OnOk result ((tray : List Site) × (tiles : List Placement) × (length tray ≡ length tiles)
         × AreUnturned (length puzzle.now.words) tiles
-        × Wraps (ArePartLines puzzle.now layout.now.tray_left layout.now.tray_top tray tiles)
+        × Wraps (AreTileLines puzzle.now layout.now.tray_left layout.now.tray_top tray tiles)
         text.old.items text.new.items) }
 {
     let cells = puzzle.board().cells();

@@ -136,7 +136,7 @@ fn begin_sheet(
     let first = sheet.first;
     let last = (first + arrangements.len() as u32).saturating_sub(1);
     let title = format!(in alloc; "Arrangements {first} to {last}: {words}")?;
-    let description = describe_list(alloc, arrangements, first)?;
+    let description = describe_list(alloc, puzzle, arrangements, first)?;
     let EvenRows { rows, columns } = sheet.rows;
     let wide = u64::from(columns) * u64::from(sheet.small.wide);
     let high = u64::from(rows) * (u64::from(sheet.small.high) + u64::from(CAPTION));

@@ -1,13 +1,13 @@
 //! Tiles as they lie on a board or in the tray.
 
 ghost use Rattle.std.specs.Prelude.{◌≡◌, ◌<◌, All, OnOk, length};
-ghost use Rattle.picture_parts.specs.Elements.{ArePartLines};
+ghost use Rattle.picture_parts.specs.Arrows.{AreTileLines};
 ghost use Rattle.match_picture.specs.Grown.{Grows, Wraps};
 
 use crate::elements::{outline, put_group, put_numbered, sign};
 use crate::measures::{disc_radius, middle};
 use match_puzzle::{Placement, Puzzle};
-use picture_parts::{Canvas, Edge, Site, edge_of, part_lines, side_of, tile_number};
+use picture_parts::{Canvas, Edge, Site, arrow_lines, edge_of, part_lines, side_of, tile_number};
 use std::alloc::{AllocError, Global};
 
 /// What is drawn on tiles.
@@ -31,7 +31,7 @@ enum Layer {
 }
 
 /// Writes tiles, so turned, each at the site of its place in the list: a part for each side, and above these outlines,
-/// signs, and numbers on discs.
+/// signs, numbers on discs, and an arrow that points north, where tiles may not be turned.
 pub fn put_tiles(
     alloc: Global,
     text: &mut Vec<u8>,
@@ -41,12 +41,18 @@ pub fn put_tiles(
 ) -> Result<(), AllocError>
     requires many { length placements.now ≡ length canvas.now.sites.items }
     requires tiles { All (λ x. x.tile < length canvas.now.puzzle.now.words) placements.now }
-    ensures { OnOk result (Wraps (ArePartLines canvas.now.puzzle.now canvas.now.left canvas.now.top
+    ensures { OnOk result (Wraps (AreTileLines canvas.now.puzzle.now canvas.now.left canvas.now.top
         canvas.now.sites.items placements.now) text.old.items text.new.items) }
 {
     let parts = part_lines(alloc, canvas, placements)?;
     put_group(text, b"stroke=\"#fff\" stroke-linejoin=\"round\"", &parts)?;
     put_lines_above(alloc, text, canvas, placements, labels)?;
+    let arrows = arrow_lines(alloc, canvas)?;
+    put_group(
+        text,
+        b"fill=\"#fff\" stroke=\"#222\" stroke-linejoin=\"round\"",
+        &arrows,
+    )?;
     Ok(())
 }
 

@@ -3,4 +3,5 @@ pub mod Forms
 pub mod Edges
 pub mod Palette
 pub mod Elements
+pub mod Arrows
 pub mod Plans

@@ -1,6 +1,7 @@
 //! Parts of pictures: what shows colours, the numbers of tiles, and which arrangements of a list are drawn.
 #![tactic(auto)]
 
+mod arrows;
 mod bands;
 mod canvases;
 mod corners;
@@ -11,6 +12,7 @@ mod palette;
 mod parts;
 mod plans;
 
+pub use arrows::arrow_lines;
 pub use bands::{asked, band_lines, put_ended};
 pub use canvases::{Canvas, Point, Site};
 pub use edges::{Edge, edge_of, edge_path};

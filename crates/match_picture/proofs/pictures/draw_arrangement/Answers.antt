@@ -1,5 +1,6 @@
 use Rattle.std.proofs.Common.{◌<◌, All, length, sym, subst}
-use Rattle.picture_parts.specs.Elements.{AreBandLines, ArePartLines}
+use Rattle.picture_parts.specs.Arrows.{AreTileLines}
+use Rattle.picture_parts.specs.Elements.{AreBandLines}
 use Rattle.match_picture.specs.Grown.{Wraps}
 use Rattle.match_picture.specs.Pictures.{IsArrangementPicture}
 use Rattle.match_picture.proofs.PictureLemmas.{pictured}
@@ -26,8 +27,8 @@ returns c =
     (subst (λ left. Wraps (AreBandLines canvas.puzzle.now left 40 sites) begun banded) made.left
     (subst (λ top. Wraps (AreBandLines canvas.puzzle.now canvas.left top sites) begun banded) made.top c.in_ok-put_bands.ensures)) in
     let parts =
-    subst (λ q. Wraps (ArePartLines q 40 40 sites a) banded tiled) made.puzzle
-    (subst (λ left. Wraps (ArePartLines canvas.puzzle.now left 40 sites a) banded tiled) made.left
-    (subst (λ top. Wraps (ArePartLines canvas.puzzle.now canvas.left top sites a) banded tiled) made.top c.in_ok-put_tiles.ensures)) in
+    subst (λ q. Wraps (AreTileLines q 40 40 sites a) banded tiled) made.puzzle
+    (subst (λ left. Wraps (AreTileLines canvas.puzzle.now left 40 sites a) banded tiled) made.left
+    (subst (λ top. Wraps (AreTileLines canvas.puzzle.now canvas.left top sites a) banded tiled) made.top c.in_ok-put_tiles.ensures)) in
     subst (IsArrangementPicture p a) (sym c.in_ok-extend_from_slice.ensures.items)
     (pictured p a sites begun banded tiled _ made.sites bands parts)

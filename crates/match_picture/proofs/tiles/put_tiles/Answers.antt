@@ -1,9 +1,22 @@
-use Rattle.std.proofs.Common.{subst}
+use Rattle.std.proofs.Common.{refl, subst, ◌∙◌}
+use Rattle.picture_parts.specs.Arrows.{arrow_lines}
 use Rattle.match_picture.specs.Grown.{IsWrapped}
-use Rattle.match_picture.proofs.GrownLemmas.{wrapped_more}
+use Rattle.match_picture.proofs.GrownLemmas.{wrapped_both}
 use Rattle.match_picture.proofs.tiles.put_tiles.Goals as goal
 
 pub returns : goal.returns
 returns c =
+    let canvas = c.args.canvas.now in
     let lines = subst (λ t. IsWrapped t c.args.text.now.items c.put_group.new.text.items) c.deref.ensures.value c.in_ok-put_group.ensures in
-    (c.in_ok-parts.parts.items, c.in_ok-parts.ensures, wrapped_more lines c.in_ok-put_lines_above.ensures)
+    let arrows =
+    subst (λ t. IsWrapped t c.put_lines_above.new.text.items c.put_group-2.new.text.items) (c.deref-2.ensures.value ∙ c.in_ok-arrows.ensures) c.in_ok-put_group-2.ensures in
+    let both = wrapped_both lines c.in_ok-put_lines_above.ensures arrows in (
+      _,
+      record {
+        parts = c.in_ok-parts.parts.items;
+        are_parts = c.in_ok-parts.ensures;
+        between = _;
+        written = refl;
+      },
+      both,
+    )
