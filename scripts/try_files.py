@@ -214,6 +214,34 @@ def pipes(trial):
     trial.wants_left("puzzle", "list", "certificate")
 
 
+def a_log(trial):
+    """What goes to what a standard stream has open, by whatever name, stands behind what stood there, and before the
+    report; and what stood there is kept."""
+    report = trial.solve("puzzle", "plain", "certificate")
+    os.symlink("log", trial.path("link"))
+    names = ("/dev/stdout", "/proc/self/fd/1", "log", "link")
+    for name, how in ((name, how) for name in names for how in ("ab", "wb")):
+        trial.put("log", OLD if how == "ab" else b"")
+        with open(trial.path("log"), how) as log:
+            log.write(b"" if how == "ab" else OLD)
+            log.flush()
+            trial.solve("puzzle", name, "certificate", stdout=log)
+        trial.wants(f"{name}, opened by {how}", OLD + LIST + report, trial.holds("log"))
+        trial.wants("the certificate", CERTIFICATE, trial.holds("certificate"))
+    for name, stream in (("/dev/stderr", "stderr"), ("log", "stderr"), ("/dev/stdin", "stdin"), ("log", "stdin")):
+        trial.put("log", OLD)
+        with open(trial.path("log"), "rb" if stream == "stdin" else "ab") as log:
+            run = trial.begin("puzzle", "list", name, **{stream: log})
+            trial.wants(f"{name} as {stream}: the report", report, run.communicate(timeout=LONGEST)[0])
+        trial.wants(f"{name} as {stream}", (0, OLD + CERTIFICATE), (run.returncode, trial.holds("log")))
+    trial.put("log", OLD)
+    with open(trial.path("log"), "ab") as log:
+        third = log.fileno()
+        trial.solve("puzzle", f"/dev/fd/{third}", "certificate", pass_fds=(third,))
+    trial.wants("another descriptor", OLD + LIST, trial.holds("log"))
+    trial.wants_left("puzzle", "plain", "list", "certificate", "log", "link")
+
+
 def devices(trial):
     """A device is written directly, and stays one; one that takes nothing leaves the other file as it was."""
     try:
@@ -458,7 +486,7 @@ def hints_on_a_terminal(trial):
 
 
 TRIALS = (
-    new_files, modes, owners, links, links_in_a_circle, hard_links_of_the_puzzle, two_links_to_nothing, pipes, devices,
+    new_files, modes, owners, links, links_in_a_circle, hard_links_of_the_puzzle, two_links_to_nothing, pipes, a_log, devices,
     a_full_disk, a_closed_pipe_for_the_report, a_stop_by_a_signal, two_at_once, a_fault_beside_another_solve,
     closed_streams, a_closed_input, reasons_on_a_terminal, hints_on_a_terminal, what_is_awaited_on_a_terminal,
     names_of_standard_input,

@@ -93,7 +93,7 @@ fn run<R: Threads + Wait + Sync + RandomSource + Clock + Eprint>(
                 threads,
                 rt.alloc(),
                 &words,
-                &mut System::new(rt),
+                &mut System::new(rt, rt.stdout(), rt.stderr()),
                 &mut Streams {
                     input: &mut Input::new(input),
                     output: &mut Output::new(rt.stdout()),

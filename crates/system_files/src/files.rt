@@ -1,9 +1,13 @@
 //! The files of the system.
 
 ghost use Rattle.std.specs.Prelude.{◌≡◌, false, IfOk};
+ghost use Rattle.system_files.specs.Targets.{contents_in};
 
-use crate::places::{Place, are_one, folder_of, may_be_one, place_of};
+use crate::places::{
+    Place, Stream, are_one, folder_of, leads_over_proc, may_be_one, place_of, stream_of,
+};
 use crate::streams::{Input, Output};
+use crate::targets::Target;
 use byte_streams::{Failed, FileFault, FileSystem, Refusal, Sink};
 use std::alloc::{AllocError, Global};
 use std::fs::{self, Metadata, OpenFile, OpenOptions, Permissions};
@@ -17,46 +21,58 @@ const PRIVATE: u32 = 0o600;
 
 const MODE_BITS: u32 = 0o7777;
 
+// How often a name is looked at again, where what it leads to changes between two looks.
+const MOST_LOOKS: u32 = 100;
+
 /// The files of the system. What they hold, and what is done to them, is not told.
 ///
 /// A file is made in the folder of its name, under another name with 64 random bits, and renamed when it is put there, so
 /// that what stands under the name is there whole at any time, the old or the new. Links are followed, and the new file
-/// has the mode and the owner of the old one, the owner as far as that is allowed. What is no plain file, as a device or a
-/// pipe, is written directly. No file is made in place of a folder.
-#[derive(Clone, Copy)]
-pub struct System<'a, R: Files + RandomSource> {
+/// has the mode and the owner of the old one, the owner as far as that is allowed. No file is made in place of a folder.
+///
+/// What is no plain file, as a device or a pipe, is written directly. So is a plain file that is open already: what
+/// standard output or standard error has open is written through that stream, and to what standard input has open, or a
+/// link of /proc leads to, is appended.
+#[derive(Drop)]
+pub struct System<'a, R: Files + RandomSource, O: Write + Copy, E: Write + Copy> {
     runtime: &'a R,
+    output: O,
+    errors: E,
 }
 
-impl<'a, R: Files + RandomSource> System<'a, R> {
-    /// The files that this runtime reaches.
-    pub fn new(runtime: &'a R) -> System<'a, R> {
-        System { runtime }
+impl<'a, R: Files + RandomSource, O: Write + Copy, E: Write + Copy> System<'a, R, O, E> {
+    /// The files that this runtime reaches, of a process with this standard output and standard error.
+    pub fn new(runtime: &'a R, output: O, errors: E) -> System<'a, R, O, E> {
+        System {
+            runtime,
+            output,
+            errors,
+        }
     }
 }
 
 /// A file of the system that is written.
 #[derive(Drop)]
-pub struct SystemFile<F: Write + Drop> {
-    output: Output<F>,
+pub struct SystemFile<F: Write + Drop, O: Write + Drop, E: Write + Drop> {
+    output: Output<Target<F, O, E>>,
     // none where it is written directly
     place: Option<Place>,
 }
 
-impl<F: Write + Drop> SystemFile<F> {
+impl<F: Write + Drop, O: Write + Drop, E: Write + Drop> SystemFile<F, O, E> {
     // This file, with nothing written to it.
-    fn new(file: F, place: Option<Place>) -> SystemFile<F>
+    fn new(target: Target<F, O, E>, place: Option<Place>) -> SystemFile<F, O, E>
         ensures { (result.output.idle ≡ false) × (result.output.errors ≡ 0) }
     {
         SystemFile {
-            output: Output::new(file),
+            output: Output::new(target),
             place,
         }
     }
 }
 
-impl<F: Write + Drop> Sink for SystemFile<F> {
-    ghost written = { λ s. F.contents s.output.writer };
+impl<F: Write + Drop, O: Write + Drop, E: Write + Drop> Sink for SystemFile<F, O, E> {
+    ghost written = { λ s. contents_in F.contents O.contents E.contents s.output.writer };
 
     ghost idle = { λ s. s.output.idle };
 
@@ -67,10 +83,31 @@ impl<F: Write + Drop> Sink for SystemFile<F> {
     }
 }
 
-impl<R: Files + RandomSource> FileSystem for System<'_, R> {
+impl<R: Files + RandomSource, O: Write + Copy, E: Write + Copy> System<'_, R, O, E> {
+    // Where what goes to a plain file that was found under this name is written: through the standard stream that has it
+    // open, behind what it holds where it is open otherwise, and else beside it.
+    fn make_over(
+        &self,
+        alloc: Global,
+        name: &str,
+        found: &Metadata,
+    ) -> Result<SystemFile<R::File, O, E>, FileFault>
+        ensures { IfOk result (λ file. (file.output.idle ≡ false) × (file.output.errors ≡ 0)) }
+    {
+        match stream_of(self.runtime, found) {
+            Some(Stream::Output) => Ok(SystemFile::new(Target::Output(self.output), None)),
+            Some(Stream::Errors) => Ok(SystemFile::new(Target::Errors(self.errors), None)),
+            Some(Stream::Input) => open_behind(self.runtime, name),
+            None if leads_over_proc(self.runtime, alloc, name)? => open_behind(self.runtime, name),
+            None => make_beside(self.runtime, alloc, name, found),
+        }
+    }
+}
+
+impl<R: Files + RandomSource, O: Write + Copy, E: Write + Copy> FileSystem for System<'_, R, O, E> {
     type Reader = Input<R::File>;
 
-    type Writer = SystemFile<R::File>;
+    type Writer = SystemFile<R::File, O, E>;
 
     ghost opens = { λ _ _ _. Unit {0} };
 
@@ -91,10 +128,10 @@ impl<R: Files + RandomSource> FileSystem for System<'_, R> {
         }
     }
 
-    fn make(&mut self, alloc: Global, name: &str) -> Result<SystemFile<R::File>, FileFault> {
+    fn make(&mut self, alloc: Global, name: &str) -> Result<SystemFile<R::File, O, E>, FileFault> {
         match self.runtime.metadata(name) {
             Ok(found) if found.is_dir() => Err(FileFault::Refused(Refusal::Folder)),
-            Ok(found) if found.is_file() => make_over(self.runtime, alloc, name, &found),
+            Ok(found) if found.is_file() => self.make_over(alloc, name, &found),
             Ok(_) => open_directly(self.runtime, name),
             Err(error) if error.kind() == ErrorKind::NotFound => {
                 make_first(self.runtime, alloc, name)
@@ -103,7 +140,7 @@ impl<R: Files + RandomSource> FileSystem for System<'_, R> {
         }
     }
 
-    fn put(&mut self, file: SystemFile<R::File>, _name: &str) -> Result<(), Failed> {
+    fn put(&mut self, file: SystemFile<R::File, O, E>, _name: &str) -> Result<(), Failed> {
         let SystemFile { output, place } = file;
         drop(output);
         let Some(place) = place else {
@@ -118,13 +155,13 @@ impl<R: Files + RandomSource> FileSystem for System<'_, R> {
         }
     }
 
-    fn remove(&mut self, file: SystemFile<R::File>, _name: &str) {
+    fn remove(&mut self, file: SystemFile<R::File, O, E>, _name: &str) {
         if let Some(place) = &file.place {
             let _ = self.runtime.remove_file(place.part());
         }
     }
 
-    fn refusal_of(&self, file: &SystemFile<R::File>) -> Option<Refusal> {
+    fn refusal_of(&self, file: &SystemFile<R::File, O, E>) -> Option<Refusal> {
         file.output.refusal()
     }
 
@@ -156,19 +193,33 @@ impl<R: Files + RandomSource> FileSystem for System<'_, R> {
 }
 
 // What is no plain file, opened to be written as it is.
-fn open_directly<R: Files>(runtime: &R, name: &str) -> Result<SystemFile<R::File>, FileFault>
+fn open_directly<R: Files, O: Write + Drop, E: Write + Drop>(
+    runtime: &R,
+    name: &str,
+) -> Result<SystemFile<R::File, O, E>, FileFault>
     ensures { IfOk result (λ file. (file.output.idle ≡ false) × (file.output.errors ≡ 0)) }
 {
     let file = OpenOptions::new().write(true).open(runtime, name)?;
-    Ok(SystemFile::new(file, None))
+    Ok(SystemFile::new(Target::File(file), None))
+}
+
+// A plain file, opened to be written behind what it holds.
+fn open_behind<R: Files, O: Write + Drop, E: Write + Drop>(
+    runtime: &R,
+    name: &str,
+) -> Result<SystemFile<R::File, O, E>, FileFault>
+    ensures { IfOk result (λ file. (file.output.idle ≡ false) × (file.output.errors ≡ 0)) }
+{
+    let file = OpenOptions::new().append(true).open(runtime, name)?;
+    Ok(SystemFile::new(Target::File(file), None))
 }
 
 // A file beside a name under which none stands.
-fn make_first<R: Files + RandomSource>(
+fn make_first<R: Files + RandomSource, O: Write + Drop, E: Write + Drop>(
     runtime: &R,
     alloc: Global,
     name: &str,
-) -> Result<SystemFile<R::File>, FileFault>
+) -> Result<SystemFile<R::File, O, E>, FileFault>
     ensures { IfOk result (λ file. (file.output.idle ≡ false) × (file.output.errors ≡ 0)) }
 {
     let place = Place::new(runtime, alloc, place_of(runtime, alloc, name)?)?;
@@ -176,16 +227,16 @@ fn make_first<R: Files + RandomSource>(
         .write(true)
         .create_new(true)
         .open(runtime, place.part())?;
-    Ok(SystemFile::new(file, Some(place)))
+    Ok(SystemFile::new(Target::File(file), Some(place)))
 }
 
 // A file beside a plain one that was found under the name.
-fn make_over<R: Files + RandomSource>(
+fn make_beside<R: Files + RandomSource, O: Write + Drop, E: Write + Drop>(
     runtime: &R,
     alloc: Global,
     name: &str,
     found: &Metadata,
-) -> Result<SystemFile<R::File>, FileFault>
+) -> Result<SystemFile<R::File, O, E>, FileFault>
     ensures { IfOk result (λ file. (file.output.idle ≡ false) × (file.output.errors ≡ 0)) }
 {
     let place = Place::new(runtime, alloc, place_of(runtime, alloc, name)?)?;
@@ -193,7 +244,7 @@ fn make_over<R: Files + RandomSource>(
         return Err(FileFault::Refused(Refusal::Other));
     }
     let file = make_alike(runtime, place.part(), found)?;
-    Ok(SystemFile::new(file, Some(place)))
+    Ok(SystemFile::new(Target::File(file), Some(place)))
 }
 
 // A file with the mode of the one that was found, and with its owner as far as that is allowed. Nobody else can open it

@@ -4,6 +4,7 @@
 mod files;
 mod places;
 mod streams;
+mod targets;
 
 pub use files::{System, SystemFile};
 pub use streams::{Input, Output};

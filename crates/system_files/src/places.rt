@@ -12,6 +12,15 @@ use std::rt::Files;
 // How many links are followed from one to the next, as Linux does.
 const MOST_LINKS: u32 = 40;
 
+// Where Linux has a link for each file that the process has open.
+const DESCRIPTORS: &str = "/proc/self/fd";
+
+const STREAMS: [(Stream, &str); 3] = [
+    (Stream::Output, "/proc/self/fd/1"),
+    (Stream::Errors, "/proc/self/fd/2"),
+    (Stream::Input, "/proc/self/fd/0"),
+];
+
 // The path of a file, and of what is made beside it until it is put there.
 #[derive(Drop)]
 pub(crate) struct Place {
@@ -56,11 +65,61 @@ pub(crate) fn place_of<R: Files>(runtime: &R, alloc: Global, name: &str) -> io::
             Err(error) if error.kind() == ErrorKind::NotFound => return Ok(place),
             Err(error) => return Err(error),
         }
-        let target = runtime.read_link(alloc, place.as_str())?;
-        place.pop();
-        place.push(target.as_str())?;
+        place = target_of(runtime, alloc, place)?;
     }
     Err(io::Error::from(ErrorKind::InvalidInput))
+}
+
+// What the link at this place leads to.
+fn target_of<R: Files>(runtime: &R, alloc: Global, link: PathBuf) -> io::Result<PathBuf> {
+    let target = runtime.read_link(alloc, link.as_str())?;
+    let mut place = link;
+    place.pop();
+    place.push(target.as_str())?;
+    Ok(place)
+}
+
+// Whether a name leads to a file that is open already: over a link of /proc, as /dev/fd/3 and /dev/stdout do, or to
+// what stands in /proc itself.
+pub(crate) fn leads_over_proc<R: Files>(
+    runtime: &R,
+    alloc: Global,
+    name: &str,
+) -> io::Result<bool> {
+    let Ok(descriptors) = runtime.metadata(DESCRIPTORS) else {
+        return Ok(false);
+    };
+    let mut place = PathBuf::from_str(alloc, name)?;
+    for _ in 0..MOST_LINKS {
+        let found = runtime.symlink_metadata(place.as_str())?;
+        if found.dev() == descriptors.dev() {
+            return Ok(true);
+        }
+        if !found.is_symlink() {
+            return Ok(false);
+        }
+        place = target_of(runtime, alloc, place)?;
+    }
+    Err(io::Error::from(ErrorKind::InvalidInput))
+}
+
+// A standard stream.
+#[derive(Clone, Copy)]
+pub(crate) enum Stream {
+    Input,
+    Output,
+    Errors,
+}
+
+// Which standard stream has this file open, if one has. Standard output is the first that is asked.
+pub(crate) fn stream_of<R: Files>(runtime: &R, found: &Metadata) -> Option<Stream> {
+    for (stream, path) in STREAMS.iter() {
+        match runtime.metadata(path) {
+            Ok(open) if are_one(&open, found) => return Some(*stream),
+            _ => {}
+        }
+    }
+    None
 }
 
 // Whether this is told of one file: by its device, and its number there.

@@ -27,7 +27,7 @@ fn names_the_document<S: FileSystem>(alloc: Global, system: &S) -> bool {
 
 #[test]
 fn opens_a_file_or_names_its_document(rt: HostRuntime) -> Result<(), Fail> {
-    let system = System::new(&rt);
+    let system = System::new(&rt, rt.stdout(), rt.stderr());
     assert!(rt; reads_an_empty_file(rt.alloc(), &system)?);
     assert!(rt; names_the_document(rt.alloc(), &system));
     Ok(())
