@@ -4,7 +4,7 @@ use Rattle.std.specs.Str.{bytes_eq}
 use Rattle.std.proofs.lemmas.Slice.Eq.{bytes_eq-Decides}
 use Rattle.clap.specs.Words.{Row, Text, first_of}
 use Rattle.command_words.specs.Asked.{AreAskedFor, IsAsked, MayStandAt}
-use Rattle.command_words.specs.Orders.{ArePlaces, IsExtent, IsGiven, IsGivenInFiles, IsMisfit, IsOrderOf, IsPlace, IsSubject, NameFiles, NameNothing, NamesPuzzle, TellsOfMisfit}
+use Rattle.command_words.specs.Orders.{ArePlaces, AreWritable, IsExtent, IsGiven, IsGivenInFiles, IsMisfit, IsOrderOf, IsPlace, IsSubject, NameFiles, NameNothing, NamesPuzzle, TellsOfMisfit}
 use Rattle.command_words.specs.Places.{AreTwoOnInput, certificate_place, list_of_two, list_place, puzzle_of_two, puzzle_place}
 use Rattle.command_words.specs.declared.faults.WordsFault.{WordsFault}
 use Rattle.command_words.specs.declared.faults.WordsFault.TheVariants.{Words, Memory}
@@ -27,7 +27,7 @@ use Rattle.command_words.specs.declared.readings.Asked.{Asked}
 use Rattle.command_words.specs.declared.readings.Asked.TheVariants as asked
 use Rattle.command_words.proofs.ProgramLemmas.{none_is_some, some_is}
 
-true_is_false : true ≡ false → ⊥
+pub true_is_false : true ≡ false → ⊥
 true_is_false e = absurd cc
 
 differ : (name other : Text) → bytes_eq name other ≡ false → name ≡ other → ⊥
@@ -51,6 +51,24 @@ no_count rows listed searched (orders.Show subject) is = differ (codes "count") 
 no_count rows listed searched (orders.Draw subject first numbers) is = differ (codes "count") (codes "draw") refl is.0
 no_count rows listed searched (orders.Symmetries puzzle) is = differ (codes "count") (codes "symmetries") refl is.0
 no_count rows listed searched (orders.Tiles sides colours lines) is = differ (codes "count") (codes "tiles") refl is.0
+
+-- none of a solve whose list or certificate has the name of standard input
+pub no_solve : (rows : List Row) (files : Files) → NameFiles rows files → (AreWritable files → ⊥) → (order : Order) → IsOrderOf (Some (codes "solve", rows)) order → ⊥
+no_solve rows files named not orders.Joined is = is
+no_solve rows files named not (orders.Check other workers forks progress hints) is = differ (codes "solve") (codes "check") refl is.0
+no_solve rows files named not (orders.Explain given) is = differ (codes "solve") (codes "explain") refl is.0
+no_solve rows files named not (orders.ExplainPuzzle puzzle) is = differ (codes "solve") (codes "explain") refl is.0
+no_solve rows files named not (orders.Solve other depth fuel workers keep progress hints) is = not (record {
+  list = λ same. is.2.list (some_is (sym is.1.list ∙ named.list) ∙ same);
+  certificate = λ same. is.2.certificate (some_is (sym is.1.certificate ∙ named.certificate) ∙ same);
+})
+no_solve rows files named not (orders.Expand given orbits hints) is = differ (codes "solve") (codes "expand") refl is.0
+no_solve rows files named not (orders.Count given) is = differ (codes "solve") (codes "count") refl is.0
+no_solve rows files named not (orders.Census puzzle extent workers progress) is = differ (codes "solve") (codes "count") refl is.0
+no_solve rows files named not (orders.Show subject) is = differ (codes "solve") (codes "show") refl is.0
+no_solve rows files named not (orders.Draw subject first numbers) is = differ (codes "solve") (codes "draw") refl is.0
+no_solve rows files named not (orders.Symmetries puzzle) is = differ (codes "solve") (codes "symmetries") refl is.0
+no_solve rows files named not (orders.Tiles sides colours lines) is = differ (codes "solve") (codes "tiles") refl is.0
 
 -- files of which but some are named
 pub but_some : (rows : List Row) → (NameNothing rows → ⊥) → ((files : Files) → NameFiles rows files → ⊥) → (any : Given) → IsGivenInFiles rows any → ⊥

@@ -62,6 +62,11 @@ pub record NameFiles (rows : List Row) (files : Files) : Type 0 where
   pub list : first_of (codes "LIST") rows ≡ Some (string_bytes files.list)
   pub certificate : first_of (codes "CERTIFICATE") rows ≡ Some (string_bytes files.certificate)
 
+-- Neither the list nor the certificate is named as standard input is.
+pub record AreWritable (files : Files) : Type 0 where
+  pub list : string_bytes files.list ≢ input_name
+  pub certificate : string_bytes files.certificate ≢ input_name
+
 -- Where the document stands that the matches of a command have under an id: on standard input where its word is `-`, or in
 -- the file of this name.
 abbrev pub IsPlace : Text → List Row → Place → Type 0
@@ -128,7 +133,7 @@ IsOrderOf (Some (name, rows)) (Check files workers forks progress hints) =
 IsOrderOf (Some (name, rows)) (Explain given) = (name ≡ codes "explain") × IsGiven rows given
 IsOrderOf (Some (name, rows)) (ExplainPuzzle puzzle) = (name ≡ codes "explain") × NamesPuzzle rows puzzle
 IsOrderOf (Some (name, rows)) (Solve files depth fuel workers keep progress hints) =
-    (name ≡ codes "solve") × NameFiles rows files × (number_of (codes "depth") rows ≡ Some depth)
+    (name ≡ codes "solve") × NameFiles rows files × AreWritable files × (number_of (codes "depth") rows ≡ Some depth)
     × (number_of (codes "fuel") rows ≡ Some fuel) × (number_of (codes "workers") rows ≡ Some workers)
     × IsFlagged (codes "keep") rows keep × IsFlagged (codes "progress") rows progress
     × IsFlagged (codes "hints") rows hints

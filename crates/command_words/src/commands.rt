@@ -610,7 +610,7 @@ pub(crate) fn explain<'a>(alloc: Global) -> Result<Command<'a>, AllocError>
     command_of(alloc, &EXPLAIN)
 }
 
-fn solve<'a>(alloc: Global) -> Result<Command<'a>, AllocError>
+pub(crate) fn solve<'a>(alloc: Global) -> Result<Command<'a>, AllocError>
     ensures { IfOk result (IsCommandAs solve_app) }
 {
     command_of(alloc, &SOLVE)

@@ -1,11 +1,11 @@
 //! Words are read.
 
-ghost use Rattle.std.specs.Prelude.{◌≡◌, Some, codes, map, IfOk, IfErr, MatchOption};
+ghost use Rattle.std.specs.Prelude.{◌≡◌, ◌↔◌, Some, codes, map, IfOk, IfErr, IsTrue, MatchOption};
 ghost use Rattle.std.specs.String.{string_bytes};
 ghost use Rattle.std.specs.Str.Parse.{digits_value, without_leading_plus};
 ghost use Rattle.clap.specs.Words.{IsUnsignedIn, first_of, found_of, kind_of, rows_of};
 ghost use Rattle.clap.specs.declared.error.kind.ErrorKind.TheVariants.{ArgumentConflict};
-ghost use Rattle.command_words.specs.Orders.{AreMatchesOf, HasFiles, HasFlag, HasNumber, HasText, IsExtent, IsFlagged};
+ghost use Rattle.command_words.specs.Orders.{AreMatchesOf, AreWritable, HasFiles, HasFlag, HasNumber, HasText, IsExtent, IsFlagged};
 ghost use Rattle.command_words.specs.Orders.{IsGiven, IsGivenInFiles, IsMisfit, IsOrder, IsOrderOf, IsPlace, IsRefused};
 ghost use Rattle.command_words.specs.Orders.{IsSubject, MayHaveNumber, NameFiles, TellsOfMisfit, number_of};
 ghost use Rattle.command_words.specs.Asked.{AreAskedFor, IsAsked, MayStandAt};
@@ -17,7 +17,7 @@ ghost use Rattle.command_words.specs.declared.places.Given.{Given};
 
 use crate::commands::{
     count as count_command, draw as draw_command, expand as expand_command,
-    explain as explain_command, program, show as show_command,
+    explain as explain_command, program, show as show_command, solve as solve_command,
 };
 use crate::faults::WordsFault;
 use crate::orders::{Extent, Order, Part, Subject};
@@ -34,6 +34,10 @@ const READ_TWICE: &str =
 // Why words that name a part of three documents order nothing.
 const NO_CERTIFICATE: &str =
     "a list stands with its certificate: PUZZLE LIST CERTIFICATE, or PUZZLE alone";
+
+// Why words that name a list or a certificate as standard input is named order no solve.
+const NOT_WRITTEN: &str =
+    "a solve writes no list or certificate to -: ./- is a file of that name, and /dev/stdout is standard output";
 
 // The text under this id.
 fn text(alloc: Global, matches: &ArgMatches<'_>, id: &str) -> Result<String, AllocError>
@@ -83,6 +87,15 @@ fn files(alloc: Global, matches: &ArgMatches<'_>) -> Result<Files, AllocError>
         list,
         certificate,
     })
+}
+
+// Whether neither the list nor the certificate is named as standard input is.
+fn are_writable(files: &Files) -> bool
+    ensures { IsTrue result ↔ AreWritable files.now }
+{
+    let list: &str = &files.list;
+    let certificate: &str = &files.certificate;
+    list != "-" && certificate != "-"
 }
 
 // Where the document stands that is named under this id, if one is.
@@ -247,6 +260,9 @@ fn solve(alloc: Global, matches: &ArgMatches<'_>) -> Result<Order, WordsFault>
     ensures refused { IfErr result (IsMisfit (Some (codes "solve", rows_of (found_of matches.now)))) }
 {
     let files = files(alloc, matches)?;
+    if !are_writable(&files) {
+        return Err(misfit(solve_command(alloc), "edgematch solve", NOT_WRITTEN));
+    }
     let depth = number(matches, "depth");
     let fuel = number(matches, "fuel");
     let workers = number(matches, "workers");
