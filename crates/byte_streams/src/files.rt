@@ -1,13 +1,13 @@
 //! Files by their names.
 
-ghost use Rattle.std.specs.Prelude.{◌≡◌, ℕ, List, IfOk, OnErr, OnOk};
+ghost use Rattle.std.specs.Prelude.{◌≡◌, ℕ, List, IfOk, IsTrue, OnErr, OnOk};
 ghost use Rattle.byte_streams.specs.Deeds.{Deed, IsFileOf, did_make, did_put, did_remove};
 ghost use Rattle.byte_streams.specs.Moves.{IsUnread, IsUnwritten};
 
 use crate::faults::FileFault;
 use crate::refusals::Refusal;
 use crate::sinks::Sink;
-use crate::sources::{Failed, Source};
+use crate::sources::Source;
 use std::alloc::{AllocError, Global};
 
 /// Where files are opened by their names, and made beside them.
@@ -26,6 +26,12 @@ pub trait FileSystem {
     ghost makes: { Self → List ℕ → Self.Writer → Type 0 };
     // that a call did this, and nothing else
     ghost does: { Self → Deed → Self → Type 0 };
+    // files of which all that they took lies on the disk
+    ghost synced: { Self.Writer → Type 0 };
+    // that this file was put under the name, with the text
+    ghost is_put: { Self.Writer → List ℕ → List ℕ → Type 0 };
+    // that the name leads to the file that was put under it, with the text
+    ghost leads: { Self → List ℕ → List ℕ → Type 0 };
 
     /// The file of this name, opened, with nothing read of it.
     fn open(&self, name: &str) -> Result<Self::Reader, Refusal>
@@ -40,20 +46,28 @@ pub trait FileSystem {
         ensures does { OnOk result (does self.old (did_make name.now) self.new) }
         ensures err { OnErr result (self.new ≡ self.old) };
 
-    /// Puts the file that was made beside this name under it, with the text that it took, in place of what stands there.
-    /// Where that fails, the file is removed.
-    fn put(&mut self, file: Self::Writer, name: &str) -> Result<(), Failed>
-        requires { (text : List ℕ) × IsFileOf makes Self.Writer.written name.now file text }
+    /// Has all that the file took written to the disk.
+    fn sync(&self, file: &Self::Writer) -> Result<(), Refusal>
+        ensures { OnOk result (synced file.now) };
+
+    /// Puts the file that was made beside this name under it, with the text that it took, in place of what stands there,
+    /// and hands it back. Where that fails, the file is removed.
+    fn put(&mut self, file: Self::Writer, name: &str) -> Result<Self::Writer, Refusal>
+        requires whole { (text : List ℕ) × IsFileOf makes Self.Writer.written name.now file text }
+        requires synced { synced file }
         ensures does { OnOk result ((text : List ℕ) → IsFileOf makes Self.Writer.written name.now file text
             → does self.old (did_put name.now text) self.new) }
+        ensures put { IfOk result (λ put. (text : List ℕ) → IsFileOf makes Self.Writer.written name.now file text
+            → is_put put name.now text) }
         ensures err { OnErr result (does self.old (did_remove name.now) self.new) };
 
     /// Removes the file that was made beside this name.
     fn remove(&mut self, file: Self::Writer, name: &str)
         ensures { does self.old (did_remove name.now) self.new };
 
-    /// Why the last write to the file failed, if one did.
-    fn refusal_of(&self, file: &Self::Writer) -> Option<Refusal>;
+    /// Whether the name leads to this file, which was put under it.
+    fn leads_to(&self, name: &str, file: &Self::Writer) -> bool
+        ensures { IsTrue result → (text : List ℕ) → is_put file.now name.now text → leads self.now name.now text };
 
     /// Why no file can be made under this name, as far as the system says before it is tried.
     fn refusal_at(&self, alloc: Global, name: &str) -> Option<Refusal>;

@@ -20,7 +20,7 @@ pub use fakes::Fake;
 pub use faults::{Document, FileFault, InputFault};
 pub use files::FileSystem;
 pub use inputs::{Inputs, JoinedSource, NoSource, OneSource, ThreeSources, TwoSources};
-pub use made_files::{MadeFiles, NotMade, ProductNames, Unsettled, make_both, settle};
+pub use made_files::{MadeFiles, NotMade, NotPut, ProductNames, Unsettled, make_both, settle};
 pub use outputs::{OneSink, Outputs, Products, ThreeSinks};
 pub use readings::{read_text, read_whole};
 pub use refusals::Refusal;

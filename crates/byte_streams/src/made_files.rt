@@ -1,12 +1,13 @@
 //! Files of a list and a certificate that are made beside their names, and put there once all is written.
 
-ghost use Rattle.std.specs.Prelude.{IfErr, IfOk, OnErr, OnOk};
+ghost use Rattle.std.specs.Prelude.{IfErr, IfNone, IfOk, OnErr, OnOk};
 ghost use Rattle.byte_streams.specs.Deeds.{Did};
-ghost use Rattle.byte_streams.specs.MadeFiles.{AreWhole, MakesBoth, NotMadeUnder, PutsBoth, Settles, Undid, both_removed};
+ghost use Rattle.byte_streams.specs.MadeFiles.{AreSynced, AreWhole, BothLead, MakesBoth, NotMadeUnder, PutsBoth, Settles};
+ghost use Rattle.byte_streams.specs.MadeFiles.{SettlesWhole, Undid, both_removed};
 
 use crate::faults::FileFault;
 use crate::files::FileSystem;
-use crate::sources::Failed;
+use crate::refusals::Refusal;
 use std::alloc::Global;
 
 /// The names of the files of a list and a certificate.
@@ -64,40 +65,66 @@ pub fn make_both<'a, S: FileSystem>(
     }
 }
 
-/// Why the files were not put under their names.
+/// The name under which a file could not be put, and why.
 #[derive(Drop)]
-pub enum Unsettled<E> {
+pub struct NotPut<'a> {
+    pub name: &'a str,
+    pub refusal: Refusal,
+}
+
+/// Why the files don't stand under their names.
+#[derive(Drop)]
+pub enum Unsettled<'a, E> {
     /// Not all was written, and both were removed.
     Stopped(E),
     /// One could not be put there.
-    NotPut,
+    NotPut(NotPut<'a>),
+    /// Both were put there, and this name leads to another file by now.
+    Replaced(&'a str),
 }
 
-/// Puts both under their names where all was written into them, the list first. Else removes both, and hands the fault
-/// back: `Stopped`.
+/// Puts both under their names where all was written into them, the list first, once both lie on the disk, and then looks
+/// whether the names lead to them. Else removes both, and hands the fault back: `Stopped`.
 ///
-/// `NotPut` where the list can't be put under its name, and both are removed, or where the certificate can't, and that
-/// is.
-pub fn settle<S: FileSystem, E>(
+/// `NotPut` where one can't be synced, or the list can't be put under its name, and both are removed; or where the
+/// certificate can't, and that is. `Replaced` where all was done, and a name leads to another file.
+pub fn settle<'a, S: FileSystem, E>(
     made: MadeFiles<S::Writer>,
-    names: &ProductNames<'_>,
+    names: &ProductNames<'a>,
     system: &mut S,
     written: Result<(), E>,
-) -> Result<(), Unsettled<E>>
+) -> Result<(), Unsettled<'a, E>>
     requires { OnOk written (AreWhole S.FileSystem S.Writer.written names.now made) }
     ensures { Settles S.FileSystem S.Writer.written names.now made system.old system.new written result }
 {
     match written {
-        Ok(()) => {
-            match put_both(made, names, system) {
-                Ok(()) => Ok(()),
-                Err(Failed) => Err(Unsettled::NotPut),
-            }
-        }
+        Ok(()) => put_whole(made, names, system),
         Err(fault) => {
             remove_both(made, names, system);
             Err(Unsettled::Stopped(fault))
         }
+    }
+}
+
+// Puts both under their names, once both lie on the disk, and looks whether the names lead to them.
+fn put_whole<'a, S: FileSystem, E>(
+    made: MadeFiles<S::Writer>,
+    names: &ProductNames<'a>,
+    system: &mut S,
+) -> Result<(), Unsettled<'a, E>>
+    requires { AreWhole S.FileSystem S.Writer.written names.now made }
+    ensures { SettlesWhole S.FileSystem S.Writer.written names.now made system.old system.new result }
+{
+    if let Err(refused) = sync_both(&made, names, system) {
+        remove_both(made, names, system);
+        return Err(Unsettled::NotPut(refused));
+    }
+    match put_both(made, names, system) {
+        Ok(put) => match name_of_another(&put, names, system) {
+            None => Ok(()),
+            Some(name) => Err(Unsettled::Replaced(name)),
+        },
+        Err(refused) => Err(Unsettled::NotPut(refused)),
     }
 }
 
@@ -109,19 +136,72 @@ fn remove_both<S: FileSystem>(made: MadeFiles<S::Writer>, names: &ProductNames<'
     system.remove(made.certificate, names.certificate);
 }
 
+// Has both written to the disk.
+fn sync_both<'a, S: FileSystem>(
+    made: &MadeFiles<S::Writer>,
+    names: &ProductNames<'a>,
+    system: &S,
+) -> Result<(), NotPut<'a>>
+    ensures { OnOk result (AreSynced S.synced made.now) }
+{
+    if let Err(refusal) = system.sync(&made.list) {
+        return Err(NotPut {
+            name: names.list,
+            refusal,
+        });
+    }
+    match system.sync(&made.certificate) {
+        Ok(()) => Ok(()),
+        Err(refusal) => Err(NotPut {
+            name: names.certificate,
+            refusal,
+        }),
+    }
+}
+
 // Puts both under their names, with the texts that they took, the list first. Where the list can't be put there, both
 // are removed, and where the certificate can't, that is.
-fn put_both<S: FileSystem>(
+fn put_both<'a, S: FileSystem>(
     made: MadeFiles<S::Writer>,
-    names: &ProductNames<'_>,
+    names: &ProductNames<'a>,
     system: &mut S,
-) -> Result<(), Failed>
-    requires { AreWhole S.FileSystem S.Writer.written names.now made }
+) -> Result<MadeFiles<S::Writer>, NotPut<'a>>
+    requires whole { AreWhole S.FileSystem S.Writer.written names.now made }
+    requires synced { AreSynced S.synced made }
     ensures { PutsBoth S.FileSystem S.Writer.written names.now made system.old system.new result }
 {
-    if let Err(failed) = system.put(made.list, names.list) {
-        system.remove(made.certificate, names.certificate);
-        return Err(failed);
+    let list = match system.put(made.list, names.list) {
+        Ok(list) => list,
+        Err(refusal) => {
+            system.remove(made.certificate, names.certificate);
+            return Err(NotPut {
+                name: names.list,
+                refusal,
+            });
+        }
+    };
+    match system.put(made.certificate, names.certificate) {
+        Ok(certificate) => Ok(MadeFiles { list, certificate }),
+        Err(refusal) => Err(NotPut {
+            name: names.certificate,
+            refusal,
+        }),
     }
-    system.put(made.certificate, names.certificate)
+}
+
+// The name that doesn't lead to the file that was put under it, if one doesn't.
+fn name_of_another<'a, S: FileSystem>(
+    put: &MadeFiles<S::Writer>,
+    names: &ProductNames<'a>,
+    system: &S,
+) -> Option<&'a str>
+    ensures { IfNone result (BothLead S.FileSystem names.now system.now put.now) }
+{
+    if !system.leads_to(names.list, &put.list) {
+        return Some(names.list);
+    }
+    if !system.leads_to(names.certificate, &put.certificate) {
+        return Some(names.certificate);
+    }
+    None
 }

@@ -5,6 +5,7 @@ ghost use Rattle.std.specs.Prelude.{ℕ, Bool, List, Option, true, false, length
 ghost use Rattle.std.specs.Io.KnownBytes.{Appends, Keeps};
 ghost use Rattle.byte_streams.specs.Streams.{one_more};
 
+use crate::refusals::Refusal;
 use crate::sources::Failed;
 
 /// Where bytes go.
@@ -26,4 +27,9 @@ pub trait Sink {
         ensures kept { OnErr result (Keeps (written self.old) (written self.new)) }
         ensures not_idle { OnErr result (idle self.new ≡ false) }
         ensures err { OnErr result (errors self.new ≡ one_more (errors self.old)) };
+
+    /// Why the last write failed, where that is known. Nothing depends on it but what is told.
+    fn refusal(&self) -> Option<Refusal> {
+        None
+    }
 }

@@ -1,9 +1,12 @@
 //! Solves edge-matching puzzles, and checks whether a list of arrangements is complete, by a certificate.
 #![tactic(auto)]
 
+ghost use Rattle.std.specs.Prelude.{◌≤◌, IfSome, length};
+
 use match_program::{
     Exit, Input, Output, RunFault, Streams, System, SystemLimits, run_words, stopped,
 };
+use std::env::{Env, FillError};
 use std::fs::{self, OpenOptions};
 use std::io::{ErrorKind, IsTerminal};
 use std::os::fd::{AsRawFd, IntoRawFd};
@@ -12,13 +15,16 @@ use std::random::RandomSource;
 use std::sync::Wait;
 use std::thread::{Builder, Threads};
 use std::time::Clock;
-use std::{env, io};
+use std::{env, io, str};
 
 // A stack that is enough, in bytes: 256 cells take a fifth of it. Threads get as much as the limit on stacks says.
 const STACK_LEN: usize = 0x10_0000;
 
 // What may be opened everywhere, and holds nothing.
 const NOTHING: &str = "/dev/null";
+
+// A word that Linux takes has fewer bytes.
+const MOST_WORD_LEN: usize = 0x2_0000;
 
 // The descriptor of standard error, behind those of standard input and output.
 const LAST_STREAM: i32 = 2;
@@ -117,11 +123,40 @@ fn out_of_memory(rt: &HostRuntime) -> Exit {
     stopped(rt.alloc(), &RunFault::Memory, &mut Output::new(rt.stderr()))
 }
 
-// Says that the words can't be read.
+// Says that the words can't be read, and which word it is.
 fn unread(rt: &HostRuntime, error: &io::Error) -> Exit {
     if error.kind() == ErrorKind::OutOfMemory {
         return out_of_memory(rt);
     }
-    let _ = rt.eprintln("the words of the command line are not UTF-8");
+    let Ok(mut bytes) = vec![in rt.alloc(); 0u8; MOST_WORD_LEN] else {
+        return out_of_memory(rt);
+    };
+    match word_of_no_text(rt, &mut bytes) {
+        Some((number, len)) => {
+            let _ = eprintln!(rt;
+                "the words of the command line are not UTF-8: word {number} is {}",
+                bytes[..len].escape_ascii()
+            );
+        }
+        None => {
+            let _ = rt.eprintln("the words of the command line are not UTF-8");
+        }
+    }
     Exit::Failed
+}
+
+// The number of the first word behind the program's name that is not UTF-8, if one is found, and how many bytes it has,
+// which stand at the front of `bytes` then.
+fn word_of_no_text(rt: &HostRuntime, bytes: &mut [u8]) -> Option<(usize, usize)>
+    ensures { IfSome result (λ found. found.1 ≤ length bytes.new) }
+{
+    for number in 1..usize::MAX {
+        match rt.arg(number, bytes) {
+            Ok(len) if str::from_utf8(&bytes[..len]).is_err() => return Some((number, len)),
+            Ok(_) => {}
+            Err(FillError::TooLong) => {}
+            Err(FillError::NotPresent) => return None,
+        }
+    }
+    None
 }

@@ -4,7 +4,7 @@ use Rattle.std.specs.Prelude.{OnOk}
 use Rattle.std.specs.Io.KnownBytes.{Appends, Consumes}
 use Rattle.std.proofs.KnownBytes.{Consumes-nil}
 use Rattle.byte_streams.specs.Deeds.{Deed, Did}
-use Rattle.byte_streams.specs.MadeFiles.{AreMade, AreWritten, PutsBoth, PutsNoneOrHalf, Settles, Undid, both_made, both_removed}
+use Rattle.byte_streams.specs.MadeFiles.{AreMade, AreWritten, PutsNoneOrHalf, Settles, SettlesWhole, Undid, both_made, both_removed}
 use Rattle.byte_streams.specs.Moves.{FrontOf, Takes, Writing}
 use Rattle.byte_streams.specs.Origins.{Origin, one_source}
 use Rattle.byte_streams.specs.Targets.{StopsWriting, Target, filled, products_to, three_sinks}
@@ -12,6 +12,7 @@ use Rattle.byte_streams.specs.declared.faults.Document.TheVariants as documents
 use Rattle.byte_streams.specs.declared.faults.InputFault.TheVariants as inputs
 use Rattle.byte_streams.specs.declared.files.FileSystem.{Ghosts as FileMembers}
 use Rattle.byte_streams.specs.declared.made_files.MadeFiles.{MadeFiles}
+use Rattle.byte_streams.specs.declared.made_files.NotPut.{NotPut}
 use Rattle.byte_streams.specs.declared.made_files.ProductNames.{ProductNames}
 use Rattle.byte_streams.specs.declared.made_files.Unsettled.{Unsettled}
 use Rattle.byte_streams.specs.declared.made_files.Unsettled.TheVariants as unsettled
@@ -75,12 +76,12 @@ reports_some list certificate report made (inr later) = second_stops certificate
 
 module _ {S R W : Type 0} (system : FileMembers S R W) (source : SourceMembers R) (at : S) (name : List ℕ) (file : Opened system source at name) where
   -- the run that a solve makes stopped, and what was made was removed
-  pub solve_stopped : (workers : ℕ) (list certificate report : Writing) (to : Target Products) (Undone : Type 0) → Undone
+  pub solve_stopped : (workers : ℕ) (list certificate report : Writing) (to : Target Products) (Put : Products → Type 0) (Undone : Type 0) → Undone
       → ((made : Products) → Undone × (report.Untouched ⊎ (FrontOf report made.report ⊎ Takes report made.report)) → to.Stopped made) → (Undone × report.Untouched → to.Untouched)
       → (fault : RunFault)
       → Runs (one_source documents.Puzzle (read_from system source at name file)) (SolveGives workers) SolveFails (three_sinks list certificate report) (Err fault)
-      → SolveOf workers (one_file system source at name) to (Err fault)
-  solve_stopped workers list certificate report to Undone undone stopped untouched fault run =
+      → SolveOf workers (one_file system source at name) to Put (Err fault)
+  solve_stopped workers list certificate report to Put Undone undone stopped untouched fault run =
       inl (stopped_over (one_source documents.Puzzle (read_from system source at name file)) (one_file system source at name) (SolveGives workers) (ThenDone (SolveGives workers)) SolveFails
       (three_sinks list certificate report) to (λ t gave. (file, gave)) (λ f stops. inr (file, stops)) (λ t m e g. (Done, (g, refl)))
       (λ m stops. stopped m (undone, reports_some list certificate report m stops)) (λ u. untouched (undone, u.2)) fault run)
@@ -93,38 +94,50 @@ module _ {S R W : Type 0} (system : FileMembers S R W) (source : SourceMembers R
       nothing = rw same (Consumes-nil (source.left file.opened))
 
   -- it is not begun, since a file could not be made
-  pub not_begun : file.later ≡ file.opened → (workers : ℕ) (to : Target Products) (fault : RunFault) → (fault ≡ runs.Write) ⊎ (fault ≡ runs.Memory) → to.Untouched
-      → SolveOf workers (one_file system source at name) to (Err fault)
-  not_begun same workers to fault (inl write) untouched = rw write (inr (refl, untouched))
-  not_begun same workers to fault (inr memory) untouched = rw memory (inl (unread same, untouched))
+  pub not_begun : file.later ≡ file.opened → (workers : ℕ) (to : Target Products) (Put : Products → Type 0) (fault : RunFault) → (fault ≡ runs.Write) ⊎ (fault ≡ runs.Memory) → to.Untouched
+      → SolveOf workers (one_file system source at name) to Put (Err fault)
+  not_begun same workers to Put fault (inl write) untouched = rw write (inr (inl (refl, untouched)))
+  not_begun same workers to Put fault (inr memory) untouched = rw memory (inl (unread same, untouched))
 
 -- all was written, and a file could not be put in its place
-pub put_stopped : {S : Type 0} (does : S → Deed → S → Type 0) (files : Files) (old now new : S) (report : Writing) (made : Products) → Did does old (files_made files) now
-    → PutsNoneOrHalf (list_name files) (certificate_name files) does now new made → Takes report made.report → (solved_files files does old new report).Stopped made
-put_stopped does files old now new report made both (inl removed) takes = inl (undone does (list_name files) (certificate_name files) old now new both removed, inr (inr takes))
-put_stopped does files old now new report made both (inr half) takes = inr (did_then does old now new (files_made files) (half_put files made) both half, takes)
+pub put_stopped : {S : Type 0} (does : S → Deed → S → Type 0) (leads : S → List ℕ → List ℕ → Type 0) (files : Files) (old now new : S) (report : Writing) (made : Products) → Did does old (files_made files) now
+    → PutsNoneOrHalf (list_name files) (certificate_name files) does now new made → Takes report made.report → (solved_files files does leads old new report).Stopped made
+put_stopped does leads files old now new report made both (inl removed) takes = inl (undone does (list_name files) (certificate_name files) old now new both removed, inr (inr takes))
+put_stopped does leads files old now new report made both (inr half) takes = inr (did_then does old now new (files_made files) (half_put files made) both half, takes)
 
 -- ---- what files are settled by
 
 module _ {S R W E : Type 0} (system : FileMembers S R W) (written : W → Option (List ℕ)) (names : ProductNames) (made : MadeFiles W) (old new : S) where
   -- they are put only where all was written
   pub put_if_written : (writes : Result Unit E) (settled : Result Unit (Unsettled E)) → settled ≡ Ok tt → Settles system written names made old new writes settled
-      → (writes ≡ Ok tt) × PutsBoth system written names made old new {E = E} (Ok tt)
+      → (writes ≡ Ok tt) × SettlesWhole system written names made old new {E = E} (Ok tt)
   put_if_written (Ok done) (Ok put) is settles = (refl, settles)
-  put_if_written (Ok done) (Err unsettled) is settles = absurd cc
+  put_if_written (Ok done) (Err u) is settles = absurd cc
   put_if_written (Err fault) settled is settles = let back = settles.0 in absurd cc
 
-  pub tried_if_written : (writes : Result Unit E) (settled : Result Unit (Unsettled E)) → settled ≡ Err unsettled.NotPut → Settles system written names made old new writes settled
-      → (writes ≡ Ok tt) × PutsBoth system written names made old new {E = Unsettled E} (Err unsettled.NotPut)
-  tried_if_written (Ok done) (Ok put) is settles = absurd cc
-  tried_if_written (Ok done) (Err unsettled) is settles = (refl, settles.1)
-  tried_if_written (Err fault) settled is settles = let back = settles.0 in absurd cc
+  pub tried_if_written : (writes : Result Unit E) (settled : Result Unit (Unsettled E)) (refused : NotPut) → settled ≡ Err (unsettled.NotPut refused)
+      → Settles system written names made old new writes settled → (writes ≡ Ok tt) × SettlesWhole system written names made old new {E = E} (Err (unsettled.NotPut refused))
+  tried_if_written (Ok done) (Ok put) refused is settles = absurd cc
+  tried_if_written (Ok done) (Err (unsettled.NotPut other)) refused is settles = (refl, settles)
+  tried_if_written (Ok done) (Err (unsettled.Replaced name)) refused is settles = absurd cc
+  tried_if_written (Ok done) (Err (unsettled.Stopped fault)) refused is settles = absurd settles
+  tried_if_written (Err fault) settled refused is settles = let back = settles.0 in absurd cc
+
+  pub replaced_if_written : (writes : Result Unit E) (settled : Result Unit (Unsettled E)) (name : _) → settled ≡ Err (unsettled.Replaced name)
+      → Settles system written names made old new writes settled → (writes ≡ Ok tt) × SettlesWhole system written names made old new {E = E} (Err (unsettled.Replaced name))
+  replaced_if_written (Ok done) (Ok put) name is settles = absurd cc
+  replaced_if_written (Ok done) (Err (unsettled.NotPut refused)) name is settles = absurd cc
+  replaced_if_written (Ok done) (Err (unsettled.Replaced other)) name is settles = (refl, settles)
+  replaced_if_written (Ok done) (Err (unsettled.Stopped fault)) name is settles = absurd settles
+  replaced_if_written (Err fault) settled name is settles = let back = settles.0 in absurd cc
 
   -- the fault that stopped is the one that comes back, and both are removed
   pub stopped_by : (writes : Result Unit E) (settled : Result Unit (Unsettled E)) (fault : E) → settled ≡ Err (unsettled.Stopped fault) → Settles system written names made old new writes settled
       → (writes ≡ Err fault) × Did system.does old (both_removed names.list.now names.certificate.now) new
   stopped_by (Ok done) (Ok put) fault is settles = absurd cc
-  stopped_by (Ok done) (Err u) fault is settles = let other : unsettled.Stopped fault ≡ unsettled.NotPut = subst (λ r. IfErr r (λ u. u ≡ unsettled.NotPut)) is settles.0 in absurd cc
+  stopped_by (Ok done) (Err (unsettled.NotPut refused)) fault is settles = absurd cc
+  stopped_by (Ok done) (Err (unsettled.Replaced name)) fault is settles = absurd cc
+  stopped_by (Ok done) (Err (unsettled.Stopped f)) fault is settles = absurd settles
   stopped_by (Err f) settled fault is settles = (let back = settles.0 in cc, settles.1)
 
 -- what holds after a run that ended well

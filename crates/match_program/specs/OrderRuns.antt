@@ -25,7 +25,7 @@ use Rattle.match_runs.specs.Printing.{PrintingFails, PrintingGives}
 use Rattle.match_runs.specs.Runs.{Runs}
 use Rattle.match_program.specs.PlaceOrigins.{given_documents, one_place, two_places}
 use Rattle.match_program.specs.SameStreams.{output_of}
-use Rattle.match_program.specs.SolvedFiles.{solved_files}
+use Rattle.match_program.specs.SolvedFiles.{PutsAll, solved_files}
 use Rattle.match_program.specs.declared.streams.Streams.{Streams}
 use Rattle.match_runs.specs.Solving.{SolveFails, SolveGives}
 use Rattle.match_runs.specs.Tiles.{TileLinesGive, TilesFail, TilesGive}
@@ -83,10 +83,15 @@ TilesOf sides colours true output result =
 TilesOf sides colours false output result =
     Runs no_source (ThenDone (TilesGive sides colours)) (TilesFail sides colours) (one_sink output) result
 
--- What a solve comes to. It is not begun where two of the files are one, or one can't be made.
-abbrev pub SolveOf : (workers : ℕ) → Origin (List ℕ) → Target Products → Result Exit RunFault → Type 0
-SolveOf workers from to result =
-    Runs from (ThenDone (SolveGives workers)) SolveFails to result ⊎ ((result ≡ Err runs.Write) × to.Untouched)
+-- What a solve comes to. It is not begun where two of the files are one, or one can't be made. Where it put all, and
+-- another file is found under a name then, that is its fault.
+abbrev pub SolveOf : (workers : ℕ) → Origin (List ℕ) → Target Products → (PutsAll : Products → Type 0)
+    → Result Exit RunFault → Type 0
+SolveOf workers from to PutsAll result =
+    Runs from (ThenDone (SolveGives workers)) SolveFails to result
+    ⊎ (((result ≡ Err runs.Write) × to.Untouched)
+    ⊎ ((result ≡ Err runs.Replaced)
+    × (text : List ℕ) × (made : Products) × from.Gave text × SolveGives workers text made tt × PutsAll made))
 
 -- ---- orders
 
@@ -110,11 +115,12 @@ module _ {S R W I : Type 0} (system : FileMembers S R W) (source : SourceMembers
 
     -- by files in a later state, standard input as it is later, and what was written
     module _ (new : S) (later : I) (output : Writing) where
-      -- What an order comes to. No order does anything to a file but a solve.
+      -- What an order comes to. No order does anything to a file but a solve. A check of files, a solve and a list of tiles
+      -- take nothing from standard input.
       abbrev pub RunOf : Order → Result Exit RunFault → Type 0
       RunOf Joined result = (new ≡ old) × CheckOf (joined_source (reading_of input given later)) output result
       RunOf (Check files workers forks progress hints) result =
-          (new ≡ old) × CheckOf (three_files system source old files) output result
+          (new ≡ old) × (later ≡ given) × CheckOf (three_files system source old files) output result
       RunOf (Explain documents) result =
           (new ≡ old)
           × PrintingOf printings.Explanation (given_documents system source input old given later documents) output result
@@ -129,14 +135,16 @@ module _ {S R W I : Type 0} (system : FileMembers S R W) (source : SourceMembers
       RunOf (Census puzzle extent workers progress) result =
           (new ≡ old) × CensusOf extent (one_place system source input old given puzzle) output result
       RunOf (Solve files depth fuel workers keep progress hints) result =
-          SolveOf workers (one_file system source old (string_bytes files.puzzle))
-          (solved_files files system.does old new output) result
+          (later ≡ given)
+          × SolveOf workers (one_file system source old (string_bytes files.puzzle))
+          (solved_files files system.does system.leads old new output) (PutsAll files system.does old new output) result
       RunOf (Show subject) result = (new ≡ old) × ShowOf subject output result
       RunOf (Draw subject first numbers) result = (new ≡ old) × PictureOf subject first output result
       RunOf (Symmetries puzzle) result =
           (new ≡ old)
           × DescriptionOf descriptions.Symmetries (one_place system source input old given puzzle) output result
-      RunOf (Tiles sides colours lines) result = (new ≡ old) × TilesOf sides colours lines output result
+      RunOf (Tiles sides colours lines) result =
+          (new ≡ old) × (later ≡ given) × TilesOf sides colours lines output result
 
 -- What an order comes to, over files and streams in a state, and in a later one.
 abbrev pub RunOver : {S R F I W E : Type 0} → FileMembers S R F → SourceMembers R → SourceMembers I → SinkMembers W

@@ -3,7 +3,7 @@ use Rattle.std.specs.Prelude.{◌⊎◌, ◌++◌, ℕ, List}
 use Rattle.std.specs.String.{string_bytes}
 use Rattle.byte_streams.specs.Deeds.{AllLeave, Deed, Did, Stands}
 use Rattle.byte_streams.specs.MadeFiles as streams
-use Rattle.byte_streams.specs.MadeFiles.{IsUndone, Undid}
+use Rattle.byte_streams.specs.MadeFiles.{IsUndone, NamesLead, Undid}
 use Rattle.byte_streams.specs.Moves.{FrontOf, Takes, Writing}
 use Rattle.byte_streams.specs.Targets.{Target}
 use Rattle.byte_streams.specs.declared.outputs.Products.{Products}
@@ -28,27 +28,31 @@ module _ (files : Files) where
   abbrev pub half_put : Products → List Deed
   half_put = streams.half_put list_name certificate_name
 
-  module _ {S : Type 0} (does : S → Deed → S → Type 0) (old new : S) where
+  module _ {S : Type 0} (does : S → Deed → S → Type 0) where
     -- What was made was removed, and nothing else was done to a file.
-    abbrev pub Undone : Type 0
-    Undone = Undid list_name certificate_name does old new
+    abbrev pub Undone : (old new : S) → Type 0
+    Undone = Undid list_name certificate_name does
 
-    module _ (output : Writing) where
+    module _ (old new : S) (output : Writing) where
       -- Nothing of the report went out, or a front, or all of it.
       abbrev pub ReportsSome : Products → Type 0
       ReportsSome made = output.Untouched ⊎ (FrontOf output made.report ⊎ Takes output made.report)
 
+      -- Both files were made beside their names, and put there, and nothing else was done to a file; the report went out.
+      abbrev pub PutsAll : Products → Type 0
+      PutsAll made = HaveDifferentNames files × Did does old (both_made ++ both_put made) new × Takes output made.report
+
+    module _ (leads : S → List ℕ → List ℕ → Type 0) (old new : S) (output : Writing) where
       -- The files of a list and a certificate, and the output of a report. Both files are made beside their names, and
-      -- put there; nothing else is done to a file. After a fault what was made is removed; but where all was written,
-      -- the list may stand in its place, and the certificate not.
+      -- put there, and the names lead to them at the end. After a fault what was made is removed; but where all was
+      -- written, the list may stand in its place, and the certificate not.
       abbrev pub solved_files : Target Products
       solved_files = record {
-        Took = λ made.
-            HaveDifferentNames files × Did does old (both_made ++ both_put made) new × Takes output made.report;
+        Took = λ made. PutsAll old new output made × NamesLead list_name certificate_name leads new made;
         Stopped = λ made.
-            (Undone × ReportsSome made)
+            (Undone old new × ReportsSome old new output made)
             ⊎ (Did does old (both_made ++ half_put made) new × Takes output made.report);
-        Untouched = Undone × output.Untouched;
+        Untouched = Undone old new × output.Untouched;
       }
 
 -- ---- what stands under names

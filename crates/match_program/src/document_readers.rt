@@ -7,7 +7,7 @@ ghost use Rattle.match_program.specs.DocumentReaders.{IsOfFile, ended_in, errors
 ghost use Rattle.match_program.specs.PlaceOrigins.{AreAllOf, AreBothOf, IsUnopened, Opens, all_placed, both_placed, placed};
 
 use crate::files::open;
-use byte_streams::{Document, Failed, FileSystem, Source, ThreeSources};
+use byte_streams::{Document, Failed, FileSystem, Refusal, Source, ThreeSources};
 use command_words::{Place, ThreePlaces, TwoPlaces};
 use match_runs::{HintedFault, RunFault};
 use std::alloc::Global;
@@ -32,6 +32,13 @@ impl<R: Source, I: Source> Source for DocumentReader<'_, R, I> {
         match self {
             DocumentReader::File(reader) => reader.read(buffer),
             DocumentReader::Input(reader) => reader.read(buffer),
+        }
+    }
+
+    fn refusal(&self) -> Option<Refusal> {
+        match self {
+            DocumentReader::File(reader) => reader.refusal(),
+            DocumentReader::Input(reader) => reader.refusal(),
         }
     }
 }

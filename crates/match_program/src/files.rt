@@ -8,6 +8,10 @@ use command_words::Files;
 use match_runs::{HintedFault, RunFault};
 use std::alloc::{AllocError, Global};
 
+// What is told of who names standard input where it isn't read so.
+const NO_INPUT: &str =
+    "-: there is no such file, and here it doesn't stand for standard input; edgematch check reads a puzzle, a list and a certificate from there, joined, where no file is named";
+
 /// The file of a document, opened, with nothing read of it. `Read` of the document where it can't
 /// be opened, and the hint says why.
 pub fn open<S: FileSystem>(
@@ -23,9 +27,14 @@ pub fn open<S: FileSystem>(
     match system.open(name) {
         Ok(file) => Ok(file),
         Err(refusal) => {
+            let hint = if name == "-" && refusal == Refusal::NoFile {
+                String::from_str(alloc, NO_INPUT).ok()
+            } else {
+                hint_on(alloc, name, refusal)
+            };
             Err(HintedFault {
                 fault: RunFault::Read(document),
-                hint: hint_on(alloc, name, refusal),
+                hint,
             })
         }
     }

@@ -5,7 +5,7 @@ ghost use Rattle.byte_streams.specs.MadeFiles.{MakesBoth, Undid};
 ghost use Rattle.match_program.specs.SolvedFiles.{NothingIsLost};
 
 use crate::files::hint_on;
-use byte_streams::{FileFault, FileSystem, MadeFiles, NotMade, ProductNames, make_both};
+use byte_streams::{FileFault, FileSystem, MadeFiles, NotMade, NotPut, ProductNames, make_both};
 use match_runs::{HintedFault, RunFault};
 use std::alloc::Global;
 
@@ -37,6 +37,28 @@ fn not_made(alloc: Global, failed: NotMade<'_>) -> HintedFault
             }
         }
         FileFault::Memory => HintedFault::from(RunFault::Memory),
+    }
+}
+
+// That a file could not be put under its name.
+pub(crate) fn not_put(alloc: Global, refused: &NotPut<'_>) -> HintedFault
+    ensures { result.fault ≡ RunFault.Write }
+{
+    HintedFault {
+        fault: RunFault::Write,
+        hint: hint_on(alloc, refused.name, refused.refusal),
+    }
+}
+
+// That the name leads to another file than the one that was put under it.
+pub(crate) fn replaced(alloc: Global, name: &str) -> HintedFault
+    ensures { result.fault ≡ RunFault.Replaced }
+{
+    HintedFault {
+        fault: RunFault::Replaced,
+        hint: format!(in alloc;
+            "{name}: it is another file by now; solve again, with other names"
+        ).ok(),
     }
 }
 

@@ -11,12 +11,12 @@ ghost use Rattle.match_program.specs.OrderRuns.{SolveOf, TilesOf, list_printed};
 ghost use Rattle.match_program.specs.PlaceOrigins.{given_documents, one_place, three_places};
 ghost use Rattle.match_runs.specs.Runs.{unhinted};
 ghost use Rattle.match_program.specs.SameStreams.{AreSameStreams};
-ghost use Rattle.match_program.specs.SolvedFiles.{solved_files};
+ghost use Rattle.match_program.specs.SolvedFiles.{PutsAll, solved_files};
 
 use crate::document_readers::{ThreeReaders, TwoReaders, open_place, open_three, open_two};
 use crate::exits::Exit;
 use crate::files::{are_apart, hint_on, open};
-use crate::made_files::make_files;
+use crate::made_files::{make_files, not_put, replaced};
 use crate::progress::{CensusProgress, CheckProgress, SolveProgress};
 use crate::streams::Streams;
 use byte_streams::{
@@ -305,7 +305,8 @@ fn solve<S: FileSystem, W: Sink, R: Threads + Wait + Sync + Clock + Eprint>(
 ) -> Result<Exit, HintedFault>
     ensures { SolveOf order.now.plan.workers
         (one_file S.FileSystem S.Reader.Source system.old (string_bytes order.now.files.now.puzzle))
-        (solved_files order.now.files.now S.does system.old system.new (writing_of W.Sink output.old output.new)) (unhinted result) }
+        (solved_files order.now.files.now S.does S.leads system.old system.new (writing_of W.Sink output.old output.new))
+        (PutsAll order.now.files.now S.does system.old system.new (writing_of W.Sink output.old output.new)) (unhinted result) }
 {
     let files = order.files;
     let mut puzzle = open(alloc, system, &files.puzzle, Document::Puzzle)?;
@@ -337,12 +338,13 @@ fn solve<S: FileSystem, W: Sink, R: Threads + Wait + Sync + Clock + Eprint>(
             report: output,
         },
     );
-    let refused = hint_on_writing(alloc, files, &made, system);
+    let refused = hint_on_writing(alloc, files, &made);
     let told = progress.told(alloc, solved, refused);
     match settle(made, &names, system, told) {
         Ok(()) => Ok(Exit::Done),
         Err(Unsettled::Stopped(hinted)) => Err(hinted),
-        Err(Unsettled::NotPut) => Err(HintedFault::from(RunFault::Write)),
+        Err(Unsettled::NotPut(refused)) => Err(not_put(alloc, &refused)),
+        Err(Unsettled::Replaced(name)) => Err(replaced(alloc, name)),
     }
 }
 
@@ -367,16 +369,11 @@ fn hint_on_places<S: FileSystem>(alloc: Global, files: &Files, system: &S) -> Op
 }
 
 // Which of the files could not be written, and why, if one couldn't.
-fn hint_on_writing<S: FileSystem>(
-    alloc: Global,
-    files: &Files,
-    made: &MadeFiles<S::Writer>,
-    system: &S,
-) -> Option<String> {
-    if let Some(refusal) = system.refusal_of(&made.list) {
+fn hint_on_writing<F: Sink>(alloc: Global, files: &Files, made: &MadeFiles<F>) -> Option<String> {
+    if let Some(refusal) = made.list.refusal() {
         return hint_on(alloc, &files.list, refusal);
     }
-    let refusal = system.refusal_of(&made.certificate)?;
+    let refusal = made.certificate.refusal()?;
     hint_on(alloc, &files.certificate, refusal)
 }
 

@@ -1,6 +1,6 @@
 //! How far a check, a solve or a count is, told on standard error.
 
-ghost use Rattle.std.specs.Prelude.{◌≡◌};
+ghost use Rattle.std.specs.Prelude.{◌≡◌, ◌-◌, ◌*◌, ◌/◌, ◌^◌, max, min};
 ghost use Rattle.match_runs.specs.Runs.{unhinted};
 
 use cert_check::Gate;
@@ -261,7 +261,9 @@ impl<'a, R: Clock + Eprint> CensusProgress<'a, R> {
 }
 
 // How many seconds it takes until all are done, where so many were done in so many seconds.
-fn seconds_left(seconds: u64, done: u64, all: u64) -> u64 {
+fn seconds_left(seconds: u64, done: u64, all: u64) -> u64
+    ensures { result ≡ min (seconds * (all - done)) (2 ^ 64 - 1) / max done 1 }
+{
     let left = all.saturating_sub(done);
     seconds.saturating_mul(left) / done.max(1)
 }

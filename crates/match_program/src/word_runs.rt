@@ -10,10 +10,13 @@ ghost use Rattle.match_program.specs.SameStreams.{AreSameStreams, errors_of, out
 ghost use Rattle.match_program.specs.WordRuns.{CarriesOut, Explains, Refuses, Tells, TellsFault, WordsGive};
 
 use crate::exits::Exit;
+use crate::files::hint_on;
 use crate::order_runs::run_order;
 use crate::streams::Streams;
-use byte_streams::{FileSystem, Sink, Source, write_whole};
-use command_words::{Given, Order, Place, Subject, ThreePlaces, TwoPlaces, WordsFault, order};
+use byte_streams::{Document, FileSystem, Refusal, Sink, Source, write_whole};
+use command_words::{
+    Files, Given, Order, Place, Subject, ThreePlaces, TwoPlaces, WordsFault, order,
+};
 use match_runs::{HintedFault, RunFault, fault_text};
 use std::alloc::Global;
 use std::random::RandomSource;
@@ -75,37 +78,136 @@ fn carry_out<
         Ok(exit) => exit,
         Err(hinted) => {
             let exit = stopped(alloc, &hinted.fault, streams.errors);
-            tell_hint(rt, order, &hinted, streams.terminal);
+            let seen = Seen {
+                terminal: streams.terminal,
+                input: streams.input.refusal(),
+                output: streams.output.refusal(),
+            };
+            tell_hint(rt, alloc, order, &hinted, seen);
             exit
         }
     }
 }
 
-// Whether what is told beside the fault is told also where nobody reads it on a terminal. Of a fault of reading or writing,
-// and of orders that scripts give, these want one line alone.
+// Whether what is told beside the fault is told also where nobody reads it on a terminal: where hints are asked for, and
+// else of a text that has a fault, by orders that people give. Scripts want one line alone.
 fn is_always_told(order: &Order, fault: &RunFault) -> bool {
-    if matches!(fault, RunFault::Read(_) | RunFault::Write) {
-        return false;
-    }
     match order {
         Order::Joined => false,
         Order::Check { hints, .. } | Order::Solve { hints, .. } | Order::Expand { hints, .. } => {
             *hints
         }
-        Order::Explain(_) | Order::ExplainPuzzle(_) | Order::Count(_) | Order::Census { .. } =>
-            true,
-        Order::Show(_) | Order::Draw { .. } | Order::Symmetries(_) | Order::Tiles { .. } => true,
+        Order::Explain(_) | Order::ExplainPuzzle(_) | Order::Count(_) | Order::Census { .. } => {
+            is_of_texts(fault)
+        }
+        Order::Show(_) | Order::Draw { .. } | Order::Symmetries(_) | Order::Tiles { .. } => {
+            is_of_texts(fault)
+        }
     }
 }
 
-// Tells what was left to be told beside a fault.
-fn tell_hint<R: Eprint>(rt: &R, order: &Order, hinted: &HintedFault, terminal: bool) {
-    let HintedFault { fault, hint } = hinted;
-    if !terminal && !is_always_told(order, fault) {
+// Whether the fault is none of reading or writing.
+fn is_of_texts(fault: &RunFault) -> bool {
+    !matches!(
+        fault,
+        RunFault::Read(_) | RunFault::Write | RunFault::Replaced
+    )
+}
+
+// What is seen of the standard streams: whether somebody reads what is told on a terminal, and why the last read and the
+// last write failed, where they did.
+#[derive(Clone, Copy)]
+struct Seen {
+    terminal: bool,
+    input: Option<Refusal>,
+    output: Option<Refusal>,
+}
+
+// Tells what was left to be told beside a fault: its hint, or which stream or file failed while it was read or written.
+fn tell_hint<R: Eprint>(rt: &R, alloc: Global, order: &Order, hinted: &HintedFault, seen: Seen) {
+    if !seen.terminal && !is_always_told(order, &hinted.fault) {
         return;
     }
-    if let Some(hint) = hint {
+    if let Some(hint) = &hinted.hint {
         let _ = rt.eprintln(hint);
+        return;
+    }
+    let told = match &hinted.fault {
+        RunFault::Write => stream_hint(alloc, "standard output", seen.output),
+        RunFault::Read(document) => match file_of(order, *document) {
+            Some(name) => hint_on(alloc, name, Refusal::Other),
+            None => stream_hint(alloc, "standard input", seen.input),
+        },
+        _ => None,
+    };
+    if let Some(told) = told {
+        let _ = rt.eprintln(&told);
+    }
+}
+
+// Why the stream failed, if it did.
+fn stream_hint(alloc: Global, stream: &str, refusal: Option<Refusal>) -> Option<String> {
+    hint_on(alloc, stream, refusal?)
+}
+
+// The name of the document's file, where the order reads it from one.
+fn file_of<'a>(order: &'a Order, document: Document) -> Option<&'a str> {
+    match order {
+        Order::Check { files, .. } | Order::Solve { files, .. } => Some(name_in(files, document)),
+        Order::Explain(Given::Apart(places))
+        | Order::Count(Given::Apart(places))
+        | Order::Expand {
+            given: Given::Apart(places),
+            ..
+        } => file_of_three(places, document),
+        Order::ExplainPuzzle(place)
+        | Order::Census { puzzle: place, .. }
+        | Order::Symmetries(place) => file_at(place),
+        Order::Show(subject) | Order::Draw { subject, .. } => file_of_subject(subject, document),
+        _ => None,
+    }
+}
+
+fn name_in<'a>(files: &'a Files, document: Document) -> &'a str {
+    match document {
+        Document::List => &files.list,
+        Document::Certificate => &files.certificate,
+        Document::Puzzle | Document::Input => &files.puzzle,
+    }
+}
+
+fn file_at<'a>(place: &'a Place) -> Option<&'a str> {
+    match place {
+        Place::Input => None,
+        Place::File(name) => Some(name),
+    }
+}
+
+fn file_of_subject<'a>(subject: &'a Subject, document: Document) -> Option<&'a str> {
+    match subject {
+        Subject::Board(place) => file_at(place),
+        Subject::Listed { places, .. } => match (places, document) {
+            (TwoPlaces::Files { list, .. }, Document::List) => Some(list),
+            (TwoPlaces::Files { puzzle, .. }, _) => Some(puzzle),
+            (TwoPlaces::PuzzleOnInput { list }, Document::List) => Some(list),
+            (TwoPlaces::ListOnInput { puzzle }, Document::Puzzle) => Some(puzzle),
+            _ => None,
+        },
+    }
+}
+
+fn file_of_three<'a>(places: &'a ThreePlaces, document: Document) -> Option<&'a str> {
+    match (places, document) {
+        (ThreePlaces::Files(files), _) => Some(name_in(files, document)),
+        (ThreePlaces::PuzzleOnInput { list, .. }, Document::List) => Some(list),
+        (ThreePlaces::PuzzleOnInput { certificate, .. }, Document::Certificate) => Some(
+            certificate,
+        ),
+        (ThreePlaces::ListOnInput { puzzle, .. }, Document::Puzzle) => Some(puzzle),
+        (ThreePlaces::ListOnInput { certificate, .. }, Document::Certificate) => Some(certificate),
+        (ThreePlaces::CertificateOnInput { puzzle, .. }, Document::Puzzle) => Some(puzzle),
+        (ThreePlaces::CertificateOnInput { list, .. }, Document::List) => Some(list),
+        _ => None,
     }
 }
 

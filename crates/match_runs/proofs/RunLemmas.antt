@@ -65,6 +65,7 @@ pub check_kind : (texts : Texts) (fault : RunFault) → CheckFails texts fault �
 check_kind texts (runs.Read of) fails = fails
 check_kind texts (runs.TooLong of) fails = fails
 check_kind texts runs.Write fails = fails
+check_kind texts runs.Replaced fails = fails
 check_kind texts _ fails = tt
 
 -- and no more is one that comes of what is printed
@@ -72,6 +73,7 @@ pub printing_kind : (printing : Printing) (texts : Texts) (fault : RunFault) →
 printing_kind printing texts (runs.Read of) fails = fails
 printing_kind printing texts (runs.TooLong of) fails = fails
 printing_kind printing texts runs.Write fails = fails
+printing_kind printing texts runs.Replaced fails = fails
 printing_kind printing texts _ fails = tt
 
 -- what a check has of documents, more that is printed has of them

@@ -15,6 +15,7 @@ module _ {T M E : Type 0} (from : Origin T) (gives : T → M → E → Type 0) (
   stopped_making texts (runs.Read of) gave faultless failed kind untouched = absurd kind
   stopped_making texts (runs.TooLong of) gave faultless failed kind untouched = absurd kind
   stopped_making texts runs.Write gave faultless failed kind untouched = absurd kind
+  stopped_making texts runs.Replaced gave faultless failed kind untouched = absurd kind
   stopped_making texts runs.Memory gave faultless failed kind untouched = (faultless, untouched)
   stopped_making texts _ gave faultless failed kind untouched = (texts, gave, failed, untouched)
 

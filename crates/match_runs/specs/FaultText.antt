@@ -32,7 +32,7 @@ use Rattle.match_crew.specs.FaultText.{solve_fault_text}
 use Rattle.symmetry_orbits.specs.FaultText.{expand_fault_text}
 use Rattle.match_runs.specs.declared.faults.RunFault.{RunFault}
 use Rattle.match_runs.specs.declared.faults.RunFault.TheVariants.{Read, TooLong, Puzzle, List as Listing, Certificate, NoArrangement, Arrangement}
-use Rattle.match_runs.specs.declared.faults.RunFault.TheVariants.{Solve, Expand, Tiles, Write, Memory}
+use Rattle.match_runs.specs.declared.faults.RunFault.TheVariants.{Solve, Expand, Tiles, Write, Replaced, Memory}
 
 -- ---- faults of parts, and want of memory, wherever it was met
 
@@ -104,6 +104,7 @@ run_fault_text (Solve fault) = solve_fault_text fault
 run_fault_text Expand = expand_fault_text expansions.TooMany
 run_fault_text Tiles = tiles_fault_text tile_lists.TooMany
 run_fault_text Write = codes "cannot write"
+run_fault_text Replaced = codes "another run wrote there"
 run_fault_text Memory = codes "out of memory"
 
 -- the line of a fault

@@ -11,11 +11,12 @@ use Rattle.match_runs.specs.declared.faults.RunFault.{RunFault}
 use Rattle.match_runs.specs.declared.faults.RunFault.TheVariants as runs
 use Rattle.match_runs.specs.declared.hints.HintedFault.{HintedFault}
 
--- The fault is one of what texts say or ask, or want of memory: none of reading, and none of writing.
+-- The fault is one of what texts say or ask, or want of memory: none of reading, and none of writing or of files.
 abbrev pub IsOfTexts : RunFault → Type 0
 IsOfTexts (runs.Read of) = ⊥
 IsOfTexts (runs.TooLong of) = ⊥
 IsOfTexts runs.Write = ⊥
+IsOfTexts runs.Replaced = ⊥
 IsOfTexts fault = Unit {0}
 
 -- What a run comes to, by which texts came, what is given of texts with which end, what a fault says of them, and what

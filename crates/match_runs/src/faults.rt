@@ -42,6 +42,8 @@ pub enum RunFault {
     Tiles,
     /// Writing failed, or nothing more was taken.
     Write,
+    /// Both files of a solve were put under their names, and one leads to another file by now.
+    Replaced,
     Memory,
 }
 
@@ -71,6 +73,7 @@ impl fmt::Display for RunFault {
             RunFault::Expand => write!(f, "{}", ExpandFault::TooMany),
             RunFault::Tiles => write!(f, "{}", TilesFault::TooMany),
             RunFault::Write => f.write_str("cannot write"),
+            RunFault::Replaced => f.write_str("another run wrote there"),
         }
     }
 }

@@ -1,6 +1,6 @@
 //! The files of the system.
 
-ghost use Rattle.std.specs.Prelude.{◌≡◌, false, IfOk};
+ghost use Rattle.std.specs.Prelude.{◌≡◌, false, IfOk, IfSome};
 ghost use Rattle.system_files.specs.Targets.{contents_in};
 
 use crate::places::{
@@ -28,7 +28,9 @@ const MOST_LOOKS: u32 = 100;
 ///
 /// A file is made in the folder of its name, under another name with 64 random bits, and renamed when it is put there, so
 /// that what stands under the name is there whole at any time, the old or the new. Links are followed, and the new file
-/// has the mode and the owner of the old one, the owner as far as that is allowed. No file is made in place of a folder.
+/// has the mode, the group and the owner of the old one, the last two as far as each is allowed. No file is made in place
+/// of a folder. Where a signal or a loss of power comes between the renames of two files, the new one stands under the
+/// first name, and the old one under the second.
 ///
 /// What is no plain file, as a device or a pipe, is written directly. So is a plain file that is open already: what
 /// standard output or standard error has open is written through that stream, and to what standard input has open, or a
@@ -81,9 +83,33 @@ impl<F: Write + Drop, O: Write + Drop, E: Write + Drop> Sink for SystemFile<F, O
     fn write(&mut self, bytes: &[u8]) -> Result<usize, Failed> {
         self.output.write(bytes)
     }
+
+    fn refusal(&self) -> Option<Refusal> {
+        self.output.refusal()
+    }
 }
 
 impl<R: Files + RandomSource, O: Write + Copy, E: Write + Copy> System<'_, R, O, E> {
+    // A file that is to be put under the name, by what a look says that the name leads to. None where a further look
+    // says otherwise, as another run puts its file there.
+    fn look_and_make(
+        &self,
+        alloc: Global,
+        name: &str,
+    ) -> Result<Option<SystemFile<R::File, O, E>>, FileFault>
+        ensures { IfOk result (λ made. IfSome made (λ file. (file.output.idle ≡ false) × (file.output.errors ≡ 0))) }
+    {
+        match self.runtime.metadata(name) {
+            Ok(found) if found.is_dir() => Err(FileFault::Refused(Refusal::Folder)),
+            Ok(found) if found.is_file() => self.make_over(alloc, name, &found),
+            Ok(_) => Ok(Some(open_directly(self.runtime, name)?)),
+            Err(error) if error.kind() == ErrorKind::NotFound => {
+                Ok(Some(make_first(self.runtime, alloc, name)?))
+            }
+            Err(error) => Err(FileFault::from(error)),
+        }
+    }
+
     // Where what goes to a plain file that was found under this name is written: through the standard stream that has it
     // open, behind what it holds where it is open otherwise, and else beside it.
     fn make_over(
@@ -91,14 +117,16 @@ impl<R: Files + RandomSource, O: Write + Copy, E: Write + Copy> System<'_, R, O,
         alloc: Global,
         name: &str,
         found: &Metadata,
-    ) -> Result<SystemFile<R::File, O, E>, FileFault>
-        ensures { IfOk result (λ file. (file.output.idle ≡ false) × (file.output.errors ≡ 0)) }
+    ) -> Result<Option<SystemFile<R::File, O, E>>, FileFault>
+        ensures { IfOk result (λ made. IfSome made (λ file. (file.output.idle ≡ false) × (file.output.errors ≡ 0))) }
     {
         match stream_of(self.runtime, found) {
-            Some(Stream::Output) => Ok(SystemFile::new(Target::Output(self.output), None)),
-            Some(Stream::Errors) => Ok(SystemFile::new(Target::Errors(self.errors), None)),
-            Some(Stream::Input) => open_behind(self.runtime, name),
-            None if leads_over_proc(self.runtime, alloc, name)? => open_behind(self.runtime, name),
+            Some(Stream::Output) => Ok(Some(SystemFile::new(Target::Output(self.output), None))),
+            Some(Stream::Errors) => Ok(Some(SystemFile::new(Target::Errors(self.errors), None))),
+            Some(Stream::Input) => Ok(Some(open_behind(self.runtime, name)?)),
+            None if leads_over_proc(self.runtime, alloc, name)? => {
+                Ok(Some(open_behind(self.runtime, name)?))
+            }
             None => make_beside(self.runtime, alloc, name, found),
         }
     }
@@ -117,6 +145,12 @@ impl<R: Files + RandomSource, O: Write + Copy, E: Write + Copy> FileSystem for S
 
     ghost does = { λ _ _ _. Unit {0} };
 
+    ghost synced = { λ _. Unit {0} };
+
+    ghost is_put = { λ _ _ _. Unit {0} };
+
+    ghost leads = { λ _ _ _. Unit {0} };
+
     fn open(&self, name: &str) -> Result<Input<R::File>, Refusal> {
         match self.runtime.metadata(name) {
             Ok(found) if found.is_dir() => return Err(Refusal::Folder),
@@ -129,28 +163,38 @@ impl<R: Files + RandomSource, O: Write + Copy, E: Write + Copy> FileSystem for S
     }
 
     fn make(&mut self, alloc: Global, name: &str) -> Result<SystemFile<R::File, O, E>, FileFault> {
-        match self.runtime.metadata(name) {
-            Ok(found) if found.is_dir() => Err(FileFault::Refused(Refusal::Folder)),
-            Ok(found) if found.is_file() => self.make_over(alloc, name, &found),
-            Ok(_) => open_directly(self.runtime, name),
-            Err(error) if error.kind() == ErrorKind::NotFound => {
-                make_first(self.runtime, alloc, name)
+        for _ in 0..MOST_LOOKS {
+            if let Some(file) = self.look_and_make(alloc, name)? {
+                return Ok(file);
             }
-            Err(error) => Err(FileFault::from(error)),
+        }
+        Err(FileFault::Refused(Refusal::Other))
+    }
+
+    fn sync(&self, file: &SystemFile<R::File, O, E>) -> Result<(), Refusal> {
+        match (&file.place, file.output.writer().file()) {
+            (Some(_), Some(made)) => match made.sync_all() {
+                Ok(()) => Ok(()),
+                Err(error) => Err(Refusal::of_making(&error)),
+            },
+            _ => Ok(()),
         }
     }
 
-    fn put(&mut self, file: SystemFile<R::File, O, E>, _name: &str) -> Result<(), Failed> {
-        let SystemFile { output, place } = file;
-        drop(output);
-        let Some(place) = place else {
-            return Ok(());
+    // The file stays open, so that no other gets its number until it is looked at.
+    fn put(
+        &mut self,
+        file: SystemFile<R::File, O, E>,
+        _name: &str,
+    ) -> Result<SystemFile<R::File, O, E>, Refusal> {
+        let Some(place) = &file.place else {
+            return Ok(file);
         };
         match self.runtime.rename(place.part(), place.path()) {
-            Ok(()) => Ok(()),
-            Err(_) => {
+            Ok(()) => Ok(file),
+            Err(error) => {
                 let _ = self.runtime.remove_file(place.part());
-                Err(Failed)
+                Err(Refusal::of_making(&error))
             }
         }
     }
@@ -161,8 +205,14 @@ impl<R: Files + RandomSource, O: Write + Copy, E: Write + Copy> FileSystem for S
         }
     }
 
-    fn refusal_of(&self, file: &SystemFile<R::File, O, E>) -> Option<Refusal> {
-        file.output.refusal()
+    fn leads_to(&self, name: &str, file: &SystemFile<R::File, O, E>) -> bool {
+        match (&file.place, file.output.writer().file()) {
+            (Some(_), Some(made)) => match (self.runtime.metadata(name), made.metadata()) {
+                (Ok(found), Ok(made)) => are_one(&found, &made),
+                _ => false,
+            },
+            _ => true,
+        }
     }
 
     fn refusal_at(&self, alloc: Global, name: &str) -> Option<Refusal> {
@@ -230,32 +280,36 @@ fn make_first<R: Files + RandomSource, O: Write + Drop, E: Write + Drop>(
     Ok(SystemFile::new(Target::File(file), Some(place)))
 }
 
-// A file beside a plain one that was found under the name.
+// A file beside a plain one that was found under the name. None where another is found now.
 fn make_beside<R: Files + RandomSource, O: Write + Drop, E: Write + Drop>(
     runtime: &R,
     alloc: Global,
     name: &str,
     found: &Metadata,
-) -> Result<SystemFile<R::File, O, E>, FileFault>
-    ensures { IfOk result (λ file. (file.output.idle ≡ false) × (file.output.errors ≡ 0)) }
+) -> Result<Option<SystemFile<R::File, O, E>>, FileFault>
+    ensures { IfOk result (λ made. IfSome made (λ file. (file.output.idle ≡ false) × (file.output.errors ≡ 0))) }
 {
     let place = Place::new(runtime, alloc, place_of(runtime, alloc, name)?)?;
-    if !are_one(&runtime.metadata(place.path())?, found) {
-        return Err(FileFault::Refused(Refusal::Other));
+    match runtime.metadata(place.path()) {
+        Ok(now) if are_one(&now, found) => {}
+        Ok(_) => return Ok(None),
+        Err(error) if error.kind() == ErrorKind::NotFound => return Ok(None),
+        Err(error) => return Err(FileFault::from(error)),
     }
     let file = make_alike(runtime, place.part(), found)?;
-    Ok(SystemFile::new(Target::File(file), Some(place)))
+    Ok(Some(SystemFile::new(Target::File(file), Some(place))))
 }
 
-// A file with the mode of the one that was found, and with its owner as far as that is allowed. Nobody else can open it
-// before.
+// A file with the mode of the one that was found, and with its group and its owner as far as each is allowed. Nobody else
+// can open it before.
 fn make_alike<R: Files>(runtime: &R, part: &str, found: &Metadata) -> Result<R::File, FileFault> {
     let file = OpenOptions::new()
         .write(true)
         .create_new(true)
         .mode(PRIVATE)
         .open(runtime, part)?;
-    let _ = runtime.chown(part, Some(found.uid()), Some(found.gid()));
+    let _ = runtime.chown(part, None, Some(found.gid()));
+    let _ = runtime.chown(part, Some(found.uid()), None);
     if let Err(error) = file.set_permissions(Permissions::from_mode(found.mode() & MODE_BITS)) {
         let _ = runtime.remove_file(part);
         return Err(FileFault::from(error));

@@ -1,6 +1,6 @@
 //! Readers and writers of the system, as sources and sinks.
 
-ghost use Rattle.std.specs.Prelude.{◌≡◌, ◌≤◌, ◌<◌, false, IfOk, IfSome, IfNone, OnErr, length, take};
+ghost use Rattle.std.specs.Prelude.{◌≡◌, ◌≤◌, ◌<◌, false, IfOk, OnErr, length, take};
 ghost use Rattle.std.specs.Io.KnownBytes.{Appends, Consumes, IsAtEnd, Keeps};
 
 use byte_streams::{Failed, Refusal, Sink, Source};
@@ -17,6 +17,8 @@ pub struct Input<R: Read> {
     reader: R,
     ended: bool,
     errors: u64,
+    // why the last read failed, if one did
+    refusal: Option<Refusal>,
 }
 
 impl<R: Read> Input<R> {
@@ -29,26 +31,27 @@ impl<R: Read> Input<R> {
             reader,
             ended: false,
             errors: 0,
+            refusal: None,
         }
     }
 }
 
-// A read that is tried again while it is interrupted; none where it fails.
-fn count_read<R: Read>(reader: &mut R, buffer: &mut [u8]) -> Option<usize>
-    ensures count { IfSome result (λ n. n ≤ length buffer.new) }
-    ensures bytes { IfSome result (λ n.
+// A read that is tried again while it is interrupted.
+fn count_read<R: Read>(reader: &mut R, buffer: &mut [u8]) -> Result<usize, Refusal>
+    ensures count { IfOk result (λ n. n ≤ length buffer.new) }
+    ensures bytes { IfOk result (λ n.
         Consumes (R.remaining reader.old) (R.remaining reader.new) (take n buffer.new)) }
-    ensures end { IfSome result (λ n. n ≡ 0 → 0 < length buffer.old → IsAtEnd (R.remaining reader.new)) }
-    ensures kept { IfNone result (Keeps (R.remaining reader.old) (R.remaining reader.new)) }
+    ensures end { IfOk result (λ n. n ≡ 0 → 0 < length buffer.old → IsAtEnd (R.remaining reader.new)) }
+    ensures kept { OnErr result (Keeps (R.remaining reader.old) (R.remaining reader.new)) }
 {
     for _ in 0..MOST_TRIES {
         match reader.read(buffer) {
-            Ok(count) => return Some(count),
+            Ok(count) => return Ok(count),
             Err(error) if error.kind() == ErrorKind::Interrupted => {}
-            Err(_) => return None,
+            Err(error) => return Err(Refusal::of_opening(&error)),
         }
     }
-    None
+    Err(Refusal::Other)
 }
 
 impl<R: Read> Source for Input<R> {
@@ -59,13 +62,22 @@ impl<R: Read> Source for Input<R> {
     ghost errors = { λ s. s.errors };
 
     fn read(&mut self, buffer: &mut [u8]) -> Result<usize, Failed> {
-        let Some(count) = count_read(&mut self.reader, buffer) else {
-            self.ended = false;
-            self.errors = self.errors.saturating_add(1);
-            return Err(Failed);
-        };
-        self.ended = count == 0;
-        Ok(count)
+        match count_read(&mut self.reader, buffer) {
+            Ok(count) => {
+                self.ended = count == 0;
+                Ok(count)
+            }
+            Err(refusal) => {
+                self.ended = false;
+                self.errors = self.errors.saturating_add(1);
+                self.refusal = Some(refusal);
+                Err(Failed)
+            }
+        }
+    }
+
+    fn refusal(&self) -> Option<Refusal> {
+        self.refusal
     }
 }
 
@@ -82,9 +94,9 @@ pub struct Output<W: Write> {
 }
 
 impl<W: Write> Output<W> {
-    // Why the last write failed, if one did.
-    pub(crate) fn refusal(&self) -> Option<Refusal> {
-        self.refusal
+    // What the bytes go to.
+    pub(crate) fn writer(&self) -> &W {
+        &self.writer
     }
 
     /// A sink over this writer.
@@ -137,5 +149,9 @@ impl<W: Write> Sink for Output<W> {
                 Err(Failed)
             }
         }
+    }
+
+    fn refusal(&self) -> Option<Refusal> {
+        self.refusal
     }
 }

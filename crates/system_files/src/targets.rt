@@ -12,6 +12,16 @@ pub(crate) enum Target<F, O, E> {
     Errors(E),
 }
 
+impl<F, O, E> Target<F, O, E> {
+    // The file that was opened, if it is one.
+    pub(crate) fn file(&self) -> Option<&F> {
+        match self {
+            Target::File(file) => Some(file),
+            _ => None,
+        }
+    }
+}
+
 impl<F: Write, O: Write, E: Write> Write for Target<F, O, E> {
     ghost contents = { contents_in F.contents O.contents E.contents };
 

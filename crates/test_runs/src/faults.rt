@@ -15,7 +15,7 @@ const TOO_DEEP: TextFault = TextFault {
     kind: TextKind::TooDeep,
 };
 
-const LINES: [(RunFault, &str); 8] = [
+const LINES: [(RunFault, &str); 9] = [
     (RunFault::Read(Document::Input), "cannot read input\n"),
     (RunFault::TooLong(Document::Puzzle), "too long puzzle\n"),
     (RunFault::TooLong(Document::List), "too long list\n"),
@@ -36,6 +36,7 @@ const LINES: [(RunFault, &str); 8] = [
         RunFault::Certificate(CertTextFault::Assemble(AssembleFault::Missing(2))),
         "certificate: missing 2\n",
     ),
+    (RunFault::Replaced, "another run wrote there\n"),
 ];
 
 // Faults that are told as want of memory.

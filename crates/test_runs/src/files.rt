@@ -4,7 +4,7 @@ ghost use Rattle.std.specs.Prelude.{◌≡◌};
 ghost use Rattle.test_runs.specs.HeldFiles.{held_by};
 
 use byte_streams::{Fake, FileFault, Refusal};
-use match_runs::{Failed, FileSystem};
+use match_runs::FileSystem;
 use std::alloc::{AllocError, Global};
 
 /// The files of three documents, whose names begin with `p`, with `l` and with anything else. It tells what they hold.
@@ -43,6 +43,12 @@ impl<'a> FileSystem for HeldFiles<'a> {
 
     ghost does = { λ _ _ _. Unit {0} };
 
+    ghost synced = { λ _. Unit {0} };
+
+    ghost is_put = { λ _ _ _. Unit {0} };
+
+    ghost leads = { λ _ _ _. Unit {0} };
+
     fn open(&self, name: &str) -> Result<Fake<'a>, Refusal> {
         Ok(Fake::new(self.alloc, self.held(name), 7, usize::MAX))
     }
@@ -51,14 +57,18 @@ impl<'a> FileSystem for HeldFiles<'a> {
         Ok(Fake::new(alloc, b"", 5, usize::MAX))
     }
 
-    fn put(&mut self, _file: Fake<'a>, _name: &str) -> Result<(), Failed> {
+    fn sync(&self, _file: &Fake<'a>) -> Result<(), Refusal> {
         Ok(())
+    }
+
+    fn put(&mut self, file: Fake<'a>, _name: &str) -> Result<Fake<'a>, Refusal> {
+        Ok(file)
     }
 
     fn remove(&mut self, _file: Fake<'a>, _name: &str) {}
 
-    fn refusal_of(&self, _file: &Fake<'a>) -> Option<Refusal> {
-        None
+    fn leads_to(&self, _name: &str, _file: &Fake<'a>) -> bool {
+        true
     }
 
     fn refusal_at(&self, _alloc: Global, _name: &str) -> Option<Refusal> {

@@ -113,9 +113,10 @@ fn a_check_that_is_done_is_of_a_complete_list(rt: HostRuntime) -> Result<(), Fai
     Ok(())
 }
 
-const CODES: [(RunFault, u8); 3] = [
+const CODES: [(RunFault, u8); 4] = [
     (RunFault::Tiles, 2),
     (RunFault::Write, 2),
+    (RunFault::Replaced, 2),
     (RunFault::Solve(SolveFault::GaveUp), 3),
 ];
 
