@@ -1,14 +1,17 @@
 #!/usr/bin/env python3
-"""Tries what no case can of the files of a solve: links, modes, devices, pipes, closed streams, signals, a full disk, two
-solves at once, and what is told on a terminal.
+"""Tries what no case can of the program: links, modes, each moment of a solve, logs, devices, pipes, closed streams,
+signals, a full disk, two solves at once, progress, workers, a limit on memory, and what is told on a terminal.
 
 usage: try_files.py PROGRAM
 
-Each function of `TRIALS` runs the program in a folder of its own and names what isn't as wanted. It takes a second or
-two, and ends with 0 where each passes, else with 1. Devices are made by root alone, and not tried by others.
+Each function of `TRIALS` runs the program in a folder of its own and names what isn't as wanted. It takes some ten
+seconds, and ends with 0 where each passes, else with 1. What can't be tried here, as what root alone may, is named.
 """
+import ctypes
 import os
+import re
 import resource
+import shutil
 import signal
 import stat
 import subprocess
@@ -18,6 +21,7 @@ import termios
 import threading
 import time
 
+from limit_each_run import row_of_cells
 from script_words import help_or_fault, program_at
 
 PUZZLE = b"match 1\nboard rect 2 1\nturns no\nborder free\ntiles 2\ntile 0101\ntile 0101\nend\n"
@@ -28,6 +32,11 @@ LIST = b"list 1\narrangements 2\n0.0 1.0\n1.0 0.0\nend\n"
 CERTIFICATE = b"certificate 1\nsymmetries 0\nlemmas 1\nlemma 0 prefix tree c 0 2 c 1 1 f 0 c 1 1 f 1\nend\n"
 SMALL_LIST = b"list 1\narrangements 1\n0.0\nend\n"
 SMALL_CERTIFICATE = b"certificate 1\nsymmetries 0\nlemmas 1\nlemma 0 prefix tree c 0 1 f 0\nend\n"
+# A puzzle of 24 arrangements, since its tiles are alike and have numbers.
+SQUARES = b"match 1\nboard rect 2 2\nturns no\nborder free\ntiles 4\n" + b"tile 0101\n" * 4 + b"end\n"
+# A puzzle whose search takes long.
+LONG = (b"match 1\nboard rect 5 5\nturns no\nborder free\ntiles 25\n"
+        + b"".join(b"tile %d%d%d%d\n" % (k % 3, k // 3 % 3, k // 9 % 3, k // 2 % 3) for k in range(25)) + b"end\n")
 OLD = b"what stood there\n"
 # The seconds after which something has to have happened.
 LONGEST = 20
@@ -37,7 +46,7 @@ class Trial:
     """A folder of its own, in which the program runs, and what isn't as wanted there."""
 
     def __init__(self, program, folder):
-        self.program, self.folder, self.differences = program, folder, []
+        self.program, self.folder, self.differences, self.untried = program, folder, [], None
         self.put("puzzle", PUZZLE)
 
     def path(self, name):
@@ -122,6 +131,33 @@ def reader(trial, name, texts):
     return thread
 
 
+PTRACE_TRACEME, PTRACE_SYSCALL, PTRACE_SETOPTIONS, EXIT_KILL = 0, 24, 0x4200, 0x100000
+
+
+def at_each_call(trial, words, look):
+    """Runs a command, calls `look` with its process before and after each call that its first thread makes of the system,
+    and gives its exit status; none where no process may be stopped so."""
+    ptrace = ctypes.CDLL(None, use_errno=True).ptrace
+    ptrace.argtypes = [ctypes.c_long, ctypes.c_long, ctypes.c_void_p, ctypes.c_void_p]
+    child = os.fork()
+    if child == 0:
+        nowhere = os.open(os.devnull, os.O_RDWR)
+        for stream in (0, 1, 2):
+            os.dup2(nowhere, stream)
+        if ptrace(PTRACE_TRACEME, 0, None, None) != 0:
+            os._exit(100)
+        os.execv(words[0], words)
+    status = os.waitpid(child, 0)[1]
+    if not os.WIFSTOPPED(status):
+        return None
+    ptrace(PTRACE_SETOPTIONS, child, None, EXIT_KILL)
+    while os.WIFSTOPPED(status):
+        look(child)
+        ptrace(PTRACE_SYSCALL, child, None, None)
+        status = os.waitpid(child, 0)[1]
+    return os.waitstatus_to_exitcode(status)
+
+
 # Trials
 
 
@@ -147,15 +183,77 @@ def modes(trial):
         trial.wants_left("puzzle", "list", "certificate")
 
 
+def each_step(trial):
+    """At each moment the old file or the new one stands under its name, nobody else can open the one that is made, and
+    both are on the disk before the first is put."""
+    for name in ("list", "certificate"):
+        trial.put(name, OLD)
+        os.chmod(trial.path(name), 0o600)
+    modes, gone, calls = set(), [], []
+
+    def look(process):
+        names = os.listdir(trial.folder)
+        gone.extend({"list", "certificate"} - set(names))
+        for name in names:
+            if name.endswith(".part"):
+                modes.add(trial.mode(name))
+        with open(f"/proc/{process}/syscall", encoding="ascii") as file:
+            calls.append(file.read().split()[0])
+
+    before = os.umask(0)
+    ended = at_each_call(trial, trial.words("puzzle", "list", "certificate"), look)
+    os.umask(before)
+    if ended is None:
+        trial.untried = "no process may be stopped at its calls"
+        return
+    trial.wants("exit status", 0, ended)
+    trial.wants("the modes of what is made", {0o600}, modes)
+    trial.wants("names that led to nothing", [], gone)
+    if os.uname().machine == "x86_64":
+        sync, rename = "74", "82"
+        trial.wants("calls that sync, before the first that renames", 2, calls[:calls.index(rename)].count(sync) // 2)
+
+
 def owners(trial):
-    """What root solves over another's files stays that one's."""
+    """What root solves over another's files stays that one's; what another solves stays in its group, where it may."""
     if os.geteuid() != 0:
+        trial.untried = "only root can give files away"
         return
     trial.put("list", OLD)
     os.chown(trial.path("list"), 1234, 2345)
     trial.solve("puzzle", "list", "certificate")
     owner = os.stat(trial.path("list"))
     trial.wants("the owner", (1234, 2345), (owner.st_uid, owner.st_gid))
+    os.chmod(trial.folder, 0o777)
+    shutil.copy(trial.program, trial.path("program"))
+    trial.program = trial.path("program")
+    os.chmod(trial.program, 0o755)
+    trial.put("list", OLD)
+    os.chown(trial.path("list"), 0, 2345)
+
+    def another():
+        os.setgroups([2345])
+        os.setgid(1234)
+        os.setuid(1234)
+
+    trial.solve("puzzle", "list", "certificate", preexec_fn=another)
+    owner = os.stat(trial.path("list"))
+    trial.wants("the group", (1234, 2345), (owner.st_uid, owner.st_gid))
+
+
+def two_disks(trial):
+    """Files of two disks that have one number there are two."""
+    script = """
+        mkdir one two && mount -t tmpfs one one && mount -t tmpfs two two || exit 100
+        cp puzzle one && : > two/list && [ "$(stat -c %i one/puzzle)" = "$(stat -c %i two/list)" ] || exit 100
+        "$1" solve --depth 0 one/puzzle two/list certificate > report && cp two/list list"""
+    run = subprocess.run(["unshare", "-rm", "sh", "-c", script, "sh", trial.program], cwd=trial.folder, timeout=LONGEST,
+                         capture_output=True, check=False)
+    if run.returncode == 100 or b"unshare" in run.stderr:
+        trial.untried = "no disk can be made"
+        return
+    trial.wants("exit status", (0, b""), (run.returncode, run.stderr))
+    trial.wants_texts(list=LIST)
 
 
 def links(trial):
@@ -249,6 +347,7 @@ def devices(trial):
             os.mknod(trial.path(name), stat.S_IFCHR | 0o666, os.makedev(1, minor))
             open(trial.path(name), "rb").close()
     except OSError:
+        trial.untried = "no device can be made"
         return
     trial.put("list", OLD)
     trial.solve("puzzle", "list", "null")
@@ -312,6 +411,59 @@ def two_at_once(trial):
     trial.wants_left("puzzle", "list", "certificate", "pipe")
 
 
+def two_in_rounds(trial):
+    """Of two solves that end at once one may say that the other wrote there; where neither does, both files are of one."""
+    trial.put("small", SMALL)
+    of_one = ((LIST, CERTIFICATE), (SMALL_LIST, SMALL_CERTIFICATE))
+    for _ in range(5):
+        runs = [trial.begin(puzzle, "list", "certificate") for puzzle in ("puzzle", "small")]
+        ended = [(run.communicate(timeout=LONGEST)[1], run.returncode) for run in runs]
+        for it in ended:
+            trial.wants("how it ends", True, it in ((b"", 0), (b"another run wrote there\n", 2)))
+        if all(status == 0 for _, status in ended):
+            trial.wants("both of one", True, (trial.holds("list"), trial.holds("certificate")) in of_one)
+    trial.wants_left("puzzle", "small", "list", "certificate")
+
+
+def a_name_that_leads_elsewhere(trial):
+    """A solve is done only where both names lead to its files at its end."""
+    for name in ("list", "certificate"):
+        for other in ("list", "certificate"):
+            trial.put(other, OLD)
+        os.replace(trial.path(name), trial.path("first"))
+        trial.put("second", OLD)
+        os.symlink("first", trial.path(name))
+        run, puzzle = begin_from_a_pipe(trial)
+        os.remove(trial.path(name))
+        os.symlink("second", trial.path(name))
+        os.write(puzzle, PUZZLE)
+        os.close(puzzle)
+        trial.end(run, 2, b"another run wrote there\n")
+        trial.wants_texts(first=LIST if name == "list" else CERTIFICATE, second=OLD)
+        for left in (name, "pipe"):
+            os.remove(trial.path(left))
+
+
+def a_file_that_another_replaces(trial):
+    """Where what a name leads to changes all the while, it is looked at again."""
+    trial.put("list", OLD)
+    ended = []
+
+    def replace():
+        while not ended:
+            trial.put("new", OLD)
+            os.replace(trial.path("new"), trial.path("list"))
+
+    thread = threading.Thread(target=replace, daemon=True)
+    thread.start()
+    for _ in range(5):
+        run = trial.begin("puzzle", "list", "certificate")
+        told = run.communicate(timeout=LONGEST)[1]
+        trial.wants("what is told", True, told in (b"", b"another run wrote there\n"))
+    ended.append(True)
+    thread.join(LONGEST)
+
+
 def a_fault_beside_another_solve(trial):
     """One that finds a fault removes nothing of the other's."""
     run, puzzle = begin_from_a_pipe(trial)
@@ -337,6 +489,86 @@ def closed_streams(trial):
         texts = (LIST, CERTIFICATE) if written else (OLD, OLD)
         trial.wants(f"{closed}: the files", texts, (trial.holds("list"), trial.holds("certificate")))
         trial.wants_left("puzzle", "list", "certificate")
+
+
+def an_input_of_another(trial):
+    """What a loop of the shell reads is left to it by all that read files."""
+    for name, text in (("puzzle", SMALL), ("list", SMALL_LIST), ("certificate", SMALL_CERTIFICATE)):
+        trial.put(name, text)
+    for words in ("check puzzle list certificate", "solve puzzle made made_too", "expand puzzle list certificate",
+                  "explain puzzle list certificate", "count puzzle", "count puzzle list certificate", "show puzzle",
+                  "show puzzle list", "draw puzzle", "draw puzzle list", "symmetries puzzle", "explain puzzle", "tiles 3 2"):
+        script = f'printf "a\\nb\\n" | while read it; do "$0" {words} > /dev/null; echo $it; done'
+        run = subprocess.run(["bash", "-c", script, trial.program], stdin=subprocess.DEVNULL, capture_output=True,
+                             cwd=trial.folder, timeout=LONGEST, check=False)
+        trial.wants(words, (b"a\nb\n", b""), (run.stdout, run.stderr))
+
+
+def words_that_are_no_text(trial):
+    """Which word isn't UTF-8 is told, and nothing is done."""
+    words = [trial.program.encode(), b"check", b"puzzle", b"p\xff\n", b"certificate"]
+    run = subprocess.run(words, stdin=subprocess.DEVNULL, capture_output=True, cwd=trial.folder, timeout=LONGEST, check=False)
+    line = b"the words of the command line are not UTF-8: word 3 is p\\xff\\n\n"
+    trial.wants("told", (2, b"", line), (run.returncode, run.stdout, run.stderr))
+
+
+def a_limit_on_memory(trial):
+    """A tree of 257 levels is walked under a limit on memory, on a stack that is there from the beginning."""
+    trial.put("puzzle", row_of_cells(256).encode("ascii"))
+    trial.solve("puzzle", "list", "certificate", options=())
+
+    def limit():
+        resource.setrlimit(resource.RLIMIT_AS, (1 << 28, resource.RLIM_INFINITY))
+
+    words = [trial.program, "check", *(trial.path(it) for it in ("puzzle", "list", "certificate"))]
+    for options in ((), ("--workers", "2", "--forks", "1")):
+        run = subprocess.run([*words, *options], capture_output=True, timeout=LONGEST, check=False, preexec_fn=limit)
+        trial.wants(f"check {options}", (0, b"complete 1\n", b""), (run.returncode, run.stdout, run.stderr))
+
+
+def workers(trial):
+    """So many threads work as workers are asked for."""
+    trial.put("puzzle", LONG)
+    for words in (["count", trial.path("puzzle"), "--workers", "4"],
+                  trial.words("puzzle", "list", "certificate", options=("--workers", "4"))):
+        run = subprocess.Popen([trial.program, *words] if words[0] == "count" else words, stdout=subprocess.DEVNULL,
+                               stderr=subprocess.DEVNULL)
+        ends, most = time.monotonic() + LONGEST, 0
+        while most < 4 and run.poll() is None and time.monotonic() < ends:
+            with open(f"/proc/{run.pid}/status", encoding="ascii") as file:
+                most = max(most, *(int(it.split()[1]) for it in file if it.startswith("Threads:")))
+        run.kill()
+        run.wait()
+        trial.wants(f"{words[0]}: threads at once", True, most >= 4)
+
+
+def progress_in_the_middle(trial):
+    """What is told in the middle of a run is so. Each run waits for a document for a second, and tells how far it is then."""
+    three = [trial.path(it) for it in ("puzzle", "list", "certificate")]
+    trial.solve("puzzle", "list", "certificate")
+    os.mkfifo(trial.path("pipe"))
+    os.mkfifo(trial.path("other"))
+    runs = [subprocess.Popen([trial.program, *words, "--progress"], stdout=subprocess.DEVNULL, stderr=subprocess.PIPE,
+                             stdin=subprocess.PIPE, cwd=trial.folder)
+            for words in (["check", *three[:2], trial.path("pipe")], ["count", "-"], ["solve", trial.path("other"), "l", "c"])]
+    ends = [opened_to_write(trial.path("pipe")), runs[1].stdin.fileno(), opened_to_write(trial.path("other"))]
+    time.sleep(1.1)
+    for end, text in zip(ends, (CERTIFICATE, SQUARES, SQUARES)):
+        os.write(end, text)
+    for end in (ends[0], ends[2]):
+        os.close(end)
+    checked, counted, solved = (run.communicate(timeout=LONGEST)[1].decode().splitlines() for run in runs)
+    trial.wants("a check, as its first lemma is begun", True, bool(re.fullmatch(r"check: \d+ s, 0 of 1 lemmas", checked[0])))
+    form = r"count: (\d+) s, (\d+) of (\d+) subtrees, (\d+) arrangements, about (\d+) s left"
+    first, last = (list(map(int, re.fullmatch(form, it).groups())) for it in (counted[0], counted[-1]))
+    seconds, done, subtrees, _, left = first
+    trial.wants("a count, as its first subtree is done", (1, seconds * (subtrees - 1)), (done, left))
+    trial.wants("a count, as its last is", [subtrees, subtrees, 24, 0], last[1:])
+    form = r"solve: \d+ s, (\d+) children looked at, (\d+) lemmas done, \d+ open, (\d+) arrangements"
+    told = [re.fullmatch(form, it) for it in solved if "bytes" not in it]
+    trial.wants("lines of a solve alone", True, all(told))
+    first, last = (list(map(int, it.groups())) for it in (told[0], told[-1]))
+    trial.wants("a solve, in its middle", True, len(told) > 1 and first[0] < last[0] and first[1] <= last[1] and first[2] <= last[2])
 
 
 def a_closed_input(trial):
@@ -457,6 +689,29 @@ def reasons_on_a_terminal(trial):
     trial.wants_left("puzzle", "list", "folder")
 
 
+def reasons_with_hints(trial):
+    """With `--hints` a file or a stream that is refused is named with the reason, wherever that is told."""
+    trial.put("list", LIST)
+    here = b"here it doesn't stand for standard input; edgematch check reads a puzzle, a list and a certificate from there"
+    for words, line, reason in (
+            ("check nothing list list", b"cannot read puzzle\n", b"nothing: there is no such file\n"),
+            ("expand puzzle nothing list", b"cannot read list\n", b"nothing: there is no such file\n"),
+            ("check /proc/self/mem list list", b"cannot read puzzle\n", b"/proc/self/mem: the system refuses it\n"),
+            ("solve puzzle none/made made", b"cannot write\n", b"none/made: there is no such folder\n"),
+            ("solve puzzle puzzle made", b"cannot write\n", b"two of the names lead to one file\n"),
+            ("solve puzzle /dev/full made", b"cannot write\n", b"/dev/full: no space is left\n"),
+            ("check - list list", b"cannot read puzzle\n",
+             b"-: there is no such file, and " + here + b", joined, where no file is named\n"),
+    ):
+        run = subprocess.run([trial.program, *words.split(), "--hints"], capture_output=True, cwd=trial.folder,
+                             timeout=LONGEST, check=False)
+        trial.wants(words, (2, line + reason), (run.returncode, run.stderr))
+    with open("/dev/full", "wb") as full:
+        run = trial.begin("puzzle", "made", "made_too", options=("--hints",), stdout=full)
+        trial.end(run, 2, b"cannot write\nstandard output: no space is left\n")
+    trial.wants_left("puzzle", "list")
+
+
 def hints_on_a_terminal(trial):
     """What has to be changed in a text is told in a second line on a terminal, and elsewhere where it is asked for, or
     always, by the command."""
@@ -486,10 +741,11 @@ def hints_on_a_terminal(trial):
 
 
 TRIALS = (
-    new_files, modes, owners, links, links_in_a_circle, hard_links_of_the_puzzle, two_links_to_nothing, pipes, a_log, devices,
-    a_full_disk, a_closed_pipe_for_the_report, a_stop_by_a_signal, two_at_once, a_fault_beside_another_solve,
-    closed_streams, a_closed_input, reasons_on_a_terminal, hints_on_a_terminal, what_is_awaited_on_a_terminal,
-    names_of_standard_input,
+    new_files, modes, each_step, owners, two_disks, links, links_in_a_circle, hard_links_of_the_puzzle, two_links_to_nothing,
+    pipes, a_log, devices, a_full_disk, a_closed_pipe_for_the_report, a_stop_by_a_signal, two_at_once, two_in_rounds,
+    a_name_that_leads_elsewhere, a_file_that_another_replaces, a_fault_beside_another_solve, closed_streams, a_closed_input,
+    progress_in_the_middle, an_input_of_another, words_that_are_no_text, a_limit_on_memory, workers, reasons_on_a_terminal, reasons_with_hints,
+    hints_on_a_terminal, what_is_awaited_on_a_terminal, names_of_standard_input,
 )
 
 
@@ -507,6 +763,8 @@ def main():
                 trial.differences.append(str(error))
             for difference in trial.differences:
                 print(f"{tried.__name__}: {difference}")
+            if trial.untried:
+                print(f"{tried.__name__}: not tried in whole: {trial.untried}")
             failed += bool(trial.differences)
     print(f"{len(TRIALS) - failed} passed, {failed} failed")
     sys.exit(failed > 0)
