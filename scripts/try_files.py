@@ -34,9 +34,10 @@ SMALL_LIST = b"list 1\narrangements 1\n0.0\nend\n"
 SMALL_CERTIFICATE = b"certificate 1\nsymmetries 0\nlemmas 1\nlemma 0 prefix tree c 0 1 f 0\nend\n"
 # A puzzle of 24 arrangements, since its tiles are alike and have numbers.
 SQUARES = b"match 1\nboard rect 2 2\nturns no\nborder free\ntiles 4\n" + b"tile 0101\n" * 4 + b"end\n"
+# A puzzle of 362,880 arrangements.
+ALIKE = b"match 1\nboard rect 3 3\nturns no\nborder free\ntiles 9\n" + b"tile 0101\n" * 9 + b"end\n"
 # A puzzle whose search takes long.
-LONG = (b"match 1\nboard rect 5 5\nturns no\nborder free\ntiles 25\n"
-        + b"".join(b"tile %d%d%d%d\n" % (k % 3, k // 3 % 3, k // 9 % 3, k // 2 % 3) for k in range(25)) + b"end\n")
+LONG = os.path.join(os.path.dirname(os.path.abspath(__file__)), "..", "examples", "gallery", "macmahon_squares")
 OLD = b"what stood there\n"
 # The seconds after which something has to have happened.
 LONGEST = 20
@@ -528,11 +529,12 @@ def a_limit_on_memory(trial):
 
 def workers(trial):
     """So many threads work as workers are asked for."""
-    trial.put("puzzle", LONG)
-    for words in (["count", trial.path("puzzle"), "--workers", "4"],
-                  trial.words("puzzle", "list", "certificate", options=("--workers", "4"))):
-        run = subprocess.Popen([trial.program, *words] if words[0] == "count" else words, stdout=subprocess.DEVNULL,
-                               stderr=subprocess.DEVNULL)
+    shutil.copy(LONG, trial.path("puzzle"))
+    trial.put("alike", ALIKE)
+    trial.solve("alike", "listed", "certified", options=("--workers", "4"))
+    for words in (("count", "puzzle"), ("solve", "puzzle", "list", "certificate"), ("check", "alike", "listed", "certified")):
+        run = subprocess.Popen([trial.program, *words, "--workers", "4"], stdout=subprocess.DEVNULL, stderr=subprocess.DEVNULL,
+                               cwd=trial.folder)
         ends, most = time.monotonic() + LONGEST, 0
         while most < 4 and run.poll() is None and time.monotonic() < ends:
             with open(f"/proc/{run.pid}/status", encoding="ascii") as file:
