@@ -97,6 +97,51 @@ pub(crate) fn mistake(
     }
 }
 
+// What the way a word is written says of the mistake: a comment, a tile's colours with spaces between them, or a width
+// and a height in one word.
+pub(crate) fn spelling_mistake(spot: &Spot<'_>, missed: Option<Asked>) -> Option<&'static str> {
+    let word = spot.word?;
+    let asks_for_row = matches!(missed, Some(Asked::Row { .. }));
+    if !asks_for_row && (word.starts_with(b"#") || word.starts_with(b"//")) {
+        return Some("there are no comments in these texts");
+    }
+    if matches!(missed, Some(Asked::Tile)) && word.len() < 3 && spot.has_more_words() {
+        return Some("the colours of a tile are one word, with no space between them");
+    }
+    if spot.opening() == b"board".as_slice() && is_width_by_height(word) {
+        return Some("width and height are two words, as in board rect 3 3");
+    }
+    None
+}
+
+// Whether the word is two numbers with an x between them.
+fn is_width_by_height(word: &[u8]) -> bool {
+    let mut numbers = 0usize;
+    for number in word.split(|byte| *byte == b'x') {
+        if number.is_empty() || !number.iter().all(|byte| byte.is_ascii_digit()) {
+            return false;
+        }
+        numbers = numbers.saturating_add(1);
+    }
+    numbers == 2
+}
+
+// The first word of the lines of which there are more or fewer than a line before them says.
+pub(crate) fn counted_lines(missed: Option<Asked>, spot: &Spot<'_>) -> Option<&'static str> {
+    let (Some(Asked::Word(wanted)), Some(word)) = (missed, spot.word) else {
+        return None;
+    };
+    said_of_two(&MISTAKES_OF_COUNTS, wanted, word)?;
+    said_of(&COUNTED_LINES, wanted).or(said_of(&COUNTED_LINES, word))
+}
+
+const COUNTED_LINES: [Said; 4] = [
+    (b"row", "row"),
+    (b"tile", "tile"),
+    (b"symmetry", "symmetry"),
+    (b"lemma", "lemma"),
+];
+
 const OPENINGS: [Said; 3] = [
     (
         b"match",

@@ -57,6 +57,11 @@ impl<'a> Spot<'a> {
         }
     }
 
+    // Whether further words stand behind the word.
+    pub(crate) fn has_more_words(&self) -> bool {
+        self.word_number < words_in(self.line)
+    }
+
     // How many entries of its kind stand before the word: those behind the last word that begins some.
     pub(crate) fn entries_before(&self) -> usize {
         let mut entries = 0usize;
@@ -102,7 +107,8 @@ fn line_before<'a>(text: &'a [u8], ahead: &[u8]) -> &'a [u8] {
     lines.next().unwrap_or_default()
 }
 
-fn first_word(line: &[u8]) -> &[u8] {
+// What stands before the first space.
+pub(crate) fn first_word(line: &[u8]) -> &[u8] {
     let mut words = line.split(|byte| *byte == b' ');
     words.next().unwrap_or_default()
 }

@@ -1,8 +1,8 @@
 //! What has to stand where a text has its first fault, and what stands there.
 
 use crate::documents::{Document, with_line_feed};
-use crate::line_forms::{form_of, mistake};
-use crate::spots::{Spot, quoted};
+use crate::line_forms::{counted_lines, form_of, mistake, spelling_mistake};
+use crate::spots::{Spot, first_word, quoted};
 use crate::tree_spots::{NodeSpot, node_at};
 use match_limits::ranges_of;
 use std::alloc::{AllocError, Global};
@@ -41,7 +41,7 @@ fn unended_hint(
     format!(in alloc; "there is no line feed behind {name} line {line}, and {further}")
 }
 
-// The same, of a text that has a line feed behind it.
+// What has to stand where a text with a line feed behind it has its first fault, and what stands there.
 fn hint_at(
     alloc: Global,
     document: Document,
@@ -140,7 +140,9 @@ fn put_remarks(
     missed: Option<Asked>,
 ) -> Result<(), AllocError> {
     put_characters(hint, spot, missed)?;
+    put_note(hint, spelling_mistake(spot, missed))?;
     put_note(hint, mistake(missed, spot, text.starts_with(b"match 1\n")))?;
+    put_line_count(alloc, hint, text, counted_lines(missed, spot))?;
     put_note(hint, tree_mistake(spot, missed))?;
     match node_of(spot, missed) {
         _ if spot.has_empty_word() => {}
@@ -189,7 +191,8 @@ fn judgement(
     judged(alloc, spot, &at, &wanted)
 }
 
-// The same, of the place and what is asked for there in words. No text is this function's own while others are made.
+// What has to stand at a place that is named, where what is asked for is in words, and what does. No text is this
+// function's own while others are made.
 fn judged(alloc: Global, spot: &Spot<'_>, at: &str, wanted: &str) -> Result<String, AllocError> {
     let (name, line) = (spot.document.name(), spot.line_number);
     let Some(word) = spot.word else {
@@ -302,6 +305,26 @@ fn put_characters(
         hint.push_str("; one space stands between words, and no tab")?;
     }
     Ok(())
+}
+
+// How many lines of a kind there are, behind the note that they are more or fewer than the text says.
+fn put_line_count(
+    alloc: Global,
+    hint: &mut String,
+    text: &[u8],
+    opening: Option<&'static str>,
+) -> Result<(), AllocError> {
+    let Some(opening) = opening else {
+        return Ok(());
+    };
+    let mut count = 0usize;
+    for line in text.split(|byte| *byte == b'\n') {
+        if first_word(line) == opening.as_bytes() {
+            count = count.saturating_add(1);
+        }
+    }
+    let note = format!(in alloc; ": {count}")?;
+    hint.push_str(&note)
 }
 
 // A further remark, if there is one.
