@@ -103,7 +103,8 @@ Prints the answer of check, and where it is refused, why: a sentence, the line a
 the fault is, the board with what is placed there, and the pairs that fit where their number is told \
 wrongly. Where a text has a fault, standard error says what has to stand there, and what does.
 
-With a puzzle alone it prints puzzle: no fault, or says the same of its text. Without files it reads the \
+With a puzzle alone it says the same of its text, or prints puzzle: no fault, and below it what makes an \
+arrangement impossible, as far as counts of colours and the border tell. Without files it reads the \
 three from standard input, one after the other. One that is named - is standard input.
 
 Exit status:

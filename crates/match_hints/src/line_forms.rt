@@ -126,11 +126,19 @@ fn is_width_by_height(word: &[u8]) -> bool {
     numbers == 2
 }
 
-// The first word of the lines of which there are more or fewer than a line before them says.
-pub(crate) fn counted_lines(missed: Option<Asked>, spot: &Spot<'_>) -> Option<&'static str> {
+// The first word of the lines of which there are more or fewer than a line before them says. A puzzle's version may be
+// the first.
+pub(crate) fn counted_lines(
+    missed: Option<Asked>,
+    spot: &Spot<'_>,
+    is_first: bool,
+) -> Option<&'static str> {
     let (Some(Asked::Word(wanted)), Some(word)) = (missed, spot.word) else {
         return None;
     };
+    if version_mistake(wanted, word, is_first).is_some() {
+        return None;
+    }
     said_of_two(&MISTAKES_OF_COUNTS, wanted, word)?;
     said_of(&COUNTED_LINES, wanted).or(said_of(&COUNTED_LINES, word))
 }

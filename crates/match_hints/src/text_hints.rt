@@ -141,8 +141,9 @@ fn put_remarks(
 ) -> Result<(), AllocError> {
     put_characters(hint, spot, missed)?;
     put_note(hint, spelling_mistake(spot, missed))?;
-    put_note(hint, mistake(missed, spot, text.starts_with(b"match 1\n")))?;
-    put_line_count(alloc, hint, text, counted_lines(missed, spot))?;
+    let is_first = text.starts_with(b"match 1\n");
+    put_note(hint, mistake(missed, spot, is_first))?;
+    put_line_count(alloc, hint, text, counted_lines(missed, spot, is_first))?;
     put_note(hint, tree_mistake(spot, missed))?;
     match node_of(spot, missed) {
         _ if spot.has_empty_word() => {}
