@@ -4,7 +4,7 @@ _edgematch() {
   local word=${COMP_WORDS[COMP_CWORD]} before=${COMP_WORDS[COMP_CWORD - 1]} command=${COMP_WORDS[1]} words
   COMPREPLY=()
   if [ "$COMP_CWORD" -eq 1 ]; then
-    words="check explain solve expand count show draw symmetries tiles help --help --version"
+    words="check explain solve expand count total show draw symmetries tiles help --help --version"
   else
     case $before in
       --depth | --first | --forks | --fuel | --most | --part | --workers) return ;;
@@ -16,12 +16,12 @@ _edgematch() {
       expand) words="--orbits --hints --help" ;;
       draw) words="--first --numbers --help" ;;
       tiles) words="--lines --help" ;;
-      explain | show | symmetries) words="--help" ;;
-      help) words="check explain solve expand count show draw symmetries tiles help" ;;
+      explain | total | show | symmetries) words="--help" ;;
+      help) words="check explain solve expand count total show draw symmetries tiles help" ;;
     esac
   fi
   case $command in
-    check | explain | solve | expand | count | show | draw | symmetries)
+    check | explain | solve | expand | count | total | show | draw | symmetries)
       if [ "$COMP_CWORD" -gt 1 ] && [ "${word:0:1}" != - ]; then
         mapfile -t COMPREPLY < <(compgen -f -- "$word")
         return

@@ -5,6 +5,7 @@ complete -c edgematch -f -n __fish_use_subcommand -a explain -d "Checks a list, 
 complete -c edgematch -f -n __fish_use_subcommand -a solve -d "Searches for every arrangement of a puzzle, and writes their list and a certificate"
 complete -c edgematch -f -n __fish_use_subcommand -a expand -d "Checks a list, and prints every arrangement of the puzzle"
 complete -c edgematch -f -n __fish_use_subcommand -a count -d "Counts the arrangements of a puzzle, by a search or by a list that is checked"
+complete -c edgematch -f -n __fish_use_subcommand -a total -d "Adds up the counts of all parts of a search"
 complete -c edgematch -f -n __fish_use_subcommand -a show -d "Draws a puzzle's board, and counts its colours"
 complete -c edgematch -f -n __fish_use_subcommand -a draw -d "Draws a puzzle, or arrangements of a list, as a picture"
 complete -c edgematch -f -n __fish_use_subcommand -a symmetries -d "Finds symmetries of a puzzle"

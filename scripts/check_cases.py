@@ -8,6 +8,7 @@ are run. CONTRIBUTING.md says how a case is written. It ends with 0 where each c
 with 2 where a case can't be read. Cases run side by side, as many as there are processors.
 """
 import difflib
+import hashlib
 import multiprocessing
 import os
 import re
@@ -394,19 +395,38 @@ def count_by_search(trial, number):
         got = trial.run(["count", trial.path("puzzle"), "--most", str(number - 1)])
         more = b"arrangements more than %d\n" % (number - 1)
         trial.wants_outcome(f"count PUZZLE --most {number - 1}", Outcome(0, more, b""), got)
-    splits, total = set(), 0
+    count_by_parts(trial, number)
+
+
+def count_by_parts(trial, number):
+    """Counts of all parts of one split: of the puzzle by its SHA-256, and added up by `total`, which takes a part twice and
+    refuses it with another number, and refuses the parts without one of them and with a line of another puzzle, of
+    another split and of another number of parts."""
+    digest = hashlib.sha256(trial.contents("puzzle")).hexdigest().encode()
+    told = []
     for part in range(1, PARTS + 1):
         way = f"count PUZZLE --part {part}/{PARTS}"
         got = trial.run(["count", trial.path("puzzle"), "--part", f"{part}/{PARTS}"])
         trial.wants_status(way, 0, got.status)
-        lines = re.fullmatch(rb"(split \d+ \d+)\npart %d/%d arrangements (\d+)\n" % (part, PARTS), got.stdout)
+        lines = re.fullmatch(rb"puzzle %s\nsplit \d+ \d+\npart %d/%d arrangements (\d+)\n" % (digest, part, PARTS), got.stdout)
         if lines is None:
-            trial.differs(way, "standard output", b"split ..", got.stdout)
+            trial.differs(way, "standard output", b"puzzle %s ..split ..part .." % digest, got.stdout)
             return
-        splits.add(lines[1])
-        total += int(lines[2])
-    trial.wants("count PUZZLE by parts", "the sum", b"%d" % number, b"%d" % total)
-    trial.wants("count PUZZLE by parts", "how many splits", b"1", b"%d" % len(splits))
+        told.append(got.stdout)
+    all_of, first, last = b"".join(told), told[0], int(lines[1])
+    more = b"part %d/%d arrangements %d\n" % (PARTS, PARTS, last + 1)
+    line = all_of.count(b"\n") + 1
+    for way, text, fault in (
+        ("all parts", all_of, b""),
+        ("a part twice", all_of + first, b""),
+        ("a part with another number", all_of + more, b"line %d: part %d/%d was %d before" % (line, PARTS, PARTS, last)),
+        ("a part that is missing", b"".join(told[1:]), b"part 1/%d is missing" % PARTS),
+        ("another puzzle", all_of + b"puzzle " + b"0" * 64 + b"\n", b"line %d: another puzzle" % line),
+        ("another split", all_of + b"split 0 0\n", b"line %d: another split" % line),
+        ("other parts", all_of + b"part 1/9 arrangements 0\n", b"line %d: of 9 parts, and of %d before" % (line, PARTS)),
+    ):
+        wanted = Outcome(2, b"", b"parts: %s\n" % fault) if fault else Outcome(0, b"arrangements %d\n" % number, b"")
+        trial.wants_outcome(f"total of {way}", wanted, trial.run(["total", "-"], text))
 
 
 def order(trial, case):

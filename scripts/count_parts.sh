@@ -3,8 +3,8 @@
 #
 # usage: count_parts.sh PROGRAM PUZZLE PARTS
 #
-# As many parts are counted at once as there are processors. It prints a line `arrangements N`, and ends with 1 where a
-# part fails, or where not all are parts of one split.
+# As many parts are counted at once as there are processors. It prints a line `arrangements N`, and fails where a part
+# does, or where `edgematch total` refuses what they print.
 set -euo pipefail
 
 said=$(sed -n '2,/^set/s/^# \{0,1\}//p' "$0")
@@ -24,11 +24,4 @@ if ! command -v -- "$program" >/dev/null || [ ! -f "$puzzle" ]; then
   exit 2
 fi
 
-told=$(seq "$parts" | xargs -P "$(nproc)" -I "{}" "$program" count "$puzzle" --part "{}/$parts") || exit 1
-splits=$(awk '$1 == "split"' <<<"$told" | sort -u | wc -l)
-numbers=$(awk '$1 == "part" { print $4 }' <<<"$told")
-if [ "$splits" -ne 1 ] || [ "$(wc -l <<<"$numbers")" -ne "$parts" ]; then
-  echo "count_parts: $splits different splits, $(wc -l <<<"$numbers") parts" >&2
-  exit 1
-fi
-python3 -c 'import sys; print("arrangements", sum(map(int, sys.stdin)))' <<<"$numbers"
+seq "$parts" | xargs -P "$(nproc)" -I "{}" "$program" count "$puzzle" --part "{}/$parts" | "$program" total -

@@ -85,6 +85,14 @@ count_most rows m = may_have_number (command_at (codes "count")) rows (rule_at (
 pub count_progress : (rows : List Row) → AreMatchesOf (codes "count") rows → HasFlag (codes "progress") rows
 count_progress rows m = has_flag (command_at (codes "count")) rows (rule_at (command_at (codes "count")) 6) (count_needed rows m) refl refl refl
 
+-- ---- `total`
+
+total_needed : (rows : List Row) → AreMatchesOf (codes "total") rows → HasNeeded (command_at (codes "total")) rows
+total_needed rows m = needed (codes "total") rows m refl
+
+pub total_file : (rows : List Row) → AreMatchesOf (codes "total") rows → HasText (codes "FILE") rows
+total_file rows m = has_text (command_at (codes "total")) rows (codes "FILE") (total_needed rows m) refl
+
 -- ---- `show`
 
 show_needed : (rows : List Row) → AreMatchesOf (codes "show") rows → HasNeeded (command_at (codes "show")) rows

@@ -47,6 +47,7 @@ no_count rows listed searched (orders.Solve files depth fuel workers keep progre
 no_count rows listed searched (orders.Expand given orbits hints) is = differ (codes "count") (codes "expand") refl is.0
 no_count rows listed searched (orders.Count given) is = listed given is.1 is.2
 no_count rows listed searched (orders.Census puzzle extent workers progress) is = searched puzzle extent is.1 is.2
+no_count rows listed searched (orders.Total parts) is = differ (codes "count") (codes "total") refl is.0
 no_count rows listed searched (orders.Show subject) is = differ (codes "count") (codes "show") refl is.0
 no_count rows listed searched (orders.Draw subject first numbers) is = differ (codes "count") (codes "draw") refl is.0
 no_count rows listed searched (orders.Symmetries puzzle) is = differ (codes "count") (codes "symmetries") refl is.0
@@ -65,6 +66,7 @@ no_solve rows files named not (orders.Solve other depth fuel workers keep progre
 no_solve rows files named not (orders.Expand given orbits hints) is = differ (codes "solve") (codes "expand") refl is.0
 no_solve rows files named not (orders.Count given) is = differ (codes "solve") (codes "count") refl is.0
 no_solve rows files named not (orders.Census puzzle extent workers progress) is = differ (codes "solve") (codes "count") refl is.0
+no_solve rows files named not (orders.Total parts) is = differ (codes "solve") (codes "total") refl is.0
 no_solve rows files named not (orders.Show subject) is = differ (codes "solve") (codes "show") refl is.0
 no_solve rows files named not (orders.Draw subject first numbers) is = differ (codes "solve") (codes "draw") refl is.0
 no_solve rows files named not (orders.Symmetries puzzle) is = differ (codes "solve") (codes "symmetries") refl is.0

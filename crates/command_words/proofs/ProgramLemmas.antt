@@ -15,7 +15,7 @@ use Rattle.clap.specs.Walk.{Held, Names, Outcome, Row, Rule, Step, Text, Waiting
 use Rattle.clap.specs.Simple.{App, HasMatchesOf, Shape, app_of, built, entered, is_simple, label_of, names_of, new_rule, new_shape, rows_at, subcommand_of, subcommand_rows}
 use Rattle.clap.specs.Faults.{entered_fault, fault_of, is_simple_and_free, level_fault, other_fault, step_fault, turn_fault, walk_fault, word_fault}
 use Rattle.clap.specs.Kinds.{HasKind, IsAmong, or_else}
-use Rattle.clap.specs.Matches.{subcommand_name_of}
+use Rattle.clap.specs.Matches.{has_subcommand, subcommand_name_of}
 use Rattle.clap.specs.declared.builder.command.Command.{Command}
 use Rattle.clap.specs.declared.parser.matches.ArgMatches.{ArgMatches}
 use Rattle.clap.specs.declared.parser.matches.ArgMatches.TheViews.{out-ArgMatches}
@@ -28,6 +28,7 @@ use Rattle.clap.proofs.ValueTestLemmas.{accepts-Accepts}
 use Rattle.command_words.specs.Commands.{whole_app}
 use Rattle.command_words.specs.Orders.{HasFiles, HasFlag, HasNumber, HasText, IsFaultOf, IsMisfit, IsOrder, IsOrderOf, IsRefused, MayHaveNumber}
 use Rattle.command_words.specs.declared.orders.Order.{Order}
+use Rattle.command_words.specs.declared.orders.Order.TheVariants.{Joined}
 use Rattle.command_words.specs.declared.faults.WordsFault.{WordsFault}
 use Rattle.command_words.specs.declared.faults.WordsFault.TheVariants.{Words, Memory}
 use Rattle.command_words.proofs.FaultlessWalk.{IsGiven, IsValued, always_given, first_passes, found_has, is_always_given, none_of_both, puts_values, wants_values}
@@ -319,9 +320,28 @@ parse_enters command m words is matches name rows named rowed =
     and_left true b e = refl
     and_left false b e = absurd cc
 
+simple_of : (a b : Bool) → (a && b) ≡ true → a ≡ true
+simple_of true b e = refl
+simple_of false b e = absurd cc
+
+nothing_of : {B C : Type 0} (f : B → C) (o : Option B) → false ≡ is_some o → option_map f o ≡ None
+nothing_of f None e = refl
+nothing_of f (Some b) e = absurd cc
+
+-- and where it entered nothing, they name nothing
+pub enters_nothing : (command : Command) (m : ArgMatches) (words : List Text) → app_of command ≡ whole_app → HasMatchesOf (app_of command) words m
+    → false ≡ has_subcommand m → subcommand_of whole_app words ≡ None
+enters_nothing command m words is matches none =
+    let simple : is_simple (app_of command) ≡ true = simple_of (is_simple (app_of command)) _ (is_free command is) in
+    ap (λ (a : App). subcommand_of a words) (sym is) ∙ sym (matches simple).1 ∙ nothing_of _ (out-ArgMatches m).subcommand none
+
 -- a parse that has no fault is one of words without a fault
 pub faultless_of : (command : Command) (words : List Text) → app_of command ≡ whole_app → (is_simple_and_free (app_of command) ≡ true → fault_of (app_of command) words ≡ []) → fault_of whole_app words ≡ []
 faultless_of command words is none = ap (λ (a : App). fault_of a words) (sym is) ∙ none (is_free command is)
+
+-- words that name nothing order a check of what is joined
+pub joined_of : (words : List Text) → subcommand_of whole_app words ≡ None → IsOrder words Joined
+joined_of words none = subst (λ entered. IsOrderOf entered Joined) (sym none) tt
 
 -- the order of the words, by what they enter
 pub order_of : (words : List Text) (name : Text) (rows : List Row) (order : Order) → subcommand_of whole_app words ≡ Some (name, rows) → IsOrderOf (Some (name, rows)) order → IsOrder words order

@@ -95,6 +95,9 @@ count_app =
     ∷ flag (codes "progress")
     ∷ [])
 
+abbrev pub total_app : App
+total_app = with_rule (new_app (codes "total")) (wanted (codes "FILE"))
+
 abbrev pub show_app : App
 show_app =
     with_rules (with_puzzle (new_app (codes "show")))
@@ -125,6 +128,7 @@ commands =
     ∷ solve_app
     ∷ expand_app
     ∷ count_app
+    ∷ total_app
     ∷ show_app
     ∷ draw_app
     ∷ symmetries_app

@@ -14,7 +14,7 @@ use Rattle.command_words.specs.declared.places.Files.{Files}
 use Rattle.command_words.specs.declared.orders.Subject.{Subject}
 use Rattle.command_words.specs.declared.orders.Subject.TheVariants.{Board, Listed}
 use Rattle.command_words.specs.declared.orders.Order.{Order}
-use Rattle.command_words.specs.declared.orders.Order.TheVariants.{Joined, Check, Explain, ExplainPuzzle, Solve, Expand, Count, Census, Show, Draw, Symmetries, Tiles}
+use Rattle.command_words.specs.declared.orders.Order.TheVariants.{Joined, Check, Explain, ExplainPuzzle, Solve, Expand, Count, Census, Total, Show, Draw, Symmetries, Tiles}
 use Rattle.command_words.specs.Commands.{whole_app}
 use Rattle.command_words.specs.Parts.{IsPartText}
 use Rattle.command_words.specs.Places.{certificate_place, input_name, list_of_two, list_place, puzzle_of_two, puzzle_place}
@@ -144,6 +144,7 @@ IsOrderOf (Some (name, rows)) (Count given) = (name ≡ codes "count") × IsGive
 IsOrderOf (Some (name, rows)) (Census puzzle extent workers progress) =
     (name ≡ codes "count") × NamesPuzzle rows puzzle × IsExtent rows extent
     × (number_of (codes "workers") rows ≡ Some workers) × IsFlagged (codes "progress") rows progress
+IsOrderOf (Some (name, rows)) (Total parts) = (name ≡ codes "total") × IsPlace (codes "FILE") rows parts
 IsOrderOf (Some (name, rows)) (Show subject) = (name ≡ codes "show") × IsSubject rows subject
 IsOrderOf (Some (name, rows)) (Draw subject first numbers) =
     (name ≡ codes "draw") × IsSubject rows subject × (number_of (codes "first") rows ≡ Some first)

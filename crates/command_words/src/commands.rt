@@ -3,8 +3,8 @@
 ghost use Rattle.std.specs.Prelude.{◌≡◌, ◌∷◌, [], IfOk};
 ghost use Rattle.clap.specs.Words.{App, app_of, with_subcommand};
 ghost use Rattle.command_words.specs.Commands.{bare_app, check_app, count_app, draw_app, expand_app, explain_app};
-ghost use Rattle.command_words.specs.Commands.{show_app, solve_app, symmetries_app, tiles_app, whole_app};
-ghost use Rattle.command_words.specs.Commands.{with_commands};
+ghost use Rattle.command_words.specs.Commands.{show_app, solve_app, symmetries_app, tiles_app, total_app};
+ghost use Rattle.command_words.specs.Commands.{whole_app, with_commands};
 ghost use Rattle.command_words.specs.Tables.{IsArgOf, IsCommandAs, IsNumbered, IsOfKind, app_by};
 
 use clap::builder::ValueParser;
@@ -128,11 +128,13 @@ count once; and symmetries S, how many symmetries the certificate names. Or it p
 it is refused.
 
 With --most M it says arrangements more than M as soon as it has found more: with --most 1, whether there \
-is just one.
+is just one. Where tiles turn, each turn of the whole board makes another arrangement: so it is --most 4 on a \
+square board, 2 on another rectangle, 3 on a triangle and 6 on a hexagon.
 
-With --part K/N it counts in part K of N of the search, and prints two lines: split SUBTREES HASH, of the \
-subtrees into which the search was split and a hash of them all, and part K/N arrangements M. Where all N \
-parts print the same line split, their numbers add up to how many arrangements the puzzle has.
+With --part K/N it counts in part K of N of the search, and prints three lines: puzzle DIGEST, the SHA-256 of \
+the puzzle's file; split BRANCHES HASH, of the branches into which the search was split and a hash of them all; \
+and part K/N arrangements M. Of all N parts of one puzzle and one split the numbers add up to how many \
+arrangements the puzzle has. edgematch total adds them up, and refuses lines that don't go together.
 
 Without files it reads the three from standard input, one after the other. One that is named - is standard \
 input.
@@ -149,6 +151,23 @@ Exit status:
 Examples:
   edgematch count puzzle --workers 4
   edgematch count puzzle list certificate";
+
+const TOTALLED: &str = "\
+Reads the lines that count --part printed, of all parts of one search, in any order, and prints \
+arrangements N, their sum.
+
+The lines have to be of one puzzle and of one split, and of each part at least one. A part that stands there \
+more than once has to have one number, and counts once. Else the first line that is wrong is told on standard \
+error, or the first part that is missing.
+
+FILE may be -, standard input: so the output of many calls is added up as it is.
+
+Exit status:
+  0  the sum is printed
+  2  anything else, which is said on standard error
+
+Example:
+  cat part.* | edgematch total -";
 
 const SHOWN: &str = "\
 Draws the board with the numbers of its cells and the colours that the border asks for, and says \
@@ -377,6 +396,13 @@ const PART: Argument = Argument {
     help: "Counts in part K of N of the search, 1/N to N/N, of 1000000 parts at most",
 };
 
+const PARTS: Argument = Argument {
+    id: "FILE",
+    kind: Kind::Word { is_wanted: true },
+    number: None,
+    help: "File of the lines that count --part printed; - is standard input",
+};
+
 const SHOWN_LIST: Argument = Argument {
     id: "LIST",
     kind: Kind::Word { is_wanted: false },
@@ -510,6 +536,13 @@ const COUNT: CommandTable = CommandTable {
     help: COUNTED,
 };
 
+const TOTAL: CommandTable = CommandTable {
+    name: "total",
+    about: "Adds up the counts of all parts of a search",
+    arguments: &[PARTS],
+    help: TOTALLED,
+};
+
 const SHOW: CommandTable = CommandTable {
     name: "show",
     about: "Draws a puzzle's board, and counts its colours",
@@ -629,6 +662,12 @@ pub(crate) fn count<'a>(alloc: Global) -> Result<Command<'a>, AllocError>
     command_of(alloc, &COUNT)
 }
 
+fn total<'a>(alloc: Global) -> Result<Command<'a>, AllocError>
+    ensures { IfOk result (IsCommandAs total_app) }
+{
+    command_of(alloc, &TOTAL)
+}
+
 pub(crate) fn show<'a>(alloc: Global) -> Result<Command<'a>, AllocError>
     ensures { IfOk result (IsCommandAs show_app) }
 {
@@ -665,20 +704,21 @@ fn with_command<'a>(
     program?.subcommand(command?)
 }
 
-// The program with the commands that make a list, or read one with its certificate.
+// The program with the commands that make a list, or read one with its certificate, or count by a search.
 fn with_list_commands<'a>(
     alloc: Global,
     program: Result<Command<'a>, AllocError>,
 ) -> Result<Command<'a>, AllocError>
     ensures { (before : App) → IfOk program.entry (λ c. app_of c ≡ before)
         → IfOk result (λ c. app_of c
-        ≡ with_commands before (check_app ∷ explain_app ∷ solve_app ∷ expand_app ∷ count_app ∷ [])) }
+        ≡ with_commands before (check_app ∷ explain_app ∷ solve_app ∷ expand_app ∷ count_app ∷ total_app ∷ [])) }
 {
     let program = with_command(program, check(alloc));
     let program = with_command(program, explain(alloc));
     let program = with_command(program, solve(alloc));
     let program = with_command(program, expand(alloc));
-    with_command(program, count(alloc))
+    let program = with_command(program, count(alloc));
+    with_command(program, total(alloc))
 }
 
 // The program with the other commands.

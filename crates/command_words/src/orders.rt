@@ -103,6 +103,8 @@ pub enum Order {
         workers: Workers,
         progress: bool,
     },
+    /// To add up the counts of all parts of a search, by the lines that stand there.
+    Total(Place),
     /// To draw the empty board of a puzzle, or an arrangement that is listed.
     Show(Subject),
     /// To draw the empty board of a puzzle and its tiles as a picture, or an arrangement that is listed; or a sheet of so

@@ -121,7 +121,15 @@ fn puzzle_place(alloc: Global, matches: &ArgMatches<'_>) -> Result<Place, AllocE
     requires { HasText (codes "PUZZLE") (rows_of (found_of matches.now)) }
     ensures { IfOk result (IsPlace (codes "PUZZLE") (rows_of (found_of matches.now))) }
 {
-    let Some(place) = place_if_named(alloc, matches, "PUZZLE")? else {
+    place_named(alloc, matches, "PUZZLE")
+}
+
+// Where the document stands that is named under this id.
+fn place_named(alloc: Global, matches: &ArgMatches<'_>, id: &str) -> Result<Place, AllocError>
+    requires { HasText id.now (rows_of (found_of matches.now)) }
+    ensures { IfOk result (IsPlace id.now (rows_of (found_of matches.now))) }
+{
+    let Some(place) = place_if_named(alloc, matches, id)? else {
         unreachable!();
     };
     Ok(place)
@@ -415,6 +423,14 @@ fn count_given(
     Ok(Order::Count(given))
 }
 
+fn total(alloc: Global, matches: &ArgMatches<'_>) -> Result<Order, WordsFault>
+    requires { AreMatchesOf (codes "total") (rows_of (found_of matches.now)) }
+    ensures order { IfOk result (IsOrderOf (Some (codes "total", rows_of (found_of matches.now)))) }
+    ensures refused { IfErr result (IsMisfit (Some (codes "total", rows_of (found_of matches.now)))) }
+{
+    Ok(Order::Total(place_named(alloc, matches, "FILE")?))
+}
+
 fn show(alloc: Global, matches: &ArgMatches<'_>) -> Result<Order, WordsFault>
     requires { AreMatchesOf (codes "show") (rows_of (found_of matches.now)) }
     ensures order { IfOk result (IsOrderOf (Some (codes "show", rows_of (found_of matches.now)))) }
@@ -497,6 +513,7 @@ fn order_of(alloc: Global, name: &str, matches: &ArgMatches<'_>) -> Result<Order
         "solve" => solve(alloc, matches),
         "expand" => expand(alloc, matches),
         "count" => count(alloc, matches),
+        "total" => total(alloc, matches),
         "show" => show(alloc, matches),
         "draw" => draw(alloc, matches),
         "symmetries" => symmetries(alloc, matches),

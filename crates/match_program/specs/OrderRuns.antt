@@ -5,11 +5,12 @@ use Rattle.command_words.specs.declared.orders.Extent.{Extent}
 use Rattle.command_words.specs.declared.orders.Subject.{Subject}
 use Rattle.command_words.specs.declared.orders.Subject.TheVariants.{Board, Listed}
 use Rattle.command_words.specs.declared.orders.Order.{Order}
-use Rattle.command_words.specs.declared.orders.Order.TheVariants.{Joined, Check, Explain, ExplainPuzzle, Solve, Expand, Count, Census, Show, Draw, Symmetries, Tiles}
+use Rattle.command_words.specs.declared.orders.Order.TheVariants.{Joined, Check, Explain, ExplainPuzzle, Solve, Expand, Count, Census, Total, Show, Draw, Symmetries, Tiles}
 use Rattle.byte_streams.specs.Documents.{Texts}
 use Rattle.byte_streams.specs.Moves.{Writing, reading_of}
 use Rattle.byte_streams.specs.Origins.{Origin, joined_source, no_source}
 use Rattle.byte_streams.specs.Targets.{Target, one_sink}
+use Rattle.byte_streams.specs.declared.faults.Document.TheVariants as documents
 use Rattle.byte_streams.specs.declared.files.FileSystem.{Ghosts as FileMembers}
 use Rattle.byte_streams.specs.declared.outputs.Products.{Products}
 use Rattle.byte_streams.specs.declared.sinks.Sink.{Ghosts as SinkMembers}
@@ -23,11 +24,12 @@ use Rattle.match_runs.specs.Listed.{DrawFails, DrawsListed}
 use Rattle.match_runs.specs.Pictures.{DrawsPicture, PictureFails}
 use Rattle.match_runs.specs.Printing.{PrintingFails, PrintingGives}
 use Rattle.match_runs.specs.Runs.{Runs}
-use Rattle.match_program.specs.PlaceOrigins.{given_documents, one_place, two_places}
+use Rattle.match_program.specs.PlaceOrigins.{document_place, given_documents, one_place, two_places}
 use Rattle.match_program.specs.SameStreams.{output_of}
 use Rattle.match_program.specs.SolvedFiles.{PutsAll, solved_files}
 use Rattle.match_program.specs.declared.streams.Streams.{Streams}
 use Rattle.match_runs.specs.Solving.{SolveFails, SolveGives}
+use Rattle.match_runs.specs.Totals.{TotalFails, TotalGives}
 use Rattle.match_runs.specs.Tiles.{TileLinesGive, TilesFail, TilesGive}
 use Rattle.match_runs.specs.declared.description_runs.Description.{Description}
 use Rattle.match_runs.specs.declared.description_runs.Description.TheVariants as descriptions
@@ -75,6 +77,10 @@ DescriptionOf description from output result =
 abbrev pub CensusOf : Extent → Origin (List ℕ) → Writing → Result Exit RunFault → Type 0
 CensusOf extent from output result =
     Runs from (ThenDone (CensusGives extent)) (CensusFails extent) (one_sink output) result
+
+-- What a sum of counted parts comes to.
+abbrev pub TotalOf : Origin (List ℕ) → Writing → Result Exit RunFault → Type 0
+TotalOf from output result = Runs from (ThenDone TotalGives) TotalFails (one_sink output) result
 
 -- What comes of a list of tiles: by lines of a puzzle's text, or by their words.
 abbrev pub TilesOf : (sides colours : ℕ) (lines : Bool) → Writing → Result Exit RunFault → Type 0
@@ -134,6 +140,8 @@ module _ {S R W I : Type 0} (system : FileMembers S R W) (source : SourceMembers
           × PrintingOf printings.Count (given_documents system source input old given later documents) output result
       RunOf (Census puzzle extent workers progress) result =
           (new ≡ old) × CensusOf extent (one_place system source input old given puzzle) output result
+      RunOf (Total parts) result =
+          (new ≡ old) × TotalOf (document_place system source input old given documents.Parts parts) output result
       RunOf (Solve files depth fuel workers keep progress hints) result =
           (later ≡ given)
           × SolveOf workers (one_file system source old (string_bytes files.puzzle))

@@ -4,16 +4,20 @@ ghost use Rattle.std.specs.Prelude.{◌≡◌, IfOk, IfErr, false, true};
 ghost use Rattle.std.specs.String.{string_bytes};
 ghost use Rattle.byte_streams.specs.Moves.{reading_of, writing_of};
 ghost use Rattle.byte_streams.specs.Origins.{joined_source, three_sources};
+ghost use Rattle.byte_streams.specs.declared.faults.Document.TheVariants as documents;
 ghost use Rattle.command_words.specs.declared.orders.Subject.TheVariants.{Listed};
 ghost use Rattle.match_program.specs.FileOrigins.{AreOfFiles, IsUnopenedFile, all_three, one_file, three_files};
 ghost use Rattle.match_program.specs.OrderRuns.{CensusOf, CheckOf, DescriptionOf, PictureOf, PrintingOf, RunOver, ShowOf};
+ghost use Rattle.match_program.specs.OrderRuns.{TotalOf};
 ghost use Rattle.match_program.specs.OrderRuns.{SolveOf, TilesOf, list_printed};
-ghost use Rattle.match_program.specs.PlaceOrigins.{given_documents, one_place, three_places};
+ghost use Rattle.match_program.specs.PlaceOrigins.{document_place, given_documents, one_place, three_places};
 ghost use Rattle.match_runs.specs.Runs.{unhinted};
 ghost use Rattle.match_program.specs.SameStreams.{AreSameStreams};
 ghost use Rattle.match_program.specs.SolvedFiles.{PutsAll, solved_files};
 
-use crate::document_readers::{ThreeReaders, TwoReaders, open_place, open_three, open_two};
+use crate::document_readers::{
+    ThreeReaders, TwoReaders, open_parts, open_place, open_three, open_two,
+};
 use crate::exits::Exit;
 use crate::files::{are_apart, hint_on, open};
 use crate::made_files::{make_files, not_put, replaced};
@@ -29,7 +33,7 @@ use match_limits::{ArrangementNumber, Colours, Drawn, Forks, Sides, Workers};
 use match_runs::{
     CensusPlan, CheckPlan, Description, HintedFault, PicturePlan, Printing, PrintingPlan, RunFault,
     SearchPlan, Watched, run_census, run_check_watched, run_description, run_listed, run_picture,
-    run_printing, run_solve_watched, run_tile_lines, run_tiles,
+    run_printing, run_solve_watched, run_tile_lines, run_tiles, run_total,
 };
 use std::alloc::Global;
 use std::random::RandomSource;
@@ -170,6 +174,7 @@ pub fn run_order<
             };
             order.count(puzzle, system, streams.input, streams.output)
         }
+        Order::Total(parts) => add_up(alloc, parts, system, streams.input, streams.output),
         Order::Show(subject) => show(alloc, subject, system, streams.input, streams.output),
         Order::Draw {
             subject,
@@ -535,6 +540,22 @@ impl<'a, R: Threads + Sync + Clock + Eprint> CensusOrder<'a, R> {
         run_census(self.rt, self.alloc, &mut puzzle, &plan, output)?;
         Ok(Exit::Done)
     }
+}
+
+// The sum of what all parts of a search have, by the lines that stand there.
+fn add_up<S: FileSystem, I: Source, W: Sink>(
+    alloc: Global,
+    parts: &Place,
+    system: &S,
+    input: &mut I,
+    output: &mut W,
+) -> Result<Exit, HintedFault>
+    ensures { TotalOf (document_place S.FileSystem S.Reader.Source I.Source system.now input.old documents.Parts parts.now)
+        (writing_of W.Sink output.old output.new) (unhinted result) }
+{
+    let mut parts = open_parts(alloc, parts, system, input)?;
+    run_total(alloc, &mut parts, output)?;
+    Ok(Exit::Done)
 }
 
 // The board of the puzzle, or the arrangement that is listed.

@@ -100,6 +100,7 @@ fn is_always_told(order: &Order, fault: &RunFault) -> bool {
         Order::Explain(_) | Order::ExplainPuzzle(_) | Order::Count(_) | Order::Census { .. } => {
             is_of_texts(fault)
         }
+        Order::Total(_) => is_of_texts(fault),
         Order::Show(_) | Order::Draw { .. } | Order::Symmetries(_) | Order::Tiles { .. } => {
             is_of_texts(fault)
         }
@@ -162,7 +163,8 @@ fn file_of<'a>(order: &'a Order, document: Document) -> Option<&'a str> {
         } => file_of_three(places, document),
         Order::ExplainPuzzle(place)
         | Order::Census { puzzle: place, .. }
-        | Order::Symmetries(place) => file_at(place),
+        | Order::Symmetries(place)
+        | Order::Total(place) => file_at(place),
         Order::Show(subject) | Order::Draw { subject, .. } => file_of_subject(subject, document),
         _ => None,
     }
@@ -172,7 +174,7 @@ fn name_in<'a>(files: &'a Files, document: Document) -> &'a str {
     match document {
         Document::List => &files.list,
         Document::Certificate => &files.certificate,
-        Document::Puzzle | Document::Input => &files.puzzle,
+        Document::Puzzle | Document::Parts | Document::Input => &files.puzzle,
     }
 }
 
@@ -236,6 +238,8 @@ fn read_from_input(order: &Order) -> Option<&'static str> {
         Order::ExplainPuzzle(place)
         | Order::Census { puzzle: place, .. }
         | Order::Symmetries(place) => { puzzle_alone(place) }
+        Order::Total(Place::Input) => Some("lines of counted parts"),
+        Order::Total(Place::File(_)) => None,
         Order::Show(subject) | Order::Draw { subject, .. } => one_of_subject(subject),
         Order::Check { .. } | Order::Solve { .. } | Order::Expand { .. } | Order::Tiles { .. } =>
             None,

@@ -1,5 +1,7 @@
 -- What a count by a search comes to.
-use Rattle.std.proofs.Common.{◌≡◌, List, ℕ, Ok, refl, subst}
+use Rattle.std.proofs.Common.{◌≡◌, ◌∙◌, ◌++◌, ◌∷◌, [], List, ℕ, Ok, ap, append_assoc, refl, subst}
+use Rattle.count_totals.specs.Lines.{line_text, text_of}
+use Rattle.count_totals.specs.declared.lines.Line.{Line}
 use Rattle.match_puzzle.specs.Arrangement.{HasArrangements}
 use Rattle.match_puzzle.specs.Puzzle.{Task}
 use Rattle.match_text.specs.Puzzles.{PuzzleReads}
@@ -28,3 +30,11 @@ compile_fails extent p compiles.Memory many = tt
 -- what the branches of a split have together is how many arrangements the puzzle has
 pub split_counts : (x : Compiled) (p : Task) (branches : List WeightedBranch) (count : ℕ) → x.puzzle ≡ p → IsSplit x branches → HaveTogether x branches count → HasArrangements p count
 split_counts x p branches count of split have = subst (λ (t : Task). HasArrangements t count) of (split count have)
+
+-- three lines that were put one after the other
+pub three_lines : (first second third : Line) (empty one two three : List ℕ) → empty ≡ [] → one ≡ empty ++ (line_text first ++ 10 ∷ []) → two ≡ one ++ (line_text second ++ 10 ∷ []) → three ≡ two ++ (line_text third ++ 10 ∷ [])
+    → three ≡ text_of (first ∷ second ∷ third ∷ [])
+three_lines first second third empty one two three none put_first put_second put_third =
+    put_third
+    ∙ ap (λ (t : List ℕ). t ++ (line_text third ++ 10 ∷ [])) (put_second ∙ ap (λ (t : List ℕ). t ++ (line_text second ++ 10 ∷ [])) (put_first ∙ ap (λ (t : List ℕ). t ++ (line_text first ++ 10 ∷ [])) none))
+    ∙ simp append_assoc

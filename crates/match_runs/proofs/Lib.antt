@@ -5,3 +5,4 @@ pub mod RunLemmas
 pub mod RunningLemmas
 pub mod SolvingLemmas
 mod TileLemmas
+pub mod TotalLemmas

@@ -1,14 +1,19 @@
 -- What a count by a search prints.
-use Rattle.std.specs.Prelude.{◌≡◌, ◌≤◌, ◌++◌, ◌⊎◌, ℕ, List, None, Ok, codes, decimal, length}
+use Rattle.std.specs.Prelude.{◌≡◌, ◌≤◌, ◌∷◌, [], ◌⊎◌, ℕ, List, None, Ok, codes, length}
 use Rattle.match_puzzle.specs.Arrangement.{IsArrangement, HasArrangements}
 use Rattle.match_puzzle.specs.Puzzle.{Task}
 use Rattle.match_puzzle.specs.Numbers.{AreMoreThan}
 use Rattle.match_text.specs.Puzzles.{PuzzleReads}
 use Rattle.match_show.specs.Facts.{number_line}
-use Rattle.xcc_form.specs.Options.{Compiled, HasTooManyEntries}
+use Rattle.xcc_form.specs.Options.{Compiled, HasTooManyEntries, IsCompiled}
 use Rattle.census_branches.specs.Branches.{WeightedBranch, HaveTogether, IsSplit, IsTotal, every}
 use Rattle.census_branches.specs.Hash.{hash_of}
 use Rattle.match_crew.specs.declared.faults.SolveFault.TheVariants as solves
+use Rattle.count_totals.specs.Lines.{text_of}
+use Rattle.count_totals.specs.declared.lines.CountedPart.{CountedPart}
+use Rattle.count_totals.specs.declared.lines.Line.TheVariants as lines
+use Rattle.count_totals.specs.declared.lines.SplitLine.{SplitLine}
+use Rattle.sha2.specs.Sha256.{sha256}
 use Rattle.command_words.specs.Parts.{number_in, parts_with}
 use Rattle.command_words.specs.declared.orders.Part.{Part}
 use Rattle.command_words.specs.declared.orders.Extent.{Extent}
@@ -17,18 +22,13 @@ use Rattle.match_runs.specs.Describing.{DescribeFails}
 use Rattle.match_runs.specs.declared.faults.RunFault.{RunFault}
 use Rattle.match_runs.specs.declared.faults.RunFault.TheVariants as runs
 
--- the line of a split: how many branches it has, and their hash
-abbrev pub split_line : List WeightedBranch → List ℕ
-split_line branches =
-    codes "split " ++ decimal (length branches) ++ codes " " ++ decimal (hash_of branches) ++ codes "\n"
+-- a split: how many branches it has, and their hash
+abbrev pub split_of : List WeightedBranch → SplitLine
+split_of branches = record { branches = length branches; hash = hash_of branches }
 
--- a part by its number and how many there are, as `3/8`
-abbrev pub part_word : Part → List ℕ
-part_word part = decimal (number_in part) ++ codes "/" ++ decimal (parts_with part)
-
--- the line of how many arrangements a part has
-abbrev pub part_line : Part → (count : ℕ) → List ℕ
-part_line part count = codes "part " ++ part_word part ++ codes " arrangements " ++ decimal count ++ codes "\n"
+-- how many arrangements a part has
+abbrev pub counted_part : Part → (count : ℕ) → CountedPart
+counted_part part count = record { number = number_in part; parts = parts_with part; count = count }
 
 -- the branches of a part, where they are dealt in turn to all parts
 abbrev pub part_of : Part → List WeightedBranch → List WeightedBranch
@@ -49,27 +49,29 @@ abbrev pub CountsMore : (most : ℕ) → Task → (text : List ℕ) → Type 0
 CountsMore most puzzle text =
     AreMoreThan most (IsArrangement puzzle) × (text ≡ number_line (codes "arrangements more than") most)
 
--- Of a split of the search for all arrangements the text tells how large it is, and how many arrangements the part has.
--- That the numbers of all parts of one split add up to how many there are is a law, `parts_make_the_whole`.
-pub record CountsPart (part : Part) (puzzle : Task) (text : List ℕ) : Type 0 where
+-- The text tells the SHA-256 of the puzzle's text, of a split of the search for all arrangements how large it is, and how
+-- many arrangements the part has. That the numbers of all parts of one split add up to how many there are is a law,
+-- `parts_make_the_whole`.
+pub record CountsPart (part : Part) (spelled : List ℕ) (puzzle : Task) (text : List ℕ) : Type 0 where
   pub compiled : Compiled
+  pub is_compiled : IsCompiled compiled
   pub of : compiled.puzzle ≡ puzzle
   pub branches : List WeightedBranch
   pub split : IsSplit compiled branches
   pub count : ℕ
   pub counted : HaveTogether compiled (part_of part branches) count
-  pub is : text ≡ split_line branches ++ part_line part count
+  pub is : text ≡ text_of (lines.Puzzle (sha256 spelled) ∷ lines.Split (split_of branches) ∷ lines.Part (counted_part part count) ∷ [])
 
--- What is printed of the puzzle.
-abbrev pub PrintsCount : Extent → Task → (text : List ℕ) → Type 0
-PrintsCount extents.All puzzle text = CountsAll puzzle text
-PrintsCount (extents.Most most) puzzle text = CountsUpTo most puzzle text ⊎ CountsMore most puzzle text
-PrintsCount (extents.Part part) puzzle text = CountsPart part puzzle text
+-- What is printed of the puzzle, which is spelled so.
+abbrev pub PrintsCount : Extent → (spelled : List ℕ) → Task → (text : List ℕ) → Type 0
+PrintsCount extents.All spelled puzzle text = CountsAll puzzle text
+PrintsCount (extents.Most most) spelled puzzle text = CountsUpTo most puzzle text ⊎ CountsMore most puzzle text
+PrintsCount (extents.Part part) spelled puzzle text = CountsPart part spelled puzzle text
 
 -- What is printed of the puzzle that the text spells.
 abbrev pub CensusGives : Extent → (text printed : List ℕ) → (ends : Unit {0}) → Type 0
 CensusGives extent text printed ends =
-    (puzzle : Task) × PuzzleReads text (Ok puzzle) × PrintsCount extent puzzle printed
+    (puzzle : Task) × PuzzleReads text (Ok puzzle) × PrintsCount extent text puzzle printed
 
 -- the branches of a split that are counted
 abbrev pub counted_branches : Extent → List WeightedBranch → List WeightedBranch
@@ -79,6 +81,7 @@ counted_branches extent branches = branches
 -- Of a split of the search those that are to be counted have 2^64 arrangements or more.
 pub record AreTooManyToCount (extent : Extent) (puzzle : Task) : Type 0 where
   pub compiled : Compiled
+  pub is_compiled : IsCompiled compiled
   pub of : compiled.puzzle ≡ puzzle
   pub branches : List WeightedBranch
   pub split : IsSplit compiled branches

@@ -27,11 +27,14 @@ use Rattle.match_board.specs.FaultText.{tiles_fault_text}
 use Rattle.match_puzzle.specs.FaultText.{arrangement_fault_text}
 use Rattle.plain_words.specs.FaultText.{read_fault_text}
 use Rattle.match_text.specs.FaultText.{puzzle_text_fault_text}
+use Rattle.count_totals.specs.FaultText.{parts_fault_text}
+use Rattle.count_totals.specs.declared.faults.PartsFault.{PartsFault}
+use Rattle.count_totals.specs.declared.faults.PartsFault.TheVariants as parts_text
 use Rattle.cert_text.specs.FaultText.{cert_text_fault_text}
 use Rattle.match_crew.specs.FaultText.{solve_fault_text}
 use Rattle.symmetry_orbits.specs.FaultText.{expand_fault_text}
 use Rattle.match_runs.specs.declared.faults.RunFault.{RunFault}
-use Rattle.match_runs.specs.declared.faults.RunFault.TheVariants.{Read, TooLong, Puzzle, List as Listing, Certificate, NoArrangement, Arrangement}
+use Rattle.match_runs.specs.declared.faults.RunFault.TheVariants.{Read, TooLong, Puzzle, List as Listing, Certificate, Parts, NoArrangement, Arrangement}
 use Rattle.match_runs.specs.declared.faults.RunFault.TheVariants.{Solve, Expand, Tiles, Write, Replaced, Memory}
 
 -- ---- faults of parts, and want of memory, wherever it was met
@@ -59,6 +62,10 @@ abbrev pub run_of_certificate : CertTextFault → RunFault
 run_of_certificate (cert_text.Text fault) = Certificate (cert_text.Text fault)
 run_of_certificate (cert_text.Assemble fault) = Certificate (cert_text.Assemble fault)
 run_of_certificate cert_text.Memory = Memory
+
+abbrev pub run_of_parts : PartsFault → RunFault
+run_of_parts parts_text.Memory = Memory
+run_of_parts fault = Parts fault
 
 abbrev pub run_of_solve : SolveFault → RunFault
 run_of_solve solves.GaveUp = Solve solves.GaveUp
@@ -97,6 +104,8 @@ run_fault_text (Listing fault) = codes "list: " ++ read_fault_text fault
 run_fault_text (Certificate cert_text.Memory) = codes "out of memory"
 run_fault_text (Certificate (cert_text.Assemble assemblies.Memory)) = codes "out of memory"
 run_fault_text (Certificate fault) = codes "certificate: " ++ cert_text_fault_text fault
+run_fault_text (Parts parts_text.Memory) = codes "out of memory"
+run_fault_text (Parts fault) = codes "parts: " ++ parts_fault_text fault
 run_fault_text (NoArrangement number) = codes "list: no arrangement " ++ decimal number
 run_fault_text (Arrangement number fault) =
     codes "list: arrangement " ++ decimal number ++ codes ": " ++ arrangement_fault_text fault

@@ -8,3 +8,4 @@ pub mod Printing
 pub mod Runs
 pub mod Solving
 pub mod Tiles
+pub mod Totals

@@ -1,6 +1,6 @@
 //! Runs that count the arrangements of a puzzle by a search.
 
-ghost use Rattle.std.specs.Prelude.{◌≡◌, ◌≤◌, IfOk, IfErr, MatchOption, codes, length, vec_len};
+ghost use Rattle.std.specs.Prelude.{◌≡◌, ◌≤◌, ◌⊎◌, IfOk, IfErr, MatchOption, codes, length, vec_len};
 ghost use Rattle.puzzle_symmetry.specs.Motion.{AreOfPuzzle};
 ghost use Rattle.match_show.specs.Facts.{number_line};
 ghost use Rattle.xcc_form.specs.Chosen.{IsSelection};
@@ -11,7 +11,9 @@ ghost use Rattle.byte_streams.specs.Origins.{one_source};
 ghost use Rattle.byte_streams.specs.Targets.{one_sink};
 ghost use Rattle.byte_streams.specs.declared.faults.Document.TheVariants as documents;
 ghost use Rattle.command_words.specs.declared.orders.Extent.TheVariants as extents;
-ghost use Rattle.match_runs.specs.Census.{CensusFails, CensusGives, IsNotCounted, PrintsCount, part_line, split_line};
+ghost use Rattle.match_runs.specs.Census.{CensusFails, CensusGives, CountsAll, CountsMore, CountsPart, CountsUpTo};
+ghost use Rattle.match_runs.specs.Census.{IsNotCounted, PrintsCount, split_of};
+ghost use Rattle.sha2.specs.Sha256.{sha256};
 ghost use Rattle.match_runs.specs.Runs.{MadeOf, Runs, unhinted};
 
 use crate::faults::RunFault;
@@ -21,12 +23,14 @@ use byte_streams::{Document, MadeText, OneSink, OneSource, Sink, Source, Text};
 use census_branches::{Branch, hash_of};
 use census_splits::split;
 use command_words::{Extent, Part};
+use count_totals::{CountedPart, Line, SplitLine, put_line};
 use match_census::{CensusWatch, Count, count_arrangements, count_with_crew, part_of};
 use match_crew::SolveFault;
 use match_limits::Workers;
 use match_puzzle::Puzzle;
 use match_symmetry::{Symmetry, SymmetryFault, suggest};
 use match_text::read_puzzle;
+use sha2::{Digest, Sha256};
 use std::alloc::{AllocError, Global};
 use std::thread::Threads;
 use text_words::put_number_line;
@@ -52,7 +56,8 @@ pub struct CensusPlan<'w, W: CensusWatch> {
 
 /// Reads a puzzle to its end, and writes how many arrangements it has, counted by a search: a line `arrangements N`. Where
 /// it is only to be told whether there are more than `M`, `arrangements more than M` where there are. Of part `K` of `N` of
-/// the search, `split SUBTREES HASH` and `part K/N arrangements M`: the parts of one split add up.
+/// the search, `puzzle DIGEST`, `split BRANCHES HASH` and `part K/N arrangements M`: the parts of one split add up. The digest
+/// is the SHA-256 of the puzzle's text.
 ///
 /// `Read` and `TooLong` are of the puzzle; `Puzzle` where its text spells none, with a hint of what has to be changed there;
 /// `Solve(TooMany)` where its options have over 200,000 items together, and `Solve(Full)` where 2^64 arrangements or more
@@ -95,24 +100,36 @@ fn counted<R: Threads + Sync, T: CensusWatch + Sync>(
     ensures { MadeOf (CensusGives plan.now.extent) (CensusFails plan.now.extent) text.now result }
 {
     let puzzle = read_puzzle(alloc, text.bytes())?;
-    let printed = count_text(rt, alloc, &puzzle, plan)?;
+    let spelled = SpelledPuzzle {
+        text,
+        puzzle: &puzzle,
+    };
+    let printed = count_text(rt, alloc, spelled, plan)?;
     Ok((MadeText::new(printed), ()))
+}
+
+// A puzzle and its text.
+#[derive(Clone, Copy)]
+struct SpelledPuzzle<'a, 'p> {
+    text: &'a Text,
+    puzzle: &'p Puzzle,
 }
 
 // What is printed of the puzzle.
 fn count_text<R: Threads + Sync, T: CensusWatch + Sync>(
     rt: &R,
     alloc: Global,
-    puzzle: &Puzzle,
+    spelled: SpelledPuzzle<'_, '_>,
     plan: &CensusPlan<'_, T>,
 ) -> Result<Vec<u8>, RunFault>
-    ensures prints { IfOk result (λ text. PrintsCount plan.now.extent puzzle.now text.items) }
-    ensures fails { IfErr result (IsNotCounted plan.now.extent puzzle.now) }
+    ensures prints { IfOk result (λ text.
+        PrintsCount plan.now.extent spelled.entry.text.now spelled.entry.puzzle.now text.items) }
+    ensures fails { IfErr result (IsNotCounted plan.now.extent spelled.entry.puzzle.now) }
 {
     match plan.extent {
-        Extent::All => all_counted(rt, alloc, puzzle, plan),
-        Extent::Most(most) => counted_to(alloc, puzzle, most, plan.watch),
-        Extent::Part(part) => part_counted(rt, alloc, puzzle, part, plan),
+        Extent::All => all_counted(rt, alloc, spelled.puzzle, plan),
+        Extent::Most(most) => counted_to(alloc, spelled.puzzle, most, plan.watch),
+        Extent::Part(part) => part_counted(rt, alloc, spelled, part, plan),
     }
 }
 
@@ -123,7 +140,7 @@ fn all_counted<R: Threads + Sync, T: CensusWatch + Sync>(
     puzzle: &Puzzle,
     plan: &CensusPlan<'_, T>,
 ) -> Result<Vec<u8>, RunFault>
-    ensures prints { IfOk result (λ text. PrintsCount extents.All puzzle.now text.items) }
+    ensures prints { IfOk result (λ text. CountsAll puzzle.now text.items) }
     ensures fails { IfErr result (IsNotCounted extents.All puzzle.now) }
 {
     let xcc = compile(alloc, puzzle)?;
@@ -147,7 +164,7 @@ fn counted_to<T: CensusWatch>(
     most: u64,
     watch: &T,
 ) -> Result<Vec<u8>, RunFault>
-    ensures prints { IfOk result (λ text. PrintsCount (extents.Most most) puzzle.now text.items) }
+    ensures prints { IfOk result (λ text. CountsUpTo most puzzle.now text.items ⊎ CountsMore most puzzle.now text.items) }
     ensures fails { IfErr result (IsNotCounted (extents.Most most) puzzle.now) }
 {
     let xcc = compile(alloc, puzzle)?;
@@ -173,20 +190,20 @@ fn bounded_line(alloc: Global, counted: Option<u64>, most: u64) -> Result<Vec<u8
     }
 }
 
-// How many arrangements a part of the search has.
+// How many arrangements a part of the search has, and of which puzzle and which split.
 fn part_counted<R: Threads + Sync, T: CensusWatch + Sync>(
     rt: &R,
     alloc: Global,
-    puzzle: &Puzzle,
+    spelled: SpelledPuzzle<'_, '_>,
     part: Part,
     plan: &CensusPlan<'_, T>,
 ) -> Result<Vec<u8>, RunFault>
-    ensures prints { IfOk result (λ text. PrintsCount (extents.Part part) puzzle.now text.items) }
-    ensures fails { IfErr result (IsNotCounted (extents.Part part) puzzle.now) }
+    ensures prints { IfOk result (λ text. CountsPart part spelled.entry.text.now spelled.entry.puzzle.now text.items) }
+    ensures fails { IfErr result (IsNotCounted (extents.Part part) spelled.entry.puzzle.now) }
 {
-    let xcc = compile(alloc, puzzle)?;
+    let xcc = compile(alloc, spelled.puzzle)?;
     let branches = branches_of(alloc, &xcc, DEALT)?;
-    let mut text = write_split(alloc, &branches)?;
+    let split = split_line(&branches);
     let dealt = part_of(alloc, branches, part.earlier(), part.count())?;
     let count = Count {
         xcc: &xcc,
@@ -197,9 +214,27 @@ fn part_counted<R: Threads + Sync, T: CensusWatch + Sync>(
     let Some(count) = counted else {
         return Err(RunFault::Solve(SolveFault::Full));
     };
-    let line = write_part(alloc, part, count)?;
-    text.extend_from_slice(&line)?;
+    let part = CountedPart {
+        number: part.earlier() + 1,
+        parts: part.count(),
+        count,
+    };
+    let mut text = Vec::new(alloc);
+    put_line(
+        alloc,
+        &mut text,
+        &Line::Puzzle(digest_of(spelled.text.bytes())),
+    )?;
+    put_line(alloc, &mut text, &Line::Split(split))?;
+    put_line(alloc, &mut text, &Line::Part(part))?;
     Ok(text)
+}
+
+// The SHA-256 of the bytes.
+fn digest_of(text: &[u8]) -> [u8; 32]
+    ensures { result ≡ sha256 text.now }
+{
+    Sha256::digest(text)
 }
 
 // The branches of a split into so many at least, merged by symmetries of the puzzle.
@@ -237,23 +272,13 @@ fn count_line(alloc: Global, word: &[u8], number: u64) -> Result<Vec<u8>, AllocE
     Ok(text)
 }
 
-// The line of a split.
-fn write_split(alloc: Global, branches: &[Branch]) -> Result<Vec<u8>, AllocError>
+// How large a split is, and its hash.
+fn split_line(branches: &[Branch]) -> SplitLine
     requires { length branches.now ≤ MOST_BRANCHES }
-    ensures { IfOk result (λ text. text.items ≡ split_line branches.now) }
+    ensures { result ≡ split_of branches.now }
 {
-    let count = branches.len();
-    let hash = hash_of(branches);
-    let line = format!(in alloc; "split {count} {hash}\n")?;
-    Ok(line.into_bytes())
-}
-
-// The line of a part.
-fn write_part(alloc: Global, part: Part, count: u64) -> Result<Vec<u8>, AllocError>
-    ensures { IfOk result (λ text. text.items ≡ part_line part count) }
-{
-    let number = part.earlier() + 1;
-    let parts = part.count();
-    let line = format!(in alloc; "part {number}/{parts} arrangements {count}\n")?;
-    Ok(line.into_bytes())
+    SplitLine {
+        branches: branches.len() as u64,
+        hash: hash_of(branches),
+    }
 }

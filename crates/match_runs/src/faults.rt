@@ -4,11 +4,12 @@ ghost use Rattle.std.specs.Prelude.{◌≡◌, Some, IfOk};
 ghost use Rattle.match_runs.specs.FaultText.{run_fault_text, fault_line};
 ghost use Rattle.match_runs.specs.declared.faults.RunFault.TheVariants as run_fault;
 ghost use Rattle.match_runs.specs.FaultText.{run_of_file, run_of_input, run_of_puzzle, run_of_list, run_of_certificate};
-ghost use Rattle.match_runs.specs.FaultText.{run_of_compile, run_of_expand, run_of_picture, run_of_solve, run_of_tiles};
+ghost use Rattle.match_runs.specs.FaultText.{run_of_compile, run_of_expand, run_of_parts, run_of_picture, run_of_solve, run_of_tiles};
 
 use byte_streams::{Document, Failed, FileFault, InputFault};
 use cert_text::CertTextFault;
 use cert_tree::AssembleFault;
+use count_totals::PartsFault;
 use match_board::TilesFault;
 use match_crew::SolveFault;
 use match_picture::NotDrawn;
@@ -30,6 +31,8 @@ pub enum RunFault {
     Puzzle(PuzzleTextFault),
     List(ListTextFault),
     Certificate(CertTextFault),
+    /// Lines of counted parts have no total.
+    Parts(PartsFault),
     /// The list has no arrangement of this number.
     NoArrangement(u32),
     /// The listed arrangement of this number is none of the puzzle's.
@@ -60,10 +63,12 @@ impl fmt::Display for RunFault {
             | RunFault::Certificate(
                 CertTextFault::Memory | CertTextFault::Assemble(AssembleFault::Memory),
             )
+            | RunFault::Parts(PartsFault::Memory)
             | RunFault::Memory => f.write_str("out of memory"),
             RunFault::Puzzle(fault) => write!(f, "puzzle: {fault}"),
             RunFault::List(fault) => write!(f, "list: {fault}"),
             RunFault::Certificate(fault) => write!(f, "certificate: {fault}"),
+            RunFault::Parts(fault) => write!(f, "parts: {fault}"),
             RunFault::NoArrangement(number) => write!(f, "list: no arrangement {number}"),
             RunFault::Arrangement(number, fault) => write!(
                 f,
@@ -140,6 +145,17 @@ impl From<CertTextFault> for RunFault {
         match fault {
             CertTextFault::Memory => RunFault::Memory,
             fault => RunFault::Certificate(fault),
+        }
+    }
+}
+
+impl From<PartsFault> for RunFault {
+    ghost from_gives = { λ fault e. e ≡ run_of_parts fault };
+
+    fn from(fault: PartsFault) -> RunFault {
+        match fault {
+            PartsFault::Memory => RunFault::Memory,
+            fault => RunFault::Parts(fault),
         }
     }
 }

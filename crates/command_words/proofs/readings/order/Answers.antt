@@ -4,7 +4,7 @@ use Rattle.std.proofs.lemmas.Result.{err_from_is_err_and}
 use Rattle.clap.specs.Words.{found_of, rows_of, subcommand_of}
 use Rattle.command_words.specs.Commands.{whole_app}
 use Rattle.command_words.specs.Orders.{IsOrder, IsOrderOf, IsMisfit, IsRefused}
-use Rattle.command_words.proofs.ProgramLemmas.{faultless_of, misfit_refused, order_of, parse_enters, parse_refuses}
+use Rattle.command_words.proofs.ProgramLemmas.{enters_nothing, faultless_of, joined_of, misfit_refused, order_of, parse_enters, parse_refuses}
 use Rattle.command_words.proofs.readings.order.Goals.{In-Some}
 use Rattle.command_words.proofs.readings.order.Goals as goal
 
@@ -21,6 +21,11 @@ entered : (c : In-Some) → subcommand_of whole_app (map string_bytes c.args.wor
 entered c =
     parse_enters c.in_ok-program.field-0 c.in_ok-matches.matches (map string_bytes c.args.words.now) c.in_ok-program.ensures c.in_ok-matches.ensures.matches
     c.in-Some.name.now (rows_of (found_of c.in-Some.matches.now)) c.in-Some.ensures.name c.in-Some.ensures.rows
+
+pub returns-in_default-clause-order : goal.returns-in_default-clause-order
+returns-in_default-clause-order c =
+    let words = map string_bytes c.args.words.now in
+    joined_of words (enters_nothing c.in_ok-program.field-0 c.in_ok-matches.matches words c.in_ok-program.ensures c.in_ok-matches.ensures.matches c.in_default.ensures.variant)
 
 pub order_of-requires : goal.order_of-requires
 order_of-requires c = record {

@@ -17,6 +17,9 @@ expand-requires c = subst (λ name. AreMatchesOf name (rows_of (found_of c.args.
 pub count-requires : goal.count-requires
 count-requires c = subst (λ name. AreMatchesOf name (rows_of (found_of c.args.matches.now))) c.in-count.is c.requires
 
+pub total-requires : goal.total-requires
+total-requires c = subst (λ name. AreMatchesOf name (rows_of (found_of c.args.matches.now))) c.in-total.is c.requires
+
 pub show-requires : goal.show-requires
 show-requires c = subst (λ name. AreMatchesOf name (rows_of (found_of c.args.matches.now))) c.in-show.is c.requires
 
@@ -80,6 +83,14 @@ pub returns-in-count-clause-refused : goal.returns-in-count-clause-refused
 returns-in-count-clause-refused c =
     subst (λ name. IfErr c.count.result (IsMisfit (Some (name, rows_of (found_of c.args.matches.now))))) (sym c.in-count.is) c.count.ensures.refused
 
+pub returns-in-total-clause-order : goal.returns-in-total-clause-order
+returns-in-total-clause-order c =
+    subst (λ name. IfOk c.total.result (IsOrderOf (Some (name, rows_of (found_of c.args.matches.now))))) (sym c.in-total.is) c.total.ensures.order
+
+pub returns-in-total-clause-refused : goal.returns-in-total-clause-refused
+returns-in-total-clause-refused c =
+    subst (λ name. IfErr c.total.result (IsMisfit (Some (name, rows_of (found_of c.args.matches.now))))) (sym c.in-total.is) c.total.ensures.refused
+
 pub returns-in-show-clause-order : goal.returns-in-show-clause-order
 returns-in-show-clause-order c =
     subst (λ name. IfOk c.show.result (IsOrderOf (Some (name, rows_of (found_of c.args.matches.now))))) (sym c.in-show.is) c.show.ensures.order
@@ -100,4 +111,4 @@ pub unreachable-requires : goal.unreachable-requires
 unreachable-requires c =
     let own = program_has c.requires.words c.requires.faultless c.args.name.now (rows_of (found_of c.args.matches.now)) c.requires.enters in
     let other : (name : Text) → c.args.name.now ≢ name → bytes_eq name c.args.name.now ≡ false = differs c.args.name.now in
-    none_is_some (rw (other (codes "check") c.in_default.not-check, other (codes "explain") c.in_default.not-explain, other (codes "solve") c.in_default.not-solve, other (codes "expand") c.in_default.not-expand, other (codes "count") c.in_default.not-count, other (codes "show") c.in_default.not-show, other (codes "draw") c.in_default.not-draw, other (codes "symmetries") c.in_default.not-symmetries, other (codes "tiles") c.in_default.not-tiles, other (codes "help") own.no_help) at own.is_named)
+    none_is_some (rw (other (codes "check") c.in_default.not-check, other (codes "explain") c.in_default.not-explain, other (codes "solve") c.in_default.not-solve, other (codes "expand") c.in_default.not-expand, other (codes "count") c.in_default.not-count, other (codes "total") c.in_default.not-total, other (codes "show") c.in_default.not-show, other (codes "draw") c.in_default.not-draw, other (codes "symmetries") c.in_default.not-symmetries, other (codes "tiles") c.in_default.not-tiles, other (codes "help") own.no_help) at own.is_named)

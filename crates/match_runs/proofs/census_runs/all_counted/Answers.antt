@@ -19,6 +19,7 @@ returns-in_default-clause-fails g c =
     let branches = c.in_ok-branches.branches.items in
     record {
       compiled = x;
+      is_compiled = c.in_ok-xcc.ensures.compiled;
       of = c.in_ok-xcc.ensures.puzzle;
       branches = c.in_ok-branches.branches.items;
       split = c.in_ok-branches.ensures.split;

@@ -1,0 +1,4 @@
+pub mod ReadingLemmas
+pub mod TallyLemmas
+pub mod TextLemmas
+pub mod CountLemmas
