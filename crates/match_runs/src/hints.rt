@@ -77,7 +77,8 @@ pub(crate) fn hint_of(
     }
 }
 
-/// The same of a puzzle that is alone, or has a list.
+/// What has to be changed in the text of the puzzle or of the list, whichever has the fault, where no certificate was read. A
+/// text that wasn't read is empty here. None where there is nothing to tell, or memory for it is refused.
 pub(crate) fn hint_on(
     alloc: Global,
     puzzle: &[u8],
