@@ -1,5 +1,6 @@
 #!/usr/bin/env python3
-"""Holds the pages to the files that they speak of: crates, counts, commands, limits, links, names and quotations.
+"""Holds the pages to the files that they speak of: crates, counts, commands, limits, links, names, quotations, and the
+libraries that are trusted.
 
 usage: page_facts.py [--write]
 
@@ -24,7 +25,7 @@ from try_further_edits import MOST_IN_THE_GATE, edits_in
 
 TOP = os.path.join(os.path.dirname(os.path.abspath(__file__)), "..")
 README, CONTRIBUTING, ARCHITECTURE = "README.md", "CONTRIBUTING.md", "docs/ARCHITECTURE.md"
-MANUAL, GATE = "docs/edgematch.1", ".ci/run"
+MANUAL, PROVED, GATE = "docs/edgematch.1", "docs/PROVED.md", ".ci/run"
 # The most characters of a line of prose, and the most words of a sentence, in the mean and of each.
 MOST_CHARACTERS, MOST_IN_THE_MEAN, MOST_WORDS = 120, 25, 45
 # A sentence of so many words is to stand in one place.
@@ -54,7 +55,7 @@ LIMITS = {
         "So at most {MOST_IN_THE_GATE} stand in",
     ],
     "docs/DECISIONS.md": ["At most {MOST_IN_THE_GATE} must-fail edits stand in the gate"],
-    "docs/PROVED.md": ["1 to {MOST_WORKERS} workers and 0 to {MOST_FORKS} forks", "over {MOST_ENTRIES} items"],
+    PROVED: ["1 to {MOST_WORKERS} workers and 0 to {MOST_FORKS} forks", "over {MOST_ENTRIES} items"],
     "docs/MACHINE.md": ["1 to {MOST_WORKERS} workers and 1 to {MOST_WORKERS} queues"],
     "docs/SOLVING.md": ["(over {MOST_ENTRIES} items)", "(over {MOST_ARRANGEMENTS} to be listed)"],
     "crates/match_limits/README.md": ["`MOST_CELLS` ({MOST_CELLS})", "`MOST_PLAIN_CELLS` ({MOST_PLAIN_CELLS})"],
@@ -75,7 +76,7 @@ FOLDERS = ["src", "specs", "proofs", "crates", "scripts", "cases", "docs"]
 # What is of the kit alone.
 OF_THE_KIT = {"atomic_blocks", "crossbeam_queue", "RandomState"}
 # The pages whose names are those of the code, beside those of the crates.
-OF_THE_CODE = [ARCHITECTURE, "docs/DECISIONS.md", "docs/FURTHER.md", "docs/PROVED.md", "docs/MACHINE.md"]
+OF_THE_CODE = [ARCHITECTURE, "docs/DECISIONS.md", "docs/FURTHER.md", PROVED, "docs/MACHINE.md"]
 
 KINDS = "must-fail", "further-edits"
 CONSTANT = re.compile(r"^(?:pub )?const (\w+): \w+ = ([\w ]+(?: [-+*<]+ [\w ]+)?);$", re.M)
@@ -107,11 +108,21 @@ def found(pattern):
 
 
 @functools.cache
-def crates():
-    """The crates in the order of crates.txt, each with those that it stands on, of the project alone."""
+def all_below():
+    """The crates in the order of crates.txt, each with all that it stands on, libraries of the kit too."""
     lines = [line.split(":") for line in text_of("crates.txt").splitlines()]
-    names = [of.split()[0] for of, _ in lines]
-    return {name: [it for it in on.split() if it in names] for name, (_, on) in zip(names, lines)}
+    return {of.split()[0]: on.split() for of, on in lines}
+
+
+@functools.cache
+def crates():
+    """The same, each with those that it stands on of the project alone."""
+    return {name: [it for it in on if it in all_below()] for name, on in all_below().items()}
+
+
+def libraries():
+    """The libraries of the kit that crates stand on."""
+    return {it for on in all_below().values() for it in on} - {*crates()}
 
 
 def below(crate):
@@ -161,6 +172,13 @@ def layer_faults():
     yield from (f"the page has {it} {told.count(it)} times" for it in crates() if told.count(it) not in (1, 2))
     drawn = {*row_of} - {*crates()} | {it for it in re.findall(r"^\| \[`(\w+)`", page, re.M)} ^ {*row_of}
     yield from (f"{it} stands in the picture or in the table alone" for it in sorted(drawn))
+
+
+def trust_faults():
+    """The libraries of the kit that the page leaves out of what is trusted."""
+    trusted = text_of(PROVED).split("\n## What is trusted\n")[1].split("\n## ")[0]
+    named = {*SPAN.findall(trusted)}
+    yield from (f"{PROVED}: what is trusted leaves out {it}" for it in sorted(libraries() - named))
 
 
 # ---- quotations and names
@@ -320,7 +338,7 @@ def count_faults():
     if table != parts:
         yield f"{CONTRIBUTING} has the parts {table}, and the gate {parts}"
     kit = re.search(r"rattle-kit-\w+ logic \w+", text_of("crates/command_words/src/commands.rt"))
-    for path in (README, "docs/PROVED.md"):
+    for path in (README, PROVED):
         if not kit or kit[0] not in plain(text_of(path)):
             yield f"{path} doesn't name the kit of --version, {kit and kit[0]}"
     puzzles = len(found("examples/gallery/*"))
@@ -388,8 +406,8 @@ def repetition_faults():
 
 
 PARTS = [
-    page_faults, layer_faults, quotation_faults, name_faults, path_faults, command_faults, limit_faults, link_faults,
-    count_faults, layout_faults, length_faults, repetition_faults,
+    page_faults, layer_faults, trust_faults, quotation_faults, name_faults, path_faults, command_faults, limit_faults,
+    link_faults, count_faults, layout_faults, length_faults, repetition_faults,
 ]
 
 

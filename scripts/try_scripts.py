@@ -36,6 +36,7 @@ AGAIN = "This sentence has more than a dozen words, and stands on two pages for 
 WRONG_PAGES = [
     ("crates/match_report/README.md", "# `match_report`", "# `match_reports`", "begins with another line"),
     ("docs/ARCHITECTURE.md", "\n  8  ", "\n  0  ", "edgematch stands no higher than match_program"),
+    ("docs/PROVED.md", "`sha2`", "`sha3`", "docs/PROVED.md: what is trusted leaves out sha2"),
     ("crates/match_text/README.md", "let list = ", "let lists = ", "list_again of test_samples/src/writings.rt"),
     ("crates/match_show/README.md", "`write_facts`", "`write_fax`", "there is no write_fax, "),
     ("docs/FURTHER.md", "`cert_tree/src/nodes.rt`", "`cert_tree/src/node.rt`", "there is no cert_tree/src/node.rt"),
