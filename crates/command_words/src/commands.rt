@@ -22,14 +22,14 @@ const VERSION: &str = "0.1.0 (proved with rattle-kit-13f logic dac8208d650f15bf)
 
 const WITHOUT_COMMAND: &str = "\
 Without a command it reads a puzzle, a list and a certificate from standard input, one after the \
-other, and checks them. So do explain, count and expand where no file is named. Of explain, count, show, \
-draw and symmetries one document may be named -, which is standard input; ./- is a file of that name.
+other, and checks them. So do explain, count and expand where no file is named. Of explain, count, total, \
+show, draw and symmetries one document may be named -, which is standard input; ./- is a file of that name.
 
 Exit status:
   0  done; of a check, the list is complete
   1  the certificate does not show that the list is complete
   2  anything else, which is said on standard error
-  3  of solve, said there too: it gave up, or the puzzle is too large
+  3  of solve and count, said there too: it gave up, or the puzzle is too large
 
 Example:
   cat puzzle list certificate | edgematch";
@@ -55,8 +55,11 @@ certificate has, a line for each worker with the lemmas that it took, also where
 first arrangement. With --progress it says meanwhile how far it is.
 
 The two are made beside their names and renamed once both are written, so that after any fault until \
-then, gave up included, what stood there stands. --keep, which asked for that once, says nothing more. \
-Links are followed, modes kept, and devices and pipes written directly.
+then, gave up included, what stood there stands. --keep asks for that, which is done in any case, and does \
+nothing more. Links are followed, modes kept, and devices and pipes written directly. So is a file that is \
+open already: one that a standard stream has open, or to which a name like /dev/stdout or /dev/fd/3 leads. Where \
+another run put its file under one of the two names, that is said at the end. Neither is named -: ./- is a file of \
+that name.
 
 With a depth of 1 or more it looks for symmetries of the puzzle first, makes lemmas of at most 64 \
 branches of so many levels, and cites these, and their images, instead of searching again: most \
@@ -128,8 +131,9 @@ count once; and symmetries S, how many symmetries the certificate names. Or it p
 it is refused.
 
 With --most M it says arrangements more than M as soon as it has found more: with --most 1, whether there \
-is just one. Where tiles turn, each turn of the whole board makes another arrangement: so it is --most 4 on a \
-square board, 2 on another rectangle, 3 on a triangle and 6 on a hexagon.
+is just one. Where tiles may be turned, and the border asks for the same all around or for nothing, each turn of \
+the whole board makes another arrangement: then it is --most 4 on a square board, 2 on another rectangle, 3 on a \
+triangle and 6 on a hexagon.
 
 With --part K/N it counts in part K of N of the search, and prints three lines: puzzle DIGEST, the SHA-256 of \
 the puzzle's file; split BRANCHES HASH, of the branches into which the search was split and a hash of them all; \
@@ -140,7 +144,7 @@ Without files it reads the three from standard input, one after the other. One t
 input.
 
 With --progress a search says meanwhile how many of the subtrees are done, how many arrangements they have, \
-and about how long the others will take.
+and about how long the others will take. Of a list that is checked, --progress and --workers change nothing.
 
 Exit status:
   0  the arrangements are counted, or there are more than M
@@ -171,8 +175,9 @@ Example:
 
 const SHOWN: &str = "\
 Draws the board with the numbers of its cells and the colours that the border asks for, and says \
-how many cells, tiles and colours there are, where each colour stands, and how large the puzzle is for \
-solve: how many options it has, each a tile at a cell as the border allows, and how many items these have.
+how many cells, tiles and colours there are, where each colour stands, whether tiles may be turned, which \
+colours are mates, and how large the puzzle is for solve: how many options it has, each a tile at a cell as \
+the border allows, and how many items these have.
 
 With a list it draws arrangement N of it in place of that. Where the list has no such arrangement, or \
 it is none of the puzzle's, that is said on standard error. One of the files may be -, standard input.
@@ -187,10 +192,12 @@ Example:
 const DRAWN: &str = "\
 Prints one SVG document. With a list it draws arrangement N of it, and with --first K a sheet of the \
 K from N on; where the list has fewer from N on, it draws these. Without a list it draws the empty board \
-with the colours that the border asks for, and each tile below.
+with the colours that the border asks for, and each tile below. Where tiles may not be turned, each has an \
+arrow that points north.
 
 Where the list has no arrangement N, or one that is to be drawn is none of the puzzle's, that is said \
-on standard error, and nothing is printed. With --first or without a list --numbers changes nothing. One of the files may be -, standard input.
+on standard error, and nothing is printed. On a sheet --numbers changes nothing, and without a list neither \
+--first nor --numbers does. One of the files may be -, standard input.
 
 Exit status:
   0  the picture is printed
@@ -339,7 +346,7 @@ const HINTS: Argument = Argument {
     id: "hints",
     kind: Kind::Flag,
     number: None,
-    help: "Tells beside a fault of a text what has to stand there, on a terminal or not",
+    help: "Says below a fault what is wrong and what may help, on a terminal or not",
 };
 
 const DEPTH: Argument = Argument {
@@ -368,7 +375,7 @@ const KEEP: Argument = Argument {
     id: "keep",
     kind: Kind::Flag,
     number: None,
-    help: "Leaves LIST and CERTIFICATE as they are until both are written",
+    help: "Leaves LIST and CERTIFICATE as they are until both are written, as is done in any case",
 };
 
 const ORBITS: Argument = Argument {
