@@ -38,6 +38,8 @@ SQUARES = b"match 1\nboard rect 2 2\nturns no\nborder free\ntiles 4\n" + b"tile 
 ALIKE = b"match 1\nboard rect 3 3\nturns no\nborder free\ntiles 9\n" + b"tile 0101\n" * 9 + b"end\n"
 # A puzzle whose search takes long.
 LONG = os.path.join(os.path.dirname(os.path.abspath(__file__)), "..", "examples", "gallery", "macmahon_squares")
+# Its certificate names symmetries.
+SYMMETRIC = os.path.join(os.path.dirname(os.path.abspath(__file__)), "..", "examples", "heads_and_tails")
 OLD = b"what stood there\n"
 # The seconds after which something has to have happened.
 LONGEST = 20
@@ -624,6 +626,8 @@ def what_is_awaited_on_a_terminal(trial):
     trial.put("certificate", SMALL_CERTIFICATE)
     joined = SMALL + SMALL_LIST + SMALL_CERTIFICATE
     of_three = b"a puzzle, its list and its certificate, joined,"
+    # A check says at its end what the listed arrangement stands for.
+    scope = b"arrangements listed 1, symmetries named 0: there is no other\n"
     for words, documents, given in (
             ("", of_three, joined), ("explain", of_three, joined), ("count", of_three, joined),
             ("expand --orbits", of_three, joined), ("explain -", b"a puzzle", SMALL), ("count -", b"a puzzle", SMALL),
@@ -632,9 +636,28 @@ def what_is_awaited_on_a_terminal(trial):
             ("count puzzle list -", b"a certificate", SMALL_CERTIFICATE),
     ):
         line = b"edgematch reads " + documents + b" from standard input, to Ctrl-D; edgematch --help tells more\n"
-        trial.wants(f"{words}: told who types", (0, line), typed_on_a_terminal(trial, words.split(), given))
-        trial.wants(f"{words}: told who looks on", (0, b""), told_on_a_terminal(trial, words.split(), given))
+        end = b"" if words else scope
+        trial.wants(f"{words}: told who types", (0, line + end), typed_on_a_terminal(trial, words.split(), given))
+        trial.wants(f"{words}: told who looks on", (0, end), told_on_a_terminal(trial, words.split(), given))
     trial.wants("told of files", (0, b""), typed_on_a_terminal(trial, ["explain", "puzzle"], b""))
+
+
+def what_is_listed_on_a_terminal(trial):
+    """Up to what a list that is complete has every arrangement is told on a terminal, and elsewhere nothing is."""
+    trial.put("list", LIST)
+    trial.put("certificate", CERTIFICATE)
+    symmetric = [os.path.join(SYMMETRIC, name) for name in ("puzzle", "list", "certificate")]
+    of_images = (b"arrangements listed 1, symmetries named 3: each other one is an image of these; "
+                 b"edgematch count tells how many there are\n")
+    for words, status, scope in (
+            (["check", "puzzle", "list", "certificate"], 0, b"arrangements listed 2, symmetries named 0: there is no other\n"),
+            (["check", *symmetric], 0, of_images),
+            (["check", *symmetric[:2], "certificate"], 1, b""),
+            (["count", *symmetric], 0, b""),
+    ):
+        trial.wants(f"{words}: told on a terminal", (status, scope), told_on_a_terminal(trial, words))
+        run = subprocess.run([trial.program, *words], capture_output=True, cwd=trial.folder, timeout=LONGEST, check=False)
+        trial.wants(f"{words}: told elsewhere", (status, b""), (run.returncode, run.stderr))
 
 
 def names_of_standard_input(trial):
@@ -747,7 +770,7 @@ TRIALS = (
     pipes, a_log, devices, a_full_disk, a_closed_pipe_for_the_report, a_stop_by_a_signal, two_at_once, two_in_rounds,
     a_name_that_leads_elsewhere, a_file_that_another_replaces, a_fault_beside_another_solve, closed_streams, a_closed_input,
     progress_in_the_middle, an_input_of_another, words_that_are_no_text, a_limit_on_memory, workers, reasons_on_a_terminal, reasons_with_hints,
-    hints_on_a_terminal, what_is_awaited_on_a_terminal, names_of_standard_input,
+    hints_on_a_terminal, what_is_awaited_on_a_terminal, what_is_listed_on_a_terminal, names_of_standard_input,
 )
 
 

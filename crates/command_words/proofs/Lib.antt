@@ -3,4 +3,5 @@ pub mod CommandLemmas
 pub mod ExtentLemmas
 pub mod FaultlessWalk
 pub mod MisfitLemmas
+pub mod PartPlaceLemmas
 pub mod ProgramLemmas

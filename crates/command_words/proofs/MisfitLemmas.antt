@@ -30,7 +30,7 @@ use Rattle.command_words.proofs.ProgramLemmas.{none_is_some, some_is}
 pub true_is_false : true ≡ false → ⊥
 true_is_false e = absurd cc
 
-differ : (name other : Text) → bytes_eq name other ≡ false → name ≡ other → ⊥
+pub differ : (name other : Text) → bytes_eq name other ≡ false → name ≡ other → ⊥
 differ name other differs_so is = true_is_false (sym ((bytes_eq-Decides name other).1 is) ∙ differs_so)
 
 -- ---- orders of a command

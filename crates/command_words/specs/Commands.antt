@@ -3,7 +3,7 @@ use Rattle.std.specs.Prelude.{◌≡◌, ℕ, List, true, false, [], ◌∷◌, 
 use Rattle.match_limits.specs.declared.TheConstants.{LAST_ARRANGEMENT, MOST_COLOURS, MOST_DEPTH, MOST_FORKS, MOST_FUEL, MOST_WORKERS}
 use Rattle.clap.specs.Words.{App, Rule, Text, new_app, new_rule, with_rule, with_subcommand}
 use Rattle.clap.specs.Simple.{on_top}
-use Rattle.clap.specs.declared.builder.action.ArgAction.TheVariants.{SetTrue}
+use Rattle.clap.specs.declared.builder.action.ArgAction.TheVariants.{Append, SetTrue}
 use Rattle.clap.specs.declared.builder.command.Command.{Command}
 use Rattle.clap.specs.declared.builder.command.Command.TheViews.{out-Command}
 use Rattle.clap.specs.declared.builder.value_parser.ValueParser.TheVariants as parsers
@@ -16,6 +16,10 @@ IsLocal command = (out-Command command).has_globals ≡ false
 -- a word that a command needs
 abbrev pub wanted : Text → Rule
 wanted id = record (new_rule id) { required = true }
+
+-- one word or more that a command needs
+abbrev pub wanted_words : Text → Rule
+wanted_words id = record (wanted id) { action = Some Append }
 
 -- a number that a command needs, from `least` to `most`
 abbrev pub wanted_number : Text → ℕ → ℕ → Rule
@@ -96,7 +100,7 @@ count_app =
     ∷ [])
 
 abbrev pub total_app : App
-total_app = with_rule (new_app (codes "total")) (wanted (codes "FILE"))
+total_app = with_rule (new_app (codes "total")) (wanted_words (codes "FILE"))
 
 abbrev pub show_app : App
 show_app =

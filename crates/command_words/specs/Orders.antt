@@ -1,5 +1,7 @@
 -- What words order.
-use Rattle.std.specs.Prelude.{◌≡◌, ◌≢◌, ◌⊎◌, ℕ, Bool, List, Option, Some, None, [], codes, option_map, true}
+use Rattle.std.specs.Prelude.{◌≡◌, ◌≢◌, ◌⊎◌, ◌∷◌, ℕ, Bool, List, Option, Some, None, [], Contains, codes, find, map, option_map, true}
+use Rattle.std.specs.Option.{option_map_or}
+use Rattle.std.specs.Str.{bytes_eq}
 use Rattle.std.specs.String.{string_bytes}
 use Rattle.std.specs.Str.Parse.{digits_value, without_leading_plus}
 use Rattle.clap.specs.Values.{bool_text}
@@ -21,6 +23,8 @@ use Rattle.command_words.specs.Places.{certificate_place, input_name, list_of_tw
 use Rattle.command_words.specs.declared.places.Given.{Given}
 use Rattle.command_words.specs.declared.places.Given.TheVariants.{Apart}
 use Rattle.command_words.specs.declared.places.Given.TheVariants as given
+use Rattle.command_words.specs.declared.places.PartPlaces.{PartPlaces}
+use Rattle.command_words.specs.declared.places.PartPlaces.TheVariants as parts
 use Rattle.command_words.specs.declared.places.Place.{Place}
 use Rattle.command_words.specs.declared.places.Place.TheVariants.{File, Input}
 use Rattle.command_words.specs.declared.places.ThreePlaces.{ThreePlaces}
@@ -73,6 +77,16 @@ abbrev pub IsPlace : Text → List Row → Place → Type 0
 IsPlace id rows Input = first_of id rows ≡ Some input_name
 IsPlace id rows (File name) =
     (first_of id rows ≡ Some (string_bytes name)) × (string_bytes name ≢ input_name)
+
+-- all values that the matches of a command have under an id, in order
+abbrev pub values_of : Text → List Row → List Text
+values_of id rows = option_map_or (λ row. row.values) (find (λ row. bytes_eq row.id id) rows) []
+
+-- Where the lines of counted parts stand by these names: on standard input where `-` alone is named, or in the files of
+-- these names, of which none is `-`.
+abbrev pub AreNamedParts : (names : List Text) → PartPlaces → Type 0
+AreNamedParts names parts.Input = names ≡ input_name ∷ []
+AreNamedParts names (parts.Files files) = (map string_bytes files.items ≡ names) × (Contains names input_name → ⊥)
 
 -- where a puzzle, a list and a certificate stand
 pub record ArePlaces (rows : List Row) (places : ThreePlaces) : Type 0 where
@@ -144,7 +158,7 @@ IsOrderOf (Some (name, rows)) (Count given) = (name ≡ codes "count") × IsGive
 IsOrderOf (Some (name, rows)) (Census puzzle extent workers progress) =
     (name ≡ codes "count") × NamesPuzzle rows puzzle × IsExtent rows extent
     × (number_of (codes "workers") rows ≡ Some workers) × IsFlagged (codes "progress") rows progress
-IsOrderOf (Some (name, rows)) (Total parts) = (name ≡ codes "total") × IsPlace (codes "FILE") rows parts
+IsOrderOf (Some (name, rows)) (Total parts) = (name ≡ codes "total") × AreNamedParts (values_of (codes "FILE") rows) parts
 IsOrderOf (Some (name, rows)) (Show subject) = (name ≡ codes "show") × IsSubject rows subject
 IsOrderOf (Some (name, rows)) (Draw subject first numbers) =
     (name ≡ codes "draw") × IsSubject rows subject × (number_of (codes "first") rows ≡ Some first)

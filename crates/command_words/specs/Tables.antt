@@ -1,8 +1,8 @@
 -- The program's commands, as tables have them.
-use Rattle.std.specs.Prelude.{◌≡◌, ◌∷◌, [], Option, Some, None, false, map}
+use Rattle.std.specs.Prelude.{◌≡◌, ◌∷◌, [], Option, Some, None, false, map, true}
 use Rattle.std.specs.Borrow.{Bor}
 use Rattle.clap.specs.Words.{App, Rule, Text, app_of, new_app, new_rule, rule_of}
-use Rattle.clap.specs.declared.builder.action.ArgAction.TheVariants.{SetTrue}
+use Rattle.clap.specs.declared.builder.action.ArgAction.TheVariants.{Append, SetTrue}
 use Rattle.clap.specs.declared.builder.arg.Arg.{Arg}
 use Rattle.clap.specs.declared.builder.command.Command.{Command}
 use Rattle.clap.specs.declared.builder.value_parser.ValueParser.TheVariants as parsers
@@ -16,6 +16,7 @@ use Rattle.command_words.specs.declared.commands.Number.{Number}
 -- an argument of this name, given as its kind says
 abbrev pub of_kind : Kind → Text → Rule → Rule
 of_kind (kinds.Word is_wanted) id rule = record rule { required = is_wanted }
+of_kind kinds.Words id rule = record rule { required = true; action = Some Append }
 of_kind (kinds.Option value) id rule = record rule { long = Some id; value_names = 1 }
 of_kind kinds.Flag id rule = record rule { long = Some id; action = Some SetTrue }
 

@@ -35,7 +35,8 @@ Example:
   cat puzzle list certificate | edgematch";
 
 const CHECKED: &str = "\
-Prints the answer in one line: complete, or refused and why.
+Prints the answer in one line: complete, or refused and why. Where the list is complete, a second line on a \
+terminal says how many arrangements are listed, and whether there are others, which are images of these.
 
 The answer is the same for any number of workers and forks. With --progress it says meanwhile how far \
 it is, which changes no answer either.
@@ -164,14 +165,15 @@ The lines have to be of one puzzle and of one split, and of each part at least o
 more than once has to have one number, and counts once. Else the first line that is wrong is told on standard \
 error, or the first part that is missing.
 
-FILE may be -, standard input: so the output of many calls is added up as it is.
+The files are read one after the other, as if they were joined. Where a line of several files is wrong, it \
+is said below the fault in which file it is. - alone is standard input.
 
 Exit status:
   0  the sum is printed
   2  anything else, which is said on standard error
 
 Example:
-  cat part.* | edgematch total -";
+  edgematch total part.*";
 
 const SHOWN: &str = "\
 Draws the board with the numbers of its cells and the colours that the border asks for, and says \
@@ -229,6 +231,8 @@ Example:
 enum Kind {
     // By a word at its place, which has to be there or may be left out.
     Word { is_wanted: bool },
+    // By one word or more at its place, each of which is a value.
+    Words,
     // By an option of its name, behind which its value stands. Help calls the value so.
     Option { value: &'static str },
     // By a flag of its name.
@@ -405,9 +409,9 @@ const PART: Argument = Argument {
 
 const PARTS: Argument = Argument {
     id: "FILE",
-    kind: Kind::Word { is_wanted: true },
+    kind: Kind::Words,
     number: None,
-    help: "File of the lines that count --part printed; - is standard input",
+    help: "Files of the lines that count --part printed, or - alone, which is standard input",
 };
 
 const SHOWN_LIST: Argument = Argument {
@@ -584,6 +588,7 @@ fn with_kind<'a>(arg: Arg<'a>, id: &'a str, kind: Kind) -> Arg<'a>
 {
     match kind {
         Kind::Word { is_wanted } => arg.required(is_wanted),
+        Kind::Words => arg.required(true).action(ArgAction::Append),
         Kind::Option { value } => arg.long(id).value_name(value),
         Kind::Flag => arg.long(id).action(ArgAction::SetTrue),
     }
@@ -669,7 +674,7 @@ pub(crate) fn count<'a>(alloc: Global) -> Result<Command<'a>, AllocError>
     command_of(alloc, &COUNT)
 }
 
-fn total<'a>(alloc: Global) -> Result<Command<'a>, AllocError>
+pub(crate) fn total<'a>(alloc: Global) -> Result<Command<'a>, AllocError>
     ensures { IfOk result (IsCommandAs total_app) }
 {
     command_of(alloc, &TOTAL)

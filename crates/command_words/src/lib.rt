@@ -9,5 +9,5 @@ mod readings;
 
 pub use faults::WordsFault;
 pub use orders::{Extent, Order, Part, Subject};
-pub use places::{Files, Given, Place, ThreePlaces, TwoPlaces};
+pub use places::{Files, Given, PartPlaces, Place, ThreePlaces, TwoPlaces};
 pub use readings::order;

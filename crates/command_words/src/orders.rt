@@ -1,6 +1,6 @@
 //! What the program is to do.
 
-use crate::places::{Files, Given, Place, TwoPlaces};
+use crate::places::{Files, Given, PartPlaces, Place, TwoPlaces};
 use match_limits::{
     ArrangementNumber, Colours, Depth, Drawn, Forks, Fuel, OtherParts, Sides, Workers,
 };
@@ -104,7 +104,7 @@ pub enum Order {
         progress: bool,
     },
     /// To add up the counts of all parts of a search, by the lines that stand there.
-    Total(Place),
+    Total(PartPlaces),
     /// To draw the empty board of a puzzle, or an arrangement that is listed.
     Show(Subject),
     /// To draw the empty board of a puzzle and its tiles as a picture, or an arrangement that is listed; or a sheet of so

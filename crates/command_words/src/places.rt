@@ -22,6 +22,15 @@ pub enum Place {
     File(String),
 }
 
+/// Where lines of counted parts stand.
+#[derive(Drop)]
+pub enum PartPlaces {
+    /// On standard input.
+    Input,
+    /// In the files of these names, at least one.
+    Files(Vec<String>),
+}
+
 /// Where a puzzle and a list stand: on standard input one of them at most.
 #[derive(Drop)]
 pub enum TwoPlaces {

@@ -1,11 +1,12 @@
 //! Words are read.
 
-ghost use Rattle.std.specs.Prelude.{◌≡◌, ◌↔◌, Some, codes, map, IfOk, IfErr, IsTrue, MatchOption};
+ghost use Rattle.std.specs.Prelude.{◌≡◌, ◌↔◌, Contains, Some, codes, map, IfOk, IfErr, IsTrue, MatchOption};
 ghost use Rattle.std.specs.String.{string_bytes};
 ghost use Rattle.std.specs.Str.Parse.{digits_value, without_leading_plus};
 ghost use Rattle.clap.specs.Words.{IsUnsignedIn, first_of, found_of, kind_of, rows_of};
 ghost use Rattle.clap.specs.declared.error.kind.ErrorKind.TheVariants.{ArgumentConflict};
-ghost use Rattle.command_words.specs.Orders.{AreMatchesOf, AreWritable, HasFiles, HasFlag, HasNumber, HasText, IsExtent, IsFlagged};
+ghost use Rattle.command_words.specs.Places.{input_name};
+ghost use Rattle.command_words.specs.Orders.{AreMatchesOf, AreNamedParts, AreWritable, HasFiles, HasFlag, HasNumber, HasText, IsExtent, IsFlagged};
 ghost use Rattle.command_words.specs.Orders.{IsGiven, IsGivenInFiles, IsMisfit, IsOrder, IsOrderOf, IsPlace, IsRefused};
 ghost use Rattle.command_words.specs.Orders.{IsSubject, MayHaveNumber, NameFiles, TellsOfMisfit, number_of};
 ghost use Rattle.command_words.specs.Asked.{AreAskedFor, IsAsked, MayStandAt};
@@ -14,14 +15,16 @@ ghost use Rattle.command_words.specs.declared.orders.Extent.{Extent};
 ghost use Rattle.command_words.specs.declared.orders.Part.{Part};
 ghost use Rattle.command_words.specs.declared.orders.Subject.{Subject};
 ghost use Rattle.command_words.specs.declared.places.Given.{Given};
+ghost use Rattle.command_words.specs.declared.places.PartPlaces.{PartPlaces};
 
 use crate::commands::{
     count as count_command, draw as draw_command, expand as expand_command,
     explain as explain_command, program, show as show_command, solve as solve_command,
+    total as total_command,
 };
 use crate::faults::WordsFault;
 use crate::orders::{Extent, Order, Part, Subject};
-use crate::places::{Files, Given, Place, ThreePlaces, TwoPlaces};
+use crate::places::{Files, Given, PartPlaces, Place, ThreePlaces, TwoPlaces};
 use clap::error::ErrorKind;
 use clap::{ArgMatches, Command};
 use match_limits::Within;
@@ -30,6 +33,9 @@ use std::alloc::{AllocError, Global};
 // Why words that name standard input twice order nothing.
 const READ_TWICE: &str =
     "- is standard input, and is read once: name other documents by their files";
+
+// Why words that name standard input beside files of counted parts order nothing.
+const READ_ALONE: &str = "- is standard input, and stands alone: name files, or - and nothing else";
 
 // Why words that name a part of three documents order nothing.
 const NO_CERTIFICATE: &str =
@@ -121,15 +127,7 @@ fn puzzle_place(alloc: Global, matches: &ArgMatches<'_>) -> Result<Place, AllocE
     requires { HasText (codes "PUZZLE") (rows_of (found_of matches.now)) }
     ensures { IfOk result (IsPlace (codes "PUZZLE") (rows_of (found_of matches.now))) }
 {
-    place_named(alloc, matches, "PUZZLE")
-}
-
-// Where the document stands that is named under this id.
-fn place_named(alloc: Global, matches: &ArgMatches<'_>, id: &str) -> Result<Place, AllocError>
-    requires { HasText id.now (rows_of (found_of matches.now)) }
-    ensures { IfOk result (IsPlace id.now (rows_of (found_of matches.now))) }
-{
-    let Some(place) = place_if_named(alloc, matches, id)? else {
+    let Some(place) = place_if_named(alloc, matches, "PUZZLE")? else {
         unreachable!();
     };
     Ok(place)
@@ -423,12 +421,52 @@ fn count_given(
     Ok(Order::Count(given))
 }
 
+// Whether standard input is named.
+fn name_input(names: &[&str]) -> bool
+    ensures { IsTrue result ↔ Contains (map (λ name. name.now) names.now) input_name }
+{
+    names.contains(&"-")
+}
+
+// Texts of their own.
+fn owned(alloc: Global, texts: &[&str]) -> Result<Vec<String>, AllocError>
+    ensures { IfOk result (λ owned. map string_bytes owned.items ≡ map (λ text. text.now) texts.now) }
+{
+    let mut owned = Vec::new(alloc);
+    for text in texts {
+        owned.push(String::from_str(alloc, text)?)?;
+    }
+    Ok(owned)
+}
+
+// Where the lines of counted parts stand that are named; nowhere where standard input is named beside others.
+fn part_places(alloc: Global, names: &[&str]) -> Result<Option<PartPlaces>, AllocError>
+    ensures { IfOk result (λ places. MatchOption places
+        ((any : PartPlaces) → AreNamedParts (map (λ name. name.now) names.now) any → ⊥)
+        (AreNamedParts (map (λ name. name.now) names.now))) }
+{
+    if !name_input(names) {
+        return Ok(Some(PartPlaces::Files(owned(alloc, names)?)));
+    }
+    if names.len() == 1 {
+        Ok(Some(PartPlaces::Input))
+    } else {
+        Ok(None)
+    }
+}
+
 fn total(alloc: Global, matches: &ArgMatches<'_>) -> Result<Order, WordsFault>
     requires { AreMatchesOf (codes "total") (rows_of (found_of matches.now)) }
     ensures order { IfOk result (IsOrderOf (Some (codes "total", rows_of (found_of matches.now)))) }
     ensures refused { IfErr result (IsMisfit (Some (codes "total", rows_of (found_of matches.now)))) }
 {
-    Ok(Order::Total(place_named(alloc, matches, "FILE")?))
+    let Some(names) = matches.get_strs("FILE") else {
+        unreachable!();
+    };
+    let Some(places) = part_places(alloc, names)? else {
+        return Err(misfit(total_command(alloc), "edgematch total", READ_ALONE));
+    };
+    Ok(Order::Total(places))
 }
 
 fn show(alloc: Global, matches: &ArgMatches<'_>) -> Result<Order, WordsFault>

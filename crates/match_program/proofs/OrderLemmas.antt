@@ -6,7 +6,6 @@ use Rattle.byte_streams.specs.Moves.{Writing}
 use Rattle.byte_streams.specs.Origins.{Origin, one_source}
 use Rattle.byte_streams.specs.Targets.{Target, one_sink}
 use Rattle.byte_streams.specs.declared.documents.TwoTexts.{TwoTexts}
-use Rattle.byte_streams.specs.declared.faults.Document.{Document}
 use Rattle.byte_streams.specs.declared.faults.Document.TheVariants as documents
 use Rattle.byte_streams.specs.declared.faults.InputFault.{InputFault}
 use Rattle.byte_streams.specs.declared.files.FileSystem.{Ghosts as FileMembers}
@@ -19,7 +18,7 @@ use Rattle.match_runs.specs.Checking.{Answers, CheckGives, SpellCompleteList}
 use Rattle.match_report.specs.Statuses.{status_of}
 use Rattle.match_program.specs.Exits.{status_exit}
 use Rattle.match_program.specs.FileOrigins.{AllOpened, Opened, read_from_all, three_files}
-use Rattle.match_program.specs.PlaceOrigins.{AllOpenedAt, BothOpened, OpenedAt, document_place, one_place, read_all_at, read_at, read_both, three_places, two_places}
+use Rattle.match_program.specs.PlaceOrigins.{AllOpenedAt, BothOpened, OpenedAt, one_place, read_all_at, read_at, read_both, three_places, two_places}
 use Rattle.command_words.specs.declared.places.Place.{Place}
 use Rattle.command_words.specs.declared.places.ThreePlaces.{ThreePlaces}
 use Rattle.command_words.specs.declared.places.TwoPlaces.{TwoPlaces}
@@ -81,17 +80,11 @@ module _ (output : Writing) where
 
   module _ {S R W I : Type 0} (system : FileMembers S R W) (source : SourceMembers R) (input : SourceMembers I) (at : S) (given : I) where
     -- of a puzzle that stands there
-    pub over_document : (document : Document) (gives : List ℕ → List ℕ → Unit {0} → Type 0) (fails : List ℕ → RunFault → Type 0) (place : Place) (reader : OpenedAt system source input at given place) (result : Result (Unit {0}) RunFault)
-        → Runs (one_source document (read_at system source input at given place reader)) gives fails (one_sink output) result
-        → Runs (document_place system source input at given document place) (ThenDone gives) fails (one_sink output) (ended (λ e. Done) result)
-    over_document document gives fails place reader result run =
-        then_done (one_source document (read_at system source input at given place reader)) (document_place system source input at given document place) gives fails (λ t gave. (reader, gave)) (λ f stops. inr (reader, stops)) result run
-
-    -- a puzzle
     pub over_place : (gives : List ℕ → List ℕ → Unit {0} → Type 0) (fails : List ℕ → RunFault → Type 0) (place : Place) (reader : OpenedAt system source input at given place) (result : Result (Unit {0}) RunFault)
         → Runs (one_source documents.Puzzle (read_at system source input at given place reader)) gives fails (one_sink output) result
         → Runs (one_place system source input at given place) (ThenDone gives) fails (one_sink output) (ended (λ e. Done) result)
-    over_place = over_document documents.Puzzle
+    over_place gives fails place reader result run =
+        then_done (one_source documents.Puzzle (read_at system source input at given place reader)) (one_place system source input at given place) gives fails (λ t gave. (reader, gave)) (λ f stops. inr (reader, stops)) result run
 
     -- of a puzzle and a list
     pub over_two : (gives : TwoTexts → List ℕ → Unit {0} → Type 0) (fails : TwoTexts → RunFault → Type 0) (two : TwoPlaces) (both : BothOpened system source input at given two) (result : Result (Unit {0}) RunFault)

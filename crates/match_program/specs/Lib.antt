@@ -3,6 +3,7 @@ pub mod Exits
 pub mod FileOrigins
 pub mod Files
 pub mod OrderRuns
+pub mod PartFiles
 pub mod PlaceOrigins
 pub mod SameStreams
 pub mod SolvedFiles

@@ -10,7 +10,6 @@ use Rattle.byte_streams.specs.Documents.{Texts}
 use Rattle.byte_streams.specs.Moves.{Writing, reading_of}
 use Rattle.byte_streams.specs.Origins.{Origin, joined_source, no_source}
 use Rattle.byte_streams.specs.Targets.{Target, one_sink}
-use Rattle.byte_streams.specs.declared.faults.Document.TheVariants as documents
 use Rattle.byte_streams.specs.declared.files.FileSystem.{Ghosts as FileMembers}
 use Rattle.byte_streams.specs.declared.outputs.Products.{Products}
 use Rattle.byte_streams.specs.declared.sinks.Sink.{Ghosts as SinkMembers}
@@ -24,7 +23,8 @@ use Rattle.match_runs.specs.Listed.{DrawFails, DrawsListed}
 use Rattle.match_runs.specs.Pictures.{DrawsPicture, PictureFails}
 use Rattle.match_runs.specs.Printing.{PrintingFails, PrintingGives}
 use Rattle.match_runs.specs.Runs.{Runs}
-use Rattle.match_program.specs.PlaceOrigins.{document_place, given_documents, one_place, two_places}
+use Rattle.match_program.specs.PartFiles.{LeavesInput, given_parts}
+use Rattle.match_program.specs.PlaceOrigins.{given_documents, one_place, two_places}
 use Rattle.match_program.specs.SameStreams.{output_of}
 use Rattle.match_program.specs.SolvedFiles.{PutsAll, solved_files}
 use Rattle.match_program.specs.declared.streams.Streams.{Streams}
@@ -140,8 +140,9 @@ module _ {S R W I : Type 0} (system : FileMembers S R W) (source : SourceMembers
           × PrintingOf printings.Count (given_documents system source input old given later documents) output result
       RunOf (Census puzzle extent workers progress) result =
           (new ≡ old) × CensusOf extent (one_place system source input old given puzzle) output result
-      RunOf (Total parts) result =
-          (new ≡ old) × TotalOf (document_place system source input old given documents.Parts parts) output result
+      RunOf (Total places) result =
+          (new ≡ old) × LeavesInput places given later
+          × TotalOf (given_parts system source input old given later places) output result
       RunOf (Solve files depth fuel workers keep progress hints) result =
           (later ≡ given)
           × SolveOf workers (one_file system source old (string_bytes files.puzzle))

@@ -87,18 +87,14 @@ module _ {S R W I : Type 0} (system : FileMembers S R W) (file : SourceMembers R
     FailsToOpenAt all (inputs.Read of) = CantOpenAt all of
     FailsToOpenAt all fault = ⊥
 
-    -- A document that stands there.
-    abbrev pub document_place : Document → Place → Origin (List ℕ)
-    document_place document place = record {
-      Gave = λ text. (reader : OpenedAt place) × (one_source document (read_at place reader)).Gave text;
-      Stopped = λ fault.
-          FailsToOpenAt (placed document place ∷ []) fault
-          ⊎ ((reader : OpenedAt place) × (one_source document (read_at place reader)).Stopped fault);
-    }
-
     -- A puzzle that stands there.
     abbrev pub one_place : Place → Origin (List ℕ)
-    one_place = document_place documents.Puzzle
+    one_place place = record {
+      Gave = λ text. (reader : OpenedAt place) × (one_source documents.Puzzle (read_at place reader)).Gave text;
+      Stopped = λ fault.
+          FailsToOpenAt (placed documents.Puzzle place ∷ []) fault
+          ⊎ ((reader : OpenedAt place) × (one_source documents.Puzzle (read_at place reader)).Stopped fault);
+    }
 
     -- The readers are of a puzzle and a list that stand there, with nothing read of them.
     pub record AreBothOf (two : TwoPlaces) (readers : TwoReaders (DocumentReader R I)) : Type 0 where

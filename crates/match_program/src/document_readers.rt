@@ -104,23 +104,6 @@ pub(crate) fn open_place<'i, S: FileSystem, I: Source>(
     }
 }
 
-// Opens the file of lines of counted parts, where they don't stand on standard input.
-pub(crate) fn open_parts<'i, S: FileSystem, I: Source>(
-    alloc: Global,
-    place: &Place,
-    system: &S,
-    input: &'i mut I,
-) -> Result<DocumentReader<'i, S::Reader, I>, HintedFault>
-    ensures opened { IfOk result (Opens S.FileSystem S.Reader.Source I.Source system.now input.old place.now) }
-    ensures fault { IfErr result (λ hinted. IsUnopened S.FileSystem S.Reader.Source I.Source system.now input.old
-        (placed documents.Parts place.now ∷ []) hinted.fault) }
-{
-    match place {
-        Place::File(name) => Ok(file_reader(alloc, system, name, Document::Parts)?),
-        Place::Input => Ok(DocumentReader::Input(input)),
-    }
-}
-
 // Opens the files of a puzzle and a list, where they don't stand on standard input, before any is read.
 pub(crate) fn open_two<'i, S: FileSystem, I: Source>(
     alloc: Global,

@@ -7,6 +7,7 @@ mod exits;
 mod files;
 mod made_files;
 mod order_runs;
+mod part_files;
 mod progress;
 mod streams;
 mod system_limits;

@@ -1,35 +1,39 @@
 //! Runs of orders: over which files each runs, and the exit status.
 
-ghost use Rattle.std.specs.Prelude.{◌≡◌, IfOk, IfErr, false, true};
+ghost use Rattle.std.specs.Prelude.{◌≡◌, IfOk, IfErr, false, map, true};
 ghost use Rattle.std.specs.String.{string_bytes};
 ghost use Rattle.byte_streams.specs.Moves.{reading_of, writing_of};
-ghost use Rattle.byte_streams.specs.Origins.{joined_source, three_sources};
+ghost use Rattle.byte_streams.specs.Origins.{joined_source, one_source, three_sources};
 ghost use Rattle.byte_streams.specs.declared.faults.Document.TheVariants as documents;
 ghost use Rattle.command_words.specs.declared.orders.Subject.TheVariants.{Listed};
 ghost use Rattle.match_program.specs.FileOrigins.{AreOfFiles, IsUnopenedFile, all_three, one_file, three_files};
 ghost use Rattle.match_program.specs.OrderRuns.{CensusOf, CheckOf, DescriptionOf, PictureOf, PrintingOf, RunOver, ShowOf};
 ghost use Rattle.match_program.specs.OrderRuns.{TotalOf};
 ghost use Rattle.match_program.specs.OrderRuns.{SolveOf, TilesOf, list_printed};
-ghost use Rattle.match_program.specs.PlaceOrigins.{document_place, given_documents, one_place, three_places};
+ghost use Rattle.match_program.specs.PartFiles.{LeavesInput, given_parts, part_files};
+ghost use Rattle.match_program.specs.PlaceOrigins.{given_documents, one_place, three_places};
 ghost use Rattle.match_runs.specs.Runs.{unhinted};
 ghost use Rattle.match_program.specs.SameStreams.{AreSameStreams};
 ghost use Rattle.match_program.specs.SolvedFiles.{PutsAll, solved_files};
 
 use crate::document_readers::{
-    ThreeReaders, TwoReaders, open_parts, open_place, open_three, open_two,
+    ThreeReaders, TwoReaders, open_place, open_three, open_two,
 };
 use crate::exits::Exit;
 use crate::files::{are_apart, hint_on, open};
 use crate::made_files::{make_files, not_put, replaced};
+use crate::part_files::PartFiles;
 use crate::progress::{CensusProgress, CheckProgress, SolveProgress};
 use crate::streams::Streams;
 use byte_streams::{
     Document, FileSystem, JoinedSource, MadeFiles, OneSink, OneSource, ProductNames, Sink, Source,
     ThreeSinks, ThreeSources, Unsettled, settle,
 };
-use cert_check::Open;
-use command_words::{Extent, Files, Given, Order, Place, Subject, ThreePlaces, TwoPlaces};
+use command_words::{
+    Extent, Files, Given, Order, PartPlaces, Place, Subject, ThreePlaces, TwoPlaces,
+};
 use match_limits::{ArrangementNumber, Colours, Drawn, Forks, Sides, Workers};
+use match_report::Status;
 use match_runs::{
     CensusPlan, CheckPlan, Description, HintedFault, PicturePlan, Printing, PrintingPlan, RunFault,
     SearchPlan, Watched, run_census, run_check_watched, run_description, run_listed, run_picture,
@@ -71,8 +75,8 @@ pub fn run_order<
 {
     match order {
         Order::Joined => {
-            let hints = streams.terminal;
-            check_joined(rt, alloc, hints, streams.input, streams.output)
+            let is_watched = streams.terminal;
+            check_joined(rt, alloc, is_watched, streams.input, streams.output)
         }
         Order::Check {
             files,
@@ -90,6 +94,7 @@ pub fn run_order<
                 plan,
                 progress: *progress,
                 hints: are_told(*hints, streams.terminal),
+                is_watched: streams.terminal,
             };
             check(rt, alloc, &order, system, streams.output)
         }
@@ -208,10 +213,11 @@ fn are_told(hints: bool, terminal: bool) -> bool {
     hints || terminal
 }
 
-fn check_joined<I: Source, W: Sink, R: Threads + Sync>(
+// Where somebody watches on a terminal, what has to be changed is told there, and what the listed arrangements stand for.
+fn check_joined<I: Source, W: Sink, R: Threads + Sync + Clock + Eprint>(
     rt: &R,
     alloc: Global,
-    hints: bool,
+    is_watched: bool,
     input: &mut I,
     output: &mut W,
 ) -> Result<Exit, HintedFault>
@@ -222,10 +228,11 @@ fn check_joined<I: Source, W: Sink, R: Threads + Sync>(
         workers: Workers::new(1),
         forks: Forks::new(0),
     };
+    let progress = CheckProgress::new(rt, false);
     let check = Watched {
         plan,
-        watch: &Open,
-        hints,
+        watch: &progress,
+        hints: is_watched,
     };
     let status = run_check_watched(
         rt,
@@ -234,7 +241,19 @@ fn check_joined<I: Source, W: Sink, R: Threads + Sync>(
         &mut JoinedSource { input },
         &mut OneSink { sink: output },
     )?;
+    tell_scope(&progress, is_watched, status);
     Ok(Exit::of_status(status))
+}
+
+// Tells who watches on a terminal what the listed arrangements stand for, where their list is complete.
+fn tell_scope<R: Clock + Eprint>(
+    progress: &CheckProgress<'_, R>,
+    is_watched: bool,
+    status: Status,
+) {
+    if let (true, Status::Complete) = (is_watched, status) {
+        progress.tell_scope();
+    }
 }
 
 // Opens all three files before any is read.
@@ -261,6 +280,8 @@ struct CheckOrder<'a> {
     plan: CheckPlan,
     progress: bool,
     hints: bool,
+    // on a terminal
+    is_watched: bool,
 }
 
 fn check<S: FileSystem, W: Sink, R: Threads + Sync + Clock + Eprint>(
@@ -287,6 +308,7 @@ fn check<S: FileSystem, W: Sink, R: Threads + Sync + Clock + Eprint>(
         &mut opened.sources(),
         &mut OneSink { sink: output },
     )?;
+    tell_scope(&progress, order.is_watched, status);
     Ok(Exit::of_status(status))
 }
 
@@ -545,16 +567,53 @@ impl<'a, R: Threads + Sync + Clock + Eprint> CensusOrder<'a, R> {
 // The sum of what all parts of a search have, by the lines that stand there.
 fn add_up<S: FileSystem, I: Source, W: Sink>(
     alloc: Global,
-    parts: &Place,
+    places: &PartPlaces,
     system: &S,
     input: &mut I,
     output: &mut W,
 ) -> Result<Exit, HintedFault>
-    ensures { TotalOf (document_place S.FileSystem S.Reader.Source I.Source system.now input.old documents.Parts parts.now)
+    ensures total { TotalOf (given_parts S.FileSystem S.Reader.Source I.Source system.now input.old input.new places.now)
+        (writing_of W.Sink output.old output.new) (unhinted result) }
+    ensures unread { LeavesInput places.now input.old input.new }
+{
+    match places {
+        PartPlaces::Input => add_up_input(alloc, input, output),
+        PartPlaces::Files(names) => add_up_files(alloc, names, system, output),
+    }
+}
+
+// The sum by the lines on standard input.
+fn add_up_input<I: Source, W: Sink>(
+    alloc: Global,
+    input: &mut I,
+    output: &mut W,
+) -> Result<Exit, HintedFault>
+    ensures { TotalOf (one_source documents.Parts (reading_of I.Source input.old input.new))
         (writing_of W.Sink output.old output.new) (unhinted result) }
 {
-    let mut parts = open_parts(alloc, parts, system, input)?;
+    let mut parts = OneSource {
+        source: input,
+        document: Document::Parts,
+    };
     run_total(alloc, &mut parts, output)?;
+    Ok(Exit::Done)
+}
+
+// The sum by the lines in these files.
+fn add_up_files<S: FileSystem, W: Sink>(
+    alloc: Global,
+    names: &[String],
+    system: &S,
+    output: &mut W,
+) -> Result<Exit, HintedFault>
+    ensures { TotalOf (part_files S.FileSystem S.Reader.Source system.now (map string_bytes names.now))
+        (writing_of W.Sink output.old output.new) (unhinted result) }
+{
+    let mut files = PartFiles::new(alloc, system, names);
+    if let Err(fault) = run_total(alloc, &mut files, output) {
+        let hint = files.hint(alloc, &fault);
+        return Err(HintedFault { fault, hint });
+    }
     Ok(Exit::Done)
 }
 

@@ -7,7 +7,7 @@ use cert_check::Gate;
 use match_census::CensusWatch;
 use match_crew::{SolveFault, Watch};
 use match_limits::MOST_BYTES;
-use match_runs::{CheckWatch, HintedFault, RunFault, SolveWatch};
+use match_runs::{CheckSize, CheckWatch, HintedFault, RunFault, SolveWatch};
 use std::alloc::Global;
 use std::sync::atomic::{AtomicBool, AtomicU64, Ordering};
 use std::time::{Clock, Instant};
@@ -52,22 +52,41 @@ impl<'a, R: Clock + Eprint> Turns<'a, R> {
     }
 }
 
-/// Tells how far a check is: of how many lemmas it was begun to walk the tree.
+/// Tells how far a check is: of how many lemmas it was begun to walk the tree; and at its end what the listed arrangements
+/// stand for.
 #[derive(Drop)]
 pub struct CheckProgress<'a, R: Clock + Eprint> {
     turns: Turns<'a, R>,
+    listed: AtomicU64,
+    symmetries: AtomicU64,
     lemmas: AtomicU64,
     begun: AtomicU64,
 }
 
 impl<'a, R: Clock + Eprint> CheckProgress<'a, R> {
-    /// Tells where it is asked for, and else nothing.
+    /// Tells how far it is where that is asked for.
     pub fn new(rt: &'a R, asked: bool) -> CheckProgress<'a, R> {
         CheckProgress {
             turns: Turns::new(rt, asked),
+            listed: AtomicU64::new(0),
+            symmetries: AtomicU64::new(0),
             lemmas: AtomicU64::new(0),
             begun: AtomicU64::new(0),
         }
+    }
+
+    // Tells up to what a list that is complete has every arrangement.
+    pub(crate) fn tell_scope(&self) {
+        let listed = self.listed.load(Ordering::Relaxed);
+        let symmetries = self.symmetries.load(Ordering::Relaxed);
+        let others = if symmetries == 0 {
+            "there is no other"
+        } else {
+            "each other one is an image of these; edgematch count tells how many there are"
+        };
+        let _ = eprintln!(self.turns.rt;
+            "arrangements listed {listed}, symmetries named {symmetries}: {others}"
+        );
     }
 }
 
@@ -82,8 +101,11 @@ impl<R: Clock + Eprint> Gate for CheckProgress<'_, R> {
 }
 
 impl<R: Clock + Eprint> CheckWatch for CheckProgress<'_, R> {
-    fn begins(&self, lemmas: usize) {
-        self.lemmas.store(lemmas as u64, Ordering::Relaxed);
+    fn begins(&self, size: CheckSize) {
+        self.listed.store(size.listed as u64, Ordering::Relaxed);
+        self.symmetries
+            .store(size.symmetries as u64, Ordering::Relaxed);
+        self.lemmas.store(size.lemmas as u64, Ordering::Relaxed);
     }
 }
 

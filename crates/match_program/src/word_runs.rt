@@ -15,7 +15,7 @@ use crate::order_runs::run_order;
 use crate::streams::Streams;
 use byte_streams::{Document, FileSystem, Refusal, Sink, Source, write_whole};
 use command_words::{
-    Files, Given, Order, Place, Subject, ThreePlaces, TwoPlaces, WordsFault, order,
+    Files, Given, Order, PartPlaces, Place, Subject, ThreePlaces, TwoPlaces, WordsFault, order,
 };
 use match_runs::{HintedFault, RunFault, fault_text};
 use std::alloc::Global;
@@ -100,10 +100,11 @@ fn is_always_told(order: &Order, fault: &RunFault) -> bool {
         Order::Explain(_) | Order::ExplainPuzzle(_) | Order::Count(_) | Order::Census { .. } => {
             is_of_texts(fault)
         }
-        Order::Total(_) => is_of_texts(fault),
         Order::Show(_) | Order::Draw { .. } | Order::Symmetries(_) | Order::Tiles { .. } => {
             is_of_texts(fault)
         }
+        // which of many files it is has to be told everywhere
+        Order::Total(_) => true,
     }
 }
 
@@ -163,8 +164,7 @@ fn file_of<'a>(order: &'a Order, document: Document) -> Option<&'a str> {
         } => file_of_three(places, document),
         Order::ExplainPuzzle(place)
         | Order::Census { puzzle: place, .. }
-        | Order::Symmetries(place)
-        | Order::Total(place) => file_at(place),
+        | Order::Symmetries(place) => file_at(place),
         Order::Show(subject) | Order::Draw { subject, .. } => file_of_subject(subject, document),
         _ => None,
     }
@@ -238,8 +238,8 @@ fn read_from_input(order: &Order) -> Option<&'static str> {
         Order::ExplainPuzzle(place)
         | Order::Census { puzzle: place, .. }
         | Order::Symmetries(place) => { puzzle_alone(place) }
-        Order::Total(Place::Input) => Some("lines of counted parts"),
-        Order::Total(Place::File(_)) => None,
+        Order::Total(PartPlaces::Input) => Some("lines of counted parts"),
+        Order::Total(PartPlaces::Files(_)) => None,
         Order::Show(subject) | Order::Draw { subject, .. } => one_of_subject(subject),
         Order::Check { .. } | Order::Solve { .. } | Order::Expand { .. } | Order::Tiles { .. } =>
             None,

@@ -11,7 +11,7 @@ use crate::faults::RunFault;
 use crate::hints::{HintedFault, hint_of, with_hint, without_hint};
 use crate::questions::read_question_with;
 use crate::running::run_by;
-use crate::watches::{CheckWatch, Watched};
+use crate::watches::{CheckSize, CheckWatch, Watched};
 use byte_streams::{
     Inputs, JoinedSource, MadeText, OneSink, Outputs, OwnedDocuments, Sink, Source, ThreeSources,
 };
@@ -154,8 +154,16 @@ fn verdict_of<R: Threads + Sync, G: CheckWatch + Sync>(
 {
     let plan = check.plan;
     let (workers, forks) = (plan.workers.get() as u8, plan.forks.get() as u8);
-    check.watch.begins(question.lemmas().len() as usize);
+    check.watch.begins(size_of_question(question));
     let answer = check_question(rt, alloc, question, workers, forks, check.watch)?;
     let verdict = write_verdict(alloc, question, &answer)?;
     Ok(verdict)
+}
+
+fn size_of_question(question: &Question<'_>) -> CheckSize {
+    CheckSize {
+        listed: question.listed().len(),
+        symmetries: question.certificate().symmetries().len(),
+        lemmas: question.lemmas().len() as usize,
+    }
 }

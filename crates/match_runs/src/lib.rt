@@ -39,4 +39,4 @@ pub use solve_runs::{SearchPlan, run_solve, run_solve_watched};
 pub use symmetry_orbits::RandomFold;
 pub use tile_runs::{run_tile_lines, run_tiles};
 pub use total_runs::run_total;
-pub use watches::{CheckWatch, SolveWatch, Watched};
+pub use watches::{CheckSize, CheckWatch, SolveWatch, Watched};

@@ -1,16 +1,13 @@
 //! A run that adds up counted parts.
 
-ghost use Rattle.byte_streams.specs.Moves.{reading_of, writing_of};
-ghost use Rattle.byte_streams.specs.Origins.{one_source};
+ghost use Rattle.byte_streams.specs.Moves.{writing_of};
 ghost use Rattle.byte_streams.specs.Targets.{one_sink};
-ghost use Rattle.byte_streams.specs.declared.faults.Document.TheVariants as documents;
-ghost use Rattle.match_runs.specs.Runs.{MadeOf, Runs, unhinted};
+ghost use Rattle.match_runs.specs.Runs.{MadeOf, Runs};
 ghost use Rattle.match_runs.specs.Totals.{TotalFails, TotalGives};
 
 use crate::faults::RunFault;
-use crate::hints::{HintedFault, hint_on, with_hint};
 use crate::running::run_by;
-use byte_streams::{Document, MadeText, OneSink, OneSource, Sink, Source, Text};
+use byte_streams::{Inputs, MadeText, OneSink, Sink, Text};
 use count_totals::total_of;
 use std::alloc::Global;
 
@@ -19,30 +16,19 @@ use std::alloc::Global;
 ///
 /// `Read` and `TooLong` are of the lines; `Parts` tells the first line that is wrong, or else what is missing. Where a fault
 /// other than `Write` is answered, nothing was written.
-pub fn run_total<P: Source, W: Sink>(
+pub fn run_total<I: Inputs<Texts = Text>, W: Sink>(
     alloc: Global,
-    parts: &mut P,
+    parts: &mut I,
     writer: &mut W,
-) -> Result<(), HintedFault>
-    ensures { Runs (one_source documents.Parts (reading_of P.Source parts.old parts.new)) TotalGives TotalFails
-        (one_sink (writing_of W.Sink writer.old writer.new)) (unhinted result) }
+) -> Result<(), RunFault>
+    ensures same { I.same parts.old parts.new }
+    ensures run { Runs (I.reads parts.old parts.new) TotalGives TotalFails
+        (one_sink (writing_of W.Sink writer.old writer.new)) result }
 {
-    let mut inputs = OneSource {
-        source: parts,
-        document: Document::Parts,
-    };
-    let mut hint = None;
     let make = |text: &Text| -> Result<(MadeText, ()), RunFault>
         ensures { MadeOf TotalGives TotalFails text.now result }
-    {
-        let made = total_text(alloc, text);
-        if let Err(fault) = &made {
-            hint = hint_on(alloc, b"", b"", fault);
-        }
-        made
-    };
-    let ended = run_by(alloc, &mut inputs, make, &mut OneSink { sink: writer });
-    with_hint(ended, hint)
+    { total_text(alloc, text) };
+    run_by(alloc, parts, make, &mut OneSink { sink: writer })
 }
 
 // The line of the sum.

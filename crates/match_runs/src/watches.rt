@@ -11,14 +11,22 @@ pub struct Watched<'a, P, W> {
     pub hints: bool,
 }
 
+/// How much a check has to look at: arrangements that are listed, and symmetries and lemmas of the certificate.
+#[derive(Clone, Copy)]
+pub struct CheckSize {
+    pub listed: usize,
+    pub symmetries: usize,
+    pub lemmas: usize,
+}
+
 /// Told of a check while it runs. No answer depends on it.
 pub trait CheckWatch: Gate {
-    /// A certificate of so many lemmas was read.
-    fn begins(&self, lemmas: usize);
+    /// A list and a certificate of this size were read, and the check of them begins.
+    fn begins(&self, size: CheckSize);
 }
 
 impl CheckWatch for Open {
-    fn begins(&self, _lemmas: usize) {}
+    fn begins(&self, _size: CheckSize) {}
 }
 
 /// Told of a solve while it runs. Nothing that is made depends on it.
