@@ -18,7 +18,7 @@ use Rattle.command_words.specs.declared.orders.Subject.TheVariants.{Board, Liste
 use Rattle.command_words.specs.declared.orders.Order.{Order}
 use Rattle.command_words.specs.declared.orders.Order.TheVariants.{Joined, Check, Explain, ExplainPuzzle, Solve, Expand, Count, Census, Total, Show, Draw, Symmetries, Tiles}
 use Rattle.command_words.specs.Commands.{whole_app}
-use Rattle.command_words.specs.Parts.{IsPartText}
+use Rattle.command_words.specs.Parts.{IsPartsText}
 use Rattle.command_words.specs.Places.{certificate_place, input_name, list_of_two, list_place, puzzle_of_two, puzzle_place}
 use Rattle.command_words.specs.declared.places.Given.{Given}
 use Rattle.command_words.specs.declared.places.Given.TheVariants.{Apart}
@@ -133,9 +133,9 @@ IsSubject rows (Listed places number) =
 abbrev pub IsExtent : List Row → Extent → Type 0
 IsExtent rows extents.All = (first_of (codes "most") rows ≡ None) × (first_of (codes "part") rows ≡ None)
 IsExtent rows (extents.Most most) = (number_of (codes "most") rows ≡ Some most) × (first_of (codes "part") rows ≡ None)
-IsExtent rows (extents.Part part) =
+IsExtent rows (extents.Parts parts) =
     (first_of (codes "most") rows ≡ None)
-    × (text : Text) × (first_of (codes "part") rows ≡ Some text) × IsPartText text part
+    × (text : Text) × (first_of (codes "part") rows ≡ Some text) × IsPartsText text parts
 
 -- The command and its matches give the order.
 abbrev pub IsOrderOf : Option (Text × List Row) → Order → Type 0

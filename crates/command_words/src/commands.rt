@@ -139,7 +139,8 @@ triangle and 6 on a hexagon.
 With --part K/N it counts in part K of N of the search, and prints three lines: puzzle DIGEST, the SHA-256 of \
 the puzzle's file; split BRANCHES HASH, of the branches into which the search was split and a hash of them all; \
 and part K/N arrangements M. Of all N parts of one puzzle and one split the numbers add up to how many \
-arrangements the puzzle has. edgematch total adds them up, and refuses lines that don't go together.
+arrangements the puzzle has. edgematch total adds them up, and refuses lines that don't go together. With --part \
+A-B/N it counts in parts A to B, over one split, and prints the line of each at the end.
 
 Without files it reads the three from standard input, one after the other. One that is named - is standard \
 input.
@@ -155,6 +156,7 @@ Exit status:
 
 Examples:
   edgematch count puzzle --workers 4
+  edgematch count puzzle --part 1-8/64
   edgematch count puzzle list certificate";
 
 const TOTALLED: &str = "\
@@ -404,7 +406,7 @@ const PART: Argument = Argument {
     id: "part",
     kind: Kind::Option { value: "K/N" },
     number: None,
-    help: "Counts in part K of N of the search, 1/N to N/N, of 1000000 parts at most",
+    help: "Counts in part K of N of the search, or with A-B/N in parts A to B; N is at most 1000000",
 };
 
 const PARTS: Argument = Argument {

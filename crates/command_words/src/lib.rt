@@ -8,6 +8,6 @@ mod places;
 mod readings;
 
 pub use faults::WordsFault;
-pub use orders::{Extent, Order, Part, Subject};
+pub use orders::{Extent, Order, Parts, Subject};
 pub use places::{Files, Given, PartPlaces, Place, ThreePlaces, TwoPlaces};
 pub use readings::order;

@@ -5,18 +5,20 @@ use match_limits::{
     ArrangementNumber, Colours, Depth, Drawn, Forks, Fuel, OtherParts, Sides, Workers,
 };
 
-/// A part of a search that is dealt to several, by how many parts come before it and behind it.
+/// One or more parts of a search that is dealt to several, which stand side by side: how many parts come before the first
+/// of them, how many more there are of them, and how many come behind the last.
 #[derive(Clone, Copy)]
-pub struct Part {
+pub struct Parts {
     pub before: OtherParts,
+    pub more: OtherParts,
     pub behind: OtherParts,
 }
 
-impl Part {
-    ghost use Rattle.std.specs.Prelude.{◌≡◌, ◌<◌, ◌≤◌};
+impl Parts {
+    ghost use Rattle.std.specs.Prelude.{◌≡◌, ◌+◌, ◌<◌, ◌≤◌};
     ghost use Rattle.command_words.specs.Parts.{parts_with};
 
-    /// How many parts come before it, at most 999,999.
+    /// How many parts come before the first, at most 999,999.
     pub fn earlier(&self) -> u32
         ensures before { result ≡ self.now.before }
         ensures few { result ≤ 999999 }
@@ -24,13 +26,21 @@ impl Part {
         self.before.get()
     }
 
-    /// How many parts there are.
+    /// How many parts these are, from 1 to 1,000,000.
+    pub fn chosen(&self) -> u32
+        ensures chosen { result ≡ self.now.more + 1 }
+        ensures few { result ≤ 1000000 }
+    {
+        self.more.get() + 1
+    }
+
+    /// How many parts there are, with those before and behind.
     pub fn count(&self) -> u32
         ensures parts { result ≡ parts_with self.now }
-        ensures others { self.now.before < result }
+        ensures others { self.now.before + self.now.more < result }
     {
         let behind = self.behind;
-        self.earlier() + 1 + behind.get()
+        self.earlier() + self.chosen() + behind.get()
     }
 }
 
@@ -41,8 +51,8 @@ pub enum Extent {
     All,
     /// All, but once more than so many are found, that there are more.
     Most(u64),
-    /// Those in this part of the search.
-    Part(Part),
+    /// Those in each of these parts of the search.
+    Parts(Parts),
 }
 
 /// What is shown or drawn.

@@ -1,6 +1,6 @@
 //! Words are read.
 
-ghost use Rattle.std.specs.Prelude.{◌≡◌, ◌↔◌, Contains, Some, codes, map, IfOk, IfErr, IsTrue, MatchOption};
+ghost use Rattle.std.specs.Prelude.{◌≡◌, ◌↔◌, ◌<◌, ◌^◌, ℕ, Contains, Some, codes, map, IfOk, IfErr, IsTrue, MatchOption};
 ghost use Rattle.std.specs.String.{string_bytes};
 ghost use Rattle.std.specs.Str.Parse.{digits_value, without_leading_plus};
 ghost use Rattle.clap.specs.Words.{IsUnsignedIn, first_of, found_of, kind_of, rows_of};
@@ -10,9 +10,9 @@ ghost use Rattle.command_words.specs.Orders.{AreMatchesOf, AreNamedParts, AreWri
 ghost use Rattle.command_words.specs.Orders.{IsGiven, IsGivenInFiles, IsMisfit, IsOrder, IsOrderOf, IsPlace, IsRefused};
 ghost use Rattle.command_words.specs.Orders.{IsSubject, MayHaveNumber, NameFiles, TellsOfMisfit, number_of};
 ghost use Rattle.command_words.specs.Asked.{AreAskedFor, IsAsked, MayStandAt};
-ghost use Rattle.command_words.specs.Parts.{IsPartText};
+ghost use Rattle.command_words.specs.Parts.{IsPartsText, SpellsRange};
 ghost use Rattle.command_words.specs.declared.orders.Extent.{Extent};
-ghost use Rattle.command_words.specs.declared.orders.Part.{Part};
+ghost use Rattle.command_words.specs.declared.orders.Parts.{Parts};
 ghost use Rattle.command_words.specs.declared.orders.Subject.{Subject};
 ghost use Rattle.command_words.specs.declared.places.Given.{Given};
 ghost use Rattle.command_words.specs.declared.places.PartPlaces.{PartPlaces};
@@ -23,7 +23,7 @@ use crate::commands::{
     total as total_command,
 };
 use crate::faults::WordsFault;
-use crate::orders::{Extent, Order, Part, Subject};
+use crate::orders::{Extent, Order, Parts, Subject};
 use crate::places::{Files, Given, PartPlaces, Place, ThreePlaces, TwoPlaces};
 use clap::error::ErrorKind;
 use clap::{ArgMatches, Command};
@@ -321,25 +321,51 @@ fn explain(alloc: Global, matches: &ArgMatches<'_>) -> Result<Order, WordsFault>
     }
 }
 
-// The part of a search that the text names, as `3/8`.
-fn part(text: &str) -> Option<Part>
-    ensures { MatchOption result ((part : Part) → IsPartText text.now part → ⊥) (IsPartText text.now) }
+// The numbers from the first to the last.
+#[derive(Clone, Copy)]
+struct Numbers {
+    first: u32,
+    last: u32,
+}
+
+// The numbers that the text spells, as `3-5`, or as `3` one that is both; none where one of them is 2^32 or more.
+fn first_and_last(text: &str) -> Option<Numbers>
+    ensures { MatchOption result
+        ((first last : ℕ) → first < 2 ^ 32 → last < 2 ^ 32 → SpellsRange text.now first last → ⊥)
+        (λ numbers. SpellsRange text.now numbers.first numbers.last) }
 {
-    let Some((number, parts)) = text.split_once('/') else {
+    let Some((first, last)) = text.split_once('-') else {
+        let number = text.parse::<u32>().ok()?;
+        return Some(Numbers {
+            first: number,
+            last: number,
+        });
+    };
+    let first = first.parse::<u32>().ok()?;
+    let last = last.parse::<u32>().ok()?;
+    Some(Numbers { first, last })
+}
+
+// The parts of a search that the text names, as `3-5/8`, or `3/8`.
+fn parts(text: &str) -> Option<Parts>
+    ensures { MatchOption result ((parts : Parts) → IsPartsText text.now parts → ⊥) (IsPartsText text.now) }
+{
+    let Some((numbers, count)) = text.split_once('/') else {
         return None;
     };
-    let Ok(number) = number.parse::<u32>() else {
+    let Some(Numbers { first, last }) = first_and_last(numbers) else {
         return None;
     };
-    let Ok(parts) = parts.parse::<u32>() else {
+    let Ok(count) = count.parse::<u32>() else {
         return None;
     };
-    if number == 0 || number > parts || parts > 1_000_000 {
+    if first == 0 || first > last || last > count || count > 1_000_000 {
         return None;
     }
-    Some(Part {
-        before: Within::new(number - 1),
-        behind: Within::new(parts - number),
+    Some(Parts {
+        before: Within::new(first - 1),
+        more: Within::new(last - first),
+        behind: Within::new(count - last),
     })
 }
 
@@ -354,7 +380,7 @@ fn extent(matches: &ArgMatches<'_>) -> Option<Extent>
     match (most, text) {
         (None, None) => Some(Extent::All),
         (Some(most), None) => Some(Extent::Most(long_number(most))),
-        (None, Some(text)) => Some(Extent::Part(part(text)?)),
+        (None, Some(text)) => Some(Extent::Parts(parts(text)?)),
         (Some(_), Some(_)) => None,
     }
 }
@@ -380,7 +406,7 @@ fn count(alloc: Global, matches: &ArgMatches<'_>) -> Result<Order, WordsFault>
         return Err(misfit(
             count_command(alloc),
             "edgematch count",
-            "--part is 1/N to N/N, of 1000000 parts at most, and stands without --most",
+            "--part is K/N or A-B/N, of parts 1 to N, N at most 1000000, and stands without --most",
         ));
     };
     match read_asked(alloc, matches)? {
