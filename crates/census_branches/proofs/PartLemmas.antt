@@ -1,23 +1,33 @@
 -- Branches that are dealt to parts.
-use Rattle.std.proofs.Common.{◌≡◌, ◌<◌, ◌≤◌, ◌+◌, ◌-◌, ◌++◌, ◌∷◌, [], ℕ, zero, suc, List, Some, Contains, length, length-append, slice_get, sum, arith, refl, ap, sym, subst, ⊎_elim}
+use Rattle.std.proofs.Common.{◌≡◌, ◌<◌, ◌≤◌, ◌+◌, ◌-◌, ◌++◌, ◌∷◌, ◌∙◌, [], ℕ, zero, suc, List, Some, Contains, drop, get_or, length, length-append, slice_get, sum, arith, refl, ap, sym, subst, ⊎_elim}
+use Rattle.std.proofs.lemmas.List.{drop-drop, drop_all, drop_more}
 use Rattle.std.proofs.lemmas.List.Sums.{sum_by-cons, sum_by-append}
 use Rattle.match_limits.proofs.ListLemmas.{contains_cons, contains_none, pushed_place}
 use Rattle.xcc_form.specs.Options.{Compiled}
 use Rattle.census_branches.specs.Branches.{WeightedBranch, HaveTogether, AllChoose, every}
 
-pub every_none : {X : Type 0} (step passed : ℕ) (xs : List X) → length xs ≡ 0 → every step passed xs ≡ []
-every_none step zero [] e = refl
-every_none step (suc passed) [] e = refl
-every_none step passed (x ∷ xs) e = absurd (omega (arith, e))
+module _ {X : Type 0} (step : ℕ) where
+  every_behind : (passed : ℕ) (xs : List X) → every step passed xs ≡ every step 0 (drop passed xs)
+  every_behind zero [] = refl
+  every_behind (suc passed) [] = refl
+  every_behind zero (x ∷ xs) = refl
+  every_behind (suc passed) (x ∷ xs) = every_behind passed xs
 
-module _ {X : Type 0} (step : ℕ) (x : X) (xs : List X) where
-  pub every_takes : (passed : ℕ) → passed ≡ 0 → every step passed (x ∷ xs) ≡ x ∷ every step (step - 1) xs
-  every_takes zero e = refl
-  every_takes (suc passed) e = absurd (omega (arith, e))
+  -- what is dealt stands behind the elements that are passed over
+  pub every_begins : (passed : ℕ) (xs : List X) → every step 0 (drop passed xs) ≡ every step passed xs
+  every_begins passed xs = sym (every_behind passed xs)
 
-  pub every_passes : (passed : ℕ) → 0 < passed → every step passed (x ∷ xs) ≡ every step (passed - 1) xs
-  every_passes zero lt = absurd (omega (arith, lt))
-  every_passes (suc passed) lt = ap (λ k. every step k xs) (omega arith)
+  -- the next element is dealt, and then one of every so many behind it
+  pub every_from : (next : ℕ) (xs : List X) (x : X) → 0 < step → next < length xs → get_or xs next x ≡ x → every step 0 (drop next xs) ≡ x ∷ every step 0 (drop (next + step) xs)
+  every_from next xs x some lt is =
+      let behind : (next + 1) + (step - 1) ≡ next + step = omega arith in
+      ap (every step 0) (drop_more xs next x lt)
+      ∙ ap (λ (y : X). y ∷ every step (step - 1) (drop (next + 1) xs)) is
+      ∙ ap (λ (ys : List X). x ∷ ys) (every_behind (step - 1) (drop (next + 1) xs) ∙ ap (every step 0) (drop-drop (step - 1) (next + 1) xs ∙ ap (λ (n : ℕ). drop n xs) behind))
+
+  -- behind the last nothing is dealt
+  pub every_ends : (next : ℕ) (xs : List X) → length xs ≤ next → every step 0 (drop next xs) ≡ []
+  every_ends next xs past = ap (every step 0) (drop_all next xs past)
 
 contains_first : {X : Type 0} (y : X) (xs : List X) (x : X) → y ≡ x → Contains (y ∷ xs) x
 contains_first y xs x e = (0, omega arith, e)
