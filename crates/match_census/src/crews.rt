@@ -94,7 +94,6 @@ pub fn count_with_crew<R: Threads + Sync, W: CensusWatch + Sync>(
     } = count;
     let looks = looks_of(alloc, xcc)?;
     let spread = spread(alloc, branches)?;
-    watch.begins(spread.len());
     let means = Means {
         alloc,
         xcc,

@@ -6,27 +6,30 @@ ghost use Rattle.census_branches.specs.Branches.{every};
 use census_branches::Branch;
 use std::alloc::{AllocError, Global};
 
-/// Of these branches, dealt in turn to so many parts, those of the part with this number, from 0.
+/// Of these branches, dealt in turn to so many parts, those of the part with this number, from 0: a copy of each.
 ///
 /// An error where memory is refused.
 pub fn part_of(
     alloc: Global,
-    branches: Vec<Branch>,
+    branches: &[Branch],
     part: u32,
     parts: u32,
 ) -> Result<Vec<Branch>, AllocError>
     requires { part < parts }
-    ensures { IfOk result (λ v. v.items ≡ every parts part branches.items) }
+    ensures { IfOk result (λ v. v.items ≡ every parts part branches.now) }
 {
     let mut dealt = Vec::new(alloc);
-    let mut passed = part;
-    for branch in branches {
-        if passed > 0 {
-            passed -= 1;
-            continue;
-        }
-        dealt.push(branch)?;
-        passed = parts - 1;
+    let mut next = part as usize;
+    while next < branches.len() {
+        dealt.push(copy_of(alloc, &branches[next])?)?;
+        next += parts as usize;
     }
     Ok(dealt)
+}
+
+fn copy_of(alloc: Global, branch: &Branch) -> Result<Branch, AllocError>
+    ensures { IfOk result (λ copy. copy ≡ branch.now) }
+{
+    let chosen = branch.chosen().to_vec(alloc)?;
+    Ok(Branch::new(chosen, branch.weight()))
 }

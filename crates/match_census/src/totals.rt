@@ -101,7 +101,6 @@ pub fn count_arrangements<W: CensusWatch>(
     let _puzzle = xcc.puzzle();
     let looks = looks_of(alloc, xcc)?;
     let spread = spread(alloc, branches)?;
-    watch.begins(spread.len());
     let mut engine = OpenSets::new(alloc, xcc)?;
     count_branches(&mut engine, &looks, watch, &spread, most)
 }

@@ -1,10 +1,9 @@
-use Rattle.std.proofs.Common.{◌≡◌, ◌++◌, ◌<◌, length}
+use Rattle.std.proofs.Common.{◌≡◌, ◌-◌, ◌++◌, drop, length}
 use Rattle.census_branches.specs.Branches.{every}
 use Rattle.match_census.proofs.parts.part_of.Given as goal
 
-abbrev pub invariant-loop-branch : goal.invariant-loop-branch
-invariant-loop-branch l = record {
-  dealt : l.dealt.items ++ every l.parts l.passed l.branch-iterator.rest.items ≡ every l.parts l.part l.fn.branches.items;
-  passed : l.passed < l.parts;
-  rest : l.branch-iterator.rest.len ≡ length l.branch-iterator.rest.items;
-}
+abbrev pub invariant-loop-next : goal.invariant-loop-next
+invariant-loop-next l = l.dealt.items ++ every l.parts 0 (drop l.next l.branches) ≡ every l.parts l.part l.branches
+
+abbrev pub decreases-loop-next : goal.decreases-loop-next
+decreases-loop-next l = length l.branches - l.next
