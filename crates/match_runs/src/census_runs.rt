@@ -1,18 +1,21 @@
 //! Runs that count the arrangements of a puzzle by a search.
 
-ghost use Rattle.std.specs.Prelude.{◌≡◌, ◌≤◌, ◌⊎◌, IfOk, IfErr, MatchOption, codes, length, vec_len};
+ghost use Rattle.std.specs.Prelude.{◌≡◌, ◌<◌, ◌≤◌, ◌++◌, ◌∷◌, ◌⊎◌, IfOk, IfErr, MatchOption, OnOk, codes, length, vec_len};
 ghost use Rattle.puzzle_symmetry.specs.Motion.{AreOfPuzzle};
 ghost use Rattle.match_show.specs.Facts.{number_line};
 ghost use Rattle.xcc_form.specs.Chosen.{IsSelection};
-ghost use Rattle.census_branches.specs.Branches.{AllChoose, IsSplit};
+ghost use Rattle.census_branches.specs.Branches.{AllChoose, HaveTogether, IsSplit};
 ghost use Rattle.census_splits.specs.declared.splits.TheConstants.{MOST_BRANCHES};
 ghost use Rattle.byte_streams.specs.Moves.{reading_of, writing_of};
 ghost use Rattle.byte_streams.specs.Origins.{one_source};
 ghost use Rattle.byte_streams.specs.Targets.{one_sink};
 ghost use Rattle.byte_streams.specs.declared.faults.Document.TheVariants as documents;
+ghost use Rattle.count_totals.specs.Lines.{text_of};
+ghost use Rattle.command_words.specs.Parts.{first_in, parts_with};
 ghost use Rattle.command_words.specs.declared.orders.Extent.TheVariants as extents;
-ghost use Rattle.match_runs.specs.Census.{CensusFails, CensusGives, CountsAll, CountsMore, CountsPart, CountsUpTo};
-ghost use Rattle.match_runs.specs.Census.{IsNotCounted, PrintsCount, split_of};
+ghost use Rattle.match_runs.specs.Census.{AreCounts, AreNotCounted, CensusFails, CensusGives, CountsAll, CountsMore};
+ghost use Rattle.match_runs.specs.Census.{CountsParts, CountsUpTo, IsNotCounted, PrintsCount, count_lines, part_lines};
+ghost use Rattle.match_runs.specs.Census.{split_of};
 ghost use Rattle.sha2.specs.Sha256.{sha256};
 ghost use Rattle.match_runs.specs.Runs.{MadeOf, Runs, unhinted};
 
@@ -22,7 +25,7 @@ use crate::running::run_by;
 use byte_streams::{Document, MadeText, OneSink, OneSource, Sink, Source, Text};
 use census_branches::{Branch, hash_of};
 use census_splits::split;
-use command_words::{Extent, Part};
+use command_words::{Extent, Parts};
 use count_totals::{CountedPart, Line, SplitLine, put_line};
 use match_census::{CensusWatch, Count, count_arrangements, count_with_crew, part_of};
 use match_crew::SolveFault;
@@ -43,7 +46,7 @@ const SHORT: u32 = 256;
 // Into so many a search is split whose workers share them.
 const SHARED: u32 = 4_096;
 
-// Into so many one of which parts are counted.
+// Into so many one is split of which parts are counted.
 const DEALT: u32 = 100_000;
 
 /// What is counted by a search, by how many workers, and who is told meanwhile.
@@ -55,13 +58,13 @@ pub struct CensusPlan<'w, W: CensusWatch> {
 }
 
 /// Reads a puzzle to its end, and writes how many arrangements it has, counted by a search: a line `arrangements N`. Where
-/// it is only to be told whether there are more than `M`, `arrangements more than M` where there are. Of part `K` of `N` of
-/// the search, `puzzle DIGEST`, `split BRANCHES HASH` and `part K/N arrangements M`: the parts of one split add up. The digest
-/// is the SHA-256 of the puzzle's text.
+/// it is only to be told whether there are more than `M`, `arrangements more than M` where there are. Of parts of the search,
+/// `puzzle DIGEST`, `split BRANCHES HASH` and for each part `K` of `N`, in their order, `part K/N arrangements M`: the parts of
+/// one split add up, and one call makes one. The digest is the SHA-256 of the puzzle's text.
 ///
 /// `Read` and `TooLong` are of the puzzle; `Puzzle` where its text spells none, with a hint of what has to be changed there;
 /// `Solve(TooMany)` where its options have over 200,000 items together, and `Solve(Full)` where 2^64 arrangements or more
-/// are counted. Where a fault other than `Write` is answered, nothing was written.
+/// are counted, by one of several parts. Where a fault other than `Write` is answered, nothing was written.
 pub fn run_census<P: Source, W: Sink, R: Threads + Sync, T: CensusWatch + Sync>(
     rt: &R,
     alloc: Global,
@@ -129,7 +132,7 @@ fn count_text<R: Threads + Sync, T: CensusWatch + Sync>(
     match plan.extent {
         Extent::All => all_counted(rt, alloc, spelled.puzzle, plan),
         Extent::Most(most) => counted_to(alloc, spelled.puzzle, most, plan.watch),
-        Extent::Part(part) => part_counted(rt, alloc, spelled, part, plan),
+        Extent::Parts(parts) => parts_counted(rt, alloc, spelled, parts, plan),
     }
 }
 
@@ -145,8 +148,26 @@ fn all_counted<R: Threads + Sync, T: CensusWatch + Sync>(
 {
     let xcc = compile(alloc, puzzle)?;
     let branches = branches_of(alloc, &xcc, SHARED)?;
+    plan.watch.begins(branches.len());
+    let count = counted_together(rt, alloc, &xcc, branches, plan)?;
+    Ok(count_line(alloc, b"arrangements", count)?)
+}
+
+// How many arrangements these branches have together.
+fn counted_together<R: Threads + Sync, T: CensusWatch + Sync>(
+    rt: &R,
+    alloc: Global,
+    xcc: &Xcc<'_>,
+    branches: Vec<Branch>,
+    plan: &CensusPlan<'_, T>,
+) -> Result<u64, RunFault>
+    requires selections { AllChoose (IsSelection xcc.now) branches.items }
+    requires few { vec_len branches ≤ MOST_BRANCHES }
+    ensures counted { IfOk result (HaveTogether xcc.now branches.items) }
+    ensures fails { IfErr result (AreNotCounted extents.All xcc.now branches.items) }
+{
     let count = Count {
-        xcc: &xcc,
+        xcc,
         branches,
         watch: plan.watch,
     };
@@ -154,7 +175,7 @@ fn all_counted<R: Threads + Sync, T: CensusWatch + Sync>(
     let Some(count) = counted else {
         return Err(RunFault::Solve(SolveFault::Full));
     };
-    Ok(count_line(alloc, b"arrangements", count)?)
+    Ok(count)
 }
 
 // How many arrangements there are, or that there are more than so many.
@@ -169,6 +190,7 @@ fn counted_to<T: CensusWatch>(
 {
     let xcc = compile(alloc, puzzle)?;
     let branches = branches_of(alloc, &xcc, SHORT)?;
+    watch.begins(branches.len());
     let count = Count {
         xcc: &xcc,
         branches,
@@ -190,44 +212,109 @@ fn bounded_line(alloc: Global, counted: Option<u64>, most: u64) -> Result<Vec<u8
     }
 }
 
-// How many arrangements a part of the search has, and of which puzzle and which split.
-fn part_counted<R: Threads + Sync, T: CensusWatch + Sync>(
+// How many arrangements each of these parts of the search has, and of which puzzle and which split.
+fn parts_counted<R: Threads + Sync, T: CensusWatch + Sync>(
     rt: &R,
     alloc: Global,
     spelled: SpelledPuzzle<'_, '_>,
-    part: Part,
+    parts: Parts,
     plan: &CensusPlan<'_, T>,
 ) -> Result<Vec<u8>, RunFault>
-    ensures prints { IfOk result (λ text. CountsPart part spelled.entry.text.now spelled.entry.puzzle.now text.items) }
-    ensures fails { IfErr result (IsNotCounted (extents.Part part) spelled.entry.puzzle.now) }
+    ensures prints { IfOk result (λ text. CountsParts parts spelled.entry.text.now spelled.entry.puzzle.now text.items) }
+    ensures fails { IfErr result (IsNotCounted (extents.Parts parts) spelled.entry.puzzle.now) }
 {
     let xcc = compile(alloc, spelled.puzzle)?;
     let branches = branches_of(alloc, &xcc, DEALT)?;
-    let split = split_line(&branches);
-    let dealt = part_of(alloc, branches, part.earlier(), part.count())?;
-    let count = Count {
-        xcc: &xcc,
-        branches: dealt,
-        watch: plan.watch,
-    };
-    let counted = count_with_crew(rt, alloc, count, plan.workers.get() as u8)?;
-    let Some(count) = counted else {
-        return Err(RunFault::Solve(SolveFault::Full));
-    };
-    let part = CountedPart {
-        number: part.earlier() + 1,
-        parts: part.count(),
-        count,
-    };
+    plan.watch.begins(dealt_to(&parts, branches.len()));
+    let counts = counts_of(rt, alloc, &xcc, &branches, &parts, plan)?;
+    Ok(parts_text(alloc, spelled.text.bytes(), &branches, &parts, &counts)?)
+}
+
+// How many of so many branches are dealt to these parts.
+fn dealt_to(parts: &Parts, branches: usize) -> usize {
+    let all = parts.count() as usize;
+    let earlier = parts.earlier() as usize;
+    let last = earlier + parts.chosen() as usize;
+    dealt_before(branches, last, all).saturating_sub(dealt_before(branches, earlier, all))
+}
+
+// How many of so many branches are dealt to the first so many of all parts.
+fn dealt_before(branches: usize, parts: usize, all: usize) -> usize
+    requires { 0 < all }
+{
+    let each = branches / all;
+    let left = branches % all;
+    each.saturating_mul(parts).saturating_add(left.min(parts))
+}
+
+// How many arrangements each of the parts has to which these branches are dealt.
+fn counts_of<R: Threads + Sync, T: CensusWatch + Sync>(
+    rt: &R,
+    alloc: Global,
+    xcc: &Xcc<'_>,
+    branches: &[Branch],
+    parts: &Parts,
+    plan: &CensusPlan<'_, T>,
+) -> Result<Vec<u64>, RunFault>
+    requires selections { AllChoose (IsSelection xcc.now) branches.now }
+    requires few { length branches.now ≤ MOST_BRANCHES }
+    ensures counted { IfOk result (λ v. AreCounts xcc.now branches.now parts.now v.items) }
+    ensures fails { IfErr result (AreNotCounted (extents.Parts parts.now) xcc.now branches.now) }
+{
+    let mut counts = Vec::new(alloc);
+    for later in 0..parts.chosen() {
+        let dealt = part_of(alloc, branches, parts.earlier() + later, parts.count())?;
+        let count = counted_together(rt, alloc, xcc, dealt, plan)?;
+        let Ok(()) = counts.push(count) else {
+            return Err(RunFault::Memory);
+        };
+    }
+    Ok(counts)
+}
+
+// The lines of a puzzle that is spelled so, of its split, and of the parts to which that is dealt, with their counts.
+fn parts_text(
+    alloc: Global,
+    spelled: &[u8],
+    branches: &[Branch],
+    parts: &Parts,
+    counts: &[u64],
+) -> Result<Vec<u8>, AllocError>
+    requires branches { length branches.now ≤ MOST_BRANCHES }
+    requires counts { length counts.now ≤ 1000000 }
+    ensures { IfOk result (λ text. text.items
+        ≡ text_of (count_lines spelled.now branches.now parts.now counts.now)) }
+{
     let mut text = Vec::new(alloc);
-    put_line(
-        alloc,
-        &mut text,
-        &Line::Puzzle(digest_of(spelled.text.bytes())),
-    )?;
-    put_line(alloc, &mut text, &Line::Split(split))?;
-    put_line(alloc, &mut text, &Line::Part(part))?;
+    put_line(alloc, &mut text, &Line::Puzzle(digest_of(spelled)))?;
+    put_line(alloc, &mut text, &Line::Split(split_line(branches)))?;
+    put_part_lines(alloc, &mut text, parts, counts)?;
     Ok(text)
+}
+
+// Writes the lines of these parts, with their counts.
+fn put_part_lines(
+    alloc: Global,
+    text: &mut Vec<u8>,
+    parts: &Parts,
+    counts: &[u64],
+) -> Result<(), AllocError>
+    requires { length counts.now ≤ 1000000 }
+    ensures { OnOk result (text.new.items
+        ≡ text.old.items ++ text_of (part_lines (parts_with parts.now) (first_in parts.now) counts.now)) }
+{
+    let all = parts.count();
+    let mut number = parts.earlier() + 1;
+    for count in counts {
+        let part = CountedPart {
+            number,
+            parts: all,
+            count: *count,
+        };
+        put_line(alloc, text, &Line::Part(part))?;
+        number += 1;
+    }
+    Ok(())
 }
 
 // The SHA-256 of the bytes.
