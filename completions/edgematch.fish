@@ -28,7 +28,7 @@ complete -c edgematch -n "__fish_seen_subcommand_from expand" -l orbits -d "Prin
 complete -c edgematch -n "__fish_seen_subcommand_from expand" -l hints -d "Says below a fault what is wrong and what may help, on a terminal or not"
 complete -c edgematch -n "__fish_seen_subcommand_from count" -x -l workers -d "How many workers search at once, 1 to 64"
 complete -c edgematch -n "__fish_seen_subcommand_from count" -x -l most -d "Ends as soon as more than M are found, and says so; one worker searches then"
-complete -c edgematch -n "__fish_seen_subcommand_from count" -x -l part -d "Counts in part K of N of the search, 1/N to N/N, of 1000000 parts at most"
+complete -c edgematch -n "__fish_seen_subcommand_from count" -x -l part -d "Counts in part K of N of the search, or with A-B/N in parts A to B; N is at most 1000000"
 complete -c edgematch -n "__fish_seen_subcommand_from count" -l progress -d "Tells on standard error how far it is, at most once a second"
 complete -c edgematch -n "__fish_seen_subcommand_from draw" -x -l first -d "Draws a sheet of so many arrangements, from N on, 0 to 100; 0 draws N alone, large"
 complete -c edgematch -n "__fish_seen_subcommand_from draw" -l numbers -d "Writes the number of its tile on each cell"

@@ -26,6 +26,7 @@ PUZZLE = os.path.join(TOP, "examples/gallery/sixteen_squares")
 # What a line needs, by the name that stands before it.
 NEEDED = {
     "GNU parallel": ["parallel"],
+    "GNU parallel, eight parts a call": ["parallel"],
     "GNU parallel, over machines": ["parallel"],
     "Slurm": ["sbatch", "slurmctld", "slurmd", "munged"],
     "make": ["make"],

@@ -16,9 +16,7 @@ ghost use Rattle.match_runs.specs.Runs.{unhinted};
 ghost use Rattle.match_program.specs.SameStreams.{AreSameStreams};
 ghost use Rattle.match_program.specs.SolvedFiles.{PutsAll, solved_files};
 
-use crate::document_readers::{
-    ThreeReaders, TwoReaders, open_place, open_three, open_two,
-};
+use crate::document_readers::{ThreeReaders, TwoReaders, open_place, open_three, open_two};
 use crate::exits::Exit;
 use crate::files::{are_apart, hint_on, open};
 use crate::made_files::{make_files, not_put, replaced};
