@@ -786,6 +786,8 @@ def main():
                 tried(trial)
             except (OSError, subprocess.TimeoutExpired) as error:
                 trial.differences.append(str(error))
+            except (LookupError, AttributeError) as error:
+                trial.differences.append(f"what it told isn't of the form: {error}")
             for difference in trial.differences:
                 print(f"{tried.__name__}: {difference}")
             if trial.untried:
