@@ -8,10 +8,14 @@ _edgematch() {
   else
     case $before in
       --depth | --first | --forks | --fuel | --most | --part | --workers) return ;;
+      --symmetries)
+        mapfile -t COMPREPLY < <(compgen -W "all board" -- "$word")
+        return
+        ;;
     esac
     case $command in
       check) words="--workers --forks --progress --hints --help" ;;
-      solve) words="--depth --fuel --workers --keep --progress --hints --help" ;;
+      solve) words="--depth --fuel --workers --symmetries --keep --progress --hints --help" ;;
       count) words="--workers --most --part --progress --help" ;;
       expand) words="--orbits --hints --help" ;;
       draw) words="--first --numbers --help" ;;

@@ -21,6 +21,7 @@ complete -c edgematch -n "__fish_seen_subcommand_from check" -l hints -d "Says b
 complete -c edgematch -n "__fish_seen_subcommand_from solve" -x -l depth -d "How many levels of branches become lemmas before the search, 0 to 3"
 complete -c edgematch -n "__fish_seen_subcommand_from solve" -x -l fuel -d "The most branch nodes that are made for a lemma, 1 to 1000000"
 complete -c edgematch -n "__fish_seen_subcommand_from solve" -x -l workers -d "How many workers search at once, 1 to 64"
+complete -c edgematch -n "__fish_seen_subcommand_from solve" -x -l symmetries -a "all board" -d "Which symmetries the certificate names: all, or board, those that leave each colour as it is"
 complete -c edgematch -n "__fish_seen_subcommand_from solve" -l keep -d "Leaves LIST and CERTIFICATE as they are until both are written, as is done in any case"
 complete -c edgematch -n "__fish_seen_subcommand_from solve" -l progress -d "Tells on standard error how far it is, at most once a second"
 complete -c edgematch -n "__fish_seen_subcommand_from solve" -l hints -d "Says below a fault what is wrong and what may help, on a terminal or not"

@@ -20,6 +20,7 @@ import tomllib
 from dataclasses import dataclass, field
 
 import plain_search
+from plain_orbits import orbits_of
 from plain_search import ItemSearch, Search, read_puzzle
 from script_words import fault, help_or_fault, program_at
 
@@ -44,8 +45,8 @@ TEXTS = {"like", "change", *DOCUMENTS}
 CHECKED = {"answer", "fault", "hint", "joined", "rows", "explanations", "explanation", "expansion", "arrangements", "too_large", "cut"}
 STREAMED = {f"{stream}{end}" for stream in ("stdout", "stderr") for end in ("", "_begins", "_has")}
 ORDERED = {"words", "beside", "deep", "stdin", "status", "files", "files_have", "kept", "left", "stdout_lines", *STREAMED}
-SOLVED = {"solve"}
-WANTED = {"answer", "fault", "rows", "explanations", "expansion", "arrangements", "words", "solve"}
+SOLVED = {"solve", "orbits"}
+WANTED = {"answer", "fault", "rows", "explanations", "expansion", "arrangements", "words", "solve", "orbits"}
 
 
 class Unreadable(Exception):
@@ -518,6 +519,37 @@ def solves(trial, count, every=None):
             solve(trial, ["--depth", str(depth), "--workers", str(workers)], count, every)
 
 
+def leaves_colours(line):
+    """Whether a certificate's line of a symmetry says that each colour goes to itself."""
+    words = line.decode("latin-1").split(" ")
+    colours = words[words.index("colours") + 1 : words.index("tiles")]
+    return colours == list(plain_search.DIGITS[: len(colours)])
+
+
+def solve_by_choice(trial, wanted):
+    """Solves that name all symmetries that are found, or those of the board alone: each is complete, and a count finds so
+    many orbits, which a plain search finds too. Without a choice all are named, and with depth 0 none."""
+    puzzle = trial.contents("puzzle").decode("latin-1")
+    reckoned = orbits_of(read_puzzle(puzzle))
+    for which, number in wanted.items():
+        trial.wants(f"a plain count by {which}", "orbits", b"%d" % number, b"%d" % reckoned[which])
+        for options in (["--depth", "0"], *(["--depth", f"{depth}", "--workers", "3"] for depth in DEPTHS), []):
+            options = ["--symmetries", which, *options]
+            solve(trial, options, reckoned["arrangements"])
+            way, certificate = " ".join(["solve", *options]), trial.contents("certificate").splitlines()
+            lines = [line for line in certificate if line.startswith(b"symmetry ")]
+            if which == "board" and not all(map(leaves_colours, lines)):
+                trial.differs(way, "its symmetries", b"none that changes a colour", b"\n".join(lines))
+            orbits = b"%d" % (reckoned["arrangements"] if "0" in options else number)
+            got = trial.run(["count", *trial.paths()]).stdout.split()
+            trial.wants(f"{way}, its count", "orbits", orbits, got[got.index(b"orbits") + 1])
+        if which == "all":
+            texts = [trial.contents(it) for it in DOCUMENTS]
+            trial.run(["solve", *trial.paths()])
+            for document, text in zip(DOCUMENTS, texts):
+                trial.wants("solve without a choice", f"the {document}", text, trial.contents(document))
+
+
 def cut(trial, documents, document):
     """The document cut at every byte: the end is missing on the last line that there is."""
     text = documents[document]
@@ -544,6 +576,8 @@ def run_case(trial, case):
             every = sorted(arrangements_in(searched(trial, Search).list_text().encode("latin-1")))
             solve_in_one_lemma(trial)
         solves(trial, count, every)
+    if "orbits" in keys:
+        solve_by_choice(trial, keys["orbits"])
     for document in keys.get("cut", ()):
         cut(trial, case.documents, document)
 

@@ -94,7 +94,7 @@ def zsh_faults(commands, options):
         yield "commands"
     cases = {name: part for names, part in parts(text, r"^    ([\w |]+)\)$").items() for name in names.split(" | ")}
     for name in options:
-        found = re.findall(r"""(?<=['"])(--\w+)\[(.*?)\](:[\w/]+:)?(?=['"])""", cases.get(name, ""))
+        found = re.findall(r"""(?<=['"])(--\w+)\[(.*?)\](:[\w/]+:(?:\([\w ]+\))?)?(?=['"])""", cases.get(name, ""))
         if {option(long, number): said for long, said, number in found} != without_defaults(options[name]):
             yield f"the options of {name}"
 
@@ -104,7 +104,8 @@ def fish_faults(commands, options):
     text = page("completions/edgematch.fish")
     if dict(re.findall(r'-n __fish_use_subcommand -a (\w+) -d "(.*)"$', text, re.MULTILINE)) != commands:
         yield "commands"
-    found = re.findall(r'-n "__fish_seen_subcommand_from (\w+)"( -x)? -l (\w+) -d "(.*)"$', text, re.MULTILINE)
+    line = r'-n "__fish_seen_subcommand_from (\w+)"( -x)? -l (\w+)(?: -a "[\w ]+")? -d "(.*)"$'
+    found = re.findall(line, text, re.MULTILINE)
     for name in options:
         told = {option(f"--{long}", number): said for of, number, long, said in found if of == name}
         if told != without_defaults(options[name]):

@@ -52,13 +52,13 @@ pub solve_workers : (rows : List Row) → AreMatchesOf (codes "solve") rows → 
 solve_workers rows m = has_number (command_at (codes "solve")) rows (rule_at (command_at (codes "solve")) 5) 1 64 (solve_needed rows m) refl refl refl
 
 pub solve_keep : (rows : List Row) → AreMatchesOf (codes "solve") rows → HasFlag (codes "keep") rows
-solve_keep rows m = has_flag (command_at (codes "solve")) rows (rule_at (command_at (codes "solve")) 6) (solve_needed rows m) refl refl refl
+solve_keep rows m = has_flag (command_at (codes "solve")) rows (rule_at (command_at (codes "solve")) 7) (solve_needed rows m) refl refl refl
 
 pub solve_progress : (rows : List Row) → AreMatchesOf (codes "solve") rows → HasFlag (codes "progress") rows
-solve_progress rows m = has_flag (command_at (codes "solve")) rows (rule_at (command_at (codes "solve")) 7) (solve_needed rows m) refl refl refl
+solve_progress rows m = has_flag (command_at (codes "solve")) rows (rule_at (command_at (codes "solve")) 8) (solve_needed rows m) refl refl refl
 
 pub solve_hints : (rows : List Row) → AreMatchesOf (codes "solve") rows → HasFlag (codes "hints") rows
-solve_hints rows m = has_flag (command_at (codes "solve")) rows (rule_at (command_at (codes "solve")) 8) (solve_needed rows m) refl refl refl
+solve_hints rows m = has_flag (command_at (codes "solve")) rows (rule_at (command_at (codes "solve")) 9) (solve_needed rows m) refl refl refl
 
 -- ---- `expand`
 

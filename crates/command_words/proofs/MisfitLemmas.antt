@@ -4,7 +4,7 @@ use Rattle.std.specs.Str.{bytes_eq}
 use Rattle.std.proofs.lemmas.Slice.Eq.{bytes_eq-Decides}
 use Rattle.clap.specs.Words.{Row, Text, first_of}
 use Rattle.command_words.specs.Asked.{AreAskedFor, IsAsked, MayStandAt}
-use Rattle.command_words.specs.Orders.{ArePlaces, AreWritable, IsExtent, IsGiven, IsGivenInFiles, IsMisfit, IsOrderOf, IsPlace, IsSubject, NameFiles, NameNothing, NamesPuzzle, TellsOfMisfit}
+use Rattle.command_words.specs.Orders.{ArePlaces, AreWritable, AskFor, IsExtent, IsGiven, IsGivenInFiles, IsMisfit, IsOrderOf, IsPlace, IsSubject, NameFiles, NameNothing, NamesPuzzle, TellsOfMisfit}
 use Rattle.command_words.specs.Places.{AreTwoOnInput, certificate_place, list_of_two, list_place, puzzle_of_two, puzzle_place}
 use Rattle.command_words.specs.declared.faults.WordsFault.{WordsFault}
 use Rattle.command_words.specs.declared.faults.WordsFault.TheVariants.{Words, Memory}
@@ -25,6 +25,7 @@ use Rattle.command_words.specs.declared.places.TwoPlaces.{TwoPlaces}
 use Rattle.command_words.specs.declared.places.TwoPlaces.TheVariants as two
 use Rattle.command_words.specs.declared.readings.Asked.{Asked}
 use Rattle.command_words.specs.declared.readings.Asked.TheVariants as asked
+use Rattle.match_symmetry.specs.declared.choices.Suggested.{Suggested}
 use Rattle.command_words.proofs.ProgramLemmas.{none_is_some, some_is}
 
 pub true_is_false : true ≡ false → ⊥
@@ -43,7 +44,7 @@ no_count rows listed searched orders.Joined is = is
 no_count rows listed searched (orders.Check files workers forks progress hints) is = differ (codes "count") (codes "check") refl is.0
 no_count rows listed searched (orders.Explain given) is = differ (codes "count") (codes "explain") refl is.0
 no_count rows listed searched (orders.ExplainPuzzle puzzle) is = differ (codes "count") (codes "explain") refl is.0
-no_count rows listed searched (orders.Solve files depth fuel workers keep progress hints) is = differ (codes "count") (codes "solve") refl is.0
+no_count rows listed searched (orders.Solve files depth fuel workers symmetries keep progress hints) is = differ (codes "count") (codes "solve") refl is.0
 no_count rows listed searched (orders.Expand given orbits hints) is = differ (codes "count") (codes "expand") refl is.0
 no_count rows listed searched (orders.Count given) is = listed given is.1 is.2
 no_count rows listed searched (orders.Census puzzle extent workers progress) is = searched puzzle extent is.1 is.2
@@ -53,24 +54,33 @@ no_count rows listed searched (orders.Draw subject first numbers) is = differ (c
 no_count rows listed searched (orders.Symmetries puzzle) is = differ (codes "count") (codes "symmetries") refl is.0
 no_count rows listed searched (orders.Tiles sides colours lines) is = differ (codes "count") (codes "tiles") refl is.0
 
+-- none where there is no solve
+no_solve : (rows : List Row) → ((files : Files) (symmetries : Suggested) → NameFiles rows files → AreWritable files → AskFor rows symmetries → ⊥)
+    → (order : Order) → IsOrderOf (Some (codes "solve", rows)) order → ⊥
+no_solve rows none orders.Joined is = is
+no_solve rows none (orders.Check files workers forks progress hints) is = differ (codes "solve") (codes "check") refl is.0
+no_solve rows none (orders.Explain given) is = differ (codes "solve") (codes "explain") refl is.0
+no_solve rows none (orders.ExplainPuzzle puzzle) is = differ (codes "solve") (codes "explain") refl is.0
+no_solve rows none (orders.Solve files depth fuel workers symmetries keep progress hints) is = none files symmetries is.1 is.2 is.6
+no_solve rows none (orders.Expand given orbits hints) is = differ (codes "solve") (codes "expand") refl is.0
+no_solve rows none (orders.Count given) is = differ (codes "solve") (codes "count") refl is.0
+no_solve rows none (orders.Census puzzle extent workers progress) is = differ (codes "solve") (codes "count") refl is.0
+no_solve rows none (orders.Total parts) is = differ (codes "solve") (codes "total") refl is.0
+no_solve rows none (orders.Show subject) is = differ (codes "solve") (codes "show") refl is.0
+no_solve rows none (orders.Draw subject first numbers) is = differ (codes "solve") (codes "draw") refl is.0
+no_solve rows none (orders.Symmetries puzzle) is = differ (codes "solve") (codes "symmetries") refl is.0
+no_solve rows none (orders.Tiles sides colours lines) is = differ (codes "solve") (codes "tiles") refl is.0
+
 -- none of a solve whose list or certificate has the name of standard input
-pub no_solve : (rows : List Row) (files : Files) → NameFiles rows files → (AreWritable files → ⊥) → (order : Order) → IsOrderOf (Some (codes "solve", rows)) order → ⊥
-no_solve rows files named not orders.Joined is = is
-no_solve rows files named not (orders.Check other workers forks progress hints) is = differ (codes "solve") (codes "check") refl is.0
-no_solve rows files named not (orders.Explain given) is = differ (codes "solve") (codes "explain") refl is.0
-no_solve rows files named not (orders.ExplainPuzzle puzzle) is = differ (codes "solve") (codes "explain") refl is.0
-no_solve rows files named not (orders.Solve other depth fuel workers keep progress hints) is = not (record {
-  list = λ same. is.2.list (some_is (sym is.1.list ∙ named.list) ∙ same);
-  certificate = λ same. is.2.certificate (some_is (sym is.1.certificate ∙ named.certificate) ∙ same);
-})
-no_solve rows files named not (orders.Expand given orbits hints) is = differ (codes "solve") (codes "expand") refl is.0
-no_solve rows files named not (orders.Count given) is = differ (codes "solve") (codes "count") refl is.0
-no_solve rows files named not (orders.Census puzzle extent workers progress) is = differ (codes "solve") (codes "count") refl is.0
-no_solve rows files named not (orders.Total parts) is = differ (codes "solve") (codes "total") refl is.0
-no_solve rows files named not (orders.Show subject) is = differ (codes "solve") (codes "show") refl is.0
-no_solve rows files named not (orders.Draw subject first numbers) is = differ (codes "solve") (codes "draw") refl is.0
-no_solve rows files named not (orders.Symmetries puzzle) is = differ (codes "solve") (codes "symmetries") refl is.0
-no_solve rows files named not (orders.Tiles sides colours lines) is = differ (codes "solve") (codes "tiles") refl is.0
+pub not_writable : (rows : List Row) (files : Files) → NameFiles rows files → (AreWritable files → ⊥) → (order : Order) → IsOrderOf (Some (codes "solve", rows)) order → ⊥
+not_writable rows files named not = no_solve rows (λ other symmetries names writable asked. not (record {
+  list = λ same. writable.list (some_is (sym names.list ∙ named.list) ∙ same);
+  certificate = λ same. writable.certificate (some_is (sym names.certificate ∙ named.certificate) ∙ same);
+}))
+
+-- none of a solve that asks for no symmetries
+pub not_suggested : (rows : List Row) → ((symmetries : Suggested) → AskFor rows symmetries → ⊥) → (order : Order) → IsOrderOf (Some (codes "solve", rows)) order → ⊥
+not_suggested rows none = no_solve rows (λ files symmetries names writable asked. none symmetries asked)
 
 -- files of which but some are named
 pub but_some : (rows : List Row) → (NameNothing rows → ⊥) → ((files : Files) → NameFiles rows files → ⊥) → (any : Given) → IsGivenInFiles rows any → ⊥

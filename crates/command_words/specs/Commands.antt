@@ -39,6 +39,10 @@ optional_number id least most default =
 abbrev pub optional_text : Text → Rule
 optional_text id = record (new_rule id) { long = Some id; value_names = 1 }
 
+-- a word behind an option of this name, which is `default` where the option isn't given
+abbrev pub optional_choice : Text → Text → Rule
+optional_choice id default = record (optional_text id) { defaults = default ∷ [] }
+
 -- a number of 64 bits behind an option of this name
 abbrev pub optional_bound : Text → Rule
 optional_bound id = record (optional_text id) { parser = Some (parsers.Unsigned 0 18446744073709551615) }
@@ -82,6 +86,7 @@ solve_app =
     (optional_number (codes "depth") 0 MOST_DEPTH (codes "1")
     ∷ optional_number (codes "fuel") 1 MOST_FUEL (codes "1000000")
     ∷ optional_number (codes "workers") 1 MOST_WORKERS (codes "1")
+    ∷ optional_choice (codes "symmetries") (codes "all")
     ∷ flag (codes "keep")
     ∷ flag (codes "progress")
     ∷ flag (codes "hints")

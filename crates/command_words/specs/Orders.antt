@@ -19,6 +19,8 @@ use Rattle.command_words.specs.declared.orders.Order.{Order}
 use Rattle.command_words.specs.declared.orders.Order.TheVariants.{Joined, Check, Explain, ExplainPuzzle, Solve, Expand, Count, Census, Total, Show, Draw, Symmetries, Tiles}
 use Rattle.command_words.specs.Commands.{whole_app}
 use Rattle.command_words.specs.Parts.{IsPartsText}
+use Rattle.match_symmetry.specs.declared.choices.Suggested.{Suggested}
+use Rattle.match_symmetry.specs.declared.choices.Suggested.TheVariants as suggested
 use Rattle.command_words.specs.Places.{certificate_place, input_name, list_of_two, list_place, puzzle_of_two, puzzle_place}
 use Rattle.command_words.specs.declared.places.Given.{Given}
 use Rattle.command_words.specs.declared.places.Given.TheVariants.{Apart}
@@ -137,6 +139,15 @@ IsExtent rows (extents.Parts parts) =
     (first_of (codes "most") rows ≡ None)
     × (text : Text) × (first_of (codes "part") rows ≡ Some text) × IsPartsText text parts
 
+-- the word behind `--symmetries` that asks for these
+abbrev pub word_for : Suggested → Text
+word_for suggested.All = codes "all"
+word_for suggested.OfBoard = codes "board"
+
+-- which symmetries the matches of `solve` ask for
+abbrev pub AskFor : List Row → Suggested → Type 0
+AskFor rows symmetries = first_of (codes "symmetries") rows ≡ Some (word_for symmetries)
+
 -- The command and its matches give the order.
 abbrev pub IsOrderOf : Option (Text × List Row) → Order → Type 0
 IsOrderOf None Joined = Unit {0}
@@ -146,10 +157,10 @@ IsOrderOf (Some (name, rows)) (Check files workers forks progress hints) =
     × IsFlagged (codes "hints") rows hints
 IsOrderOf (Some (name, rows)) (Explain given) = (name ≡ codes "explain") × IsGiven rows given
 IsOrderOf (Some (name, rows)) (ExplainPuzzle puzzle) = (name ≡ codes "explain") × NamesPuzzle rows puzzle
-IsOrderOf (Some (name, rows)) (Solve files depth fuel workers keep progress hints) =
+IsOrderOf (Some (name, rows)) (Solve files depth fuel workers symmetries keep progress hints) =
     (name ≡ codes "solve") × NameFiles rows files × AreWritable files × (number_of (codes "depth") rows ≡ Some depth)
     × (number_of (codes "fuel") rows ≡ Some fuel) × (number_of (codes "workers") rows ≡ Some workers)
-    × IsFlagged (codes "keep") rows keep × IsFlagged (codes "progress") rows progress
+    × AskFor rows symmetries × IsFlagged (codes "keep") rows keep × IsFlagged (codes "progress") rows progress
     × IsFlagged (codes "hints") rows hints
 IsOrderOf (Some (name, rows)) (Expand given orbits hints) =
     (name ≡ codes "expand") × IsGivenInFiles rows given × IsFlagged (codes "orbits") rows orbits

@@ -66,8 +66,9 @@ With a depth of 1 or more it looks for symmetries of the puzzle first, makes lem
 branches of so many levels, and cites these, and their images, instead of searching again: most \
 puzzles with symmetries take a fraction of the time then. Their list leaves out most images of what \
 it has, though not all, so its length is no number to publish: count says how many arrangements \
-there are, and how many that are no images of each other. With a depth of 0 every arrangement is \
-listed. The workers share the branches.
+there are, and how many that are no images of each other: with --symmetries board up to turns and mirror images \
+of the board and exchanges of equal tiles, else up to exchanges of colours too. With a depth of 0 every \
+arrangement is listed, and no symmetry is named. The workers share the branches.
 
 The fuel is the most branch nodes that are made for one lemma: cells or tiles at which it is tried \
 what fits. Where more than one worker searches, or the depth isn't 0, a lemma that is short of fuel \
@@ -232,11 +233,20 @@ Example:
 #[derive(Clone, Copy)]
 enum Kind {
     // By a word at its place, which has to be there or may be left out.
-    Word { is_wanted: bool },
+    Word {
+        is_wanted: bool,
+    },
     // By one word or more at its place, each of which is a value.
     Words,
     // By an option of its name, behind which its value stands. Help calls the value so.
-    Option { value: &'static str },
+    Option {
+        value: &'static str,
+    },
+    // By an option of its name, behind which one of some words stands, this one if it isn't given. Help calls the word so.
+    Choice {
+        value: &'static str,
+        default: &'static str,
+    },
     // By a flag of its name.
     Flag,
 }
@@ -375,6 +385,16 @@ const FUEL: Argument = Argument {
         default: Some("1000000"),
     }),
     help: "The most branch nodes that are made for a lemma, 1 to 1000000",
+};
+
+const SUGGESTED: Argument = Argument {
+    id: "symmetries",
+    kind: Kind::Choice {
+        value: "WHICH",
+        default: "all",
+    },
+    number: None,
+    help: "Which symmetries the certificate names: all, or board, those that leave each colour as it is",
 };
 
 const KEEP: Argument = Argument {
@@ -520,6 +540,7 @@ const SOLVE: CommandTable = CommandTable {
         DEPTH,
         FUEL,
         SEARCHING_WORKERS,
+        SUGGESTED,
         KEEP,
         PROGRESS,
         HINTS,
@@ -592,6 +613,7 @@ fn with_kind<'a>(arg: Arg<'a>, id: &'a str, kind: Kind) -> Arg<'a>
         Kind::Word { is_wanted } => arg.required(is_wanted),
         Kind::Words => arg.required(true).action(ArgAction::Append),
         Kind::Option { value } => arg.long(id).value_name(value),
+        Kind::Choice { value, default } => arg.long(id).value_name(value).default_value(default),
         Kind::Flag => arg.long(id).action(ArgAction::SetTrue),
     }
 }

@@ -4,6 +4,7 @@ use crate::places::{Files, Given, PartPlaces, Place, TwoPlaces};
 use match_limits::{
     ArrangementNumber, Colours, Depth, Drawn, Forks, Fuel, OtherParts, Sides, Workers,
 };
+use match_symmetry::Suggested;
 
 /// One or more parts of a search that is dealt to several, which stand side by side: how many parts come before the first
 /// of them, how many more there are of them, and how many come behind the last.
@@ -86,13 +87,14 @@ pub enum Order {
     /// To say whether the text of the puzzle that stands there has a fault.
     ExplainPuzzle(Place),
     /// To search for all arrangements of the puzzle in its file, and to make the files of their list and of a
-    /// certificate; to keep what stands there until both are written, or not; to tell meanwhile how far it is, or not; to
+    /// certificate, which names those symmetries that are asked for; to keep what stands there until both are written, or not; to tell meanwhile how far it is, or not; to
     /// tell what has to be changed in a text that has a fault, as of a check, or not.
     Solve {
         files: Files,
         depth: Depth,
         fuel: Fuel,
         workers: Workers,
+        symmetries: Suggested,
         keep: bool,
         progress: bool,
         hints: bool,

@@ -6,7 +6,7 @@ ghost use Rattle.std.specs.Str.Parse.{digits_value, without_leading_plus};
 ghost use Rattle.clap.specs.Words.{IsUnsignedIn, first_of, found_of, kind_of, rows_of};
 ghost use Rattle.clap.specs.declared.error.kind.ErrorKind.TheVariants.{ArgumentConflict};
 ghost use Rattle.command_words.specs.Places.{input_name};
-ghost use Rattle.command_words.specs.Orders.{AreMatchesOf, AreNamedParts, AreWritable, HasFiles, HasFlag, HasNumber, HasText, IsExtent, IsFlagged};
+ghost use Rattle.command_words.specs.Orders.{AreMatchesOf, AreNamedParts, AreWritable, AskFor, HasFiles, HasFlag, HasNumber, HasText, IsExtent, IsFlagged};
 ghost use Rattle.command_words.specs.Orders.{IsGiven, IsGivenInFiles, IsMisfit, IsOrder, IsOrderOf, IsPlace, IsRefused};
 ghost use Rattle.command_words.specs.Orders.{IsSubject, MayHaveNumber, NameFiles, TellsOfMisfit, number_of};
 ghost use Rattle.command_words.specs.Asked.{AreAskedFor, IsAsked, MayStandAt};
@@ -16,6 +16,7 @@ ghost use Rattle.command_words.specs.declared.orders.Parts.{Parts};
 ghost use Rattle.command_words.specs.declared.orders.Subject.{Subject};
 ghost use Rattle.command_words.specs.declared.places.Given.{Given};
 ghost use Rattle.command_words.specs.declared.places.PartPlaces.{PartPlaces};
+ghost use Rattle.match_symmetry.specs.declared.choices.Suggested.{Suggested};
 
 use crate::commands::{
     count as count_command, draw as draw_command, expand as expand_command,
@@ -28,6 +29,7 @@ use crate::places::{Files, Given, PartPlaces, Place, ThreePlaces, TwoPlaces};
 use clap::error::ErrorKind;
 use clap::{ArgMatches, Command};
 use match_limits::Within;
+use match_symmetry::Suggested;
 use std::alloc::{AllocError, Global};
 
 // Why words that name standard input twice order nothing.
@@ -44,6 +46,9 @@ const NO_CERTIFICATE: &str =
 // Why words that name a list or a certificate as standard input is named order no solve.
 const NOT_WRITTEN: &str =
     "a solve writes no list or certificate to -: ./- is a file of that name, and /dev/stdout is standard output";
+
+// Why a word that asks for no symmetries orders no solve.
+const NOT_SUGGESTED: &str = "--symmetries is all, or board: those that leave each colour as it is";
 
 // The text under this id.
 fn text(alloc: Global, matches: &ArgMatches<'_>, id: &str) -> Result<String, AllocError>
@@ -260,6 +265,21 @@ fn check(alloc: Global, matches: &ArgMatches<'_>) -> Result<Order, WordsFault>
     })
 }
 
+// Which symmetries the matches of `solve` ask for.
+fn suggested(matches: &ArgMatches<'_>) -> Option<Suggested>
+    ensures { MatchOption result ((symmetries : Suggested) → AskFor (rows_of (found_of matches.now)) symmetries → ⊥)
+        (AskFor (rows_of (found_of matches.now))) }
+{
+    let Some(word) = matches.get_str("symmetries") else {
+        return None;
+    };
+    match word {
+        "all" => Some(Suggested::All),
+        "board" => Some(Suggested::OfBoard),
+        _ => None,
+    }
+}
+
 fn solve(alloc: Global, matches: &ArgMatches<'_>) -> Result<Order, WordsFault>
     requires { AreMatchesOf (codes "solve") (rows_of (found_of matches.now)) }
     ensures order { IfOk result (IsOrderOf (Some (codes "solve", rows_of (found_of matches.now)))) }
@@ -269,6 +289,9 @@ fn solve(alloc: Global, matches: &ArgMatches<'_>) -> Result<Order, WordsFault>
     if !are_writable(&files) {
         return Err(misfit(solve_command(alloc), "edgematch solve", NOT_WRITTEN));
     }
+    let Some(symmetries) = suggested(matches) else {
+        return Err(misfit(solve_command(alloc), "edgematch solve", NOT_SUGGESTED));
+    };
     let depth = number(matches, "depth");
     let fuel = number(matches, "fuel");
     let workers = number(matches, "workers");
@@ -280,6 +303,7 @@ fn solve(alloc: Global, matches: &ArgMatches<'_>) -> Result<Order, WordsFault>
         depth,
         fuel,
         workers,
+        symmetries,
         keep,
         progress,
         hints,
@@ -549,8 +573,8 @@ fn tiles(matches: &ArgMatches<'_>) -> Order
 ///
 /// Words that name no command order what no words do. `Words` where they are wrong or ask for help,
 /// by the program's commands as `clap` reads them, or don't go together, and then the error says why: `count`, `explain` or
-/// `expand` has but some of three documents, `count` has these beside what a search is asked, or two documents are to be
-/// read from standard input.
+/// `expand` has but some of three documents, `count` has these beside what a search is asked, `solve` asks for symmetries by
+/// a word that is none of the two, or two documents are to be read from standard input.
 pub fn order(alloc: Global, words: &[String]) -> Result<Order, WordsFault>
     ensures order { IfOk result (IsOrder (map string_bytes words.now)) }
 

@@ -11,5 +11,6 @@ mod strategy;
 
 pub use cert_check::{Gate, Open, check_with};
 pub use faults::SolveFault;
-pub use solves::{Solved, solve_watched, solve_with};
+pub use match_symmetry::Suggested;
+pub use solves::{SearchPlan, Solved, solve_watched, solve_with};
 pub use xcc_dance::{Unwatched, Watch};

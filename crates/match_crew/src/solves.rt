@@ -12,6 +12,7 @@ ghost use Rattle.cert_text.specs.CertificateSpelling.{IsCertificateWithin};
 ghost use Rattle.cert_text.specs.Writing.{said_by};
 ghost use Rattle.piece_desk.specs.FlatDesks.{IsOfFlat};
 ghost use Rattle.xcc_form.specs.Options.{HasTooManyEntries};
+ghost use Rattle.match_symmetry.specs.Suggestions.{IsAskedFor};
 ghost use Rattle.match_crew.specs.Solving.{IsOutcomeOf, IsSearchedBy, IsSolvedBy};
 
 use crate::branches::OpenBranch;
@@ -24,9 +25,9 @@ use crate::strategy::roots::plan_by_dives;
 use cert_text::within_limits_with;
 use cert_tree::{AssembleFault, Certificate};
 use live_crew::run_live;
-use match_limits::{MOST_ARRANGEMENTS, MOST_LEMMAS};
+use match_limits::{Depth, Fuel, MOST_ARRANGEMENTS, MOST_LEMMAS, Within, Workers};
 use match_puzzle::{Arrangement, Puzzle};
-use match_symmetry::suggest;
+use match_symmetry::{Suggested, suggest_of};
 use match_text::list_within_limits;
 use piece_desk::{FlatDesk, FlatReceipt};
 use puzzle_symmetry::{Symmetry, SymmetryFault, SymmetryLine};
@@ -38,6 +39,18 @@ use steal_crew::Crew;
 use xcc_dance::{Unwatched, Watch};
 use xcc_form::{Xcc, compile};
 
+/// By what a puzzle is searched.
+#[derive(Clone, Copy)]
+pub struct SearchPlan {
+    /// Of how many levels of branches lemmas are made before the search begins.
+    pub depth: Depth,
+    /// How many branch nodes a lemma may have.
+    pub fuel: Fuel,
+    pub workers: Workers,
+    /// By which symmetries lemmas may be cited, where the depth isn't 0.
+    pub symmetries: Suggested,
+}
+
 /// Arrangements of a puzzle, with a certificate, and who took which lemma: for each worker the numbers of those that it
 /// searched, as they were on the desk, where the root is 0.
 #[derive(Drop)]
@@ -48,14 +61,20 @@ pub struct Solved {
 }
 
 // The symmetries by which lemmas may be cited.
-fn lines_of(alloc: Global, puzzle: &Puzzle, depth: u8) -> Result<Vec<SymmetryLine>, AllocError>
+fn lines_of(
+    alloc: Global,
+    puzzle: &Puzzle,
+    depth: u8,
+    asked: Suggested,
+) -> Result<Vec<SymmetryLine>, AllocError>
     ensures symmetries { IfOk result (λ v. All (IsSymmetry puzzle.now) v.items) }
+    ensures asked_for { IfOk result (λ v. All (IsAskedFor asked) v.items) }
     ensures few { IfOk result (λ v. vec_len v ≤ MOST_SYMMETRIES) }
 {
     if depth == 0 {
         return Ok(Vec::new(alloc));
     }
-    let lines = suggest(alloc, puzzle)?;
+    let lines = suggest_of(alloc, puzzle, asked)?;
     Ok(lines)
 }
 
@@ -223,6 +242,7 @@ fn certificate_of<R: Threads + Sync>(
     requires count { vec_len collected.now.first ≤ MOST_LEMMAS }
     requires first { All (λ n. n ≤ MOST_ARRANGEMENTS) collected.now.first.items }
     requires lines { length lines.items < 2 ^ 32 }
+    ensures symmetries { IfOk result (λ c. c.symmetries ≡ lines.items) }
     ensures within { IfOk result (λ c. IsCertificateWithin (said_by 2 c)) }
     ensures many { IfOk result (λ c. length c.lemmas ≡ vec_len collected.now.first) }
     ensures fault { IfErr result (λ f. f ≢ SolveFault.TooMany) }
@@ -261,6 +281,7 @@ fn put_together<R: Threads + Sync>(
     requires lines { vec_len lines ≤ MOST_SYMMETRIES }
     ensures arrangements { IfOk result (λ r. AreArrangements puzzle.now r.0.items) }
     ensures list { IfOk result (λ r. IsListWithin SECOND r.0.items) }
+    ensures symmetries { IfOk result (λ r. r.1.symmetries ≡ lines.items) }
     ensures certificate { IfOk result (λ r. IsCertificateWithin (said_by 2 r.1)) }
     ensures many { IfOk result (λ r. length r.1.lemmas ≡ vec_len results) }
     ensures fault { IfErr result (λ f. f ≢ SolveFault.TooMany) }
@@ -285,6 +306,7 @@ fn solve_by<R: Threads + Wait + Sync, W: Watch + Sync>(
     requires lines { vec_len lines ≤ MOST_SYMMETRIES }
     ensures solved { IfOk result (λ s. IsSolvedBy xcc.now.puzzle shared.now.workers
         s.list.items s.tally.items s.certificate) }
+    ensures symmetries { IfOk result (λ s. s.certificate.symmetries ≡ lines.items) }
     ensures fault { IfErr result (λ f. f ≢ SolveFault.TooMany) }
 {
     let desk = FlatDesk::new(shared.alloc)?;
@@ -321,32 +343,37 @@ pub fn solve_with<R: Threads + Wait + Sync>(
     ensures solved { IfOk result (λ s. IsSolvedBy puzzle.now workers s.list.items s.tally.items s.certificate) }
     ensures too_many { IsErrOf result SolveFault.TooMany → HasTooManyEntries puzzle.now }
 {
-    solve_watched(rt, alloc, puzzle, depth, fuel, workers, &Unwatched)
+    let search = SearchPlan {
+        depth: Within::new(u32::from(depth)),
+        fuel: Within::new(fuel),
+        workers: Within::new(u32::from(workers)),
+        symmetries: Suggested::All,
+    };
+    solve_watched(rt, alloc, puzzle, search, &Unwatched)
 }
 
-/// The same, of which the watch is told while it runs.
+/// What [`solve_with`] does, by this plan, of which the watch is told while it runs. Each symmetry that the certificate
+/// names is one of those that the plan asks for.
 pub fn solve_watched<R: Threads + Wait + Sync, W: Watch + Sync>(
     rt: &R,
     alloc: Global,
     puzzle: &Puzzle,
-    depth: u8,
-    fuel: u32,
-    workers: u8,
+    search: SearchPlan,
     watch: &W,
 ) -> Result<Solved, SolveFault>
-    requires depth { depth ≤ MOST_DEPTH }
-    requires fuel { (1 ≤ fuel) × (fuel ≤ MOST_FUEL) }
-    requires workers { (1 ≤ workers) × (workers ≤ MOST_WORKERS) }
-    ensures solved { IfOk result (λ s. IsSolvedBy puzzle.now workers s.list.items s.tally.items s.certificate) }
+    ensures solved { IfOk result (λ s. IsSolvedBy puzzle.now search.workers s.list.items s.tally.items s.certificate) }
+    ensures asked_for { IfOk result (λ s. All (IsAskedFor search.symmetries) s.certificate.symmetries) }
     ensures too_many { IsErrOf result SolveFault.TooMany → HasTooManyEntries puzzle.now }
 {
+    let depth = search.depth.get() as u8;
+    let workers = search.workers.get() as u8;
     let xcc = compile(alloc, puzzle)?;
-    let lines = lines_of(alloc, puzzle, depth)?;
+    let lines = lines_of(alloc, puzzle, depth, search.symmetries)?;
     let plan = plan_of(rt, alloc, &xcc, &lines, depth, workers)?;
     let shared = Shared {
         alloc,
         plan: &plan,
-        fuel,
+        fuel: search.fuel.get(),
         workers,
         waiting: AtomicU64::new(0),
     };

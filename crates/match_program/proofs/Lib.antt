@@ -2,4 +2,3 @@ mod WordLemmas
 pub mod OrderLemmas
 pub mod SolvedLemmas
 pub mod PartLemmas
-pub mod PlaceLemmas

@@ -23,10 +23,14 @@ use Rattle.command_words.specs.declared.places.Place.{Place}
 use Rattle.command_words.specs.declared.places.ThreePlaces.{ThreePlaces}
 use Rattle.command_words.specs.declared.places.TwoPlaces.{TwoPlaces}
 use Rattle.match_runs.specs.Listed.{DrawFails, DrawsListed}
-use Rattle.match_program.specs.OrderRuns.{EndsBy, ThenDone}
+use Rattle.match_runs.specs.Pictures.{DrawsPicture, PictureFails}
+use Rattle.match_program.specs.OrderRuns.{DrawingOf, EndsBy, ThenDone}
 use Rattle.match_runs.specs.Printing.{Prints, PrintingGives}
 use Rattle.match_runs.specs.Runs.{Runs}
+use Rattle.match_program.specs.declared.exits.Exit.{Exit}
 use Rattle.match_program.specs.declared.exits.Exit.TheVariants.{Done}
+use Rattle.match_program.specs.declared.place_runs.Drawing.{Drawing}
+use Rattle.match_program.specs.declared.place_runs.Drawing.TheVariants.{Arrangement, Picture}
 use Rattle.match_report.specs.declared.statuses.Status.{Status}
 use Rattle.match_report.specs.declared.statuses.Status.TheVariants as status
 use Rattle.match_runs.specs.declared.faults.RunFault.{RunFault}
@@ -78,36 +82,41 @@ module _ (output : Writing) where
   then_done from from' gives fails gave stopped result run =
       over from from' gives (ThenDone gives) fails (one_sink output) (λ e. Done) gave stopped (λ t m e g. (g, refl)) result run
 
-  module _ {S R W I : Type 0} (system : FileMembers S R W) (source : SourceMembers R) (input : SourceMembers I) (at : S) (given : I) where
-    -- of a puzzle that stands there
-    pub over_place : (gives : List ℕ → List ℕ → Unit {0} → Type 0) (fails : List ℕ → RunFault → Type 0) (place : Place) (reader : OpenedAt system source input at given place) (result : Result (Unit {0}) RunFault)
-        → Runs (one_source documents.Puzzle (read_at system source input at given place reader)) gives fails (one_sink output) result
-        → Runs (one_place system source input at given place) (ThenDone gives) fails (one_sink output) (ended (λ e. Done) result)
-    over_place gives fails place reader result run =
-        then_done (one_source documents.Puzzle (read_at system source input at given place reader)) (one_place system source input at given place) gives fails (λ t gave. (reader, gave)) (λ f stops. inr (reader, stops)) result run
+-- what a run comes to by what else is said of where its texts come from
+pub over_origin : {T M E : Type 0} (from from' : Origin T) (gives : T → M → E → Type 0) (fails : T → RunFault → Type 0) (to : Target M)
+    → ((t : T) → from.Gave t → from'.Gave t) → ((f : InputFault) → from.Stopped f → from'.Stopped f)
+    → (result : Result E RunFault) → Runs from gives fails to result → Runs from' gives fails to result
+over_origin from from' gives fails to gave stopped (Ok e) run = over from from' gives gives fails to (λ e. e) gave stopped (λ t m e g. g) (Ok e) run
+over_origin from from' gives fails to gave stopped (Err fault) run = over from from' gives gives fails to (λ e. e) gave stopped (λ t m e g. g) (Err fault) run
 
-    -- of a puzzle and a list
-    pub over_two : (gives : TwoTexts → List ℕ → Unit {0} → Type 0) (fails : TwoTexts → RunFault → Type 0) (two : TwoPlaces) (both : BothOpened system source input at given two) (result : Result (Unit {0}) RunFault)
-        → Runs (read_both system source input at given two both) gives fails (one_sink output) result
-        → Runs (two_places system source input at given two) (ThenDone gives) fails (one_sink output) (ended (λ e. Done) result)
-    over_two gives fails two both result run =
-        then_done (read_both system source input at given two both) (two_places system source input at given two) gives fails (λ t gave. (both, gave)) (λ f stops. inr (both, stops)) result run
+-- what a drawing comes to, so
+pub drawing_over : (drawing : Drawing) (from from' : Origin TwoTexts) (output : Writing)
+    → ((t : TwoTexts) → from.Gave t → from'.Gave t) → ((f : InputFault) → from.Stopped f → from'.Stopped f)
+    → (result : Result Exit RunFault) → DrawingOf drawing from output result → DrawingOf drawing from' output result
+drawing_over (Arrangement number) from from' output gave stopped result run = over_origin from from' (ThenDone (DrawsListed number)) (DrawFails number) (one_sink output) gave stopped result run
+drawing_over (Picture plan) from from' output gave stopped result run = over_origin from from' (ThenDone (DrawsPicture plan.number plan.first)) (PictureFails plan.number plan.first) (one_sink output) gave stopped result run
 
-    -- and by the number that is drawn
-    pub over_drawn : (number drawn : ℕ) → drawn ≡ number → (two : TwoPlaces) (both : BothOpened system source input at given two) (result : Result (Unit {0}) RunFault)
-        → Runs (read_both system source input at given two both) (DrawsListed drawn) (DrawFails drawn) (one_sink output) result
-        → Runs (two_places system source input at given two) (ThenDone (DrawsListed number)) (DrawFails number) (one_sink output) (ended (λ e. Done) result)
-    over_drawn number drawn same two both result run =
-        subst (λ (n : ℕ). Runs (two_places system source input at given two) (ThenDone (DrawsListed n)) (DrawFails n) (one_sink output) (ended (λ e. Done) result)) same
-        (over_two (DrawsListed drawn) (DrawFails drawn) two both result run)
+module _ {S R W I : Type 0} (system : FileMembers S R W) (source : SourceMembers R) (input : SourceMembers I) (at : S) (given later : I) where
+  -- of a puzzle that stands there
+  pub over_place : {M E : Type 0} (gives : List ℕ → M → E → Type 0) (fails : List ℕ → RunFault → Type 0) (to : Target M) (place : Place) (opened : OpenedAt system source input at given later place) (result : Result E RunFault)
+      → Runs (one_source documents.Puzzle (read_at system source input at given later place opened)) gives fails to result
+      → Runs (one_place system source input at given later place) gives fails to result
+  over_place gives fails to place opened result run =
+      over_origin (one_source documents.Puzzle (read_at system source input at given later place opened)) (one_place system source input at given later place) gives fails to (λ t gave. (opened, gave)) (λ f stops. inr (opened, stops)) result run
 
-    -- of three documents, whatever is given of them and however that ends
-    pub over_places : {M E : Type 0} (gives : Texts → M → E → Type 0) (fails : Texts → RunFault → Type 0) (to : Target M) (three : ThreePlaces) (all : AllOpenedAt system source input at given three) (result : Result E RunFault)
-        → Runs (read_all_at system source input at given three all) gives fails to result → Runs (three_places system source input at given three) gives fails to result
-    over_places gives fails to three all (Ok e) run =
-        over (read_all_at system source input at given three all) (three_places system source input at given three) gives gives fails to (λ e. e) (λ t gave. (all, gave)) (λ f stops. inr (all, stops)) (λ t m e g. g) (Ok e) run
-    over_places gives fails to three all (Err fault) run =
-        over (read_all_at system source input at given three all) (three_places system source input at given three) gives gives fails to (λ e. e) (λ t gave. (all, gave)) (λ f stops. inr (all, stops)) (λ t m e g. g) (Err fault) run
+  -- of a puzzle and a list
+  pub over_two : (drawing : Drawing) (two : TwoPlaces) (both : BothOpened system source input at given later two) (output : Writing) (result : Result Exit RunFault)
+      → DrawingOf drawing (read_both system source input at given later two both) output result
+      → DrawingOf drawing (two_places system source input at given later two) output result
+  over_two drawing two both output result run =
+      drawing_over drawing (read_both system source input at given later two both) (two_places system source input at given later two) output (λ t gave. (both, gave)) (λ f stops. inr (both, stops)) result run
+
+  -- of three documents
+  pub over_places : {M E : Type 0} (gives : Texts → M → E → Type 0) (fails : Texts → RunFault → Type 0) (to : Target M) (three : ThreePlaces) (all : AllOpenedAt system source input at given later three) (result : Result E RunFault)
+      → Runs (read_all_at system source input at given later three all) gives fails to result
+      → Runs (three_places system source input at given later three) gives fails to result
+  over_places gives fails to three all result run =
+      over_origin (read_all_at system source input at given later three all) (three_places system source input at given later three) gives fails to (λ t gave. (all, gave)) (λ f stops. inr (all, stops)) result run
 
 -- a reader of the file of a name, as it was opened and as it is later
 abbrev pub opened_as : {S R W : Type 0} (system : FileMembers S R W) (source : SourceMembers R) (at : S) (name given : List ℕ) (opened later : R)

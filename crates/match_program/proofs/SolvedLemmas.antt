@@ -1,5 +1,5 @@
 -- What a solve comes to, by the run that it makes and what is done to its files.
-use Rattle.std.proofs.Common.{◌≡◌, ◌⊎◌, ◌++◌, ◌∷◌, [], ℕ, List, Option, Result, Ok, Err, IfErr, ap, inl, inr, refl, subst, zero-le}
+use Rattle.std.proofs.Common.{◌≡◌, ◌⊎◌, ◌++◌, ◌∷◌, [], ℕ, List, Option, Result, Ok, Err, ap, inl, inr, refl, subst, zero-le}
 use Rattle.std.specs.Prelude.{OnOk}
 use Rattle.std.specs.Io.KnownBytes.{Appends, Consumes}
 use Rattle.std.proofs.KnownBytes.{Consumes-nil}
@@ -25,7 +25,8 @@ use Rattle.match_runs.specs.Runs.{Runs, unhinted}
 use Rattle.match_runs.specs.declared.hints.HintedFault.{HintedFault}
 use Rattle.match_program.specs.SolvedFiles.{certificate_name, half_put, list_name, solved_files}
 use Rattle.match_program.specs.SolvedFiles.{both_made as files_made}
-use Rattle.match_runs.specs.Solving.{SolveFails, SolveGives}
+use Rattle.match_runs.specs.Solving.{SolveFails, SolveGivesOf}
+use Rattle.match_symmetry.specs.declared.choices.Suggested.{Suggested}
 use Rattle.match_program.specs.declared.exits.Exit.TheVariants.{Done}
 use Rattle.match_runs.specs.declared.faults.RunFault.{RunFault}
 use Rattle.match_runs.specs.declared.faults.RunFault.TheVariants as runs
@@ -76,13 +77,13 @@ reports_some list certificate report made (inr later) = second_stops certificate
 
 module _ {S R W : Type 0} (system : FileMembers S R W) (source : SourceMembers R) (at : S) (name : List ℕ) (file : Opened system source at name) where
   -- the run that a solve makes stopped, and what was made was removed
-  pub solve_stopped : (workers : ℕ) (list certificate report : Writing) (to : Target Products) (Put : Products → Type 0) (Undone : Type 0) → Undone
+  pub solve_stopped : (symmetries : Suggested) (workers : ℕ) (list certificate report : Writing) (to : Target Products) (Put : Products → Type 0) (Undone : Type 0) → Undone
       → ((made : Products) → Undone × (report.Untouched ⊎ (FrontOf report made.report ⊎ Takes report made.report)) → to.Stopped made) → (Undone × report.Untouched → to.Untouched)
       → (fault : RunFault)
-      → Runs (one_source documents.Puzzle (read_from system source at name file)) (SolveGives workers) SolveFails (three_sinks list certificate report) (Err fault)
-      → SolveOf workers (one_file system source at name) to Put (Err fault)
-  solve_stopped workers list certificate report to Put Undone undone stopped untouched fault run =
-      inl (stopped_over (one_source documents.Puzzle (read_from system source at name file)) (one_file system source at name) (SolveGives workers) (ThenDone (SolveGives workers)) SolveFails
+      → Runs (one_source documents.Puzzle (read_from system source at name file)) (SolveGivesOf symmetries workers) SolveFails (three_sinks list certificate report) (Err fault)
+      → SolveOf symmetries workers (one_file system source at name) to Put (Err fault)
+  solve_stopped symmetries workers list certificate report to Put Undone undone stopped untouched fault run =
+      inl (stopped_over (one_source documents.Puzzle (read_from system source at name file)) (one_file system source at name) (SolveGivesOf symmetries workers) (ThenDone (SolveGivesOf symmetries workers)) SolveFails
       (three_sinks list certificate report) to (λ t gave. (file, gave)) (λ f stops. inr (file, stops)) (λ t m e g. (Done, (g, refl)))
       (λ m stops. stopped m (undone, reports_some list certificate report m stops)) (λ u. untouched (undone, u.2)) fault run)
 
@@ -94,10 +95,10 @@ module _ {S R W : Type 0} (system : FileMembers S R W) (source : SourceMembers R
       nothing = rw same (Consumes-nil (source.left file.opened))
 
   -- it is not begun, since a file could not be made
-  pub not_begun : file.later ≡ file.opened → (workers : ℕ) (to : Target Products) (Put : Products → Type 0) (fault : RunFault) → (fault ≡ runs.Write) ⊎ (fault ≡ runs.Memory) → to.Untouched
-      → SolveOf workers (one_file system source at name) to Put (Err fault)
-  not_begun same workers to Put fault (inl write) untouched = rw write (inr (inl (refl, untouched)))
-  not_begun same workers to Put fault (inr memory) untouched = rw memory (inl (unread same, untouched))
+  pub not_begun : file.later ≡ file.opened → (symmetries : Suggested) (workers : ℕ) (to : Target Products) (Put : Products → Type 0) (fault : RunFault) → (fault ≡ runs.Write) ⊎ (fault ≡ runs.Memory) → to.Untouched
+      → SolveOf symmetries workers (one_file system source at name) to Put (Err fault)
+  not_begun same symmetries workers to Put fault (inl write) untouched = rw write (inr (inl (refl, untouched)))
+  not_begun same symmetries workers to Put fault (inr memory) untouched = rw memory (inl (unread same, untouched))
 
 -- all was written, and a file could not be put in its place
 pub put_stopped : {S : Type 0} (does : S → Deed → S → Type 0) (leads : S → List ℕ → List ℕ → Type 0) (files : Files) (old now new : S) (report : Writing) (made : Products) → Did does old (files_made files) now

@@ -1,7 +1,7 @@
-pub mod DocumentReaders
 pub mod Exits
 pub mod FileOrigins
 pub mod Files
+pub mod InputUse
 pub mod OrderRuns
 pub mod PartFiles
 pub mod PlaceOrigins

@@ -10,6 +10,7 @@ use Rattle.byte_streams.specs.Documents.{Texts}
 use Rattle.byte_streams.specs.Moves.{Writing, reading_of}
 use Rattle.byte_streams.specs.Origins.{Origin, joined_source, no_source}
 use Rattle.byte_streams.specs.Targets.{Target, one_sink}
+use Rattle.byte_streams.specs.declared.documents.TwoTexts.{TwoTexts}
 use Rattle.byte_streams.specs.declared.files.FileSystem.{Ghosts as FileMembers}
 use Rattle.byte_streams.specs.declared.outputs.Products.{Products}
 use Rattle.byte_streams.specs.declared.sinks.Sink.{Ghosts as SinkMembers}
@@ -23,12 +24,16 @@ use Rattle.match_runs.specs.Listed.{DrawFails, DrawsListed}
 use Rattle.match_runs.specs.Pictures.{DrawsPicture, PictureFails}
 use Rattle.match_runs.specs.Printing.{PrintingFails, PrintingGives}
 use Rattle.match_runs.specs.Runs.{Runs}
-use Rattle.match_program.specs.PartFiles.{LeavesInput, given_parts}
+use Rattle.match_program.specs.InputUse.{LeavesInput, reads_input}
+use Rattle.match_program.specs.PartFiles.{given_parts}
 use Rattle.match_program.specs.PlaceOrigins.{given_documents, one_place, two_places}
 use Rattle.match_program.specs.SameStreams.{output_of}
 use Rattle.match_program.specs.SolvedFiles.{PutsAll, solved_files}
+use Rattle.match_program.specs.declared.place_runs.Drawing.{Drawing}
+use Rattle.match_program.specs.declared.place_runs.Drawing.TheVariants.{Arrangement, Picture}
 use Rattle.match_program.specs.declared.streams.Streams.{Streams}
-use Rattle.match_runs.specs.Solving.{SolveFails, SolveGives}
+use Rattle.match_runs.specs.Solving.{SolveFails, SolveGivesOf}
+use Rattle.match_symmetry.specs.declared.choices.Suggested.{Suggested}
 use Rattle.match_runs.specs.Totals.{TotalFails, TotalGives}
 use Rattle.match_runs.specs.Tiles.{TileLinesGive, TilesFail, TilesGive}
 use Rattle.match_runs.specs.declared.description_runs.Description.{Description}
@@ -91,47 +96,56 @@ TilesOf sides colours false output result =
 
 -- What a solve comes to. It is not begun where two of the files are one, or one can't be made. Where it put all, and
 -- another file is found under a name then, that is its fault.
-abbrev pub SolveOf : (workers : ℕ) → Origin (List ℕ) → Target Products → (PutsAll : Products → Type 0)
+abbrev pub SolveOf : (symmetries : Suggested) (workers : ℕ) → Origin (List ℕ) → Target Products → (PutsAll : Products → Type 0)
     → Result Exit RunFault → Type 0
-SolveOf workers from to PutsAll result =
-    Runs from (ThenDone (SolveGives workers)) SolveFails to result
+SolveOf symmetries workers from to PutsAll result =
+    Runs from (ThenDone (SolveGivesOf symmetries workers)) SolveFails to result
     ⊎ (((result ≡ Err runs.Write) × to.Untouched)
     ⊎ ((result ≡ Err runs.Replaced)
-    × (text : List ℕ) × (made : Products) × from.Gave text × SolveGives workers text made tt × PutsAll made))
+    × (text : List ℕ) × (made : Products) × from.Gave text × SolveGivesOf symmetries workers text made tt
+    × PutsAll made))
+
+-- What a drawing of what is listed comes to.
+abbrev pub DrawingOf : Drawing → Origin TwoTexts → Writing → Result Exit RunFault → Type 0
+DrawingOf (Arrangement number) from output result =
+    Runs from (ThenDone (DrawsListed number)) (DrawFails number) (one_sink output) result
+DrawingOf (Picture plan) from output result =
+    Runs from (ThenDone (DrawsPicture plan.number plan.first)) (PictureFails plan.number plan.first) (one_sink output) result
 
 -- ---- orders
 
-module _ {S R W I : Type 0} (system : FileMembers S R W) (source : SourceMembers R) (input : SourceMembers I) (old : S) (given : I)
+-- over files in a state, and standard input as it was and as it is later
+module _ {S R W I : Type 0} (system : FileMembers S R W) (source : SourceMembers R) (input : SourceMembers I) (old : S)
+    (given later : I)
   where
     -- What comes of showing the puzzle that stands there: its board, or an arrangement of a list on it.
     abbrev pub ShowOf : Subject → Writing → Result Exit RunFault → Type 0
     ShowOf (Board puzzle) output result =
-        DescriptionOf descriptions.Board (one_place system source input old given puzzle) output result
+        DescriptionOf descriptions.Board (one_place system source input old given later puzzle) output result
     ShowOf (Listed places number) output result =
-        Runs (two_places system source input old given places) (ThenDone (DrawsListed number)) (DrawFails number)
-        (one_sink output) result
+        DrawingOf (Arrangement number) (two_places system source input old given later places) output result
 
     -- What comes of a picture of the puzzle that stands there: of its empty board and its tiles, or of what is listed.
     abbrev pub PictureOf : Subject → (first : ℕ) → Writing → Result Exit RunFault → Type 0
     PictureOf (Board puzzle) first output result =
-        DescriptionOf descriptions.Picture (one_place system source input old given puzzle) output result
+        DescriptionOf descriptions.Picture (one_place system source input old given later puzzle) output result
     PictureOf (Listed places number) first output result =
-        Runs (two_places system source input old given places) (ThenDone (DrawsPicture number first))
+        Runs (two_places system source input old given later places) (ThenDone (DrawsPicture number first))
         (PictureFails number first) (one_sink output) result
 
-    -- by files in a later state, standard input as it is later, and what was written
-    module _ (new : S) (later : I) (output : Writing) where
-      -- What an order comes to. No order does anything to a file but a solve. A check of files, a solve and a list of tiles
-      -- take nothing from standard input.
+    -- by files in a later state, and what was written
+    module _ (new : S) (output : Writing) where
+      -- What an order comes to. No order does anything to a file but a solve.
       abbrev pub RunOf : Order → Result Exit RunFault → Type 0
       RunOf Joined result = (new ≡ old) × CheckOf (joined_source (reading_of input given later)) output result
       RunOf (Check files workers forks progress hints) result =
-          (new ≡ old) × (later ≡ given) × CheckOf (three_files system source old files) output result
+          (new ≡ old) × CheckOf (three_files system source old files) output result
       RunOf (Explain documents) result =
           (new ≡ old)
           × PrintingOf printings.Explanation (given_documents system source input old given later documents) output result
       RunOf (ExplainPuzzle puzzle) result =
-          (new ≡ old) × DescriptionOf descriptions.NoFault (one_place system source input old given puzzle) output result
+          (new ≡ old)
+          × DescriptionOf descriptions.NoFault (one_place system source input old given later puzzle) output result
       RunOf (Expand documents orbits hints) result =
           (new ≡ old)
           × PrintingOf (list_printed orbits) (given_documents system source input old given later documents) output result
@@ -139,24 +153,23 @@ module _ {S R W I : Type 0} (system : FileMembers S R W) (source : SourceMembers
           (new ≡ old)
           × PrintingOf printings.Count (given_documents system source input old given later documents) output result
       RunOf (Census puzzle extent workers progress) result =
-          (new ≡ old) × CensusOf extent (one_place system source input old given puzzle) output result
+          (new ≡ old) × CensusOf extent (one_place system source input old given later puzzle) output result
       RunOf (Total places) result =
-          (new ≡ old) × LeavesInput places given later
-          × TotalOf (given_parts system source input old given later places) output result
-      RunOf (Solve files depth fuel workers keep progress hints) result =
-          (later ≡ given)
-          × SolveOf workers (one_file system source old (string_bytes files.puzzle))
+          (new ≡ old) × TotalOf (given_parts system source input old given later places) output result
+      RunOf (Solve files depth fuel workers symmetries keep progress hints) result =
+          SolveOf symmetries workers (one_file system source old (string_bytes files.puzzle))
           (solved_files files system.does system.leads old new output) (PutsAll files system.does old new output) result
       RunOf (Show subject) result = (new ≡ old) × ShowOf subject output result
       RunOf (Draw subject first numbers) result = (new ≡ old) × PictureOf subject first output result
       RunOf (Symmetries puzzle) result =
           (new ≡ old)
-          × DescriptionOf descriptions.Symmetries (one_place system source input old given puzzle) output result
-      RunOf (Tiles sides colours lines) result =
-          (new ≡ old) × (later ≡ given) × TilesOf sides colours lines output result
+          × DescriptionOf descriptions.Symmetries (one_place system source input old given later puzzle) output result
+      RunOf (Tiles sides colours lines) result = (new ≡ old) × TilesOf sides colours lines output result
 
--- What an order comes to, over files and streams in a state, and in a later one.
+-- What an order comes to, over files and streams in a state, and in a later one. What reads nothing of standard input
+-- leaves it as it was.
 abbrev pub RunOver : {S R F I W E : Type 0} → FileMembers S R F → SourceMembers R → SourceMembers I → SinkMembers W
     → (old : S) (before : Streams I W E) (new : S) (after : Streams I W E) → Order → Result Exit RunFault → Type 0
-RunOver system source input sink old before new after =
-    RunOf system source input old before.input.now new after.input.now (output_of sink before after)
+RunOver system source input sink old before new after order result =
+    LeavesInput (reads_input order) before.input.now after.input.now
+    × RunOf system source input old before.input.now after.input.now new (output_of sink before after) order result

@@ -72,8 +72,3 @@ abbrev pub given_parts : {S R W I : Type 0} → FileMembers S R W → SourceMemb
     → PartPlaces → Origin (List ℕ)
 given_parts system source input at given later Input = one_source documents.Parts (reading_of input given later)
 given_parts system source input at given later (Files names) = part_files system source at (map string_bytes names.items)
-
--- Where the lines stand in files, nothing is taken from standard input.
-abbrev pub LeavesInput : {I : Type 0} → PartPlaces → (given later : I) → Type 0
-LeavesInput Input given later = Unit {0}
-LeavesInput (Files names) given later = later ≡ given

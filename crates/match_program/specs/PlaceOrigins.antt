@@ -15,14 +15,10 @@ use Rattle.command_words.specs.Places.{certificate_place, list_of_two, list_plac
 use Rattle.command_words.specs.declared.places.Given.{Given}
 use Rattle.command_words.specs.declared.places.Given.TheVariants.{Joined, Apart}
 use Rattle.command_words.specs.declared.places.Place.{Place}
-use Rattle.command_words.specs.declared.places.Place.TheVariants as places
+use Rattle.command_words.specs.declared.places.Place.TheVariants.{File, Input}
 use Rattle.command_words.specs.declared.places.ThreePlaces.{ThreePlaces}
 use Rattle.command_words.specs.declared.places.TwoPlaces.{TwoPlaces}
-use Rattle.match_program.specs.DocumentReaders.{IsOfFile, ended_in, errors_in, left_in}
-use Rattle.match_program.specs.declared.document_readers.DocumentReader.{DocumentReader}
-use Rattle.match_program.specs.declared.document_readers.DocumentReader.TheVariants as readers
-use Rattle.match_program.specs.declared.document_readers.ThreeReaders.{ThreeReaders}
-use Rattle.match_program.specs.declared.document_readers.TwoReaders.{TwoReaders}
+use Rattle.match_program.specs.FileOrigins.{Opened, read_from}
 use Rattle.match_runs.specs.declared.faults.RunFault.{RunFault}
 use Rattle.match_runs.specs.declared.faults.RunFault.TheVariants as runs
 
@@ -42,36 +38,24 @@ all_placed three =
     placed documents.Puzzle (puzzle_place three) ∷ placed documents.List (list_place three)
     ∷ placed documents.Certificate (certificate_place three) ∷ []
 
--- by files in a state, and by standard input as it was
-module _ {S R W I : Type 0} (system : FileMembers S R W) (file : SourceMembers R) (input : SourceMembers I) (at : S) (given : I)
+-- by files in a state, and by standard input as it was and as it is later
+module _ {S R W I : Type 0} (system : FileMembers S R W) (file : SourceMembers R) (input : SourceMembers I) (at : S)
+    (given later : I)
   where
-    -- The reader is of the document that stands there, with nothing read of it: of its file, just opened, or of standard
-    -- input.
-    abbrev pub Opens : Place → DocumentReader R I → Type 0
-    Opens (places.File name) reader = IsOfFile system at (string_bytes name) reader
-    Opens places.Input (readers.Input reader) = reader.now ≡ given
-    Opens places.Input (readers.File reader) = ⊥
+    -- a reader of the document's file; standard input needs none
+    abbrev pub OpenedAt : Place → Type 0
+    OpenedAt (File name) = Opened system file at (string_bytes name)
+    OpenedAt Input = Unit {0}
 
-    -- a reader of what stands there, as it was just opened, and as it is later
-    pub record OpenedAt (place : Place) : Type 0 where
-      pub opened : DocumentReader R I
-      pub later : DocumentReader R I
-      pub is_opened : Opens place opened
-
+    -- what was read of the document
     abbrev pub read_at : (place : Place) → OpenedAt place → Reading
-    read_at place reader = record {
-      before = left_in file input reader.opened;
-      after = left_in file input reader.later;
-      ended = ended_in file input reader.later;
-      errors_before = errors_in file input reader.opened;
-      errors_after = errors_in file input reader.later;
-      Untouched = reader.later ≡ reader.opened;
-    }
+    read_at (File name) opened = read_from system file at (string_bytes name) opened
+    read_at Input nothing = reading_of input given later
 
     -- The document stands in a file that can't be opened.
     abbrev pub Refuses : Place → Type 0
-    Refuses (places.File name) = system.refuses at (string_bytes name)
-    Refuses places.Input = ⊥
+    Refuses (File name) = system.refuses at (string_bytes name)
+    Refuses Input = ⊥
 
     -- The file of the document can't be opened; those before it were.
     abbrev pub CantOpenAt : List Placed → Document → Type 0
@@ -90,16 +74,11 @@ module _ {S R W I : Type 0} (system : FileMembers S R W) (file : SourceMembers R
     -- A puzzle that stands there.
     abbrev pub one_place : Place → Origin (List ℕ)
     one_place place = record {
-      Gave = λ text. (reader : OpenedAt place) × (one_source documents.Puzzle (read_at place reader)).Gave text;
+      Gave = λ text. (opened : OpenedAt place) × (one_source documents.Puzzle (read_at place opened)).Gave text;
       Stopped = λ fault.
           FailsToOpenAt (placed documents.Puzzle place ∷ []) fault
-          ⊎ ((reader : OpenedAt place) × (one_source documents.Puzzle (read_at place reader)).Stopped fault);
+          ⊎ ((opened : OpenedAt place) × (one_source documents.Puzzle (read_at place opened)).Stopped fault);
     }
-
-    -- The readers are of a puzzle and a list that stand there, with nothing read of them.
-    pub record AreBothOf (two : TwoPlaces) (readers : TwoReaders (DocumentReader R I)) : Type 0 where
-      pub puzzle : Opens (puzzle_of_two two) readers.puzzle
-      pub list : Opens (list_of_two two) readers.list
 
     -- readers of a puzzle and a list
     pub record BothOpened (two : TwoPlaces) : Type 0 where
@@ -116,12 +95,6 @@ module _ {S R W I : Type 0} (system : FileMembers S R W) (file : SourceMembers R
       Stopped = λ fault.
           FailsToOpenAt (both_placed two) fault ⊎ ((both : BothOpened two) × (read_both two both).Stopped fault);
     }
-
-    -- The readers are of a puzzle, a list and a certificate that stand there, with nothing read of them.
-    pub record AreAllOf (three : ThreePlaces) (readers : ThreeReaders (DocumentReader R I)) : Type 0 where
-      pub puzzle : Opens (puzzle_place three) readers.puzzle
-      pub list : Opens (list_place three) readers.list
-      pub certificate : Opens (certificate_place three) readers.certificate
 
     -- readers of a puzzle, a list and a certificate
     pub record AllOpenedAt (three : ThreePlaces) : Type 0 where
@@ -141,7 +114,7 @@ module _ {S R W I : Type 0} (system : FileMembers S R W) (file : SourceMembers R
           ⊎ ((all : AllOpenedAt three) × (read_all_at three all).Stopped fault);
     }
 
-    -- The same, or joined on standard input, which is this later.
-    abbrev pub given_documents : (later : I) → Given → Origin Texts
-    given_documents later Joined = joined_source (reading_of input given later)
-    given_documents later (Apart three) = three_places three
+    -- The three joined on standard input, or each where it stands.
+    abbrev pub given_documents : Given → Origin Texts
+    given_documents Joined = joined_source (reading_of input given later)
+    given_documents (Apart three) = three_places three

@@ -8,6 +8,7 @@ mod files;
 mod made_files;
 mod order_runs;
 mod part_files;
+mod place_runs;
 mod progress;
 mod streams;
 mod system_limits;

@@ -1,41 +1,39 @@
 //! Runs of orders: over which files each runs, and the exit status.
 
-ghost use Rattle.std.specs.Prelude.{◌≡◌, IfOk, IfErr, false, map, true};
+ghost use Rattle.std.specs.Prelude.{◌≡◌, false, map, true};
 ghost use Rattle.std.specs.String.{string_bytes};
 ghost use Rattle.byte_streams.specs.Moves.{reading_of, writing_of};
-ghost use Rattle.byte_streams.specs.Origins.{joined_source, one_source, three_sources};
+ghost use Rattle.byte_streams.specs.Origins.{joined_source, one_source};
 ghost use Rattle.byte_streams.specs.declared.faults.Document.TheVariants as documents;
-ghost use Rattle.command_words.specs.declared.orders.Subject.TheVariants.{Listed};
-ghost use Rattle.match_program.specs.FileOrigins.{AreOfFiles, IsUnopenedFile, all_three, one_file, three_files};
-ghost use Rattle.match_program.specs.OrderRuns.{CensusOf, CheckOf, DescriptionOf, PictureOf, PrintingOf, RunOver, ShowOf};
-ghost use Rattle.match_program.specs.OrderRuns.{TotalOf};
-ghost use Rattle.match_program.specs.OrderRuns.{SolveOf, TilesOf, list_printed};
-ghost use Rattle.match_program.specs.PartFiles.{LeavesInput, given_parts, part_files};
-ghost use Rattle.match_program.specs.PlaceOrigins.{given_documents, one_place, three_places};
+ghost use Rattle.match_program.specs.FileOrigins.{one_file, three_files};
+ghost use Rattle.match_program.specs.InputUse.{LeavesInput, are_parts_on_input, is_subject_on_input};
+ghost use Rattle.match_program.specs.OrderRuns.{CheckOf, PictureOf, RunOver, ShowOf, SolveOf, TilesOf, TotalOf};
+ghost use Rattle.match_program.specs.OrderRuns.{list_printed};
+ghost use Rattle.match_program.specs.PartFiles.{given_parts, part_files};
 ghost use Rattle.match_runs.specs.Runs.{unhinted};
 ghost use Rattle.match_program.specs.SameStreams.{AreSameStreams};
 ghost use Rattle.match_program.specs.SolvedFiles.{PutsAll, solved_files};
 
-use crate::document_readers::{ThreeReaders, TwoReaders, open_place, open_three, open_two};
+use crate::document_readers::open_all;
 use crate::exits::Exit;
 use crate::files::{are_apart, hint_on, open};
 use crate::made_files::{make_files, not_put, replaced};
 use crate::part_files::PartFiles;
-use crate::progress::{CensusProgress, CheckProgress, SolveProgress};
+use crate::place_runs::{
+    CensusOrder, DescriptionOrder, Drawing, DrawingOrder, PrintingOrder, describe, draw,
+};
+use crate::progress::{CheckProgress, SolveProgress};
 use crate::streams::Streams;
 use byte_streams::{
     Document, FileSystem, JoinedSource, MadeFiles, OneSink, OneSource, ProductNames, Sink, Source,
-    ThreeSinks, ThreeSources, Unsettled, settle,
+    ThreeSinks, Unsettled, settle,
 };
-use command_words::{
-    Extent, Files, Given, Order, PartPlaces, Place, Subject, ThreePlaces, TwoPlaces,
-};
-use match_limits::{ArrangementNumber, Colours, Drawn, Forks, Sides, Workers};
+use command_words::{Files, Order, PartPlaces, Subject};
+use match_limits::{Colours, Drawn, Forks, Sides, Workers};
 use match_report::Status;
 use match_runs::{
-    CensusPlan, CheckPlan, Description, HintedFault, PicturePlan, Printing, PrintingPlan, RunFault,
-    SearchPlan, Watched, run_census, run_check_watched, run_description, run_listed, run_picture,
-    run_printing, run_solve_watched, run_tile_lines, run_tiles, run_total,
+    CheckPlan, Description, HintedFault, PicturePlan, Printing, PrintingPlan, RunFault, SearchPlan,
+    Watched, run_check_watched, run_solve_watched, run_tile_lines, run_tiles, run_total,
 };
 use std::alloc::Global;
 use std::random::RandomSource;
@@ -47,8 +45,9 @@ use std::time::Clock;
 /// shown to be complete.
 ///
 /// The files of an order are all opened before one is read: the puzzle's, the list's, the certificate's. `Read` of the
-/// first that can't be opened. A document that stands on standard input is read from there in its turn. A solve opens the
-/// puzzle's and makes the other two beside their names; where two of the three are one, or one can't be made, `Write`.
+/// first that can't be opened. A document that stands on standard input is read from there in its turn; where none stands
+/// there, nothing is taken from it. A solve opens the puzzle's and makes the other two beside their names; where two of
+/// the three are one, or one can't be made, `Write`.
 /// What it made is put under the names once all is written, the list first, and after a fault it is removed.
 ///
 /// A hint says why a file is refused, or what has to be changed in a text that has a fault. Memory for it may be refused. A
@@ -101,6 +100,7 @@ pub fn run_order<
             depth,
             fuel,
             workers,
+            symmetries,
             keep: _,
             progress,
             hints,
@@ -109,6 +109,7 @@ pub fn run_order<
                 depth: *depth,
                 fuel: *fuel,
                 workers: *workers,
+                symmetries: *symmetries,
             };
             let order = SolveOrder {
                 files,
@@ -254,23 +255,6 @@ fn tell_scope<R: Clock + Eprint>(
     }
 }
 
-// Opens all three files before any is read.
-fn open_all<S: FileSystem>(
-    alloc: Global,
-    system: &S,
-    files: &Files,
-) -> Result<ThreeReaders<S::Reader>, HintedFault>
-    ensures opened { IfOk result (AreOfFiles S.FileSystem S.Reader.Source system.now files.now) }
-    ensures fault { IfErr result (λ hinted.
-        IsUnopenedFile S.FileSystem S.Reader.Source system.now (all_three files.now) hinted.fault) }
-{
-    Ok(ThreeReaders {
-        puzzle: open(alloc, system, &files.puzzle, Document::Puzzle)?,
-        list: open(alloc, system, &files.list, Document::List)?,
-        certificate: open(alloc, system, &files.certificate, Document::Certificate)?,
-    })
-}
-
 // A check that is ordered.
 #[derive(Clone, Copy)]
 struct CheckOrder<'a> {
@@ -328,7 +312,7 @@ fn solve<S: FileSystem, W: Sink, R: Threads + Wait + Sync + Clock + Eprint>(
     system: &mut S,
     output: &mut W,
 ) -> Result<Exit, HintedFault>
-    ensures { SolveOf order.now.plan.workers
+    ensures { SolveOf order.now.plan.symmetries order.now.plan.workers
         (one_file S.FileSystem S.Reader.Source system.old (string_bytes order.now.files.now.puzzle))
         (solved_files order.now.files.now S.does S.leads system.old system.new (writing_of W.Sink output.old output.new))
         (PutsAll order.now.files.now S.does system.old system.new (writing_of W.Sink output.old output.new)) (unhinted result) }
@@ -413,155 +397,6 @@ fn listing_of(orbits: bool) -> Printing
     }
 }
 
-// A check that prints all arrangements or one of each orbit, or how many they are, or why the list is refused.
-#[derive(Clone, Copy)]
-struct PrintingOrder<'a, R> {
-    rt: &'a R,
-    alloc: Global,
-    plan: PrintingPlan,
-}
-
-impl<'a, R: RandomSource> PrintingOrder<'a, R> {
-    // Prints it of documents that are joined on standard input, or stand apart.
-    fn print<S: FileSystem, I: Source, W: Sink>(
-        &self,
-        given: &Given,
-        system: &S,
-        input: &mut I,
-        output: &mut W,
-    ) -> Result<Exit, HintedFault>
-        ensures { PrintingOf self.now.plan.printing
-            (given_documents S.FileSystem S.Reader.Source I.Source system.now input.old input.new given.now)
-            (writing_of W.Sink output.old output.new) (unhinted result) }
-    {
-        match given {
-            Given::Joined => self.print_joined(input, output),
-            Given::Apart(places) => self.print_apart(places, system, input, output),
-        }
-    }
-
-    fn print_joined<I: Source, W: Sink>(
-        &self,
-        input: &mut I,
-        output: &mut W,
-    ) -> Result<Exit, HintedFault>
-        ensures { PrintingOf self.now.plan.printing (joined_source (reading_of I.Source input.old input.new))
-            (writing_of W.Sink output.old output.new) (unhinted result) }
-    {
-        let status = run_printing(
-            self.rt,
-            self.alloc,
-            self.plan,
-            &mut JoinedSource { input },
-            &mut OneSink { sink: output },
-        )?;
-        Ok(Exit::of_status(status))
-    }
-
-    fn print_apart<S: FileSystem, I: Source, W: Sink>(
-        &self,
-        places: &ThreePlaces,
-        system: &S,
-        input: &mut I,
-        output: &mut W,
-    ) -> Result<Exit, HintedFault>
-        ensures { PrintingOf self.now.plan.printing
-            (three_places S.FileSystem S.Reader.Source I.Source system.now input.old places.now)
-            (writing_of W.Sink output.old output.new) (unhinted result) }
-    {
-        let ThreeReaders {
-            mut puzzle,
-            mut list,
-            mut certificate,
-        } = open_three(self.alloc, places, system, input)?;
-        self.print_of(&mut puzzle, &mut list, &mut certificate, output)
-    }
-
-    // Prints it of three readers: what they lend to each other's lifetimes is told apart by a call.
-    fn print_of<D: Source, W: Sink>(
-        &self,
-        puzzle: &mut D,
-        list: &mut D,
-        certificate: &mut D,
-        output: &mut W,
-    ) -> Result<Exit, HintedFault>
-        ensures { PrintingOf self.now.plan.printing (three_sources (reading_of D.Source puzzle.old puzzle.new)
-            (reading_of D.Source list.old list.new) (reading_of D.Source certificate.old certificate.new))
-            (writing_of W.Sink output.old output.new) (unhinted result) }
-    {
-        let mut inputs = ThreeSources {
-            puzzle,
-            list,
-            certificate,
-        };
-        let status = run_printing(
-            self.rt,
-            self.alloc,
-            self.plan,
-            &mut inputs,
-            &mut OneSink { sink: output },
-        )?;
-        Ok(Exit::of_status(status))
-    }
-}
-
-// What is ordered of a puzzle alone.
-#[derive(Clone, Copy)]
-struct DescriptionOrder<'a> {
-    puzzle: &'a Place,
-    description: Description,
-}
-
-fn describe<S: FileSystem, I: Source, W: Sink>(
-    alloc: Global,
-    order: &DescriptionOrder<'_>,
-    system: &S,
-    input: &mut I,
-    output: &mut W,
-) -> Result<Exit, HintedFault>
-    ensures { DescriptionOf order.now.description
-        (one_place S.FileSystem S.Reader.Source I.Source system.now input.old order.now.puzzle.now)
-        (writing_of W.Sink output.old output.new) (unhinted result) }
-{
-    let mut puzzle = open_place(alloc, order.puzzle, system, input)?;
-    run_description(alloc, &mut puzzle, order.description, output)?;
-    Ok(Exit::Done)
-}
-
-// A count by a search that is ordered.
-#[derive(Clone, Copy)]
-struct CensusOrder<'a, R> {
-    rt: &'a R,
-    alloc: Global,
-    extent: Extent,
-    workers: Workers,
-    progress: bool,
-}
-
-impl<'a, R: Threads + Sync + Clock + Eprint> CensusOrder<'a, R> {
-    // Counts arrangements of the puzzle.
-    fn count<S: FileSystem, I: Source, W: Sink>(
-        &self,
-        puzzle: &Place,
-        system: &S,
-        input: &mut I,
-        output: &mut W,
-    ) -> Result<Exit, HintedFault>
-        ensures { CensusOf self.now.extent
-            (one_place S.FileSystem S.Reader.Source I.Source system.now input.old puzzle.now)
-            (writing_of W.Sink output.old output.new) (unhinted result) }
-    {
-        let mut puzzle = open_place(self.alloc, puzzle, system, input)?;
-        let plan = CensusPlan {
-            extent: self.extent,
-            workers: self.workers,
-            watch: &CensusProgress::new(self.rt, self.progress),
-        };
-        run_census(self.rt, self.alloc, &mut puzzle, &plan, output)?;
-        Ok(Exit::Done)
-    }
-}
-
 // The sum of what all parts of a search have, by the lines that stand there.
 fn add_up<S: FileSystem, I: Source, W: Sink>(
     alloc: Global,
@@ -572,7 +407,7 @@ fn add_up<S: FileSystem, I: Source, W: Sink>(
 ) -> Result<Exit, HintedFault>
     ensures total { TotalOf (given_parts S.FileSystem S.Reader.Source I.Source system.now input.old input.new places.now)
         (writing_of W.Sink output.old output.new) (unhinted result) }
-    ensures unread { LeavesInput places.now input.old input.new }
+    ensures unread { LeavesInput (are_parts_on_input places.now) input.old input.new }
 {
     match places {
         PartPlaces::Input => add_up_input(alloc, input, output),
@@ -623,8 +458,9 @@ fn show<S: FileSystem, I: Source, W: Sink>(
     input: &mut I,
     output: &mut W,
 ) -> Result<Exit, HintedFault>
-    ensures { ShowOf S.FileSystem S.Reader.Source I.Source system.now input.old subject.now
+    ensures run { ShowOf S.FileSystem S.Reader.Source I.Source system.now input.old input.new subject.now
         (writing_of W.Sink output.old output.new) (unhinted result) }
+    ensures unread { LeavesInput (is_subject_on_input subject.now) input.old input.new }
 {
     match subject {
         Subject::Board(puzzle) => {
@@ -635,39 +471,13 @@ fn show<S: FileSystem, I: Source, W: Sink>(
             describe(alloc, &order, system, input, output)
         }
         Subject::Listed { places, number } => {
-            let order = ListedOrder {
+            let order = DrawingOrder {
                 places,
-                number: *number,
+                drawing: Drawing::Arrangement(*number),
             };
             draw(alloc, &order, system, input, output)
         }
     }
-}
-
-// Which arrangement of a list is drawn.
-#[derive(Clone, Copy)]
-struct ListedOrder<'a> {
-    places: &'a TwoPlaces,
-    number: ArrangementNumber,
-}
-
-// Draws the listed arrangement of the number.
-fn draw<S: FileSystem, I: Source, W: Sink>(
-    alloc: Global,
-    order: &ListedOrder<'_>,
-    system: &S,
-    input: &mut I,
-    output: &mut W,
-) -> Result<Exit, HintedFault>
-    ensures { ShowOf S.FileSystem S.Reader.Source I.Source system.now input.old
-        (Listed order.now.places.now order.now.number) (writing_of W.Sink output.old output.new) (unhinted result) }
-{
-    let TwoReaders {
-        mut puzzle,
-        mut list,
-    } = open_two(alloc, order.places, system, input)?;
-    run_listed(alloc, &mut puzzle, &mut list, order.number.get(), output)?;
-    Ok(Exit::Done)
 }
 
 // A picture that is ordered.
@@ -686,8 +496,9 @@ fn picture<S: FileSystem, I: Source, W: Sink>(
     input: &mut I,
     output: &mut W,
 ) -> Result<Exit, HintedFault>
-    ensures { PictureOf S.FileSystem S.Reader.Source I.Source system.now input.old order.now.subject.now
+    ensures run { PictureOf S.FileSystem S.Reader.Source I.Source system.now input.old input.new order.now.subject.now
         order.now.first (writing_of W.Sink output.old output.new) (unhinted result) }
+    ensures unread { LeavesInput (is_subject_on_input order.now.subject.now) input.old input.new }
 {
     match order.subject {
         Subject::Board(puzzle) => {
@@ -698,44 +509,18 @@ fn picture<S: FileSystem, I: Source, W: Sink>(
             describe(alloc, &order, system, input, output)
         }
         Subject::Listed { places, number } => {
-            let order = ListedPictureOrder {
-                places,
-                plan: PicturePlan {
-                    number: *number,
-                    first: order.first,
-                    numbers: order.numbers,
-                },
+            let plan = PicturePlan {
+                number: *number,
+                first: order.first,
+                numbers: order.numbers,
             };
-            picture_listed(alloc, &order, system, input, output)
+            let order = DrawingOrder {
+                places,
+                drawing: Drawing::Picture(plan),
+            };
+            draw(alloc, &order, system, input, output)
         }
     }
-}
-
-// What of a list is drawn as a picture.
-#[derive(Clone, Copy)]
-struct ListedPictureOrder<'a> {
-    places: &'a TwoPlaces,
-    plan: PicturePlan,
-}
-
-// A picture of what is listed.
-fn picture_listed<S: FileSystem, I: Source, W: Sink>(
-    alloc: Global,
-    order: &ListedPictureOrder<'_>,
-    system: &S,
-    input: &mut I,
-    output: &mut W,
-) -> Result<Exit, HintedFault>
-    ensures { PictureOf S.FileSystem S.Reader.Source I.Source system.now input.old
-        (Listed order.now.places.now order.now.plan.number) order.now.plan.first
-        (writing_of W.Sink output.old output.new) (unhinted result) }
-{
-    let TwoReaders {
-        mut puzzle,
-        mut list,
-    } = open_two(alloc, order.places, system, input)?;
-    run_picture(alloc, &mut puzzle, &mut list, order.plan, output)?;
-    Ok(Exit::Done)
 }
 
 fn list_tiles<W: Sink>(

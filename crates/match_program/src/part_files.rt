@@ -127,6 +127,7 @@ impl<'a, S: FileSystem> PartFiles<'a, S> {
             }
         }
     }
+
     // Notes that the next file was read, and has this text.
     fn note(&mut self, text: &[u8]) -> Result<(), AllocError>
         ensures { (self.new.system ≡ self.old.system) × (self.new.names ≡ self.old.names) }
@@ -140,13 +141,21 @@ impl<'a, S: FileSystem> PartFiles<'a, S> {
     // wrong line begins.
     pub(crate) fn hint(&self, alloc: Global, fault: &RunFault) -> Option<String> {
         match fault {
-            RunFault::Read(_) => {
-                let name = self.names.get(self.starts.len())?;
-                hint_on(alloc, name, self.refusal.unwrap_or(Refusal::Other))
-            }
+            RunFault::Read(_) => hint_on(
+                alloc,
+                self.next_name()?,
+                self.refusal.unwrap_or(Refusal::Other),
+            ),
+            RunFault::TooLong(_) => String::from_str(alloc, self.next_name()?).ok(),
             RunFault::Parts(fault) => self.line_hint(alloc, wrong_line(fault)?),
             _ => None,
         }
+    }
+
+    // The name of the file behind those that were read.
+    fn next_name(&self) -> Option<&str> {
+        let name = self.names.get(self.starts.len())?;
+        Some(name)
     }
 
     fn line_hint(&self, alloc: Global, line: u32) -> Option<String> {

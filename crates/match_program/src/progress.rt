@@ -234,6 +234,10 @@ impl<R: Clock + Eprint> Watch for SolveProgress<'_, R> {
 }
 
 impl<R: Clock + Eprint> SolveWatch for SolveProgress<'_, R> {
+    fn expects_many(&self, advice: &str) {
+        let _ = eprintln!(self.turns.rt; "solve: {advice}");
+    }
+
     fn made(&self, list: usize, certificate: usize) {
         let Some(seconds) = self.turns.passed() else {
             return;

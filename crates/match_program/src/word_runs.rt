@@ -44,7 +44,8 @@ pub fn run_words<
 ) -> Exit
     ensures same { AreSameStreams streams.old streams.new }
     ensures run { WordsGive (map string_bytes words.now) (RunOver S.FileSystem S.Reader.Source I.Source W.Sink
-        system.old streams.old system.new streams.new) (system.new ≡ system.old)
+        system.old streams.old system.new streams.new)
+        ((system.new ≡ system.old) × (streams.new.input.now ≡ streams.old.input.now))
         (output_of W.Sink streams.old streams.new) (errors_of E.Sink streams.old streams.new) result }
 {
     match order(alloc, words) {

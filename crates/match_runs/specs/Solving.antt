@@ -1,5 +1,5 @@
 -- What a solve of a puzzle makes.
-use Rattle.std.specs.Prelude.{◌≡◌, ◌≤◌, ◌++◌, ℕ, List, [], ◌∷◌, Ok, Vec, codes, length, map}
+use Rattle.std.specs.Prelude.{◌≡◌, ◌≤◌, ◌++◌, ℕ, List, [], ◌∷◌, Ok, All, Vec, codes, length, map}
 use Rattle.std.specs.declared.alloc.Global.{Global}
 use Rattle.match_limits.specs.declared.TheConstants.{MOST_WORKERS}
 use Rattle.match_limits.specs.declared.ranges.TheConstants.{SECOND}
@@ -15,6 +15,9 @@ use Rattle.match_text.specs.ListSpelling.{IsListText, IsListWithin}
 use Rattle.cert_text.specs.CertificateSpelling.{IsCertificateWithin}
 use Rattle.cert_text.specs.Writing.{said_by}
 use Rattle.text_crew.specs.Texts.{IsCertificateText}
+use Rattle.match_symmetry.specs.Suggestions.{IsAskedFor}
+use Rattle.match_symmetry.specs.declared.choices.Suggested.{Suggested}
+use Rattle.match_symmetry.specs.declared.choices.Suggested.TheVariants as suggested
 use Rattle.match_crew.specs.Solving.{IsSolvedBy}
 use Rattle.match_crew.specs.declared.faults.SolveFault.TheVariants as solves
 use Rattle.byte_streams.specs.declared.outputs.Products.{Products}
@@ -53,15 +56,21 @@ pub record AreProducts (puzzle : Task) (listed : List (List Placement)) (content
   pub certificate_text : IsCertificateText contents made.certificate
   pub report : made.report ≡ report_text puzzle listed (length contents.lemmas) tally
 
--- The text spells a puzzle, and this is made of what so many workers find of it.
-pub record SolveGives (workers : ℕ) (text : List ℕ) (made : Products) (ends : Unit {0}) : Type 0 where
+-- The text spells a puzzle, and this is made of what so many workers find of it. Each symmetry that the certificate names
+-- is one that is asked for.
+pub record SolveGivesOf (symmetries : Suggested) (workers : ℕ) (text : List ℕ) (made : Products) (ends : Unit {0}) : Type 0 where
   pub puzzle : Task
   pub puzzle_read : PuzzleReads text (Ok puzzle)
   pub listed : List (List Placement)
   pub tally : List (Vec ℕ Global)
   pub contents : Contents
   pub solved : IsSolvedBy puzzle workers listed tally contents
+  pub asked_for : All (IsAskedFor symmetries) contents.symmetries
   pub products : AreProducts puzzle listed contents (shares_of tally) made
+
+-- what is given where all symmetries are asked for that are found
+abbrev pub SolveGives : (workers : ℕ) (text : List ℕ) (made : Products) (ends : Unit {0}) → Type 0
+SolveGives = SolveGivesOf suggested.All
 
 -- What a fault says of the text: it spells no puzzle, with this fault, or one that is not solved for this reason; or it
 -- is want of memory.

@@ -2,12 +2,11 @@
 
 use crate::faults::RunFault;
 use crate::hints::hint_on;
-use crate::solve_runs::SearchPlan;
-use match_crew::SolveFault;
+use match_crew::{SearchPlan, SolveFault};
 use match_limits::{MOST_BYTES, MOST_DEPTH, MOST_FUEL};
 use match_puzzle::Puzzle;
 use match_show::{Estimate, estimate_of};
-use match_symmetry::suggest;
+use match_symmetry::suggest_of;
 use match_text::read_puzzle;
 use std::alloc::Global;
 
@@ -30,6 +29,23 @@ pub(crate) fn solve_hint(
         }
         _ => hint_on(alloc, puzzle, b"", fault),
     }
+}
+
+/// What is told before a search from which more arrangements may be expected than a list has: how many, and what may help.
+/// None where no more are expected, where a greater depth can't be asked for and images are left out already, or where
+/// memory is refused.
+pub(crate) fn word_before(alloc: Global, puzzle: &Puzzle, plan: &SearchPlan) -> Option<String> {
+    let estimate = estimate_of(alloc, puzzle).ok()?;
+    if !estimate.is_over_a_list() {
+        return None;
+    }
+    let advice = match (has_symmetries(alloc, puzzle, plan), may_be_deeper(plan)) {
+        (true, true) => GREATER_DEPTH,
+        (true, false) => return None,
+        (false, _) => NO_LIST,
+    };
+    let number = estimate.to_text(alloc).ok()?;
+    format!(in alloc; "arrangements by an estimate: {number}; {advice}").ok()
 }
 
 // How many arrangements may be expected of the puzzle, and what may help.
@@ -56,16 +72,16 @@ fn expectation(
 // What may help where there are too many arrangements for a list: a greater depth, which leaves out images of others, where
 // the puzzle has symmetries. Fuel can't help.
 fn advice_on_many(alloc: Global, puzzle: &Puzzle, plan: &SearchPlan) -> &'static str {
-    if may_be_deeper(plan) && has_symmetries(alloc, puzzle) {
+    if may_be_deeper(plan) && has_symmetries(alloc, puzzle, plan) {
         GREATER_DEPTH
     } else {
         NO_LIST
     }
 }
 
-// Whether a search of the puzzle finds symmetries to cite by. Not where memory is refused.
-fn has_symmetries(alloc: Global, puzzle: &Puzzle) -> bool {
-    match suggest(alloc, puzzle) {
+// Whether a search of the puzzle by the plan finds symmetries to cite by. Not where memory is refused.
+fn has_symmetries(alloc: Global, puzzle: &Puzzle, plan: &SearchPlan) -> bool {
+    match suggest_of(alloc, puzzle, plan.symmetries) {
         Ok(lines) => !lines.is_empty(),
         Err(_) => false,
     }

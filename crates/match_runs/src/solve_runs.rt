@@ -8,9 +8,9 @@ ghost use Rattle.byte_streams.specs.Origins.{one_source};
 ghost use Rattle.byte_streams.specs.Targets.{three_sinks};
 ghost use Rattle.byte_streams.specs.declared.faults.Document.TheVariants as documents;
 ghost use Rattle.match_runs.specs.Runs.{MadeOf, Runs, unhinted};
-ghost use Rattle.match_runs.specs.Solving.{AreProducts, IsFound, SolveFails, SolveGives, first_board, report_text, shares_of};
+ghost use Rattle.match_runs.specs.Solving.{AreProducts, IsFound, SolveFails, SolveGives, SolveGivesOf, first_board, report_text, shares_of};
 
-use crate::advice::solve_hint;
+use crate::advice::{solve_hint, word_before};
 use crate::faults::RunFault;
 use crate::hints::{HintedFault, with_hint, without_hint};
 use crate::running::run_by;
@@ -19,7 +19,7 @@ use byte_streams::{
     Document, Inputs, MadeText, OneSource, Outputs, Products, Sink, Source, Text, ThreeSinks,
 };
 use cert_tree::Certificate;
-use match_crew::{Solved, Unwatched, solve_watched};
+use match_crew::{SearchPlan, Solved, Suggested, Unwatched, solve_watched};
 use match_limits::{Depth, Fuel, MOST_WORKERS, Workers};
 use match_puzzle::{Arrangement, Puzzle};
 use match_report::{Taken, write_board, write_tally};
@@ -29,16 +29,6 @@ use std::sync::Wait;
 use std::thread::Threads;
 use text_crew::write_texts_with;
 use text_words::put_number_line;
-
-/// By what a puzzle is searched.
-#[derive(Clone, Copy)]
-pub struct SearchPlan {
-    /// Of how many levels of branches lemmas are made before the search begins.
-    pub depth: Depth,
-    /// How many branch nodes a lemma may have.
-    pub fuel: Fuel,
-    pub workers: Workers,
-}
 
 /// Reads a puzzle to its end, searches for all its arrangements, and writes their list, then a certificate of them,
 /// and then a report: how many were found, by how many lemmas, who took which lemma, and the first arrangement as it
@@ -77,6 +67,7 @@ pub fn run_solve<R: Threads + Wait + Sync, P: Source, L: Sink, C: Sink, W: Sink>
         depth,
         fuel,
         workers,
+        symmetries: Suggested::All,
     };
     let search = Watched {
         plan,
@@ -86,7 +77,8 @@ pub fn run_solve<R: Threads + Wait + Sync, P: Source, L: Sink, C: Sink, W: Sink>
     without_hint(run_solve_watched(rt, alloc, &search, &mut inputs, &mut outputs))
 }
 
-/// The same, over whatever the puzzle comes from and the texts go to, and the watch is told while it runs. Where a hint is
+/// What [`run_solve`] does, by this plan, over whatever the puzzle comes from and the texts go to, and the watch is told
+/// while it runs. Each symmetry that the certificate names is one of those that the plan asks for. Where a hint is
 /// wanted, it says what has to be changed in a text that has a fault, or of a search that gave up or found too many how
 /// many arrangements may be expected, and what may help, if memory isn't refused to it.
 pub fn run_solve_watched<
@@ -102,12 +94,13 @@ pub fn run_solve_watched<
     outputs: &mut O,
 ) -> Result<(), HintedFault>
     ensures same { I.same inputs.old inputs.new × O.same outputs.old outputs.new }
-    ensures run { Runs (I.reads inputs.old inputs.new) (SolveGives search.now.plan.workers) SolveFails
+    ensures run { Runs (I.reads inputs.old inputs.new) (SolveGivesOf search.now.plan.symmetries search.now.plan.workers) SolveFails
         (O.writes outputs.old outputs.new) (unhinted result) }
 {
     let mut hint = None;
     let make = |text: &Text| -> Result<(Products, ()), RunFault>
-        ensures { MadeOf (SolveGives search.entry.now.plan.workers) SolveFails text.now result }
+        ensures { MadeOf (SolveGivesOf search.entry.now.plan.symmetries search.entry.now.plan.workers) SolveFails
+            text.now result }
     {
         let made = make_products(rt, alloc, text, search);
         if let (true, Err(fault)) = (search.hints, &made) {
@@ -126,10 +119,21 @@ fn make_products<R: Threads + Wait + Sync, T: SolveWatch + Sync>(
     text: &Text,
     search: &Watched<'_, SearchPlan, T>,
 ) -> Result<(Products, ()), RunFault>
-    ensures { MadeOf (SolveGives search.now.plan.workers) SolveFails text.now result }
+    ensures { MadeOf (SolveGivesOf search.now.plan.symmetries search.now.plan.workers) SolveFails text.now result }
 {
     let puzzle = read_puzzle(alloc, text.bytes())?;
+    tell_before(alloc, &puzzle, search);
     solved(rt, alloc, &puzzle, search)
+}
+
+// Tells where hints are wanted that more arrangements may be expected than a list has.
+fn tell_before<T: SolveWatch>(alloc: Global, puzzle: &Puzzle, search: &Watched<'_, SearchPlan, T>) {
+    if !search.hints {
+        return;
+    }
+    if let Some(advice) = word_before(alloc, puzzle, &search.plan) {
+        search.watch.expects_many(&advice);
+    }
 }
 
 // What is made of a puzzle that was read.
@@ -140,22 +144,15 @@ fn solved<R: Threads + Wait + Sync, T: SolveWatch + Sync>(
     search: &Watched<'_, SearchPlan, T>,
 ) -> Result<(Products, ()), RunFault>
     ensures { (text : List ℕ) → PuzzleReads text (Ok puzzle.now)
-        → MadeOf (SolveGives search.now.plan.workers) SolveFails text result }
+        → MadeOf (SolveGivesOf search.now.plan.symmetries search.now.plan.workers) SolveFails text result }
 {
-    let plan = search.plan;
+    // They are at most 64, and so are the lines of the report.
+    let _workers_in_range = search.plan.workers.get();
     let Solved {
         list: listed,
         certificate,
         tally,
-    } = solve_watched(
-        rt,
-        alloc,
-        puzzle,
-        plan.depth.get() as u8,
-        plan.fuel.get(),
-        plan.workers.get() as u8,
-        search.watch,
-    )?;
+    } = solve_watched(rt, alloc, puzzle, search.plan, search.watch)?;
     let shares = shares(alloc, tally)?;
     let found = Found {
         puzzle,

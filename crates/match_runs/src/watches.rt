@@ -31,10 +31,15 @@ impl CheckWatch for Open {
 
 /// Told of a solve while it runs. Nothing that is made depends on it.
 pub trait SolveWatch: Watch {
+    /// Before the search, where hints are wanted: more arrangements may be expected than a list has, and this may help.
+    fn expects_many(&self, advice: &str);
+
     /// A list and a certificate of so many bytes are to be written.
     fn made(&self, list: usize, certificate: usize);
 }
 
 impl SolveWatch for Unwatched {
+    fn expects_many(&self, _advice: &str) {}
+
     fn made(&self, _list: usize, _certificate: usize) {}
 }

@@ -1,7 +1,7 @@
 use Rattle.std.proofs.Common.{arith, codes, sym}
 use Rattle.clap.specs.Words.{found_of, rows_of}
 use Rattle.command_words.proofs.CommandLemmas.{solve_depth, solve_files, solve_fuel, solve_hints, solve_keep, solve_progress, solve_workers}
-use Rattle.command_words.proofs.MisfitLemmas.{misfits, no_solve, true_is_false}
+use Rattle.command_words.proofs.MisfitLemmas.{misfits, not_suggested, not_writable, true_is_false}
 use Rattle.command_words.proofs.readings.solve.Goals as goal
 
 pub files-requires : goal.files-requires
@@ -28,5 +28,10 @@ flag-hints-requires c = solve_hints (rows_of (found_of c.args.matches.now)) c.re
 pub returns-then-not-are_writable-clause-refused : goal.returns-then-not-are_writable-clause-refused
 returns-then-not-are_writable-clause-refused c =
     let rows = rows_of (found_of c.args.matches.now) in
-    misfits (codes "solve") rows c.misfit.result c.misfit.ensures (no_solve rows c.in_ok-files.files c.in_ok-files.ensures
+    misfits (codes "solve") rows c.misfit.result c.misfit.ensures (not_writable rows c.in_ok-files.files c.in_ok-files.ensures
     (λ writable. true_is_false (sym (c.if-not-are_writable.ensures.1 writable))))
+
+pub returns-in_default-clause-refused : goal.returns-in_default-clause-refused
+returns-in_default-clause-refused c =
+    let rows = rows_of (found_of c.args.matches.now) in
+    misfits (codes "solve") rows c.misfit-in_default.result c.misfit-in_default.ensures (not_suggested rows c.in_default.ensures)

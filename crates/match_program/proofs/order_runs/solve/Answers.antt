@@ -10,7 +10,7 @@ use Rattle.byte_streams.specs.declared.faults.Document.TheVariants as documents
 use Rattle.byte_streams.specs.declared.made_files.ProductNames.{ProductNames}
 use Rattle.byte_streams.specs.declared.outputs.Products.{Products}
 use Rattle.match_runs.specs.Runs.{Runs, unhinted}
-use Rattle.match_runs.specs.Solving.{SolveFails, SolveGives}
+use Rattle.match_runs.specs.Solving.{SolveFails, SolveGivesOf}
 use Rattle.match_runs.specs.declared.faults.RunFault.{RunFault}
 use Rattle.match_program.specs.FileOrigins.{Opened, one_file, read_from}
 use Rattle.match_program.specs.SolvedFiles.{PutsAll, certificate_name, list_name, solved_files}
@@ -45,9 +45,9 @@ to g c = three_sinks (list_to g c) (certificate_to g c) (report_to g c)
 
 -- the run came to this, where what is told of it is the same
 run_as : (g : _) (c : After-told-told g) (ended : Result (Unit {0}) RunFault) → unhinted c.told-told.result ≡ ended
-    → Runs (from g c) (SolveGives c.args.order.now.plan.workers) SolveFails (to g c) ended
+    → Runs (from g c) (SolveGivesOf c.args.order.now.plan.symmetries c.args.order.now.plan.workers) SolveFails (to g c) ended
 run_as g c ended is =
-    subst (Runs (from g c) (SolveGives c.args.order.now.plan.workers) SolveFails (to g c)) (sym c.told-told.ensures ∙ is)
+    subst (Runs (from g c) (SolveGivesOf c.args.order.now.plan.symmetries c.args.order.now.plan.workers) SolveFails (to g c)) (sym c.told-told.ensures ∙ is)
     c.run_solve_watched-solved.ensures.run
 
 pub returns-in_err-are_apart : goal.returns-in_err-are_apart
@@ -66,7 +66,7 @@ returns-in_err-made g c =
     let to = solved_files c.args.order.now.files.now g.S.FileSystem.does g.S.FileSystem.leads c.args.system.now c.make_files.new.system report in
     let put = PutsAll c.args.order.now.files.now g.S.FileSystem.does c.args.system.now c.make_files.new.system report in
     let undone = named (λ l k. Undid l k g.S.FileSystem.does c.args.system.now c.make_files.new.system) _ _ _ _ c.deref-2.ensures c.deref-3.ensures c.in_err-made.ensures.undone in
-    rw (w.1, w.2) (not_begun g.S.FileSystem g.S.Reader.Source c.args.system.now name file refl c.args.order.now.plan.workers to put c.in_err-made.field-0.0.fault c.in_err-made.ensures.fault (undone, refl))
+    rw (w.1, w.2) (not_begun g.S.FileSystem g.S.Reader.Source c.args.system.now name file refl c.args.order.now.plan.symmetries c.args.order.now.plan.workers to put c.in_err-made.field-0.0.fault c.in_err-made.ensures.fault (undone, refl))
 
 -- the two files took the texts that were made
 written : (g : _) (c : After-told-told g) (texts : Products) → (to g c).Took texts
@@ -79,7 +79,7 @@ written g c texts took =
 pub settle-requires : goal.settle-requires
 settle-requires g c =
     let at = (goal.at.settle-requires g c).After-told-told in
-    after_run (from g at) (SolveGives c.args.order.now.plan.workers) SolveFails (to g at) c.told-told.result
+    after_run (from g at) (SolveGivesOf c.args.order.now.plan.symmetries c.args.order.now.plan.workers) SolveFails (to g at) c.told-told.result
     (run_as g at (unhinted c.told-told.result) refl) (λ texts took. (texts, written g at texts took))
 
 pub returns-in-Err-Stopped : goal.returns-in-Err-Stopped
@@ -98,8 +98,8 @@ returns-in-Err-Stopped g c =
     let undone = named (λ l k. Undid l k does old new) _ _ _ _ c.deref-2.ensures c.deref-3.ensures
     (undone does names.list.now names.certificate.now old now new c.in_ok-made.ensures.made.1 stopped.1) in
     let left : c.output-1.given.0 ≡ c.run_solve_watched-solved.new.outputs.report.now = search rules in
-    subst (λ o. SolveOf c.args.order.now.plan.workers (one_file g.S.FileSystem g.S.Reader.Source old (string_bytes files.puzzle)) (solved_files files does leads old new (writing_of g.W.Sink c.args.output.now o)) (PutsAll files does old new (writing_of g.W.Sink c.args.output.now o)) (Err hinted.fault)) (sym left)
-    (solve_stopped g.S.FileSystem g.S.Reader.Source old (string_bytes files.puzzle) (file g at) c.args.order.now.plan.workers
+    subst (λ o. SolveOf c.args.order.now.plan.symmetries c.args.order.now.plan.workers (one_file g.S.FileSystem g.S.Reader.Source old (string_bytes files.puzzle)) (solved_files files does leads old new (writing_of g.W.Sink c.args.output.now o)) (PutsAll files does old new (writing_of g.W.Sink c.args.output.now o)) (Err hinted.fault)) (sym left)
+    (solve_stopped g.S.FileSystem g.S.Reader.Source old (string_bytes files.puzzle) (file g at) c.args.order.now.plan.symmetries c.args.order.now.plan.workers
     (list_to g at) (certificate_to g at) (report_to g at) (solved_files files does leads old new (report_to g at)) (PutsAll files does old new (report_to g at))
     (Undid (list_name files) (certificate_name files) does old new) undone (λ m s. inl s) (λ u. u) hinted.fault (run_as g at (Err hinted.fault) (ap unhinted told)))
 

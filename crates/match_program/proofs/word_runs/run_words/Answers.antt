@@ -1,6 +1,7 @@
 use Rattle.std.proofs.Common.{◌≡◌, inl, map, refl}
 use Rattle.std.specs.String.{string_bytes}
 use Rattle.byte_streams.specs.Moves.{writing_of}
+use Rattle.match_program.specs.InputUse.{LeavesInput, reads_input}
 use Rattle.match_program.specs.OrderRuns.{RunOf}
 use Rattle.match_program.proofs.WordLemmas.{refused}
 use Rattle.match_program.proofs.word_runs.run_words.Goals as goal
@@ -12,6 +13,7 @@ pub returns-in-Err-clause-run : goal.returns-in-Err-clause-run
 returns-in-Err-clause-run g c =
     let output = writing_of g.W.Sink c.args.streams.now.output.now c.refuse.new.output in
     let errors = writing_of g.E.Sink c.args.streams.now.errors.now c.refuse.new.errors in
-    refused (map string_bytes c.args.words.now) (RunOf g.S.FileSystem g.S.Reader.Source g.I.Source c.args.system.now c.args.streams.now.input.now c.args.system.now c.args.streams.now.input.now output)
-    (c.args.system.now ≡ c.args.system.now) refl output errors c.refuse.result
+    let input = c.args.streams.now.input.now in
+    refused (map string_bytes c.args.words.now) (λ order result. LeavesInput (reads_input order) input input × RunOf g.S.FileSystem g.S.Reader.Source g.I.Source c.args.system.now input input c.args.system.now output order result)
+    ((c.args.system.now ≡ c.args.system.now) × (input ≡ input)) (refl, refl) output errors c.refuse.result
     c.in-Err.fault c.in-Err.ensures.refused c.refuse.ensures

@@ -1,9 +1,11 @@
-use Rattle.std.proofs.Common.{List, ℕ, Err, ap, arith, rules, subst, sym, ◌∙◌}
-use Rattle.std.proofs.lemmas.Grind.{common_steps}
+use Rattle.std.proofs.Common.{List, ℕ, Err, ap, arith, length, rules, subst, sym, ◌≡◌, ◌∙◌, ◌≤◌}
+use Rattle.std.specs.Prelude.{Vec}
+use Rattle.std.specs.declared.alloc.Global.{Global}
+use Rattle.std.proofs.lemmas.List.{length-map}
 use Rattle.std.proofs.lemmas.Result.{err_from_is_err_and}
+use Rattle.match_limits.specs.declared.TheConstants.{MOST_WORKERS}
 use Rattle.match_puzzle.specs.declared.placements.Placement.{Placement}
 use Rattle.match_puzzle.specs.Arrangement.{AreArrangements}
-use Rattle.match_crew.specs.Solving.{IsSolvedBy}
 use Rattle.match_runs.specs.Solving.{AreProducts}
 use Rattle.match_runs.proofs.SolvingLemmas.{solve_fails}
 use Rattle.match_runs.proofs.solve_runs.solved.Goals as goal
@@ -21,11 +23,15 @@ returns-in_err-shares g c =
 pub products_of-requires-clause-found : goal.products_of-requires-clause-found
 products_of-requires-clause-found g c κs within =
     let solved = c.in_ok-listed.ensures.solved in
+    let tally = c.in_ok-listed.field-0.tally.items in
+    let taken = c.deref-2.ensures.value ∙ c.in_ok-shares.ensures in
+    let many : length c.deref-2.result.now ≡ c.args.search.now.plan.workers = ap length taken ∙ length-map tally (λ (t : Vec ℕ Global). t.items) ∙ solved.workers in
+    let most : c.args.search.now.plan.workers ≤ MOST_WORKERS = search rules in
     record {
       arrangements = subst (AreArrangements c.args.puzzle.now) (sym c.deref.ensures.value) solved.arrangements;
       list = search rules;
       certificate = search rules;
-      few = grind (arith, common_steps);
+      few = omega (arith, many, most);
     }
 
 pub returns-in_err-products : goal.returns-in_err-products
@@ -45,6 +51,7 @@ returns g c text read =
       listed = solved.list.items;
       tally = solved.tally.items;
       contents = solved.certificate;
-      solved = subst (λ n. IsSolvedBy p n solved.list.items solved.tally.items solved.certificate) c.get-3.ensures.number c.in_ok-listed.ensures.solved;
+      solved = c.in_ok-listed.ensures.solved;
+      asked_for = c.in_ok-listed.ensures.asked_for;
       products = subst (λ (s : List (List ℕ)). AreProducts p solved.list.items solved.certificate s made) (c.deref-2.ensures.value ∙ c.in_ok-shares.ensures) listed;
     }

@@ -5,7 +5,7 @@ use Rattle.byte_streams.specs.Origins.{joined_source}
 use Rattle.match_runs.specs.Printing.{PrintingFails, PrintingGives}
 use Rattle.match_program.specs.OrderRuns.{PrintingOf}
 use Rattle.match_program.proofs.OrderLemmas.{over_documents, printing_complete}
-use Rattle.match_program.proofs.order_runs.PrintingOrder.print_joined.Goals as goal
+use Rattle.match_program.proofs.place_runs.PrintingOrder.print_joined.Goals as goal
 
 pub returns-in_err-status : goal.returns-in_err-status
 returns-in_err-status g c =

@@ -1,0 +1,62 @@
+-- Which orders read standard input, and what the others leave of it.
+use Rattle.std.specs.Prelude.{◌≡◌, Bool, true, false}
+use Rattle.command_words.specs.declared.orders.Order.{Order}
+use Rattle.command_words.specs.declared.orders.Order.TheVariants.{Joined, Check, Explain, ExplainPuzzle, Solve, Expand, Count, Census, Total, Show, Draw, Symmetries, Tiles}
+use Rattle.command_words.specs.declared.orders.Subject.{Subject}
+use Rattle.command_words.specs.declared.orders.Subject.TheVariants.{Board, Listed}
+use Rattle.command_words.specs.declared.places.Given.{Given}
+use Rattle.command_words.specs.declared.places.Given.TheVariants as given
+use Rattle.command_words.specs.declared.places.PartPlaces.{PartPlaces}
+use Rattle.command_words.specs.declared.places.PartPlaces.TheVariants as parts
+use Rattle.command_words.specs.declared.places.Place.{Place}
+use Rattle.command_words.specs.declared.places.Place.TheVariants as one
+use Rattle.command_words.specs.declared.places.ThreePlaces.{ThreePlaces}
+use Rattle.command_words.specs.declared.places.ThreePlaces.TheVariants as three
+use Rattle.command_words.specs.declared.places.TwoPlaces.{TwoPlaces}
+use Rattle.command_words.specs.declared.places.TwoPlaces.TheVariants as two
+
+abbrev pub is_on_input : Place → Bool
+is_on_input one.Input = true
+is_on_input (one.File name) = false
+
+abbrev pub is_one_of_two_on_input : TwoPlaces → Bool
+is_one_of_two_on_input (two.Files puzzle list) = false
+is_one_of_two_on_input places = true
+
+abbrev pub is_one_on_input : ThreePlaces → Bool
+is_one_on_input (three.Files files) = false
+is_one_on_input places = true
+
+abbrev pub is_given_on_input : Given → Bool
+is_given_on_input given.Joined = true
+is_given_on_input (given.Apart places) = is_one_on_input places
+
+abbrev pub are_parts_on_input : PartPlaces → Bool
+are_parts_on_input parts.Input = true
+are_parts_on_input (parts.Files names) = false
+
+abbrev pub is_subject_on_input : Subject → Bool
+is_subject_on_input (Board puzzle) = is_on_input puzzle
+is_subject_on_input (Listed places number) = is_one_of_two_on_input places
+
+-- Whether an order reads standard input: where one of its documents stands there. A check of files, a solve and a list
+-- of tiles never do.
+abbrev pub reads_input : Order → Bool
+reads_input Joined = true
+reads_input (Check files workers forks progress hints) = false
+reads_input (Explain documents) = is_given_on_input documents
+reads_input (ExplainPuzzle puzzle) = is_on_input puzzle
+reads_input (Expand documents orbits hints) = is_given_on_input documents
+reads_input (Count documents) = is_given_on_input documents
+reads_input (Census puzzle extent workers progress) = is_on_input puzzle
+reads_input (Total places) = are_parts_on_input places
+reads_input (Solve files depth fuel workers symmetries keep progress hints) = false
+reads_input (Show subject) = is_subject_on_input subject
+reads_input (Draw subject first numbers) = is_subject_on_input subject
+reads_input (Symmetries puzzle) = is_on_input puzzle
+reads_input (Tiles sides colours lines) = false
+
+-- What isn't read is later as it was.
+abbrev pub LeavesInput : {I : Type 0} → (reads : Bool) → (given later : I) → Type 0
+LeavesInput true given later = Unit {0}
+LeavesInput false given later = later ≡ given
