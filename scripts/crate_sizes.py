@@ -6,21 +6,15 @@ usage: crate_sizes.py
 For each crate of crates.txt, lowest first: how many crates stand below it in its longest chain, its functions, and its
 lines of code, of contracts (clauses of `requires` and `ensures`), of definitions and of proofs. Below stand the sums,
 and the longest chain: that of the most crates, and of those the one of the most lines.
-
-It ends with 0 where each library has from 15 to 110 functions, and else with 1; of the program, which has few, no least
-number is asked.
 """
 import functools
 import glob
 import os
 import re
-import sys
 
 from script_words import help_or_fault
 
 TOP = os.path.join(os.path.dirname(os.path.abspath(__file__)), "..")
-LEAST, MOST = 15, 110
-PROGRAM = "edgematch"
 FUNCTION = re.compile(r"^\s*(?:pub(?:\([a-z]+\))? )?(?:const )?fn ", re.M)
 CLAUSE = re.compile(r"^\s*(?:requires|ensures)\b")
 COLUMNS = "below", "functions", "code", "contracts", "definitions", "proofs"
@@ -86,10 +80,6 @@ def main():
     longest = max(map(chain, below), key=lambda it: (len(it), sum(lines[other] for other in it)))
     print(f"\nthe longest chain has {len(longest)} crates and {sum(lines[it] for it in longest)} lines of code:")
     print(" > ".join(longest))
-    wrong = [it for it, numbers in rows.items() if numbers[1] > MOST or (numbers[1] < LEAST and it != PROGRAM)]
-    for crate in wrong:
-        print(f"{crate} has {rows[crate][1]} functions, and not from {LEAST} to {MOST}")
-    sys.exit(1 if wrong else 0)
 
 
 if __name__ == "__main__":
