@@ -4,7 +4,7 @@
 usage: check_cases.py PROGRAM [CASE..]
 
 CASE is the name of a case, of a file of `cases/` (without its ending) or of a folder of `examples/`; without any, all
-are run. CONTRIBUTING.md says how a case is written. It ends with 0 where each case passes, with 1 where one fails, and
+are run. cases/README.md says how a case is written. It ends with 0 where each case passes, with 1 where one fails, and
 with 2 where a case can't be read. Cases run side by side, as many as there are processors.
 """
 import difflib

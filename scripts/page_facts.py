@@ -1,14 +1,14 @@
 #!/usr/bin/env python3
-"""Holds the pages to the files that they speak of: crates, counts, commands, limits, links, names, quotations, and the
-libraries that are trusted.
+"""Holds the pages to the files that they speak of: crates, calls, counts, commands, limits, links, names, quotations,
+and the libraries that are trusted.
 
 usage: page_facts.py [--write]
 
-The pages are README.md, CONTRIBUTING.md, CHANGELOG.md, those of docs/, and a README.md in the folder of each crate. It
-also looks at how long lines of prose and sentences are, whether a sentence stands twice, and whether two empty lines
-follow each other. With --write the counts are made anew. It takes a second, and ends with 0 where all pages are right,
-and with 1 where one isn't, and says where. A quotation of the code begins with its file and the function that has it,
-as `// match_board/src/boards.rt, meets`; `..` in a line of its own stands for lines that are left out.
+The pages are README.md, CONTRIBUTING.md, CHANGELOG.md, those of docs/, and a README.md in cases/ and in the folder of
+each crate. It also looks at how long lines of prose are, whether a sentence stands twice, and whether two empty lines
+follow each other. With --write the counts are made anew. It takes a second or two, and ends with 0 where all pages are
+right, and with 1 where one isn't, and says where. A quotation of the code begins with its file and the function that
+has it, as `// match_board/src/boards.rt, meets`; `..` in a line of its own stands for lines that are left out.
 """
 import collections
 import functools
@@ -26,8 +26,8 @@ from try_further_edits import MOST_IN_THE_GATE, edits_in
 TOP = os.path.join(os.path.dirname(os.path.abspath(__file__)), "..")
 README, CONTRIBUTING, ARCHITECTURE = "README.md", "CONTRIBUTING.md", "docs/ARCHITECTURE.md"
 MANUAL, PROVED, GATE = "docs/edgematch.1", "docs/PROVED.md", ".ci/run"
-# The most characters of a line of prose, and the most words of a sentence, in the mean and of each.
-MOST_CHARACTERS, MOST_IN_THE_MEAN, MOST_WORDS = 120, 25, 45
+# The most characters of a line of prose.
+MOST_CHARACTERS = 120
 # A sentence of so many words is to stand in one place.
 LONG = 12
 # What stands on a page by the limits of the code and of scripts. A number stands there as text, with commas.
@@ -49,10 +49,9 @@ LIMITS = {
         "(over {MOST_BYTES} bytes)",
         "`items N of {MOST_ENTRIES:d}`",
     ],
-    CONTRIBUTING: [
-        "at most {MOST_IN_THE_MEAN} words in the mean and none over {MOST_WORDS}",
-        "lines of at most {MOST_CHARACTERS} characters",
-        "So at most {MOST_IN_THE_GATE} stand in",
+        CONTRIBUTING: [
+        "Lines have at most {MOST_CHARACTERS} characters",
+        "So there are at most {MOST_IN_THE_GATE} in",
     ],
     "docs/DECISIONS.md": ["At most {MOST_IN_THE_GATE} must-fail edits stand in the gate"],
     PROVED: ["1 to {MOST_WORKERS} workers and 0 to {MOST_FORKS} forks", "over {MOST_ENTRIES} items"],
@@ -76,8 +75,10 @@ FOLDERS = ["src", "specs", "proofs", "crates", "scripts", "cases", "docs"]
 # What is of the kit alone.
 OF_THE_KIT = {"atomic_blocks", "crossbeam_queue", "RandomState"}
 # The pages whose names are those of the code, beside those of the crates.
-OF_THE_CODE = [ARCHITECTURE, "docs/DECISIONS.md", "docs/FURTHER.md", PROVED, "docs/MACHINE.md"]
+OF_THE_CODE = [ARCHITECTURE, "docs/DECISIONS.md", PROVED, "docs/MACHINE.md"]
 
+# The heading of the calls that the program doesn't make.
+TEST_CALLS = "Calls that only tests make"
 KINDS = "must-fail", "further-edits"
 CONSTANT = re.compile(r"^(?:pub )?const (\w+): \w+ = ([\w ]+(?: [-+*<]+ [\w ]+)?);$", re.M)
 SIGNS = {"+": operator.add, "-": operator.sub, "*": operator.mul, "<<": operator.lshift}
@@ -110,8 +111,8 @@ def found(pattern):
 @functools.cache
 def all_below():
     """The crates in the order of crates.txt, each with all that it stands on, libraries of the kit too."""
-    lines = [line.split(":") for line in text_of("crates.txt").splitlines()]
-    return {of.split()[0]: on.split() for of, on in lines}
+    lines = [line.split("#")[0].split(":") for line in text_of("crates.txt").splitlines()]
+    return {of.split()[0]: "".join(on).split() for of, *on in lines if of.strip()}
 
 
 @functools.cache
@@ -136,7 +137,8 @@ def page_of(crate):
 
 @functools.cache
 def pages():
-    return [README, CONTRIBUTING, "CHANGELOG.md", *found("docs/*.md"), *filter(is_there, map(page_of, crates()))]
+    named = [README, CONTRIBUTING, "CHANGELOG.md", "cases/README.md", *found("docs/*.md")]
+    return [*named, *filter(is_there, map(page_of, crates()))]
 
 
 def plain(text):
@@ -176,9 +178,45 @@ def layer_faults():
 
 def trust_faults():
     """The libraries of the kit that the page leaves out of what is trusted."""
-    trusted = text_of(PROVED).split("\n## What is trusted\n")[1].split("\n## ")[0]
-    named = {*SPAN.findall(trusted)}
+    named = {*SPAN.findall(section_of(PROVED, "What is trusted"))}
     yield from (f"{PROVED}: what is trusted leaves out {it}" for it in sorted(libraries() - named))
+
+
+# ---- calls
+
+
+def section_of(page, heading):
+    """What stands on a page below a heading."""
+    return text_of(page).split(f"\n## {heading}\n")[1].split("\n## ")[0]
+
+
+@functools.cache
+def code_of(crate):
+    """The code of a crate, without its comments."""
+    return "\n".join(re.sub(r"//.*", "", text_of(it)) for it in found(f"crates/{crate}/src/**/*.rt"))
+
+
+def carrier_faults():
+    """The runs of which the page promises something and that the program doesn't make."""
+    told = {it for it in SPAN.findall(section_of(PROVED, "Runs")) if it.startswith("run_")}
+    made = {*re.findall(r"\w+", code_of("match_program"))}
+    yield from (f"{PROVED}: the program makes no {it}" for it in sorted(told - made))
+
+
+def test_call_faults():
+    """The calls that only tests make by the page and that the program makes; of names that one function alone has."""
+    code = {crate: code_of(crate) for crate in crates() if not crate.startswith("test_")}
+    defined = collections.Counter(name for it in code.values() for name in re.findall(r"\bfn (\w+)", it))
+    told = {*SPAN.findall(section_of(ARCHITECTURE, TEST_CALLS))} - {*crates(), "read_line"}
+    told = {it for it in told if "::" in it or defined[it] == 1}
+    for crate, text in code.items():
+        called = {*re.findall(r"(?<!fn )\b((?:\w+::)?\w+)\(", text)}
+        yield from (f"{ARCHITECTURE}: {crate} calls {it}" for it in sorted(told & (called | {*plain_names(called)})))
+
+
+def plain_names(called):
+    """Of calls those without what stands before `::`."""
+    return (it.split("::")[-1] for it in called)
 
 
 # ---- quotations and names
@@ -216,7 +254,7 @@ def quotation_faults():
 def known_words():
     """The words of the code, of its definitions and proofs, and of cases, with the names of all files."""
     files = [it for kind in ("src", "specs", "proofs") for it in found(f"crates/*/{kind}/**/*.*")]
-    files += found("cases/*") + ["crates.txt", MANUAL]
+    files += found("cases/*.toml") + ["crates.txt", MANUAL]
     words = {word for it in files for word in re.findall(r"[\w']+", text_of(it))}
     named = files + [it for kind in ("crates/*/*", "scripts/*", "examples/*", "docs/*", "*") for it in found(kind)]
     return words | OF_THE_KIT | {os.path.splitext(part)[0] for it in named for part in it.split("/")}
@@ -240,7 +278,8 @@ def path_faults():
     for page in pages():
         folders = ["", "crates/", page.removesuffix("README.md")]
         for path in sorted({it for span in spans_of(page) for it in PATH.findall(span)}):
-            if path.split("/")[0] not in {*FOLDERS, *crates()} or re.search("NAME|MODULE", path):
+            # What stands in a folder out/ was built, and isn't there in a fresh checkout.
+            if path.split("/")[0] not in {*FOLDERS, *crates()} or re.search("NAME|MODULE|/out/", path):
                 continue
             if not any(is_there(folder + path) for folder in folders) and not found(f"crates/*/{path}"):
                 yield f"{page}: there is no {path}"
@@ -267,7 +306,7 @@ def command_faults():
                 yield f"{page}: there is no command {command}"
             else:
                 yield from (f"{page}: {command} has no {it}" for it in options if it not in manual()[command])
-    table = text_of(README).split("| Words | ")[1].split("\n\n")[0]
+    table = text_of(README).split("| Command | ")[1].split("\n\n")[0]
     differ = {*re.findall(r"^\| `([a-z]+)[ `]", table, re.M)} ^ {*manual()} - {"help"}
     yield from (f"{README}: its table of commands and {MANUAL} differ in {it}" for it in sorted(differ))
 
@@ -362,20 +401,20 @@ def layout_faults():
 
 
 def blocks_of(page):
-    """The paragraphs, members of lists and cells of tables of a page, and whether each is a cell."""
+    """The paragraphs, members of lists and cells of tables of a page."""
     text = re.sub(r"<[^>]*>", "", FENCED.sub("", text_of(page)))
     text = re.sub(r"\[([^\]]*)\]\([^)\s]*\)", r"\1", re.sub(r"^> ?", "", text, flags=re.M))
     for part in re.split(r"\n\s*\n|\n(?=\s*(?:[-*]|\d+\.) )|\n(?=[|#])", text):
         if part.startswith("|"):
-            yield from ((cell, True) for cell in part.replace("\\|", " ").split("|"))
+            yield from part.replace("\\|", " ").split("|")
         elif not part.startswith("#"):
-            yield re.sub(r"^\s*(?:[-*]|\d+\.) ", "", part), False
+            yield re.sub(r"^\s*(?:[-*]|\d+\.) ", "", part)
 
 
 def sentences_of(page):
-    """The sentences of a page, each in one line, and whether they stand in a table."""
-    for block, is_cell in blocks_of(page):
-        yield from ((it, is_cell) for it in END.split(plain(block)) if it)
+    """The sentences of a page, each in one line."""
+    for block in blocks_of(page):
+        yield from filter(None, END.split(plain(block)))
 
 
 def words_of(sentence):
@@ -383,31 +422,19 @@ def words_of(sentence):
     return sum(any(map(str.isalnum, it)) for it in SPAN.sub("code", sentence).split())
 
 
-def length_faults():
-    """The sentences that are too long, and the pages where they are so in the mean."""
-    for page in pages():
-        prose = [words_of(it) for it, is_cell in sentences_of(page) if not is_cell]
-        mean = sum(prose) / max(1, len(prose))
-        if mean > MOST_IN_THE_MEAN:
-            yield f"{page}: sentences of {mean:.1f} words"
-        for sentence, _ in sentences_of(page):
-            if words_of(sentence) > MOST_WORDS:
-                yield f"{page}: {words_of(sentence)} words: {sentence[:90]}"
-
-
 def repetition_faults():
     """The long sentences that stand in two places."""
     places = collections.defaultdict(list)
     for page in pages():
-        for sentence, _ in sentences_of(page):
+        for sentence in sentences_of(page):
             if words_of(sentence) >= LONG:
                 places[re.sub(r"\W+", " ", sentence.lower())].append(page)
     yield from (f"{', '.join(of)}: twice: {said[:90]}" for said, of in places.items() if len(of) > 1)
 
 
 PARTS = [
-    page_faults, layer_faults, trust_faults, quotation_faults, name_faults, path_faults, command_faults, limit_faults,
-    link_faults, count_faults, layout_faults, length_faults, repetition_faults,
+    page_faults, layer_faults, trust_faults, carrier_faults, test_call_faults, quotation_faults, name_faults,
+    path_faults, command_faults, limit_faults, link_faults, count_faults, layout_faults, repetition_faults,
 ]
 
 

@@ -1,11 +1,12 @@
 #!/usr/bin/env python3
-"""Tries the scripts as one calls them who doesn't know them: for help, with wrong words, and from another folder.
+"""Tries the scripts and the Makefile as somebody calls them who doesn't know them: for help, with wrong words, and from
+another folder.
 
 usage: try_scripts.py
 
-It needs no program: a stand-in is installed and packed, from a copy of what is copied then. Each link of a page of the
-archive has to lead to a file of it, and what is wrong with a page has to be told. It takes seconds, and ends with 0
-where all is as wanted, else with 1.
+It needs no program: a copy of the project installs and packs a stand-in. Each link of a page of the archive has to lead
+to a file of it, each target has to say what it misses, and what is wrong with a page has to be told. It takes seconds,
+and ends with 0 where all is as wanted, else with 1.
 """
 import concurrent.futures
 import os
@@ -21,6 +22,8 @@ HERE = os.path.dirname(os.path.abspath(__file__))
 TOP = os.path.dirname(HERE)
 # What the scripts import, and nobody calls.
 MODULES = {"script_words.py"}
+PROGRAM = "crates/edgematch/out/edgematch"
+TARGETS = ["build", "run", "test", "install", "uninstall", "package", "help"]
 LINK = re.compile(r"\]\(([^)\s#]+)[^)\s]*\)|(?:src|href)=\"([^\"#]+)")
 # A stand-in for the program: its version, and empty texts of a solve.
 STAND_IN = """#!/bin/sh
@@ -29,24 +32,23 @@ case $1 in
   solve) : >"$3" && : >"$4" ;;
 esac
 """
-# Words that make a page too long, or its sentences.
-MANY = "Words" + 49 * " word"
-AGAIN = "This sentence has more than a dozen words, and stands on two pages for no reason."
+AGAIN = "This sentence has more than a dozen words, and stands in two places for no reason."
 # What is done to a page, or to what it speaks of: a text in the place of another, or behind all; and what is told then.
 WRONG_PAGES = [
     ("crates/match_report/README.md", "# `match_report`", "# `match_reports`", "begins with another line"),
     ("docs/ARCHITECTURE.md", "\n  8  ", "\n  0  ", "edgematch stands no higher than match_program"),
     ("docs/PROVED.md", "`sha2`", "`sha3`", "docs/PROVED.md: what is trusted leaves out sha2"),
+    ("docs/PROVED.md", "(`run_tiles`)", "(`run_check`)", "docs/PROVED.md: the program makes no run_check"),
+    ("docs/ARCHITECTURE.md", "`SearchOver::run`", "`SearchOver::new`", "match_crew calls SearchOver::new"),
     ("crates/match_text/README.md", "let list = ", "let lists = ", "list_again of test_samples/src/writings.rt"),
     ("crates/match_show/README.md", "`write_facts`", "`write_fax`", "there is no write_fax, "),
-    ("docs/FURTHER.md", "`cert_tree/src/nodes.rt`", "`cert_tree/src/node.rt`", "there is no cert_tree/src/node.rt"),
+    ("docs/ARCHITECTURE.md", "`cert_tree/src/nodes.rt`", "`cert_tree/src/node.rt`", "no cert_tree/src/node.rt"),
     ("README.md", "| `symmetries PUZZLE`", "| `symmetry PUZZLE`", "differ in symmetry"),
     ("crates/match_limits/src/lib.rt", "MOST_COLOURS: u8 = 36", "MOST_COLOURS: u8 = 35", "doesn't say: 35 colours"),
     ("README.md", "(docs/LARGE.md)", "(docs/LARGER.md)", "leads to docs/LARGER.md, which isn't there"),
     (".ci/run", 'part "pages"', 'part "leaves"', "CONTRIBUTING.md has the parts"),
     ("docs/BY_HAND.md", None, f"\n\n{121 * 'w'}\n", "empty lines follow each other\ndocs/BY_HAND.md: 121 characters"),
-    ("docs/LARGE.md", None, f"\n{AGAIN}\n", "docs/LARGE.md, docs/MACHINE.md: twice: this sentence"),
-    ("docs/MACHINE.md", None, f"\n{AGAIN} {MANY}.\n", "docs/MACHINE.md: 50 words: Words"),
+    ("docs/LARGE.md", None, f"\n{AGAIN}\n\n{AGAIN}\n", "docs/LARGE.md, docs/LARGE.md: twice: this sentence"),
 ]
 
 
@@ -78,13 +80,21 @@ def copy_of_the_top(folder):
     top = os.path.join(folder, "the top")
     for name in ("scripts", "docs", "completions", "examples"):
         shutil.copytree(os.path.join(TOP, name), os.path.join(top, name))
-    shutil.copy(os.path.join(TOP, "CHANGELOG.md"), top)
-    program = os.path.join(top, "crates/edgematch/out/edgematch")
+    for name in ("CHANGELOG.md", "Makefile"):
+        shutil.copy(os.path.join(TOP, name), top)
+    program = os.path.join(top, PROGRAM)
     os.makedirs(os.path.dirname(program))
     with open(program, "w", encoding="ascii") as file:
         file.write(STAND_IN)
     os.chmod(program, 0o755)
     return top
+
+
+def made(top, *words, path=os.environ["PATH"]):
+    """What comes of a make in the folder of a copy that is called from another one."""
+    names = {name: value for name, value in os.environ.items() if name not in ("MAKEFLAGS", "MAKELEVEL")}
+    start = [shutil.which("make") or "make", "--no-print-directory", "-C", top, *words]
+    return subprocess.run(start, cwd="/", env=names | {"PATH": path}, capture_output=True, text=True, check=False)
 
 
 def files_in(folder):
@@ -112,26 +122,51 @@ def tells_what_is_wrong(_, folder):
 
 
 def installs(top, folder):
-    """What isn't as wanted of a program that is installed below a path relative to another folder, and taken away."""
-    run = called(folder, os.path.join(top, "scripts/install"), "to here")
-    found = files_in(os.path.join(folder, "to here"))
-    if run.returncode != 0 or len(found) != 7:
-        yield f"install: status {run.returncode}, {found} {run.stderr}"
-    with open(os.path.join(folder, "to here/bin/own"), "w", encoding="ascii"):
-        pass
-    run = called(folder, os.path.join(top, "scripts/uninstall"), "to here")
-    left = [os.path.basename(it) for it in files_in(os.path.join(folder, "to here"))]
-    if (run.returncode, left) != (0, ["own"]):
+    """What isn't as wanted of a program that is installed over an old one, and taken away."""
+    where = [f"DESTDIR={folder}/for another", "PREFIX=/to here"]
+    root = os.path.join(folder, "for another/to here")
+    os.makedirs(os.path.join(root, "bin"))
+    for name in ("own", "edgematch"):
+        with open(os.path.join(root, "bin", name), "w", encoding="ascii"):
+            pass
+    run = made(top, "install", *where)
+    modes = {os.path.relpath(it, root): os.stat(it).st_mode & 0o777 for it in files_in(root)}
+    executable = [it for it, mode in modes.items() if mode == 0o755]
+    if run.returncode != 0 or len(modes) != 8 or executable != ["bin/edgematch"]:
+        yield f"install: status {run.returncode}, {modes} {run.stderr}"
+    run = made(top, "uninstall", *where)
+    left = [os.path.relpath(it, root) for it in files_in(root)]
+    if (run.returncode, left) != (0, ["bin/own"]) or os.path.exists(os.path.join(root, "share/doc/edgematch")):
         yield f"uninstall: status {run.returncode}, {left} are left {run.stderr}"
+
+
+def misses(top, folder):
+    """The targets that don't say in a line what they miss: `rt` on the path, a program, a folder."""
+    tools = os.path.join(folder, "tools")
+    os.mkdir(tools)
+    os.symlink(shutil.which("bash"), os.path.join(tools, "bash"))
+    bare = os.path.join(folder, "nothing built")
+    os.mkdir(bare)
+    shutil.copy(os.path.join(TOP, "Makefile"), bare)
+    tried = [(bare, [name], tools, "rt isn't on the path") for name in ("build", "run", "test")]
+    tried += [(bare, [name], os.environ["PATH"], f"there is no {PROGRAM}") for name in ("install", "package")]
+    tried += [(top, ["package", f"FOLDER={folder}/none"], os.environ["PATH"], "there is no folder")]
+    for where, words, path, said in tried:
+        run = made(where, *words, path=path)
+        if run.returncode != 2 or run.stdout or not run.stderr.startswith(f"make {words[0]}: {said}"):
+            yield f"{' '.join(words)}: status {run.returncode}, {run.stdout!r} {run.stderr!r}"
+    told = re.findall(r"^make (\w+)  ", made(bare, "help").stdout, re.MULTILINE)
+    if told != TARGETS:
+        yield f"help: {told}"
 
 
 def packs(top, folder):
     """What isn't as wanted of an archive, and the links of its pages that lead nowhere."""
     os.mkdir(os.path.join(folder, "in here"))
-    run = called(folder, os.path.join(top, "scripts/package"), "in here")
+    run = made(top, "package", f"FOLDER={folder}/in here")
     found = files_in(os.path.join(folder, "in here"))
-    if run.returncode != 0 or len(found) != 1:
-        yield f"package: status {run.returncode}, {found} {run.stderr}"
+    if run.returncode != 0 or len(found) != 1 or os.path.basename(found[0]) not in run.stdout:
+        yield f"package: status {run.returncode}, {found} {run.stdout} {run.stderr}"
         return
     unpacked = os.path.join(folder, "unpacked")
     os.mkdir(unpacked)
@@ -153,8 +188,8 @@ def main():
     with tempfile.TemporaryDirectory() as folder, concurrent.futures.ThreadPoolExecutor() as pool:
         top = copy_of_the_top(folder)
         tried = [pool.submit(list, helps(name)) for name in scripts()]
-        tried += [pool.submit(list, kind(top, folder)) for kind in (installs, packs, tells_what_is_wrong)]
-        names, wrong = [*scripts(), "install", "package", "page_facts.py"], [it.result() for it in tried]
+        tried += [pool.submit(list, kind(top, folder)) for kind in (installs, misses, packs, tells_what_is_wrong)]
+        names, wrong = [*scripts(), *3 * ["Makefile"], "page_facts.py"], [it.result() for it in tried]
     for name, faults in zip(names, wrong):
         for fault in faults:
             print(f"{name}: {fault}")
