@@ -4,7 +4,7 @@ SHELL := bash
 .SHELLFLAGS := -euo pipefail -c
 .ONESHELL:
 .SUFFIXES:
-.PHONY: build run test install uninstall package help
+.PHONY: build run test docs install uninstall package help
 .DEFAULT_GOAL := build
 
 # How many crates are proved at once. Each takes up to 4 GB of memory.
@@ -48,6 +48,11 @@ test: ## runs all proofs and tests; the last line counts them
 	@$(needs_rt)
 	$(needs_python)
 	.ci/run
+
+docs: ## makes the manual page and the completions from what the program says by --help
+	@$(needs_program)
+	$(needs_python)
+	python3 scripts/make_docs.py $(PROGRAM)
 
 # Puts the program and its pages below the folder that the shell's $root names.
 define put

@@ -1,4 +1,5 @@
 # Completion for bash: source this file, or put it where bash-completion looks for it.
+# Made by `make docs`.
 
 _edgematch() {
   local word=${COMP_WORDS[COMP_CWORD]} before=${COMP_WORDS[COMP_CWORD - 1]} command=${COMP_WORDS[1]} words
@@ -15,12 +16,15 @@ _edgematch() {
     esac
     case $command in
       check) words="--workers --forks --progress --hints --help" ;;
+      explain) words="--help" ;;
       solve) words="--depth --fuel --workers --symmetries --keep --progress --hints --help" ;;
-      count) words="--workers --most --part --progress --help" ;;
       expand) words="--orbits --hints --help" ;;
+      count) words="--workers --most --part --progress --help" ;;
+      total) words="--help" ;;
+      show) words="--help" ;;
       draw) words="--first --numbers --help" ;;
+      symmetries) words="--help" ;;
       tiles) words="--lines --help" ;;
-      explain | total | show | symmetries) words="--help" ;;
       help) words="check explain solve expand count total show draw symmetries tiles help" ;;
     esac
   fi

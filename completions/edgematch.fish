@@ -1,4 +1,5 @@
 # Completion for fish: put this file into a folder of $fish_complete_path.
+# Made by `make docs`.
 
 complete -c edgematch -f -n __fish_use_subcommand -a check -d "Checks that a list has every arrangement of a puzzle"
 complete -c edgematch -f -n __fish_use_subcommand -a explain -d "Checks a list, and says why it is refused, or what is wrong with a puzzle"

@@ -290,10 +290,10 @@ def path_faults():
 
 @functools.cache
 def manual():
-    """The commands of the manual page, each with what stands there. It is held to the program by check_pages.py."""
+    """The commands of the manual page, each with its options. It is made from the program's help."""
     text = text_of(MANUAL).replace("\\-", "-").split(".SH COMMANDS\n")[1].split("\n.SH ")[0]
     parts = re.split(r"^\.SS (\w+)\n", text, flags=re.M)[1:]
-    return dict(zip(parts[::2], parts[1::2]))
+    return {name: re.findall(r"^\.TP\n\\fB(--\w+)", part, re.M) for name, part in zip(parts[::2], parts[1::2])}
 
 
 def command_faults():

@@ -23,7 +23,7 @@ TOP = os.path.dirname(HERE)
 # What the scripts import, and nobody calls.
 MODULES = {"script_words.py"}
 PROGRAM = "crates/edgematch/out/edgematch"
-TARGETS = ["build", "run", "test", "install", "uninstall", "package", "help"]
+TARGETS = ["build", "run", "test", "docs", "install", "uninstall", "package", "help"]
 LINK = re.compile(r"\]\(([^)\s#]+)[^)\s]*\)|(?:src|href)=\"([^\"#]+)")
 # A stand-in for the program: its version, and empty texts of a solve.
 STAND_IN = """#!/bin/sh
@@ -55,7 +55,7 @@ WRONG_PAGES = [
 def scripts():
     """The scripts, by their names."""
     names = (it for it in os.listdir(HERE) if os.path.isfile(os.path.join(HERE, it)))
-    return sorted(it for it in names if not it.endswith(".c") and it not in MODULES)
+    return sorted(it for it in names if not it.endswith((".c", ".toml")) and it not in MODULES)
 
 
 def called(folder, path, *words):
@@ -149,7 +149,7 @@ def misses(top, folder):
     os.mkdir(bare)
     shutil.copy(os.path.join(TOP, "Makefile"), bare)
     tried = [(bare, [name], tools, "rt isn't on the path") for name in ("build", "run", "test")]
-    tried += [(bare, [name], os.environ["PATH"], f"there is no {PROGRAM}") for name in ("install", "package")]
+    tried += [(bare, [name], os.environ["PATH"], f"there is no {PROGRAM}") for name in ("docs", "install", "package")]
     tried += [(top, ["package", f"FOLDER={folder}/none"], os.environ["PATH"], "there is no folder")]
     for where, words, path, said in tried:
         run = made(where, *words, path=path)
