@@ -1,12 +1,11 @@
 #!/usr/bin/env python3
 """Runs the built program on each case of `cases/` and each example of `examples/`, and shows what isn't as wanted.
 
-usage: check_cases.py PROGRAM [CASE..]
-
 CASE is the name of a case, of a file of `cases/` (without its ending) or of a folder of `examples/`; without any, all
 are run. cases/README.md says how a case is written. It ends with 0 where each case passes, with 1 where one fails, and
 with 2 where a case can't be read. Cases run side by side, as many as there are processors.
 """
+import argparse
 import difflib
 import hashlib
 import multiprocessing
@@ -22,7 +21,6 @@ from dataclasses import dataclass, field
 import plain_search
 from plain_orbits import orbits_of
 from plain_search import ItemSearch, Search, read_puzzle
-from script_words import fault, help_or_fault, program_at
 
 TOP = os.path.join(os.path.dirname(os.path.abspath(__file__)), "..")
 CASES, EXAMPLES = os.path.join(TOP, "cases"), os.path.join(TOP, "examples")
@@ -651,14 +649,31 @@ def is_named(name, wanted):
     return any(it in (name, whole, *parts) for it in wanted)
 
 
-def main(program, *wanted):
+def program_at(path):
+    """The whole path of the program that a word of a command line names, as argparse wants its type."""
+    path = os.path.abspath(path)
+    try:
+        said = subprocess.run([path, "--version"], stdin=subprocess.DEVNULL, capture_output=True, check=False).stdout
+    except OSError as error:
+        raise argparse.ArgumentTypeError(f"{path}: {error.strerror}") from error
+    if not said.startswith(b"edgematch "):
+        raise argparse.ArgumentTypeError(f"{path} isn't edgematch")
+    return path
+
+
+def main():
+    parser = argparse.ArgumentParser(description=__doc__, formatter_class=argparse.RawDescriptionHelpFormatter)
+    parser.add_argument("program", type=program_at, metavar="PROGRAM")
+    parser.add_argument("cases", nargs="*", metavar="CASE")
+    given = parser.parse_args()
     begun = time.monotonic()
     try:
-        works = [(program, kind, case) for kind, case in every_case() if not wanted or is_named(case.name, wanted)]
+        works = [(given.program, kind, case) for kind, case in every_case()
+                 if not given.cases or is_named(case.name, given.cases)]
     except (Unreadable, tomllib.TOMLDecodeError, OSError) as error:
-        fault(error)
+        parser.error(error)
     if not works:
-        fault(f"there is no case {' '.join(wanted)}")
+        parser.error(f"there is no case {' '.join(given.cases)}")
     runs, failed = 0, 0
     with multiprocessing.Pool() as pool:
         for name, count, differences in pool.imap_unordered(tried, works):
@@ -673,5 +688,4 @@ def main(program, *wanted):
 
 
 if __name__ == "__main__":
-    help_or_fault(__doc__, 1)
-    sys.exit(main(program_at(sys.argv[1]), *sys.argv[2:]))
+    sys.exit(main())

@@ -1,18 +1,15 @@
 #!/usr/bin/env python3
 """Counts functions and lines of each crate, and finds the longest chain of crates.
 
-usage: crate_sizes.py
-
 For each crate of crates.txt, lowest first: how many crates stand below it in its longest chain, its functions, and its
 lines of code, of contracts (clauses of `requires` and `ensures`), of definitions and of proofs. Below stand the sums,
 and the longest chain: that of the most crates, and of those the one of the most lines.
 """
+import argparse
 import functools
 import glob
 import os
 import re
-
-from script_words import help_or_fault
 
 TOP = os.path.join(os.path.dirname(os.path.abspath(__file__)), "..")
 FUNCTION = re.compile(r"^\s*(?:pub(?:\([a-z]+\))? )?(?:const )?fn ", re.M)
@@ -60,7 +57,7 @@ def row(crate, below):
 
 
 def main():
-    help_or_fault(__doc__, 0, 0)
+    argparse.ArgumentParser(description=__doc__, formatter_class=argparse.RawDescriptionHelpFormatter).parse_args()
     below = crates()
     lines = {it: row(it, 0)[2] for it in below}
 

@@ -1,15 +1,13 @@
 #!/usr/bin/env python3
 """Solves, checks and counts the puzzles of docs/GALLERY.md, and shows what isn't as the page has it.
 
-usage: gallery.py PROGRAM [--texts FOLDER | PUZZLE..]
-
 PUZZLE is the name of a file of `examples/gallery`; without any, all are tried, which takes minutes. Prints the row of
 each as the page has it, with the bytes and the seconds of this run. It ends with 0 where the arrangements, the pictures
 and the orbits are those of the page, and expand lists as many; with 1 where they aren't; and with 2 where a word is
-wrong. With --texts it writes lists and
-certificates into the folder FOLDER, and checks them: of the puzzles that the page solves with one worker, since several
-list in another order each time.
+wrong. With --texts it writes lists and certificates into the folder FOLDER, and checks them: of the puzzles that the
+page solves with one worker, since several list in another order each time.
 """
+import argparse
 import os
 import re
 import subprocess
@@ -17,8 +15,7 @@ import sys
 import tempfile
 import time
 
-from check_cases import arrangements_in, pictures_of
-from script_words import fault, help_or_fault, program_at
+from check_cases import arrangements_in, pictures_of, program_at
 
 TOP = os.path.join(os.path.dirname(os.path.abspath(__file__)), "..")
 PUZZLES = os.path.join(TOP, "examples/gallery")
@@ -38,7 +35,8 @@ def timed(*words):
     try:
         run = subprocess.run(words, capture_output=True, text=True, check=True)
     except (OSError, subprocess.CalledProcessError) as error:
-        fault(f"{' '.join(words)}: {getattr(error, 'stderr', None) or error}".strip())
+        print(f"gallery: {' '.join(words)}: {getattr(error, 'stderr', None) or error}".strip(), file=sys.stderr)
+        sys.exit(2)
     return run.stdout, time.monotonic() - begun
 
 
@@ -82,28 +80,35 @@ def row_of(program, name, options):
 
 def keep_texts(program, folder):
     """Writes the lists and certificates of the puzzles that one worker solves, and says of which they are."""
-    if not os.path.isdir(folder):
-        fault(f"there is no folder {folder}")
     for name, options, *_ in page_rows():
         if "--workers" not in options:
             made = [os.path.join(folder, f"{name}.{document}") for document in ("list", "certificate")]
             files = [os.path.join(PUZZLES, name), *made]
             timed(program, "solve", *files, *options.split())
             print(f"{name}: {timed(program, 'check', *files)[0]}", end="")
-    return 0
 
 
-def main(program, *wanted):
-    if len(wanted) == 2 and wanted[0] == "--texts":
-        return keep_texts(program, wanted[1])
-    failed, rows = 0, page_rows()
-    strange = sorted(set(wanted) - {name for name, *_ in rows})
+def main():
+    parser = argparse.ArgumentParser(description=__doc__, formatter_class=argparse.RawDescriptionHelpFormatter)
+    parser.add_argument("program", type=program_at, metavar="PROGRAM")
+    parser.add_argument("puzzles", nargs="*", metavar="PUZZLE")
+    parser.add_argument("--texts", metavar="FOLDER")
+    given, rows = parser.parse_intermixed_args(), page_rows()
+    strange = sorted(set(given.puzzles) - {name for name, *_ in rows})
     if strange:
-        fault(f"there is no puzzle {strange[0]}")
+        parser.error(f"there is no puzzle {strange[0]}")
+    if given.texts is not None:
+        if given.puzzles:
+            parser.error("--texts takes no puzzles")
+        if not os.path.isdir(given.texts):
+            parser.error(f"there is no folder {given.texts}")
+        keep_texts(given.program, given.texts)
+        return 0
+    failed = 0
     for name, options, *counts in rows:
-        if wanted and name not in wanted:
+        if given.puzzles and name not in given.puzzles:
             continue
-        row, found = row_of(program, name, options)
+        row, found = row_of(given.program, name, options)
         print(row, flush=True)
         if found != tuple(counts):
             failed += 1
@@ -112,5 +117,4 @@ def main(program, *wanted):
 
 
 if __name__ == "__main__":
-    help_or_fault(__doc__, 1)
-    sys.exit(main(program_at(sys.argv[1]), *sys.argv[2:]))
+    sys.exit(main())

@@ -1,8 +1,6 @@
 #!/usr/bin/env python3
 """Runs the program on inputs that are made to be dear, and prints what each costs a byte.
 
-usage: hostile_inputs.py PROGRAM [--bytes N] [--doublings N] [--members N] [NAME ..]
-
 Each function below that is named in INPUTS makes one: words, a puzzle, a list and a certificate, together of about N
 bytes (1,000,000, unless given). A line says how many bytes it had, the seconds of processor time that the program took
 (user and system), the nanoseconds a byte, the most memory in MB (what is below this script's own isn't seen), and the
@@ -19,7 +17,7 @@ import resource
 import subprocess
 import tempfile
 
-from script_words import fault, program_at
+from check_cases import program_at
 
 COLOURS = "0123456789abcdefghijklmnopqrstuvwxyz"
 CHECK, EXPAND = ["check"], ["expand"]
@@ -299,16 +297,15 @@ def report(program, make, size):
 
 def options():
     parser = argparse.ArgumentParser(description=__doc__, formatter_class=argparse.RawDescriptionHelpFormatter)
-    parser.add_argument("program")
-    parser.add_argument("names", nargs="*")
-    parser.add_argument("--bytes", type=int, default=1_000_000)
-    parser.add_argument("--doublings", type=int, default=0)
-    parser.add_argument("--members", type=int, default=2_000)
+    parser.add_argument("program", type=program_at, metavar="PROGRAM")
+    parser.add_argument("names", nargs="*", metavar="NAME")
+    parser.add_argument("--bytes", type=int, default=1_000_000, metavar="N")
+    parser.add_argument("--doublings", type=int, default=0, metavar="N")
+    parser.add_argument("--members", type=int, default=2_000, metavar="N")
     given = parser.parse_intermixed_args()
     strange = sorted({*given.names} - {make.__name__ for make in INPUTS})
     if strange:
-        fault(f"there is no input {strange[0]}")
-    given.program = program_at(given.program)
+        parser.error(f"there is no input {strange[0]}")
     return given
 
 

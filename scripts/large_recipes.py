@@ -1,13 +1,12 @@
 #!/usr/bin/env python3
 """Runs the lines that docs/LARGE.md gives for many machines, on this one, and holds their sums to the plain count.
 
-usage: large_recipes.py PROGRAM [PUZZLE]
-
 PUZZLE is `examples/gallery/sixteen_squares` where none is named. It wants GNU parallel, make and Slurm (Debian's packages
 `parallel`, `make`, `slurm-wlm` and `munge`), and starts a Slurm of one node, which needs root, if none runs here. A line
 whose programs aren't there is left out, and said to be. Kubernetes' line isn't tried. It ends with 0 where each line that
 ran gives what the plain count does, and with 1 where one doesn't.
 """
+import argparse
 import contextlib
 import os
 import re
@@ -18,7 +17,7 @@ import sys
 import tempfile
 import time
 
-from script_words import fault, help_or_fault, program_at
+from check_cases import program_at
 
 TOP = os.path.join(os.path.dirname(os.path.abspath(__file__)), "..")
 PAGE = os.path.join(TOP, "docs/LARGE.md")
@@ -60,7 +59,7 @@ def lines_of(page):
     makefile = re.search(r"^```\n(all: .*?)^```$", text, re.MULTILINE | re.DOTALL)
     lines = {name: line.replace("\\|", "|") for name, line in rows if name in NEEDED}
     if set(lines) != set(NEEDED) or makefile is None:
-        fault(f"docs/LARGE.md has no lines for {', '.join(sorted(set(NEEDED) - set(lines))) or 'parts.mk'}")
+        raise LookupError(f"docs/LARGE.md has no lines for {', '.join(sorted(set(NEEDED) - set(lines))) or 'parts.mk'}")
     return lines, makefile[1]
 
 
@@ -108,9 +107,15 @@ def last_line(line, folder, where):
 
 
 def main():
-    help_or_fault(__doc__, 1, 2)
-    program, puzzle = program_at(sys.argv[1]), sys.argv[2] if len(sys.argv) > 2 else PUZZLE
-    lines, makefile = lines_of(PAGE)
+    parser = argparse.ArgumentParser(description=__doc__, formatter_class=argparse.RawDescriptionHelpFormatter)
+    parser.add_argument("program", type=program_at, metavar="PROGRAM")
+    parser.add_argument("puzzle", nargs="?", default=PUZZLE, metavar="PUZZLE")
+    given = parser.parse_args()
+    program, puzzle = given.program, given.puzzle
+    try:
+        lines, makefile = lines_of(PAGE)
+    except LookupError as error:
+        parser.error(error)
     wanted = subprocess.run([program, "count", puzzle], stdout=subprocess.PIPE, check=True).stdout.decode().strip()
     ran, wrong = 0, 0
     for name, line in lines.items():

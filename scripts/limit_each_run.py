@@ -1,8 +1,6 @@
 #!/usr/bin/env python3
 """Runs the program under limits on its memory and on its stack, from nothing to ample, and looks at what comes of it.
 
-usage: limit_each_run.py [--memory KB] [--stack KB] [--looks] [--jobs N] PROGRAM [PUZZLE ..]
-
 Each puzzle is solved first; besides those that are given, rows of 100 and of 256 cells, whose trees have 101 and 257
 levels. Then a check, an expansion and a solve of each, with one worker and with several, are run with a limit on memory
 (addresses) that grows in steps of so many KB (1,024, unless given), and with one on the stack (4). A run has to give
@@ -19,7 +17,7 @@ import resource
 import subprocess
 import tempfile
 
-from script_words import fault, program_at
+from check_cases import program_at
 
 REFUSED = (2, "", "out of memory\n")
 COLOURS = "0123456789abcdefghijklmnopqrstuvwxyz"
@@ -121,29 +119,28 @@ def sweep(name, run, kind, step):
 
 
 def text_of(path):
-    """The text of a puzzle's file."""
+    """The name of a puzzle's file, with its text."""
     try:
         with open(path, encoding="ascii") as file:
-            return file.read()
+            return os.path.basename(path), file.read()
     except (OSError, ValueError) as error:
-        fault(f"{path}: {error}")
+        raise argparse.ArgumentTypeError(f"{path}: {error}") from error
 
 
 def main():
     parse = argparse.ArgumentParser(description=__doc__, formatter_class=argparse.RawDescriptionHelpFormatter)
-    parse.add_argument("program")
-    parse.add_argument("puzzles", nargs="*")
-    parse.add_argument("--memory", type=int, default=1024)
-    parse.add_argument("--stack", type=int, default=4)
+    parse.add_argument("program", type=program_at, metavar="PROGRAM")
+    parse.add_argument("puzzles", nargs="*", type=text_of, metavar="PUZZLE")
+    parse.add_argument("--memory", type=int, default=1024, metavar="KB")
+    parse.add_argument("--stack", type=int, default=4, metavar="KB")
     parse.add_argument("--looks", action="store_true")
-    parse.add_argument("--jobs", type=int, default=os.cpu_count())
+    parse.add_argument("--jobs", type=int, default=os.cpu_count(), metavar="N")
     given = parse.parse_args()
-    program, steps = program_at(given.program), {"memory": given.memory, "stack": given.stack}
+    program, steps = given.program, {"memory": given.memory, "stack": given.stack}
     wrong = []
     with tempfile.TemporaryDirectory() as folder, concurrent.futures.ThreadPoolExecutor(given.jobs) as pool:
         texts = {f"row of {count} cells": row_of_cells(count) for count in (100, 256)}
-        for path in given.puzzles:
-            texts[os.path.basename(path)] = text_of(path)
+        texts |= dict(given.puzzles)
         begun = []
         for number, (name, text) in enumerate(texts.items()):
             puzzle = Puzzle(program, text, os.path.join(folder, str(number)))

@@ -1,19 +1,17 @@
 #!/usr/bin/env python3
 """Makes the manual page and the completions for bash, zsh and fish from what the program says by `--help`.
 
-usage: make_docs.py PROGRAM [--into FOLDER]
-
 It writes `docs/edgematch.1` and `completions/` here, or below FOLDER. What no help says is in `manual_notes.toml`,
 beside this script.
 """
+import argparse
 import os
 import re
 import shlex
 import subprocess
-import sys
 import tomllib
 
-from script_words import fault, help_or_fault, program_at
+from check_cases import program_at
 
 HERE = os.path.dirname(os.path.abspath(__file__))
 TOP = os.path.dirname(HERE)
@@ -252,24 +250,25 @@ def fish_lines(top, commands):
             yield f'{begins}{" -x" if value else ""} -l {name[2:]}{takes} -d "{said}"'
 
 
-def main(program, folder):
-    top = Help(program)
-    commands = {name: Help(program, name) for name, _ in top.rows["Commands:"] if name != "help"}
+def main():
+    parser = argparse.ArgumentParser(description=__doc__, formatter_class=argparse.RawDescriptionHelpFormatter)
+    parser.add_argument("program", type=program_at, metavar="PROGRAM")
+    parser.add_argument("--into", default=TOP, metavar="FOLDER")
+    given = parser.parse_args()
+    top = Help(given.program)
+    commands = {name: Help(given.program, name) for name, _ in top.rows["Commands:"] if name != "help"}
     made = {
-        "docs/edgematch.1": "\n".join(manual(program, top, commands)) + "\n",
+        "docs/edgematch.1": "\n".join(manual(given.program, top, commands)) + "\n",
         "completions/edgematch.bash": bash(top, commands),
         "completions/_edgematch": zsh(top, commands),
         "completions/edgematch.fish": "\n".join(fish_lines(top, commands)) + "\n",
     }
     for name, text in made.items():
-        path = os.path.join(folder, name)
+        path = os.path.join(given.into, name)
         os.makedirs(os.path.dirname(path), exist_ok=True)
         with open(path, "w", encoding="utf-8") as file:
             file.write(text)
 
 
 if __name__ == "__main__":
-    help_or_fault(__doc__, 1, 3)
-    if sys.argv[2:] and (len(sys.argv) < 4 or sys.argv[2] != "--into"):
-        fault(f"there is no word {sys.argv[2]}")
-    main(program_at(sys.argv[1]), sys.argv[3] if sys.argv[3:] else TOP)
+    main()

@@ -2,14 +2,13 @@
 """Holds the pages to the files that they speak of: crates, calls, counts, commands, limits, links, names, quotations,
 and the libraries that are trusted.
 
-usage: page_facts.py [--write]
-
 The pages are README.md, CONTRIBUTING.md, CHANGELOG.md, those of docs/, and a README.md in cases/ and in the folder of
 each crate. It also looks at how long lines of prose are, whether a sentence stands twice, and whether two empty lines
 follow each other. With --write the counts are made anew. It takes a second or two, and ends with 0 where all pages are
 right, and with 1 where one isn't, and says where. A quotation of the code begins with its file and the function that
 has it, as `// match_board/src/boards.rt, meets`; `..` in a line of its own stands for lines that are left out.
 """
+import argparse
 import collections
 import functools
 import glob
@@ -20,7 +19,6 @@ import sys
 import textwrap
 import tomllib
 
-from script_words import fault, help_or_fault
 from try_further_edits import MOST_IN_THE_GATE, edits_in
 
 TOP = os.path.join(os.path.dirname(os.path.abspath(__file__)), "..")
@@ -446,6 +444,10 @@ def write():
 
 
 def main():
+    parser = argparse.ArgumentParser(description=__doc__, formatter_class=argparse.RawDescriptionHelpFormatter)
+    parser.add_argument("--write", action="store_true")
+    if parser.parse_args().write:
+        write()
     failed = 0
     for part in PARTS:
         faults = list(part())
@@ -457,9 +459,4 @@ def main():
 
 
 if __name__ == "__main__":
-    help_or_fault(__doc__, 0, 1)
-    if sys.argv[1:] not in ([], ["--write"]):
-        fault(f"there is no word {sys.argv[1]}")
-    if sys.argv[1:]:
-        write()
     sys.exit(main())

@@ -1,13 +1,12 @@
 #!/usr/bin/env python3
 """Holds the pictures of `docs/pictures` to what the program draws of the puzzles of `examples/gallery`.
 
-usage: pictures.py PROGRAM [--write]
-
 Each puzzle has a picture of the first arrangement of its list, or of itself where there is none, and some a sheet of
 their whole list. A list is made by `solve` with the options of docs/GALLERY.md, but with one worker, since several list
 in another order. What takes seconds to solve has that first arrangement stored beside its picture, as `NAME.list`. With
 `--write` the pictures are written. It ends with 0 where all stand as they are drawn, and with 1 where one doesn't.
 """
+import argparse
 import os
 import re
 import subprocess
@@ -15,8 +14,8 @@ import sys
 import tempfile
 
 import gallery
+from check_cases import program_at
 from gallery import PUZZLES, TOP
-from script_words import fault, help_or_fault, program_at
 
 PICTURES = os.path.join(TOP, "docs/pictures")
 # Puzzles whose tiles are numbered, and those that have a sheet too.
@@ -71,10 +70,14 @@ def write(pictures):
             file.write(text)
 
 
-def main(program, *options):
+def main():
+    parser = argparse.ArgumentParser(description=__doc__, formatter_class=argparse.RawDescriptionHelpFormatter)
+    parser.add_argument("program", type=program_at, metavar="PROGRAM")
+    parser.add_argument("--write", action="store_true")
+    given = parser.parse_args()
     with tempfile.TemporaryDirectory() as folder:
-        pictures = dict(it for name, words, *_ in gallery.page_rows() for it in drawn(program, folder, name, words))
-    if "--write" in options:
+        pictures = dict(it for name, words, *_ in gallery.page_rows() for it in drawn(given.program, folder, name, words))
+    if given.write:
         write(pictures)
     stored = stored_pictures()
     names = sorted({*pictures, *stored})
@@ -86,7 +89,4 @@ def main(program, *options):
 
 
 if __name__ == "__main__":
-    help_or_fault(__doc__, 1, 2)
-    if sys.argv[2:] not in ([], ["--write"]):
-        fault(f"there is no word {sys.argv[2]}")
-    sys.exit(main(program_at(sys.argv[1]), *sys.argv[2:]))
+    sys.exit(main())

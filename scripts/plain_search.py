@@ -1,8 +1,6 @@
 #!/usr/bin/env python3
 """Writes a list of all arrangements of a puzzle, and a certificate, by a plain search.
 
-usage: plain_search.py [--items] PUZZLE LIST CERTIFICATE [DEPTH [MOST]]
-
 Reads the puzzle's text from the file PUZZLE, and writes the other two. At each node the cell with the fewest fitting
 placements is filled, the least number at a tie; a cell that nothing fits ends a branch. Nodes with DEPTH pairs (0,
 unless given) are lemmas of their own, which the root cites. After MOST nodes (no bound, unless given) it gives up. With
@@ -10,6 +8,7 @@ unless given) are lemmas of their own, which the root cites. After MOST nodes (n
 has it, which then writes the same. Nobody has to trust it: `edgematch check` reads what it wrote. It ends with 0 where
 both are written, and with 2 and a line on standard error where they aren't.
 """
+import argparse
 import os
 import sys
 
@@ -21,7 +20,7 @@ class GaveUp(Exception):
 
 
 def fault(why):
-    print(f"plain_search: {why}", file=sys.stderr)
+    print(f"{os.path.basename(sys.argv[0])}: {why}", file=sys.stderr)
     sys.exit(2)
 
 
@@ -247,29 +246,33 @@ def write(name, text):
         fault(f"{name}: {error.strerror}")
 
 
-def main(words):
-    if {"--help", "-h"} & {*words}:
-        print(__doc__.strip())
-        return
-    kind = ItemSearch if words[:1] == ["--items"] else Search
-    words = words[1:] if kind is ItemSearch else words
-    if not 3 <= len(words) <= 5 or words[0].startswith("-") or not all(it.isdecimal() for it in words[3:]):
-        fault(f"{__doc__.splitlines()[2]} (--help says more)")
-    puzzle_name, list_name, certificate_name, *numbers = words
-    depth = int(numbers[0]) if numbers else 0
-    most = int(numbers[1]) if len(numbers) > 1 else sys.maxsize
-    if os.path.realpath(puzzle_name) in map(os.path.realpath, (list_name, certificate_name)):
-        fault(f"{puzzle_name}: it is the puzzle, and stays")
-    search = kind(puzzle_in(puzzle_name), depth, most)
+def natural(word):
+    """The number that a word is, as argparse wants its type: none below 0."""
+    if not word.isdecimal():
+        raise ValueError
+    return int(word)
+
+
+def main():
+    parser = argparse.ArgumentParser(description=__doc__, formatter_class=argparse.RawDescriptionHelpFormatter)
+    parser.add_argument("--items", action="store_true")
+    for name in ("PUZZLE", "LIST", "CERTIFICATE"):
+        parser.add_argument(name.lower(), metavar=name)
+    parser.add_argument("depth", nargs="?", type=natural, default=0, metavar="DEPTH")
+    parser.add_argument("most", nargs="?", type=natural, default=sys.maxsize, metavar="MOST")
+    given = parser.parse_args()
+    if os.path.realpath(given.puzzle) in map(os.path.realpath, (given.list, given.certificate)):
+        parser.error(f"{given.puzzle}: it is the puzzle, and stays")
+    search = (ItemSearch if given.items else Search)(puzzle_in(given.puzzle), given.depth, given.most)
     sys.setrecursionlimit(10_000)
     try:
         search.run()
     except GaveUp:
-        fault(f"gave up after {most} nodes; nothing is written")
-    write(list_name, search.list_text())
-    write(certificate_name, search.certificate_text())
+        fault(f"gave up after {given.most} nodes; nothing is written")
+    write(given.list, search.list_text())
+    write(given.certificate, search.certificate_text())
     print(f"found {len(search.listed)}, {search.nodes} nodes, {len(search.lemmas)} lemmas")
 
 
 if __name__ == "__main__":
-    main(sys.argv[1:])
+    main()

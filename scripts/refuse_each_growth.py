@@ -1,8 +1,6 @@
 #!/usr/bin/env python3
 """Refuses each request for memory in turn, of the tests and of the program, and looks at what comes of it.
 
-usage: refuse_each_growth.py [--rest] [--jobs N] [--seconds N] [CRATE | CRATE::TEST | program]..
-
 Each test of a crate whose tests `rt ci` or `rt test` has built, and the program on each example, where it is built, is run with
 its Nth request for memory refused, for N = 1, 2, .. until a run meets no refusal; past the first 2,000 requests only
 some are refused, as is said then. With --rest all requests after the Nth are refused too. With names only those crates
@@ -23,8 +21,6 @@ import signal
 import subprocess
 import sys
 import tempfile
-
-from script_words import fault
 
 HERE = os.path.dirname(os.path.abspath(__file__))
 TOP = os.path.dirname(HERE)
@@ -48,10 +44,7 @@ class Refuser:
         self.library = os.path.join(folder, "refuse_growth.so")
         words = ["-O2", "-shared", "-fPIC", "-o", self.library, os.path.join(HERE, "refuse_growth.c")]
         compiler = os.environ.get("CC", "cc")
-        try:
-            subprocess.run([compiler, *words], check=True)
-        except (OSError, subprocess.CalledProcessError) as error:
-            fault(f"the C compiler {compiler}: {error}")
+        subprocess.run([compiler, *words], check=True)
 
     def run(self, words, stdin="", at=0, makes=()):
         """What comes of a command whose request of this number is refused: 0 for none."""
@@ -215,12 +208,15 @@ def main():
     parser.add_argument("names", nargs="*", metavar="CRATE | CRATE::TEST | program")
     given = parser.parse_args()
     with tempfile.TemporaryDirectory() as folder:
-        refuser = Refuser(folder, given.rest, given.seconds)
+        try:
+            refuser = Refuser(folder, given.rest, given.seconds)
+        except (OSError, subprocess.CalledProcessError) as error:
+            parser.error(f"the C compiler: {error}")
         crates = sorted(os.listdir(os.path.join(TOP, "crates")))
         subjects = [it for crate in crates for it in tests_of(refuser, crate)] + commands()
         strange = [name for name in given.names if not any(is_named(it, [name]) for it in subjects)]
         if strange:
-            fault(f"there is no {strange[0]}, or it isn't built")
+            parser.error(f"there is no {strange[0]}, or it isn't built")
         subjects = [it for it in subjects if is_named(it, given.names)]
         wrong = []
         with concurrent.futures.ThreadPoolExecutor(given.jobs) as pool:

@@ -1,21 +1,18 @@
 #!/usr/bin/env python3
 """Holds docs/THEOREM.md to the definitions that it quotes, and counts them.
 
-usage: theorem.py [--write]
-
 The page quotes all that its statements rest on, which is found by following what each definition names: each once, as
 its file has it, behind those that it names. A block begins with its file, as `-- match_board/specs/Board.antt`. With
 --write quotations and numbers are made anew; to add a definition to a block, write its first line there. The script
 ends with 0 where the page is right, and with 1 where it isn't, and says where.
 """
+import argparse
 import functools
 import glob
 import os
 import re
 import sys
 import textwrap
-
-from script_words import fault, help_or_fault
 
 TOP = os.path.join(os.path.dirname(os.path.abspath(__file__)), "..")
 PAGE, README = "docs/THEOREM.md", "README.md"
@@ -318,6 +315,10 @@ def write():
 
 
 def main():
+    parser = argparse.ArgumentParser(description=__doc__, formatter_class=argparse.RawDescriptionHelpFormatter)
+    parser.add_argument("--write", action="store_true")
+    if parser.parse_args().write:
+        write()
     page = text_of(PAGE)
     parts = quotation_faults, order_faults, word_faults, number_faults
     failed = 0
@@ -331,9 +332,4 @@ def main():
 
 
 if __name__ == "__main__":
-    help_or_fault(__doc__, 0, 1)
-    if sys.argv[1:] not in ([], ["--write"]):
-        fault(f"there is no word {sys.argv[1]}")
-    if sys.argv[1:]:
-        write()
     sys.exit(main())

@@ -2,11 +2,10 @@
 """Tries what no case can of the program: links, modes, each moment of a solve, logs, devices, pipes, closed streams,
 signals, a full disk, two solves at once, progress, workers, a limit on memory, and what is told on a terminal.
 
-usage: try_files.py PROGRAM
-
 Each function of `TRIALS` runs the program in a folder of its own and names what isn't as wanted. It takes some ten
 seconds, and ends with 0 where each passes, else with 1. What can't be tried here, as what root alone may, is named.
 """
+import argparse
 import ctypes
 import os
 import re
@@ -21,8 +20,8 @@ import termios
 import threading
 import time
 
+from check_cases import program_at
 from limit_each_run import row_of_cells
-from script_words import help_or_fault, program_at
 
 PUZZLE = b"match 1\nboard rect 2 1\nturns no\nborder free\ntiles 2\ntile 0101\ntile 0101\nend\n"
 NO_PUZZLE = PUZZLE.replace(b"tiles 2\ntile 0101\n", b"tiles 1\n")
@@ -775,10 +774,11 @@ TRIALS = (
 
 
 def main():
-    help_or_fault(__doc__, 1, 1)
+    parser = argparse.ArgumentParser(description=__doc__, formatter_class=argparse.RawDescriptionHelpFormatter)
+    parser.add_argument("program", type=program_at, metavar="PROGRAM")
+    program, failed = parser.parse_args().program, 0
     # Where it is ignored, as in what runs behind a shell, the program would ignore it too.
     signal.signal(signal.SIGINT, signal.default_int_handler)
-    program, failed = program_at(sys.argv[1]), 0
     for tried in TRIALS:
         with tempfile.TemporaryDirectory() as folder:
             trial = Trial(program, folder)

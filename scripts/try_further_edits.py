@@ -1,22 +1,19 @@
 #!/usr/bin/env python3
 """The further must-fail edits: those in `crates/NAME/further-edits/`, which `rt ci` doesn't read.
 
-usage: try_further_edits.py [--all | NAME..]
-
 By itself it proves nothing: it says which edits no longer apply, the further ones and those of the gate, since each old
 text has to stand just once in its file. With names of crates, or with --all, it also tries their further edits: each
 has to be refused by the prover. That is done on a copy, by `rt ci`, with the edits in the place of those of the gate; it
 takes half a minute to two minutes of processor time for each edit, and RT_JOBS says how many are tried at once. What
 was tried is kept by `rt`, so that only what changed since is tried again. It ends with 0 where all is as it should be.
 """
+import argparse
 import os
 import re
 import shutil
 import subprocess
 import sys
 import tempfile
-
-from script_words import fault, help_or_fault
 
 TOP = os.path.join(os.path.dirname(os.path.abspath(__file__)), "..")
 CRATES = os.path.join(TOP, "crates")
@@ -100,11 +97,17 @@ def try_all(names):
         return ran.wait()
 
 
-def main(words):
-    names = crates() if words == ["--all"] else words
+def main():
+    parser = argparse.ArgumentParser(description=__doc__, formatter_class=argparse.RawDescriptionHelpFormatter)
+    parser.add_argument("names", nargs="*", metavar="NAME")
+    parser.add_argument("--all", action="store_true")
+    given = parser.parse_args()
+    if given.all and given.names:
+        parser.error("--all takes no names")
+    names = crates() if given.all else given.names
     strange = sorted(set(names) - set(crates()))
     if strange:
-        fault(f"there is no crate {strange[0]}")
+        parser.error(f"there is no crate {strange[0]}")
     wrong = look_at_all()
     if wrong or not names:
         return 1 if wrong else 0
@@ -112,5 +115,4 @@ def main(words):
 
 
 if __name__ == "__main__":
-    help_or_fault(__doc__, 0)
-    sys.exit(main(sys.argv[1:]))
+    sys.exit(main())

@@ -2,12 +2,11 @@
 """Tries the scripts and the Makefile as somebody calls them who doesn't know them: for help, with wrong words, and from
 another folder.
 
-usage: try_scripts.py
-
 It needs no program: a copy of the project installs and packs a stand-in. Each link of a page of the archive has to lead
 to a file of it, each target has to say what it misses, and what is wrong with a page has to be told. It takes seconds,
 and ends with 0 where all is as wanted, else with 1.
 """
+import argparse
 import concurrent.futures
 import os
 import re
@@ -16,12 +15,8 @@ import subprocess
 import sys
 import tempfile
 
-from script_words import help_or_fault
-
 HERE = os.path.dirname(os.path.abspath(__file__))
 TOP = os.path.dirname(HERE)
-# What the scripts import, and nobody calls.
-MODULES = {"script_words.py"}
 PROGRAM = "crates/edgematch/out/edgematch"
 TARGETS = ["build", "run", "test", "docs", "install", "uninstall", "package", "help"]
 LINK = re.compile(r"\]\(([^)\s#]+)[^)\s]*\)|(?:src|href)=\"([^\"#]+)")
@@ -55,7 +50,7 @@ WRONG_PAGES = [
 def scripts():
     """The scripts, by their names."""
     names = (it for it in os.listdir(HERE) if os.path.isfile(os.path.join(HERE, it)))
-    return sorted(it for it in names if not it.endswith((".c", ".toml")) and it not in MODULES)
+    return sorted(it for it in names if it.endswith((".py", ".sh")))
 
 
 def called(folder, path, *words):
@@ -185,6 +180,7 @@ def dead_links(page):
 
 
 def main():
+    argparse.ArgumentParser(description=__doc__, formatter_class=argparse.RawDescriptionHelpFormatter).parse_args()
     with tempfile.TemporaryDirectory() as folder, concurrent.futures.ThreadPoolExecutor() as pool:
         top = copy_of_the_top(folder)
         tried = [pool.submit(list, helps(name)) for name in scripts()]
@@ -199,5 +195,4 @@ def main():
 
 
 if __name__ == "__main__":
-    help_or_fault(__doc__, 0, 0)
     sys.exit(main())
