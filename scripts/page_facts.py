@@ -1,6 +1,6 @@
 #!/usr/bin/env python3
 """Holds the pages to the files that they speak of: crates, calls, counts, commands, limits, links, names, quotations,
-and the libraries that are trusted.
+keys of cases, numbers that two pages have, and the libraries that are trusted.
 
 The pages are README.md, CONTRIBUTING.md, CHANGELOG.md, those of docs/, and a README.md in cases/ and in the folder of
 each crate. It also looks at how long lines of prose are, whether a sentence stands twice, and whether two empty lines
@@ -19,11 +19,13 @@ import sys
 import textwrap
 import tomllib
 
+from check_cases import CHECKED, ORDERED, SOLVED, TEXTS
 from try_further_edits import MOST_IN_THE_GATE, edits_in
 
 TOP = os.path.join(os.path.dirname(os.path.abspath(__file__)), "..")
 README, CONTRIBUTING, ARCHITECTURE = "README.md", "CONTRIBUTING.md", "docs/ARCHITECTURE.md"
 MANUAL, PROVED, GATE = "docs/edgematch.1", "docs/PROVED.md", ".ci/run"
+MEASURED, DECISIONS = "docs/MEASURED.md", "docs/DECISIONS.md"
 # The most characters of a line of prose.
 MOST_CHARACTERS = 120
 # A sentence of so many words is to stand in one place.
@@ -47,11 +49,11 @@ LIMITS = {
         "(over {MOST_BYTES} bytes)",
         "`items N of {MOST_ENTRIES:d}`",
     ],
-        CONTRIBUTING: [
+    CONTRIBUTING: [
         "Lines have at most {MOST_CHARACTERS} characters",
         "So there are at most {MOST_IN_THE_GATE} in",
     ],
-    "docs/DECISIONS.md": ["At most {MOST_IN_THE_GATE} must-fail edits stand in the gate"],
+    DECISIONS: ["At most {MOST_IN_THE_GATE} must-fail edits stand in the gate"],
     PROVED: ["1 to {MOST_WORKERS} workers and 0 to {MOST_FORKS} forks", "over {MOST_ENTRIES} items"],
     "docs/MACHINE.md": ["1 to {MOST_WORKERS} workers and 1 to {MOST_WORKERS} queues"],
     "docs/SOLVING.md": ["(over {MOST_ENTRIES} items)", "(over {MOST_ARRANGEMENTS} to be listed)"],
@@ -68,12 +70,26 @@ LIMITS = {
         "after {LONG} children",
     ],
 }
+# What two places say: whether only roughly, and of each the page and a pattern of the number.
+TOLD_TWICE = [
+    (True, (CONTRIBUTING, r"it took (\d+) minutes of"), (README, r"takes some ([\w ]+) of processor time, or")),
+    (True, (CONTRIBUTING, r"time and (\d+) of wall time"), (README, r"somewhat over ([\w ]+) on four processors")),
+    (True, (CONTRIBUTING, r"\| proofs \| (\d+) \|"), (README, r"first time it takes some ([\w ]+) of processor time")),
+    (False, (CONTRIBUTING, r"Each takes up to (\d+) GB"), (README, r"each takes up to (\d+) GB")),
+    (False, (CONTRIBUTING, r"Each takes up to (\d+) GB"), ("Makefile", r"Each takes up to (\d+) GB")),
+    (False, (CONTRIBUTING, r"some (\d+) seconds of processor time for"), (DECISIONS, r"some (\d+) seconds to prove")),
+    (False, (MEASURED, r"at most ([\d.]+) microseconds"), (README, r"A check takes ([\d.]+) microseconds")),
+    (False, (MEASURED, r"microseconds, or ([\d.]+) on 256"), (README, r"at worst, or ([\d.]+) on 256")),
+    (False, (MEASURED, r"at most (\d+) bytes"), (README, r"of memory a byte, and (\d+) at worst")),
+    (False, ("docs/GALLERY.md", r"macmahon_squares\) \| `[^`]*` \| ([\d,]+)"), (README, r"There are ([\d,]+) ways")),
+]
+TIMES = {"half an hour": 30, "an hour": 60, "two hours": 120, "three hours": 180}
 # Where paths begin that are looked at, beside crates.
 FOLDERS = ["src", "specs", "proofs", "crates", "scripts", "cases", "docs"]
 # What is of the kit alone.
 OF_THE_KIT = {"atomic_blocks", "crossbeam_queue", "RandomState"}
 # The pages whose names are those of the code, beside those of the crates.
-OF_THE_CODE = [ARCHITECTURE, "docs/DECISIONS.md", PROVED, "docs/MACHINE.md"]
+OF_THE_CODE = [ARCHITECTURE, DECISIONS, PROVED, "docs/MACHINE.md"]
 
 # The heading of the calls that the program doesn't make.
 TEST_CALLS = "Calls that only tests make"
@@ -195,14 +211,17 @@ def code_of(crate):
 
 
 def carrier_faults():
-    """The runs of which the page promises something and that the program doesn't make."""
-    told = {it for it in SPAN.findall(section_of(PROVED, "Runs")) if it.startswith("run_")}
-    made = {*re.findall(r"\w+", code_of("match_program"))}
-    yield from (f"{PROVED}: the program makes no {it}" for it in sorted(told - made))
+    """The runs of which the page promises something and that the program doesn't make, and those that it leaves out."""
+    told = {it for it in SPAN.findall(text_of(PROVED).replace("::", "` `")) if it.startswith("run_")}
+    runs = {it for it in SPAN.findall(section_of(PROVED, "Runs")) if it.startswith("run_")}
+    made = {*re.findall(r"\brun_\w+", code_of("match_program"))}
+    yield from (f"{PROVED}: the program makes no {it}" for it in sorted(runs - made))
+    yield from (f"{PROVED} leaves out {it}" for it in sorted(made - told))
 
 
 def test_call_faults():
-    """The calls that only tests make by the page and that the program makes; of names that one function alone has."""
+    """The calls that only tests make by the page and that the program makes, and those that the page leaves out; of
+    names that one function alone has."""
     code = {crate: code_of(crate) for crate in crates() if not crate.startswith("test_")}
     defined = collections.Counter(name for it in code.values() for name in re.findall(r"\bfn (\w+)", it))
     told = {*SPAN.findall(section_of(ARCHITECTURE, TEST_CALLS))} - {*crates(), "read_line"}
@@ -210,6 +229,13 @@ def test_call_faults():
     for crate, text in code.items():
         called = {*re.findall(r"(?<!fn )\b((?:\w+::)?\w+)\(", text)}
         yield from (f"{ARCHITECTURE}: {crate} calls {it}" for it in sorted(told & (called | {*plain_names(called)})))
+    # What has no result is a law.
+    whole = re.sub(r"\buse [^;]*;", "", "\n".join(code.values()))
+    public = re.findall(r"\bpub fn (\w+)[^{;]*?\) ->", whole)
+    named = collections.Counter(re.findall(r"\w+", whole))
+    told = {*re.findall(r"\w+", section_of(ARCHITECTURE, TEST_CALLS))}
+    left = (it for it in public if named[it] == 1 and it not in told)
+    yield from (f"{ARCHITECTURE}: nothing calls {it}, and the page leaves it out" for it in sorted(left))
 
 
 def plain_names(called):
@@ -384,6 +410,36 @@ def count_faults():
         yield f"docs/GALLERY.md has {rows} rows for {puzzles} puzzles, or {README} not: {puzzles - 1} puzzles more"
 
 
+def number_in(page, pattern):
+    """The number that a pattern finds on a page, in minutes where it is a time; None where there is none."""
+    said = re.search(pattern, plain(text_of(page)))
+    return said and (TIMES.get(said[1]) or float(said[1].replace(",", "").removesuffix(" minutes")))
+
+
+def agreement_faults():
+    """The numbers that two places say and that differ, and the parts of the gate's time that aren't its sum."""
+    for roughly, *places in TOLD_TWICE:
+        one, other = (number_in(*it) for it in places)
+        if None in (one, other) or abs(one - other) > (one / 6 if roughly else 0):
+            yield f"{places[0][0]} has {one}, and {places[1][0]} {other}: {places[1][1]}"
+    table = text_of(CONTRIBUTING).split("| Of the ")[1].split("\n\n")[0]
+    minutes = sum(map(int, re.findall(r"\| (\d+) \|$", table, re.M)))
+    if not table.startswith(f"{minutes} ") or f"it took {minutes} minutes" not in plain(text_of(CONTRIBUTING)):
+        yield f"{CONTRIBUTING}: the parts of the gate's time are {minutes} minutes"
+
+
+def key_faults():
+    """The keys of cases that the page leaves out, and those that there aren't."""
+    page = text_of("cases/README.md")
+    told = {it for row in re.findall(r"^\| (`.*?) \|", page, re.M) for it in re.findall(r"`([\w.]+)`", row)}
+    keys = TEXTS | CHECKED | ORDERED | SOLVED
+    yield from (f"cases/README.md: there is no key {it}" for it in sorted(told - keys))
+    ends = {f"..{it}" for it in re.findall(r"`\.\.(_\w+)`", page)}
+    left = keys - {span.split()[0] for span in SPAN.findall(page)}
+    left = (it for it in left if re.sub(r"^std(?:out|err)(?=_)", "..", it) not in ends)
+    yield from (f"cases/README.md leaves out the key {it}" for it in sorted(left))
+
+
 # ---- prose
 
 
@@ -432,7 +488,8 @@ def repetition_faults():
 
 PARTS = [
     page_faults, layer_faults, trust_faults, carrier_faults, test_call_faults, quotation_faults, name_faults,
-    path_faults, command_faults, limit_faults, link_faults, count_faults, layout_faults, repetition_faults,
+    path_faults, command_faults, limit_faults, link_faults, count_faults, agreement_faults, key_faults, layout_faults,
+    repetition_faults,
 ]
 
 

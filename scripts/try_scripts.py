@@ -42,6 +42,8 @@ WRONG_PAGES = [
     ("crates/match_limits/src/lib.rt", "MOST_COLOURS: u8 = 36", "MOST_COLOURS: u8 = 35", "doesn't say: 35 colours"),
     ("README.md", "(docs/LARGE.md)", "(docs/LARGER.md)", "leads to docs/LARGER.md, which isn't there"),
     (".ci/run", 'part "pages"', 'part "leaves"', "CONTRIBUTING.md has the parts"),
+    ("docs/MEASURED.md", "at most 20 bytes", "at most 21 bytes", "docs/MEASURED.md has 21.0, and README.md 20.0"),
+    ("cases/README.md", "| `deep` |", "| `deeps` |", "cases/README.md: there is no key deeps"),
     ("docs/BY_HAND.md", None, f"\n\n{121 * 'w'}\n", "empty lines follow each other\ndocs/BY_HAND.md: 121 characters"),
     ("docs/LARGE.md", None, f"\n{AGAIN}\n\n{AGAIN}\n", "docs/LARGE.md, docs/LARGE.md: twice: this sentence"),
 ]
