@@ -17,6 +17,8 @@ HERE = os.path.dirname(os.path.abspath(__file__))
 TOP = os.path.dirname(HERE)
 # The values that may be completed, by what stands for them in a help.
 VALUES = {"WHICH": "all board", "SIDES": "3 4"}
+# What begins a list of rows in a help. All else is prose.
+HEADINGS = {"Commands:", "Arguments:", "Options:", "Exit status:", "Example:", "Examples:"}
 
 
 class Help:
@@ -31,10 +33,10 @@ class Help:
         self.prose, self.rows = [], {}
         for block in blocks:
             heading, *lines = block.split("\n")
-            if lines:
+            if heading in HEADINGS:
                 self.rows[heading] = [re.split("  +", it.strip(), maxsplit=1) for it in lines]
             else:
-                self.prose.append(block)
+                self.prose.append(" ".join(block.split()))
         self.examples = [it[0] for heading in ("Example:", "Examples:") for it in self.rows.get(heading, [])]
         # The options of the command alone: the name, what stands for its value or "", and what is said of it, without
         # and with the default.
