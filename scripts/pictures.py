@@ -1,8 +1,8 @@
 #!/usr/bin/env python3
 """Holds the pictures of `docs/pictures` to what the program draws of the puzzles of `examples/gallery`.
 
-Each puzzle has a picture of the first arrangement of its list, or of itself where there is none, and some a sheet of
-their whole list. A list is made by `solve` with the options of docs/GALLERY.md, but with one worker, since several list
+Each puzzle has a picture of the first arrangement of its list, or of itself where there is none. Some have a sheet of
+their whole list too, or a picture of the empty board. A list is made by `solve` with the options of docs/GALLERY.md, but with one worker, since several list
 in another order. What takes seconds to solve has that first arrangement stored beside its picture, as `NAME.list`. With
 `--write` the pictures are written. It ends with 0 where all stand as they are drawn, and with 1 where one doesn't.
 """
@@ -18,8 +18,9 @@ from check_cases import program_at
 from gallery import PUZZLES, TOP
 
 PICTURES = os.path.join(TOP, "docs/pictures")
-# Puzzles whose tiles are numbered, and those that have a sheet too.
+# Puzzles whose tiles are numbered, those that have a sheet too, and those whose empty board is drawn, with its clues.
 NUMBERED, ON_SHEETS = ("nine_cards",), ("nine_cards", "sixteen_cards", "squares_of_two_colours")
+ON_EMPTY_BOARDS = ("bordered_6_by_6_clued",)
 # The most arrangements of a sheet.
 MOST = "100"
 
@@ -52,6 +53,8 @@ def drawn(program, folder, name, options):
     yield name, said(program, "draw", puzzle, *words)
     if name in ON_SHEETS:
         yield f"{name}_sheet", said(program, "draw", puzzle, listed, "--first", MOST)
+    if name in ON_EMPTY_BOARDS:
+        yield f"{name}_puzzle", said(program, "draw", puzzle)
 
 
 def stored_pictures():

@@ -81,7 +81,7 @@ def board(words, rows):
 
 
 def read_mates(words):
-    """The mate of each colour, by the list of version 2: one behind the list's end is its own."""
+    """The mate of each colour, by the list of versions 2 and 3: one behind the list's end is its own."""
     mates = list(range(len(DIGITS)))
     mates[: len(words)] = [DIGITS.index(word) for word in words]
     return mates
@@ -90,7 +90,9 @@ def read_mates(words):
 def read_puzzle(text):
     lines = [line.split(" ") for line in text.splitlines()]
     rows = [lines.pop(2)[1] for _ in range(int(lines[1][3]) if lines[1][1] == "shape" else 0)]
-    mates = read_mates(lines.pop(4)[1:] if lines[0][1] == "2" else [])
+    version = int(lines[0][1])
+    mates = read_mates(lines.pop(4)[1:] if version > 1 else [])
+    clues = [lines.pop(4)[1:] for _ in range(int(lines.pop(4)[1]))] if version > 2 else []
     cells, sides, meets = board(lines[1][1:], rows)
     turns = lines[2][1] == "yes"
     pairs = [(cell, side) for cell in range(cells) for side in range(sides) if (cell, side) not in meets]
@@ -99,6 +101,8 @@ def read_puzzle(text):
         rules = {pair: DIGITS.index(border[2]) for pair in pairs}
     elif border[1] == "each":
         rules = {pair: DIGITS.index(word) for pair, word in zip(pairs, border[2:]) if word != "-"}
+    for cell, word in clues:
+        rules.update({(int(cell), side): DIGITS.index(letter) for side, letter in enumerate(word) if letter != "-"})
     shown = []
     for (word,) in (line[1:] for line in lines[5:-1]):
         colours = [DIGITS.index(letter) for letter in word]
@@ -134,7 +138,7 @@ class Search:
         for side in range(self.sides):
             if (cell, side) in self.rules:
                 asked.append((side, self.rules[cell, side]))
-            elif (cell, side) in self.meets:
+            if (cell, side) in self.meets:
                 other, other_side = self.meets[cell, side]
                 if self.at[other] is not None:
                     tile, turn = self.at[other]

@@ -1,9 +1,10 @@
 -- Answers to questions on puzzles that differ in their versions and in their boards alone, which are alike.
-use Rattle.std.proofs.Common.{◌≡◌, ◌↔◌, ℕ, zero, suc, Bool, List, [], ◌∷◌, None, replicate, arith, ap, sym, ◌∙◌, subst, inl, inr, ⊎_elim}
+use Rattle.std.proofs.Common.{◌≡◌, ◌↔◌, ℕ, zero, suc, Bool, List, [], ◌∷◌, None, max, replicate, arith, ap, sym, ◌∙◌, subst, inl, inr, ⊎_elim}
 use Rattle.match_board.specs.Board.{AreAlike}
 use Rattle.match_limits.specs.First.{Rank, IsFirst}
 use Rattle.match_board.specs.declared.figures.Figure.{Figure}
-use Rattle.match_board.proofs.AlikeLemmas.{alike_turned, alike_border_pair, listing_alike, second_alike}
+use Rattle.match_board.proofs.AlikeLemmas.{alike_turned, listing_alike, second_alike}
+use Rattle.match_board.specs.Clues.{Clue}
 use Rattle.match_puzzle.specs.Puzzle.{Task, mate_of}
 use Rattle.match_board.specs.Borders.{BorderRule}
 use Rattle.match_puzzle.specs.Prefix.{Prefix, with_pairs, with_pair}
@@ -46,9 +47,9 @@ first_alike : {F : Type 0} {rank : F → Rank} {P Q : F → Type 0} {f : F} → 
 first_alike {f = f} to from is = record { occurs = to f is.occurs; first = λ g q. is.first g (from g q) }
 
 -- the puzzle of these parts on a board, of a version
-module _ (turns : Bool) (border : BorderRule) (mates : List ℕ) (words : List (List ℕ)) where
+module _ (turns : Bool) (border : BorderRule) (mates : List ℕ) (clues : List Clue) (words : List (List ℕ)) where
   abbrev at : Figure → (version : ℕ) → Task
-  at board version = on turns border mates words board version
+  at board version = on turns border mates clues words board version
 
   module _ {s t : Figure} (a : AreAlike s t) (v w : ℕ) where
     back : AreAlike t s
@@ -62,7 +63,7 @@ module _ (turns : Bool) (border : BorderRule) (mates : List ℕ) (words : List (
     arrangement_fails xs (arrangements.Turn cell) h = h
     arrangement_fails xs (TileTwice cell) h = h
     arrangement_fails xs (BorderBroken cell side) h =
-        (h.0, h.1, h.2, rule_alike turns border mates words a v w h.3, λ e. h.4 (same_colour turns border mates words a v w h.0 side ∙ e))
+        (h.0, h.1, h.2, rule_alike turns border mates clues words a v w h.3, λ e. h.4 (same_colour turns border mates clues words a v w h.0 side ∙ e))
     arrangement_fails xs (EdgeBroken cell side) h = (
       h.0,
       h.1,
@@ -72,8 +73,8 @@ module _ (turns : Bool) (border : BorderRule) (mates : List ℕ) (words : List (
       (a.meet cell side h.1 h.2).0 h.5,
       h.6,
       λ e. h.7 (
-          same_colour turns border mates words a v w h.0 side ∙ e
-          ∙ ap (mate_of (at t w)) (same_colour turns border mates words back w v h.3 h.2)),
+          same_colour turns border mates clues words a v w h.0 side ∙ e
+          ∙ ap (mate_of (at t w)) (same_colour turns border mates clues words back w v h.3 h.2)),
     )
 
     symmetry_fails : (g : SymmetryLine) (fault : SymmetryFault) → SymmetryFails (at s v) g fault → SymmetryFails (at t w) g fault
@@ -87,17 +88,18 @@ module _ (turns : Bool) (border : BorderRule) (mates : List ℕ) (words : List (
       h.3,
       omega (arith, a.cells, h.4),
       omega (arith, a.sides, h.5),
-      λ m. h.6 (meets_alike turns border mates words g back w v cell side h.2 h.3 m),
+      λ m. h.6 (meets_alike turns border mates clues words g back w v cell side h.2 h.3 m),
     )
     symmetry_fails g (symmetries.BorderBroken cell side) h = (
-      alike_border_pair a h.0,
-      h.1,
+      omega (arith, a.cells, h.0),
+      omega (arith, a.sides, h.1),
       h.2,
-      record { above = h.3.above; least = h.3.least },
-      h.4,
-      λ asks. h.5 (asks_image_alike turns border mates words g back w v cell side h.2 asks),
+      h.3,
+      record { above = h.4.above; least = h.4.least },
+      h.5,
+      λ asks. h.6 (asks_image_alike turns border mates clues words g back w v cell side h.3 asks),
     )
-    symmetry_fails g (symmetries.TileBroken tile) h = (h.0, λ is. h.1 (carried_alike turns border mates words g back w v tile is))
+    symmetry_fails g (symmetries.TileBroken tile) h = (h.0, λ is. h.1 (carried_alike turns border mates clues words g back w v tile is))
     symmetry_fails g (symmetries.MatesBroken colour) h = (h.0, record { above = h.1.above; least = h.1.least }, h.2, h.3)
     symmetry_fails g symmetries.Memory h = h
 
@@ -105,7 +107,7 @@ module _ (turns : Bool) (border : BorderRule) (mates : List ℕ) (words : List (
     pairs_alike pairs is = record {
       cells = λ place x stands. omega (arith, a.cells, is.cells place x stands);
       rising = is.rising;
-      legal = λ place x stands. legal_alike turns border mates words a v w x.placement (is.legal place x stands);
+      legal = λ place x stands. legal_alike turns border mates clues words a v w x.placement (is.legal place x stands);
       once = is.once;
     }
 
@@ -124,12 +126,12 @@ module _ (turns : Bool) (border : BorderRule) (mates : List ℕ) (words : List (
     open_alike q (items.Tile tile) is = is
 
     fits_item_alike : (q : Prefix) (item : Item) (x : Pair) → FitsItem (at s v) q item x → FitsItem (at t w) q item x
-    fits_item_alike q item x is = (is.0, fits_alike turns border mates words a v w q x.cell x.placement is.1)
+    fits_item_alike q item x is = (is.0, fits_alike turns border mates clues words a v w q x.cell x.placement is.1)
 
     image_within_alike : (g : SymmetryLine) (pairs : List Pair) (q : Prefix) → IsImageWithin (at s v) g pairs q → IsImageWithin (at t w) g pairs q
     image_within_alike g pairs q within x among =
         let there = within x among in
-        (there.0, record { cell = there.1.cell; placement = image_alike turns border mates words g a v w x.placement there.0.placement there.1.placement }, there.2)
+        (there.0, record { cell = there.1.cell; placement = image_alike turns border mates clues words g a v w x.placement there.0.placement there.1.placement }, there.2)
 
     item_fails : (q : Prefix) (item : Item) (fault : NodeFault) → ItemFails (at s v) q item fault → ItemFails (at t w) q item fault
     item_fails q (items.Cell cell) CellRange h = omega (arith, a.cells, h)
@@ -248,8 +250,8 @@ module _ (turns : Bool) (border : BorderRule) (mates : List ℕ) (words : List (
       shown_alike is = record {
         prepared = record {
           distinct = is.prepared.distinct;
-          arrangements = λ number xs stands. arrangement_alike turns border mates words a v w xs (is.prepared.arrangements number xs stands);
-          symmetries = λ number g stands. symmetry_alike turns border mates words g a v w (is.prepared.symmetries number g stands);
+          arrangements = λ number xs stands. arrangement_alike turns border mates clues words a v w xs (is.prepared.arrangements number xs stands);
+          symmetries = λ number g stands. symmetry_alike turns border mates clues words g a v w (is.prepared.symmetries number g stands);
           prefixes = λ number lemma stands. pairs_alike a v w lemma.prefix (is.prepared.prefixes number lemma stands);
           root = is.prepared.root;
         };
@@ -269,6 +271,6 @@ same_answers question answer =
     let p = question.puzzle in
     let a = second_alike p.board in
     let v = p.mating.version in (
-      λ is. answer_alike p.turns p.border p.mating.mates p.words question.listed question.symmetries question.lemmas a v 2 answer is,
-      λ is. answer_alike p.turns p.border p.mating.mates p.words question.listed question.symmetries question.lemmas (alike_turned a) 2 v answer is,
+      λ is. answer_alike p.turns p.border p.mating.mates p.clues p.words question.listed question.symmetries question.lemmas a v (max 2 v) answer is,
+      λ is. answer_alike p.turns p.border p.mating.mates p.clues p.words question.listed question.symmetries question.lemmas (alike_turned a) (max 2 v) v answer is,
     )

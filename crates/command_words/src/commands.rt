@@ -21,15 +21,16 @@ const NAME: &str = "edgematch";
 const VERSION: &str = "0.1.0 (proved with rattle-kit-13f logic dac8208d650f15bf)";
 
 const WITHOUT_COMMAND: &str = "\
-Without a command it reads a puzzle, a list and a certificate from standard input, one after the \
-other, and checks them. So do explain, count and expand where no file is named. Of explain, count, total, \
-show, draw and symmetries one document may be named -, which is standard input; ./- is a file of that name.
+Without a command it reads a puzzle, a list and a certificate from standard input, one after the other, and \
+checks them. explain, count and expand read the three from there too where no file is named. For explain, \
+count, total, show, draw and symmetries, one document may be named -, which is standard input; ./- is a file \
+of that name.
 
 Exit status:
-  0  done; of a check, the list is complete
+  0  done; for a check, the list is complete
   1  the certificate does not show that the list is complete
-  2  anything else, which is said on standard error
-  3  of solve and count, said there too: it gave up, or the puzzle is too large
+  2  anything else; standard error says what
+  3  solve and count: it gave up, or the puzzle is too large; standard error says which
 
 Example:
   cat puzzle list certificate | edgematch";
@@ -38,122 +39,125 @@ const CHECKED: &str = "\
 Prints the answer in one line: complete, or refused and why. Where the list is complete, a second line on a \
 terminal says how many arrangements are listed, and whether there are others, which are images of these.
 
-The answer is the same for any number of workers and forks. With --progress it says meanwhile how far \
-it is, which changes no answer either.
+The answer is the same for any number of workers and forks. With --progress it says how far it is while it \
+runs; this doesn't change the answer.
 
 Exit status:
   0  the list is complete
   1  the certificate does not show that the list is complete
-  2  anything else, which is said on standard error
+  2  anything else; standard error says what
 
 Example:
   edgematch check puzzle list certificate --workers 4";
 
 const SOLVED: &str = "\
-Makes LIST and CERTIFICATE: the list of the puzzle's arrangements, and the certificate that there is \
-no other, both as check reads them. Prints how many arrangements were found, how many lemmas the \
-certificate has, a line for each worker with the lemmas that it took, also where it took none, and the \
-first arrangement. With --progress it says meanwhile how far it is.
+Writes two files, which check reads: LIST, the puzzle's arrangements, and CERTIFICATE, which shows that there \
+is no other. Prints how many arrangements were found, how many lemmas the certificate has (the numbered \
+claims that it is made of), a line for each worker with the lemmas that it took, even if it took none, and \
+the first arrangement. With --progress it says how far it is while it runs.
 
-The two are made beside their names and renamed once both are written, so that after any fault until \
-then, gave up included, what stood there stands. --keep asks for that, which is done in any case, and does \
-nothing more. Links are followed, modes kept, and devices and pipes written directly. So is a file that is \
-open already: one that a standard stream has open, or to which a name like /dev/stdout or /dev/fd/3 leads. Where \
-another run put its file under one of the two names, that is said at the end. Neither is named -: ./- is a file of \
-that name.
+The two are made beside their names and renamed once both are written. So after any fault until then, gave up \
+included, the files that were there before are as they were. --keep asks for this; it is done in any case, so \
+--keep changes nothing. Links are followed, modes are kept, and devices and pipes are written directly. So is \
+a file that is already open: one that a standard stream has open, or one that a name like /dev/stdout or \
+/dev/fd/3 leads to. Where another run put its file under one of the two names, that is said at the end. \
+Neither may be named -: ./- is a file of that name.
 
-With a depth of 1 or more it looks for symmetries of the puzzle first, makes lemmas of at most 64 \
-branches of so many levels, and cites these, and their images, instead of searching again: most \
-puzzles with symmetries take a fraction of the time then. Their list leaves out most images of what \
-it has, though not all, so its length is no number to publish: count says how many arrangements \
-there are, and how many that are no images of each other: with --symmetries board up to turns and mirror images \
-of the board and exchanges of equal tiles, else up to exchanges of colours too. With a depth of 0 every \
+With a depth of 1 or more it first looks for symmetries of the puzzle. Up to 64 branches in the first levels, \
+as many as the depth says, become lemmas. It cites these and their images instead of searching again: most \
+puzzles with symmetries then take a fraction of the time. The list then leaves out most images of what it \
+has, but not all, so don't publish its length: count says how many arrangements there are, and how many that \
+are no images of each other. With --symmetries board these are counted up to turns and mirror images of the \
+board and exchanges of equal tiles, otherwise up to exchanges of colours too. With a depth of 0 every \
 arrangement is listed, and no symmetry is named. The workers share the branches.
 
-The fuel is the most branch nodes that are made for one lemma: cells or tiles at which it is tried \
-what fits. Where more than one worker searches, or the depth isn't 0, a lemma that is short of fuel \
-makes further lemmas of its branches. Where the fuel runs out all the same, it says gave up, and \
-nothing is written, and both files are as they were. Then give more fuel, \
-up to 1000000, or a greater depth, up to 3, or take a smaller puzzle. Where it says too many \
-arrangements, a greater depth may help too: of those that are images of each other it lists fewer. \
-Where it says too many options, which show tells before, only a smaller puzzle helps.
+The fuel is the most branch nodes that one lemma may have: cells or tiles at which it tries what fits. Where \
+more than one worker searches, or the depth isn't 0, a lemma that is short of fuel makes further lemmas of \
+its branches. If the fuel runs out even so, it says gave up, nothing is written, and both files are as they \
+were. Then give more fuel, up to 1000000, or a greater depth, up to 3, or take a smaller puzzle. If it says \
+too many arrangements, a greater depth may help too: it then lists fewer of those that are images of each \
+other. If it says too many options, which show tells before, only a smaller puzzle helps.
 
 Exit status:
   0  the list and the certificate are written
-  2  anything else, which is said on standard error
-  3  gave up, too many options, or too many arrangements, said there too
+  2  anything else; standard error says what
+  3  gave up, too many options, or too many arrangements; standard error says which
 
 Example:
   edgematch solve puzzle list certificate --depth 2 --workers 4";
 
 const EXPANDED: &str = "\
-Prints the list with the images of its arrangements under the symmetries of the certificate, or \
-the answer of check where it is refused.
+Prints the arrangements of the list and their images under the symmetries of the certificate. Where the list \
+is refused, it prints the answer of check.
 
-With --orbits it prints one of each orbit: of the arrangements of the list, in its order, those that the \
-symmetries take no earlier one of them to. How many there are is what count calls orbits.
+With --orbits it prints one arrangement of each orbit. An orbit is all arrangements that the symmetries take \
+into each other. Of the list, in its order, it prints those that the symmetries take no earlier one to. How \
+many there are is what count calls orbits.
 
-Without files it reads the three from standard input, one after the other.
+Without files it reads the puzzle, the list and the certificate from standard input, one after the other.
 
 Exit status:
   0  every arrangement of the puzzle is printed, once; with --orbits one of each orbit
   1  the certificate does not show that the list is complete
-  2  anything else, which is said on standard error
+  2  anything else; standard error says what
 
 Example:
   edgematch expand puzzle list certificate";
 
 const EXPLAINED: &str = "\
-Prints the answer of check, and where it is refused, why: a sentence, the line and the word where \
-the fault is, the board with what is placed there, and the pairs that fit where their number is told \
-wrongly. Where a text has a fault, standard error says what has to stand there, and what does.
+Prints the answer of check. Where the list is refused, it also says why: a sentence, the line and the word \
+with the fault, the board with what is placed there, and the pairs that fit where the certificate has a wrong \
+number of them. Where a text has a fault, standard error says what has to be there, and what is there.
 
-With a puzzle alone it says the same of its text, or prints puzzle: no fault, and below it what makes an \
-arrangement impossible, as far as counts of colours and the border tell. Without files it reads the \
-three from standard input, one after the other. One that is named - is standard input.
+With a puzzle alone it says the same about the text of the puzzle. Where that has no fault, it prints puzzle: \
+no fault, and below it what makes an arrangement impossible, as far as counts of colours and the border show \
+this. Without files it reads the puzzle, the list and the certificate from standard input, one after the \
+other. A file that is named - is standard input.
 
 Exit status:
   0  the list is complete; or the puzzle alone has no fault
-  1  the certificate does not show that
-  2  anything else, which is said on standard error
+  1  the certificate does not show that the list is complete
+  2  anything else; standard error says what
 
 Examples:
   edgematch explain puzzle
   edgematch explain puzzle list certificate";
 
 const COUNTED: &str = "\
-With a puzzle alone it searches, and prints how many arrangements the puzzle has: a line arrangements N. \
-Nothing is written of what the search finds, so who doubts the number runs it again; a list with its \
+With a puzzle alone it searches, and prints how many arrangements the puzzle has, in a line arrangements N. \
+It writes nothing of what it finds, so the way to check the number is to run it again; a list with its \
 certificate can be checked.
 
-With a list and a certificate it checks these, and prints four lines: arrangements N, how many the puzzle \
-has; pictures P, how many where those that show the same at each cell count once, since only equal tiles are \
-exchanged in them; orbits K, how many where those that the symmetries of the certificate take into each other \
-count once; and symmetries S, how many symmetries the certificate names. Or it prints the answer of check where \
-it is refused.
+With a list and a certificate it checks these, and prints four lines. arrangements N says how many the puzzle \
+has. pictures P counts arrangements that show the same at each cell once: only equal tiles are exchanged in \
+them. orbits K counts arrangements that the symmetries of the certificate take into each other once. \
+symmetries S says how many symmetries the certificate names. Where the list is refused, it prints the answer \
+of check.
 
-With --most M it says arrangements more than M as soon as it has found more: with --most 1, whether there \
-is just one. Where tiles may be turned, and the border asks for the same all around or for nothing, each turn of \
-the whole board makes another arrangement: then it is --most 4 on a square board, 2 on another rectangle, 3 on a \
-triangle and 6 on a hexagon.
+With --most M it prints arrangements more than M as soon as it has found more; --most 1 says whether there is \
+just one. Where tiles may be turned, the border asks for the same all around or for nothing, and there are no \
+clues, each turn of the whole board is another arrangement. Then use --most 4 on a square board, 2 on another \
+rectangle, 3 on a triangle and 6 on a hexagon.
 
-With --part K/N it counts in part K of N of the search, and prints three lines: puzzle DIGEST, the SHA-256 of \
-the puzzle's file; split BRANCHES HASH, of the branches into which the search was split and a hash of them all; \
-and part K/N arrangements M. Of all N parts of one puzzle and one split the numbers add up to how many \
-arrangements the puzzle has. edgematch total adds them up, and refuses lines that don't go together. With --part \
-A-B/N it counts in parts A to B, over one split, and prints the line of each at the end.
+With --part K/N it counts in part K of N of the search, and prints three lines. puzzle DIGEST has the SHA-256 \
+of the puzzle's file. split BRANCHES HASH has the number of branches into which the search was split, and a \
+hash of them all. part K/N arrangements M has the number that it counted. Over all N parts of one puzzle and \
+one split, these numbers add up to how many arrangements the puzzle has. edgematch total adds them up, and \
+refuses lines that don't go together. With --part A-B/N it counts in parts A to B, over one split, and prints \
+the line of each at the end.
 
-Without files it reads the three from standard input, one after the other. One that is named - is standard \
-input.
+Without files it reads the puzzle, the list and the certificate from standard input, one after the other. A \
+file that is named - is standard input.
 
-With --progress a search says meanwhile how many of the subtrees are done, how many arrangements they have, \
-and about how long the others will take. Of a list that is checked, --progress and --workers change nothing.
+With --progress a search says while it runs how many of the subtrees are done, how many arrangements they \
+have, and about how long the others will take. Where a list is checked, --progress and --workers change \
+nothing.
 
 Exit status:
   0  the arrangements are counted, or there are more than M
   1  the certificate does not show that the list is complete
-  2  anything else, which is said on standard error
-  3  too many options, or too many arrangements to be counted, 2^64 or more, said there too
+  2  anything else; standard error says what
+  3  too many options, or too many arrangements to count, 2^64 or more; standard error says which
 
 Examples:
   edgematch count puzzle --workers 4
@@ -161,70 +165,70 @@ Examples:
   edgematch count puzzle list certificate";
 
 const TOTALLED: &str = "\
-Reads the lines that count --part printed, of all parts of one search, in any order, and prints \
-arrangements N, their sum.
+Reads the lines that count --part printed for all parts of one search, in any order, and prints their sum: \
+arrangements N.
 
-The lines have to be of one puzzle and of one split, and of each part at least one. A part that stands there \
-more than once has to have one number, and counts once. Else the first line that is wrong is told on standard \
-error, or the first part that is missing.
+The lines have to be of one puzzle and of one split, with at least one line for each part. A part may have \
+several lines if they all have the same number; it counts once. Otherwise standard error names the first line \
+that is wrong, or the first part that is missing.
 
-The files are read one after the other, as if they were joined. Where a line of several files is wrong, it \
-is said below the fault in which file it is. - alone is standard input.
+The files are read one after the other, as if they were joined. Where there are several files and a line is \
+wrong, the line below the fault says in which file it is. - alone is standard input.
 
 Exit status:
   0  the sum is printed
-  2  anything else, which is said on standard error
+  2  anything else; standard error says what
 
 Example:
   edgematch total part.*";
 
 const SHOWN: &str = "\
-Draws the board with the numbers of its cells and the colours that the border asks for, and says \
-how many cells, tiles and colours there are, where each colour stands, whether tiles may be turned, which \
-colours are mates, and how large the puzzle is for solve: how many options it has, each a tile at a cell as \
-the border allows, and how many items these have.
+Draws the board with the numbers of its cells and the colours that the border and clues ask for. Says how \
+many cells, tiles and colours there are, where each colour occurs, whether tiles may be turned, which colours \
+are mates (colours that go together), and how large the puzzle is for solve: how many options it has, each a \
+tile at a cell as the border and clues allow, and how many items these have.
 
-With a list it draws arrangement N of it in place of that. Where the list has no such arrangement, or \
-it is none of the puzzle's, that is said on standard error. One of the files may be -, standard input.
+With a list it draws arrangement N of the list instead. Where the list has no such arrangement, or it is not \
+one of the puzzle's, standard error says so. One of the files may be -, standard input.
 
 Exit status:
   0  the board is drawn, or the arrangement
-  2  anything else, which is said on standard error
+  2  anything else; standard error says what
 
 Example:
   edgematch show puzzle list 0";
 
 const DRAWN: &str = "\
-Prints one SVG document. With a list it draws arrangement N of it, and with --first K a sheet of the \
-K from N on; where the list has fewer from N on, it draws these. Without a list it draws the empty board \
-with the colours that the border asks for, and each tile below. Where tiles may not be turned, each has an \
-arrow that points north.
+Prints one SVG document. With a list it draws arrangement N of the list, and with --first K a sheet of the K \
+arrangements from N on; where the list has fewer from N on, it draws these. Without a list it draws the empty \
+board with the colours that the border and clues ask for, and each tile below. Where tiles may not be turned, \
+each has an arrow that points north.
 
-Where the list has no arrangement N, or one that is to be drawn is none of the puzzle's, that is said \
-on standard error, and nothing is printed. On a sheet --numbers changes nothing, and without a list neither \
---first nor --numbers does. One of the files may be -, standard input.
+Where the list has no arrangement N, or one that is to be drawn is not one of the puzzle's, standard error \
+says so, and nothing is printed. On a sheet --numbers changes nothing; without a list neither --first nor \
+--numbers does. One of the files may be -, standard input.
 
 Exit status:
   0  the picture is printed
-  2  anything else, which is said on standard error
+  2  anything else; standard error says what
 
 Example:
   edgematch draw puzzle list 0 --numbers > picture.svg";
 
 const LISTED: &str = "\
-Prints a line for each tile, at most 100: its word, or with --lines the line that a puzzle has of it, \
-tile WORD.
+Prints a line for each tile: its word, which has a character for each side. With --lines it prints the line \
+that a puzzle has for the tile: tile WORD. There may be at most 100 tiles.
 
 Example:
   edgematch tiles 4 3";
 
 const NAMED: &str = "\
-Prints the symmetries of the puzzle that solve would name, as the lines that a certificate has of \
-them. The file may be -, standard input.
+Prints the symmetries of the puzzle that solve would name, as a certificate has them: a line for each. The \
+file may be -, standard input.
 
 Exit status:
   0  the lines are printed
-  2  anything else, which is said on standard error
+  2  anything else; standard error says what
 
 Example:
   edgematch symmetries puzzle";
@@ -232,26 +236,27 @@ Example:
 // How an argument is given.
 #[derive(Clone, Copy)]
 enum Kind {
-    // By a word at its place, which has to be there or may be left out.
+    // By a word at its place, which is required or optional.
     Word {
         is_wanted: bool,
     },
     // By one word or more at its place, each of which is a value.
     Words,
-    // By an option of its name, behind which its value stands. Help calls the value so.
+    // By an option with its name, followed by the value. Help names the value in this way.
     Option {
         value: &'static str,
     },
-    // By an option of its name, behind which one of some words stands, this one if it isn't given. Help calls the word so.
+    // By an option with its name, followed by one of several words; without the option it is the default. Help names
+    // the word in this way.
     Choice {
         value: &'static str,
         default: &'static str,
     },
-    // By a flag of its name.
+    // By a flag with its name.
     Flag,
 }
 
-// That a value is a number in this range, with a default or none.
+// The range of a value that is a number, and its default, if it has one.
 #[derive(Clone, Copy)]
 struct Number {
     least: u64,
@@ -263,7 +268,7 @@ struct Number {
 struct Argument {
     id: &'static str,
     kind: Kind,
-    // Its value is a text where this is none.
+    // Without this the value is a text.
     number: Option<Number>,
     help: &'static str,
 }
@@ -273,7 +278,7 @@ struct CommandTable {
     name: &'static str,
     about: &'static str,
     arguments: &'static [Argument],
-    // What its help says behind the arguments.
+    // What its help says after the arguments.
     help: &'static str,
 }
 
@@ -298,7 +303,7 @@ const CERTIFICATE: Argument = Argument {
     help: "File of the certificate",
 };
 
-// A document that a command needs only with others.
+// A document that a command needs only together with others.
 const ANY_PUZZLE: Argument = Argument {
     id: "PUZZLE",
     kind: Kind::Word { is_wanted: false },
@@ -348,21 +353,21 @@ const FORKS: Argument = Argument {
         most: MOST_FORKS as u64,
         default: Some("0"),
     }),
-    help: "In how many levels of a tree the halves of a branch are walked at once, 0 to 6",
+    help: "In how many levels of a tree the two halves of a branch are checked at once, 0 to 6",
 };
 
 const PROGRESS: Argument = Argument {
     id: "progress",
     kind: Kind::Flag,
     number: None,
-    help: "Tells on standard error how far it is, at most once a second",
+    help: "Says on standard error how far it is, at most once a second",
 };
 
 const HINTS: Argument = Argument {
     id: "hints",
     kind: Kind::Flag,
     number: None,
-    help: "Says below a fault what is wrong and what may help, on a terminal or not",
+    help: "Says below a fault what is wrong and what may help, whether on a terminal or not",
 };
 
 const DEPTH: Argument = Argument {
@@ -384,7 +389,7 @@ const FUEL: Argument = Argument {
         most: MOST_FUEL as u64,
         default: Some("1000000"),
     }),
-    help: "The most branch nodes that are made for a lemma, 1 to 1000000",
+    help: "The most branch nodes that a lemma may have, 1 to 1000000",
 };
 
 const SUGGESTED: Argument = Argument {
@@ -394,21 +399,21 @@ const SUGGESTED: Argument = Argument {
         default: "all",
     },
     number: None,
-    help: "Which symmetries the certificate names: all, or board, those that leave each colour as it is",
+    help: "Which symmetries the certificate names: all, or board for those that leave each colour as it is",
 };
 
 const KEEP: Argument = Argument {
     id: "keep",
     kind: Kind::Flag,
     number: None,
-    help: "Leaves LIST and CERTIFICATE as they are until both are written, as is done in any case",
+    help: "Leaves LIST and CERTIFICATE as they are until both are written; this is done in any case",
 };
 
 const ORBITS: Argument = Argument {
     id: "orbits",
     kind: Kind::Flag,
     number: None,
-    help: "Prints one arrangement of each orbit alone",
+    help: "Prints only one arrangement of each orbit",
 };
 
 const MOST: Argument = Argument {
@@ -419,7 +424,7 @@ const MOST: Argument = Argument {
         most: u64::MAX,
         default: None,
     }),
-    help: "Ends as soon as more than M are found, and says so; one worker searches then",
+    help: "Ends as soon as more than M are found, and says so; with --most only one worker searches",
 };
 
 const PART: Argument = Argument {
@@ -433,21 +438,21 @@ const PARTS: Argument = Argument {
     id: "FILE",
     kind: Kind::Words,
     number: None,
-    help: "Files of the lines that count --part printed, or - alone, which is standard input",
+    help: "Files with the lines that count --part printed, or - alone, which is standard input",
 };
 
 const SHOWN_LIST: Argument = Argument {
     id: "LIST",
     kind: Kind::Word { is_wanted: false },
     number: None,
-    help: "File of a list of arrangements, of which one is drawn",
+    help: "File of a list of arrangements, one of which is drawn",
 };
 
 const DRAWN_LIST: Argument = Argument {
     id: "LIST",
     kind: Kind::Word { is_wanted: false },
     number: None,
-    help: "File of a list of arrangements, of which one is drawn, or some",
+    help: "File of a list of arrangements, one or several of which are drawn",
 };
 
 const NUMBER: Argument = Argument {
@@ -469,14 +474,14 @@ const FIRST: Argument = Argument {
         most: MOST_DRAWN as u64,
         default: Some("0"),
     }),
-    help: "Draws a sheet of so many arrangements, from N on, 0 to 100; 0 draws N alone, large",
+    help: "Draws a sheet of K arrangements from N on, 0 to 100; 0 draws N alone, large",
 };
 
 const NUMBERS: Argument = Argument {
     id: "numbers",
     kind: Kind::Flag,
     number: None,
-    help: "Writes the number of its tile on each cell",
+    help: "Writes on each cell the number of its tile",
 };
 
 const SIDES: Argument = Argument {
@@ -505,7 +510,7 @@ const LINES: Argument = Argument {
     id: "lines",
     kind: Kind::Flag,
     number: None,
-    help: "Prints them as lines of a puzzle's text: tile WORD",
+    help: "Prints the tiles as lines of a puzzle's text: tile WORD",
 };
 
 const CHECK: CommandTable = CommandTable {
@@ -605,7 +610,7 @@ const TILES: CommandTable = CommandTable {
     help: LISTED,
 };
 
-// The argument, given as its kind says.
+// The argument, given in this way.
 fn with_kind<'a>(arg: Arg<'a>, id: &'a str, kind: Kind) -> Arg<'a>
     ensures { IsOfKind kind id.entry.now arg.entry result }
 {
@@ -618,7 +623,7 @@ fn with_kind<'a>(arg: Arg<'a>, id: &'a str, kind: Kind) -> Arg<'a>
     }
 }
 
-// The argument, whose value is such a number.
+// The argument, with a value that is such a number.
 fn with_number<'a>(arg: Arg<'a>, number: Number) -> Arg<'a>
     ensures { IsNumbered number arg.entry result }
 {
@@ -728,7 +733,7 @@ fn tiles<'a>(alloc: Global) -> Result<Command<'a>, AllocError>
     command_of(alloc, &TILES)
 }
 
-// The program with one command more, where both are made.
+// The program with one more command, if both could be made.
 fn with_command<'a>(
     program: Result<Command<'a>, AllocError>,
     command: Result<Command<'a>, AllocError>,
@@ -740,7 +745,7 @@ fn with_command<'a>(
     program?.subcommand(command?)
 }
 
-// The program with the commands that make a list, or read one with its certificate, or count by a search.
+// The program with the commands that make a list, that read a list with its certificate, or that count by a search.
 fn with_list_commands<'a>(
     alloc: Global,
     program: Result<Command<'a>, AllocError>,
@@ -771,7 +776,8 @@ fn with_puzzle_commands<'a>(
     with_command(program, tiles(alloc))
 }
 
-/// The program's commands. A command's words begin after the program's name.
+/// Returns the program's commands. They read the words after the program's name. An error comes where memory is
+/// refused.
 pub fn program<'a>(alloc: Global) -> Result<Command<'a>, AllocError>
     ensures { IfOk result (λ c. app_of c ≡ whole_app) }
 {

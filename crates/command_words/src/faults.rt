@@ -1,4 +1,4 @@
-//! Why words order nothing.
+//! Why words are no order.
 
 ghost use Rattle.std.specs.Prelude.{◌≡◌};
 ghost use Rattle.command_words.specs.Orders.{IsFaultOf};
@@ -8,10 +8,10 @@ use clap::error::ErrorKind;
 use std::alloc::AllocError;
 use thiserror::Error;
 
-/// Why words order nothing.
+/// Why words are no order.
 #[derive(Debug, Drop, Error)]
 pub enum WordsFault {
-    /// The words are wrong, or ask for help. It prints the text for the user, and says where.
+    /// The words are wrong, or ask for help. The error has the text for the user, and says on which stream to print it.
     #[error("{0}")]
     Words(clap::Error),
     #[error("out of memory")]

@@ -1,4 +1,4 @@
-//! The words of the program's command line.
+//! Reads the words of the program's command line as orders.
 #![tactic(auto)]
 
 mod commands;

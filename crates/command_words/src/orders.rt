@@ -1,4 +1,4 @@
-//! What the program is to do.
+//! Orders: what the program is to do.
 
 use crate::places::{Files, Given, PartPlaces, Place, TwoPlaces};
 use match_limits::{
@@ -6,8 +6,8 @@ use match_limits::{
 };
 use match_symmetry::Suggested;
 
-/// One or more parts of a search that is dealt to several, which stand side by side: how many parts come before the first
-/// of them, how many more there are of them, and how many come behind the last.
+/// One or more consecutive parts of a search that is divided into parts: how many parts come before the first of them,
+/// how many more there are of them, and how many come after the last.
 #[derive(Clone, Copy)]
 pub struct Parts {
     pub before: OtherParts,
@@ -19,7 +19,7 @@ impl Parts {
     ghost use Rattle.std.specs.Prelude.{◌≡◌, ◌+◌, ◌<◌, ◌≤◌};
     ghost use Rattle.command_words.specs.Parts.{parts_with};
 
-    /// How many parts come before the first, at most 999,999.
+    /// Returns how many parts come before the first of these, at most 999,999.
     pub fn earlier(&self) -> u32
         ensures before { result ≡ self.now.before }
         ensures few { result ≤ 999999 }
@@ -27,7 +27,7 @@ impl Parts {
         self.before.get()
     }
 
-    /// How many parts these are, from 1 to 1,000,000.
+    /// Returns how many parts these are, from 1 to 1,000,000.
     pub fn chosen(&self) -> u32
         ensures chosen { result ≡ self.now.more + 1 }
         ensures few { result ≤ 1000000 }
@@ -35,7 +35,7 @@ impl Parts {
         self.more.get() + 1
     }
 
-    /// How many parts there are, with those before and behind.
+    /// Returns how many parts there are, with those before and after these.
     pub fn count(&self) -> u32
         ensures parts { result ≡ parts_with self.now }
         ensures others { self.now.before + self.now.more < result }
@@ -45,36 +45,36 @@ impl Parts {
     }
 }
 
-/// Of which arrangements a search counts how many there are.
+/// Which arrangements a search counts.
 #[derive(Clone, Copy)]
 pub enum Extent {
-    /// All.
+    /// All arrangements.
     All,
-    /// All, but once more than so many are found, that there are more.
+    /// All arrangements, until more than this many are found; then it says only that there are more.
     Most(u64),
-    /// Those in each of these parts of the search.
+    /// The arrangements in each of these parts of the search.
     Parts(Parts),
 }
 
 /// What is shown or drawn.
 #[derive(Drop)]
 pub enum Subject {
-    /// The empty board of the puzzle that stands there.
+    /// The empty board of the puzzle at this place.
     Board(Place),
-    /// The arrangement of this number, of the puzzle and the list that stand there.
+    /// The arrangement with this number in the list at this place, of the puzzle there.
     Listed {
         places: TwoPlaces,
         number: ArrangementNumber,
     },
 }
 
-/// What words order.
+/// What the words of the command line ask for.
 #[derive(Drop)]
 pub enum Order {
-    /// To check the documents that stand on standard input, joined.
+    /// Check the puzzle, list and certificate that standard input has, one after the other.
     Joined,
-    /// To check the documents in these files; to tell meanwhile how far it is, or not; to tell what has to be changed in a
-    /// text that has a fault, also where nobody reads that on a terminal, or not.
+    /// Check the documents in these files. With `progress`, say meanwhile how far it is. With `hints`, say what has to
+    /// be changed in a text that has a fault, even where no terminal shows it.
     Check {
         files: Files,
         workers: Workers,
@@ -82,13 +82,14 @@ pub enum Order {
         progress: bool,
         hints: bool,
     },
-    /// To check the documents that are given so, and to say why they are refused.
+    /// Check the documents that are given in this way, and say why they are refused.
     Explain(Given),
-    /// To say whether the text of the puzzle that stands there has a fault.
+    /// Say whether the text of the puzzle at this place has a fault.
     ExplainPuzzle(Place),
-    /// To search for all arrangements of the puzzle in its file, and to make the files of their list and of a
-    /// certificate, which names those symmetries that are asked for; to keep what stands there until both are written, or not; to tell meanwhile how far it is, or not; to
-    /// tell what has to be changed in a text that has a fault, as of a check, or not.
+    /// Search for all arrangements of the puzzle in its file, and write the files of their list and of a certificate,
+    /// which names the symmetries that are asked for. With `keep`, leave the files that are there until both are
+    /// written. With `progress`, say meanwhile how far it is. With `hints`, say what has to be changed in a text that
+    /// has a fault, even where no terminal shows it.
     Solve {
         files: Files,
         depth: Depth,
@@ -99,36 +100,38 @@ pub enum Order {
         progress: bool,
         hints: bool,
     },
-    /// To check the documents that are given so, joined or in files alone, and to print all arrangements, or of these one of
-    /// each orbit alone; to tell what has to be changed in a text that has a fault, as of a check, or not.
+    /// Check the documents that are given in this way, joined or all in files, and print all arrangements; with
+    /// `orbits`, one of each orbit (arrangements that the certificate's symmetries take into each other) only. With
+    /// `hints`, say what has to be changed in a text that has a fault, even where no terminal shows it.
     Expand {
         given: Given,
         orbits: bool,
         hints: bool,
     },
-    /// To check the documents that are given so, and to count all arrangements.
+    /// Check the documents that are given in this way, and count all arrangements.
     Count(Given),
-    /// To count arrangements of the puzzle that stands there by a search.
+    /// Count arrangements of the puzzle at this place by a search.
     Census {
         puzzle: Place,
         extent: Extent,
         workers: Workers,
         progress: bool,
     },
-    /// To add up the counts of all parts of a search, by the lines that stand there.
+    /// Add up the counts of all parts of a search, by the lines at these places.
     Total(PartPlaces),
-    /// To draw the empty board of a puzzle, or an arrangement that is listed.
+    /// Draw the empty board of a puzzle, or a listed arrangement, as text.
     Show(Subject),
-    /// To draw the empty board of a puzzle and its tiles as a picture, or an arrangement that is listed; or a sheet of so
-    /// many arrangements from that one on, where any are asked for; each tile's number on its cell, or not.
+    /// Draw, as a picture, the empty board of a puzzle and its tiles, or a listed arrangement, or a sheet of `first`
+    /// arrangements from that one on, where `first` isn't 0. With `numbers`, write each tile's number on its cell.
     Draw {
         subject: Subject,
         first: Drawn,
         numbers: bool,
     },
-    /// To print symmetries of the puzzle that stands there.
+    /// Print symmetries of the puzzle at this place.
     Symmetries(Place),
-    /// To list the tiles of so many sides and colours; as lines of a puzzle's text, or by their words alone.
+    /// List the tiles with this many sides and colours. With `lines`, print them as lines of a puzzle's text, otherwise
+    /// only their words.
     Tiles {
         sides: Sides,
         colours: Colours,

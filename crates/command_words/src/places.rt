@@ -1,11 +1,11 @@
-//! Where documents stand: in files, or on standard input.
+//! Where documents are: in files, or on standard input.
 
 ghost use Rattle.std.specs.Prelude.{◌≡◌, MatchOption};
 ghost use Rattle.command_words.specs.Places.{AreTwoOnInput, certificate_place, list_of_two, list_place, puzzle_of_two};
 ghost use Rattle.command_words.specs.Places.{puzzle_place};
 ghost use Rattle.command_words.specs.declared.places.Place.TheVariants.{Input};
 
-/// Three files by their names.
+/// Three files, by their names.
 #[derive(Drop)]
 pub struct Files {
     pub puzzle: String,
@@ -13,28 +13,28 @@ pub struct Files {
     pub certificate: String,
 }
 
-/// Where a document stands.
+/// Where a document is.
 #[derive(Drop)]
 pub enum Place {
-    /// On standard input, which nothing else of the order is read from.
+    /// On standard input, from which the order reads nothing else.
     Input,
-    /// In the file of this name.
+    /// In the file with this name.
     File(String),
 }
 
-/// Where lines of counted parts stand.
+/// Where the lines of counted parts are.
 #[derive(Drop)]
 pub enum PartPlaces {
     /// On standard input.
     Input,
-    /// In the files of these names, at least one.
+    /// In the files with these names, at least one.
     Files(Vec<String>),
 }
 
-/// Where a puzzle and a list stand: on standard input one of them at most.
+/// Where a puzzle and a list are: at most one of them on standard input.
 #[derive(Drop)]
 pub enum TwoPlaces {
-    /// In these files.
+    /// Both in these files.
     Files { puzzle: String, list: String },
     /// The puzzle on standard input, and the list in this file.
     PuzzleOnInput { list: String },
@@ -43,7 +43,7 @@ pub enum TwoPlaces {
 }
 
 impl TwoPlaces {
-    // A puzzle and a list that stand there; none where both stand on standard input.
+    // A puzzle and a list at these places; `None` where both are standard input.
     pub(crate) fn new(puzzle: Place, list: Place) -> Option<TwoPlaces>
         ensures { MatchOption result ((puzzle ≡ Input) × (list ≡ Input))
             (λ places. (puzzle_of_two places ≡ puzzle) × (list_of_two places ≡ list)) }
@@ -57,10 +57,10 @@ impl TwoPlaces {
     }
 }
 
-/// Where a puzzle, a list and a certificate stand: on standard input one of them at most.
+/// Where a puzzle, a list and a certificate are: at most one of them on standard input.
 #[derive(Drop)]
 pub enum ThreePlaces {
-    /// In these files.
+    /// All in these files.
     Files(Files),
     /// The puzzle on standard input, and the others in these files.
     PuzzleOnInput { list: String, certificate: String },
@@ -71,7 +71,7 @@ pub enum ThreePlaces {
 }
 
 impl ThreePlaces {
-    // A puzzle, a list and a certificate that stand there; none where two of them stand on standard input.
+    // A puzzle, a list and a certificate at these places; `None` where two of them are standard input.
     pub(crate) fn new(puzzle: Place, list: Place, certificate: Place) -> Option<ThreePlaces>
         ensures { MatchOption result (AreTwoOnInput puzzle list certificate) (λ places. (puzzle_place places ≡ puzzle)
             × (list_place places ≡ list) × (certificate_place places ≡ certificate)) }
@@ -104,8 +104,8 @@ impl ThreePlaces {
 /// How a puzzle, a list and a certificate are given.
 #[derive(Drop)]
 pub enum Given {
-    /// Joined, on standard input.
+    /// Joined on standard input, one after the other.
     Joined,
-    /// Each by itself, where these places say.
+    /// Each by itself, at these places.
     Apart(ThreePlaces),
 }

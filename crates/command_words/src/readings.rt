@@ -1,4 +1,4 @@
-//! Words are read.
+//! Reads words as orders.
 
 ghost use Rattle.std.specs.Prelude.{◌≡◌, ◌↔◌, ◌<◌, ◌^◌, ℕ, Contains, Some, codes, map, IfOk, IfErr, IsTrue, MatchOption};
 ghost use Rattle.std.specs.String.{string_bytes};
@@ -32,25 +32,25 @@ use match_limits::Within;
 use match_symmetry::Suggested;
 use std::alloc::{AllocError, Global};
 
-// Why words that name standard input twice order nothing.
+// The message for words that name standard input twice.
 const READ_TWICE: &str =
     "- is standard input, and is read once: name other documents by their files";
 
-// Why words that name standard input beside files of counted parts order nothing.
+// The message for words that name standard input together with files of counted parts.
 const READ_ALONE: &str = "- is standard input, and stands alone: name files, or - and nothing else";
 
-// Why words that name a part of three documents order nothing.
+// The message for words that name only some of three documents.
 const NO_CERTIFICATE: &str =
     "a list stands with its certificate: PUZZLE LIST CERTIFICATE, or PUZZLE alone";
 
-// Why words that name a list or a certificate as standard input is named order no solve.
+// The message for a solve whose list or certificate is named like standard input.
 const NOT_WRITTEN: &str =
     "a solve writes no list or certificate to -: ./- is a file of that name, and /dev/stdout is standard output";
 
-// Why a word that asks for no symmetries orders no solve.
+// The message for a solve with another word for the symmetries.
 const NOT_SUGGESTED: &str = "--symmetries is all, or board: those that leave each colour as it is";
 
-// The text under this id.
+// The text with this id.
 fn text(alloc: Global, matches: &ArgMatches<'_>, id: &str) -> Result<String, AllocError>
     requires { HasText id.now (rows_of (found_of matches.now)) }
     ensures { IfOk result (λ text. first_of id.now (rows_of (found_of matches.now)) ≡ Some (string_bytes text)) }
@@ -61,7 +61,7 @@ fn text(alloc: Global, matches: &ArgMatches<'_>, id: &str) -> Result<String, All
     String::from_str(alloc, text)
 }
 
-// The number under this id.
+// The number with this id.
 fn number<const LEAST: u32, const MOST: u32>(
     matches: &ArgMatches<'_>,
     id: &str,
@@ -78,7 +78,7 @@ fn number<const LEAST: u32, const MOST: u32>(
     Within::new(number)
 }
 
-// Whether the flag under this id is given.
+// Whether the flag with this id is given.
 fn flag(matches: &ArgMatches<'_>, id: &str) -> bool
     requires { HasFlag id.now (rows_of (found_of matches.now)) }
     ensures { IsFlagged id.now (rows_of (found_of matches.now)) result }
@@ -100,7 +100,7 @@ fn files(alloc: Global, matches: &ArgMatches<'_>) -> Result<Files, AllocError>
     })
 }
 
-// Whether neither the list nor the certificate is named as standard input is.
+// Whether neither the list nor the certificate is named like standard input.
 fn are_writable(files: &Files) -> bool
     ensures { IsTrue result ↔ AreWritable files.now }
 {
@@ -109,7 +109,7 @@ fn are_writable(files: &Files) -> bool
     list != "-" && certificate != "-"
 }
 
-// Where the document stands that is named under this id, if one is.
+// Where the document is that this id names, if it names one.
 fn place_if_named(
     alloc: Global,
     matches: &ArgMatches<'_>,
@@ -127,7 +127,7 @@ fn place_if_named(
     Ok(Some(Place::File(file)))
 }
 
-// Where the puzzle stands that is named.
+// Where the named puzzle is.
 fn puzzle_place(alloc: Global, matches: &ArgMatches<'_>) -> Result<Place, AllocError>
     requires { HasText (codes "PUZZLE") (rows_of (found_of matches.now)) }
     ensures { IfOk result (IsPlace (codes "PUZZLE") (rows_of (found_of matches.now))) }
@@ -138,18 +138,18 @@ fn puzzle_place(alloc: Global, matches: &ArgMatches<'_>) -> Result<Place, AllocE
     Ok(place)
 }
 
-// What words of `explain` or `count` ask of a puzzle, a list and a certificate.
+// What the words of `explain` or `count` ask for.
 #[derive(Drop)]
 enum Asked {
-    // Of three documents.
+    // Something of three documents.
     Given(Given),
-    // Of a puzzle alone.
+    // Something of a puzzle alone.
     Puzzle(Place),
     // Nothing, for this reason.
     Nothing(&'static str),
 }
 
-// What the matches of `explain` or `count` ask.
+// What the matches of `explain` or `count` ask for.
 fn read_asked(alloc: Global, matches: &ArgMatches<'_>) -> Result<Asked, AllocError>
     ensures { IfOk result (IsAsked (rows_of (found_of matches.now))) }
 {
@@ -159,7 +159,7 @@ fn read_asked(alloc: Global, matches: &ArgMatches<'_>) -> Result<Asked, AllocErr
     Ok(asked_for(puzzle, list, certificate))
 }
 
-// What is asked of documents that stand there, so far as they are named.
+// What is asked for, given which documents are named, and where they are.
 fn asked_for(puzzle: Option<Place>, list: Option<Place>, certificate: Option<Place>) -> Asked
     ensures { AreAskedFor puzzle list certificate result }
 {
@@ -177,7 +177,7 @@ fn asked_for(puzzle: Option<Place>, list: Option<Place>, certificate: Option<Pla
     }
 }
 
-// Three documents in their files, or joined where none is named; nothing where but some are.
+// Three documents in files, or joined where none is named; `None` where only some are named.
 fn given_in_files(alloc: Global, matches: &ArgMatches<'_>) -> Result<Option<Given>, AllocError>
     ensures { IfOk result (λ given. MatchOption given
         ((any : Given) → IsGivenInFiles (rows_of (found_of matches.now)) any → ⊥)
@@ -206,7 +206,7 @@ fn given_in_files(alloc: Global, matches: &ArgMatches<'_>) -> Result<Option<Give
     }
 }
 
-// A puzzle alone, or what is listed; none where both the puzzle and the list stand on standard input.
+// A puzzle alone, or a listed arrangement; `None` where both the puzzle and the list are standard input.
 fn read_subject(alloc: Global, matches: &ArgMatches<'_>) -> Result<Option<Subject>, AllocError>
     requires puzzle { HasText (codes "PUZZLE") (rows_of (found_of matches.now)) }
     requires number { HasNumber (codes "N") 0 999999 (rows_of (found_of matches.now)) }
@@ -225,7 +225,7 @@ fn read_subject(alloc: Global, matches: &ArgMatches<'_>) -> Result<Option<Subjec
     Ok(Some(Subject::Listed { places, number }))
 }
 
-// What is told of words of this command that don't go together.
+// The error for words of this command that don't go together.
 fn misfit(command: Result<Command<'_>, AllocError>, name: &str, reason: &str) -> WordsFault
     ensures { TellsOfMisfit result }
 {
@@ -331,7 +331,7 @@ fn expand(alloc: Global, matches: &ArgMatches<'_>) -> Result<Order, WordsFault>
     })
 }
 
-// Of three documents, or of a puzzle, where it is alone.
+// Explains three documents, or a puzzle where it is alone.
 fn explain(alloc: Global, matches: &ArgMatches<'_>) -> Result<Order, WordsFault>
     ensures order { IfOk result (IsOrderOf (Some (codes "explain", rows_of (found_of matches.now)))) }
     ensures refused { IfErr result (IsMisfit (Some (codes "explain", rows_of (found_of matches.now)))) }
@@ -352,7 +352,8 @@ struct Numbers {
     last: u32,
 }
 
-// The numbers that the text spells, as `3-5`, or as `3` one that is both; none where one of them is 2^32 or more.
+// The numbers that the text spells: `3-5`, or `3` for one number that is both; `None` where one of them is 2^32 or
+// more.
 fn first_and_last(text: &str) -> Option<Numbers>
     ensures { MatchOption result
         ((first last : ℕ) → first < 2 ^ 32 → last < 2 ^ 32 → SpellsRange text.now first last → ⊥)
@@ -370,7 +371,7 @@ fn first_and_last(text: &str) -> Option<Numbers>
     Some(Numbers { first, last })
 }
 
-// The parts of a search that the text names, as `3-5/8`, or `3/8`.
+// The parts of a search that the text names: `3-5/8`, or `3/8`.
 fn parts(text: &str) -> Option<Parts>
     ensures { MatchOption result ((parts : Parts) → IsPartsText text.now parts → ⊥) (IsPartsText text.now) }
 {
@@ -393,7 +394,7 @@ fn parts(text: &str) -> Option<Parts>
     })
 }
 
-// How far a search counts that the matches of `count` ask for.
+// Which arrangements the matches of `count` ask to count.
 fn extent(matches: &ArgMatches<'_>) -> Option<Extent>
     requires { MayHaveNumber (codes "most") 0 18446744073709551615 (rows_of (found_of matches.now)) }
     ensures { MatchOption result ((extent : Extent) → IsExtent (rows_of (found_of matches.now)) extent → ⊥)
@@ -420,7 +421,7 @@ fn long_number(text: &str) -> u64
     number
 }
 
-// A count by a list and its certificate, or by a search, where a puzzle is alone.
+// Counts by a list and its certificate, or by a search where a puzzle is alone.
 fn count(alloc: Global, matches: &ArgMatches<'_>) -> Result<Order, WordsFault>
     requires { AreMatchesOf (codes "count") (rows_of (found_of matches.now)) }
     ensures order { IfOk result (IsOrderOf (Some (codes "count", rows_of (found_of matches.now)))) }
@@ -449,7 +450,7 @@ fn count(alloc: Global, matches: &ArgMatches<'_>) -> Result<Order, WordsFault>
     }
 }
 
-// A count by these documents.
+// Counts by these documents.
 fn count_given(
     alloc: Global,
     _matches: &ArgMatches<'_>,
@@ -478,7 +479,7 @@ fn name_input(names: &[&str]) -> bool
     names.contains(&"-")
 }
 
-// Texts of their own.
+// Copies of the texts.
 fn owned(alloc: Global, texts: &[&str]) -> Result<Vec<String>, AllocError>
     ensures { IfOk result (λ owned. map string_bytes owned.items ≡ map (λ text. text.now) texts.now) }
 {
@@ -489,7 +490,7 @@ fn owned(alloc: Global, texts: &[&str]) -> Result<Vec<String>, AllocError>
     Ok(owned)
 }
 
-// Where the lines of counted parts stand that are named; nowhere where standard input is named beside others.
+// Where the named lines of counted parts are; `None` where standard input is named together with others.
 fn part_places(alloc: Global, names: &[&str]) -> Result<Option<PartPlaces>, AllocError>
     ensures { IfOk result (λ places. MatchOption places
         ((any : PartPlaces) → AreNamedParts (map (λ name. name.now) names.now) any → ⊥)
@@ -569,17 +570,20 @@ fn tiles(matches: &ArgMatches<'_>) -> Order
     }
 }
 
-/// What the words after the program's name order.
+/// Reads the words after the program's name as an order.
 ///
-/// Words that name no command order what no words do. `Words` where they are wrong or ask for help,
-/// by the program's commands as `clap` reads them, or don't go together, and then the error says why: `count`, `explain` or
-/// `expand` has but some of three documents, `count` has these beside what a search is asked, `solve` asks for symmetries by
-/// a word that is none of the two, or two documents are to be read from standard input.
+/// Words that name no command order the same as no words. `Words` comes where they are wrong or ask for help, as `clap`
+/// reads them by the program's commands, or where they don't go together. Then the error says why:
+///
+/// - `count`, `explain` or `expand` has only some of three documents
+/// - `count` has three documents together with options of a search
+/// - `solve` asks for symmetries by a word other than the two
+/// - two documents are to be read from standard input
 pub fn order(alloc: Global, words: &[String]) -> Result<Order, WordsFault>
     ensures order { IfOk result (IsOrder (map string_bytes words.now)) }
 
-    // Words that `clap` takes are refused for want of memory, or since they don't go together, and others by a kind that
-    // it has for them.
+    // Words that `clap` takes are refused where memory is refused or they don't go together; other words are refused
+    // with the kind of fault that `clap` has for them.
     ensures refused { IfErr result (IsRefused (map string_bytes words.now)) }
 {
     let matches = program(alloc)?.try_get_matches_from(words)?;
@@ -589,7 +593,7 @@ pub fn order(alloc: Global, words: &[String]) -> Result<Order, WordsFault>
     order_of(alloc, name, matches)
 }
 
-// What the matches of the command of this name order.
+// The order of the matches of the command with this name.
 fn order_of(alloc: Global, name: &str, matches: &ArgMatches<'_>) -> Result<Order, WordsFault>
     requires { AreMatchesOf name.now (rows_of (found_of matches.now)) }
     ensures order { IfOk result (IsOrderOf (Some (name.now, rows_of (found_of matches.now)))) }

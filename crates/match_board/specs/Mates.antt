@@ -32,9 +32,9 @@ unmated = record { version = 1; mates = [] }
 abbrev pub mated : List ℕ → Mating
 mated mates = record { version = 2; mates = mates }
 
--- There are two versions, and the first has no mates.
+-- There are three versions, and the first has no mates.
 abbrev pub IsOfVersion : Mating → Type 0
-IsOfVersion m = ((m.version ≡ 1) × (m.mates ≡ [])) ⊎ (m.version ≡ 2)
+IsOfVersion m = ((m.version ≡ 1) × (m.mates ≡ [])) ⊎ (m.version ≡ 2) ⊎ (m.version ≡ 3)
 
 -- a version, with its mates
 pub record IsMating (m : Mating) : Type 0 where

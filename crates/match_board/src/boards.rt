@@ -210,8 +210,8 @@ impl Board {
         count
     }
 
-    // How many border pairs the cell has.
-    fn border_sides(&self, cell: u16) -> u16
+    /// How many border pairs the cell has.
+    pub fn border_sides(&self, cell: u16) -> u16
         requires { cell < cell_count self.now }
         ensures few { result ≤ 4 }
         ensures counts { (before : List (ℕ × ℕ)) → IsBorderBefore self.now (cell, 0) before
@@ -228,8 +228,8 @@ impl Board {
         count
     }
 
-    // Whether the side of the cell meets nothing.
-    fn is_border(&self, cell: u16, side: u8) -> bool
+    /// Whether the side of the cell meets nothing.
+    pub fn is_border(&self, cell: u16, side: u8) -> bool
         requires cell { cell < cell_count self.now }
         requires side { side < side_count self.now }
         ensures { MatchBool result

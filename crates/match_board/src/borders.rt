@@ -76,7 +76,7 @@ impl BorderRules {
 }
 
 // The first place that asks for no colour that there is.
-fn first_bad_colour(rules: &[Option<u8>]) -> Option<u32>
+pub(crate) fn first_bad_colour(rules: &[Option<u8>]) -> Option<u32>
     requires { length rules.now < 2 ^ 32 }
     ensures { MatchOption result
         ((place colour : ℕ) → slice_get rules.now place ≡ Some (Some colour) → colour < MOST_COLOURS)
@@ -93,7 +93,7 @@ fn first_bad_colour(rules: &[Option<u8>]) -> Option<u32>
 }
 
 // One more than the greatest colour of the rules.
-fn colour_count_of(rules: &[Option<u8>]) -> u8
+pub(crate) fn colour_count_of(rules: &[Option<u8>]) -> u8
     requires { (place colour : ℕ) → slice_get rules.now place ≡ Some (Some colour) → colour < MOST_COLOURS }
     ensures above { (place colour : ℕ) → slice_get rules.now place ≡ Some (Some colour) → colour < result }
     ensures least { (other : ℕ) → ((place colour : ℕ) → slice_get rules.now place ≡ Some (Some colour) → colour < other)

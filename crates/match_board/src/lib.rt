@@ -1,9 +1,10 @@
-//! Boards, their borders, tiles, mates of colours, and where a symmetry takes all of these.
+//! Boards, their borders, tiles, mates of colours, clues, and where a symmetry takes all of these.
 #![tactic(auto)]
 
 mod boards;
 mod borders;
 mod classes;
+mod clues;
 mod figures;
 mod first_sides;
 mod hexagons;
@@ -18,6 +19,7 @@ mod triangles;
 pub use boards::{Board, BoardFault};
 pub use borders::{Border, BorderRules};
 pub use classes::{TilesFault, all_tiles};
+pub use clues::Clue;
 pub use figures::Figure;
 pub use first_sides::first_side;
 pub use laws::{second_form_is_alike, shapes_are_known_by_their_cells};

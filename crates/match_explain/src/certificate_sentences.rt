@@ -47,9 +47,21 @@ fn edge_sentence(alloc: Global, puzzle: &Puzzle, at: CellSide) -> Result<String,
 fn border_sentence(alloc: Global, puzzle: &Puzzle, at: CellSide) -> Result<String, AllocError> {
     let name = at.name(puzzle);
     let cell = at.cell;
+    let (asks, asked) = askers(puzzle, at);
     format!(in alloc;
-        "what the border asks of the {name} of cell {cell} does not go to what it asks of its image"
+        "what {asks} of the {name} of cell {cell} does not go to what {asked} of its image"
     )
+}
+
+// Who may ask the side for a colour, as a sentence begins and as it goes on: clues alone, where it meets another.
+fn askers(puzzle: &Puzzle, at: CellSide) -> (&'static str, &'static str) {
+    if puzzle.clues().is_empty() {
+        ("the border asks", "it asks")
+    } else if at.met(puzzle).is_some() {
+        ("clues ask", "they ask")
+    } else {
+        ("the border and clues ask", "they ask")
+    }
 }
 
 // What is wrong with pairs that are no prefix. Where they have no such fault, that is named alone.

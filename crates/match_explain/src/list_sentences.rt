@@ -89,6 +89,11 @@ impl<'a> Listed<'a> {
         let Some(shown) = at.shown(self.puzzle, self.placements) else {
             return Ok(None);
         };
+        let asker = if at.is_clued(self.puzzle) {
+            "a clue"
+        } else {
+            "the border"
+        };
         let CellSide { cell, .. } = at;
         let (side, shown, asked) = (
             at.name(self.puzzle),
@@ -96,7 +101,7 @@ impl<'a> Listed<'a> {
             letter(u32::from(asked)),
         );
         let sentence = format!(in alloc;
-            "cell {cell} shows {shown} on its {side}, where the border asks for {asked}"
+            "cell {cell} shows {shown} on its {side}, where {asker} asks for {asked}"
         )?;
         Ok(Some(sentence))
     }

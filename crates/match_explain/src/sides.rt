@@ -4,7 +4,7 @@ ghost use Rattle.std.specs.Prelude.{◌<◌, IfSome};
 ghost use Rattle.match_board.specs.Board.{cell_count, side_count};
 ghost use Rattle.match_limits.specs.declared.TheConstants.{MOST_COLOURS};
 
-use match_board::Figure;
+use match_board::{Clue, Figure};
 use match_puzzle::{Placement, Puzzle};
 
 // A side of a cell, as faults name it.
@@ -47,10 +47,20 @@ impl CellSide {
         }
     }
 
-    // What the border asks of it.
+    // What the border or a clue asks of it.
     pub(crate) fn rule(self, puzzle: &Puzzle) -> Option<u8> {
         let (cell, side) = self.on_board(puzzle)?;
         puzzle.rule(cell, side)
+    }
+
+    // Whether a clue asks it for a colour.
+    pub(crate) fn is_clued(self, puzzle: &Puzzle) -> bool {
+        for clue in puzzle.clues() {
+            if u32::from(clue.cell()) == self.cell && asks_side(clue, self.side) {
+                return true;
+            }
+        }
+        false
     }
 
     // The side that it meets.
@@ -74,6 +84,14 @@ impl CellSide {
         } else {
             None
         }
+    }
+}
+
+// Whether the clue asks the side with this number for a colour.
+fn asks_side(clue: &Clue, side: u32) -> bool {
+    match u8::try_from(side) {
+        Ok(side) if side < clue.sides() => clue.asks(side).is_some(),
+        _ => false,
     }
 }
 

@@ -120,7 +120,7 @@ module _ (p : Task) (q : Prefix) (x : Pair) (side cell met asked : ℕ) (kept ro
       let tile_in = f.fits.legal.tile in
       let long = are.puzzle.sides (n / 4) tile_in in
       let met_in = side_in_range (Meets-turned are.meets) in
-      w.1 (are.showing.all n (tile_in, λ below. (omega (arith, long, met_in), f.beside side met (omega arith) are.meets ∙ sym are.mate)))
+      w.1 (are.showing.all n (tile_in, λ some. (omega (arith, long, met_in), f.beside side met (omega arith) are.meets ∙ sym are.mate)))
 
   -- a number of what fits beside the sides before, and doesn't show what is asked, is gone
   other_gone : (n : ℕ) → FitsBeside p q x side (numbered_pair (Cell cell) n) → colour_of p (numbered n) met ≢ asked → Contains gone n
@@ -134,7 +134,7 @@ module _ (p : Task) (q : Prefix) (x : Pair) (side cell met asked : ℕ) (kept ro
             shows = shown_fits p q cell (numbered n) f.fits;
             beside = f.beside;
           }),
-          λ k. differs ((are.showing.only n k).1 are.few).1,
+          λ k. let few = are.few in differs ((are.showing.only n k).1 (λ any. omega (arith, few, any))).1,
           are.are_free.all n (f.fits.legal, f.fits.unused),
         ),
         f.other_tile,

@@ -29,7 +29,7 @@ module _ (p : Task) (q : Prefix) (cell : ℕ) where
   -- a side of which something is asked is one of four
   pub asked_side : (side colour : ℕ) → IsAsked p q cell side colour → side < 4
   asked_side side colour asked =
-      ⊎_elim (λ rule. let lt = rule.border_pair.side_in in omega (arith, lt, few_sides p.board)) (λ w. let lt = side_in_range w.3 in omega (arith, lt, few_sides p.board)) asked
+      ⊎_elim (λ rule. let lt = rule.side_in in omega (arith, lt, few_sides p.board)) (λ w. let lt = side_in_range w.3 in omega (arith, lt, few_sides p.board)) asked
 
   -- the legal numbers that show what is asked on each side
   pub row_common : (legal first second third fourth common : List ℕ) → AreLegalNumbers p legal → AreAsAsked p q cell 0 first → AreAsAsked p q cell 1 second → AreAsAsked p q cell 2 third → AreAsAsked p q cell 3 fourth → IsFree q cell →
@@ -197,10 +197,10 @@ module _ (p : Task) (q : Prefix) (x : Pair) (side : ℕ) where
       let lt : cell < length rows = omega (arith, long, cell_in) in
       let old = are.is cell cell_in in
       let here : IsListing ◌<◌ (StandsBeside p q x (side + 1) cell) row = listing_as ◌<◌ (λ n. Contains (get_or rows cell []) n × Contains kept n) (StandsBeside p q x (side + 1) cell) row
-      (λ n h. beside_more cell n (λ k m. subst (λ j. colour_of p (numbered n) j ≡ mate_of p (colour_of p x.placement side)) (sym (one cell k m).1) (((showing.only n h.1).1 few).1 ∙ mate)) (old.only n h.0))
+      (λ n h. beside_more cell n (λ k m. subst (λ j. colour_of p (numbered n) j ≡ mate_of p (colour_of p x.placement side)) (sym (one cell k m).1) (((showing.only n h.1).1 (λ any. omega (arith, few, any))).1 ∙ mate)) (old.only n h.0))
       (λ n s. (
         old.all n (beside_less cell n s),
-        showing.all n (s.legal.tile, λ below. (let word_long = puzzle.sides (n / 4) s.legal.tile in omega (arith, word_long, met_in), s.beside side met (omega arith) meets ∙ sym mate)),
+        showing.all n (s.legal.tile, λ some. (let word_long = puzzle.sides (n / 4) s.legal.tile in omega (arith, word_long, met_in), s.beside side met (omega arith) meets ∙ sym mate)),
       ))
       both in
       record {

@@ -1,6 +1,7 @@
 //! What has to be changed in a text with a fault.
 #![tactic(auto)]
 
+mod clue_hints;
 mod documents;
 mod line_forms;
 mod puzzle_hints;

@@ -16,11 +16,11 @@ pub(crate) fn form_of(document: Document, opening: &[u8]) -> Option<&'static str
 // What is said where a word stands, by the word.
 type Said = (&'static [u8], &'static str);
 
-const FORMS_IN_PUZZLE: [Said; 8] = [
-    (b"match", "match 1, or match 2"),
+const FORMS_IN_PUZZLE: [Said; 10] = [
+    (b"match", "match 1, match 2, or match 3"),
     (
         b"board",
-        "board rect W H, board triangle S, board hexagon S, or in \"match 2\" board shape W H",
+        "board rect W H, board triangle S, board hexagon S, or in \"match 2\" and \"match 3\" board shape W H",
     ),
     (
         b"row",
@@ -34,6 +34,11 @@ const FORMS_IN_PUZZLE: [Said; 8] = [
     (
         b"mates",
         "mates, and for each colour the one that it goes with, or nothing more",
+    ),
+    (b"clues", "clues K, with how many lines of clues follow"),
+    (
+        b"clue",
+        "clue C WORD, with the number of a cell, and a colour 0-9 a-z or - for each of its sides",
     ),
     (b"tiles", "tiles N, with how many lines of tiles follow"),
     (b"tile", "tile WORD, with a colour 0-9 a-z for each side"),
@@ -74,20 +79,19 @@ fn said_of(rows: &[Said], word: &[u8]) -> Option<&'static str> {
     None
 }
 
-// What the word that stands there says of the mistake, where something else was asked for. A puzzle's version may be the
-// first.
+// What the word that stands there says of the mistake, where something else was asked for. A puzzle has a version.
 pub(crate) fn mistake(
     missed: Option<Asked>,
     spot: &Spot<'_>,
-    is_first: bool,
+    version: Option<u8>,
 ) -> Option<&'static str> {
     let word = spot.word?;
     match missed? {
         Asked::Word(wanted) => opening_mistake(wanted, word)
-            .or(version_mistake(wanted, word, is_first))
+            .or(version_mistake(wanted, word, version))
             .or(count_mistake(spot.document, wanted, word)),
-        Asked::OneOf(_) if is_first && word == b"shape".as_slice() => {
-            Some("a board \"shape\" stands in \"match 2\" alone")
+        Asked::OneOf(_) if version == Some(1) && word == b"shape".as_slice() => {
+            Some("a board \"shape\" stands in \"match 2\" and \"match 3\" alone")
         }
         Asked::Placement { .. } if spot.word_number == 1 && word == b"end".as_slice() => {
             Some("fewer lines stand there than the line \"arrangements\" says")
@@ -97,8 +101,8 @@ pub(crate) fn mistake(
     }
 }
 
-// What the way a word is written says of the mistake: a comment, a tile's colours with spaces between them, or a width
-// and a height in one word.
+// What the way a word is written says of the mistake: a comment, the colours of a tile or a clue with spaces between
+// them, or a width and a height in one word.
 pub(crate) fn spelling_mistake(spot: &Spot<'_>, missed: Option<Asked>) -> Option<&'static str> {
     let word = spot.word?;
     let asks_for_row = matches!(missed, Some(Asked::Row { .. }));
@@ -107,6 +111,9 @@ pub(crate) fn spelling_mistake(spot: &Spot<'_>, missed: Option<Asked>) -> Option
     }
     if matches!(missed, Some(Asked::Tile)) && word.len() < 3 && spot.has_more_words() {
         return Some("the colours of a tile are one word, with no space between them");
+    }
+    if matches!(missed, Some(Asked::Clue)) && word.len() < 3 && spot.has_more_words() {
+        return Some("what a clue asks for is one word, with no space in it");
     }
     if spot.opening() == b"board".as_slice() && is_width_by_height(word) {
         return Some("width and height are two words, as in board rect 3 3");
@@ -126,25 +133,25 @@ fn is_width_by_height(word: &[u8]) -> bool {
     numbers == 2
 }
 
-// The first word of the lines of which there are more or fewer than a line before them says. A puzzle's version may be
-// the first.
+// The first word of the lines of which there are more or fewer than a line before them says. A puzzle has a version.
 pub(crate) fn counted_lines(
     missed: Option<Asked>,
     spot: &Spot<'_>,
-    is_first: bool,
+    version: Option<u8>,
 ) -> Option<&'static str> {
     let (Some(Asked::Word(wanted)), Some(word)) = (missed, spot.word) else {
         return None;
     };
-    if version_mistake(wanted, word, is_first).is_some() {
+    if version_mistake(wanted, word, version).is_some() {
         return None;
     }
     said_of_two(&MISTAKES_OF_COUNTS, wanted, word)?;
     said_of(&COUNTED_LINES, wanted).or(said_of(&COUNTED_LINES, word))
 }
 
-const COUNTED_LINES: [Said; 4] = [
+const COUNTED_LINES: [Said; 5] = [
     (b"row", "row"),
+    (b"clue", "clue"),
     (b"tile", "tile"),
     (b"symmetry", "symmetry"),
     (b"lemma", "lemma"),
@@ -186,32 +193,54 @@ fn said_of_two(rows: &[SaidOfTwo], wanted: &[u8], word: &[u8]) -> Option<&'stati
     None
 }
 
-const MISTAKES_IN_THE_FIRST: [SaidOfTwo; 2] = [
+const LINES_AFTER_THE_FIRST: [SaidOfTwo; 2] = [
     (
         b"tiles",
         b"mates",
-        "a line \"mates\" stands in \"match 2\" alone",
+        "a line \"mates\" stands in \"match 2\" and \"match 3\" alone",
     ),
     (
         b"turns",
         b"row",
-        "a line \"row\" stands in \"match 2\" alone",
+        "a line \"row\" stands in \"match 2\" and \"match 3\" alone",
     ),
 ];
 
-// A line that the other version of a puzzle has, or one that is missing in this version.
-fn version_mistake(wanted: &[u8], word: &[u8], is_first: bool) -> Option<&'static str> {
-    if wanted == b"mates".as_slice() && word == b"tiles".as_slice() {
-        return Some("the line \"mates\" alone is enough where equal colours meet");
-    }
-    if is_first {
-        said_of_two(&MISTAKES_IN_THE_FIRST, wanted, word)
-    } else {
-        None
-    }
+const LINES_OF_THE_THIRD: [Said; 2] = [
+    (b"clues", "a line \"clues\" stands in \"match 3\" alone"),
+    (b"clue", "a line \"clue\" stands in \"match 3\" alone"),
+];
+
+const LINES_LEFT_OUT: [SaidOfTwo; 3] = [
+    (
+        b"mates",
+        b"tiles",
+        "the line \"mates\" alone is enough where equal colours meet",
+    ),
+    (
+        b"mates",
+        b"clues",
+        "the line \"mates\" alone is enough where equal colours meet",
+    ),
+    (
+        b"clues",
+        b"tiles",
+        "the line \"clues 0\" is enough where there are no clues",
+    ),
+];
+
+// A line that only later versions of a puzzle have, or one that is missing in this version.
+fn version_mistake(wanted: &[u8], word: &[u8], version: Option<u8>) -> Option<&'static str> {
+    let of_third = said_of(&LINES_OF_THE_THIRD, word);
+    let of_later = match version? {
+        1 => said_of_two(&LINES_AFTER_THE_FIRST, wanted, word).or(of_third),
+        2 => of_third,
+        _ => None,
+    };
+    of_later.or(said_of_two(&LINES_LEFT_OUT, wanted, word))
 }
 
-const MISTAKES_OF_COUNTS: [SaidOfTwo; 8] = [
+const MISTAKES_OF_COUNTS: [SaidOfTwo; 10] = [
     (
         b"row",
         b"turns",
@@ -221,6 +250,16 @@ const MISTAKES_OF_COUNTS: [SaidOfTwo; 8] = [
         b"turns",
         b"row",
         "more lines \"row\" stand there than the line \"board\" says",
+    ),
+    (
+        b"clue",
+        b"tiles",
+        "fewer lines \"clue\" stand there than the line \"clues\" says",
+    ),
+    (
+        b"tiles",
+        b"clue",
+        "more lines \"clue\" stand there than the line \"clues\" says",
     ),
     (
         b"tile",

@@ -2,6 +2,7 @@
 
 ghost use Rattle.std.specs.Prelude.{◌≡◌};
 
+use crate::clue_hints::clue_hint;
 use crate::documents::Document;
 use crate::text_hints::text_hint;
 use match_board::{Board, BoardFault, Tile};
@@ -88,16 +89,23 @@ fn board_hint(
     } else {
         MOST_PLAIN_CELLS
     };
-    let is_rectangle = matches!(text.board, BoardLine::Rectangle { .. });
-    let further = if is_rectangle && cells > usize::from(most) && cells <= usize::from(MOST_CELLS) {
-        "; a board \"shape\" in \"match 2\" may have up to 256"
-    } else {
-        ""
-    };
+    let further = shape_note(text, cells);
     let hint = format!(in alloc;
         "the board of puzzle line 2 has {cells} cells: 1 to {most} are allowed{further}"
     )?;
     Ok(Some(hint))
+}
+
+// That a shape may have so many cells, where a rectangle may not.
+fn shape_note(text: &PuzzleText, cells: usize) -> &'static str {
+    let is_rectangle = matches!(text.board, BoardLine::Rectangle { .. });
+    if !is_rectangle || cells <= usize::from(MOST_PLAIN_CELLS) || cells > usize::from(MOST_CELLS) {
+        ""
+    } else if text.version == 3 {
+        "; a board \"shape\" may have up to 256"
+    } else {
+        "; a board \"shape\" in \"match 2\" may have up to 256"
+    }
 }
 
 impl Said {
@@ -118,6 +126,15 @@ impl Said {
             PuzzleFault::TileSides(tile) => self.sides_hint(alloc, board, tile as usize),
             PuzzleFault::BorderLength => self.border_hint(alloc, board),
             PuzzleFault::Mates(colour) => self.mates_hint(alloc, colour),
+            PuzzleFault::Clue(number) => {
+                clue_hint(
+                    alloc,
+                    &self.text,
+                    board,
+                    number as usize,
+                    self.first_clue_line(),
+                )
+            }
             PuzzleFault::BadColour(_) | PuzzleFault::Memory => Ok(None),
         }
     }
@@ -133,12 +150,22 @@ impl Said {
     }
 
     // The line of the first tile. Before it stand those of the version, the board, rows, turns, the border and the count,
-    // and in version 2 of mates.
+    // from version 2 on one of mates, and in version 3 those of clues with their count.
     fn first_tile_line(&self) -> usize {
-        let further = if self.text.version == 1 { 0 } else { 1 };
+        let further = match self.text.version {
+            1 => 0,
+            2 => 1,
+            _ => self.text.clues.len().saturating_add(2),
+        };
         rows_of(&self.text)
             .saturating_add(6)
             .saturating_add(further)
+    }
+
+    // The line of the first clue, where there is one. Before it stand those of the version, the board, rows, turns, the
+    // border, mates and the count.
+    fn first_clue_line(&self) -> usize {
+        rows_of(&self.text).saturating_add(7)
     }
 
     fn sides_hint(

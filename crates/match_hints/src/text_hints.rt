@@ -141,9 +141,9 @@ fn put_remarks(
 ) -> Result<(), AllocError> {
     put_characters(hint, spot, missed)?;
     put_note(hint, spelling_mistake(spot, missed))?;
-    let is_first = text.starts_with(b"match 1\n");
-    put_note(hint, mistake(missed, spot, is_first))?;
-    put_line_count(alloc, hint, text, counted_lines(missed, spot, is_first))?;
+    let version = puzzle_version(text);
+    put_note(hint, mistake(missed, spot, version))?;
+    put_line_count(alloc, hint, text, counted_lines(missed, spot, version))?;
     put_note(hint, tree_mistake(spot, missed))?;
     match node_of(spot, missed) {
         _ if spot.has_empty_word() => {}
@@ -151,6 +151,19 @@ fn put_remarks(
         None => put_form(alloc, hint, "line", form_at(spot, missed))?,
     }
     put_line_notes(hint, spot)
+}
+
+// The version of the puzzle that the text is of; none of the text of a list or a certificate.
+fn puzzle_version(text: &[u8]) -> Option<u8> {
+    if text.starts_with(b"match 1\n") {
+        Some(1)
+    } else if text.starts_with(b"match 2\n") {
+        Some(2)
+    } else if text.starts_with(b"match 3\n") {
+        Some(3)
+    } else {
+        None
+    }
 }
 
 // The node that the word is in, or would begin; none where it is in none.
@@ -235,13 +248,20 @@ fn wanted(alloc: Global, asked: Asked) -> Result<String, AllocError> {
     match asked {
         Asked::Word(word) => quoted(alloc, word),
         Asked::OneOf(words) => String::from_str(alloc, words),
-        Asked::Version => String::from_str(alloc, "1 or 2 (the version)"),
+        Asked::Version { last } if last == 3 => {
+            String::from_str(alloc, "1, 2, or 3 (the version)")
+        }
+        Asked::Version { .. } => String::from_str(alloc, "1 or 2 (the version)"),
         Asked::Number { least, most } => format!(in alloc; "a number from {least} to {most}"),
         Asked::Colour => String::from_str(alloc, "a colour (0-9 or a-z)"),
         Asked::Rule => String::from_str(alloc, "a colour (0-9 or a-z) or -"),
         Asked::Tile => String::from_str(
             alloc,
             "a tile: a colour 0-9 a-z for each of its 3 or 4 sides",
+        ),
+        Asked::Clue => String::from_str(
+            alloc,
+            "what the clue asks for: a colour 0-9 a-z or - for each of the cell's 3 or 4 sides",
         ),
         Asked::Row { width } => {
             format!(in alloc; "a row: # for a cell or . for none at each place; places: {width}")
@@ -298,7 +318,10 @@ fn put_characters(
     let Some(word) = spot.word else {
         return Ok(());
     };
-    let has_colours = matches!(missed, Some(Asked::Colour | Asked::Rule | Asked::Tile));
+    let has_colours = matches!(
+        missed,
+        Some(Asked::Colour | Asked::Rule | Asked::Tile | Asked::Clue)
+    );
     if has_colours && word.iter().any(|byte| byte.is_ascii_uppercase()) {
         hint.push_str("; capital letters are no colours")?;
     }

@@ -6,7 +6,7 @@ use Rattle.picture_parts.specs.Arrows.{AreTileLines}
 use Rattle.picture_parts.specs.Elements.{AreBandLines}
 use Rattle.picture_parts.specs.declared.canvases.Site.{Site}
 use Rattle.match_picture.specs.Grown.{Grows, IsWrapped, Wraps}
-use Rattle.match_picture.specs.Pictures.{AreUnturned, IsArrangementPicture, IsPuzzlePicture}
+use Rattle.match_picture.specs.Pictures.{AreUnturned, IsArrangementPicture, IsEmptyBoard, IsPuzzlePicture}
 use Rattle.match_picture.specs.Sites.{AreSites}
 
 -- what two pieces leave, and what is written behind them
@@ -32,14 +32,14 @@ pictured p a sites t0 t1 t2 last are w v = record {
   written = two_pieces last w.2 v.2;
 }
 
-pub puzzle_pictured : (p : Task) (xs : List Placement) (sites tray : List Site) (left tray_left tray_top : ℕ) (t0 t1 t2 last : List ℕ) → AreSites p.board sites → length tray ≡ length xs → AreUnturned (length p.words) xs → Wraps (AreBandLines p left 40 sites) t0 t1 → Wraps (AreTileLines p tray_left tray_top tray xs) t1 t2 → IsPuzzlePicture p (t2 ++ last)
+pub puzzle_pictured : (p : Task) (xs : List Placement) (sites tray : List Site) (left tray_left tray_top : ℕ) (t0 t1 t2 last : List ℕ) → AreSites p.board sites → length tray ≡ length xs → AreUnturned (length p.words) xs → Wraps (IsEmptyBoard p left 40 sites) t0 t1 → Wraps (AreTileLines p tray_left tray_top tray xs) t1 t2 → IsPuzzlePicture p (t2 ++ last)
 puzzle_pictured p xs sites tray left tray_left tray_top t0 t1 t2 last are room unturned w v = record {
   left = left;
   sites = sites;
   are_sites = are;
   before = t0 ++ w.2.front;
-  bands = w.0;
-  are_bands = w.1;
+  board = w.0;
+  is_board = w.1;
   between = w.2.back ++ v.2.front;
   tray_left = tray_left;
   tray_top = tray_top;

@@ -3,14 +3,15 @@ use Rattle.std.specs.Prelude.{◌≡◌, ◌++◌, ℕ, List, Some, length, slic
 use Rattle.match_puzzle.specs.Puzzle.{Task}
 use Rattle.match_puzzle.specs.declared.placements.Placement.{Placement}
 use Rattle.picture_parts.specs.Arrows.{AreTileLines}
+use Rattle.picture_parts.specs.Clued.{ShowsClues}
 use Rattle.picture_parts.specs.Elements.{AreBandLines}
 use Rattle.picture_parts.specs.Joined.{IsJoined}
 use Rattle.picture_parts.specs.declared.canvases.Site.{Site}
 use Rattle.match_picture.specs.Sites.{AreSites}
 
--- A picture of an arrangement: the board begins 40 right of and below its corner; bands where the border asks for a
--- colour, and then a part for each side of each cell, in the order of cells and sides, with the colour that is shown
--- there; behind the parts an arrow for each cell, where tiles may not be turned.
+-- A picture of an arrangement: the board begins 40 right of and below its corner; bands where the border or a clue asks
+-- for a colour of an outer side, and then a part for each side of each cell, in the order of cells and sides, with the
+-- colour that is shown there; behind the parts an arrow for each cell, where tiles may not be turned.
 pub record IsArrangementPicture (p : Task) (a : List Placement) (text : List ℕ) : Type 0 where
   pub sites : List Site
   pub are_sites : AreSites p.board sites
@@ -28,16 +29,25 @@ pub record AreUnturned (count : ℕ) (xs : List Placement) : Type 0 where
   pub many : length xs ≡ count
   pub tiles : (tile : ℕ) (x : Placement) → slice_get xs tile ≡ Some x → (x.tile ≡ tile) × (x.turn ≡ 0)
 
--- A picture of a puzzle: bands where the border asks for a colour, along the empty board, and then a part for each side
--- of each tile, in order, unturned, with the colour that it has there; behind the parts an arrow for each tile, where
--- tiles may not be turned.
+-- An empty board: bands where the border or a clue asks for a colour of an outer side, and behind these, in the cells,
+-- what clues ask for.
+pub record IsEmptyBoard (p : Task) (left top : ℕ) (sites : List Site) (text : List ℕ) : Type 0 where
+  pub bands : List ℕ
+  pub are_bands : AreBandLines p left top sites bands
+  pub between : List ℕ
+  pub clues : List ℕ
+  pub are_clues : ShowsClues p left top sites clues
+  pub written : text ≡ bands ++ between ++ clues
+
+-- A picture of a puzzle: the empty board, and then a part for each side of each tile, in order, unturned, with the colour
+-- that it has there; behind the parts an arrow for each tile, where tiles may not be turned.
 pub record IsPuzzlePicture (p : Task) (text : List ℕ) : Type 0 where
   pub left : ℕ
   pub sites : List Site
   pub are_sites : AreSites p.board sites
   pub before : List ℕ
-  pub bands : List ℕ
-  pub are_bands : AreBandLines p left 40 sites bands
+  pub board : List ℕ
+  pub is_board : IsEmptyBoard p left 40 sites board
   pub between : List ℕ
   pub tray_left : ℕ
   pub tray_top : ℕ
@@ -48,7 +58,7 @@ pub record IsPuzzlePicture (p : Task) (text : List ℕ) : Type 0 where
   pub parts : List ℕ
   pub are_parts : AreTileLines p tray_left tray_top tray tiles parts
   pub after : List ℕ
-  pub written : text ≡ before ++ bands ++ between ++ parts ++ after
+  pub written : text ≡ before ++ board ++ between ++ parts ++ after
 
 -- a picture of the arrangement that is listed at this place
 abbrev pub IsPictureAt : Task → List (List Placement) → (n : ℕ) → List ℕ → Type 0

@@ -10,8 +10,12 @@ use match_puzzle::Puzzle;
 use picture_parts::{Canvas, Edge, asked, edge_of, number};
 use std::alloc::{AllocError, Global};
 
-/// Writes the outline of each cell, with the edges that the border asks of its tile, and the cells' numbers.
-pub fn put_cells(alloc: Global, text: &mut Vec<u8>, canvas: &Canvas<'_>) -> Result<(), AllocError>
+/// Writes the outline of each cell, with the edges that are asked of its tile.
+pub fn put_outlines(
+    alloc: Global,
+    text: &mut Vec<u8>,
+    canvas: &Canvas<'_>,
+) -> Result<(), AllocError>
     requires { length canvas.now.sites.items ≡ cell_count canvas.now.puzzle.now.board }
     ensures { OnOk result (Grows text.old.items text.new.items) }
 {
@@ -21,6 +25,14 @@ pub fn put_cells(alloc: Global, text: &mut Vec<u8>, canvas: &Canvas<'_>) -> Resu
         b"fill=\"#f6f6f6\" stroke=\"#999\" stroke-linejoin=\"round\"",
         &outlines,
     )?;
+    Ok(())
+}
+
+/// Writes the number of each cell.
+pub fn put_numbers(alloc: Global, text: &mut Vec<u8>, canvas: &Canvas<'_>) -> Result<(), AllocError>
+    requires { length canvas.now.sites.items ≡ cell_count canvas.now.puzzle.now.board }
+    ensures { OnOk result (Grows text.old.items text.new.items) }
+{
     let numbers = number_lines(alloc, canvas)?;
     put_group(
         text,
@@ -57,7 +69,7 @@ fn number_lines(alloc: Global, canvas: &Canvas<'_>) -> Result<Vec<u8>, AllocErro
     Ok(lines)
 }
 
-// The edges that the border asks of a tile at the cell; a side of which it asks nothing is drawn straight.
+// The edges that the border and a clue ask of a tile at the cell; a side of which nothing is asked is drawn straight.
 fn edges_asked(puzzle: &Puzzle, cell: u16) -> [Edge; 4]
     requires { cell < cell_count puzzle.now.board }
 {

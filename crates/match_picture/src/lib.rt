@@ -2,6 +2,7 @@
 #![tactic(auto)]
 
 mod cells;
+mod clued_cells;
 mod descriptions;
 mod documents;
 mod elements;

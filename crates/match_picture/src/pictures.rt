@@ -2,15 +2,15 @@
 
 ghost use Rattle.std.specs.Prelude.{◌≡◌, ◌<◌, ◌≤◌, ◌^◌, List, All, IfOk, OnOk, length};
 ghost use Rattle.picture_parts.specs.Arrows.{AreTileLines};
-ghost use Rattle.picture_parts.specs.Elements.{AreBandLines};
 ghost use Rattle.picture_parts.specs.declared.canvases.Site.{Site};
 ghost use Rattle.match_picture.specs.Grown.{Wraps};
-ghost use Rattle.match_picture.specs.Pictures.{AreUnturned, IsArrangementPicture, IsPuzzlePicture};
+ghost use Rattle.match_picture.specs.Pictures.{AreUnturned, IsArrangementPicture, IsEmptyBoard, IsPuzzlePicture};
 ghost use Rattle.match_picture.specs.Sites.{AreSites};
 ghost use Rattle.match_puzzle.specs.Arrangement.{IsArrangement};
 ghost use Rattle.match_puzzle.specs.declared.placements.Placement.{Placement};
 
-use crate::cells::put_cells;
+use crate::cells::{put_numbers, put_outlines};
+use crate::clued_cells::put_clues;
 use crate::descriptions::{describe_arrangement, describe_tiles};
 use crate::documents::{END, begin_picture, board_words};
 use crate::signed_bands::put_bands;
@@ -87,7 +87,7 @@ pub fn draw_arrangement(
     Ok(text)
 }
 
-/// The empty board of a puzzle as a picture, with the colours that the border asks for, and each tile below.
+/// The empty board of a puzzle as a picture, with the colours that the border and clues ask for, and each tile below.
 pub fn write_puzzle_picture(alloc: Global, puzzle: &Puzzle) -> Result<Vec<u8>, AllocError>
     ensures { IfOk result (λ text. IsPuzzlePicture puzzle.now text.items) }
 {
@@ -139,7 +139,7 @@ fn begin_puzzle(alloc: Global, puzzle: &Puzzle, layout: &Layout) -> Result<Vec<u
     )
 }
 
-// The bands and the cells of the board, so far from the left edge.
+// The bands and the cells of the board, so far from the left edge, with what clues ask for in these.
 fn put_empty_board(
     alloc: Global,
     text: &mut Vec<u8>,
@@ -147,11 +147,13 @@ fn put_empty_board(
     left: u32,
 ) -> Result<(), AllocError>
     ensures { OnOk result ((sites : List Site) × AreSites puzzle.now.board sites
-        × Wraps (AreBandLines puzzle.now left 40 sites) text.old.items text.new.items) }
+        × Wraps (IsEmptyBoard puzzle.now left 40 sites) text.old.items text.new.items) }
 {
     let canvas = board_canvas(alloc, puzzle, left)?;
     put_bands(alloc, text, &canvas, true)?;
-    put_cells(alloc, text, &canvas)?;
+    put_outlines(alloc, text, &canvas)?;
+    put_clues(alloc, text, &canvas)?;
+    put_numbers(alloc, text, &canvas)?;
     Ok(())
 }
 

@@ -8,11 +8,11 @@ ghost use Rattle.match_picture.specs.Grown.{Grows, Wraps};
 
 use crate::elements::{put_group, sign};
 use picture_parts::{
-    Canvas, Edge, Point, Site, Way, asked, band_lines, edge_of, put_ended, side_of,
+    Canvas, Edge, Point, Site, Way, asked_outside, band_lines, edge_of, put_ended, side_of,
 };
 use std::alloc::{AllocError, Global};
 
-/// Writes a band for each side of which the border asks for a colour, and their signs where they are wanted.
+/// Writes a band for each side that meets nothing where a colour is asked for, and their signs where they are wanted.
 pub fn put_bands(
     alloc: Global,
     text: &mut Vec<u8>,
@@ -69,7 +69,7 @@ fn sign_line(alloc: Global, canvas: &Canvas<'_>, cell: u16) -> Result<Vec<u8>, A
     let site = canvas.sites[usize::from(cell)];
     let mut line = Vec::new(alloc);
     for side in 0..canvas.puzzle.board().sides() {
-        if let Some(colour) = asked(canvas.puzzle, cell, side) {
+        if let Some(colour) = asked_outside(canvas.puzzle, cell, side) {
             let sign = band_sign(alloc, canvas, site, side, colour)?;
             line.extend_from_slice(sign.as_bytes())?;
         }

@@ -1,6 +1,7 @@
 //! Tiles as they lie on a board or in the tray.
 
 ghost use Rattle.std.specs.Prelude.{◌≡◌, ◌<◌, All, OnOk, length};
+ghost use Rattle.match_limits.specs.declared.TheConstants.{MOST_COLOURS};
 ghost use Rattle.picture_parts.specs.Arrows.{AreTileLines};
 ghost use Rattle.match_picture.specs.Grown.{Grows, Wraps};
 
@@ -113,7 +114,8 @@ fn put_signs(
     Ok(())
 }
 
-const SIGN_LETTERS: &[u8] =
+/// The letters of signs on tiles.
+pub const SIGN_LETTERS: &[u8] =
     b"font-family=\"monospace\" font-size=\"14\" text-anchor=\"middle\" font-weight=\"bold\"";
 
 // The number of each tile on a disc, where they are wanted.
@@ -215,18 +217,32 @@ fn put_tile_signs(
 {
     for side in 0..canvas.puzzle.board().sides() {
         let colour = canvas.puzzle.colour(placement, side);
-        let form_side = side_of(site.form, side);
-        let middle = match edge_of(canvas.puzzle, colour) {
-            Edge::Flat | Edge::Knob => form_side.sign,
-            Edge::Hollow => form_side.hollow_sign,
-        };
-        let sign = sign(alloc, canvas.puzzle, colour, canvas.point(site, middle))?;
+        let sign = side_sign(alloc, canvas, site, side, colour)?;
         line.extend_from_slice(sign.as_bytes())?;
     }
     Ok(())
 }
 
-fn put_disc(line: &mut Vec<u8>, canvas: &Canvas<'_>, site: Site) -> Result<(), AllocError> {
+/// The sign of the colour at a side of a tile, beside a hollow.
+pub fn side_sign(
+    alloc: Global,
+    canvas: &Canvas<'_>,
+    site: Site,
+    side: u8,
+    colour: u8,
+) -> Result<String, AllocError>
+    requires { colour < MOST_COLOURS }
+{
+    let form_side = side_of(site.form, side);
+    let middle = match edge_of(canvas.puzzle, colour) {
+        Edge::Flat | Edge::Knob => form_side.sign,
+        Edge::Hollow => form_side.hollow_sign,
+    };
+    sign(alloc, canvas.puzzle, colour, canvas.point(site, middle))
+}
+
+/// Writes a disc in the middle of the site.
+pub fn put_disc(line: &mut Vec<u8>, canvas: &Canvas<'_>, site: Site) -> Result<(), AllocError> {
     let at = canvas.point(site, middle(site.form));
     let radius = u64::from(disc_radius(site.form));
     put_numbered(

@@ -13,7 +13,7 @@ use Rattle.match_puzzle.specs.Puzzle.{Task, IsPuzzle, GoTogether, colour_of, mat
 use Rattle.match_puzzle.specs.Arrangement.{Stands, HaveTiles, AreLegal, StandOnce, ObeyBorder, MatchesEdgeAt, MatchEdges}
 use Rattle.match_puzzle.specs.ArrangementFaults.{ArrangementFails, arrangement_rank, IsArrangementFault, HasNoTileAt, HasNoTurnAt, RepeatsTileAt, BreaksBorderAt, BreaksEdgeAt}
 use Rattle.match_puzzle.specs.Tables.{IsSide}
-use Rattle.match_puzzle.specs.declared.tables.Side.TheVariants.{Border, Edge}
+use Rattle.match_puzzle.specs.declared.tables.Side.TheVariants.{Border}
 use Rattle.match_puzzle.specs.declared.placements.Placement.{Placement}
 use Rattle.match_puzzle.proofs.TogetherLemmas.{together_turned}
 use Rattle.match_limits.proofs.FirstLemmas.{sooner, not_after_itself, not_after_number, not_after_pair}
@@ -128,22 +128,22 @@ one_more_stands P a cell d before here =
     below_more (λ k. (x : Placement) → Stands a k x → P x) cell before (λ x stands. subst P (standing_is a cell x d stands) here)
 
 -- a side that meets another one
-pub edge_matches : (p : Task) (a : List Placement) (cell side cell' side' : ℕ) (d : Placement) → cell < length a → cell' < length a → IsSide p cell side (Edge cell' side') →
+pub edge_matches : (p : Task) (a : List Placement) (cell side cell' side' : ℕ) (d : Placement) → cell < length a → cell' < length a → Meets p.board cell side cell' side' → ((c k : ℕ) → Meets p.board cell side c k → (c ≡ cell') × (k ≡ side')) →
     (GoTogether p (colour_of p (get_or a cell d) side) (colour_of p (get_or a cell' d) side') → MatchesEdgeAt p a cell side)
     × ((GoTogether p (colour_of p (get_or a cell d) side) (colour_of p (get_or a cell' d) side') → ⊥) → BreaksEdgeAt p a cell side)
-edge_matches p a cell side cell' side' d lt lt' is = (
+edge_matches p a cell side cell' side' d lt lt' met one = (
   λ e c k x y meets here there.
-      let same = is.1 c k meets in
+      let same = one c k meets in
       let at : get_or a cell' d ≡ y = standing_is a cell' y d (subst (λ n. Stands a n y) same.0 there) in
       sym (ap (λ z. colour_of p z side) (standing_is a cell x d here)) ∙ e ∙ ap (λ z. mate_of p (colour_of p z side')) at ∙ ap (λ n. mate_of p (colour_of p y n)) (sym same.1),
-  λ ne. (get_or a cell d, cell', side', get_or a cell' d, read_stands a cell d lt, is.0, read_stands a cell' d lt', ne),
+  λ ne. (get_or a cell d, cell', side', get_or a cell' d, read_stands a cell d lt, met, read_stands a cell' d lt', ne),
 )
 
 -- a side that meets one that matches it
-pub matches_turned : (p : Task) → IsPuzzle p → (a : List Placement) (cell side cell' side' : ℕ) → IsSide p cell side (Edge cell' side') → MatchesEdgeAt p a cell' side' → MatchesEdgeAt p a cell side
-matches_turned p puzzle a cell side cell' side' is matches c k x y meets here there =
-    let same = is.1 c k meets in
-    let turned = matches cell side y x (Meets-turned is.0) (subst (λ n. Stands a n y) same.0 there) here in
+pub matches_turned : (p : Task) → IsPuzzle p → (a : List Placement) (cell side cell' side' : ℕ) → Meets p.board cell side cell' side' → ((c k : ℕ) → Meets p.board cell side c k → (c ≡ cell') × (k ≡ side')) → MatchesEdgeAt p a cell' side' → MatchesEdgeAt p a cell side
+matches_turned p puzzle a cell side cell' side' met one matches c k x y meets here there =
+    let same = one c k meets in
+    let turned = matches cell side y x (Meets-turned met) (subst (λ n. Stands a n y) same.0 there) here in
     together_turned p puzzle (colour_of p y k) (colour_of p x side) (ap (λ n. colour_of p y n) same.1 ∙ turned)
 
 -- a side that meets none

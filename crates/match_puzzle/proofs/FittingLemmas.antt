@@ -1,5 +1,5 @@
 -- What fits at a cell.
-use Rattle.std.proofs.Common.{◌≡◌, ◌<◌, ◌≤◌, ◌+◌, ◌*◌, ◌/◌, ◌%◌, ◌∷◌, [], ◌↔◌, ℕ, zero, suc, List, Contains, Option, Some, None, IfSome, unwrap_or, length, map, get_or, IsTrue, eqb, eq-eqb, ◌^◌, bit_and, arith, refl, sym, ap, ◌∙◌, subst, inl, inr, ⊎_elim}
+use Rattle.std.proofs.Common.{◌≡◌, ◌≢◌, ◌⊎◌, ◌<◌, ◌≤◌, ◌+◌, ◌*◌, ◌/◌, ◌%◌, ◌∷◌, [], ◌↔◌, ℕ, zero, suc, List, All, Contains, Option, Some, None, IfSome, unwrap_or, length, map, get_or, IsTrue, eqb, eq-eqb, ◌^◌, bit_and, arith, refl, sym, ap, ◌∙◌, subst, inl, inr, ⊎_elim}
 use Rattle.match_limits.proofs.OptionLemmas.{none_some}
 use Rattle.match_limits.specs.declared.TheConstants.{MOST_COLOURS}
 use Rattle.std.specs.Int.{bit_at}
@@ -8,74 +8,66 @@ use Rattle.std.proofs.lemmas.Bool.{eqb-true}
 use Rattle.std.proofs.lemmas.Bool.Decides.{eqb_tells}
 use Rattle.std.proofs.lemmas.List.{get_or-map, length-map}
 use Rattle.match_board.specs.Board.{side_count}
+use Rattle.match_board.specs.Turns.{shown as shown_colour}
+use Rattle.std.proofs.lemmas.Nat.{mod_below}
 use Rattle.match_limits.specs.Listing.{IsListing, ByKey, ComesBefore}
 use Rattle.match_puzzle.specs.Puzzle.{Task, IsPuzzle, IsLegal, colour_of, mate_of}
 use Rattle.match_puzzle.specs.Prefix.{Prefix, Has, IsFree, IsUnused}
 use Rattle.match_puzzle.specs.Fitting.{Fits, FitsItem, AreFitting, AreAsAsked, IsAsked, item_key, tile_turn, turned_tile, numbered_pair}
-use Rattle.match_puzzle.specs.PlacementSets.{AreFreeNumbers, AreShowing, numbered}
-use Rattle.match_puzzle.specs.Tables.{IsSide}
+use Rattle.match_puzzle.specs.PlacementSets.{AreFreeNumbers, AreShowing, Shows, TellsOf, JoinsTo, numbered}
+use Rattle.match_puzzle.specs.declared.placement_sets.TheConstants.{NO_COLOUR}
 use Rattle.match_puzzle.proofs.Words.{legal_below, few_sides}
-use Rattle.match_puzzle.specs.declared.tables.Side.TheVariants.{Border, Edge}
 use Rattle.match_puzzle.specs.declared.placements.Placement.{Placement}
 use Rattle.match_puzzle.specs.declared.placements.Pair.{Pair}
 use Rattle.match_puzzle.specs.declared.items.Item.{Item}
 use Rattle.match_puzzle.specs.declared.items.Item.TheVariants.{Cell, Tile}
-use Rattle.match_puzzle.proofs.Prefixes.{inside, free_or_has}
+use Rattle.match_puzzle.proofs.Prefixes.{inside}
 use Rattle.match_puzzle.proofs.ArrangementLemmas.{side_in_range}
 
 -- ---- what is asked of a side
 
--- The number is the colour that is asked of the side, or 36 where none is.
-abbrev pub AsksBelow : Task → Prefix → (cell side asked : ℕ) → Type 0
-AsksBelow p q cell side asked = (colour : ℕ) → IsAsked p q cell side colour ↔ ((asked ≡ colour) × (colour < MOST_COLOURS))
+-- What a number tells of some colours it tells of the same ones.
+pub tells_alike : (P Q : ℕ → Type 0) (n : ℕ) → ((colour : ℕ) → P colour → Q colour) → ((colour : ℕ) → Q colour → P colour) → TellsOf P n → TellsOf Q n
+tells_alike P Q n to from told =
+    ⊎_elim
+    (λ none. inl (none.0, λ colour asked. none.1 colour (from colour asked)))
+    (λ some. inr (⊎_elim (λ one. inl (one.0, to n one.1, λ colour asked. one.2 colour (from colour asked))) (λ two. inr (two.0, two.1, two.2, to two.1 two.3, to two.2 two.4, two.5)) some))
+    told
 
-module _ (p : Task) (q : Prefix) (cell side : ℕ) where
-  -- where a cell has no such side, nothing is asked of it
-  pub outside_asks : side_count p.board ≤ side → AsksBelow p q cell side MOST_COLOURS
-  outside_asks past colour = (
-    λ asked. absurd (⊎_elim (λ r. let lt = r.border_pair.side_in in omega (arith, past, lt)) (λ w. let lt = side_in_range w.3 in omega (arith, past, lt)) asked),
-    λ h. absurd (omega (arith, h.0, h.1)),
-  )
+pub tells_few : (P : ℕ → Type 0) (n : ℕ) → TellsOf P n → n ≤ NO_COLOUR
+tells_few P n told = ⊎_elim (λ none. let e = none.0 in omega (arith, e)) (λ some. ⊎_elim (λ one. let lt = one.0 in omega (arith, lt)) (λ two. let e = two.0 in omega (arith, e)) some) told
 
-  -- a border pair asks what the border asks
-  pub border_asks : (rule : Option ℕ) (asked : ℕ) → IsSide p cell side (Border rule) → IfSome rule (λ colour. colour < MOST_COLOURS) → asked ≡ unwrap_or rule MOST_COLOURS → AsksBelow p q cell side asked
-  border_asks None asked is few same colour = (
-    λ other. absurd (⊎_elim (λ r. none_some ((is.1 colour).1 r)) (λ w. is.0.meets_nothing w.0 w.1 w.3) other),
-    λ h. absurd (omega (arith, h.0, h.1, same)),
-  )
-  border_asks (Some rule) asked is few same colour = (
-    λ other. ⊎_elim (λ r. let e : rule ≡ colour = inside ((is.1 colour).1 r) in (same ∙ e, omega (arith, few, e))) (λ w. absurd (is.0.meets_nothing w.0 w.1 w.3)) other,
-    λ h. inl ((is.1 colour).0 (ap Some (sym same ∙ h.0))),
-  )
+-- what a rule tells
+pub tells_rule : (P : ℕ → Type 0) (rule : Option ℕ) → IfSome rule (λ colour. colour < MOST_COLOURS) → ((colour : ℕ) → (rule ≡ Some colour) ↔ P colour) → TellsOf P (unwrap_or rule MOST_COLOURS)
+tells_rule P None few is = inl (refl, λ colour asked. none_some ((is colour).1 asked))
+tells_rule P (Some rule) few is = inr (inl (few, (is rule).0 refl, λ colour asked. inside ((is colour).1 asked)))
 
-  -- a side that meets an empty cell asks nothing
-  pub empty_asks : (c k asked : ℕ) → IsSide p cell side (Edge c k) → IsFree q c → asked ≡ MOST_COLOURS → AsksBelow p q cell side asked
-  empty_asks c k asked is free none colour = (
-    λ other. absurd (⊎_elim (λ r. r.border_pair.meets_nothing c k is.0) (λ w. none_some (inside (sym free ∙ subst (λ n. Has q n w.2) (is.1 w.0 w.1 w.3).0 w.4))) other),
-    λ h. absurd (omega (arith, h.0, h.1, none)),
-  )
+-- what a rule and what stands there tell together
+pub tells_both : (P : ℕ → Type 0) (first second joined : ℕ) → TellsOf P first → second < MOST_COLOURS → JoinsTo first second joined → TellsOf (λ colour. P colour ⊎ (second ≡ colour)) joined
+tells_both P first second joined told few joins =
+    ⊎_elim
+    (λ same. subst (TellsOf (λ colour. P colour ⊎ (second ≡ colour))) (sym same.1) (inr (inl (few, inr refl, λ colour asked. ⊎_elim (λ rule. alone same.0 colour rule) (λ e. e) asked))))
+    (λ other.
+    ⊎_elim
+    (λ none. absurd (other.0 none.0))
+    (λ some. ⊎_elim (λ one. inr (inr (other.2, first, second, inl one.1, inr refl, other.1))) (λ two. inr (inr (other.2, two.1, two.2, inl two.3, inl two.4, two.5))) some)
+    told)
+    joins
+  where
+    alone : (first ≡ MOST_COLOURS) ⊎ (first ≡ second) → (colour : ℕ) → P colour → second ≡ colour
+    alone either colour rule =
+        ⊎_elim
+        (λ none. absurd (none.1 colour rule))
+        (λ some.
+        ⊎_elim
+        (λ one. ⊎_elim (λ any. let lt = one.0 in absurd (omega (arith, lt, any))) (λ e. sym e ∙ one.2 colour rule) either)
+        (λ two. let e = two.0 in ⊎_elim (λ any. absurd (omega (arith, e, any))) (λ same. absurd (omega (arith, e, same, few))) either)
+        some)
+        told
 
-  -- a side that meets a placement asks the mate of what that shows
-  pub neighbour_asks : (c k asked : ℕ) (y : Placement) → IsSide p cell side (Edge c k) → Has q c y → asked ≡ mate_of p (colour_of p y k) → asked < MOST_COLOURS → AsksBelow p q cell side asked
-  neighbour_asks c k asked y is has shows few colour = (
-    λ other. ⊎_elim
-        (λ r. absurd (r.border_pair.meets_nothing c k is.0))
-        (λ w.
-        let same = is.1 w.0 w.1 w.3 in
-        let at : y ≡ w.2 = inside (inside (sym has ∙ subst (λ n. Has q n w.2) same.0 w.4)) in
-        let e : asked ≡ colour = shows ∙ ap (λ z. mate_of p (colour_of p z k)) at ∙ ap (λ n. mate_of p (colour_of p w.2 n)) (sym same.1) ∙ w.5 in
-        (e, omega (arith, e, few)))
-        other,
-    λ h. inr (c, k, y, is.0, has, sym shows ∙ h.0),
-  )
-
-  -- a side that meets another asks the mate of what stands there shows
-  pub edge_asks : (c k asked : ℕ) → IsSide p cell side (Edge c k) → c < length q → ((y : Placement) → Has q c y → (asked ≡ mate_of p (colour_of p y k)) × (asked < MOST_COLOURS)) → (IsFree q c → asked ≡ MOST_COLOURS) → (asked ≤ MOST_COLOURS) × AsksBelow p q cell side asked
-  edge_asks c k asked is within shows none =
-      ⊎_elim
-      (λ free. let e = none free in (omega (arith, e), empty_asks c k asked is free e))
-      (λ w. let h = shows w.0 w.1 in let few = h.1 in (omega (arith, few), neighbour_asks c k asked w.0 is w.1 h.0 few))
-      (free_or_has q c within)
+-- where a cell has no such side, nothing is asked of it
+pub outside_asks : (p : Task) (q : Prefix) (cell side colour : ℕ) → side_count p.board ≤ side → IsAsked p q cell side colour → ⊥
+outside_asks p q cell side colour past asked = ⊎_elim (λ r. let lt = r.side_in in omega (arith, past, lt)) (λ w. let lt = side_in_range w.3 in omega (arith, past, lt)) asked
 
 -- ---- what fits, by what is asked
 
@@ -89,7 +81,7 @@ module _ (p : Task) (q : Prefix) (cell : ℕ) (x : Placement) where
     free = free;
     unused = unused;
     legal = legal;
-    border = λ side colour rule. shows side (let lt = rule.border_pair.side_in in omega (arith, lt, few_sides p.board)) colour (inl rule);
+    border = λ side colour rule. shows side (let lt = rule.side_in in omega (arith, lt, few_sides p.board)) colour (inl rule);
     edges = λ side c k y meets has. shows side (let lt = side_in_range meets in omega (arith, lt, few_sides p.board)) (mate_of p (colour_of p y k)) (inr (c, k, y, meets, has, refl));
   }
 
@@ -157,6 +149,11 @@ module _ (p : Task) (q : Prefix) (cell : ℕ) where
         subst (λ a. ByKey tile_turn a (get_or (placements_of xs) j d)) (sym at_i) (subst (ByKey tile_turn (get_or xs i e).placement) (sym at_j) (h.rising i j e lt (omega (arith, length-map xs (λ (y : Pair). y.placement), in_range))));
   }
 
+-- a side of a word shows a colour
+pub shown_few : (word : List ℕ) (turn side : ℕ) → All (λ colour. colour < MOST_COLOURS) word → side < length word → shown_colour word turn side < MOST_COLOURS
+unfolding shown_colour
+shown_few word turn side few lt = few ((side + turn) % length word) 0 (mod_below (side + turn) (length word) (omega (arith, lt)))
+
 -- ---- the placements that fit at a cell, by number
 
 -- the placement with the number of a tile and a turn
@@ -165,20 +162,42 @@ numbered_at tile turn lt = same_placement (let e : (4 * tile + turn) / 4 ≡ til
 
 module _ (p : Task) (q : Prefix) (cell : ℕ) where
   -- what shows on a side what a number says shows what is asked there
-  pub as_asked_by : (side asked : ℕ) (numbers : List ℕ) → side < 4 → IsPuzzle p → AsksBelow p q cell side asked → AreShowing p.words asked side numbers → AreAsAsked p q cell side numbers
+  pub as_asked_by : (side asked : ℕ) (numbers : List ℕ) → side < 4 → IsPuzzle p → TellsOf (IsAsked p q cell side) asked → AreShowing p.words asked side numbers → AreAsAsked p q cell side numbers
   unfolding colour_of
-  as_asked_by side asked numbers side_in puzzle is shown = record {
-    only = λ n c.
-        let w = shown.only n c in
-        (w.0, λ colour other. let h = (is colour).0 other in (w.1 (omega (arith, h.0, h.1))).1 ∙ h.0);
-    all = λ n h. shown.all n (h.0, λ below. let asks = (is asked).1 (refl, below) in (asked_in (n / 4) h.0 asked asks, h.1 asked asks));
+  as_asked_by side asked numbers side_in puzzle told shown = record {
+    only = λ n c. let w = shown.only n c in (w.0, λ colour other. shows n w.0 w.1 colour other);
+    all = λ n h. shown.all n (h.0, λ some. has n h.0 h.1 some);
     rising = shown.rising;
   }
     where
       asked_in : (tile : ℕ) → tile < length p.words → (colour : ℕ) → IsAsked p q cell side colour → side < length (get_or p.words tile [])
       asked_in tile lt colour other =
           let long = puzzle.sides tile lt in
-          ⊎_elim (λ rule. let within = rule.border_pair.side_in in omega (arith, long, within)) (λ w. let within = side_in_range w.3 in omega (arith, long, within)) other
+          ⊎_elim (λ rule. let within = rule.side_in in omega (arith, long, within)) (λ w. let within = side_in_range w.3 in omega (arith, long, within)) other
+
+      -- nothing shows a number past the colours
+      shows : (n : ℕ) → n / 4 < length p.words → (asked ≢ MOST_COLOURS → Shows (get_or p.words (n / 4) []) asked side (n % 4)) → (colour : ℕ) → IsAsked p q cell side colour → shown_colour (get_or p.words (n / 4) []) (n % 4) side ≡ colour
+      shows n tile_in is colour other =
+          ⊎_elim
+          (λ none. absurd (none.1 colour other))
+          (λ some.
+          ⊎_elim
+          (λ one. let few = one.0 in (is (λ any. omega (arith, few, any))).1 ∙ one.2 colour other)
+          (λ two.
+          let past = two.0 in
+          let there = is (λ any. omega (arith, past, any)) in
+          let same = there.1 in
+          let few = shown_few (get_or p.words (n / 4) []) (n % 4) side (puzzle.tile_colours (n / 4) tile_in) there.0 in
+          absurd (omega (arith, past, same, few)))
+          some)
+          told
+
+      has : (n : ℕ) → n / 4 < length p.words → ((colour : ℕ) → IsAsked p q cell side colour → shown_colour (get_or p.words (n / 4) []) (n % 4) side ≡ colour) → asked ≢ MOST_COLOURS → Shows (get_or p.words (n / 4) []) asked side (n % 4)
+      has n tile_in is other =
+          ⊎_elim
+          (λ none. absurd (other none.0))
+          (λ some. ⊎_elim (λ one. (asked_in (n / 4) tile_in asked one.1, is asked one.1)) (λ two. absurd (two.5 (sym (is two.1 two.3) ∙ is two.2 two.4))) some)
+          told
 
   module _ (free first second third fourth : List ℕ) (are_free : AreFreeNumbers p q free) (as_first : AreAsAsked p q cell 0 first) (as_second : AreAsAsked p q cell 1 second) (as_third : AreAsAsked p q cell 2 third) (as_fourth : AreAsAsked p q cell 3 fourth) (empty : IsFree q cell) where
     -- a number that is in all sets is that of a placement that fits

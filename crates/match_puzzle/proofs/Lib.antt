@@ -16,4 +16,6 @@ pub mod EqualTileLemmas
 pub mod TileExchange
 pub mod Kept
 pub mod AskingLemmas
+pub mod ClueLemmas
+pub mod ClueFaultLemmas
 pub mod TogetherLemmas

@@ -1,10 +1,11 @@
 -- Puzzles that differ in their versions and in their boards alone, which are alike.
-use Rattle.std.proofs.Common.{◌≡◌, ◌↔◌, ℕ, Bool, List, refl, ap, ◌∙◌, inr}
+use Rattle.std.proofs.Common.{◌≡◌, ◌↔◌, ℕ, Bool, List, max, refl, ap, ◌∙◌, inl, inr, arith, ⊎_elim}
 use Rattle.match_board.specs.Board.{AreAlike}
 use Rattle.match_board.specs.declared.figures.Figure.{Figure}
 use Rattle.match_board.proofs.AlikeLemmas.{alike_turned, alike_border_pair, alike_border_order, second_alike, second_is_board}
-use Rattle.match_board.specs.Mates.{mating_of}
-use Rattle.match_puzzle.specs.Puzzle.{Task, HasRule, IsLegal, IsPuzzle, colour_of, mate_of, second_form_of}
+use Rattle.match_board.specs.Mates.{IsOfVersion, mating_of}
+use Rattle.match_board.specs.Clues.{Clue}
+use Rattle.match_puzzle.specs.Puzzle.{Task, AreClues, HasRule, IsLegal, IsPuzzle, colour_of, mate_of, second_form_of}
 use Rattle.match_board.specs.Borders.{BorderRule, free, one, each, Asks, IsAsLongAsBorder}
 use Rattle.match_puzzle.specs.Arrangement.{IsArrangement}
 use Rattle.match_puzzle.specs.Prefix.{Prefix}
@@ -22,15 +23,16 @@ long_alike a (one c) long = tt
 long_alike a (each rules) long = (long.0, alike_border_order long.0 a long.1, long.2)
 
 -- puzzles with all but their boards and versions in common
-module _ (turns : Bool) (border : BorderRule) (mates : List ℕ) (words : List (List ℕ)) where
+module _ (turns : Bool) (border : BorderRule) (mates : List ℕ) (clues : List Clue) (words : List (List ℕ)) where
   abbrev pub on : Figure → (version : ℕ) → Task
-  on board version = record { board = board; turns = turns; border = border; mating = mating_of version mates; words = words }
+  on board version = record { board = board; turns = turns; border = border; mating = mating_of version mates; clues = clues; words = words }
 
   module _ {s t : Figure} (a : AreAlike s t) (v w : ℕ) where
     pub rule_alike : {cell side colour : ℕ} → HasRule (on s v) cell side colour → HasRule (on t w) cell side colour
     rule_alike {cell} {side} {colour} rule = record {
-      border_pair = alike_border_pair a rule.border_pair;
-      asked = asks_alike a border cell side colour rule.asked;
+      cell_in = let cells = a.cells in let lt = rule.cell_in in omega (arith, cells, lt);
+      side_in = let sides = a.sides in let lt = rule.side_in in omega (arith, sides, lt);
+      asked = ⊎_elim (λ w. inl (alike_border_pair a w.0, asks_alike a border cell side colour w.1)) (λ w. inr w) rule.asked;
     }
 
     pub legal_alike : (x : Placement) → IsLegal (on s v) x → IsLegal (on t w) x
@@ -73,17 +75,32 @@ pub same_arrangements : (p : Task) (xs : List Placement) → IsArrangement p xs 
 same_arrangements p xs =
     let a = second_alike p.board in
     let v = p.mating.version in (
-      λ is. arrangement_alike p.turns p.border p.mating.mates p.words a v 2 xs is,
-      λ is. arrangement_alike p.turns p.border p.mating.mates p.words (alike_turned a) 2 v xs is,
+      λ is. arrangement_alike p.turns p.border p.mating.mates p.clues p.words a v (max 2 v) xs is,
+      λ is. arrangement_alike p.turns p.border p.mating.mates p.clues p.words (alike_turned a) (max 2 v) v xs is,
     )
 
 pub same_fits : (p : Task) (q : Prefix) (cell : ℕ) (x : Placement) → Fits p q cell x ↔ Fits (second_form_of p) q cell x
 same_fits p q cell x =
     let a = second_alike p.board in
     let v = p.mating.version in (
-      λ is. fits_alike p.turns p.border p.mating.mates p.words a v 2 q cell x is,
-      λ is. fits_alike p.turns p.border p.mating.mates p.words (alike_turned a) 2 v q cell x is,
+      λ is. fits_alike p.turns p.border p.mating.mates p.clues p.words a v (max 2 v) q cell x is,
+      λ is. fits_alike p.turns p.border p.mating.mates p.clues p.words (alike_turned a) (max 2 v) v q cell x is,
     )
+
+clues_alike : (turns : Bool) (border : BorderRule) (mates : List ℕ) (clues : List Clue) (words : List (List ℕ)) {s t : Figure} → AreAlike s t → (v w : ℕ) → AreClues (on turns border mates clues words s v) → AreClues (on turns border mates clues words t w)
+clues_alike turns border mates clues words a v w are = record {
+  cells = λ n c stands. let lt = are.cells n c stands in let cells = a.cells in omega (arith, lt, cells);
+  rising = are.rising;
+  sides = λ n c stands. are.sides n c stands ∙ a.sides;
+  colours = are.colours;
+  agree = λ cell side colour other one two.
+      are.agree cell side colour other (rule_alike turns border mates clues words (alike_turned a) w v one) (rule_alike turns border mates clues words (alike_turned a) w v two);
+}
+
+-- a puzzle's version, and at least 2
+second_version : (v : ℕ) (mates : List ℕ) → IsOfVersion (mating_of v mates) → IsOfVersion (mating_of (max 2 v) mates)
+second_version v mates is =
+    inr (⊎_elim (λ one. let e = one.0 in inl (omega (arith, e))) (λ later. ⊎_elim (λ e. inl (omega (arith, e))) (λ e. inr (omega (arith, e))) later) is)
 
 -- the second form of a puzzle is a puzzle
 pub second_is_puzzle : (p : Task) → IsPuzzle p → IsPuzzle (second_form_of p)
@@ -97,6 +114,8 @@ second_is_puzzle p is =
       tile_colours = is.tile_colours;
       border_colours = is.border_colours;
       border = long_alike a p.border is.border;
-      mating = record { version = inr refl; mates = is.mating.mates };
-      shapes = λ shape. refl;
+      mating = record { version = second_version p.mating.version p.mating.mates is.mating.version; mates = is.mating.mates };
+      shapes = λ shape. omega arith;
+      clues = clues_alike p.turns p.border p.mating.mates p.clues p.words a p.mating.version (max 2 p.mating.version) is.clues;
+      without = λ before. is.without (omega (arith, before));
     }

@@ -1,22 +1,24 @@
 -- What is looked up.
-use Rattle.std.proofs.Common.{◌≡◌, ◌≢◌, ◌⊎◌, ◌<◌, ◌≤◌, ◌+◌, ◌++◌, ◌∷◌, [], ◌↔◌, ℕ, zero, suc, Bool, List, Option, Some, None, MatchBool, IfSome, Contains, All, length, map, get_or, set, slice_get, arith, refl, ap, sym, ◌∙◌, subst, inl, inr, ⊎_elim}
+use Rattle.std.proofs.Common.{◌≡◌, ◌≢◌, ◌⊎◌, ◌<◌, ◌≤◌, ◌+◌, ◌++◌, ◌∷◌, [], ◌↔◌, ℕ, zero, suc, List, Option, Some, None, MatchBool, IfSome, Contains, All, length, map, get_or, set, slice_get, arith, refl, ap, sym, ◌∙◌, subst, inl, inr, ⊎_elim}
 use Rattle.match_limits.proofs.OptionLemmas.{none_some}
 use Rattle.match_limits.specs.declared.TheConstants.{MOST_COLOURS}
 use Rattle.std.proofs.lemmas.List.{length-map}
-use Rattle.match_board.specs.Board.{cell_count, side_count, Meets, IsBorderPair}
+use Rattle.match_board.specs.Board.{cell_count, side_count, Meets, IsBorderPair, IsBorderBefore}
 use Rattle.match_board.specs.declared.figures.Figure.{Figure}
 use Rattle.match_board.specs.declared.tiles.Tile.{Tile}
-use Rattle.match_board.specs.declared.borders.Border.{Border}
+use Rattle.match_board.specs.Clues.{Clue, clue_of, AsksByClue}
+use Rattle.match_limits.proofs.ListLemmas.{place_of}
 use Rattle.match_board.specs.Tile.{word}
 use Rattle.match_board.specs.Turns.{IsPeriod}
-use Rattle.match_board.specs.Mates.{Mating}
-use Rattle.match_puzzle.specs.Puzzle.{Task, task_of, HasRule, IsPuzzle}
+use Rattle.match_puzzle.specs.Puzzle.{Task, task_by, AreClues, HasRule, IsPuzzle}
+use Rattle.match_puzzle.specs.declared.rules.Rules.{Rules}
 use Rattle.match_board.specs.Borders.{BorderRule, free, one, each, rule_of, Asks, AsksAt, StandsInRule, IsAsLongAsBorder}
 use Rattle.match_puzzle.specs.Colours.{HasColour, IsColourCount}
-use Rattle.match_puzzle.specs.Tables.{IsSide, IsAskedAt, AreSides, IsTurnCount, IsNextNumber}
+use Rattle.match_puzzle.specs.Tables.{IsSide, IsAskedAt, AreSides, IsTurnCount, IsNextNumber, rule_on}
 use Rattle.match_puzzle.specs.declared.tables.CellSides.{CellSides}
 use Rattle.match_puzzle.proofs.Words.{few_sides, tile_of_word, word_at}
-use Rattle.match_puzzle.specs.declared.tables.Side.TheVariants.{Border as TableBorder}
+use Rattle.match_puzzle.specs.declared.tables.Side.{Side}
+use Rattle.match_puzzle.specs.declared.tables.Side.TheVariants.{Border as TableBorder, Edge as TableEdge}
 use Rattle.std.proofs.lemmas.Option.{slice_get_within, get_or_from_slice_get}
 use Rattle.match_limits.specs.Listing.{IsListing, ComesBefore, HoldsBefore}
 use Rattle.match_limits.proofs.Listings.{After, in_front, first_before, listing_rest, same_listing, contains_none, comes_before_asymmetric, comes_before_trans, lt_or_le}
@@ -115,15 +117,69 @@ asks_numbered s (each rules) cell side number colour long pair next =
       λ asked. (long.0, long.1, number, at, asked),
     )
 
--- a border pair by its rule
-pub border_side : (board : Figure) (turns : Bool) (border : Border) (mating : Mating) (tiles : List Tile) (cell side number : ℕ) (rule : Option ℕ) → IsAsLongAsBorder board (rule_of border) → IsBorderPair board cell side → IsNextNumber board (cell, side) number →
-    ((colour : ℕ) → (rule ≡ Some colour) ↔ AsksAt (rule_of border) number colour) → IsSide (task_of board turns border mating tiles) cell side (TableBorder rule)
-border_side board turns border mating tiles cell side number rule long pair next is = (
-  pair,
-  λ colour.
-      let asks = asks_numbered board (rule_of border) cell side number colour long pair next in
-      (λ e. record { border_pair = pair; asked = asks.1 ((is colour).0 e) }, λ has. (is colour).1 (asks.0 has.asked)),
+-- ---- what a rule asks of a side
+
+-- a side that meets another has the rule that a clue gives it
+pub inner_rule : (p : Task) (cell side c k : ℕ) (rule : Option ℕ) → cell < cell_count p.board → side < side_count p.board → Meets p.board cell side c k → ((colour : ℕ) → (rule ≡ Some colour) ↔ AsksByClue p.clues cell side colour) →
+    (colour : ℕ) → (rule ≡ Some colour) ↔ HasRule p cell side colour
+inner_rule p cell side c k rule cell_in side_in meets is colour = (
+  λ e. record { cell_in = cell_in; side_in = side_in; asked = inr ((is colour).0 e) },
+  λ has. (is colour).1 (⊎_elim (λ w. absurd (w.0.meets_nothing c k meets)) (λ w. w) has.asked),
 )
+
+-- a border pair has the rule that the border gives it, or else a clue
+pub border_rule : (p : Task) (cell side number : ℕ) (by_border by_clue rule : Option ℕ) → IsAsLongAsBorder p.board p.border → AreClues p → IsBorderPair p.board cell side → IsNextNumber p.board (cell, side) number →
+    ((colour : ℕ) → (by_border ≡ Some colour) ↔ AsksAt p.border number colour) → ((colour : ℕ) → (by_clue ≡ Some colour) ↔ AsksByClue p.clues cell side colour) →
+    ((colour : ℕ) → by_border ≡ Some colour → rule ≡ Some colour) → (by_border ≡ None → rule ≡ by_clue) → (colour : ℕ) → (rule ≡ Some colour) ↔ HasRule p cell side colour
+border_rule p cell side number None by_clue rule long clues pair next border clue first second colour = (
+  λ e. record { cell_in = pair.cell_in; side_in = pair.side_in; asked = inr ((clue colour).0 (sym (second refl) ∙ e)) },
+  λ has.
+      ⊎_elim
+      (λ w. absurd (none_some ((border colour).1 ((asks_numbered p.board p.border cell side number colour long pair next).0 w.1))))
+      (λ w. second refl ∙ (clue colour).1 w)
+      has.asked,
+)
+border_rule p cell side number (Some own) by_clue rule long clues pair next border clue first second colour =
+    let has : HasRule p cell side own = record { cell_in = pair.cell_in; side_in = pair.side_in; asked = inl (pair, (asks_numbered p.board p.border cell side number own long pair next).1 ((border own).0 refl)) } in
+    let is : rule ≡ Some own = first own refl in
+    (λ e. subst (HasRule p cell side) (inside (sym is ∙ e)) has, λ other. is ∙ ap Some (clues.agree cell side own colour has other))
+
+-- the rule of a side of the table
+pub rule_of_side : (p : Task) (cell side : ℕ) (x : Side) → IsSide p cell side x → (colour : ℕ) → (rule_on x ≡ Some colour) ↔ HasRule p cell side colour
+rule_of_side p cell side (TableBorder rule) is = is.1
+rule_of_side p cell side (TableEdge c k rule) is = is.2
+
+-- ---- clues
+
+-- A cell has one clue.
+pub one_clue : (p : Task) → AreClues p → (c d : Clue) → Contains p.clues c → Contains p.clues d → c.cell ≡ d.cell → c ≡ d
+one_clue p are c d has_c has_d same =
+    let i = place_of p.clues c has_c in
+    let j = place_of p.clues d has_d in
+    ⊎_elim
+    (λ lt. let before = are.rising i.0 j.0 c d i.1 j.1 lt in absurd (omega (arith, before, same)))
+    (λ le.
+    ⊎_elim
+    (λ lt. let before = are.rising j.0 i.0 d c j.1 i.1 lt in absurd (omega (arith, before, same)))
+    (λ ge. let e : i.0 ≡ j.0 = omega (arith, le, ge) in inside (sym i.1 ∙ subst (λ n. slice_get p.clues n ≡ Some d) (sym e) j.1))
+    (lt_or_le j.0 i.0))
+    (lt_or_le i.0 j.0)
+
+pub clue_sides : (p : Task) → AreClues p → (c : Clue) (side : ℕ) → Contains p.clues c → side < side_count p.board → side < length c.asks
+clue_sides p are c side has lt = let i = place_of p.clues c has in let long = are.sides i.0 c i.1 in omega (arith, long, lt)
+
+-- The clues of a puzzle are those of each version and for all tiles.
+pub clues_alike : (board : Figure) (rules : Rules) (v w : ℕ) (ts us : List Tile) → AreClues (task_by board rules v ts) → AreClues (task_by board rules w us)
+clues_alike board rules v w ts us are = record {
+  cells = are.cells;
+  rising = are.rising;
+  sides = are.sides;
+  colours = are.colours;
+  agree = λ cell side colour other one two. are.agree cell side colour other (back cell side colour one) (back cell side other two);
+}
+  where
+    back : (cell side colour : ℕ) → HasRule (task_by board rules w us) cell side colour → HasRule (task_by board rules v ts) cell side colour
+    back cell side colour rule = record { cell_in = rule.cell_in; side_in = rule.side_in; asked = rule.asked }
 
 -- The colours that the border asks for are colours.
 stands_in_rule : (s : Figure) (rule : BorderRule) (cell side colour : ℕ) → Asks s rule cell side colour → (place : ℕ) × StandsInRule rule place colour
@@ -133,7 +189,11 @@ stands_in_rule s (each rules) cell side colour asked = (asked.2, asked.4)
 
 pub rule_below : (p : Task) (cell side : ℕ) (rule : Option ℕ) → IsPuzzle p → ((colour : ℕ) → rule ≡ Some colour → HasRule p cell side colour) → IfSome rule (λ colour. colour < MOST_COLOURS)
 rule_below p cell side None puzzle is = tt
-rule_below p cell side (Some colour) puzzle is = let at = stands_in_rule p.board p.border cell side colour (is colour refl).asked in puzzle.border_colours at.0 colour at.1
+rule_below p cell side (Some colour) puzzle is =
+    ⊎_elim
+    (λ w. let at = stands_in_rule p.board p.border cell side colour w.1 in puzzle.border_colours at.0 colour at.1)
+    (λ w. puzzle.clues.colours cell side colour w)
+    (is colour refl).asked
 
 -- one border pair more
 pub number_after_border : (s : Figure) (cell side number : ℕ) → IsBorderPair s cell side → IsNextNumber s (cell, side) number → IsNextNumber s (cell, side + 1) (number + 1)
@@ -147,6 +207,13 @@ number_after_edge s cell side number inner next = record { pairs = next.pairs; b
 
 pub number_after_cell : (s : Figure) (cell number : ℕ) → side_count s ≤ 4 → IsNextNumber s (cell, side_count s) number → IsNextNumber s (cell + 1, 0) number
 number_after_cell s cell number few next = record { pairs = next.pairs; before = border_row s cell next.pairs next.before; count = next.count; small = omega (arith, next.small, few) }
+
+-- the border pairs of a cell more
+pub number_after_sides : (s : Figure) (cell number more : ℕ) → more ≤ 4 →
+    ((before : List (ℕ × ℕ)) → IsBorderBefore s (cell, 0) before → (pairs : List (ℕ × ℕ)) × IsBorderBefore s (cell + 1, 0) pairs × (length pairs ≡ length before + more)) → IsNextNumber s (cell, 0) number → IsNextNumber s (cell + 1, 0) (number + more)
+number_after_sides s cell number more few counts next =
+    let w = counts next.pairs next.before in
+    record { pairs = w.0; before = w.1; count = omega (arith, w.2, next.count); small = omega (arith, next.small, few) }
 
 pub number_at_first : (s : Figure) → IsNextNumber s (0, 0) 0
 number_at_first s = record { pairs = []; before = border_none s; count = refl; small = omega arith }
@@ -171,33 +238,31 @@ word_there : (tiles : List Tile) (k : ℕ) → k < length (map word tiles) → (
 word_there tiles k lt = tile_of_word tiles k (omega (arith, length-map tiles word, lt))
 
 -- the number that is above all colours and the least such
-pub colour_count_is : (board : Figure) (turns : Bool) (border : Border) (mating : Mating) (tiles : List Tile) (count : ℕ) →
-    ((place colour : ℕ) → StandsInRule (rule_of border) place colour → colour < count) →
+pub colour_count_is : (board : Figure) (rules : Rules) (version : ℕ) (tiles : List Tile) (count : ℕ) →
+    ((place colour : ℕ) → StandsInRule (rule_of rules.border.now) place colour → colour < count) →
     ((k colour : ℕ) → k < length tiles → Contains (get_or (map word tiles) k []) colour → colour < count) →
-    length mating.mates ≤ count →
-    ((other : ℕ) → ((colour : ℕ) → HasColour (task_of board turns border mating tiles) colour → colour < other) → count ≤ other) →
-    IsColourCount (task_of board turns border mating tiles) count
-colour_count_is board turns border mating tiles count of_border of_tiles of_mates least = record {
+    length rules.mates.now ≤ count →
+    ((cell side colour : ℕ) → AsksByClue (map clue_of rules.clues.now) cell side colour → colour < count) →
+    ((other : ℕ) → ((colour : ℕ) → HasColour (task_by board rules version tiles) colour → colour < other) → count ≤ other) →
+    IsColourCount (task_by board rules version tiles) count
+colour_count_is board rules version tiles count of_border of_tiles of_mates of_clues least = record {
   above = λ colour has.
       ⊎_elim
       (λ t. of_tiles t.0 colour (omega (arith, t.1, length-map tiles word)) t.2)
-      (λ other. ⊎_elim (λ b. of_border b.0 colour b.1) (λ lt. omega (arith, lt, of_mates)) other)
+      (λ other. ⊎_elim (λ b. of_border b.0 colour b.1) (λ last. ⊎_elim (λ lt. omega (arith, lt, of_mates)) (λ w. of_clues w.0 w.1 colour w.2) last) other)
       has;
   least = least;
 }
 
 -- What a push adds to the numbers of legal turns.
-pub turn_counts_more : (board : Figure) (turns : Bool) (border : Border) (mating : Mating) (tiles : List Tile) (table : List ℕ) (n : ℕ) →
-    ((tile count : ℕ) → slice_get table tile ≡ Some count → IsTurnCount (task_of board turns border mating tiles) tile count) →
-    IsTurnCount (task_of board turns border mating tiles) (length table) n →
-    (tile count : ℕ) → slice_get (table ++ n ∷ []) tile ≡ Some count → IsTurnCount (task_of board turns border mating tiles) tile count
-turn_counts_more board turns border mating tiles table n so_far here tile count get =
-    let Is : ℕ → ℕ → Type 0 = λ t k. IsTurnCount (task_of board turns border mating tiles) t k in
-    ⊎_elim (λ w. so_far tile count w.1) (λ w. subst (λ t. Is t count) (sym w.0) (subst (λ k. Is (length table) k) (sym w.1) here)) (pushed_is table n tile count get)
+pub turn_counts_more : (p : Task) (table : List ℕ) (n : ℕ) → ((tile count : ℕ) → slice_get table tile ≡ Some count → IsTurnCount p tile count) → IsTurnCount p (length table) n →
+    (tile count : ℕ) → slice_get (table ++ n ∷ []) tile ≡ Some count → IsTurnCount p tile count
+turn_counts_more p table n so_far here tile count get =
+    ⊎_elim (λ w. so_far tile count w.1) (λ w. subst (λ t. IsTurnCount p t count) (sym w.0) (subst (λ k. IsTurnCount p (length table) k) (sym w.1) here)) (pushed_is table n tile count get)
 
 -- how many turns of a tile that was read are legal
-pub turn_count_is : (board : Figure) (turns : Bool) (border : Border) (mating : Mating) (tiles : List Tile) (i : ℕ) (t : Tile) (n : ℕ) → i < length tiles → t ≡ get_or tiles i t → MatchBool turns (IsPeriod (word t) n) (n ≡ 1) → IsTurnCount (task_of board turns border mating tiles) i n
-turn_count_is board turns border mating tiles i t n lt at is = subst (λ w. MatchBool turns (IsPeriod w n) (n ≡ 1)) (sym (word_at tiles i t lt at)) is
+pub turn_count_is : (board : Figure) (rules : Rules) (version : ℕ) (tiles : List Tile) (i : ℕ) (t : Tile) (n : ℕ) → i < length tiles → t ≡ get_or tiles i t → MatchBool rules.turns (IsPeriod (word t) n) (n ≡ 1) → IsTurnCount (task_by board rules version tiles) i n
+turn_count_is board rules version tiles i t n lt at is = subst (λ w. MatchBool rules.turns (IsPeriod w n) (n ≡ 1)) (sym (word_at tiles i t lt at)) is
 
 -- The words of tiles have colours below 36.
 pub words_coloured : (tiles : List Tile) (i : ℕ) → i < length (map word tiles) → All (λ colour. colour < MOST_COLOURS) (get_or (map word tiles) i [])

@@ -14,6 +14,7 @@ puzzle_fault_text (puzzles.TileSides tile) = codes "tile-sides " ++ decimal tile
 puzzle_fault_text (puzzles.BadColour place) = codes "bad-colour " ++ decimal place
 puzzle_fault_text puzzles.BorderLength = codes "border-length"
 puzzle_fault_text (puzzles.Mates place) = codes "mates " ++ decimal place
+puzzle_fault_text (puzzles.Clue number) = codes "clue " ++ decimal number
 puzzle_fault_text puzzles.Memory = codes "out of memory"
 
 abbrev pub arrangement_fault_text : ArrangementFault → List ℕ

@@ -1,5 +1,5 @@
 -- Sets of placements, by number: four turns to a tile.
-use Rattle.std.specs.Prelude.{◌≡◌, ◌<◌, ◌/◌, ◌%◌, ◌+◌, ◌*◌, ℕ, List, [], length, slice_index, slice_index_or}
+use Rattle.std.specs.Prelude.{◌≡◌, ◌≢◌, ◌⊎◌, ◌<◌, ◌/◌, ◌%◌, ◌+◌, ◌*◌, ℕ, List, [], length, slice_index, slice_index_or}
 use Rattle.match_limits.specs.declared.TheConstants.{MOST_COLOURS}
 use Rattle.match_limits.specs.Listing.{IsListing}
 use Rattle.match_board.specs.Turns.{shown}
@@ -8,6 +8,7 @@ use Rattle.match_puzzle.specs.Puzzle.{Task, IsLegal, colour_of, mate_of}
 use Rattle.match_board.specs.Mates.{mate_in}
 use Rattle.match_puzzle.specs.Prefix.{Prefix, IsUnused}
 use Rattle.match_puzzle.specs.declared.placements.Placement.{Placement}
+use Rattle.match_puzzle.specs.declared.placement_sets.TheConstants.{NO_COLOUR}
 
 -- the placement with this number
 abbrev pub numbered : ℕ → Placement
@@ -17,17 +18,17 @@ numbered n = record { tile = n / 4; turn = n % 4 }
 abbrev pub Shows : List ℕ → (colour side turn : ℕ) → Type 0
 Shows word colour side turn = (side < length word) × (shown word turn side ≡ colour)
 
--- The numbers are those of the words' placements that show on the side what is asked: a colour, or with one more
--- nothing in particular.
+-- The numbers are those of the words' placements that show on the side what is asked: a colour, with one more nothing
+-- in particular, or past that what nothing shows.
 abbrev pub AreShowing : List (List ℕ) → (asked side : ℕ) → List ℕ → Type 0
 AreShowing words asked side numbers =
     IsListing ◌<◌
-    (λ n. (n / 4 < length words) × (asked < MOST_COLOURS → Shows (slice_index_or words (n / 4) []) asked side (n % 4)))
+    (λ n. (n / 4 < length words) × (asked ≢ MOST_COLOURS → Shows (slice_index_or words (n / 4) []) asked side (n % 4)))
     numbers
 
--- The table has these sets, four sides for each colour and for one more.
+-- The table has these sets, four sides for each colour and for two more.
 pub record AreShowingSets (words : List (List ℕ)) (table : List (List ℕ)) : Type 0 where
-  pub long : length table ≡ 4 * (MOST_COLOURS + 1)
+  pub long : length table ≡ 4 * (NO_COLOUR + 1)
   pub is : (place : ℕ) → place < length table → AreShowing words (place / 4) (place % 4) (slice_index_or table place [])
 
 -- The colours are those that the word shows after these turns.
@@ -59,6 +60,20 @@ abbrev pub AsksColours : Task → Placement → (colours : List ℕ) → Type 0
 AsksColours p x colours =
     (side : ℕ) → side < side_count p.board
     → (slice_index colours side ≡ mate_of p (colour_of p x side)) × (slice_index colours side < MOST_COLOURS)
+
+-- What the number says of the colours that are asked: there is none, this one alone, or two, which nothing shows.
+abbrev pub TellsOf : (ℕ → Type 0) → (number : ℕ) → Type 0
+TellsOf Asked number =
+    ((number ≡ MOST_COLOURS) × ((colour : ℕ) → Asked colour → ⊥))
+    ⊎ ((number < MOST_COLOURS) × Asked number × ((colour : ℕ) → Asked colour → number ≡ colour))
+    ⊎ ((number ≡ NO_COLOUR) × (one : ℕ) × (other : ℕ) × Asked one × Asked other × (one ≢ other))
+
+-- What two ask for together: what the second does, where the first asks for nothing or the same, and else what nothing
+-- shows.
+abbrev pub JoinsTo : (first second joined : ℕ) → Type 0
+JoinsTo first second joined =
+    (((first ≡ MOST_COLOURS) ⊎ (first ≡ second)) × (joined ≡ second))
+    ⊎ ((first ≢ MOST_COLOURS) × (first ≢ second) × (joined ≡ NO_COLOUR))
 
 -- The numbers are those of the legal placements.
 abbrev pub AreLegalNumbers : Task → List ℕ → Type 0

@@ -1,5 +1,6 @@
 -- What a puzzle asks.
-use Rattle.std.specs.Prelude.{◌≡◌, ◌<◌, ℕ, Bool, true, List, [], MatchBool, All, map, length, slice_index_or}
+use Rattle.std.specs.Prelude.{◌≡◌, ◌<◌, ◌≤◌, ◌⊎◌, ℕ, Bool, true, List, [], Some, MatchBool, All, map, max, length}
+use Rattle.std.specs.Prelude.{slice_get, slice_index_or}
 use Rattle.match_limits.specs.declared.TheConstants.{MOST_COLOURS}
 use Rattle.match_board.specs.Board.{cell_count, side_count, IsBoard, IsShape, IsBorderPair}
 use Rattle.match_board.specs.Board.{second_figure}
@@ -9,16 +10,21 @@ use Rattle.match_board.specs.Turns.{shown, IsPeriod}
 use Rattle.match_board.specs.Tile.{word}
 use Rattle.match_board.specs.declared.tiles.Tile.{Tile}
 use Rattle.match_board.specs.Borders.{BorderRule, rule_of, Asks, StandsInRule, IsAsLongAsBorder}
-use Rattle.match_board.specs.Mates.{Mating, IsMating, mate_in, unmated, mated}
+use Rattle.match_board.specs.Mates.{Mating, IsMating, mate_in, mating_of, unmated, mated}
+use Rattle.match_board.specs.Clues.{Clue, clue_of, AsksByClue}
 use Rattle.match_board.specs.declared.borders.Border.{Border}
+use Rattle.match_board.specs.declared.clues.Clue.{Clue as BoardClue}
 use Rattle.match_puzzle.specs.declared.placements.Placement.{Placement}
+use Rattle.match_puzzle.specs.declared.rules.Rules.{Rules}
 
--- a puzzle: its board, whether tiles may be turned, what the border asks, the mates of colours, and the tiles' words
+-- a puzzle: its board, whether tiles may be turned, what the border asks, the mates of colours, clues, and the tiles'
+-- words
 pub record Task : Type 0 where
   pub board : Figure
   pub turns : Bool
   pub border : BorderRule
   pub mating : Mating
+  pub clues : List Clue
   pub words : List (List ℕ)
 
 -- the word of a tile
@@ -50,13 +56,24 @@ pub record IsLegal (p : Task) (x : Placement) : Type 0 where
   pub tile : x.tile < length p.words
   pub turn : IsLegalTurn p x
 
--- the colour that the border asks of a side
+-- the colour that the border or a clue asks of a side
 pub record HasRule (p : Task) (cell side colour : ℕ) : Type 0 where
-  pub border_pair : IsBorderPair p.board cell side
-  pub asked : Asks p.board p.border cell side colour
+  pub cell_in : cell < cell_count p.board
+  pub side_in : side < side_count p.board
+  pub asked : (IsBorderPair p.board cell side × Asks p.board p.border cell side colour)
+      ⊎ AsksByClue p.clues cell side colour
+
+-- clues of cells of the board, rising, with a cell's sides; colours that there are; one rule for a side
+pub record AreClues (p : Task) : Type 0 where
+  pub cells : (n : ℕ) (c : Clue) → slice_get p.clues n ≡ Some c → c.cell < cell_count p.board
+  pub rising : (n m : ℕ) (c d : Clue) → slice_get p.clues n ≡ Some c → slice_get p.clues m ≡ Some d → n < m
+      → c.cell < d.cell
+  pub sides : (n : ℕ) (c : Clue) → slice_get p.clues n ≡ Some c → length c.asks ≡ side_count p.board
+  pub colours : (cell side colour : ℕ) → AsksByClue p.clues cell side colour → colour < MOST_COLOURS
+  pub agree : (cell side colour other : ℕ) → HasRule p cell side colour → HasRule p cell side other → colour ≡ other
 
 -- as many tiles as cells, with as many sides; triangles may be turned; colours that there are; a rule for each border
--- pair; each colour the mate of its mate; version 2 where the board is a shape
+-- pair; each colour the mate of its mate; clues in version 3 alone, and a shape from version 2 on
 pub record IsPuzzle (p : Task) : Type 0 where
   pub board : IsBoard p.board
   pub triangles : side_count p.board ≡ 3 → p.turns ≡ true
@@ -66,12 +83,29 @@ pub record IsPuzzle (p : Task) : Type 0 where
   pub border_colours : (place colour : ℕ) → StandsInRule p.border place colour → colour < MOST_COLOURS
   pub border : IsAsLongAsBorder p.board p.border
   pub mating : IsMating p.mating
-  pub shapes : IsShape p.board → p.mating.version ≡ 2
+  pub shapes : IsShape p.board → 2 ≤ p.mating.version
+  pub clues : AreClues p
+  pub without : p.mating.version < 3 → p.clues ≡ []
 
--- the puzzle of a board and tiles
+-- the puzzle of a board, clues and tiles
+abbrev pub task_with : Figure → Bool → Border → Mating → List BoardClue → List Tile → Task
+task_with board turns border mating clues tiles = record {
+  board = board;
+  turns = turns;
+  border = rule_of border;
+  mating = mating;
+  clues = map clue_of clues;
+  words = map word tiles;
+}
+
+-- the puzzle of a board and tiles, without clues
 abbrev pub task_of : Figure → Bool → Border → Mating → List Tile → Task
-task_of board turns border mating tiles =
-    record { board = board; turns = turns; border = rule_of border; mating = mating; words = map word tiles }
+task_of board turns border mating tiles = task_with board turns border mating [] tiles
+
+-- the puzzle of this version of a board, rules and tiles
+abbrev pub task_by : Figure → Rules → (version : ℕ) → List Tile → Task
+task_by board rules version tiles =
+    task_with board rules.turns rules.border.now (mating_of version rules.mates.now) rules.clues.now tiles
 
 -- the mates of a puzzle that is made without a list of them: a shape wants version 2
 abbrev pub mating_for : Figure → Mating
@@ -80,12 +114,13 @@ mating_for (Triangle size) = unmated
 mating_for (Hexagon size) = unmated
 mating_for (Shape width height mask) = mated []
 
--- the puzzle of version 2 with the same mates, a shape in place of a rectangle, and otherwise the same
+-- the puzzle of version 2 at least with the same mates, a shape in place of a rectangle, and otherwise the same
 abbrev pub second_form_of : Task → Task
 second_form_of p = record {
   board = second_figure p.board;
   turns = p.turns;
   border = p.border;
-  mating = mated p.mating.mates;
+  mating = mating_of (max 2 p.mating.version) p.mating.mates;
+  clues = p.clues;
   words = p.words;
 }

@@ -1,6 +1,6 @@
 -- What a puzzle keeps looked up.
-use Rattle.std.specs.Prelude.{◌≡◌, ◌⊎◌, ◌<◌, ◌≤◌, ◌+◌, ◌*◌, ◌↔◌, ℕ, List, None, Some, MatchBool, length, slice_get}
-use Rattle.std.specs.Prelude.{slice_index}
+use Rattle.std.specs.Prelude.{◌≡◌, ◌⊎◌, ◌<◌, ◌≤◌, ◌+◌, ◌*◌, ◌↔◌, ℕ, List, [], Option, None, Some, MatchBool, length, slice_get}
+use Rattle.std.specs.Prelude.{false, slice_index, slice_index_or, unwrap_or}
 use Rattle.match_limits.specs.declared.TheConstants.{MOST_COLOURS}
 use Rattle.match_puzzle.specs.declared.tables.TheConstants.{FIRST_PLACE}
 use Rattle.match_board.specs.Board.{cell_count, side_count, Meets, IsBorderPair, IsBorderBefore}
@@ -10,6 +10,8 @@ use Rattle.match_puzzle.specs.Puzzle.{Task, IsPuzzle, word_of, HasRule}
 use Rattle.match_puzzle.specs.Colours.{IsColourCount}
 use Rattle.match_puzzle.specs.PlacementSets.{AreLegalNumbers, AreUnturnedLegal, AreShowingSets, AreShownColours}
 use Rattle.match_puzzle.specs.PlacementSets.{AreMatesShown}
+use Rattle.match_puzzle.specs.Prefix.{empty_prefix}
+use Rattle.match_puzzle.specs.Partials.{AreAsking}
 use Rattle.match_puzzle.specs.declared.tables.Side.{Side}
 use Rattle.match_puzzle.specs.declared.tables.Side.TheVariants.{Border, Edge}
 use Rattle.match_puzzle.specs.declared.tables.CellSides.{CellSides}
@@ -19,16 +21,22 @@ use Rattle.match_puzzle.specs.declared.tables.Tables.{Tables}
 abbrev pub IsSide : Task → (cell side : ℕ) → Side → Type 0
 IsSide p cell side (Border rule) =
     IsBorderPair p.board cell side × ((colour : ℕ) → (rule ≡ Some colour) ↔ HasRule p cell side colour)
-IsSide p cell side (Edge cell' side') =
+IsSide p cell side (Edge cell' side' rule) =
     Meets p.board cell side cell' side' × ((c k : ℕ) → Meets p.board cell side c k → (c ≡ cell') × (k ≡ side'))
+    × ((colour : ℕ) → (rule ≡ Some colour) ↔ HasRule p cell side colour)
+
+-- the rule of a side
+abbrev pub rule_on : Side → Option ℕ
+rule_on (Border rule) = rule
+rule_on (Edge cell side rule) = rule
 
 -- Where the colour stands that is asked of a side, in a table that begins with each colour at its own place, one more
--- for none, and goes on with four places to a cell: what the border asks at its own place, the mate of what a
--- neighbour shows at the neighbour's.
+-- for none, and goes on with four places to a cell: what is asked at the border at its own place, and what is asked of a
+-- side that meets another at that one's.
 abbrev pub place_asked : Side → ℕ
 place_asked (Border None) = MOST_COLOURS
 place_asked (Border (Some colour)) = colour
-place_asked (Edge cell side) = FIRST_PLACE + 4 * cell + side
+place_asked (Edge cell side rule) = FIRST_PLACE + 4 * cell + side
 
 -- The places are those of the four sides.
 abbrev pub AreAskedAt : List Side → (places : List ℕ) → Type 0
@@ -52,6 +60,18 @@ pub record AreSides (p : Task) (table : List CellSides) : Type 0 where
   pub asked : (cell : ℕ) (sides : CellSides) → slice_get table cell ≡ Some sides
       → AreAskedAt sides.sides sides.asked_at
 
+-- The side that is met, if one is, stands in the table.
+abbrev pub IsInTable : List CellSides → Side → Type 0
+IsInTable table (Border rule) = Unit {0}
+IsInTable table (Edge cell side rule) = (cell < length table) × (side < 4)
+
+-- The number is the rule of the side that is met, or one more than the colours where that has none.
+abbrev pub Begins : List CellSides → Side → ℕ → Type 0
+Begins table (Border rule) number = number ≡ MOST_COLOURS
+Begins table (Edge cell side rule) number =
+    (sides : CellSides) × (slice_get table cell ≡ Some sides)
+    × (number ≡ unwrap_or (rule_on (slice_index_or sides.sides side (Border None))) MOST_COLOURS)
+
 -- how many turns of a tile are legal
 abbrev pub IsTurnCount : Task → (tile count : ℕ) → Type 0
 IsTurnCount p tile count = MatchBool p.turns (IsPeriod (word_of p tile) count) (count ≡ 1)
@@ -72,6 +92,8 @@ pub record IsMade (p : Task) (tables : Tables) : Type 0 where
   pub showing : AreShowingSets p.words tables.sets.showing.items
   pub shown : AreShownColours p.words tables.sets.shown.items
   pub asked : AreMatesShown p.mating.mates tables.sets.shown.items tables.sets.asked.items
+  pub asks : AreAsking p (empty_prefix p) tables.asks.items
+  pub clued : tables.clued ≡ false → p.clues ≡ []
 
 -- So many border pairs come before this pair.
 pub record IsNextNumber (s : Figure) (n : ℕ × ℕ) (number : ℕ) : Type 0 where

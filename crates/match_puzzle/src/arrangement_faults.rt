@@ -92,7 +92,7 @@ impl Puzzle {
         None
     }
 
-    // The first side that does not show what the border asks, behind its cell.
+    // The first side that does not show what the border or a clue asks, behind its cell.
     fn broken_border(&self, placements: &[Placement]) -> Option<(u16, u8)>
         requires long { length placements.now ≡ cell_count self.now.board }
         requires legal { AreLegal self.now placements.now }
@@ -113,7 +113,7 @@ impl Puzzle {
         )
     }
 
-    // Whether the side of what stands at the cell shows what the border asks.
+    // Whether the side of what stands at the cell shows what the border or a clue asks.
     fn obeys_border(&self, cell: u16, side: u8, placements: &[Placement]) -> bool
         requires cell { cell < cell_count self.now.board }
         requires side { side < side_count self.now.board }
@@ -172,6 +172,7 @@ impl Puzzle {
             Side::Edge {
                 cell: other,
                 side: other_side,
+                ..
             } => {
                 let here = placements[usize::from(cell)];
                 let there = placements[usize::from(other)];

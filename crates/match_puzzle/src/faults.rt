@@ -23,6 +23,9 @@ pub enum PuzzleFault {
     /// The colour at this place has no mate in the list, or one with another mate, and is the first such; or the list
     /// is longer than there are colours, and this is the place after the last.
     Mates(u32),
+    /// The clue with this number, from 0, is the first whose cell isn't on the board or doesn't come after that of the
+    /// clue before, that hasn't as many sides as a cell, or that asks for another colour than the border does.
+    Clue(u32),
     Memory,
 }
 
@@ -37,6 +40,7 @@ impl fmt::Display for PuzzleFault {
             PuzzleFault::BadColour(place) => write!(f, "bad-colour {place}"),
             PuzzleFault::BorderLength => f.write_str("border-length"),
             PuzzleFault::Mates(place) => write!(f, "mates {place}"),
+            PuzzleFault::Clue(number) => write!(f, "clue {number}"),
             PuzzleFault::Memory => f.write_str("out of memory"),
         }
     }
@@ -63,7 +67,7 @@ pub enum ArrangementFault {
     Turn(u32),
     /// The tile at this cell stands at an earlier cell too.
     TileTwice(u32),
-    /// This side of this cell does not show what the border asks.
+    /// This side of this cell does not show what the border or a clue asks.
     BorderBroken(u32, u32),
     /// This side of this cell does not show the mate of what the side that it meets shows.
     EdgeBroken(u32, u32),

@@ -10,8 +10,8 @@ ghost use Rattle.match_puzzle.specs.declared.placements.Placement.{Placement};
 /// Does nothing. Its promises are laws:
 /// - Where there are as many tiles as cells, an arrangement has each tile.
 /// - In a puzzle, whether colours go together is the same from either side. Without mates equal colours do.
-/// - A puzzle's second form, of version 2 with a shape in place of a rectangle, is a puzzle, has the same arrangements,
-///   and the same fits a prefix.
+/// - A puzzle's second form, of version 2 or 3 with a shape in place of a rectangle, is a puzzle, has the same
+///   arrangements, and the same fits a prefix.
 pub fn puzzle_laws()
     ensures placed { AllTilesArePlaced }
     ensures turned { (p : Task) (colour other : ℕ) → IsPuzzle p → GoTogether p colour other → GoTogether p other colour }

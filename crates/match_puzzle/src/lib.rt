@@ -3,6 +3,9 @@
 
 mod arrangement_faults;
 mod arrangements;
+mod asking;
+mod clue_faults;
+mod clue_rules;
 mod equal_tiles;
 mod faults;
 mod fitting;
@@ -14,6 +17,7 @@ mod placement_sets;
 mod placements;
 mod prefix_faults;
 mod puzzles;
+mod rules;
 mod tables;
 
 pub use arrangements::Arrangement;
@@ -21,8 +25,9 @@ pub use faults::{ArrangementFault, PrefixFault, PuzzleFault};
 pub use fitting_pairs::FittingPairs;
 pub use items::Item;
 pub use laws::puzzle_laws;
-pub use match_board::{Border, BorderRules};
+pub use match_board::{Border, BorderRules, Clue};
 pub use partials::Partial;
-pub use placement_sets::ANY_COLOUR;
+pub use placement_sets::{ANY_COLOUR, NO_COLOUR};
 pub use placements::{Pair, Placement};
 pub use puzzles::Puzzle;
+pub use rules::Rules;

@@ -1,17 +1,16 @@
 //! Partial arrangements.
 
-ghost use Rattle.std.specs.Prelude.{◌≡◌, ◌↔◌, ◌⊎◌, ◌<◌, ◌≤◌, ◌+◌, ◌*◌, ℕ, slice_index, IfOk, IfSome, IsTrue, MatchBool};
-ghost use Rattle.std.specs.Prelude.{false, map, None, Some, List, length, slice_get};
-ghost use Rattle.match_board.specs.Board.{cell_count, side_count};
-ghost use Rattle.match_puzzle.specs.Puzzle.{colour_of};
+ghost use Rattle.std.specs.Prelude.{◌≡◌, ◌↔◌, ◌<◌, ℕ, IfOk, IfSome, IsTrue, MatchBool};
+ghost use Rattle.std.specs.Prelude.{map, None, Some, length, slice_get};
+ghost use Rattle.match_board.specs.Board.{cell_count};
 ghost use Rattle.match_puzzle.specs.Prefix.{IsWithin, Has};
 ghost use Rattle.match_puzzle.specs.Fitting.{IsAsked};
+ghost use Rattle.match_puzzle.specs.PlacementSets.{TellsOf};
 
-use crate::placement_sets::ANY_COLOUR;
+use crate::asking::put;
 use crate::placements::{Pair, Placement};
 use crate::puzzles::Puzzle;
-use crate::tables::FIRST_PLACE;
-use match_limits::{MOST_CELLS, MOST_COLOURS, NumberSet, SIDES};
+use match_limits::NumberSet;
 use std::alloc::{AllocError, Global};
 use std::marker::Model;
 
@@ -22,8 +21,8 @@ pub struct Partial<'a> {
     placed: Vec<Option<Placement>>,
     // the legal placements of tiles that are not placed
     free: NumberSet,
-    // each colour at its own place, and behind them any; then what each cell asks of those that it meets, four sides to
-    // a cell: the mates of what stands there shows, or any where nothing stands
+    // each colour at its own place, and behind them any; then, four sides to a cell, what is asked of the sides that
+    // these meet, by a clue and by what stands at the cell
     asks: Vec<u8>,
 }
 
@@ -53,7 +52,7 @@ impl<'a> Partial<'a> {
     {
         let cells = usize::from(puzzle.board().cells());
         let placed = vec![in alloc; None; cells]?;
-        let asks = nothing_asked(alloc, cells)?;
+        let asks = puzzle.beginning().to_vec(alloc)?;
         Ok(Partial {
             puzzle,
             placed,
@@ -104,13 +103,11 @@ impl<'a> Partial<'a> {
         &self.free
     }
 
-    // The colour that is asked on the side of the cell, or any.
+    // The colour that is asked on the side of the cell, or any; none that there is, where two are asked.
     pub(crate) fn asked(&self, cell: u16, side: u8) -> u8
         requires cell { cell < cell_count self.now.puzzle.board }
         requires side { side < 4 }
-        ensures most { result ≤ ANY_COLOUR }
-        ensures asked { (colour : ℕ) → IsAsked self.now.puzzle self.now.placed cell side colour
-            ↔ ((result ≡ colour) × (colour < MOST_COLOURS)) }
+        ensures asked { TellsOf (IsAsked self.now.puzzle self.now.placed cell side) result }
         ensures puzzle { IsPuzzle self.now.puzzle }
     {
         self.asks[self.puzzle.asked_at(cell, side)]
@@ -166,7 +163,11 @@ impl<'a> Partial<'a> {
     {
         self.placed[usize::from(cell)] = Some(placement);
         self.free.remove_group(placement.tile);
-        put(&mut self.asks, cell, self.puzzle.asked_by(placement));
+        put(
+            &mut self.asks,
+            cell,
+            self.puzzle.asked_beside(cell, placement),
+        );
     }
 
     /// Takes the tile at the cell away.
@@ -178,7 +179,7 @@ impl<'a> Partial<'a> {
             self.placed[usize::from(cell)] = None;
             let turns = self.puzzle.legal_numbers().group(placement.tile);
             self.free.put_group(placement.tile, turns);
-            put(&mut self.asks, cell, [ANY_COLOUR; SIDES]);
+            put(&mut self.asks, cell, self.puzzle.asked_beside_empty(cell));
         }
     }
 }
@@ -211,35 +212,6 @@ impl<'a> Partial<'a> {
         for place in (0..pairs.len()).rev() {
             self.lift(pairs[place].cell);
         }
-    }
-}
-
-// What is asked where nothing is placed on so many cells.
-fn nothing_asked(alloc: Global, cells: usize) -> Result<Vec<u8>, AllocError>
-    requires { cells ≤ MOST_CELLS }
-    ensures long { IfOk result (λ v. length v.items ≡ FIRST_PLACE + 4 * cells) }
-    ensures colours { IfOk result (λ v. (colour : ℕ) → colour < ANY_COLOUR → slice_index v.items colour ≡ colour) }
-    ensures any { IfOk result (λ v. (place : ℕ) → ANY_COLOUR ≤ place → place < FIRST_PLACE + 4 * cells
-        → slice_index v.items place ≡ ANY_COLOUR) }
-{
-    let mut asks = vec![in alloc; ANY_COLOUR; FIRST_PLACE + SIDES * cells]?;
-    for colour in 0..ANY_COLOUR {
-        asks[usize::from(colour)] = colour;
-    }
-    Ok(asks)
-}
-
-// Puts down what the four sides of the cell ask.
-fn put(asks: &mut Vec<u8>, cell: u16, colours: [u8; SIDES])
-    requires { FIRST_PLACE + 4 * cell + 4 ≤ length asks.old.items }
-    ensures long { length asks.new.items ≡ length asks.old.items }
-    ensures colours { (side : ℕ) → side < 4
-        → slice_index asks.new.items (FIRST_PLACE + 4 * cell + side) ≡ slice_index colours side }
-    ensures others { (place : ℕ) → (place < FIRST_PLACE + 4 * cell) ⊎ (FIRST_PLACE + 4 * cell + 4 ≤ place)
-        → slice_index asks.new.items place ≡ slice_index asks.old.items place }
-{
-    for side in 0..SIDES {
-        asks[FIRST_PLACE + SIDES * usize::from(cell) + side] = colours[side];
     }
 }
 

@@ -1,6 +1,6 @@
 //! Sets of a puzzle's placements: that of tile t after turn r has the number 4 t + r.
 
-ghost use Rattle.std.specs.Prelude.{◌≡◌, ◌<◌, ◌≤◌, ◌/◌, ◌%◌, ℕ, All, IfOk, length, map, slice_index};
+ghost use Rattle.std.specs.Prelude.{◌≡◌, ◌≢◌, ◌<◌, ◌≤◌, ◌/◌, ◌%◌, ℕ, All, IfOk, length, map, slice_index};
 ghost use Rattle.std.specs.Int.{bit_at};
 ghost use Rattle.match_limits.specs.Listing.{IsListing};
 ghost use Rattle.match_board.specs.Tile.{word};
@@ -19,8 +19,8 @@ use std::alloc::{AllocError, Global};
 pub(crate) struct PlacementSets {
     /// Those that are legal.
     pub(crate) legal: NumberSet,
-    /// For each colour, and for `ANY_COLOUR`, and each of four sides, those that show it there: of colour c on side k
-    /// at 4 c + k.
+    /// For each colour, for `ANY_COLOUR` and for `NO_COLOUR`, and each of four sides, those that show it there: of colour c
+    /// on side k at 4 c + k.
     pub(crate) showing: Vec<FixedSet>,
     /// What each placement shows, by number: the colour on each side, and `ANY_COLOUR` on a fourth that isn't there.
     pub(crate) shown: Vec<[u8; SIDES]>,
@@ -30,6 +30,9 @@ pub(crate) struct PlacementSets {
 
 /// What stands for no colour in particular, where a colour is asked.
 pub const ANY_COLOUR: u8 = MOST_COLOURS;
+
+/// What stands for two colours at once, where a colour is asked: nothing shows it.
+pub const NO_COLOUR: u8 = ANY_COLOUR + 1;
 
 // What each placement shows, by number.
 fn shown_table(alloc: Global, tiles: &[Tile]) -> Result<Vec<[u8; SIDES]>, AllocError>
@@ -57,12 +60,12 @@ fn colours_after(tile: &Tile, turn: u8) -> [u8; SIDES]
     colours
 }
 
-// For each colour, and for any, and each of four sides the placements that show it there.
+// For each colour, for any and for none, and each of four sides the placements that show it there.
 fn showing_sets(alloc: Global, tiles: &[Tile]) -> Result<Vec<FixedSet>, AllocError>
     requires { length tiles.now ≤ MOST_TILES }
     ensures { IfOk result (λ v. AreShowingSets (map word tiles.now) v.items) }
 {
-    let places = MOST_SIDES * (ANY_COLOUR + 1);
+    let places = MOST_SIDES * (NO_COLOUR + 1);
     let mut sets = Vec::with_capacity(alloc, usize::from(places))?;
     for place in 0..places {
         sets.push(showing_set(tiles, place / MOST_SIDES, place % MOST_SIDES).fixed())?;
@@ -86,10 +89,10 @@ fn showing_set(tiles: &[Tile], asked: u8, side: u8) -> NumberSet
 fn turns_as_asked(tile: &Tile, asked: u8, side: u8) -> u8
     ensures few { result < 16 }
     ensures turns { (turn : ℕ) → turn < 4
-        → (bit_at result turn ≡ 1 → asked < MOST_COLOURS → Shows (word tile.now) asked side turn)
-        × ((asked < MOST_COLOURS → Shows (word tile.now) asked side turn) → bit_at result turn ≡ 1) }
+        → (bit_at result turn ≡ 1 → asked ≢ ANY_COLOUR → Shows (word tile.now) asked side turn)
+        × ((asked ≢ ANY_COLOUR → Shows (word tile.now) asked side turn) → bit_at result turn ≡ 1) }
 {
-    if asked >= ANY_COLOUR {
+    if asked == ANY_COLOUR {
         return 15;
     }
     showing_turns(tile, asked, side)

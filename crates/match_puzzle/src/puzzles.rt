@@ -1,19 +1,22 @@
-//! A puzzle: a board, tiles, and a rule for the border.
+//! A puzzle: a board, tiles, and what is asked of them.
 
-ghost use Rattle.std.specs.Prelude.{◌≡◌, ◌≢◌, ◌<◌, ◌≤◌, ◌↔◌, ◌^◌, ℕ, IfOk, IfErr, IsErrOf, IfSome, IsTrue, MatchOption};
-ghost use Rattle.std.specs.Prelude.{Some, length, map, []};
+ghost use Rattle.std.specs.Prelude.{◌≡◌, ◌≢◌, ◌⊎◌, ◌<◌, ◌≤◌, ◌↔◌, ◌^◌, ℕ, IfOk, IfErr, IsErrOf, IfSome, IsTrue, MatchOption};
+ghost use Rattle.std.specs.Prelude.{Some, length, map, [], slice_index};
 ghost use Rattle.match_board.specs.Board.{cell_count, side_count, IsShape, Meets};
 ghost use Rattle.match_limits.specs.First.{IsFirst};
 ghost use Rattle.match_board.specs.Mates.{IsOfVersion, mating_of, mated};
-ghost use Rattle.match_puzzle.specs.Puzzle.{Task, task_of, mating_for, second_form_of, IsPuzzle};
+ghost use Rattle.match_puzzle.specs.Puzzle.{Task, task_of, task_by, mating_for, second_form_of, IsPuzzle};
 ghost use Rattle.match_board.specs.Borders.{rule_of, IsShortRule};
 ghost use Rattle.match_puzzle.specs.PuzzleFaults.{PuzzleFails, puzzle_rank};
 
+use crate::asking::{both_asked, four_from};
+use crate::clue_faults::broken_clue;
 use crate::faults::PuzzleFault;
-use crate::placement_sets::ANY_COLOUR;
+use crate::placement_sets::{ANY_COLOUR, NO_COLOUR};
 use crate::placements::Placement;
-use crate::tables::{Side, Tables, odd_tile};
-use match_board::{Board, Border, Figure, Tile, broken_mate, mate_in};
+use crate::rules::Rules;
+use crate::tables::{FIRST_PLACE, Side, Tables, odd_tile};
+use match_board::{Board, Border, Clue, Figure, Tile, broken_mate, mate_in};
 use match_limits::{FixedSet, MOST_COLOURS, NumberSet, SIDES, TURNS};
 use std::alloc::{AllocError, Global};
 use std::marker::Model;
@@ -27,33 +30,38 @@ pub struct Puzzle {
     border: Border,
     version: u8,
     mates: Vec<u8>,
+    clues: Vec<Clue>,
     tiles: Vec<Tile>,
     tables: Tables,
 }
 
 impl Model for Puzzle {
     ghost use Rattle.match_board.specs.Mates.{mating_of};
-    ghost use Rattle.match_puzzle.specs.Puzzle.{Task, task_of};
+    ghost use Rattle.match_puzzle.specs.Puzzle.{Task, task_with};
     ghost use Rattle.match_puzzle.specs.Tables.{IsMade};
 
     ghost Value = { Task };
 
-    ghost view = { λ p. task_of p.board p.turns p.border (mating_of p.version p.mates.items)
-        p.tiles.items };
+    ghost view = { λ p. task_with p.board p.turns p.border (mating_of p.version p.mates.items)
+        p.clues.items p.tiles.items };
 
     ghost invariant = { λ p. IsMade
-        (task_of p.board p.turns p.border (mating_of p.version p.mates.items) p.tiles.items)
+        (task_with p.board p.turns p.border (mating_of p.version p.mates.items)
+        p.clues.items p.tiles.items)
         p.tables };
 }
 
 impl Puzzle {
     ghost use Rattle.match_board.specs.Tile.{word};
     ghost use Rattle.match_board.specs.Mates.{AreMates};
+    ghost use Rattle.match_board.specs.Clues.{clue_of};
     ghost use Rattle.match_puzzle.specs.Puzzle.{IsLegal, HasRule, colour_of, mate_of, word_of};
     ghost use Rattle.match_puzzle.specs.Colours.{IsColourCount};
     ghost use Rattle.match_puzzle.specs.Tables.{IsSide, IsAskedAt, IsTurnCount};
     ghost use Rattle.match_puzzle.specs.PlacementSets.{AreLegalNumbers, AreUnturnedLegal, AreShowing, ShowsColours};
-    ghost use Rattle.match_puzzle.specs.PlacementSets.{AsksColours};
+    ghost use Rattle.match_puzzle.specs.PlacementSets.{AsksColours, TellsOf};
+    ghost use Rattle.match_puzzle.specs.Prefix.{empty_prefix};
+    ghost use Rattle.match_puzzle.specs.Partials.{AreAsking};
 
     /// The puzzle of this board and these tiles, where tiles may be turned or not: of version 1, or of version 2 with
     /// no mates where the board is a shape.
@@ -79,7 +87,13 @@ impl Puzzle {
             Figure::Shape { .. } => 2,
             _ => 1,
         };
-        Puzzle::make(alloc, board, turns, border, version, &[], tiles)
+        let rules = Rules {
+            turns,
+            border,
+            mates: &[],
+            clues: &[],
+        };
+        Puzzle::make(alloc, board, &rules, version, tiles)
     }
 
     /// The puzzle of version 2 of this board and these tiles, where colours have the mates of this list.
@@ -103,55 +117,78 @@ impl Puzzle {
         ensures memory { IsErrOf result PuzzleFault.Memory
             → IsPuzzle (task_of board turns border.now (mated mates.now) tiles.now) }
     {
-        Puzzle::make(alloc, board, turns, border, 2, mates, tiles)
+        let rules = Rules {
+            turns,
+            border,
+            mates,
+            clues: &[],
+        };
+        Puzzle::make(alloc, board, &rules, 2, tiles)
     }
 
-    /// The puzzle of version 2 with the same turns, border, mates and tiles, and a rectangle as the shape with all of
-    /// its cells. It has the same arrangements. An `Err` comes where memory runs out.
+    /// The puzzle of version 3 of this board, these rules and these tiles.
+    ///
+    /// An `Err` is the first fault in the order of [`PuzzleFault`], with its least tile or place; `Memory` comes last.
+    pub fn with_clues(
+        alloc: Global,
+        board: Board,
+        rules: &Rules<'_>,
+        tiles: &[Tile],
+    ) -> Result<Puzzle, PuzzleFault>
+        requires tiles { length tiles.now < 2 ^ 32 }
+        requires border { IsShortRule (rule_of rules.now.border.now) }
+        requires mates { length rules.now.mates.now < 2 ^ 32 }
+        requires clues { length rules.now.clues.now < 2 ^ 32 }
+        ensures puzzle { IfOk result (λ p. (p ≡ task_by board rules.now 3 tiles.now) × IsPuzzle p) }
+        ensures fault { IfErr result (λ f. f ≢ PuzzleFault.Memory
+            → IsFirst puzzle_rank (PuzzleFails (task_by board rules.now 3 tiles.now)) f) }
+        ensures memory { IsErrOf result PuzzleFault.Memory → IsPuzzle (task_by board rules.now 3 tiles.now) }
+    {
+        Puzzle::make(alloc, board, rules, 3, tiles)
+    }
+
+    /// The puzzle with the same turns, border, mates, clues and tiles, and a rectangle as the shape with all of its
+    /// cells, of version 3 where the puzzle is, and else of version 2. It has the same arrangements. An `Err` comes
+    /// where memory runs out.
     pub fn second_form(&self, alloc: Global) -> Result<Puzzle, AllocError>
         ensures form { IfOk result (λ p. (p ≡ second_form_of self.now) × IsPuzzle p) }
         ensures puzzle { IsPuzzle self.now }
     {
         let board = self.board.second_form();
-        let turns = self.turns;
-        Puzzle::from_parts(
-            alloc,
-            board,
-            turns,
-            &self.border,
-            2,
-            &self.mates,
-            &self.tiles,
-        )
+        let version = self.version.max(2);
+        let rules = Rules {
+            turns: self.turns,
+            border: &self.border,
+            mates: &self.mates,
+            clues: &self.clues,
+        };
+        Puzzle::from_parts(alloc, board, &rules, version, &self.tiles)
     }
 
     // The puzzle of this version.
     fn make(
         alloc: Global,
         board: Board,
-        turns: bool,
-        border: &Border,
+        rules: &Rules<'_>,
         version: u8,
-        mates: &[u8],
         tiles: &[Tile],
     ) -> Result<Puzzle, PuzzleFault>
         requires tiles { length tiles.now < 2 ^ 32 }
-        requires border { IsShortRule (rule_of border.now) }
-        requires mates { length mates.now < 2 ^ 32 }
-        requires version { IsOfVersion (mating_of version mates.now) }
-        requires shapes { IsShape board → version ≡ 2 }
-        ensures puzzle { IfOk result (λ p. (p ≡ task_of board turns border.now
-            (mating_of version mates.now) tiles.now) × IsPuzzle p) }
+        requires border { IsShortRule (rule_of rules.now.border.now) }
+        requires mates { length rules.now.mates.now < 2 ^ 32 }
+        requires clues { length rules.now.clues.now < 2 ^ 32 }
+        requires version { IsOfVersion (mating_of version rules.now.mates.now) }
+        requires shapes { IsShape board → 2 ≤ version }
+        requires without { version < 3 → rules.now.clues.now ≡ [] }
+        ensures puzzle { IfOk result (λ p. (p ≡ task_by board rules.now version tiles.now) × IsPuzzle p) }
         ensures fault { IfErr result (λ f. f ≢ PuzzleFault.Memory
-            → IsFirst puzzle_rank (PuzzleFails (task_of board turns border.now
-            (mating_of version mates.now) tiles.now)) f) }
-        ensures memory { IsErrOf result PuzzleFault.Memory
-            → IsPuzzle (task_of board turns border.now (mating_of version mates.now) tiles.now) }
+            → IsFirst puzzle_rank (PuzzleFails (task_by board rules.now version tiles.now)) f) }
+        ensures memory { IsErrOf result PuzzleFault.Memory → IsPuzzle (task_by board rules.now version tiles.now) }
     {
-        if let Some(fault) = puzzle_fault(&board, turns, border, version, mates, tiles) {
+        if let Some(fault) = puzzle_fault(&board, rules, version, tiles) {
             return Err(fault);
         }
-        let puzzle = Puzzle::from_parts(alloc, board, turns, border, version, mates, tiles)?;
+        let puzzle = Puzzle::from_parts(alloc, board, rules, version, tiles)?;
         Ok(puzzle)
     }
 
@@ -159,26 +196,25 @@ impl Puzzle {
     fn from_parts(
         alloc: Global,
         board: Board,
-        turns: bool,
-        border: &Border,
+        rules: &Rules<'_>,
         version: u8,
-        mates: &[u8],
         tiles: &[Tile],
     ) -> Result<Puzzle, AllocError>
-        requires { IsPuzzle (task_of board turns border.now (mating_of version mates.now) tiles.now) }
-        ensures { IfOk result (λ p. (p ≡ task_of board turns border.now
-            (mating_of version mates.now) tiles.now) × IsPuzzle p) }
+        requires { IsPuzzle (task_by board rules.now version tiles.now) }
+        ensures { IfOk result (λ p. (p ≡ task_by board rules.now version tiles.now) × IsPuzzle p) }
     {
-        let tables = Tables::new(alloc, &board, turns, border, mates, tiles)?;
-        let border = border.copy(alloc)?;
-        let mates = mates.to_vec(alloc)?;
+        let tables = Tables::new(alloc, &board, rules, tiles)?;
+        let border = rules.border.copy(alloc)?;
+        let mates = rules.mates.to_vec(alloc)?;
+        let clues = rules.clues.to_vec(alloc)?;
         let tiles = tiles.to_vec(alloc)?;
         Ok(Puzzle {
             board,
-            turns,
+            turns: rules.turns,
             border,
             version,
             mates,
+            clues,
             tiles,
             tables,
         })
@@ -206,10 +242,10 @@ impl Puzzle {
         &self.border
     }
 
-    /// 1, or 2 where colours have mates by a list or the board is a shape.
+    /// 1, or 2 where colours have mates by a list or the board is a shape, or 3 where there may be clues.
     pub fn version(&self) -> u8
         ensures version { result ≡ self.now.mating.version }
-        ensures two { IsOfVersion self.now.mating }
+        ensures three { IsOfVersion self.now.mating }
     {
         self.version
     }
@@ -220,6 +256,14 @@ impl Puzzle {
         ensures mates { AreMates result.now }
     {
         self.mates.as_slice()
+    }
+
+    /// The clues, by their cells.
+    pub fn clues(&self) -> &[Clue]
+        ensures clues { map clue_of result.now ≡ self.now.clues }
+        ensures puzzle { IsPuzzle self.now }
+    {
+        self.clues.as_slice()
     }
 
     /// The mate of a colour.
@@ -239,23 +283,20 @@ impl Puzzle {
         self.tiles.as_slice()
     }
 
-    /// One more than the greatest colour on a tile, in the border's rule or in the list of mates.
+    /// One more than the greatest colour on a tile, in the border's rule, in the list of mates or in a clue.
     pub fn colours(&self) -> u8
         ensures { IsColourCount self.now result }
     {
         self.tables.colours
     }
 
-    /// What the border asks of a side of a cell: nothing where it meets a cell.
+    /// What the border or a clue asks of a side of a cell: a colour, or nothing.
     pub fn rule(&self, cell: u16, side: u8) -> Option<u8>
         requires cell { cell < cell_count self.now.board }
         requires side { side < side_count self.now.board }
         ensures { (colour : ℕ) → (result ≡ Some colour) ↔ HasRule self.now cell side colour }
     {
-        match self.side(cell, side) {
-            Side::Border(rule) => rule,
-            Side::Edge { .. } => None,
-        }
+        self.side(cell, side).rule()
     }
 
     /// What the side of the cell meets: another cell and its side, or nothing at the border.
@@ -269,7 +310,7 @@ impl Puzzle {
     {
         match self.side(cell, side) {
             Side::Border(_) => None,
-            Side::Edge { cell, side } => Some((cell, side)),
+            Side::Edge { cell, side, .. } => Some((cell, side)),
         }
     }
 
@@ -317,7 +358,7 @@ impl Puzzle {
 
     /// The placements that show on the side what is asked, by number.
     pub fn showing(&self, asked: u8, side: u8) -> &FixedSet
-        requires asked { asked ≤ ANY_COLOUR }
+        requires asked { asked ≤ NO_COLOUR }
         requires side { side < 4 }
         ensures { AreShowing self.now.words asked side result.now }
     {
@@ -343,6 +384,42 @@ impl Puzzle {
             + usize::from(placement.turn)]
     }
 
+    // What is asked where nothing stands, as a partial arrangement keeps it.
+    pub(crate) fn beginning(&self) -> &[u8]
+        ensures asks { AreAsking self.now (empty_prefix self.now) result.now }
+        ensures puzzle { IsPuzzle self.now }
+    {
+        self.tables.asks.as_slice()
+    }
+
+    // What is asked of those that meet an empty cell's sides: what a clue asks, or any colour.
+    pub(crate) fn asked_beside_empty(&self, cell: u16) -> [u8; SIDES]
+        requires { cell < cell_count self.now.board }
+        ensures { (other met side : ℕ) → Meets self.now.board other met cell side
+            → TellsOf (HasRule self.now other met) (slice_index result side) }
+    {
+        if !self.tables.clued {
+            return [ANY_COLOUR; SIDES];
+        }
+        four_from(&self.tables.asks, FIRST_PLACE + SIDES * usize::from(cell))
+    }
+
+    // What is asked of those that meet the placement's sides at the cell: the mate of the colour that it shows there, and
+    // of none that there is where a clue asks for another.
+    pub(crate) fn asked_beside(&self, cell: u16, placement: Placement) -> [u8; SIDES]
+        requires cell { cell < cell_count self.now.board }
+        requires legal { IsLegal self.now placement }
+        ensures { (other met side : ℕ) → Meets self.now.board other met cell side
+            → TellsOf (λ colour. HasRule self.now other met colour
+            ⊎ (mate_of self.now (colour_of self.now placement side) ≡ colour)) (slice_index result side) }
+    {
+        let placed = self.asked_by(placement);
+        if !self.tables.clued {
+            return placed;
+        }
+        both_asked(self.asked_beside_empty(cell), placed)
+    }
+
     /// The colour that a placed tile shows on a side.
     #[tactic(auto, unfolding(crate::specs::Puzzle::colour_of))]
     pub fn colour(&self, placement: Placement, side: u8) -> u8
@@ -364,26 +441,25 @@ impl Puzzle {
     }
 }
 
-// What is wrong with the puzzle of this board, these mates and these tiles.
+// What is wrong with the puzzle of this board, these rules and these tiles.
 fn puzzle_fault(
     board: &Board,
-    turns: bool,
-    border: &Border,
+    rules: &Rules<'_>,
     version: u8,
-    mates: &[u8],
     tiles: &[Tile],
 ) -> Option<PuzzleFault>
     requires tiles { length tiles.now < 2 ^ 32 }
-    requires border { IsShortRule (rule_of border.now) }
-    requires mates { length mates.now < 2 ^ 32 }
-    requires version { IsOfVersion (mating_of version mates.now) }
-    requires shapes { IsShape board.now → version ≡ 2 }
+    requires border { IsShortRule (rule_of rules.now.border.now) }
+    requires mates { length rules.now.mates.now < 2 ^ 32 }
+    requires clues { length rules.now.clues.now < 2 ^ 32 }
+    requires version { IsOfVersion (mating_of version rules.now.mates.now) }
+    requires shapes { IsShape board.now → 2 ≤ version }
+    requires without { version < 3 → rules.now.clues.now ≡ [] }
     ensures { MatchOption result
-        (IsPuzzle (task_of board.now turns border.now (mating_of version mates.now) tiles.now))
-        (IsFirst puzzle_rank (PuzzleFails
-        (task_of board.now turns border.now (mating_of version mates.now) tiles.now))) }
+        (IsPuzzle (task_by board.now rules.now version tiles.now))
+        (IsFirst puzzle_rank (PuzzleFails (task_by board.now rules.now version tiles.now))) }
 {
-    if board.sides() == 3 && !turns {
+    if board.sides() == 3 && !rules.turns {
         return Some(PuzzleFault::FixedTriangles);
     }
     if tiles.len() != usize::from(board.cells()) {
@@ -392,14 +468,17 @@ fn puzzle_fault(
     if let Some(tile) = odd_tile(board, tiles) {
         return Some(PuzzleFault::TileSides(tile));
     }
-    if let Some(place) = border.bad_colour() {
+    if let Some(place) = rules.border.bad_colour() {
         return Some(PuzzleFault::BadColour(place));
     }
-    if !border.is_as_long_as(board) {
+    if !rules.border.is_as_long_as(board) {
         return Some(PuzzleFault::BorderLength);
     }
-    if let Some(place) = broken_mate(mates) {
+    if let Some(place) = broken_mate(rules.mates) {
         return Some(PuzzleFault::Mates(place));
+    }
+    if let Some(number) = broken_clue(board, rules) {
+        return Some(PuzzleFault::Clue(number));
     }
     None
 }

@@ -2,6 +2,9 @@
 use Rattle.std.proofs.Common.{◌≡◌, ℕ, List, Result, Ok, Err, refl, ap, sym, subst}
 use Rattle.numbered_pieces.specs.declared.faults.AssembleFault.{AssembleFault}
 use Rattle.plain_words.specs.declared.faults.TextFault.{TextFault}
+use Rattle.plain_words.specs.declared.faults.ReadFault.{ReadFault}
+use Rattle.plain_words.specs.declared.faults.ReadFault.TheVariants as lists
+use Rattle.text_crew.specs.Texts.{IsListRead}
 use Rattle.cert_tree.specs.Certificate.{Contents}
 use Rattle.cert_text.specs.CertificateText.{Said, Makes, CertificateGives, certificate_of}
 use Rattle.cert_text.specs.declared.faults.CertTextFault.{CertTextFault}
@@ -12,7 +15,7 @@ use Rattle.match_puzzle.specs.Puzzle.{Task}
 use Rattle.match_puzzle.specs.declared.placements.Placement.{Placement}
 use Rattle.match_text.specs.Lists.{list_of}
 use Rattle.match_text.specs.Puzzles.{PuzzleReads}
-use Rattle.match_runs.specs.FaultText.{run_of_certificate}
+use Rattle.match_runs.specs.FaultText.{run_of_certificate, run_of_list}
 use Rattle.byte_streams.specs.Documents.{Texts}
 use Rattle.match_runs.specs.Checking.{CheckFails, Spells}
 use Rattle.match_runs.specs.Printing.{IsPrinted, PrintingFails, PrintingGives, QuestionFails}
@@ -36,6 +39,11 @@ text_fails fault (Err other) same = ap Err (sym same)
 pub lemmas_fail : (fault : AssembleFault) (outcome : Result Said TextFault) → CertificateGives (Err (Assemble fault)) outcome → (said : Said) × (outcome ≡ Ok said) × Makes said (Err (Assemble fault))
 lemmas_fail fault (Ok said) makes = (said, refl, makes)
 lemmas_fail fault (Err other) gives = absurd gives
+
+-- a list that has a fault, behind a puzzle
+pub list_fails : (ts : Texts) (e : ReadFault) (fault : RunFault) (p : Task) → PuzzleReads ts.puzzle (Ok p) → IsListRead ts.list (Err e) → fault ≡ run_of_list e → CheckFails ts fault
+list_fails ts (lists.Text f) fault p reads read is = subst (CheckFails ts) (sym is) (p, reads, read.0)
+list_fails ts lists.Memory fault p reads read is = subst (CheckFails ts) (sym is) tt
 
 -- a certificate that has a fault, behind a puzzle and a list
 pub certificate_fails : (ts : Texts) (e : CertTextFault) (fault : RunFault) (p : Task) (listed : List (List Placement)) → PuzzleReads ts.puzzle (Ok p) → list_of ts.list ≡ Ok listed

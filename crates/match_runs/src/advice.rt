@@ -5,7 +5,7 @@ use crate::hints::hint_on;
 use match_crew::{SearchPlan, SolveFault};
 use match_limits::{MOST_BYTES, MOST_DEPTH, MOST_FUEL};
 use match_puzzle::Puzzle;
-use match_show::{Estimate, estimate_of};
+use match_show::estimate_of;
 use match_symmetry::suggest_of;
 use match_text::read_puzzle;
 use std::alloc::Global;
@@ -64,7 +64,8 @@ fn expectation(
     let number = estimate.to_text(alloc).ok()?;
     let advice = match fault {
         RunFault::Solve(SolveFault::Full) => advice_on_many(alloc, &puzzle, plan),
-        _ => advice_on_fuel(estimate, plan),
+        _ if estimate.is_over_a_list() => advice_on_many(alloc, &puzzle, plan),
+        _ => advice_on_fuel(plan),
     };
     format!(in alloc; "arrangements by an estimate: {number}; {advice}").ok()
 }
@@ -92,11 +93,9 @@ fn may_be_deeper(plan: &SearchPlan) -> bool {
     plan.depth.get() < u32::from(MOST_DEPTH)
 }
 
-// What may help where the fuel ran out.
-fn advice_on_fuel(estimate: Estimate, plan: &SearchPlan) -> &'static str {
-    if estimate.is_over_a_list() {
-        NO_LIST
-    } else if plan.fuel.get() < MOST_FUEL {
+// What may help where the fuel ran out, and no more arrangements may be expected than a list has.
+fn advice_on_fuel(plan: &SearchPlan) -> &'static str {
+    if plan.fuel.get() < MOST_FUEL {
         "more fuel may help, up to --fuel 1000000"
     } else if may_be_deeper(plan) {
         GREATER_DEPTH

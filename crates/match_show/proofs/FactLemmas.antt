@@ -27,5 +27,5 @@ few_colours p count puzzle counted =
     counted.least MOST_COLOURS (λ colour has.
     ⊎_elim
     (λ t. All-contains (λ c. c < MOST_COLOURS) (word_of p t.0) colour (puzzle.tile_colours t.0 t.1) t.2)
-    (λ other. ⊎_elim (λ r. puzzle.border_colours r.0 colour r.1) (λ lt. let few = puzzle.mating.mates.few in omega (arith, lt, few)) other)
+    (λ other. ⊎_elim (λ r. puzzle.border_colours r.0 colour r.1) (λ last. ⊎_elim (λ lt. let few = puzzle.mating.mates.few in omega (arith, lt, few)) (λ w. puzzle.clues.colours w.0 w.1 colour w.2) last) other)
     has)

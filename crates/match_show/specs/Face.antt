@@ -7,7 +7,7 @@ use Rattle.match_puzzle.specs.declared.placements.Placement.{Placement}
 use Rattle.text_words.specs.Spelling.{colour_character}
 use Rattle.match_show.specs.declared.faces.Face.{Face}
 
--- The sign at a side of an empty cell: the colour that the border asks of it, or a space where it asks none.
+-- The sign at a side of an empty cell: the colour that the border or a clue asks of it, or a space where none is asked.
 abbrev pub IsRuleSign : Task → (cell side sign : ℕ) → Type 0
 IsRuleSign p cell side sign =
     ((colour : ℕ) × HasRule p cell side colour × (sign ≡ colour_character colour))
@@ -21,7 +21,7 @@ pub record ShowsTile (q : Layout) (face : Face) : Type 0 where
   pub signs : (side : ℕ) → side < side_count q.puzzle.board
       → slice_index face.signs side ≡ colour_character (colour_of q.puzzle placement side)
 
--- Nothing stands at the cell: what the border asks of it is seen.
+-- Nothing stands at the cell: what the border and a clue ask of it is seen.
 pub record ShowsRules (q : Layout) (face : Face) : Type 0 where
   pub free : IsFree q.placed face.cell
   pub tile : face.tile ≡ None

@@ -5,6 +5,7 @@ use Rattle.std.specs.List.{flat_map, range_with_len}
 use Rattle.match_board.specs.Board.{cell_count, IsBorderOrder}
 use Rattle.match_puzzle.specs.Puzzle.{Task, mate_of}
 use Rattle.match_board.specs.Borders.{BorderRule, free, one, each}
+use Rattle.match_board.specs.Clues.{Clue}
 use Rattle.match_puzzle.specs.Colours.{IsColourCount}
 use Rattle.text_words.specs.Spelling.{colour_character, count_words, text_of}
 
@@ -65,9 +66,14 @@ abbrev pub mates_text : Task → (mates : List ℕ) → (colours : ℕ) → List
 mates_text p [] colours = codes "equal colours meet\n"
 mates_text p (first ∷ rest) colours = flat_map (mate_line p) (range_with_len 0 colours)
 
--- whether tiles may be turned, and which sides may meet
+-- how many clues there are, where there are some
+abbrev pub clues_text : List Clue → List ℕ
+clues_text [] = []
+clues_text (first ∷ rest) = number_line (codes "clues") (length (first ∷ rest))
+
+-- whether tiles may be turned, which sides may meet, and how many cells have clues
 abbrev pub rules_text : Task → (colours : ℕ) → List ℕ
-rules_text p colours = turns_line p.turns ++ mates_text p p.mating.mates colours
+rules_text p colours = turns_line p.turns ++ mates_text p p.mating.mates colours ++ clues_text p.clues
 
 -- how many cells, tiles and colours there are, a line for each colour, where there are so many outer sides, and the
 -- rules

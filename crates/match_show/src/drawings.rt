@@ -13,9 +13,10 @@ use std::alloc::{AllocError, Global};
 /// The board of a partial arrangement in text, with the number of each cell.
 ///
 /// Where a tile stands, its number and the colours that it shows, each at its side; at an empty cell the colour that
-/// the border asks of a side, and a space where it asks none. A star follows the number of the marked cell; a mark that
-/// is no cell's number marks none. A square takes three lines between its edges, a triangle five lines; where a shape
-/// has no cell there are spaces, but for the edges of its neighbours. A line has no space at its end, and ends with LF.
+/// the border or a clue asks of a side, and a space where none is asked. A star follows the number of the marked cell; a
+/// mark that is no cell's number marks none. A square takes three lines between its edges, a triangle five lines; where
+/// a shape has no cell there are spaces, but for the edges of its neighbours. A line has no space at its end, and ends
+/// with LF.
 ///
 /// An `Err` where memory is refused, and nowhere else. It takes time in proportion to the text, and memory for it, for a
 /// few bytes at each place of the board and for a line.

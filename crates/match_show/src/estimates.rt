@@ -1,7 +1,7 @@
 //! How many arrangements a puzzle may be expected to have.
 
 ghost use Rattle.std.specs.Prelude.{◌<◌, IfOk};
-ghost use Rattle.match_board.specs.Board.{cell_count};
+ghost use Rattle.match_board.specs.Board.{cell_count, side_count};
 ghost use Rattle.match_show.specs.Facts.{IsEstimateLine};
 
 use match_limits::{MOST_COLOURS, MOST_SIDES};
@@ -15,9 +15,9 @@ const MOST_PLACES: i32 = 6;
 
 /// How many arrangements a puzzle would have in the mean, if each side of each tile showed a colour of its own accord,
 /// each as often as it stands on the tiles: as many as there are ways to lay the tiles, times the chance of each shared
-/// edge that its colours go together, and of each outer side that it shows what is asked. Where tiles aren't turned,
-/// colours are counted for each side apart. It is an estimate, and the number itself may be far from it: sides of one
-/// tile don't go their own ways.
+/// edge that its colours go together and are those that clues ask for, and of each outer side that it shows what is
+/// asked. Where tiles aren't turned, colours are counted for each side apart. It is an estimate, and the number itself
+/// may be far from it: sides of one tile don't go their own ways.
 #[derive(Clone, Copy)]
 pub struct Estimate {
     // 12 digits, or 0
@@ -105,20 +105,57 @@ fn with_sides(before: Estimate, puzzle: &Puzzle, colours: &SideColours, cell: u1
 {
     let mut estimate = before;
     for side in 0..puzzle.board().sides() {
-        match puzzle.meets(cell, side) {
-            Some((other, met)) => {
-                if cell < other {
-                    estimate = estimate.times(colours.matching(puzzle, side, met), colours.pairs());
-                }
-            }
-            None => {
-                if let Some(asked) = puzzle.rule(cell, side) {
-                    estimate = estimate.times(colours.count(side, asked), colours.sides);
-                }
-            }
-        }
+        estimate = with_side(estimate, puzzle, colours, cell, side);
     }
     estimate
+}
+
+// The estimate, times the chance of the side.
+fn with_side(
+    before: Estimate,
+    puzzle: &Puzzle,
+    colours: &SideColours,
+    cell: u16,
+    side: u8,
+) -> Estimate
+    requires cell { cell < cell_count puzzle.now.board }
+    requires side { side < side_count puzzle.now.board }
+{
+    let colour = puzzle.rule(cell, side);
+    match met_by(puzzle, cell, side) {
+        Some(met) if met.cell <= cell => before,
+        Some(met) => {
+            let here = Asked { cell, side, colour };
+            before.times(colours.matching(puzzle, here, met), colours.pairs())
+        }
+        None => match colour {
+            Some(asked) => before.times(colours.count(side, asked), colours.sides),
+            None => before,
+        },
+    }
+}
+
+// A side of a cell, and the colour that is asked of it, or none.
+#[derive(Clone, Copy)]
+struct Asked {
+    cell: u16,
+    side: u8,
+    colour: Option<u8>,
+}
+
+// The side that this one meets, and what is asked of it; none at the border.
+fn met_by(puzzle: &Puzzle, cell: u16, side: u8) -> Option<Asked>
+    requires cell { cell < cell_count puzzle.now.board }
+    requires side { side < side_count puzzle.now.board }
+{
+    match puzzle.meets(cell, side) {
+        Some((cell, side)) => Some(Asked {
+            cell,
+            side,
+            colour: puzzle.rule(cell, side),
+        }),
+        None => None,
+    }
 }
 
 // How often each colour stands on each side of the tiles; or on any, where tiles may be turned.
@@ -160,13 +197,21 @@ impl SideColours {
         }
     }
 
-    // Of how many pairs of sides, one of each of these, the colours go together.
-    fn matching(&self, puzzle: &Puzzle, side: u8, met: u8) -> u32 {
+    // The same, or 0 where another colour is asked of the side.
+    fn count_as_asked(&self, asked: Asked, colour: u8) -> u32 {
+        match asked.colour {
+            Some(other) if other != colour => 0,
+            _ => self.count(asked.side, colour),
+        }
+    }
+
+    // Of how many pairs of sides, one of each of these, the colours go together and are those that are asked for.
+    fn matching(&self, puzzle: &Puzzle, here: Asked, there: Asked) -> u32 {
         let mut matching = 0u32;
         for colour in 0..MOST_COLOURS {
             let pairs = self
-                .count(side, colour)
-                .saturating_mul(self.count(met, puzzle.mate(colour)));
+                .count_as_asked(here, colour)
+                .saturating_mul(self.count_as_asked(there, puzzle.mate(colour)));
             matching = matching.saturating_add(pairs);
         }
         matching

@@ -56,7 +56,7 @@ fn signs_shown(puzzle: &Puzzle, placement: Placement) -> [u8; SIDES]
     signs
 }
 
-// The colours that the border asks of the cell.
+// The colours that the border and a clue ask of the cell.
 fn signs_asked(puzzle: &Puzzle, cell: u16) -> [u8; SIDES]
     requires { cell < cell_count puzzle.now.board }
     ensures { (side : ℕ) → side < side_count puzzle.now.board
@@ -69,7 +69,7 @@ fn signs_asked(puzzle: &Puzzle, cell: u16) -> [u8; SIDES]
     signs
 }
 
-// The colour that the border asks of the side, or a space.
+// The colour that the border or a clue asks of the side, or a space.
 fn sign_asked(puzzle: &Puzzle, cell: u16, side: u8) -> u8
     requires cell { cell < cell_count puzzle.now.board }
     requires side { side < side_count puzzle.now.board }

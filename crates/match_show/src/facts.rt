@@ -6,7 +6,7 @@ ghost use Rattle.match_board.specs.Tile.{word};
 ghost use Rattle.match_puzzle.specs.Puzzle.{Task, IsPuzzle};
 ghost use Rattle.match_board.specs.Borders.{rule_of};
 ghost use Rattle.match_show.specs.Facts.{IsFacts, border_count, tile_count, colour_line, is_colour, is_rule};
-ghost use Rattle.match_show.specs.Facts.{mate_line, mates_text, named, own_mate_line, pair_line, turns_line};
+ghost use Rattle.match_show.specs.Facts.{clues_text, mate_line, mates_text, named, own_mate_line, pair_line, turns_line};
 
 use match_board::Tile;
 use match_limits::{MOST_COLOURS, MOST_TILES};
@@ -17,7 +17,8 @@ use text_words::{character, put_number, put_number_line};
 /// Facts of a puzzle: the lines `cells N`, `tiles N` and `colours N`, and for each colour C, from 0 on, a line
 /// `colour C: N on the border, N on tiles` with how many outer sides ask for it, and how many sides of tiles have it;
 /// then `tiles may be turned` or `tiles may not be turned`; and `equal colours meet`, or where the puzzle has mates a line
-/// `colours C and D are mates` or `colour C is its own mate` for each colour but the greater of two mates.
+/// `colours C and D are mates` or `colour C is its own mate` for each colour but the greater of two mates; and `clues N`
+/// where the puzzle has some.
 ///
 /// An `Err` where memory is refused, and nowhere else. It asks what each side of each cell meets, and goes through the
 /// tiles once for each colour.
@@ -34,6 +35,7 @@ pub fn write_facts(alloc: Global, puzzle: &Puzzle) -> Result<Vec<u8>, AllocError
     put_colour_lines(&mut text, puzzle, board.border_len(), colours)?;
     put_turns_line(&mut text, puzzle.turns())?;
     put_mates(&mut text, puzzle, colours)?;
+    put_clues(&mut text, puzzle)?;
     Ok(text)
 }
 
@@ -144,6 +146,16 @@ fn put_pair(text: &mut Vec<u8>, colour: u8, mate: u8) -> Result<(), AllocError>
     put_named(text, b" and ", mate)?;
     text.extend_from_slice(b" are mates\n")?;
     Ok(())
+}
+
+// How many clues there are, where there are some.
+fn put_clues(text: &mut Vec<u8>, puzzle: &Puzzle) -> Result<(), AllocError>
+    ensures { OnOk result (text.new.items ≡ text.old.items ++ clues_text puzzle.now.clues) }
+{
+    match puzzle.clues() {
+        [] => Ok(()),
+        clues => put_number_line(text, b"clues", clues.len() as u64),
+    }
 }
 
 /// Writes the words, and the sign of the colour.

@@ -1,10 +1,10 @@
 -- The lines of a board: what is read is what was written, and what was written is read again.
-use Rattle.std.proofs.Common.{◌≡◌, ℕ, ◌≤◌, ◌*◌, Bool, true, false, cond, eqb, ◌&&◌, List, [], ◌∷◌, ◌++◌, length, Ok, Err, refl, sym, ap, subst, ◌∙◌, arith, codes}
+use Rattle.std.proofs.Common.{◌≡◌, ℕ, ◌≤◌, ◌*◌, Bool, true, false, cond, leb, ◌&&◌, List, [], ◌∷◌, ◌++◌, length, Ok, Err, refl, sym, ap, subst, ◌∙◌, arith, codes}
 use Rattle.match_limits.specs.declared.TheConstants.{MOST_LENGTH, MOST_PLACES}
 use Rattle.std.specs.Fmt.{decimal}
 use Rattle.std.specs.List.{flat_map, AllByRecursion}
 use Rattle.std.specs.Str.{bytes_eq}
-use Rattle.std.proofs.lemmas.Bool.{eqb-true, eq-eqb}
+use Rattle.std.proofs.lemmas.Bool.{leb-true, le-leb}
 use Rattle.std.proofs.lemmas.List.Concat.{flat_map_single}
 use Rattle.std.proofs.lemmas.Slice.Eq.{bytes_eq-Decides}
 use Rattle.match_board.specs.Board.{mask_of, shape_of, MarksItsPlaces}
@@ -44,30 +44,30 @@ abbrev IsKnown : ℕ → BoardKind → Type 0
 IsKnown version Rectangle = Unit {0}
 IsKnown version Triangle = Unit {0}
 IsKnown version Hexagon = Unit {0}
-IsKnown version Shape = version ≡ 2
+IsKnown version Shape = 2 ≤ version
 
 abbrev IsKindWord : ℕ → List ℕ → BoardKind → Type 0
 IsKindWord version word kind = (word ≡ kind_word kind) × IsKnown version kind
 
-kind_first : (version : ℕ) (word : List ℕ) (kind : BoardKind) (t u v w : Bool) → bytes_eq word (codes "rect") ≡ t → bytes_eq word (codes "triangle") ≡ u → bytes_eq word (codes "hexagon") ≡ v → (eqb version 2 && bytes_eq word (codes "shape")) ≡ w
+kind_first : (version : ℕ) (word : List ℕ) (kind : BoardKind) (t u v w : Bool) → bytes_eq word (codes "rect") ≡ t → bytes_eq word (codes "triangle") ≡ u → bytes_eq word (codes "hexagon") ≡ v → (leb 2 version && bytes_eq word (codes "shape")) ≡ w
     → cond t (judged_ok Rectangle) (cond u (judged_ok Triangle) (cond v (judged_ok Hexagon) (cond w (judged_ok Shape) (Err Word)))) ≡ judged_ok kind → IsKindWord version word kind
 kind_first version word kind true u v w r t h s e = subst (IsKindWord version word) (judged_ok_is Rectangle kind e) ((bytes_eq-Decides word (codes "rect")).0 r, tt)
 kind_first version word kind false true v w r t h s e = subst (IsKindWord version word) (judged_ok_is Triangle kind e) ((bytes_eq-Decides word (codes "triangle")).0 t, tt)
 kind_first version word kind false false true w r t h s e = subst (IsKindWord version word) (judged_ok_is Hexagon kind e) ((bytes_eq-Decides word (codes "hexagon")).0 h, tt)
 kind_first version word kind false false false true r t h s e =
-    let parts = both (eqb version 2) (bytes_eq word (codes "shape")) s in
-    subst (IsKindWord version word) (judged_ok_is Shape kind e) ((bytes_eq-Decides word (codes "shape")).0 parts.1, eqb-true version 2 parts.0)
+    let parts = both (leb 2 version) (bytes_eq word (codes "shape")) s in
+    subst (IsKindWord version word) (judged_ok_is Shape kind e) ((bytes_eq-Decides word (codes "shape")).0 parts.1, leb-true 2 version parts.0)
 kind_first version word kind false false false false r t h s e = absurd cc
 
 kind_again : (version : ℕ) (kind : BoardKind) → IsKnown version kind → board_kind_in version (kind_word kind) ≡ Ok kind
 kind_again version Rectangle known = refl
 kind_again version Triangle known = refl
 kind_again version Hexagon known = refl
-kind_again version Shape known = rw (eq-eqb version 2 known) refl
+kind_again version Shape known = rw (le-leb 2 version known) refl
 
 spells_board_kind : (version : ℕ) → Spells (board_kind_in version) kind_word (IsKnown version)
 spells_board_kind version = record {
-  is = λ word kind e. kind_first version word kind (bytes_eq word (codes "rect")) (bytes_eq word (codes "triangle")) (bytes_eq word (codes "hexagon")) (eqb version 2 && bytes_eq word (codes "shape")) refl refl refl refl e;
+  is = λ word kind e. kind_first version word kind (bytes_eq word (codes "rect")) (bytes_eq word (codes "triangle")) (bytes_eq word (codes "hexagon")) (leb 2 version && bytes_eq word (codes "shape")) refl refl refl refl e;
   passes = kind_again version;
 }
 
@@ -210,7 +210,7 @@ shape_lines width height rows count long =
     let tail = mask_of (joined rows) in
     ap (λ n. row_lines width n tail) (sym count) ∙ lines_of_rows width rows _ long ∙ sym (flat_map_single row_words rows)
 
-shape_rows_is : (version width height : ℕ) → (version ≡ 2) → IsShapeLength width → IsShapeLength height → (p : Place) (x : Figure) (q : Place) → shape_rows width height p ≡ Ok (x, q) → IsRowsRead version (lines.Shape width height) p (x, q)
+shape_rows_is : (version width height : ℕ) → 2 ≤ version → IsShapeLength width → IsShapeLength height → (p : Place) (x : Figure) (q : Place) → shape_rows width height p ≡ Ok (x, q) → IsRowsRead version (lines.Shape width height) p (x, q)
 unfolding shape_rows kind_of
 shape_rows_is version width height two wide high p x q e =
     let a = bind_ok (times height (row_line width) p) (λ rows. give (shape_by width height rows)) (x, q) e in

@@ -3,6 +3,7 @@ pub mod ShapeLemmas
 pub mod BoardLineLemmas
 pub mod PuzzleLineLemmas
 pub mod PuzzleLemmas
+pub mod ClueLemmas
 pub mod LimitLemmas
 pub mod ReadingLemmas
 pub mod RowLineLemmas

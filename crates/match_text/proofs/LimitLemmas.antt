@@ -1,10 +1,15 @@
 -- Each puzzle is within the limits of its text.
-use Rattle.std.proofs.Common.{Bool, ◌≡◌, ◌⊎◌, ◌<◌, ◌≤◌, ◌+◌, ◌*◌, ℕ, zero, suc, List, [], ◌∷◌, All, length, get_or, Option, Some, None, arith, refl, sym, subst, inl, inr, ⊎_elim}
+use Rattle.std.proofs.Common.{Bool, ◌≡◌, ◌≢◌, ◌⊎◌, ◌<◌, ◌≤◌, ◌+◌, ◌*◌, ℕ, zero, suc, List, [], ◌∷◌, All, length, get_or, Option, Some, None, arith, refl, sym, subst, inl, inr, ⊎_elim}
 use Rattle.match_limits.specs.declared.TheConstants.{MOST_PLAIN_CELLS, MOST_PLACES, MOST_LENGTH, MOST_COLOURS}
 use Rattle.match_limits.specs.declared.ranges.Ranges.{Ranges}
-use Rattle.match_limits.specs.Ranges.{IsVersion, ranges_of, AreRanges}
-use Rattle.match_limits.proofs.RangesLemmas.{are_ranges, second_is}
-use Rattle.text_words.specs.Within.{IsRuleWithin, IsWordWithin}
+use Rattle.match_limits.specs.declared.ranges.TheConstants.{SECOND}
+use Rattle.match_limits.specs.Ranges.{ranges_of, AreRanges}
+use Rattle.match_limits.proofs.RangesLemmas.{are_ranges}
+use Rattle.match_limits.proofs.ListLemmas.{contains_at}
+use Rattle.std.proofs.lemmas.Bool.{ne_eqb}
+use Rattle.match_board.specs.Mates.{Mating, IsOfVersion}
+use Rattle.match_board.specs.Clues.{Clue}
+use Rattle.text_words.specs.Within.{IsRuleWithin, IsWordWithin, IsClueWithin}
 use Rattle.std.specs.Prelude.{slice_get, slice_index_or}
 use Rattle.std.specs.List.{AllByRecursion}
 use Rattle.std.proofs.lemmas.List.{get_or_default}
@@ -14,9 +19,9 @@ use Rattle.match_board.proofs.MaskLemmas.{above_in_shape, marks_few}
 use Rattle.match_board.specs.declared.figures.Figure.{Figure}
 use Rattle.match_board.specs.declared.figures.Figure.TheVariants.{Rectangle, Triangle, Hexagon, Shape}
 use Rattle.match_board.proofs.Places.{above_in_rectangle, above_in_triangle, cells_in_hexagon, whole_row, left_of_later, met_place}
-use Rattle.match_puzzle.specs.Puzzle.{Task, IsPuzzle}
+use Rattle.match_puzzle.specs.Puzzle.{Task, IsPuzzle, AreClues}
 use Rattle.match_board.specs.Borders.{BorderRule, free, one, each, IsAsLongAsBorder, StandsInRule}
-use Rattle.match_text.specs.PuzzleSpelling.{IsFigureWithin, IsBorderWithin, AreRulesWithin, IsTaskWithin}
+use Rattle.match_text.specs.PuzzleSpelling.{IsFigureWithin, IsBorderWithin, AreRulesWithin, AreCluesWithin, IsTaskWithin}
 
 -- ---- boards
 
@@ -35,7 +40,7 @@ sides_within zero width most low high = absurd (omega (arith, low))
 sides_within (suc height) zero most low high = absurd (omega (arith, low))
 sides_within (suc height) (suc width) most low high = ((omega arith, omega (arith, high)), (omega arith, omega (arith, high)))
 
-figure_within : (version : ℕ) (s : Figure) → IsBoard s → (IsShape s → version ≡ 2) → IsFigureWithin version s
+figure_within : (version : ℕ) (s : Figure) → IsBoard s → (IsShape s → 2 ≤ version) → IsFigureWithin version s
 figure_within version (Rectangle width height) is shapes =
     let cells = above_in_rectangle width height height in
     let both = factors_within height width (omega (arith, cells, is.some)) (omega (arith, cells, is.room)) in
@@ -178,7 +183,6 @@ listed_within mates h = colours_within mates (λ k d lt. subst (λ n. n < MOST_C
 mates_below : (p : Task) → IsPuzzle p → (k : ℕ) → k < length p.mating.mates → slice_index_or p.mating.mates k k < MOST_COLOURS
 mates_below p is k lt = let few = is.mating.mates.few in let mate = (is.mating.mates.each k lt).0 in omega (arith, few, mate)
 
--- a board has as many cells as a text of its puzzle's version may name
 -- ---- cells
 
 plain_room : (s : Figure) → IsPlain s → HasRoom s → cell_count s ≤ MOST_PLAIN_CELLS
@@ -194,17 +198,69 @@ first_plain (Triangle size) not = tt
 first_plain (Hexagon size) not = tt
 first_plain (Shape width height mask) not = not (λ plain. plain)
 
-cells_in_version : (s : Figure) (version : ℕ) → IsBoard s → (IsShape s → version ≡ 2) → IsVersion version → cell_count s ≤ (ranges_of version).most_cells
+later_ranges : (version : ℕ) → 2 ≤ version → ranges_of version ≡ SECOND
+unfolding ranges_of
+later_ranges version later = rw (ne_eqb version 1 (λ one. omega (arith, one, later))) refl
+
+-- a board has as many cells as a text of its puzzle's version may name
+cells_in_version : (s : Figure) (version : ℕ) → IsBoard s → (IsShape s → 2 ≤ version) → (version ≡ 1) ⊎ (2 ≤ version) → cell_count s ≤ (ranges_of version).most_cells
 cells_in_version s version is shapes versions =
     ⊎_elim
     (λ one.
     let are = are_ranges version in
     omega (arith, are.plain, plain_room s (first_plain s (λ shape. omega (arith, one, shapes shape))) is.room))
-    (λ two. subst (λ v. cell_count s ≤ (ranges_of v).most_cells) (sym two) (subst (λ (r : Ranges). cell_count s ≤ r.most_cells) (sym second_is) is.most))
+    (λ later. subst (λ (r : Ranges). cell_count s ≤ r.most_cells) (sym (later_ranges version later)) is.most)
     versions
 
+first_or_later : (m : Mating) → IsOfVersion m → (m.version ≡ 1) ⊎ (2 ≤ m.version)
+first_or_later m is = ⊎_elim (λ w. inl w.0) (λ later. inr (⊎_elim (λ two. omega (arith, two)) (λ three. omega (arith, three)) later)) is
+
 cells_within : (p : Task) → IsPuzzle p → cell_count p.board ≤ (ranges_of p.mating.version).most_cells
-cells_within p is = cells_in_version p.board p.mating.version is.board is.shapes (⊎_elim (λ w. inl w.0) (λ two. inr two) is.mating.version)
+cells_within p is = cells_in_version p.board p.mating.version is.board is.shapes (first_or_later p.mating is.mating.version)
+
+-- ---- clues
+
+before_third : (m : Mating) → IsOfVersion m → m.version ≢ 3 → m.version < 3
+before_third m is other = ⊎_elim (λ w. let one = w.0 in omega (arith, one)) (λ later. ⊎_elim (λ two. omega (arith, two)) (λ three. absurd (other three)) later) is
+
+-- what stands at a place of a list
+got : (clues : List Clue) (n : ℕ) → n < length clues → (c : Clue) × (slice_get clues n ≡ Some c)
+got [] n lt = absurd (omega (arith, lt))
+got (c ∷ clues) zero lt = (c, refl)
+got (c ∷ clues) (suc n) lt = got clues n (omega (arith, lt))
+
+clue_rises : (clues : List Clue) → ((n m : ℕ) (c d : Clue) → slice_get clues n ≡ Some c → slice_get clues m ≡ Some d → n < m → c.cell < d.cell) → (n : ℕ) (c : Clue) → slice_get clues n ≡ Some c → n < length clues → n ≤ c.cell
+clue_rises clues rising zero c at lt = omega arith
+clue_rises clues rising (suc n) c at lt =
+    let before = got clues n (omega (arith, lt)) in
+    let so_far = clue_rises clues rising n before.0 before.1 (omega (arith, lt)) in
+    let less = rising n (suc n) before.0 c before.1 at (omega arith) in
+    omega (arith, so_far, less)
+
+few_clues : (p : Task) → AreClues p → (n : ℕ) → length p.clues ≡ n → n ≤ cell_count p.board
+few_clues p are zero e = omega arith
+few_clues p are (suc n) e =
+    let last = got p.clues n (omega (arith, e)) in
+    let low = clue_rises p.clues are.rising n last.0 last.1 (omega (arith, e)) in
+    let high = are.cells n last.0 last.1 in
+    omega (arith, low, high)
+
+clues_fit : (clues : List Clue) → ((n : ℕ) (c : Clue) → slice_get clues n ≡ Some c → IsClueWithin c) → AllByRecursion IsClueWithin clues
+clues_fit [] h = tt
+clues_fit (c ∷ clues) h = (h 0 c refl, clues_fit clues (λ n d at. h (suc n) d at))
+
+clue_fits : (p : Task) → IsPuzzle p → (n : ℕ) (c : Clue) → slice_get p.clues n ≡ Some c → IsClueWithin c
+clue_fits p is n c at =
+    let cell = is.clues.cells n c at in
+    let most = is.board.most in
+    let sides = subst (λ k. (k ≡ 3) ⊎ (k ≡ 4)) (sym (is.clues.sides n c at)) (three_or_four p.board) in
+    (omega (arith, cell, most), (sides, rules_within c.asks (λ side colour e. is.clues.colours c.cell side colour (c, contains_at p.clues n c at, refl, e))))
+
+clues_within : (p : Task) → IsPuzzle p → AreCluesWithin p.mating.version p.clues
+clues_within p is =
+    let few = few_clues p is.clues (length p.clues) refl in
+    let most = is.board.most in
+    ((λ other. is.without (before_third p.mating is.mating.version other)), omega (arith, few, most), clues_fit p.clues (clue_fits p is))
 
 pub puzzle_within : (p : Task) → IsPuzzle p → IsTaskWithin p
 puzzle_within p is = record {
@@ -213,5 +269,6 @@ puzzle_within p is = record {
   some_tiles = omega (arith, is.tiles, is.board.some);
   few_tiles = omega (arith, is.tiles, cells_within p is);
   mating = (is.mating.version, is.mating.mates.few, listed_within p.mating.mates (λ k lt. mates_below p is k lt));
+  clues = clues_within p is;
   words = words_within (side_count p.board) (three_or_four p.board) p.words is.sides is.tile_colours;
 }

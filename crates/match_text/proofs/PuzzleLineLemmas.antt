@@ -1,27 +1,73 @@
 -- The lines of a puzzle: what is read is what was written, and what was written is read again.
-use Rattle.std.proofs.Common.{inl, inr, sym, ⊎_elim, ◌≡◌, ℕ, ◌<◌, ◌≤◌, Bool, true, false, cond, eqb, List, [], ◌∷◌, ◌++◌, length, map, Ok, Err, refl, ap, subst, ◌∙◌, arith, codes}
-use Rattle.match_limits.specs.declared.TheConstants.{MOST_COLOURS}
-use Rattle.std.specs.List.{AllByRecursion}
+use Rattle.std.proofs.Common.{inl, inr, sym, ⊎_elim, ◌≡◌, ◌≢◌, ◌⊎◌, ℕ, zero, suc, ◌<◌, ◌≤◌, Bool, true, false, cond, eqb, List, [], ◌∷◌, ◌++◌, length, map, Ok, Err, refl, ap, subst, ◌∙◌, arith, codes}
+use Rattle.match_limits.specs.declared.TheConstants.{MOST_COLOURS, MOST_CELLS, LAST_CELL}
+use Rattle.std.specs.Fmt.{decimal}
+use Rattle.std.specs.List.{flat_map, AllByRecursion}
+use Rattle.std.proofs.lemmas.Bool.{eqb-true, eq-eqb}
+use Rattle.std.proofs.lemmas.Fmt.{decimal_digit}
+use Rattle.std.proofs.lemmas.List.Concat.{flat_map_single}
 use Rattle.std.specs.Str.{bytes_eq}
 use Rattle.std.proofs.lemmas.Slice.Eq.{bytes_eq-Decides}
 use Rattle.match_board.specs.Borders.{BorderRule, free, one, each}
 use Rattle.plain_words.specs.declared.faults.TextKind.TheVariants.{Word}
-use Rattle.match_board.specs.Mates.{Mating, unmated, mated, mating_of}
+use Rattle.match_board.specs.Mates.{Mating, unmated, mating_of, IsOfVersion}
+use Rattle.match_board.specs.Clues.{Clue}
 use Rattle.match_limits.specs.declared.ranges.Ranges.{Ranges}
 use Rattle.match_limits.specs.Ranges.{IsVersion}
 use Rattle.match_text.specs.declared.puzzles.BorderKind.{BorderKind}
 use Rattle.match_text.specs.declared.puzzles.BorderKind.TheVariants as kinds
-use Rattle.plain_words.specs.Words.{fixed_in}
-use Rattle.text_words.specs.Words.{colour_in, rule_in, tile_in}
-use Rattle.text_words.specs.Place.{Place, Read, ◌>>=◌, give, word_by, entries, some_entries}
-use Rattle.match_text.specs.Puzzles.{turns_in, turns_line, border_kind_in, border_rule, border_line, tile_line, mates_line, mated_part, mating_part}
-use Rattle.text_words.specs.Spelling.{text_of, colour_word, rule_word, tile_word}
-use Rattle.match_text.specs.PuzzleSpelling.{turns_word, turns_words, border_words, tile_words, IsBorderWithin, IsMatingWithin, mates_words, mates_lines}
-use Rattle.text_words.proofs.CutLemmas.{CutsShort, place, bind_ok, ok_is, cuts_bind, cuts_give, cuts_word, cuts_entries, cuts_some_entries, cuts_word_line}
-use Rattle.plain_words.proofs.WordLemmas.{Spells, judged_ok, judged_ok_is, spells_fixed, clean-words, is_clean, are_clean}
-use Rattle.text_words.proofs.ColourLemmas.{spells_colour, spells_rule, spells_tile, clean-colour, clean-rule, clean-tile}
-use Rattle.text_words.proofs.LineLemmas.{TakesRest, TakesLines, takes_word, takes_then_rest, takes_choice, takes_all, takes_line, takes_same, takes_entries, takes_any_entries, takes_two_words}
-use Rattle.text_words.specs.Within.{IsRuleWithin, IsWordWithin}
+use Rattle.plain_words.specs.Words.{fixed_in, number_in, version_in}
+use Rattle.text_words.specs.Words.{colour_in, rule_in, tile_in, clue_in}
+use Rattle.text_words.specs.Place.{Place, Read, ◌>>=◌, give, word_by, entries, some_entries, counted, times}
+use Rattle.match_text.specs.Puzzles.{IsPuzzleVersion, puzzle_version_in, match_line, clue_line, counted_clues, clues_part, turns_in, turns_line, border_kind_in, border_rule, border_line, tile_line, mates_line, mated_part, mating_part}
+use Rattle.text_words.specs.Spelling.{text_of, colour_word, rule_word, tile_word, asks_word, first_words, count_words}
+use Rattle.match_text.specs.PuzzleSpelling.{clue_words, counted_lines, clues_lines, AreCluesWithin, turns_word, turns_words, border_words, tile_words, IsBorderWithin, IsMatingWithin, mates_words, mates_lines}
+use Rattle.text_words.proofs.CutLemmas.{CutsShort, place, bind_ok, ok_is, cuts_bind, cuts_give, cuts_word, cuts_entries, cuts_some_entries, cuts_word_line, cuts_counted, cuts_times}
+use Rattle.plain_words.proofs.WordLemmas.{Spells, judged_ok, judged_ok_is, spells_fixed, spells_number, spells_version, clean-decimal, clean-words, is_clean, are_clean}
+use Rattle.text_words.proofs.ColourLemmas.{spells_colour, spells_rule, spells_tile, spells_clue, word_of_clue, clean-colour, clean-rule, clean-tile, clean-asks}
+use Rattle.text_words.proofs.LineLemmas.{TakesRest, TakesLines, takes_word, takes_then_rest, takes_choice, takes_all, takes_line, takes_same, takes_entries, takes_any_entries, takes_two_words, takes_counted, times_is, times_again, lines_then, lines_apart}
+use Rattle.text_words.specs.Within.{IsRuleWithin, IsWordWithin, IsClueWithin}
+
+-- ---- the first line
+
+abbrev IsVersionWord : List ℕ → ℕ → Type 0
+IsVersionWord word version = (word ≡ decimal version) × IsPuzzleVersion version
+
+three_word : decimal 3 ≡ codes "3"
+three_word = decimal_digit 3 (omega arith)
+
+earlier : (version : ℕ) → IsVersion version → IsPuzzleVersion version
+earlier version is = ⊎_elim (λ one. (omega (arith, one), omega (arith, one))) (λ two. (omega (arith, two), omega (arith, two))) is
+
+version_first : (word : List ℕ) (version : ℕ) (t : Bool) → bytes_eq word (codes "3") ≡ t → cond t (judged_ok 3) (version_in word) ≡ judged_ok version → IsVersionWord word version
+version_first word version true is e = subst (IsVersionWord word) (judged_ok_is 3 version e) ((bytes_eq-Decides word (codes "3")).0 is ∙ sym three_word, (omega arith, omega arith))
+version_first word version false is e = let h = spells_version.is word version e in (h.0, earlier version h.1)
+
+pub one_of_three : (version : ℕ) → IsPuzzleVersion version → (version ≡ 1) ⊎ (version ≡ 2) ⊎ (version ≡ 3)
+one_of_three zero is = absurd (omega (arith, is.0))
+one_of_three (suc zero) is = inl refl
+one_of_three (suc (suc zero)) is = inr (inl refl)
+one_of_three (suc (suc (suc zero))) is = inr (inr refl)
+one_of_three (suc (suc (suc (suc n)))) is = absurd (omega (arith, is.1))
+
+abbrev IsReadAsVersion : ℕ → Type 0
+IsReadAsVersion version = puzzle_version_in (decimal version) ≡ judged_ok version
+
+version_again : (version : ℕ) → IsPuzzleVersion version → IsReadAsVersion version
+version_again version is =
+    ⊎_elim (λ one. subst IsReadAsVersion (sym one) (rw (decimal_digit 1 (omega arith)) refl))
+    (λ later. ⊎_elim (λ two. subst IsReadAsVersion (sym two) (rw (decimal_digit 2 (omega arith)) refl)) (λ three. subst IsReadAsVersion (sym three) (rw three_word refl)) later) (one_of_three version is)
+
+spells_puzzle_version : Spells puzzle_version_in decimal IsPuzzleVersion
+spells_puzzle_version = record { is = λ word version e. version_first word version (bytes_eq word (codes "3")) refl e; passes = version_again }
+
+pub takes_match : TakesLines match_line (λ version. first_words (codes "match") version ∷ []) IsPuzzleVersion
+unfolding match_line
+takes_match = takes_two_words (codes "match") puzzle_version_in decimal IsPuzzleVersion refl spells_puzzle_version (λ version is. clean-decimal version (omega (arith, is.1)))
+
+pub cuts_match : CutsShort match_line
+unfolding match_line
+cuts_match = cuts_word_line (codes "match") (word_by puzzle_version_in) (cuts_word puzzle_version_in)
 
 -- ---- turns
 
@@ -195,27 +241,31 @@ no_mates_are : (p : Place) (m : Mating) (q : Place) → give unmated p ≡ Ok (m
 unfolding text_of
 no_mates_are p m q e = subst (IsMatingRead 1 p) (ok_is (unmated, p) (m, q) e) (refl, refl, (inl (refl, refl), omega arith, tt))
 
-mates_are : (p : Place) (m : Mating) (q : Place) → mated_part p ≡ Ok (m, q) → IsMatingRead 2 p (m, q)
-mates_are p m q e =
-    let a = bind_ok (mates_line p) (λ mates. give (mated mates)) (m, q) e in
+mates_are : (version : ℕ) → eqb version 1 ≡ false → ((mates : List ℕ) → IsOfVersion (mating_of version mates)) → (p : Place) (m : Mating) (q : Place) → mated_part version p ≡ Ok (m, q) → IsMatingRead version p (m, q)
+mates_are version later of p m q e =
+    let a = bind_ok (mates_line p) (λ mates. give (mating_of version mates)) (m, q) e in
     let h = takes_mates.is p a.0.0 a.0.1 a.1 in
-    subst (IsMatingRead 2 p) (ok_is (mated a.0.0, a.0.1) (m, q) a.2) (refl, h.0, (inr refl, h.1.0, h.1.1))
+    subst (IsMatingRead version p) (ok_is (mating_of version a.0.0, a.0.1) (m, q) a.2) (refl, rw later h.0, (of a.0.0, h.1.0, h.1.1))
 
 first_part : mating_part 1 ≡ give unmated
 unfolding mating_part
 first_part = refl
 
-second_part : mating_part 2 ≡ mated_part
+later_part : (version : ℕ) → eqb version 1 ≡ false → mating_part version ≡ mated_part version
 unfolding mating_part
-second_part = refl
+later_part version later = rw later refl
 
 -- what is read of the mates in a version
 abbrev MatingIs : ℕ → Type 0
 MatingIs version = (p : Place) (m : Mating) (q : Place) → mating_part version p ≡ Ok (m, q) → IsMatingRead version p (m, q)
 
-pub mating_is : (version : ℕ) → IsVersion version → MatingIs version
+later_is : (version : ℕ) → eqb version 1 ≡ false → ((mates : List ℕ) → IsOfVersion (mating_of version mates)) → MatingIs version
+later_is version later of p m q e = mates_are version later of p m q (ap (λ (r : Read Mating). r p) (sym (later_part version later)) ∙ e)
+
+pub mating_is : (version : ℕ) → IsPuzzleVersion version → MatingIs version
 mating_is version is =
-    ⊎_elim (λ one. subst MatingIs (sym one) (λ p m q e. no_mates_are p m q (ap (λ (r : Read Mating). r p) (sym first_part) ∙ e))) (λ two. subst MatingIs (sym two) (λ p m q e. mates_are p m q (ap (λ (r : Read Mating). r p) (sym second_part) ∙ e))) is
+    ⊎_elim (λ one. subst MatingIs (sym one) (λ p m q e. no_mates_are p m q (ap (λ (r : Read Mating). r p) (sym first_part) ∙ e)))
+    (λ others. ⊎_elim (λ two. subst MatingIs (sym two) (later_is 2 refl (λ mates. inr (inl refl)))) (λ three. subst MatingIs (sym three) (later_is 3 refl (λ mates. inr (inr refl)))) others) (one_of_three version is)
 
 -- a mating by its version and mates
 same_mating : (m n : Mating) → m.version ≡ n.version → m.mates ≡ n.mates → m ≡ n
@@ -225,23 +275,151 @@ same_mating m n e f = ap (λ k. mating_of k m.mates) e ∙ ap (λ ms. mating_of 
 abbrev pub IsReadAgain : Mating → ℕ → List ℕ → Type 0
 IsReadAgain m line rest = (end : ℕ) × (mating_part m.version (place line [] (text_of (mates_lines m) ++ rest)) ≡ Ok (m, place end [] rest))
 
-pub mating_again : (m : Mating) → IsMatingWithin m → (line : ℕ) (rest : List ℕ) → IsReadAgain m line rest
+unmated_again : (line : ℕ) (rest : List ℕ) → IsReadAgain unmated line rest
 unfolding mating_part text_of
+unmated_again line rest = (line, refl)
+
+later_again : (m : Mating) → eqb m.version 1 ≡ false → IsMatingWithin m → (line : ℕ) (rest : List ℕ) → IsReadAgain m line rest
+unfolding mating_part
+later_again m later fits line rest = let again = takes_mates.passes m.mates (fits.1, fits.2) line [] rest in (again.0, rw (later, again.1) refl)
+
+pub mating_again : (m : Mating) → IsMatingWithin m → (line : ℕ) (rest : List ℕ) → IsReadAgain m line rest
 mating_again m fits line rest =
     ⊎_elim
-    (λ w. subst (λ n. IsReadAgain n line rest) (sym (same_mating m unmated w.0 w.1)) (line, refl))
-    (λ two.
-    let again = takes_mates.passes m.mates (fits.1, fits.2) line [] rest in
-    subst (λ n. IsReadAgain n line rest) (sym (same_mating m (mated m.mates) two refl)) (again.0, rw again.1 refl))
+    (λ w. subst (λ n. IsReadAgain n line rest) (sym (same_mating m unmated w.0 w.1)) (unmated_again line rest))
+    (λ later. later_again m (⊎_elim (λ two. rw two refl) (λ three. rw three refl) later) fits line rest)
     fits.0
 
-cuts_chosen : (first : Bool) → CutsShort (cond first (give unmated) mated_part)
-cuts_chosen true = cuts_give unmated
-cuts_chosen false = cuts_bind mates_line (λ mates. give (mated mates)) cuts_mates (λ mates. cuts_give (mated mates))
+cuts_chosen : (version : ℕ) (first : Bool) → CutsShort (cond first (give unmated) (mated_part version))
+cuts_chosen version true = cuts_give unmated
+cuts_chosen version false = cuts_bind mates_line (λ mates. give (mating_of version mates)) cuts_mates (λ mates. cuts_give (mating_of version mates))
 
 pub cuts_mating : (version : ℕ) → CutsShort (mating_part version)
 unfolding mating_part
-cuts_mating version = cuts_chosen (eqb version 1)
+cuts_mating version = cuts_chosen version (eqb version 1)
+
+-- ---- clues
+
+abbrev IsCell : ℕ → Type 0
+IsCell n = (0 ≤ n) × (n ≤ LAST_CELL)
+
+abbrev IsClueAt : ℕ → Clue → Type 0
+IsClueAt cell c = (c.cell ≡ cell) × IsClueWithin c
+
+abbrev cell_of : Clue → ℕ
+cell_of c = c.cell
+
+abbrev rest_of_clue : Clue → List (List ℕ)
+rest_of_clue c = decimal c.cell ∷ asks_word c.asks ∷ []
+
+abbrev asks_words : Clue → List (List ℕ)
+asks_words c = asks_word c.asks ∷ []
+
+spells_clue_at : (cell : ℕ) → IsCell cell → Spells (clue_in cell) word_of_clue (IsClueAt cell)
+spells_clue_at cell known = record {
+  is = λ word c e. let h = (spells_clue cell).is word c e in (h.0, (h.1.0, (omega (arith, known.1, h.1.0), h.1.1)));
+  passes = λ c fits. (spells_clue cell).passes c (fits.0, fits.1.1);
+}
+
+takes_asks : (cell : ℕ) → IsCell cell → TakesRest (word_by (clue_in cell)) asks_words (IsClueAt cell)
+takes_asks cell known = takes_all (word_by (clue_in cell)) asks_words (IsClueAt cell) (takes_word (clue_in cell) word_of_clue (IsClueAt cell) (spells_clue_at cell known))
+
+abbrev clue_rest : Read Clue
+clue_rest = word_by (number_in 0 LAST_CELL) >>= λ cell. word_by (clue_in cell)
+
+clean-clue : (c : Clue) → IsClueWithin c → are_clean (clue_words c) ≡ true
+clean-clue c fits = rw (clean-decimal c.cell (omega (arith, fits.0)), clean-asks c.asks fits.1.1) refl
+
+takes_clue : TakesLines clue_line (λ c. clue_words c ∷ []) IsClueWithin
+unfolding clue_line
+takes_clue =
+    let cell = takes_choice (word_by (number_in 0 LAST_CELL)) (λ n. decimal n ∷ []) IsCell (λ cell. word_by (clue_in cell)) cell_of asks_words IsClueWithin
+    (takes_word (number_in 0 LAST_CELL) decimal IsCell (spells_number 0 LAST_CELL (omega arith))) (λ c fits. (omega arith, fits.0)) takes_asks in
+    takes_line (word_by (fixed_in (codes "clue")) >>= λ _. clue_rest) clue_words IsClueWithin
+    (takes_then_rest (word_by (fixed_in (codes "clue"))) (codes "clue" ∷ []) clue_rest rest_of_clue IsClueWithin
+    (takes_word (fixed_in (codes "clue")) (λ _. codes "clue") (λ _. Unit {0}) (spells_fixed (codes "clue"))) cell) clean-clue
+
+cuts_clue : CutsShort clue_line
+unfolding clue_line
+cuts_clue = cuts_word_line (codes "clue") clue_rest (cuts_bind (word_by (number_in 0 LAST_CELL)) (λ cell. word_by (clue_in cell)) (cuts_word (number_in 0 LAST_CELL)) (λ cell. cuts_word (clue_in cell)))
+
+abbrev AreFewClues : List Clue → Type 0
+AreFewClues clues = (length clues ≤ MOST_CELLS) × AllByRecursion IsClueWithin clues
+
+abbrev clue_count : Read ℕ
+clue_count = counted (codes "clues") 0 MOST_CELLS
+
+abbrev count_lines : ℕ → List (List (List ℕ))
+count_lines count = count_words (codes "clues") count ∷ []
+
+counted_are : (clues : List Clue) → count_lines (length clues) ++ flat_map (λ c. clue_words c ∷ []) clues ≡ counted_lines clues
+counted_are clues = ap (λ lines. count_lines (length clues) ++ lines) (flat_map_single clue_words clues)
+
+takes_clue_count : TakesLines clue_count count_lines (λ n. (0 ≤ n) × (n ≤ MOST_CELLS))
+takes_clue_count = takes_counted (codes "clues") 0 MOST_CELLS refl (omega arith)
+
+counted_is : (p : Place) (clues : List Clue) (q : Place) → counted_clues p ≡ Ok (clues, q) → (p.ahead ≡ text_of (counted_lines clues) ++ q.ahead) × AreFewClues clues
+unfolding counted_clues
+counted_is p clues q e =
+    let n = bind_ok (clue_count p) (λ count. times count clue_line) (clues, q) e in
+    let one = takes_clue_count.is p n.0.0 n.0.1 n.1 in
+    let two = times_is clue_line (λ c. clue_words c ∷ []) IsClueWithin takes_clue n.0.0 n.0.1 clues q n.2 in
+    let head : p.ahead ≡ text_of (count_lines (length clues)) ++ n.0.1.ahead = subst (λ m. p.ahead ≡ text_of (count_lines m) ++ n.0.1.ahead) (sym two.1) one.0 in
+    let whole = lines_then p.ahead (count_lines (length clues)) (flat_map (λ c. clue_words c ∷ []) clues) n.0.1.ahead q.ahead head two.0 in
+    (whole ∙ ap (λ lines. text_of lines ++ q.ahead) (counted_are clues), (omega (arith, two.1, one.1.1), two.2))
+
+counted_again : (clues : List Clue) → AreFewClues clues → (line : ℕ) (words : List (List ℕ)) (rest : List ℕ) → (end : ℕ) × (counted_clues (place line words (text_of (counted_lines clues) ++ rest)) ≡ Ok (clues, place end [] rest))
+unfolding counted_clues
+counted_again clues fits line words rest =
+    let others = flat_map (λ c. clue_words c ∷ []) clues in
+    let one = takes_clue_count.passes (length clues) (omega arith, fits.0) line words (text_of others ++ rest) in
+    let two = times_again clue_line (λ c. clue_words c ∷ []) IsClueWithin takes_clue clues fits.1 one.0 rest in
+    (two.0, rw (sym (counted_are clues), lines_apart (count_lines (length clues)) others rest, one.1, two.1) refl)
+
+-- the lines of the clues, if this is the third version
+abbrev chosen_lines : Bool → List Clue → List (List (List ℕ))
+chosen_lines third clues = cond third (counted_lines clues) []
+
+no_clues_are : (version : ℕ) (p : Place) (clues : List Clue) (q : Place) → give [] p ≡ Ok (clues, q) → (p.ahead ≡ text_of [] ++ q.ahead) × AreCluesWithin version clues
+unfolding text_of
+no_clues_are version p clues q e = subst (λ (z : List Clue × Place). (p.ahead ≡ text_of [] ++ z.1.ahead) × AreCluesWithin version z.0) (ok_is ([], p) (clues, q) e) (refl, ((λ other. refl), omega arith, tt))
+
+no_clues_again : (clues : List Clue) → clues ≡ [] → (line : ℕ) (rest : List ℕ) → (end : ℕ) × (give [] (place line [] (text_of [] ++ rest)) ≡ Ok (clues, place end [] rest))
+unfolding text_of
+no_clues_again clues none line rest = (line, rw none refl)
+
+true_false : true ≡ false → ⊥
+true_false e = cc
+
+not_third : (version : ℕ) → eqb version 3 ≡ false → version ≢ 3
+not_third version other is = let same : eqb version 3 ≡ true = eq-eqb version 3 is in true_false (sym same ∙ other)
+
+clues_is : (version : ℕ) (third : Bool) → eqb version 3 ≡ third → (p : Place) (clues : List Clue) (q : Place) → cond third counted_clues (give []) p ≡ Ok (clues, q)
+    → (p.ahead ≡ text_of (chosen_lines third clues) ++ q.ahead) × AreCluesWithin version clues
+clues_is version true is p clues q e = let h = counted_is p clues q e in (h.0, ((λ other. absurd (other (eqb-true version 3 is))), h.1.0, h.1.1))
+clues_is version false is p clues q e = no_clues_are version p clues q e
+
+clues_again : (version : ℕ) (third : Bool) → eqb version 3 ≡ third → (clues : List Clue) → AreCluesWithin version clues → (line : ℕ) (rest : List ℕ)
+    → (end : ℕ) × (cond third counted_clues (give []) (place line [] (text_of (chosen_lines third clues) ++ rest)) ≡ Ok (clues, place end [] rest))
+clues_again version true is clues fits line rest = counted_again clues (fits.1, fits.2) line [] rest
+clues_again version false is clues fits line rest = no_clues_again clues (fits.0 (not_third version is)) line rest
+
+pub clues_read : (version : ℕ) (p : Place) (clues : List Clue) (q : Place) → clues_part version p ≡ Ok (clues, q) → (p.ahead ≡ text_of (clues_lines version clues) ++ q.ahead) × AreCluesWithin version clues
+unfolding clues_part
+clues_read version p clues q e = clues_is version (eqb version 3) refl p clues q e
+
+pub clues_read_again : (version : ℕ) (clues : List Clue) → AreCluesWithin version clues → (line : ℕ) (rest : List ℕ) → (end : ℕ) × (clues_part version (place line [] (text_of (clues_lines version clues) ++ rest)) ≡ Ok (clues, place end [] rest))
+unfolding clues_part
+clues_read_again version clues fits line rest = clues_again version (eqb version 3) refl clues fits line rest
+
+cuts_chosen_clues : (third : Bool) → CutsShort (cond third counted_clues (give []))
+unfolding counted_clues
+cuts_chosen_clues true = cuts_bind clue_count (λ count. times count clue_line) (cuts_counted (codes "clues") 0 MOST_CELLS) (λ count. cuts_times count clue_line cuts_clue)
+cuts_chosen_clues false = cuts_give []
+
+pub cuts_clues : (version : ℕ) → CutsShort (clues_part version)
+unfolding clues_part
+cuts_clues version = cuts_chosen_clues (eqb version 3)
 
 -- ---- the tiles
 

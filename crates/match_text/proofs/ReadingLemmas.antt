@@ -1,16 +1,19 @@
 -- What reading a puzzle comes to.
-use Rattle.std.proofs.Common.{◌≡◌, ◌<◌, ◌≤◌, ◌+◌, ◌^◌, ℕ, List, length, take, Result, Ok, Err, sym, ap, subst, ◌∙◌, arith, ⊎_elim}
-use Rattle.match_limits.specs.declared.TheConstants.{MOST_COLOURS}
+use Rattle.std.proofs.Common.{◌≡◌, ◌≢◌, ◌⊎◌, [], Some, inl, inr, refl, ◌<◌, ◌≤◌, ◌+◌, ◌^◌, ℕ, List, ◌∷◌, length, map, take, Result, Ok, Err, sym, ap, subst, ◌∙◌, arith, ⊎_elim}
+use Rattle.match_limits.specs.declared.TheConstants.{MOST_COLOURS, MOST_CELLS}
 use Rattle.match_limits.specs.declared.ranges.Ranges.{Ranges}
 use Rattle.match_limits.specs.Ranges.{ranges_of, AreRanges}
 use Rattle.match_board.specs.Mates.{IsOfVersion}
 use Rattle.match_limits.proofs.RangesLemmas.{are_ranges}
-use Rattle.std.specs.Prelude.{IfOk}
+use Rattle.std.specs.Prelude.{IfOk, slice_get}
+use Rattle.match_limits.proofs.ListLemmas.{contains_at}
+use Rattle.match_board.specs.Clues.{Clue, clue_of}
+use Rattle.match_board.specs.declared.clues.Clue.{Clue as BoardClue}
 use Rattle.match_board.specs.declared.boards.BoardFault.{BoardFault}
 use Rattle.match_board.specs.declared.boards.BoardFault.TheVariants.{Empty, TooLarge}
-use Rattle.match_puzzle.specs.Puzzle.{Task, IsPuzzle}
+use Rattle.match_puzzle.specs.Puzzle.{Task, IsPuzzle, HasRule}
 use Rattle.match_board.specs.Borders.{BorderRule, free, one, each, IsShortRule}
-use Rattle.match_puzzle.specs.PuzzleFaults.{PuzzleFails}
+use Rattle.match_puzzle.specs.PuzzleFaults.{PuzzleFails, DefiesBorder}
 use Rattle.match_puzzle.specs.declared.faults.PuzzleFault.{PuzzleFault}
 use Rattle.match_puzzle.specs.declared.faults.PuzzleFault.TheVariants as puzzle
 use Rattle.plain_words.specs.declared.faults.TextFault.{TextFault}
@@ -21,7 +24,7 @@ use Rattle.plain_words.specs.Bytes.{line_ends}
 use Rattle.text_words.specs.Place.{fail}
 use Rattle.match_text.specs.Puzzles.{puzzle_of, BoardFails, PuzzleReads, PuzzleGives}
 use Rattle.match_text.specs.PuzzleSpelling.{puzzle_spelling, IsFigureWithin, IsBorderWithin, IsTaskWithin}
-use Rattle.match_board.specs.Board.{IsPlain}
+use Rattle.match_board.specs.Board.{IsPlain, cell_count, side_count}
 use Rattle.match_board.specs.declared.figures.Figure.{Figure}
 use Rattle.match_board.specs.declared.figures.Figure.TheVariants.{Rectangle, Triangle, Hexagon, Shape}
 use Rattle.text_words.proofs.CutLemmas.{ok_is}
@@ -44,6 +47,21 @@ said_tiles text said e = let are = are_ranges said.mating.version in omega (arit
 
 pub said_mates : (text : List ℕ) (said : Task) → puzzle_of text ≡ Ok said → length said.mating.mates ≤ MOST_COLOURS
 said_mates text said e = (puzzle_found text said e).0.mating.1
+
+pub said_clues : (text : List ℕ) (said : Task) → puzzle_of text ≡ Ok said → length said.clues ≤ MOST_CELLS
+said_clues text said e = (puzzle_found text said e).0.clues.1
+
+-- there are clues in version 3 alone
+pub said_without : (text : List ℕ) (said : Task) → puzzle_of text ≡ Ok said → said.mating.version ≢ 3 → said.clues ≡ []
+said_without text said e = (puzzle_found text said e).0.clues.0
+
+cons_not_nil : (c : Clue) (clues : List Clue) → c ∷ clues ≡ [] → ⊥
+cons_not_nil c clues e = cc
+
+-- of no clues
+pub unmapped : (clues : List BoardClue) → map clue_of clues ≡ [] → clues ≡ []
+unmapped [] e = refl
+unmapped (c ∷ clues) e = absurd (cons_not_nil (clue_of c) (map clue_of clues) e)
 
 pub said_version : (text : List ℕ) (said : Task) → puzzle_of text ≡ Ok said → IsOfVersion said.mating
 said_version text said e = (puzzle_found text said e).0.mating.0
@@ -75,6 +93,29 @@ no_board_fault : (p : Task) (fault : BoardFault) → IsPuzzle p → BoardFails p
 no_board_fault p Empty is fails = omega (arith, is.board.some, fails)
 no_board_fault p TooLarge is fails = fails.1 is.board.room
 
+-- the border asks for no other colour than a clue
+no_defiance : (p : Task) → IsPuzzle p → (n : ℕ) (c : Clue) → slice_get p.clues n ≡ Some c → DefiesBorder p.board p.border c → ⊥
+no_defiance p is n c at w =
+    let side = w.0 in
+    let pair = w.3 in
+    let border : HasRule p c.cell side w.1 = record { cell_in = pair.cell_in; side_in = pair.side_in; asked = inl (pair, w.4) } in
+    let clue : HasRule p c.cell side w.2 = record { cell_in = pair.cell_in; side_in = pair.side_in; asked = inr (c, contains_at p.clues n c at, refl, w.5) } in
+    w.6 (is.clues.agree c.cell side w.1 w.2 border clue)
+
+-- what may be wrong with a clue
+abbrev WhyBroken : Task → ℕ → Clue → Type 0
+WhyBroken p n c =
+    (cell_count p.board ≤ c.cell)
+    ⊎ ((before : ℕ) × (d : Clue) × (before < n) × (slice_get p.clues before ≡ Some d) × (c.cell ≤ d.cell))
+    ⊎ (length c.asks ≢ side_count p.board)
+    ⊎ DefiesBorder p.board p.border c
+
+no_broken_clue : (p : Task) → IsPuzzle p → (n : ℕ) (c : Clue) → slice_get p.clues n ≡ Some c → WhyBroken p n c → ⊥
+no_broken_clue p is n c at why =
+    ⊎_elim (λ outside. let cell = is.clues.cells n c at in omega (arith, cell, outside))
+    (λ others. ⊎_elim (λ w. let less = is.clues.rising w.0 n w.1 c w.3 at w.2 in omega (arith, less, w.4))
+    (λ last. ⊎_elim (λ long. long (is.clues.sides n c at)) (λ defies. no_defiance p is n c at defies) last) others) why
+
 no_puzzle_fault : (p : Task) (fault : PuzzleFault) → IsPuzzle p → PuzzleFails p fault → ⊥
 no_puzzle_fault p puzzle.FixedTriangles is fails = let yes' = is.triangles fails.0 in absurd cc
 no_puzzle_fault p puzzle.TileCount is fails = fails is.tiles
@@ -83,6 +124,7 @@ no_puzzle_fault p (puzzle.BadColour place) is fails = omega (arith, is.border_co
 no_puzzle_fault p puzzle.BorderLength is fails = fails is.border
 no_puzzle_fault p (puzzle.Mates place) is fails =
     ⊎_elim (λ none. not_without p.mating.mates place (is.mating.mates.each place none.0) none) (λ long. let few = is.mating.mates.few in omega (arith, few, long.1)) fails
+no_puzzle_fault p (puzzle.Clue number) is fails = no_broken_clue p is number fails.0 fails.1 fails.2
 no_puzzle_fault p puzzle.Memory is fails = fails
 
 only_one : (text : List ℕ) (p : Task) → puzzle_of text ≡ Ok p → IsPuzzle p → (result : Result Task PuzzleTextFault) → PuzzleReads text result → PuzzleGives result (Ok p)

@@ -1,25 +1,37 @@
 -- The one spelling of a puzzle.
-use Rattle.std.specs.Prelude.{◌≡◌, ◌<◌, ◌≤◌, ◌==◌, if◌then◌else◌, ℕ, zero, suc, Bool, true, false, List, [], ◌∷◌}
+use Rattle.std.specs.Prelude.{◌≡◌, ◌≢◌, ◌<◌, ◌≤◌, ◌==◌, if◌then◌else◌, ℕ, zero, suc, Bool, true, false, List, [], ◌∷◌}
 use Rattle.std.specs.Prelude.{◌++◌, length, map, take, drop, codes, decimal}
-use Rattle.match_limits.specs.declared.TheConstants.{MOST_LENGTH, MOST_PLACES, MOST_COLOURS}
+use Rattle.match_limits.specs.declared.TheConstants.{MOST_LENGTH, MOST_PLACES, MOST_COLOURS, MOST_CELLS}
 use Rattle.std.specs.List.{AllByRecursion}
 use Rattle.match_board.specs.declared.figures.Figure.{Figure}
 use Rattle.match_board.specs.declared.figures.Figure.TheVariants.{Rectangle, Triangle, Hexagon, Shape}
 use Rattle.match_board.specs.Board.{MarksItsPlaces}
 use Rattle.match_board.specs.Mates.{Mating, IsOfVersion}
+use Rattle.match_board.specs.Clues.{Clue}
 use Rattle.match_puzzle.specs.Puzzle.{Task}
 use Rattle.match_board.specs.Borders.{BorderRule, free, one, each}
 use Rattle.match_limits.specs.declared.ranges.Ranges.{Ranges}
 use Rattle.match_limits.specs.Ranges.{ranges_of}
-use Rattle.text_words.specs.Within.{IsRuleWithin, IsWordWithin}
-use Rattle.text_words.specs.Spelling.{text_of, colour_word, rule_word, tile_word, first_words, count_words, end_lines}
+use Rattle.text_words.specs.Within.{IsRuleWithin, IsWordWithin, IsClueWithin}
+use Rattle.text_words.specs.Spelling.{text_of, colour_word, rule_word, tile_word, asks_word, first_words, count_words}
+use Rattle.text_words.specs.Spelling.{end_lines}
 
 abbrev pub mates_words : List ℕ → List (List ℕ)
 mates_words mates = codes "mates" ∷ map colour_word mates
 
--- version 2 has a line for the mates
+-- from version 2 on there is a line for the mates
 abbrev pub mates_lines : Mating → List (List (List ℕ))
 mates_lines m = if m.version == 1 then [] else mates_words m.mates ∷ []
+
+abbrev pub clue_words : Clue → List (List ℕ)
+clue_words c = codes "clue" ∷ decimal c.cell ∷ asks_word c.asks ∷ []
+
+abbrev pub counted_lines : List Clue → List (List (List ℕ))
+counted_lines clues = count_words (codes "clues") (length clues) ∷ map clue_words clues
+
+-- version 3 has lines for the clues
+abbrev pub clues_lines : ℕ → List Clue → List (List (List ℕ))
+clues_lines version clues = if version == 3 then counted_lines clues else []
 
 abbrev pub size_words : Figure → List (List ℕ)
 size_words (Rectangle width height) = decimal width ∷ decimal height ∷ []
@@ -77,8 +89,8 @@ abbrev pub puzzle_lines : Task → List (List (List ℕ))
 puzzle_lines p =
     (first_words (codes "match") p.mating.version ∷ [])
     ++ (board_lines p.board ++ ((turns_words p.turns ∷ []) ++ ((border_words p.border ∷ [])
-    ++ (mates_lines p.mating
-    ++ ((count_words (codes "tiles") (length p.words) ∷ []) ++ (map tile_words p.words ++ end_lines))))))
+    ++ (mates_lines p.mating ++ (clues_lines p.mating.version p.clues
+    ++ ((count_words (codes "tiles") (length p.words) ∷ []) ++ (map tile_words p.words ++ end_lines)))))))
 
 -- a tile by itself
 abbrev pub lone_tile_words : List ℕ → List (List ℕ)
@@ -102,7 +114,7 @@ IsFigureWithin version (Rectangle width height) = (width ≤ MOST_LENGTH) × (he
 IsFigureWithin version (Triangle size) = size ≤ MOST_LENGTH
 IsFigureWithin version (Hexagon size) = size ≤ MOST_LENGTH
 IsFigureWithin version (Shape width height mask) =
-    (version ≡ 2) × IsShapeLength width × IsShapeLength height × MarksItsPlaces (Shape width height mask)
+    (2 ≤ version) × IsShapeLength width × IsShapeLength height × MarksItsPlaces (Shape width height mask)
 
 -- There is each colour that the border asks for.
 abbrev pub AreRulesWithin : BorderRule → Type 0
@@ -121,11 +133,17 @@ abbrev pub IsMatingWithin : Mating → Type 0
 IsMatingWithin m =
     IsOfVersion m × (length m.mates ≤ MOST_COLOURS) × AllByRecursion (λ colour. colour < MOST_COLOURS) m.mates
 
+-- clues in version 3 alone, as many as a text may have
+abbrev pub AreCluesWithin : ℕ → List Clue → Type 0
+AreCluesWithin version clues =
+    (version ≢ 3 → clues ≡ []) × (length clues ≤ MOST_CELLS) × AllByRecursion IsClueWithin clues
+
 -- The puzzle is within the limits of its text; there may be no such puzzle.
 pub record IsTaskWithin (p : Task) : Type 0 where
   pub board : IsFigureWithin p.mating.version p.board
   pub border : IsBorderWithin (ranges_of p.mating.version) p.border
   pub mating : IsMatingWithin p.mating
+  pub clues : AreCluesWithin p.mating.version p.clues
   pub some_tiles : 1 ≤ length p.words
   pub few_tiles : length p.words ≤ (ranges_of p.mating.version).most_cells
   pub words : AllByRecursion IsWordWithin p.words

@@ -1,8 +1,8 @@
 -- The text of a puzzle.
-use Rattle.std.specs.Prelude.{◌≡◌, ◌≤◌, ◌*◌, ◌==◌, ◌&&◌, ℕ, Bool, true, false, List, Result, Ok, Err, codes, map}
-use Rattle.std.specs.Prelude.{◌++◌, length, if◌then◌else◌}
+use Rattle.std.specs.Prelude.{◌≡◌, ◌≤◌, ◌*◌, ◌==◌, ◌&&◌, nat_le, ℕ, Bool, true, false, List, [], Result, Ok, Err, codes}
+use Rattle.std.specs.Prelude.{◌++◌, length, map, if◌then◌else◌}
 use Rattle.std.specs.List.{flat_map}
-use Rattle.match_limits.specs.declared.TheConstants.{MOST_LENGTH, MOST_PLACES, MOST_COLOURS}
+use Rattle.match_limits.specs.declared.TheConstants.{MOST_LENGTH, MOST_PLACES, MOST_COLOURS, MOST_CELLS, LAST_CELL}
 use Rattle.std.specs.Str.{bytes_eq}
 use Rattle.match_board.specs.Board.{cell_count, HasRoom, IsBoard, shape_of}
 use Rattle.match_board.specs.declared.figures.Figure.{Figure}
@@ -11,7 +11,8 @@ use Rattle.match_limits.specs.First.{IsFirst}
 use Rattle.match_board.specs.Tile.{word}
 use Rattle.match_board.specs.declared.boards.BoardFault.{BoardFault}
 use Rattle.match_board.specs.declared.boards.BoardFault.TheVariants.{Empty, TooLarge}
-use Rattle.match_board.specs.Mates.{Mating, unmated, mated, mating_of}
+use Rattle.match_board.specs.Mates.{Mating, unmated, mating_of}
+use Rattle.match_board.specs.Clues.{Clue, clue_of}
 use Rattle.match_puzzle.specs.Puzzle.{Task, IsPuzzle}
 use Rattle.match_board.specs.Borders.{BorderRule, free, one, each, rule_of}
 use Rattle.match_puzzle.specs.PuzzleFaults.{PuzzleFails, puzzle_rank}
@@ -30,20 +31,35 @@ use Rattle.match_text.specs.declared.puzzles.BorderKind.TheVariants as kinds
 use Rattle.match_text.specs.declared.puzzles.PuzzleText as code
 use Rattle.match_limits.specs.declared.ranges.Ranges.{Ranges}
 use Rattle.match_limits.specs.Ranges.{ranges_of}
-use Rattle.plain_words.specs.Words.{fixed_in, number_in}
-use Rattle.text_words.specs.Words.{marks_in, colour_in, rule_in, tile_in}
-use Rattle.text_words.specs.Place.{Place, Read, ◌>>=◌, give, line_of, word_by, entries, some_entries, opening, counted}
+use Rattle.plain_words.specs.Words.{fixed_in, number_in, version_in}
+use Rattle.text_words.specs.Words.{marks_in, colour_in, rule_in, tile_in, clue_in}
+use Rattle.text_words.specs.Place.{Place, Read, ◌>>=◌, give, line_of, word_by, entries, some_entries, counted}
 use Rattle.text_words.specs.Place.{closing, times, start, value_of, Fails}
+
+-- ---- the first line
+
+-- There are three versions.
+abbrev pub IsPuzzleVersion : ℕ → Type 0
+IsPuzzleVersion version = (1 ≤ version) × (version ≤ 3)
+
+-- the version, 3 or one of those that other texts have too
+abbrev pub puzzle_version_in : List ℕ → Result ℕ TextKind
+puzzle_version_in word = if bytes_eq word (codes "3") then Ok 3 else version_in word
+
+unfoldable pub match_line : Read ℕ
+match_line = line_of (do
+  _ ← word_by (fixed_in (codes "match"))
+  word_by puzzle_version_in)
 
 -- ---- the board
 
--- the kinds of board by their words; version 2 has shapes
+-- the kinds of board by their words; there are shapes from version 2 on
 abbrev pub board_kind_in : ℕ → List ℕ → Result BoardKind TextKind
 board_kind_in version word =
     if bytes_eq word (codes "rect") then Ok Rectangle
     else (if bytes_eq word (codes "triangle") then Ok Triangle
     else (if bytes_eq word (codes "hexagon") then Ok Hexagon
-    else (if version == 2 && bytes_eq word (codes "shape") then Ok Shape else Err Word)))
+    else (if nat_le 2 version && bytes_eq word (codes "shape") then Ok Shape else Err Word)))
 
 -- how large a board of this kind is
 unfoldable pub board_size : BoardKind → Read BoardLine
@@ -139,14 +155,31 @@ mates_line = line_of (do
   _ ← word_by (fixed_in (codes "mates"))
   entries MOST_COLOURS colour_in)
 
-abbrev pub mated_part : Read Mating
-mated_part = do
+abbrev pub mated_part : ℕ → Read Mating
+mated_part version = do
   mates ← mates_line
-  give (mated mates)
+  give (mating_of version mates)
 
--- the mates, for which version 2 has a line
+-- the mates, for which there is a line from version 2 on
 unfoldable pub mating_part : ℕ → Read Mating
-mating_part version = if version == 1 then give unmated else mated_part
+mating_part version = if version == 1 then give unmated else mated_part version
+
+-- ---- clues
+
+unfoldable pub clue_line : Read Clue
+clue_line = line_of (do
+  _ ← word_by (fixed_in (codes "clue"))
+  cell ← word_by (number_in 0 LAST_CELL)
+  word_by (clue_in cell))
+
+unfoldable pub counted_clues : Read (List Clue)
+counted_clues = do
+  count ← counted (codes "clues") 0 MOST_CELLS
+  times count clue_line
+
+-- the clues, for which version 3 has lines
+unfoldable pub clues_part : ℕ → Read (List Clue)
+clues_part version = if version == 3 then counted_clues else give []
 
 -- ---- the tiles, and the whole
 
@@ -157,15 +190,16 @@ tile_line = line_of (do
 
 unfoldable pub puzzle_text : Read Task
 puzzle_text = do
-  version ← opening (codes "match")
+  version ← match_line
   board ← board_part version
   turns ← turns_line
   border ← border_line (ranges_of version)
   mating ← mating_part version
+  clues ← clues_part version
   count ← counted (codes "tiles") 1 (ranges_of version).most_cells
   words ← times count tile_line
   _ ← closing
-  give (record { board = board; turns = turns; border = border; mating = mating; words = words })
+  give (record { board = board; turns = turns; border = border; mating = mating; clues = clues; words = words })
 
 -- The puzzle that a text asks for, or the text's first fault. There may be no such puzzle.
 unfoldable pub puzzle_of : List ℕ → Result Task TextFault
@@ -200,6 +234,7 @@ view_of t =
       turns = t.turns;
       border = rule_of t.border;
       mating = mating_of t.version t.mates.items;
+      clues = map clue_of t.clues.items;
       words = map word t.tiles.items;
     }
 

@@ -7,16 +7,18 @@ ghost use Rattle.match_board.specs.declared.figures.Figure.TheVariants.{Rectangl
 ghost use Rattle.match_board.specs.Board.{IsBoard};
 ghost use Rattle.match_board.specs.Tile.{word as colours_of};
 ghost use Rattle.match_board.specs.Mates.{mating_of};
+ghost use Rattle.match_board.specs.Clues.{clue_of};
 ghost use Rattle.match_board.specs.Borders.{rule_of, each, one, free};
 ghost use Rattle.match_text.specs.Puzzles.{PuzzleReads};
 ghost use Rattle.text_words.specs.Spelling.{line_text, text_of, colour_character, colour_word, rule_word};
-ghost use Rattle.text_words.specs.Spelling.{tile_word};
+ghost use Rattle.text_words.specs.Spelling.{tile_word, ask_character, asks_word};
 ghost use Rattle.text_words.specs.Within.{IsRuleWithin};
 ghost use Rattle.match_text.specs.PuzzleSpelling.{mark_character, row_words, row_lines, board_lines};
 ghost use Rattle.match_text.specs.PuzzleSpelling.{board_words, turns_words, border_words, tile_words, puzzle_spelling};
-ghost use Rattle.match_text.specs.PuzzleSpelling.{AreRulesWithin, mates_words, mates_lines};
+ghost use Rattle.match_text.specs.PuzzleSpelling.{AreRulesWithin, mates_words, mates_lines, clue_words, counted_lines};
+ghost use Rattle.match_text.specs.PuzzleSpelling.{clues_lines};
 
-use match_board::{Board, Figure, Tile};
+use match_board::{Board, Clue, Figure, Tile};
 use match_limits::MOST_COLOURS;
 use match_puzzle::{Border, Puzzle};
 use std::alloc::{AllocError, Global};
@@ -213,6 +215,70 @@ fn put_mating(text: &mut Vec<u8>, version: u8, mates: &[u8]) -> Result<(), Alloc
     put_mates(text, mates)
 }
 
+// What is asked of a side.
+fn put_ask(text: &mut Vec<u8>, rule: Option<u8>) -> Result<(), AllocError>
+    requires { IsRuleWithin rule }
+    ensures { OnOk result (text.new.items ≡ text.old.items ++ ask_character rule ∷ []) }
+{
+    match rule {
+        None => text.push(b'-')?,
+        Some(colour) => text.push(character(colour))?,
+    }
+    Ok(())
+}
+
+// What the clue asks of each side.
+fn put_asks(text: &mut Vec<u8>, clue: &Clue) -> Result<(), AllocError>
+    ensures { OnOk result (text.new.items ≡ text.old.items ++ asks_word (clue_of clue.now).asks) }
+{
+    for side in 0..clue.sides() {
+        put_ask(text, clue.asks(side))?;
+    }
+    Ok(())
+}
+
+#[tactic(auto, unfolding(text_words::specs::Spelling::line_text))]
+fn put_clue(text: &mut Vec<u8>, clue: &Clue) -> Result<(), AllocError>
+    ensures { OnOk result (text.new.items ≡ text.old.items ++ line_text (clue_words (clue_of clue.now))) }
+{
+    text.extend_from_slice(b"clue ")?;
+    put_number(text, u64::from(clue.cell()))?;
+    text.push(b' ')?;
+    put_asks(text, clue)?;
+    text.push(b'\n')?;
+    Ok(())
+}
+
+fn put_clues(text: &mut Vec<u8>, clues: &[Clue]) -> Result<(), AllocError>
+    ensures { OnOk result (text.new.items ≡ text.old.items ++ text_of (map clue_words (map clue_of clues.now))) }
+{
+    for clue in clues {
+        put_clue(text, clue)?;
+    }
+    Ok(())
+}
+
+// How many clues there are, and each.
+fn put_counted_clues(text: &mut Vec<u8>, clues: &[Clue]) -> Result<(), AllocError>
+    ensures { OnOk result (text.new.items ≡ text.old.items ++ text_of (counted_lines (map clue_of clues.now))) }
+{
+    put_number_line(text, b"clues", clues.len() as u64)?;
+    put_clues(text, clues)?;
+    Ok(())
+}
+
+// The lines of the clues, if the version has them.
+#[tactic(auto, unfolding(text_words::specs::Spelling::text_of))]
+fn put_clue_part(text: &mut Vec<u8>, version: u8, clues: &[Clue]) -> Result<(), AllocError>
+    ensures { OnOk result
+        (text.new.items ≡ text.old.items ++ text_of (clues_lines version (map clue_of clues.now))) }
+{
+    if version == 3 {
+        return put_counted_clues(text, clues);
+    }
+    Ok(())
+}
+
 /// Writes a tile's word.
 pub fn put_colours(text: &mut Vec<u8>, tile: &Tile) -> Result<(), AllocError>
     ensures { OnOk result (text.new.items ≡ text.old.items ++ tile_word (colours_of tile.now)) }
@@ -255,6 +321,7 @@ pub fn write_puzzle(alloc: Global, puzzle: &Puzzle) -> Result<Vec<u8>, AllocErro
     put_turns(&mut text, puzzle.turns())?;
     put_border(&mut text, puzzle.border())?;
     put_mating(&mut text, puzzle.version(), puzzle.mates())?;
+    put_clue_part(&mut text, puzzle.version(), puzzle.clues())?;
     put_number_line(&mut text, b"tiles", tiles.len() as u64)?;
     put_tiles(&mut text, tiles)?;
     put_end(&mut text)?;

@@ -1,17 +1,17 @@
 //! Puzzles are read.
 
 ghost use Rattle.std.specs.Prelude.{◌≡◌, ◌≢◌, ◌+◌, ◌*◌, ◌<◌, ◌^◌, ◌++◌, ℕ, Ok, Err, IfOk, IfErr, IfSome, OnOk};
-ghost use Rattle.std.specs.Prelude.{length, map, take};
+ghost use Rattle.std.specs.Prelude.{[], length, map, take};
 ghost use Rattle.match_board.specs.Board.{IsBoard, IsPlain, shape_of};
 ghost use Rattle.match_board.specs.Tile.{word as tile_colours};
 ghost use Rattle.match_limits.specs.First.{IsFirst};
 ghost use Rattle.match_board.specs.Mates.{mating_of, IsOfVersion};
+ghost use Rattle.match_board.specs.Clues.{clue_of};
 ghost use Rattle.match_puzzle.specs.Puzzle.{Task, IsPuzzle};
 ghost use Rattle.match_board.specs.Borders.{IsShortRule, rule_of};
 ghost use Rattle.match_puzzle.specs.PuzzleFaults.{PuzzleFails, puzzle_rank};
 ghost use Rattle.plain_words.specs.declared.faults.TextKind.TheVariants as kinds;
 ghost use Rattle.plain_words.specs.Bytes.{line_ends};
-ghost use Rattle.match_limits.specs.Ranges.{IsVersion};
 ghost use Rattle.match_text.specs.PuzzleSpelling.{puzzle_spelling, IsTaskWithin};
 ghost use Rattle.plain_words.specs.Words.{Judges, number_in};
 ghost use Rattle.text_words.specs.Words.{marks_in, is_cell, colour_in, rule_in};
@@ -19,20 +19,24 @@ ghost use Rattle.text_words.specs.Place.{Gives, Reads, Says, times, entries, som
 ghost use Rattle.match_text.specs.Puzzles.{board_kind_in, board_size, board_line, turns_in, turns_line, border_kind_in};
 ghost use Rattle.match_text.specs.Puzzles.{border_rule, border_line, tile_line, puzzle_text, puzzle_of, view_of};
 ghost use Rattle.match_text.specs.Puzzles.{row_line, shape_rows, board_rows, figure_of, HasItsMarks, AddsRow};
-ghost use Rattle.match_text.specs.Puzzles.{BoardFails, mates_line, mating_part};
+ghost use Rattle.match_text.specs.Puzzles.{IsPuzzleVersion, puzzle_version_in, match_line};
+ghost use Rattle.match_text.specs.Puzzles.{BoardFails, mates_line, mating_part, clue_line, counted_clues, clues_part};
 ghost use Rattle.match_text.specs.Puzzles.{PuzzleReads, PuzzleGives};
 
 use crate::faults::PuzzleTextFault;
-use match_board::{Board, BoardFault, Figure, Tile};
-use match_limits::{MOST_COLOURS, MOST_LENGTH, MOST_PLACES, Ranges, ranges_of};
-use match_puzzle::{Border, BorderRules, Puzzle, PuzzleFault};
+use match_board::{Board, BoardFault, Clue, Figure, Tile};
+use match_limits::{
+    LAST_CELL, MOST_CELLS, MOST_COLOURS, MOST_LENGTH, MOST_PLACES, Ranges, ranges_of,
+};
+use match_puzzle::{Border, BorderRules, Puzzle, PuzzleFault, Rules};
+use plain_words::version_word;
 use std::alloc::{AllocError, Global};
 use text_words::{Asked, FaultPlace, ReadFault, Scan, TextFault, TextKind, row_word};
 
 /// What a text says of a puzzle. There may be no such puzzle.
 #[derive(Drop)]
 pub struct PuzzleText {
-    /// 1 or 2.
+    /// 1, 2 or 3.
     pub version: u8,
     pub board: BoardLine,
     /// One for each place of a shape, row by row, whether it has a cell; else none.
@@ -42,6 +46,8 @@ pub struct PuzzleText {
     pub border: Border,
     /// As many as a text may give, none in version 1.
     pub mates: Vec<u8>,
+    /// As many as a text may give, none before version 3.
+    pub clues: Vec<Clue>,
     /// At least one, and as many as a text may give.
     pub tiles: Vec<Tile>,
 }
@@ -73,6 +79,39 @@ enum BorderKind {
     Each,
 }
 
+// The version of a puzzle: 1, 2 or 3.
+fn puzzle_version_word(word: &[u8]) -> Result<u8, TextKind>
+    ensures judges { Judges (λ version. version) result (puzzle_version_in word.now) }
+    ensures version { IfOk result IsPuzzleVersion }
+{
+    if word == b"3".as_slice() {
+        return Ok(3);
+    }
+    version_word(word)
+}
+
+#[tactic(auto, unfolding(text_words::specs::Place::word_by))]
+fn puzzle_version(scan: &mut Scan) -> Result<u8, TextFault>
+    ensures gives { Gives (λ version. version) result scan.new (word_by puzzle_version_in scan.old) }
+    ensures version { IfOk result IsPuzzleVersion }
+{
+    let asked = Asked::Version { last: 3 };
+    let word = scan.next_word(asked)?;
+    scan.accept(asked, puzzle_version_word(word))
+}
+
+#[tactic(auto, unfolding(crate::specs::Puzzles::match_line))]
+fn match_line(scan: &mut Scan) -> Result<u8, TextFault>
+    ensures gives { Gives (λ version. version) result scan.new (match_line scan.old) }
+    ensures version { IfOk result IsPuzzleVersion }
+{
+    scan.next_line()?;
+    scan.word(b"match")?;
+    let version = puzzle_version(scan)?;
+    scan.end_of_line()?;
+    Ok(version)
+}
+
 // The words for kinds of board, as they are told.
 fn board_kinds(version: u8) -> &'static str {
     if version == 1 {
@@ -94,7 +133,7 @@ fn board_kind_word(word: &[u8], version: u8) -> Result<BoardKind, TextKind>
     if word == b"hexagon".as_slice() {
         return Ok(BoardKind::Hexagon);
     }
-    if version == 2 && word == b"shape".as_slice() {
+    if version >= 2 && word == b"shape".as_slice() {
         return Ok(BoardKind::Shape);
     }
     Err(TextKind::Word)
@@ -358,13 +397,62 @@ fn mates_line(alloc: Global, scan: &mut Scan) -> Result<Vec<u8>, ReadFault>
 
 #[tactic(auto, unfolding(crate::specs::Puzzles::mating_part))]
 fn mating_part(alloc: Global, scan: &mut Scan, version: u8) -> Result<Vec<u8>, ReadFault>
-    requires { IsVersion version }
+    requires { IsPuzzleVersion version }
     ensures { Reads (λ mates. mating_of version mates.items) result scan.new (mating_part version scan.old) }
 {
     if version == 1 {
         return Ok(Vec::new(alloc));
     }
     mates_line(alloc, scan)
+}
+
+// The cell of a clue.
+fn clue_cell(scan: &mut Scan) -> Result<u16, TextFault>
+    ensures { Gives (λ n. n) result scan.new (word_by (number_in 0 LAST_CELL) scan.old) }
+{
+    let cell = scan.number(0, u32::from(LAST_CELL))?;
+    Ok(cell as u16)
+}
+
+#[tactic(auto, unfolding(crate::specs::Puzzles::clue_line))]
+fn clue_line(scan: &mut Scan) -> Result<Clue, TextFault>
+    ensures { Gives clue_of result scan.new (clue_line scan.old) }
+{
+    scan.next_line()?;
+    scan.word(b"clue")?;
+    let cell = clue_cell(scan)?;
+    let clue = scan.clue(cell)?;
+    scan.end_of_line()?;
+    Ok(clue)
+}
+
+fn clue_lines(alloc: Global, scan: &mut Scan, count: u32) -> Result<Vec<Clue>, ReadFault>
+    ensures { Reads (λ clues. map clue_of clues.items) result scan.new (times count clue_line scan.old) }
+{
+    let mut clues = Vec::new(alloc);
+    for _ in 0..count {
+        let clue = clue_line(scan)?;
+        clues.push(clue)?;
+    }
+    Ok(clues)
+}
+
+#[tactic(auto, unfolding(crate::specs::Puzzles::counted_clues))]
+fn counted_clues(alloc: Global, scan: &mut Scan) -> Result<Vec<Clue>, ReadFault>
+    ensures { Reads (λ clues. map clue_of clues.items) result scan.new (counted_clues scan.old) }
+{
+    let count = scan.counted(b"clues", 0, u32::from(MOST_CELLS))?;
+    clue_lines(alloc, scan, count)
+}
+
+#[tactic(auto, unfolding(crate::specs::Puzzles::clues_part))]
+fn clues_part(alloc: Global, scan: &mut Scan, version: u8) -> Result<Vec<Clue>, ReadFault>
+    ensures { Reads (λ clues. map clue_of clues.items) result scan.new (clues_part version scan.old) }
+{
+    if version == 3 {
+        return counted_clues(alloc, scan);
+    }
+    Ok(Vec::new(alloc))
 }
 
 #[tactic(auto, unfolding(crate::specs::Puzzles::tile_line))]
@@ -394,13 +482,14 @@ fn whole(alloc: Global, scan: &mut Scan) -> Result<PuzzleText, ReadFault>
     ensures reads { Reads view_of result scan.new (puzzle_text scan.old) }
     ensures marks { IfOk result (λ t. HasItsMarks t.board t.marks.items) }
 {
-    let version = scan.opening(b"match")?;
+    let version = match_line(scan)?;
     let ranges = ranges_of(version);
     let board = board_line(scan, version)?;
     let marks = board_rows(alloc, scan, board)?;
     let turns = turns_line(scan)?;
     let border = border_line(alloc, scan, &ranges)?;
     let mates = mating_part(alloc, scan, version)?;
+    let clues = clues_part(alloc, scan, version)?;
     let count = scan.counted(b"tiles", 1, u32::from(ranges.most_cells))?;
     let tiles = tile_lines(alloc, scan, count)?;
     scan.closing()?;
@@ -411,6 +500,7 @@ fn whole(alloc: Global, scan: &mut Scan) -> Result<PuzzleText, ReadFault>
         turns,
         border,
         mates,
+        clues,
         tiles,
     })
 }
@@ -471,6 +561,8 @@ fn make_said(alloc: Global, board: Board, said: &PuzzleText) -> Result<Puzzle, P
     requires border { IsShortRule (rule_of said.now.border) }
     requires version { IsOfVersion (view_of said.now).mating }
     requires mates { length said.now.mates.items < 2 ^ 32 }
+    requires clues { length said.now.clues.items < 2 ^ 32 }
+    requires without { said.now.version ≢ 3 → said.now.clues.items ≡ [] }
     requires tiles { length said.now.tiles.items < 2 ^ 32 }
     ensures puzzle { IfOk result (λ p. (p ≡ view_of said.now) × IsPuzzle p) }
     ensures fault { IfErr result (λ f. f ≢ PuzzleFault.Memory
@@ -479,14 +571,23 @@ fn make_said(alloc: Global, board: Board, said: &PuzzleText) -> Result<Puzzle, P
     if said.version == 1 {
         return Puzzle::new(alloc, board, said.turns, &said.border, &said.tiles);
     }
-    Puzzle::with_mates(
-        alloc,
-        board,
-        said.turns,
-        &said.border,
-        &said.mates,
-        &said.tiles,
-    )
+    if said.version == 2 {
+        return Puzzle::with_mates(
+            alloc,
+            board,
+            said.turns,
+            &said.border,
+            &said.mates,
+            &said.tiles,
+        );
+    }
+    let rules = Rules {
+        turns: said.turns,
+        border: &said.border,
+        mates: &said.mates,
+        clues: &said.clues,
+    };
+    Puzzle::with_clues(alloc, board, &rules, &said.tiles)
 }
 
 // The board and the puzzle are made after the whole text was read.

@@ -1,8 +1,8 @@
 -- Edges of elements.
-use Rattle.std.proofs.Common.{◌≡◌, ◌++◌, ℕ, List, arith, refl, ap, ◌∙◌, subst, append_assoc, codes, decimal}
+use Rattle.std.proofs.Common.{◌≡◌, ◌++◌, ℕ, List, arith, refl, ap, sym, ◌∙◌, subst, append_assoc, codes, decimal}
 use Rattle.match_puzzle.specs.Puzzle.{Task}
 use Rattle.picture_parts.specs.Edges.{HasArc, HasEdge, IsEdgePath}
-use Rattle.picture_parts.specs.Elements.{IsElement, element_begin}
+use Rattle.picture_parts.specs.Elements.{IsAlong, IsElement, element_begin}
 use Rattle.picture_parts.specs.declared.edges.Edge.{Edge}
 use Rattle.picture_parts.specs.declared.edges.Edge.TheVariants.{Flat, Knob, Hollow}
 
@@ -30,12 +30,19 @@ goes_on Flat path more w = tt
 goes_on Knob path more w = arc_on 1 path more w
 goes_on Hollow path more w = arc_on 0 path more w
 
--- an element that begins, with the edge
-pub element_begun : (p : Task) (colour x y : ℕ) (edge : Edge) (begun path text : List ℕ) → begun ≡ element_begin p colour x y → text ≡ begun ++ path → HasEdge p colour edge → IsEdgePath edge path → IsElement p colour x y text
-element_begun p colour x y edge begun path text begins along has is = record {
+-- a path with one edge of a colour has the colour's edge
+pub is_along : (p : Task) (colour : ℕ) (edge : Edge) (path : List ℕ) → HasEdge p colour edge → IsEdgePath edge path → IsAlong p colour path
+is_along p colour edge path has is = λ other has'. subst (λ e. IsEdgePath e path) (one_edge p colour edge other has has') is
+
+pub along_more : (p : Task) (colour : ℕ) (path more grown : List ℕ) → IsAlong p colour path → grown ≡ path ++ more → IsAlong p colour grown
+along_more p colour path more grown is longer = λ edge has. subst (IsEdgePath edge) (sym longer) (goes_on edge path more (is edge has))
+
+-- an element that begins, with a path
+pub element_begun : (p : Task) (colour x y : ℕ) (begun path text : List ℕ) → begun ≡ element_begin p colour x y → text ≡ begun ++ path → IsAlong p colour path → IsElement p colour x y text
+element_begun p colour x y begun path text begins longer is = record {
   rest = path;
-  begins = along ∙ ap (λ t. t ++ path) begins;
-  along = λ other has'. subst (λ e. IsEdgePath e path) (one_edge p colour edge other has has') is;
+  begins = longer ∙ ap (λ t. t ++ path) begins;
+  along = is;
 }
 
 -- an element with what comes after it

@@ -1,3 +1,4 @@
 mod EdgeLemmas
+mod ClueLemmas
 pub mod JoinedLemmas
 pub mod PaletteLemmas

@@ -1,6 +1,6 @@
 -- Elements of a picture.
 use Rattle.std.specs.Prelude.{◌≡◌, ◌⊎◌, ◌+◌, ℕ, List, Some, [], ◌∷◌, ◌++◌, codes, decimal, length, slice_get}
-use Rattle.match_board.specs.Board.{side_count}
+use Rattle.match_board.specs.Board.{side_count, IsBorderPair}
 use Rattle.match_puzzle.specs.Puzzle.{Task, HasRule, colour_of}
 use Rattle.match_puzzle.specs.declared.placements.Placement.{Placement}
 use Rattle.picture_parts.specs.Edges.{HasEdge, IsEdgePath}
@@ -15,11 +15,15 @@ abbrev pub element_begin : Task → (colour x y : ℕ) → List ℕ
 element_begin p colour x y =
     codes "<path fill=\"#" ++ fill_of p colour ++ codes "\" d=\"M" ++ decimal x ++ 32 ∷ decimal y
 
+-- The path has the colour's edge.
+abbrev pub IsAlong : Task → (colour : ℕ) → List ℕ → Type 0
+IsAlong p colour path = (edge : Edge) → HasEdge p colour edge → IsEdgePath edge path
+
 -- an element that begins so, and whose path has the colour's edge
 pub record IsElement (p : Task) (colour x y : ℕ) (text : List ℕ) : Type 0 where
   pub rest : List ℕ
   pub begins : text ≡ element_begin p colour x y ++ rest
-  pub along : (edge : Edge) → HasEdge p colour edge → IsEdgePath edge rest
+  pub along : IsAlong p colour rest
 
 -- an element with the fill and the edge of the colour, whose path begins where the side of the site does
 abbrev pub IsAtSide : Task → (left top : ℕ) → Site → (side colour : ℕ) → List ℕ → Type 0
@@ -46,11 +50,16 @@ IsPartLineAt p left top sites xs n text =
 abbrev pub ArePartLines : Task → (left top : ℕ) → List Site → List Placement → List ℕ → Type 0
 ArePartLines p left top sites xs text = IsJoined (IsPartLineAt p left top sites xs) (length xs) text
 
--- a band along a side of which the border asks for a colour: it has that colour's fill; nothing at the other sides
+-- The side meets nothing, and the border or a clue asks for the colour there.
+abbrev pub IsAskedOutside : Task → (cell side colour : ℕ) → Type 0
+IsAskedOutside p cell side colour = IsBorderPair p.board cell side × HasRule p cell side colour
+
+-- a band along a side that meets nothing, where a colour is asked for: it has that colour's fill; nothing at the other
+-- sides
 abbrev pub IsBand : Task → (left top : ℕ) → Site → (cell side : ℕ) → List ℕ → Type 0
 IsBand p left top site cell side text =
-    ((colour : ℕ) × HasRule p cell side colour × IsAtSide p left top site side colour text)
-    ⊎ (((colour : ℕ) → HasRule p cell side colour → ⊥) × (text ≡ []))
+    ((colour : ℕ) × IsAskedOutside p cell side colour × IsAtSide p left top site side colour text)
+    ⊎ (((colour : ℕ) → IsAskedOutside p cell side colour → ⊥) × (text ≡ []))
 
 -- the line with the bands of a cell, side by side, or nothing where it has none
 pub record IsBandLine (p : Task) (left top : ℕ) (site : Site) (cell : ℕ) (text : List ℕ) : Type 0 where

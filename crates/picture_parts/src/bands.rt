@@ -1,9 +1,9 @@
-//! Bands along the sides of which the border asks for a colour.
+//! Bands along the sides that meet nothing, where a colour is asked for.
 
 ghost use Rattle.std.specs.Prelude.{◌≡◌, ◌<◌, ◌↔◌, ◌++◌, ℕ, Some, IfOk, IfSome, OnOk, length, slice_get};
 ghost use Rattle.match_board.specs.Board.{cell_count, side_count};
 ghost use Rattle.match_puzzle.specs.Puzzle.{HasRule, IsPuzzle};
-ghost use Rattle.picture_parts.specs.Elements.{AreBandLines, IsAtSide, IsBand};
+ghost use Rattle.picture_parts.specs.Elements.{AreBandLines, IsAskedOutside, IsAtSide, IsBand};
 ghost use Rattle.picture_parts.specs.Joined.{IsJoined, ended};
 ghost use Rattle.picture_parts.specs.declared.canvases.Site.{Site};
 ghost use Rattle.match_limits.specs.declared.TheConstants.{MOST_COLOURS};
@@ -15,12 +15,12 @@ use crate::parts::element_along;
 use match_puzzle::Puzzle;
 use std::alloc::{AllocError, Global};
 
-// A side of a cell of which the border asks for this colour.
+// A side of a cell where this colour is asked for.
 #[derive(Clone, Copy)]
-struct Ruled {
-    cell: u16,
-    side: u8,
-    colour: u8,
+pub(crate) struct Ruled {
+    pub(crate) cell: u16,
+    pub(crate) side: u8,
+    pub(crate) colour: u8,
 }
 
 /// The bands of a board's cells, each at its site: a line for each cell that has some.
@@ -65,7 +65,7 @@ fn band_line(alloc: Global, canvas: &Canvas<'_>, cell: u16) -> Result<Vec<u8>, A
     Ok(line)
 }
 
-// The band at a side, or nothing where the border asks for no colour.
+// The band at a side, or nothing where none is.
 fn band_at(alloc: Global, canvas: &Canvas<'_>, cell: u16, side: u8) -> Result<Vec<u8>, AllocError>
     requires many { length canvas.now.sites.items ≡ cell_count canvas.now.puzzle.now.board }
     requires cell { cell < cell_count canvas.now.puzzle.now.board }
@@ -74,7 +74,7 @@ fn band_at(alloc: Global, canvas: &Canvas<'_>, cell: u16, side: u8) -> Result<Ve
     ensures { IfOk result (λ band. (site : Site) → slice_get canvas.now.sites.items cell ≡ Some site
         → IsBand canvas.now.puzzle.now canvas.now.left canvas.now.top site cell side band.items) }
 {
-    match asked(canvas.puzzle, cell, side) {
+    match asked_outside(canvas.puzzle, cell, side) {
         Some(colour) => {
             let band = band(alloc, canvas, Ruled { cell, side, colour })?;
             Ok(band)
@@ -83,7 +83,21 @@ fn band_at(alloc: Global, canvas: &Canvas<'_>, cell: u16, side: u8) -> Result<Ve
     }
 }
 
-/// The colour that the border asks for at a side.
+/// The colour that is asked for at a side that meets nothing.
+pub fn asked_outside(puzzle: &Puzzle, cell: u16, side: u8) -> Option<u8>
+    requires cell { cell < cell_count puzzle.now.board }
+    requires side { side < side_count puzzle.now.board }
+    requires puzzle { IsPuzzle puzzle.now }
+    ensures rule { (colour : ℕ) → (result ≡ Some colour) ↔ IsAskedOutside puzzle.now cell side colour }
+    ensures below { IfSome result (λ colour. colour < MOST_COLOURS) }
+{
+    match puzzle.meets(cell, side) {
+        Some(_) => None,
+        None => asked(puzzle, cell, side),
+    }
+}
+
+/// The colour that the border or a clue asks for at a side.
 pub fn asked(puzzle: &Puzzle, cell: u16, side: u8) -> Option<u8>
     requires cell { cell < cell_count puzzle.now.board }
     requires side { side < side_count puzzle.now.board }

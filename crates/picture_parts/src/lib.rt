@@ -4,6 +4,7 @@
 mod arrows;
 mod bands;
 mod canvases;
+mod clues;
 mod corners;
 mod edges;
 mod forms;
@@ -13,8 +14,9 @@ mod parts;
 mod plans;
 
 pub use arrows::arrow_lines;
-pub use bands::{asked, band_lines, put_ended};
+pub use bands::{asked, asked_outside, band_lines, put_ended};
 pub use canvases::{Canvas, Point, Site};
+pub use clues::{asked_by_clue, clue_lines};
 pub use edges::{Edge, edge_of, edge_path};
 pub use forms::{Form, FormSide, Offset, Way, side_of};
 pub use numbers::{number, tile_number};

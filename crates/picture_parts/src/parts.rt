@@ -1,12 +1,14 @@
 //! Parts of tiles and bands: what shows colours.
 
-ghost use Rattle.std.specs.Prelude.{◌≡◌, ◌<◌, ◌++◌, All, IfOk, OnOk, decimal, length};
+ghost use Rattle.std.specs.Prelude.{◌≡◌, ◌<◌, ◌+◌, ◌++◌, All, IfOk, OnOk, decimal, length};
+ghost use Rattle.std.specs.String.{string_bytes};
 ghost use Rattle.match_limits.specs.declared.TheConstants.{MOST_COLOURS};
-ghost use Rattle.picture_parts.specs.Elements.{ArePartLines, IsPartLine, IsAtSide, element_begin};
+ghost use Rattle.picture_parts.specs.Elements.{ArePartLines, IsAlong, IsPartLine, IsAtSide, element_begin};
+ghost use Rattle.picture_parts.specs.Forms.{begin_of};
 
 use crate::canvases::{Canvas, Point, Site};
 use crate::edges::{edge_of, edge_path};
-use crate::forms::side_of;
+use crate::forms::{Form, side_of};
 use crate::palette::fill_of;
 use match_puzzle::{Placement, Puzzle};
 use std::alloc::{AllocError, Global};
@@ -56,7 +58,7 @@ fn part_line(
     Ok(line)
 }
 
-// From the beginning of a side along its edge, home to the middle of the tile, and back.
+// An element with the fill of the colour, and the path of a part.
 fn part(
     alloc: Global,
     canvas: &Canvas<'_>,
@@ -67,11 +69,44 @@ fn part(
     requires { colour < MOST_COLOURS }
     ensures { IfOk result (λ part. IsAtSide canvas.now.puzzle.now canvas.now.left canvas.now.top site side colour part.items) }
 {
-    let home = side_of(site.form, side).home.step();
-    let mut part = element_along(alloc, canvas, site, side, colour)?;
-    let rest = format!(in alloc; "{home}z\"/>")?;
-    part.extend_from_slice(rest.as_bytes())?;
+    let path = part_path(alloc, canvas.puzzle, site.form, side, colour)?;
+    let mut part = begin_at(alloc, canvas, site, side, colour)?;
+    part.extend_from_slice(path.as_bytes())?;
     Ok(part)
+}
+
+// From the beginning of a side along its edge, home to the middle of the tile, and back; and the end of the element.
+pub(crate) fn part_path(
+    alloc: Global,
+    puzzle: &Puzzle,
+    form: Form,
+    side: u8,
+    colour: u8,
+) -> Result<String, AllocError>
+    requires { colour < MOST_COLOURS }
+    ensures { IfOk result (λ path. IsAlong puzzle.now colour (string_bytes path)) }
+{
+    let home = side_of(form, side).home.step();
+    let along = path_along(alloc, puzzle, form, side, colour)?;
+    let rest = format!(in alloc; "{home}z\"/>")?;
+    let path = format!(in alloc; "{along}{rest}")?;
+    Ok(path)
+}
+
+// The path along a side, with the colour's edge.
+fn path_along(
+    alloc: Global,
+    puzzle: &Puzzle,
+    form: Form,
+    side: u8,
+    colour: u8,
+) -> Result<String, AllocError>
+    requires { colour < MOST_COLOURS }
+    ensures { IfOk result (λ path. IsAlong puzzle.now colour (string_bytes path)) }
+{
+    let edge = edge_of(puzzle, colour);
+    let path = edge_path(alloc, form, side, edge)?;
+    Ok(path)
 }
 
 // An element with the fill of the colour, whose path begins at the side and has gone along its edge.
@@ -85,17 +120,28 @@ pub(crate) fn element_along(
     requires { colour < MOST_COLOURS }
     ensures { IfOk result (λ text. IsAtSide canvas.now.puzzle.now canvas.now.left canvas.now.top site side colour text.items) }
 {
-    let form_side = side_of(site.form, side);
-    let edge = edge_of(canvas.puzzle, colour);
-    let path = edge_path(alloc, site.form, side, edge)?;
-    let mut element = begin_element(
-        alloc,
-        canvas.puzzle,
-        colour,
-        canvas.point(site, form_side.begin),
-    )?;
+    let path = path_along(alloc, canvas.puzzle, site.form, side, colour)?;
+    let mut element = begin_at(alloc, canvas, site, side, colour)?;
     element.extend_from_slice(path.as_bytes())?;
     Ok(element)
+}
+
+// The beginning of an element with the fill of the colour, whose path begins where the side does.
+pub(crate) fn begin_at(
+    alloc: Global,
+    canvas: &Canvas<'_>,
+    site: Site,
+    side: u8,
+    colour: u8,
+) -> Result<Vec<u8>, AllocError>
+    requires { colour < MOST_COLOURS }
+    ensures { IfOk result (λ text. text.items ≡ element_begin canvas.now.puzzle.now colour
+        (canvas.now.left + site.x + (begin_of site.form side).0) (canvas.now.top + site.y + (begin_of site.form side).1)) }
+{
+    let form_side = side_of(site.form, side);
+    let at = canvas.point(site, form_side.begin);
+    let text = begin_element(alloc, canvas.puzzle, colour, at)?;
+    Ok(text)
 }
 
 // The beginning of an element with the fill of the colour, whose path begins at the point.

@@ -1,5 +1,5 @@
 -- How often the border asks for a colour.
-use Rattle.std.proofs.Common.{◌≡◌, ◌<◌, ◌≤◌, ◌+◌, ◌*◌, ◌/◌, ◌%◌, ◌==◌, ℕ, zero, suc, Bool, true, false, List, [], ◌∷◌, Option, Some, None, cond, length, get_or, slice_get, IsTrue, MatchBool, refl, ap, sym, ◌∙◌, subst, arith, eq-eqb}
+use Rattle.std.proofs.Common.{◌≡◌, ◌<◌, ◌≤◌, ◌+◌, ◌*◌, ◌/◌, ◌%◌, ◌==◌, ℕ, zero, suc, Bool, true, false, List, [], ◌∷◌, Option, Some, None, cond, length, get_or, slice_get, IsTrue, MatchBool, refl, ap, sym, ◌∙◌, subst, inl, arith, eq-eqb}
 use Rattle.std.proofs.lemmas.Bool.{eqb-true, cond-true, false≢true}
 use Rattle.std.proofs.lemmas.Option.{slice_get_within}
 use Rattle.match_limits.specs.Listing.{ComesBefore}
@@ -84,9 +84,19 @@ rule_counts colour [] number is = absurd (in_none is)
 rule_counts colour (rule ∷ rules) zero is = let same : rule ≡ Some colour = inside is in ap (λ r. cond {A = ℕ} (is_rule colour r) 1 0) same ∙ cond-true (colour == colour) 1 0 (eq-eqb colour colour refl)
 rule_counts colour (rule ∷ rules) (suc number) is = rule_counts colour rules number is
 
+-- an outer side, and the colour that the border asks of it
+pub record HasBorderRule (p : Task) (cell side colour : ℕ) : Type 0 where
+  pub border_pair : IsBorderPair p.board cell side
+  pub asked : Asks p.board p.border cell side colour
+
+-- it is a rule of the puzzle
+pub of_border : (p : Task) (cell side colour : ℕ) → HasBorderRule p cell side colour → HasRule p cell side colour
+of_border p cell side colour rule =
+    record { cell_in = rule.border_pair.cell_in; side_in = rule.border_pair.side_in; asked = inl (rule.border_pair, rule.asked) }
+
 module _ (p : Task) (outer : List (ℕ × ℕ)) (colour : ℕ) (border : IsBorderOrder p.board outer) where
   -- an outer side of which the rule asks for the colour has that rule
-  asks_tells : (number cell side : ℕ) → slice_get outer number ≡ Some (cell, side) → 0 < asks_one p.border colour number → HasRule p cell side colour
+  asks_tells : (number cell side : ℕ) → slice_get outer number ≡ Some (cell, side) → 0 < asks_one p.border colour number → HasBorderRule p cell side colour
   asks_tells number cell side listed some = record { border_pair = border.only (cell, side) (contains_at outer number (cell, side) listed); asked = by_rule p.border some }
     where
       by_rule : (rule : BorderRule) → 0 < asks_one rule colour number → Asks p.board rule cell side colour
@@ -98,9 +108,9 @@ module _ (p : Task) (outer : List (ℕ × ℕ)) (colour : ℕ) (border : IsBorde
           by_test false e lt = absurd (omega (arith, lt))
       by_rule (each rules) lt = (outer, border, number, listed, rule_at colour rules number lt)
 
-  -- and a side that has the rule is counted
-  pub asks_counts : (number cell side : ℕ) → slice_get outer number ≡ Some (cell, side) → HasRule p cell side colour → asks_one p.border colour number ≡ 1
-  asks_counts number cell side listed rule = by_rule p.border rule.asked
+  -- and a side of which the border asks for it is counted
+  pub asks_counts : (number cell side : ℕ) → slice_get outer number ≡ Some (cell, side) → Asks p.board p.border cell side colour → asks_one p.border colour number ≡ 1
+  asks_counts number cell side listed asks = by_rule p.border asks
     where
       by_rule : (rule : BorderRule) → Asks p.board rule cell side colour → asks_one rule colour number ≡ 1
       by_rule free asked = absurd asked
@@ -115,12 +125,12 @@ module _ (p : Task) (outer : List (ℕ × ℕ)) (colour : ℕ) (border : IsBorde
     abbrev pub IsOf : (number n : ℕ) → Type 0
     IsOf number n = slice_get outer number ≡ Some (n / 4, n % 4)
 
-    -- the outer side with this number, its rule, and its own number
+    -- the outer side with this number, what the border asks of it, and its own number
     pub record IsAsked (number : ℕ) : Type 0 where
       pub n : ℕ
       pub n_in : n < 4 * cell_count p.board
       pub is_of : IsOf number n
-      pub rule : HasRule p (n / 4) (n % 4) colour
+      pub rule : HasBorderRule p (n / 4) (n % 4) colour
       pub shown : shows p a colour n ≡ 1
 
     pub is_asked : (number : ℕ) → number < length outer → 0 < asks_one p.border colour number → IsAsked number
@@ -129,15 +139,15 @@ module _ (p : Task) (outer : List (ℕ × ℕ)) (colour : ℕ) (border : IsBorde
         let rule = asks_tells number listed.0.0 listed.0.1 listed.1 some in
         let small : listed.0.1 < 4 = omega (arith, rule.border_pair.side_in, few_sides p.board) in
         let at_number = of_number listed.0.0 listed.0.1 small in
-        let rule' : HasRule p ((4 * listed.0.0 + listed.0.1) / 4) ((4 * listed.0.0 + listed.0.1) % 4) colour =
-        subst (λ c. HasRule p c ((4 * listed.0.0 + listed.0.1) % 4) colour) (sym at_number.0) (subst (λ k. HasRule p listed.0.0 k colour) (sym at_number.1) rule) in
+        let rule' : HasBorderRule p ((4 * listed.0.0 + listed.0.1) / 4) ((4 * listed.0.0 + listed.0.1) % 4) colour =
+        subst (λ c. HasBorderRule p c ((4 * listed.0.0 + listed.0.1) % 4) colour) (sym at_number.0) (subst (λ k. HasBorderRule p listed.0.0 k colour) (sym at_number.1) rule) in
         record {
           n = 4 * listed.0.0 + listed.0.1;
           n_in = omega (arith, rule.border_pair.cell_in, small);
           is_of = listed.1 ∙ sym (same_pair at_number.0 at_number.1);
           rule = rule';
           shown = shows_one p a colour (4 * listed.0.0 + listed.0.1) rule'.border_pair.side_in
-              (is.border ((4 * listed.0.0 + listed.0.1) / 4) ((4 * listed.0.0 + listed.0.1) % 4) colour (at p a ((4 * listed.0.0 + listed.0.1) / 4)) (stands_at p a puzzle is _ rule'.border_pair.cell_in) rule');
+              (is.border ((4 * listed.0.0 + listed.0.1) / 4) ((4 * listed.0.0 + listed.0.1) % 4) colour (at p a ((4 * listed.0.0 + listed.0.1) / 4)) (stands_at p a puzzle is _ rule'.border_pair.cell_in) (of_border p _ _ colour rule'));
         }
 
     -- a side of the board has one number in border order
@@ -155,7 +165,7 @@ module _ (p : Task) (outer : List (ℕ × ℕ)) (colour : ℕ) (border : IsBorde
         (λ number lt some. let w = is_asked number lt some in (w.n, w.n_in, w.is_of, omega (arith, w.shown, asks_few p.border colour number)))
         one_number_of
 
--- ---- whether each outer side has a rule
+-- ---- whether the border asks each outer side for a colour
 
 module _ (p : Task) (puzzle : IsPuzzle p) (outer : List (ℕ × ℕ)) (border : IsBorderOrder p.board outer) where
   pub everywhere_free : p.border ≡ free → (length outer ≡ 0 → AsksEverywhere p) × (AsksEverywhere p → length outer ≡ 0)
@@ -164,15 +174,15 @@ module _ (p : Task) (puzzle : IsPuzzle p) (outer : List (ℕ × ℕ)) (border : 
     λ all. by_pairs outer border all,
   )
     where
-      asks_none : (cell side colour : ℕ) → HasRule p cell side colour → ⊥
-      asks_none cell side colour rule = subst (λ r. Asks p.board r cell side colour) e rule.asked
+      asks_none : (cell side colour : ℕ) → Asks p.board p.border cell side colour → ⊥
+      asks_none cell side colour asks = subst (λ r. Asks p.board r cell side colour) e asks
 
       by_pairs : (pairs : List (ℕ × ℕ)) → IsBorderOrder p.board pairs → AsksEverywhere p → length pairs ≡ 0
       by_pairs [] order all = refl
       by_pairs (pair ∷ pairs) order all = let rule = all pair.0 pair.1 (order.only pair (0, omega arith, refl)) in absurd (asks_none pair.0 pair.1 rule.0 rule.1)
 
   pub everywhere_one : (asked : ℕ) → p.border ≡ one asked → AsksEverywhere p
-  everywhere_one asked e = λ cell side pair. (asked, record { border_pair = pair; asked = subst (λ r. Asks p.board r cell side asked) (sym e) refl })
+  everywhere_one asked e = λ cell side pair. (asked, subst (λ r. Asks p.board r cell side asked) (sym e) refl)
 
   -- where a list of rules has one at each place
   pub everywhere_each : (rules : List (Option ℕ)) → p.border ≡ each rules → ((place : ℕ) → slice_get rules place ≡ Some None → ⊥) → AsksEverywhere p
@@ -188,10 +198,10 @@ module _ (p : Task) (puzzle : IsPuzzle p) (outer : List (ℕ × ℕ)) (border : 
       long : length rules ≡ length outer
       long = as_long.2 ∙ ap length (one_order p as_long.0 outer as_long.1 border)
 
-      by_rule : (cell side : ℕ) → IsBorderPair p.board cell side → (number : ℕ) → slice_get outer number ≡ Some (cell, side) → (rule : Option ℕ) → slice_get rules number ≡ Some rule → (colour : ℕ) × HasRule p cell side colour
+      by_rule : (cell side : ℕ) → IsBorderPair p.board cell side → (number : ℕ) → slice_get outer number ≡ Some (cell, side) → (rule : Option ℕ) → slice_get rules number ≡ Some rule → (colour : ℕ) × Asks p.board p.border cell side colour
       by_rule cell side pair number listed None there = absurd (full number there)
       by_rule cell side pair number listed (Some colour) there =
-          (colour, record { border_pair = pair; asked = subst (λ r. Asks p.board r cell side colour) (sym e) (outer, border, number, listed, there) })
+          (colour, subst (λ r. Asks p.board r cell side colour) (sym e) (outer, border, number, listed, there))
 
   -- and where it has none at a place
   pub nowhere_each : (rules : List (Option ℕ)) → p.border ≡ each rules → (place : ℕ) → slice_get rules place ≡ Some None → AsksEverywhere p → ⊥
@@ -200,7 +210,7 @@ module _ (p : Task) (puzzle : IsPuzzle p) (outer : List (ℕ × ℕ)) (border : 
       let listed = member_at outer place (let lt : place < length outer = omega (arith, within, long) in lt) in
       let pair = border.only listed.0 (contains_at outer place listed.0 listed.1) in
       let rule = all listed.0.0 listed.0.1 pair in
-      let asked : Asks p.board (each rules) listed.0.0 listed.0.1 rule.0 = subst (λ r. Asks p.board r listed.0.0 listed.0.1 rule.0) e rule.1.asked in
+      let asked : Asks p.board (each rules) listed.0.0 listed.0.1 rule.0 = subst (λ r. Asks p.board r listed.0.0 listed.0.1 rule.0) e rule.1 in
       let order = one_order p asked.0 outer asked.1 border in
       let same : asked.2 ≡ place = one_place_in_order (λ n. IsBorderPair p.board n.0 n.1) outer asked.2 place listed.0 border (subst (λ ps. slice_get ps asked.2 ≡ Some listed.0) order asked.3) listed.1 in
       let there : slice_get rules place ≡ Some (Some rule.0) = subst (λ n. slice_get rules n ≡ Some (Some rule.0)) same asked.4 in

@@ -4,9 +4,10 @@ use Rattle.std.proofs.lemmas.Bool.{ltb-true}
 use Rattle.match_limits.proofs.ListLemmas.{place_of}
 use Rattle.std.proofs.lemmas.Option.{slice_get_within}
 use Rattle.match_board.specs.Board.{cell_count, IsBorderPair, IsBorderOrder, Meets}
+use Rattle.match_board.specs.Borders.{Asks}
 use Rattle.match_board.proofs.Places.{Meets-turned, StandsAt-in_range}
 use Rattle.match_puzzle.specs.Arrangement.{IsArrangement}
-use Rattle.match_puzzle.specs.Puzzle.{Task, IsPuzzle, HasRule, colour_of, mate_of}
+use Rattle.match_puzzle.specs.Puzzle.{Task, IsPuzzle, colour_of, mate_of}
 use Rattle.match_puzzle.specs.declared.placements.Placement.{Placement}
 use Rattle.match_puzzle.proofs.ArrangementLemmas.{side_in_range}
 use Rattle.match_puzzle.proofs.TogetherLemmas.{together_turned}
@@ -14,7 +15,7 @@ use Rattle.match_show.specs.Facts.{border_count, tile_count}
 use Rattle.puzzle_reasons.specs.Reasons.{AsksEverywhere}
 use Rattle.puzzle_reasons.proofs.Totals.{total, total_both, carried, Goes}
 use Rattle.puzzle_reasons.proofs.CountLemmas.{at, shows, shows_tells, shows_one, shows_few, stands_at, shown_often}
-use Rattle.puzzle_reasons.proofs.BorderCounts.{asks_one, asks_few, asked_often, asks_counts, IsOf, is_asked, one_number_of, one_side_of}
+use Rattle.puzzle_reasons.proofs.BorderCounts.{HasBorderRule, of_border, asks_one, asks_few, asked_often, asks_counts, IsOf, is_asked, one_number_of, one_side_of}
 use Rattle.puzzle_reasons.proofs.MeetLemmas.{MeetNumbered, TellsOf, TellsUpTo, one_met, not_itself}
 
 -- the weight of a side that meets nothing, or none
@@ -107,8 +108,9 @@ module _ (p : Task) (a : List Placement) (puzzle : IsPuzzle p) (is : IsArrangeme
         by_pair n pair shown =
             let listed = place_of outer (n / 4, n % 4) (border.all (n / 4, n % 4) pair) in
             let rule = everywhere (n / 4) (n % 4) pair in
-            let same : rule.0 ≡ colour = sym (is.border (n / 4) (n % 4) rule.0 (at p a (n / 4)) (stands_at p a puzzle is (n / 4) pair.cell_in) rule.1) ∙ shown in
-            let one = asks_counts p outer colour border listed.0 (n / 4) (n % 4) listed.1 (subst (HasRule p (n / 4) (n % 4)) same rule.1) in
+            let has : HasBorderRule p (n / 4) (n % 4) rule.0 = record { border_pair = pair; asked = rule.1 } in
+            let same : rule.0 ≡ colour = sym (is.border (n / 4) (n % 4) rule.0 (at p a (n / 4)) (stands_at p a puzzle is (n / 4) pair.cell_in) (of_border p _ _ rule.0 has)) ∙ shown in
+            let one = asks_counts p outer colour border listed.0 (n / 4) (n % 4) listed.1 (subst (Asks p.board p.border (n / 4) (n % 4)) same rule.1) in
             (listed.0, slice_get_within outer listed.0 (n / 4, n % 4) listed.1, listed.1, omega (arith, one, shows_few p a colour n))
 
         by_partner : (n : ℕ) → n < sides → (met : Option ℕ) → partner n ≡ met → TellsOf p.board n met → 0 < outside (partner n) (shows p a colour n) →
@@ -123,7 +125,7 @@ module _ (p : Task) (a : List Placement) (puzzle : IsPuzzle p) (is : IsArrangeme
             let same = ap (λ met. outside met (shows p a colour n)) e in
             absurd (omega (arith, same, some))
 
-    -- Where each outer side has a rule, what is left is on inner sides.
+    -- Where the border asks each outer side for a colour, what is left is on inner sides.
     pub left_inside : AsksEverywhere p → tile_count p.words colour ≡ border_count p.border (length outer) colour + total (λ n. inner (partner n) (shows p a colour n)) sides
     left_inside everywhere =
         let all = shown_often p a puzzle is colour in

@@ -3,9 +3,10 @@ use Rattle.std.specs.Prelude.{◌≡◌, ◌≢◌, ◌<◌, ◌+◌, ◌%◌, �
 use Rattle.match_limits.specs.Listing.{IsListing, ByKey, HoldsBefore}
 use Rattle.match_limits.specs.declared.TheConstants.{MOST_COLOURS}
 use Rattle.match_board.specs.Board.{cell_count, IsBorderPair, IsBorderOrder}
+use Rattle.match_board.specs.Borders.{Asks}
 use Rattle.match_puzzle.specs.Fitting.{Fits}
 use Rattle.match_puzzle.specs.Prefix.{empty_prefix}
-use Rattle.match_puzzle.specs.Puzzle.{Task, HasRule, mate_of}
+use Rattle.match_puzzle.specs.Puzzle.{Task, mate_of}
 use Rattle.match_puzzle.specs.declared.placements.Placement.{Placement}
 use Rattle.match_show.specs.Facts.{border_count, tile_count}
 use Rattle.puzzle_reasons.specs.declared.reasons.Reason.{Reason}
@@ -17,9 +18,10 @@ pub record IsAskedCount (p : Task) (colour asked : ℕ) : Type 0 where
   pub border : IsBorderOrder p.board outer
   pub counted : asked ≡ border_count p.border (length outer) colour
 
--- Each outer side has a rule.
+-- The border asks each outer side for a colour; clues don't count.
 abbrev pub AsksEverywhere : Task → Type 0
-AsksEverywhere p = (cell side : ℕ) → IsBorderPair p.board cell side → (colour : ℕ) × HasRule p cell side colour
+AsksEverywhere p =
+    (cell side : ℕ) → IsBorderPair p.board cell side → (colour : ℕ) × Asks p.board p.border cell side colour
 
 -- So many sides of tiles with the colour are left for inner sides, when the border has those that it asks for.
 abbrev pub IsLeft : Task → (colour left : ℕ) → Type 0
@@ -32,7 +34,7 @@ pub record IsShort (p : Task) (colour asked shown : ℕ) : Type 0 where
   pub on_tiles : shown ≡ tile_count p.words colour
   pub short : shown < asked
 
--- Each outer side has a rule, and an odd number of sides is left of a colour that meets itself.
+-- The border asks each outer side for a colour, and an odd number of sides is left of a colour that meets itself.
 pub record IsOdd (p : Task) (colour left : ℕ) : Type 0 where
   pub few : colour < MOST_COLOURS
   pub everywhere : AsksEverywhere p
@@ -40,7 +42,7 @@ pub record IsOdd (p : Task) (colour left : ℕ) : Type 0 where
   pub counted : IsLeft p colour left
   pub odd : left % 2 ≡ 1
 
--- Each outer side has a rule, and of two mates different numbers of sides are left.
+-- The border asks each outer side for a colour, and of two mates different numbers of sides are left.
 pub record AreUnequal (p : Task) (colour left mate mate_left : ℕ) : Type 0 where
   pub few : colour < MOST_COLOURS
   pub everywhere : AsksEverywhere p

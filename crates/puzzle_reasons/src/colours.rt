@@ -34,7 +34,7 @@ impl Sides {
     }
 }
 
-/// Whether each outer side has a rule, where the board has so many.
+/// Whether the border asks each outer side for a colour, where the board has so many.
 pub(crate) fn asks_everywhere(puzzle: &Puzzle, outer: u16) -> bool
     requires puzzle { IsPuzzle puzzle.now }
     requires outer { (pairs : List (ℕ × ℕ)) × IsBorderOrder puzzle.now.board pairs × (length pairs ≡ outer) }
@@ -55,7 +55,7 @@ fn is_full(rules: &[Option<u8>]) -> bool
     !rules.contains(&None)
 }
 
-/// The reason of a colour, if there is one, where the board has so many outer sides, and each has a rule or not.
+/// The reason of a colour, if there is one, where the board has so many outer sides, and the border asks each or not.
 pub(crate) fn colour_reason(
     puzzle: &Puzzle,
     outer: u16,
@@ -83,7 +83,7 @@ pub(crate) fn colour_reason(
     }
 }
 
-// The reason of a colour of which so many sides are left, where each outer side has a rule.
+// The reason of a colour of which so many sides are left, where the border asks each outer side for a colour.
 fn inner_reason(puzzle: &Puzzle, outer: u16, colour: u8, left: usize) -> Option<Reason>
     requires colour { colour < MOST_COLOURS }
     requires puzzle { IsPuzzle puzzle.now }

@@ -9,13 +9,13 @@ pub enum Reason {
         asked: usize,
         shown: usize,
     },
-    /// Each outer side has a rule, and when the border has what it asks for, an odd number of sides is left of a colour
+    /// The border asks each outer side for a colour, and when it has these, an odd number of sides is left of a colour
     /// that meets itself.
     Odd {
         colour: u8,
         left: usize,
     },
-    /// Each outer side has a rule, and when the border has what it asks for, different numbers of sides are left of a
+    /// The border asks each outer side for a colour, and when it has these, different numbers of sides are left of a
     /// colour and of its mate, which is the greater.
     Unequal {
         colour: u8,

@@ -1,5 +1,5 @@
--- Words of colours: a colour, a rule of the border, a tile.
-use Rattle.std.proofs.Common.{◌≡◌, ◌⊎◌, ℕ, ◌+◌, ◌-◌, ◌<◌, ◌≤◌, Bool, true, false, cond, eqb, leb, ◌&&◌, ◌||◌, List, [], ◌∷◌, length, Option, Some, None, Ok, refl, ap, subst, ◌∙◌, arith, codes, inl, inr}
+-- Words of colours: a colour, a rule of the border, a tile, a clue.
+use Rattle.std.proofs.Common.{◌≡◌, ◌⊎◌, ℕ, ◌+◌, ◌-◌, ◌<◌, ◌≤◌, Bool, true, false, cond, eqb, leb, ◌&&◌, ◌||◌, List, [], ◌∷◌, ◌++◌, length, Option, Some, None, Ok, refl, ap, subst, ◌∙◌, arith, codes, inl, inr}
 use Rattle.match_limits.specs.declared.TheConstants.{MOST_COLOURS}
 use Rattle.std.specs.List.{AllByRecursion}
 use Rattle.std.specs.Str.{bytes_eq}
@@ -8,10 +8,11 @@ use Rattle.std.proofs.lemmas.List.{length-map}
 use Rattle.std.proofs.lemmas.Slice.Eq.{bytes_eq-Decides}
 use Rattle.plain_words.specs.declared.faults.TextKind.TheVariants.{Word}
 use Rattle.plain_words.specs.Words.{or_word}
-use Rattle.text_words.specs.Words.{colour_of, colour_in, colours_in, rule_in, tile_in}
-use Rattle.text_words.specs.Spelling.{colour_character, colour_word, rule_word, tile_word}
+use Rattle.match_board.specs.Clues.{Clue}
+use Rattle.text_words.specs.Words.{colour_of, colour_in, colours_in, rule_in, tile_in, asks_in, clue_with, clue_in}
+use Rattle.text_words.specs.Spelling.{colour_character, colour_word, rule_word, tile_word, ask_character, asks_word}
 use Rattle.plain_words.proofs.WordLemmas.{Spells, judged_ok, judged_ok_is, judged_bind, or_word_is, if_ok, both, some, some_is, is_clean, after_word}
-use Rattle.text_words.specs.Within.{IsRuleWithin, IsWordWithin}
+use Rattle.text_words.specs.Within.{IsRuleWithin, IsWordWithin, AreAsksWithin}
 
 -- ---- a colour
 
@@ -139,3 +140,70 @@ spells_tile = record { is = tile_in_is; passes = tile_in_again }
 pub clean-tile : (colours : List ℕ) → is_clean (tile_word colours) ≡ true
 clean-tile [] = refl
 clean-tile (c ∷ colours) = rw (character_other c 32 (omega arith), character_other c 10 (omega arith), clean-tile colours) refl
+
+-- ---- a clue
+
+abbrev AreRules : List (Option ℕ) → Type 0
+AreRules asks = AllByRecursion IsRuleWithin asks
+
+one_ask : (rule : Option ℕ) → rule_word rule ≡ ask_character rule ∷ []
+one_ask None = refl
+one_ask (Some c) = refl
+
+ask_again : (rule : Option ℕ) → IsRuleWithin rule → rule_in (ask_character rule ∷ []) ≡ Ok rule
+ask_again rule fits = subst (λ (word : List ℕ). rule_in word ≡ Ok rule) (one_ask rule) (rule_in_again rule fits)
+
+asks_in_is : (word : List ℕ) (asks : List (Option ℕ)) → asks_in word ≡ Ok asks → (word ≡ asks_word asks) × AreRules asks
+asks_in_is [] asks e = subst (λ (z : List (Option ℕ)). ([] ≡ asks_word z) × AreRules z) (judged_ok_is [] asks e) (refl, tt)
+asks_in_is (b ∷ word) asks e =
+    let a = judged_bind (rule_in (b ∷ [])) (λ r. after_word (asks_in word) (λ rs. judged_ok (r ∷ rs))) asks e in
+    let d = judged_bind (asks_in word) (λ rs. judged_ok (a.0 ∷ rs)) asks a.2 in
+    let one = rule_in_is (b ∷ []) a.0 a.1 in
+    let more = asks_in_is word d.0 d.1 in
+    let first : b ∷ [] ≡ ask_character a.0 ∷ [] = one.0 ∙ one_ask a.0 in
+    let whole : b ∷ word ≡ asks_word (a.0 ∷ d.0) = ap (λ x. x ++ word) first ∙ ap (λ xs. ask_character a.0 ∷ xs) more.0 in
+    subst (λ (z : List (Option ℕ)). (b ∷ word ≡ asks_word z) × AreRules z) (judged_ok_is (a.0 ∷ d.0) asks d.2) (whole, (one.1, more.1))
+
+asks_in_again : (asks : List (Option ℕ)) → AreRules asks → asks_in (asks_word asks) ≡ Ok asks
+asks_in_again [] fits = refl
+asks_in_again (rule ∷ asks) fits = rw (ask_again rule fits.0, asks_in_again asks fits.1) refl
+
+-- a clue of the cell, with as many sides as there may be
+abbrev pub IsClueOf : ℕ → Clue → Type 0
+IsClueOf cell c = (c.cell ≡ cell) × AreAsksWithin c.asks
+
+abbrev clue : ℕ → List (Option ℕ) → Clue
+clue cell asks = record { cell = cell; asks = asks }
+
+clue_in_is : (cell : ℕ) (word : List ℕ) (c : Clue) → clue_in cell word ≡ Ok c → (word ≡ asks_word c.asks) × IsClueOf cell c
+unfolding clue_in clue_with
+clue_in_is cell word c e =
+    let a = if_ok (eqb (length word) 3 || eqb (length word) 4) (clue_with cell word) Word c e in
+    let b = judged_bind (asks_in word) (λ asks. judged_ok (clue cell asks)) c a.1 in
+    let h = asks_in_is word b.0 b.1 in
+    let long : length word ≡ length b.0 = ap length h.0 ∙ length-map b.0 ask_character in
+    let sides = subst (λ n. (n ≡ 3) ⊎ (n ≡ 4)) long (three_or_four (length word) (eqb (length word) 3) refl a.0) in
+    subst (λ (z : Clue). (word ≡ asks_word z.asks) × IsClueOf cell z) (judged_ok_is (clue cell b.0) c b.2) (h.0, (refl, (sides, h.1)))
+
+clue_again : (c : Clue) → AreAsksWithin c.asks → clue_in c.cell (asks_word c.asks) ≡ Ok c
+unfolding clue_in clue_with
+clue_again c fits =
+    let long : (eqb (length (asks_word c.asks)) 3 || eqb (length (asks_word c.asks)) 4) ≡ true = ap (λ n. eqb n 3 || eqb n 4) (length-map c.asks ask_character) ∙ tile_test (length c.asks) fits.0 in
+    rw (long, asks_in_again c.asks fits.1) refl
+
+abbrev pub word_of_clue : Clue → List ℕ
+word_of_clue c = asks_word c.asks
+
+pub spells_clue : (cell : ℕ) → Spells (clue_in cell) word_of_clue (IsClueOf cell)
+spells_clue cell = record {
+  is = clue_in_is cell;
+  passes = λ c fits. subst (λ n. clue_in n (asks_word c.asks) ≡ Ok c) fits.0 (clue_again c fits.1);
+}
+
+clean-rest : (rule : Option ℕ) (word : List ℕ) → IsRuleWithin rule → is_clean word ≡ true → is_clean (ask_character rule ∷ word) ≡ true
+clean-rest None word fits clean = clean
+clean-rest (Some c) word fits clean = rw (character_other c 32 (omega arith), character_other c 10 (omega arith), clean) refl
+
+pub clean-asks : (asks : List (Option ℕ)) → AreRules asks → is_clean (asks_word asks) ≡ true
+clean-asks [] fits = refl
+clean-asks (rule ∷ asks) fits = clean-rest rule (asks_word asks) fits.0 (clean-asks asks fits.1)

@@ -3,7 +3,7 @@ use Rattle.std.proofs.Common.{◌≡◌, ℕ, ◌+◌, ◌<◌, ◌≤◌, List,
 use Rattle.std.specs.List.{flat_map, join_with_byte}
 use Rattle.std.proofs.lemmas.List.{append-nil, take_all, take_more, map-append, length-map, length-take}
 use Rattle.std.proofs.lemmas.List.Concat.{flat_map-append}
-use Rattle.text_words.specs.Spelling.{colour_word, line_text, text_of, spaced, space_before, rule_word, tile_word, colour_character}
+use Rattle.text_words.specs.Spelling.{colour_word, line_text, text_of, spaced, space_before, rule_word, tile_word, colour_character, ask_character, asks_word}
 
 -- one word more
 join-push : (words : List (List ℕ)) (word : List ℕ) → join_with_byte 32 (words ++ word ∷ []) ≡ join_with_byte 32 words ++ (space_before (length words) ++ word)
@@ -102,6 +102,10 @@ mates_more mates i d lt =
 pub colours_more : (word : List ℕ) (side : ℕ) → side < length word → tile_word (take (side + 1) word) ≡ tile_word (take side word) ++ colour_character (slice_index word side) ∷ []
 colours_more word side lt = ap tile_word (take_more word side 0 lt) ∙ map-append colour_character (take side word) (get_or word side 0 ∷ [])
 
+-- one rule of a clue more
+pub asks_more : (asks : List (Option ℕ)) (side : ℕ) (d : Option ℕ) → side < length asks → asks_word (take (side + 1) asks) ≡ asks_word (take side asks) ++ ask_character (get_or asks side d) ∷ []
+asks_more asks side d lt = ap asks_word (take_more asks side d lt) ∙ map-append ask_character (take side asks) (get_or asks side d ∷ [])
+
 -- the parts of a text, as they are written
-pub eight_parts : (a b c d e f g h : List ℕ) → a ++ (b ++ (c ++ (d ++ (e ++ (f ++ (g ++ h)))))) ≡ ((((((a ++ b) ++ c) ++ d) ++ e) ++ f) ++ g) ++ h
-eight_parts a b c d e f g h = simp append_assoc refl
+pub nine_parts : (a b c d e f g h i : List ℕ) → a ++ (b ++ (c ++ (d ++ (e ++ (f ++ (g ++ (h ++ i))))))) ≡ (((((((a ++ b) ++ c) ++ d) ++ e) ++ f) ++ g) ++ h) ++ i
+nine_parts a b c d e f g h i = simp append_assoc refl

@@ -39,6 +39,15 @@ rule_word (Some colour) = colour_word colour
 abbrev pub tile_word : List ℕ → List ℕ
 tile_word colours = map colour_character colours
 
+-- a colour's character, or a dash
+abbrev pub ask_character : Option ℕ → ℕ
+ask_character None = 45
+ask_character (Some colour) = colour_character colour
+
+-- what is asked of each side
+abbrev pub asks_word : List (Option ℕ) → List ℕ
+asks_word asks = map ask_character asks
+
 -- a tile and its turn
 abbrev pub placement_word : Placement → List ℕ
 placement_word p = decimal p.tile ++ 46 ∷ decimal p.turn

@@ -4,6 +4,7 @@ use Rattle.std.specs.Prelude.{map, Bool, ◌&&◌, ◌||◌, nat_le, ◌==◌, i
 use Rattle.match_limits.specs.declared.TheConstants.{LAST_TURN}
 use Rattle.std.specs.List.{list_all}
 use Rattle.std.specs.Str.{bytes_eq}
+use Rattle.match_board.specs.Clues.{Clue}
 use Rattle.match_puzzle.specs.declared.placements.Pair.{Pair}
 use Rattle.match_puzzle.specs.declared.placements.Placement.{Placement}
 use Rattle.match_limits.specs.declared.ranges.Ranges.{Ranges}
@@ -51,6 +52,24 @@ unfoldable pub rule_in : List ℕ → Result (Option ℕ) TextKind
 rule_in word = if bytes_eq word (codes "-") then Ok None else (do
   colour ← colour_in word
   Ok (Some colour))
+
+-- what each character asks of a side
+abbrev pub asks_in : List ℕ → Result (List (Option ℕ)) TextKind
+asks_in [] = Ok []
+asks_in (c ∷ word) = do
+  ask ← rule_in (c ∷ [])
+  asks ← asks_in word
+  Ok (ask ∷ asks)
+
+-- the clue of a cell that asks this of its sides
+unfoldable pub clue_with : ℕ → List ℕ → Result Clue TextKind
+clue_with cell word = do
+  asks ← asks_in word
+  Ok (record { cell = cell; asks = asks })
+
+-- a clue of a cell: what is asked of its three or four sides in order, a colour or a dash for each
+unfoldable pub clue_in : ℕ → List ℕ → Result Clue TextKind
+clue_in cell word = if length word == 3 || length word == 4 then clue_with cell word else Err Word
 
 -- a tile and how often it is turned, with a dot between
 unfoldable pub placement_in : Ranges → List ℕ → Result Placement TextKind

@@ -9,8 +9,8 @@ pub enum Asked {
     Word(&'static [u8]),
     /// To be one of some words, named in a sentence.
     OneOf(&'static str),
-    /// To be the number of a version, 1 or 2.
-    Version,
+    /// To be the number of a version, from 1 to the last.
+    Version { last: u8 },
     /// To be a number from `least` to `most`.
     Number { least: u32, most: u32 },
     /// To be a colour.
@@ -19,6 +19,8 @@ pub enum Asked {
     Rule,
     /// To be a tile: a colour for each of its three or four sides.
     Tile,
+    /// To be what a clue asks: a colour, or `-`, for each of three or four sides.
+    Clue,
     /// To be a row of a shape, with so many places.
     Row { width: u16 },
     /// To be a placement, of a tile up to this number.

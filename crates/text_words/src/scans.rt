@@ -8,13 +8,16 @@ ghost use Rattle.plain_words.specs.Bytes.{words_left};
 ghost use Rattle.match_limits.specs.Ranges.{IsVersion, AreRanges};
 ghost use Rattle.plain_words.specs.Words.{fixed_in, version_in, number_in};
 ghost use Rattle.text_words.specs.Words.{colour_in, rule_in, tile_in, placement_in};
-ghost use Rattle.text_words.specs.Words.{pair_in};
+ghost use Rattle.text_words.specs.Words.{pair_in, clue_in};
+ghost use Rattle.match_board.specs.Clues.{clue_of};
 ghost use Rattle.text_words.specs.Place.{Place, start, first_word, other_words, without_word, judged, Gives, next_line};
 ghost use Rattle.text_words.specs.Place.{end_of_line, end_of_text, skip_line, some_word, word_by, opening, counted, closing};
 
 use crate::asked::{Asked, FaultPlace};
-use crate::words::{colour_word, pair_word, placement_word, rule_word, short_placement, tile_word};
-use match_board::Tile;
+use crate::words::{
+    clue_word, colour_word, pair_word, placement_word, rule_word, short_placement, tile_word,
+};
+use match_board::{Clue, Tile};
 use match_limits::Ranges;
 use match_puzzle::{Pair, Placement};
 use plain_words::{
@@ -297,7 +300,7 @@ impl<'a> Scan<'a> {
         ensures version { IfOk result IsVersion }
         ensures err { OnErr result (self.new ≡ self.old) }
     {
-        let asked = Asked::Version;
+        let asked = Asked::Version { last: 2 };
         let word = self.next_word(asked)?;
         self.accept(asked, version_word(word))
     }
@@ -369,6 +372,17 @@ impl<'a> Scan<'a> {
         let asked = Asked::Tile;
         let word = self.next_word(asked)?;
         self.accept(asked, tile_word(word))
+    }
+
+    /// A clue of the cell: a colour below 36, or nothing, for each of its three or four sides.
+    #[tactic(auto, unfolding(crate::specs::Place::word_by))]
+    pub fn clue(&mut self, cell: u16) -> Result<Clue, TextFault>
+        ensures gives { Gives clue_of result self.new (word_by (clue_in cell) self.old) }
+        ensures err { OnErr result (self.new ≡ self.old) }
+    {
+        let asked = Asked::Clue;
+        let word = self.next_word(asked)?;
+        self.accept(asked, clue_word(word, cell))
     }
 
     // A placement, whatever stands after it.

@@ -1,17 +1,19 @@
 //! Words of puzzles: what one has to be, or what is wrong with it.
 
-ghost use Rattle.std.specs.Prelude.{◌≡◌, ◌<◌, ◌∷◌, ◌⊎◌, ℕ, List, All, IfOk, IfSome, Ok, map, take};
-ghost use Rattle.std.specs.List.{list_all};
+ghost use Rattle.std.specs.Prelude.{◌≡◌, ◌<◌, ◌∷◌, [], ◌⊎◌, ℕ, List, All, IfOk, IfSome, Ok, map, take};
+ghost use Rattle.std.specs.List.{list_all, AllByRecursion};
 ghost use Rattle.match_board.specs.Tile.{word as tile_colours};
 ghost use Rattle.match_limits.specs.declared.ranges.Ranges.{Ranges as RangesOf};
 ghost use Rattle.match_limits.specs.Ranges.{AreRanges};
 ghost use Rattle.plain_words.specs.Bytes.{words_of};
 ghost use Rattle.plain_words.specs.Words.{Judges, or_word};
 ghost use Rattle.text_words.specs.Words.{colour_in, colour_of, colours_in, is_cell, is_mark, marks_in};
-ghost use Rattle.text_words.specs.Words.{pair_in, placement_in, rule_in, tile_in};
+ghost use Rattle.text_words.specs.Words.{clue_in, clue_with, pair_in, placement_in, rule_in, tile_in};
+ghost use Rattle.text_words.specs.Within.{IsRuleWithin};
+ghost use Rattle.match_board.specs.Clues.{clue_of};
 
-use match_board::Tile;
-use match_limits::{LAST_TURN, MOST_COLOURS, Ranges};
+use match_board::{Clue, Tile};
+use match_limits::{LAST_TURN, MOST_COLOURS, Ranges, SIDES};
 use match_puzzle::{Pair, Placement};
 use plain_words::{TextKind, cut, number_word, short_digits};
 
@@ -112,6 +114,61 @@ pub fn tile_word(word: &[u8]) -> Result<Tile, TextKind>
     match word {
         [first, second, third] => triangle([*first, *second, *third]),
         [first, second, third, fourth] => square([*first, *second, *third, *fourth]),
+        _ => Err(TextKind::Word),
+    }
+}
+
+// What a character asks of a side: a colour, or nothing.
+#[tactic(auto, unfolding(crate::specs::Words::rule_in, crate::specs::Words::colour_in))]
+fn ask(character: u8) -> Result<Option<u8>, TextKind>
+    ensures judges { Judges (λ rule. rule) result (rule_in (character ∷ [])) }
+    ensures few { IfOk result IsRuleWithin }
+{
+    match character {
+        b'-' => Ok(None),
+        _ => Ok(Some(colour(character)?)),
+    }
+}
+
+// The clue that asks this of so many sides of a cell.
+fn clue_asking(cell: u16, asks: [Option<u8>; SIDES], sides: u8) -> Clue
+    requires sides { (sides ≡ 3) ⊎ (sides ≡ 4) }
+    requires asks { AllByRecursion IsRuleWithin (take sides asks) }
+    ensures { clue_of result ≡ record { cell = cell; asks = take sides asks } }
+{
+    let Ok(clue) = Clue::new(cell, asks, sides) else {
+        unreachable!();
+    };
+    clue
+}
+
+// A clue of three sides, or of four.
+#[tactic(auto, unfolding(crate::specs::Words::clue_with))]
+fn triangle_clue(cell: u16, characters: [u8; 3]) -> Result<Clue, TextKind>
+    ensures { Judges clue_of result (clue_with cell characters) }
+{
+    let [first, second, third] = characters;
+    let asks = [ask(first)?, ask(second)?, ask(third)?, None];
+    Ok(clue_asking(cell, asks, 3))
+}
+
+#[tactic(auto, unfolding(crate::specs::Words::clue_with))]
+fn square_clue(cell: u16, characters: [u8; 4]) -> Result<Clue, TextKind>
+    ensures { Judges clue_of result (clue_with cell characters) }
+{
+    let [first, second, third, fourth] = characters;
+    let asks = [ask(first)?, ask(second)?, ask(third)?, ask(fourth)?];
+    Ok(clue_asking(cell, asks, 4))
+}
+
+/// A clue of a cell: what is asked of its three or four sides, a character for each.
+#[tactic(auto, unfolding(crate::specs::Words::clue_in))]
+pub fn clue_word(word: &[u8], cell: u16) -> Result<Clue, TextKind>
+    ensures { Judges clue_of result (clue_in cell word.now) }
+{
+    match word {
+        [first, second, third] => triangle_clue(cell, [*first, *second, *third]),
+        [first, second, third, fourth] => square_clue(cell, [*first, *second, *third, *fourth]),
         _ => Err(TextKind::Word),
     }
 }

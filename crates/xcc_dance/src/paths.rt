@@ -195,7 +195,7 @@ impl<E: OpenOptions + Drop> SearchPath<E> {
         }
     }
 
-    // The option of a pair that is legal and shows what the border asks.
+    // The option of a pair that is legal and shows what the border and clues ask.
     fn option_of(&self, pair: Pair) -> u32
         requires { IsOptionPair (E.selection self.now).compiled.puzzle pair }
         ensures pair { IsPairOf (E.selection self.now).compiled result pair }

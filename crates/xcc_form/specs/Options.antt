@@ -28,7 +28,7 @@ AreSharedEdges s edges = IsListing (ByKey least_place) (IsSharedEdge s) edges
 abbrev pub IsSideOf : SharedEdge → (cell side : ℕ) → Type 0
 IsSideOf e cell side = ((e.cell ≡ cell) × (e.side ≡ side)) ⊎ ((e.other_cell ≡ cell) × (e.other_side ≡ side))
 
--- a legal placement at a cell, which shows what the border asks there
+-- a legal placement at a cell, which shows what the border and clues ask there
 pub record IsOptionPair (p : Task) (x : Pair) : Type 0 where
   pub cell : x.cell < cell_count p.board
   pub legal : IsLegal p x.placement
@@ -76,7 +76,7 @@ pub record Compiled : Type 0 where
 abbrev pub pair_of : Choice → Pair
 pair_of c = c.pair
 
--- The options are those of the puzzle: one for each legal placement at each cell that shows what the border asks there.
+-- The options are those of the puzzle: one for each legal placement at each cell that shows what is asked there.
 pub record IsCompiled (x : Compiled) : Type 0 where
   pub puzzle : IsPuzzle x.puzzle
   pub shared : AreSharedEdges x.puzzle.board x.shared

@@ -19,9 +19,9 @@ use std::marker::Model;
 ///
 /// Items are numbered from 0. The primary ones are the cells, then the tiles; the secondary ones, after them, are the
 /// shared edges, by their lesser (cell, side). There is one option for each cell and legal placement that shows there
-/// what the border asks; they are numbered from 0 by cell, then by tile, then by turn. An option has its cell, its
-/// tile, and each shared edge of the cell with a colour: what the placement shows at the edge's lesser (cell, side), or
-/// the mate of what it shows at the other.
+/// what the border and clues ask; they are numbered from 0 by cell, then by tile, then by turn. An option has its cell,
+/// its tile, and each shared edge of the cell with a colour: what the placement shows at the edge's lesser (cell, side),
+/// or the mate of what it shows at the other.
 #[derive(Drop)]
 pub struct Xcc<'a> {
     puzzle: &'a Puzzle,
@@ -128,7 +128,7 @@ impl<'a> Xcc<'a> {
         self.options.pairs[option as usize]
     }
 
-    /// The option of a pair. There is one where the placement is legal, and shows at the cell what the border asks.
+    /// The option of a pair. There is one where the placement is legal, and shows at the cell what is asked there.
     pub fn option_of(&self, pair: Pair) -> Option<u32>
         ensures { MatchOption result (IsOptionPair self.now.puzzle pair → ⊥) (λ option. IsPairOf self.now option pair) }
     {

@@ -1,5 +1,4 @@
 use Rattle.std.proofs.Common.{refl, subst, ◌∙◌}
-use Rattle.picture_parts.specs.Arrows.{arrow_lines}
 use Rattle.match_picture.specs.Grown.{IsWrapped}
 use Rattle.match_picture.proofs.GrownLemmas.{wrapped_both}
 use Rattle.match_picture.proofs.tiles.put_tiles.Goals as goal

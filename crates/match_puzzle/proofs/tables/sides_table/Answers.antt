@@ -1,5 +1,5 @@
 use Rattle.std.proofs.Common.{◌≡◌, ◌++◌, ◌∷◌, ◌∙◌, [], List, None, Some, length, length-append, slice_get, arith, ap, sym, subst, ⊎_elim}
-use Rattle.match_puzzle.specs.Puzzle.{task_of}
+use Rattle.match_puzzle.specs.Puzzle.{task_by}
 use Rattle.match_puzzle.specs.Tables.{IsSide, AreAskedAt}
 use Rattle.match_puzzle.specs.declared.tables.Side.TheVariants.{Border}
 use Rattle.match_puzzle.specs.declared.tables.CellSides.{CellSides}
@@ -22,11 +22,11 @@ loop-cell-preserved c =
     let grown : c.push.new.self.items ≡ table ++ c.cell_sides-sides.result ∷ [] = c.in_ok-push.ensures.items in
     record {
       long = ap length grown ∙ omega (arith, length-append table (c.cell_sides-sides.result ∷ []), c.loop-cell.invariant.long);
-      is = λ cell side sides x get side_in at turns mating tiles.
-          let p = task_of c.args.board.now turns c.args.border.now mating tiles in
+      is = λ cell side sides x get side_in at version tiles.
+          let p = task_by c.args.board.now c.args.rules.now version tiles in
           ⊎_elim
-          (λ w. c.loop-cell.invariant.is cell side sides x w.1 side_in at turns mating tiles)
-          (λ w. subst (λ k. IsSide p k side x) (sym (w.0 ∙ c.loop-cell.invariant.long)) (c.cell_sides-sides.ensures.sides turns mating tiles side x side_in (subst (λ (s : CellSides). slice_get s.sides side ≡ Some x) w.1 at)))
+          (λ w. c.loop-cell.invariant.is cell side sides x w.1 side_in at version tiles)
+          (λ w. subst (λ k. IsSide p k side x) (sym (w.0 ∙ c.loop-cell.invariant.long)) (c.cell_sides-sides.ensures.sides version tiles side x side_in (subst (λ (s : CellSides). slice_get s.sides side ≡ Some x) w.1 at)))
           (pushed_is table c.cell_sides-sides.result cell sides (subst (λ (t : List CellSides). slice_get t cell ≡ Some sides) grown get));
       outside = λ cell side sides get past few.
           ⊎_elim
@@ -42,9 +42,9 @@ loop-cell-preserved c =
     }
 
 pub returns : goal.returns
-returns c = λ turns mating tiles. record {
+returns c = λ version tiles. record {
   long = omega (arith, c.loop-cell.invariant.long, c.loop-cell-test.false, c.loop-cell.auto.cell-end, c.cells-cell-end.ensures.count);
-  is = λ cell side sides x get side_in at. c.loop-cell.invariant.is cell side sides x get side_in at turns mating tiles;
+  is = λ cell side sides x get side_in at. c.loop-cell.invariant.is cell side sides x get side_in at version tiles;
   outside = c.loop-cell.invariant.outside;
   asked = c.loop-cell.invariant.asked;
 }

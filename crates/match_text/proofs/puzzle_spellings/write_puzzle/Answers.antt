@@ -22,7 +22,7 @@ pub returns-clause-spelling : goal.returns-clause-spelling
 returns-clause-spelling c =
     let p = c.args.puzzle.now in
     let count : length c.tiles-tiles.result.now ≡ length p.words = sym (length-map c.tiles-tiles.result.now word) ∙ ap length c.tiles-tiles.ensures in
-    rw (c.in_ok-put_end.ensures, c.in_ok-put_tiles.ensures, c.in_ok-put_number_line-2.ensures, c.in_ok-put_mating.ensures, c.in_ok-put_border.ensures, c.in_ok-put_turns.ensures, c.in_ok-put_board.ensures, c.in_ok-put_number_line.ensures, c.from.ensures, c.new-text.ensures.items, c.tiles-tiles.ensures, count, c.mates.ensures.list, c.version.ensures.version, c.version-2.ensures.version, c.border.ensures, c.turns.ensures, c.board-board.ensures.value)
+    rw (c.in_ok-put_end.ensures, c.in_ok-put_tiles.ensures, c.in_ok-put_number_line-2.ensures, c.in_ok-put_clue_part.ensures, c.in_ok-put_mating.ensures, c.in_ok-put_border.ensures, c.in_ok-put_turns.ensures, c.in_ok-put_board.ensures, c.in_ok-put_number_line.ensures, c.from.ensures, c.new-text.ensures.items, c.tiles-tiles.ensures, count, c.clues.ensures.clues, c.mates.ensures.list, c.version.ensures.version, c.version-2.ensures.version, c.version-3.ensures.version, c.border.ensures, c.turns.ensures, c.board-board.ensures.value)
     (sym (puzzle_written p))
 
 pub returns-clause-reads : goal.returns-clause-reads

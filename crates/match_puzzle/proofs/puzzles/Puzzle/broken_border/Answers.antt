@@ -13,6 +13,6 @@ pub returns : goal.returns
 returns c =
     let p = c.args.self.now in
     let a = c.args.placements.now in
-    least_side_told p.board (BreaksBorderAt p a) (ObeysBorderAt p a) (λ cell side obeys o. o.4 (obeys o.1 o.0 o.2 o.3)) (λ cell side o. o.3.border_pair.side_in)
+    least_side_told p.board (BreaksBorderAt p a) (ObeysBorderAt p a) (λ cell side obeys o. o.4 (obeys o.1 o.0 o.2 o.3)) (λ cell side o. o.3.side_in)
     c.board.result.now c.board.ensures.value c.first_side.result c.first_side.ensures _
-    (λ all cell side colour x stands rule. all cell side (omega (arith, slice_get_within a cell x stands, c.requires.long)) rule.border_pair.side_in colour x stands rule)
+    (λ all cell side colour x stands rule. all cell side (omega (arith, slice_get_within a cell x stands, c.requires.long)) rule.side_in colour x stands rule)

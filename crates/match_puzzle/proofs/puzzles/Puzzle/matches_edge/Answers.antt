@@ -26,12 +26,12 @@ pub returns-then-other-cell : goal.returns-then-other-cell
 returns-then-other-cell c =
     let is = c.in-Edge.ensures in
     subst (λ b. MatchBool b (MatchesEdgeAt c.args.self.now c.args.placements.now c.args.cell c.args.side) (BreaksEdgeAt c.args.self.now c.args.placements.now c.args.cell c.args.side)) (sym (lt-ltb c.in-Edge.other c.args.cell c.if-other-cell.true))
-    (matches_turned c.args.self.now c.requires.puzzle c.args.placements.now c.args.cell c.args.side c.in-Edge.other c.in-Edge.other_side is (c.requires.before c.in-Edge.other c.in-Edge.other_side c.if-other-cell.true (side_in_range (Meets-turned is.0))))
+    (matches_turned c.args.self.now c.requires.puzzle c.args.placements.now c.args.cell c.args.side c.in-Edge.other c.in-Edge.other_side is.0 is.1 (c.requires.before c.in-Edge.other c.in-Edge.other_side c.if-other-cell.true (side_in_range (Meets-turned is.0))))
 
 pub returns-else-other-cell : goal.returns-else-other-cell
 returns-else-other-cell c =
     let is = c.in-Edge.ensures in
-    let both = edge_matches c.args.self.now c.args.placements.now c.args.cell c.args.side c.in-Edge.other c.in-Edge.other_side first_tile (omega (arith, c.requires.long, c.requires.cell)) (other_in (goal.at.returns-else-other-cell c).In-Edge) is in
+    let both = edge_matches c.args.self.now c.args.placements.now c.args.cell c.args.side c.in-Edge.other c.in-Edge.other_side first_tile (omega (arith, c.requires.long, c.requires.cell)) (other_in (goal.at.returns-else-other-cell c).In-Edge) is.0 is.1 in
     let here = rw c.from.ensures at (ap (λ k. slice_index c.shown.result k) c.from-else-other-cell.ensures ∙ (c.shown.ensures c.args.side c.requires.side).0) in
     let there = rw c.from-in-Edge.ensures at (ap (λ k. slice_index c.asked_by.result k) c.from-else-other-cell-2.ensures ∙ (c.asked_by.ensures c.in-Edge.other_side (side_in_range (Meets-turned is.0))).0) in
     by_test (slice_index c.shown.result c.from-else-other-cell.result) (slice_index c.asked_by.result c.from-else-other-cell-2.result) _ _

@@ -1,7 +1,7 @@
 use Rattle.std.proofs.Common.{◌≡◌, ◌<◌, ◌≤◌, ◌+◌, ◌*◌, ℕ, length, slice_index}
 use Rattle.match_limits.specs.declared.TheConstants.{MOST_COLOURS}
 use Rattle.match_puzzle.specs.declared.tables.TheConstants.{FIRST_PLACE}
-use Rattle.match_puzzle.proofs.partials.nothing_asked.Given as goal
+use Rattle.match_puzzle.proofs.asking.nothing_asked.Given as goal
 
 abbrev pub invariant-loop-colour : goal.invariant-loop-colour
 invariant-loop-colour l = record {

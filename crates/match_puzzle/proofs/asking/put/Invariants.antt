@@ -1,6 +1,6 @@
 use Rattle.std.proofs.Common.{◌≡◌, ◌⊎◌, ◌<◌, ◌≤◌, ◌+◌, ◌*◌, ℕ, length, slice_index}
 use Rattle.match_puzzle.specs.declared.tables.TheConstants.{FIRST_PLACE}
-use Rattle.match_puzzle.proofs.partials.put.Given as goal
+use Rattle.match_puzzle.proofs.asking.put.Given as goal
 
 abbrev pub invariant-loop-side : goal.invariant-loop-side
 invariant-loop-side l = record {

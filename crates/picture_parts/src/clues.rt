@@ -1,0 +1,163 @@
+//! Clues: the colours that they ask for, drawn in empty cells.
+
+ghost use Rattle.std.specs.Prelude.{◌≡◌, ◌<◌, ◌↔◌, ◌++◌, ℕ, Contains, Some, IfOk, IfSome, OnOk, length, map, slice_get};
+ghost use Rattle.match_board.specs.Board.{cell_count, side_count};
+ghost use Rattle.match_board.specs.Clues.{Clue as Asking, clue_of, AsksByClue};
+ghost use Rattle.match_limits.specs.declared.TheConstants.{MOST_COLOURS};
+ghost use Rattle.match_puzzle.specs.Puzzle.{IsPuzzle};
+ghost use Rattle.picture_parts.specs.Clued.{AreClueLines, IsClued, IsHatchedAt, ShowsClues, hatching_begin, pattern};
+ghost use Rattle.picture_parts.specs.Clued.{with_pattern};
+ghost use Rattle.picture_parts.specs.Joined.{IsJoined};
+ghost use Rattle.picture_parts.specs.declared.canvases.Site.{Site};
+
+use crate::bands::{Ruled, put_ended};
+use crate::canvases::{Canvas, Point};
+use crate::forms::side_of;
+use crate::parts::{begin_at, part_path};
+use match_board::Clue;
+use match_puzzle::Puzzle;
+use std::alloc::{AllocError, Global};
+use text_words::put_number;
+
+/// What clues ask for, each at the site of its cell: a line for each cell that has some, and before these the pattern
+/// with which they are hatched. Nothing where clues ask for nothing.
+pub fn clue_lines(alloc: Global, canvas: &Canvas<'_>) -> Result<Vec<u8>, AllocError>
+    requires { length canvas.now.sites.items ≡ cell_count canvas.now.puzzle.now.board }
+    ensures { IfOk result (λ text. ShowsClues canvas.now.puzzle.now canvas.now.left canvas.now.top
+        canvas.now.sites.items text.items) }
+{
+    let lines = cell_lines(alloc, canvas)?;
+    let mut text = Vec::new(alloc);
+    put_with_pattern(&mut text, &lines)?;
+    Ok(text)
+}
+
+// Writes the lines with the pattern before them, or nothing where there are none.
+fn put_with_pattern(text: &mut Vec<u8>, lines: &[u8]) -> Result<(), AllocError>
+    ensures { OnOk result (text.new.items ≡ text.old.items ++ with_pattern lines.now) }
+{
+    if lines.is_empty() {
+        return Ok(());
+    }
+    put_pattern(text)?;
+    text.extend_from_slice(lines)?;
+    Ok(())
+}
+
+// A white and a black stroke side by side, so that the hatching stands out from every fill.
+fn put_pattern(text: &mut Vec<u8>) -> Result<(), AllocError>
+    ensures { OnOk result (text.new.items ≡ text.old.items ++ pattern) }
+{
+    text.extend_from_slice(b"<pattern id=\"clue\" patternUnits=\"userSpaceOnUse\" width=\"10\"")?;
+    text.extend_from_slice(
+        b" height=\"10\" patternTransform=\"rotate(45)\" stroke-opacity=\".6\">",
+    )?;
+    text.extend_from_slice(b"<path stroke=\"#fff\" d=\"M4 0v10\"/>")?;
+    text.extend_from_slice(b"<path stroke=\"#222\" d=\"M5 0v10\"/></pattern>\n")?;
+    Ok(())
+}
+
+// A line for each cell of which a clue asks for a colour.
+fn cell_lines(alloc: Global, canvas: &Canvas<'_>) -> Result<Vec<u8>, AllocError>
+    requires { length canvas.now.sites.items ≡ cell_count canvas.now.puzzle.now.board }
+    ensures { IfOk result (λ lines. AreClueLines canvas.now.puzzle.now canvas.now.left canvas.now.top
+        canvas.now.sites.items lines.items) }
+{
+    let mut lines = Vec::new(alloc);
+    for cell in 0..canvas.puzzle.board().cells() {
+        let line = cell_line(alloc, canvas, cell)?;
+        put_ended(&mut lines, &line)?;
+    }
+    Ok(lines)
+}
+
+// The hatched parts of a cell, side by side.
+fn cell_line(alloc: Global, canvas: &Canvas<'_>, cell: u16) -> Result<Vec<u8>, AllocError>
+    requires many { length canvas.now.sites.items ≡ cell_count canvas.now.puzzle.now.board }
+    requires cell { cell < cell_count canvas.now.puzzle.now.board }
+    ensures { IfOk result (λ line. (site : Site) → slice_get canvas.now.sites.items cell ≡ Some site
+        → IsJoined (IsClued canvas.now.puzzle.now canvas.now.left canvas.now.top site cell)
+        (side_count canvas.now.puzzle.now.board) line.items) }
+{
+    let mut line = Vec::new(alloc);
+    for side in 0..canvas.puzzle.board().sides() {
+        let part = part_at(alloc, canvas, cell, side)?;
+        line.extend_from_slice(&part)?;
+    }
+    Ok(line)
+}
+
+// The hatched part at a side, or nothing where no clue asks for a colour.
+fn part_at(alloc: Global, canvas: &Canvas<'_>, cell: u16, side: u8) -> Result<Vec<u8>, AllocError>
+    requires many { length canvas.now.sites.items ≡ cell_count canvas.now.puzzle.now.board }
+    requires cell { cell < cell_count canvas.now.puzzle.now.board }
+    requires side { side < side_count canvas.now.puzzle.now.board }
+    requires puzzle { IsPuzzle canvas.now.puzzle.now }
+    ensures { IfOk result (λ part. (site : Site) → slice_get canvas.now.sites.items cell ≡ Some site
+        → IsClued canvas.now.puzzle.now canvas.now.left canvas.now.top site cell side part.items) }
+{
+    match asked_by_clue(canvas.puzzle, cell, side) {
+        Some(colour) => {
+            let part = hatched(alloc, canvas, Ruled { cell, side, colour })?;
+            Ok(part)
+        }
+        None => Ok(Vec::new(alloc)),
+    }
+}
+
+/// The colour that a clue asks for at a side.
+pub fn asked_by_clue(puzzle: &Puzzle, cell: u16, side: u8) -> Option<u8>
+    requires cell { cell < cell_count puzzle.now.board }
+    requires side { side < side_count puzzle.now.board }
+    requires puzzle { IsPuzzle puzzle.now }
+    ensures rule { (colour : ℕ) → (result ≡ Some colour) ↔ AsksByClue puzzle.now.clues cell side colour }
+    ensures below { IfSome result (λ colour. colour < MOST_COLOURS) }
+{
+    asked_in(puzzle.clues(), cell, side)
+}
+
+// What a clue asks of the side of the cell, where each cell has one clue at most.
+fn asked_in(clues: &[Clue], cell: u16, side: u8) -> Option<u8>
+    requires once { (c d : Asking) → Contains (map clue_of clues.now) c → Contains (map clue_of clues.now) d
+        → c.cell ≡ d.cell → c ≡ d }
+    requires sides { (c : Asking) → Contains (map clue_of clues.now) c → side < length c.asks }
+    ensures { (colour : ℕ) → (result ≡ Some colour) ↔ AsksByClue (map clue_of clues.now) cell side colour }
+{
+    for clue in clues {
+        if clue.cell() == cell {
+            return clue.asks(side);
+        }
+    }
+    None
+}
+
+// A part in the fill of the colour, and its path once more, hatched.
+fn hatched(alloc: Global, canvas: &Canvas<'_>, ruled: Ruled) -> Result<Vec<u8>, AllocError>
+    requires many { length canvas.now.sites.items ≡ cell_count canvas.now.puzzle.now.board }
+    requires cell { ruled.cell < cell_count canvas.now.puzzle.now.board }
+    requires colour { ruled.colour < MOST_COLOURS }
+    ensures { IfOk result (λ text. (site : Site) → slice_get canvas.now.sites.items ruled.cell ≡ Some site
+        → IsHatchedAt canvas.now.puzzle.now canvas.now.left canvas.now.top site ruled.side ruled.colour text.items) }
+{
+    let Ruled { cell, side, colour } = ruled;
+    let site = canvas.sites[usize::from(cell)];
+    let form_side = side_of(site.form, side);
+    let begin = canvas.point(site, form_side.begin);
+    let path = part_path(alloc, canvas.puzzle, site.form, side, colour)?;
+    let mut text = begin_at(alloc, canvas, site, side, colour)?;
+    text.extend_from_slice(path.as_bytes())?;
+    put_hatching_begin(&mut text, begin)?;
+    text.extend_from_slice(path.as_bytes())?;
+    Ok(text)
+}
+
+// The beginning of an element that is filled with the pattern, whose path begins at the point.
+fn put_hatching_begin(text: &mut Vec<u8>, at: Point) -> Result<(), AllocError>
+    ensures { OnOk result (text.new.items ≡ text.old.items ++ hatching_begin at.x at.y) }
+{
+    text.extend_from_slice(b"<path fill=\"url(#clue)\" d=\"M")?;
+    put_number(text, at.x)?;
+    text.push(b' ')?;
+    put_number(text, at.y)?;
+    Ok(())
+}
