@@ -6,8 +6,8 @@ ghost use Rattle.census_branches.specs.Branches.{whole};
 use std::alloc::Global;
 use std::marker::Model;
 
-/// A branch of a search: the options that are chosen, and how many branches with as many arrangements it stands for,
-/// itself among them.
+/// A branch of a search: the chosen options, and a weight. The weight is how many branches with as many arrangements
+/// this one stands for, itself among them.
 #[derive(Drop)]
 pub struct Branch {
     chosen: Vec<u32>,
@@ -26,14 +26,14 @@ impl Model for Branch {
 }
 
 impl Branch {
-    /// The whole search: nothing is chosen.
+    /// Returns the whole search: nothing is chosen.
     pub fn whole(alloc: Global) -> Branch
         ensures { result ≡ whole }
     {
         Branch::new(Vec::new(alloc), 1)
     }
 
-    /// The branch that chooses these options in their order, and stands for so many branches.
+    /// Makes the branch that chooses these options in this order, and stands for `weight` branches, at least 1.
     pub fn new(chosen: Vec<u32>, weight: u64) -> Branch
         requires { 1 ≤ weight }
         ensures { result ≡ record { chosen = chosen.items; weight = weight } }
@@ -41,7 +41,7 @@ impl Branch {
         Branch { chosen, weight }
     }
 
-    /// From here on it stands for so many branches.
+    /// Sets how many branches it stands for, at least 1.
     pub fn weigh(&mut self, weight: u64)
         requires { 1 ≤ weight }
         ensures { self.new ≡ record self.old { weight = weight } }
@@ -49,14 +49,14 @@ impl Branch {
         self.weight = weight;
     }
 
-    /// The options, in the order of choosing.
+    /// Returns the options, in the order of choosing.
     pub fn chosen(&self) -> &[u32]
         ensures { result.now ≡ self.now.chosen }
     {
         &self.chosen
     }
 
-    /// How many branches it stands for: one at least.
+    /// Returns how many branches it stands for: at least 1.
     pub fn weight(&self) -> u64
         ensures value { result ≡ self.now.weight }
         ensures least { 1 ≤ result }

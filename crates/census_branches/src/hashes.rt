@@ -1,4 +1,4 @@
-//! A hash of branches, which tells splits apart.
+//! A hash of branches, by which splits are told apart.
 
 ghost use Rattle.std.specs.Prelude.{◌≡◌, fold};
 ghost use Rattle.census_branches.specs.Hash.{first_hash, hash_branch, hash_of, hash_with};
@@ -10,9 +10,9 @@ const FIRST: u64 = 14_695_981_039_346_656_037;
 
 const PRIME: u64 = 1_099_511_628_211;
 
-/// A hash of these branches in their order, so that it shows whether two calls made the same split: FNV-1a of 64 bits
-/// (Fowler, Noll and Vo) over numbers in place of bytes, for each branch its weight, how many options it has chosen,
-/// and these. Different splits may have one hash.
+/// Returns a hash of these branches in their order, to see whether two calls made the same split. Different splits may
+/// have the same hash. It is FNV-1a of 64 bits (Fowler, Noll and Vo), over numbers instead of bytes: for each branch
+/// its weight, how many options it has chosen, and these options.
 pub fn hash_of(branches: &[Branch]) -> u64
     ensures { result ≡ hash_of branches.now }
 {
@@ -23,7 +23,7 @@ pub fn hash_of(branches: &[Branch]) -> u64
     hash
 }
 
-// The hash with a branch more.
+// The hash with one more branch.
 fn hash_branch(before: u64, branch: &Branch) -> u64
     ensures { result ≡ hash_branch before branch.now }
 {
@@ -35,7 +35,7 @@ fn hash_branch(before: u64, branch: &Branch) -> u64
     hash
 }
 
-// The hash with a number more.
+// The hash with one more number.
 fn hash_with(hash: u64, number: u64) -> u64
     ensures { result ≡ hash_with hash number }
 {

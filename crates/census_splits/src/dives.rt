@@ -1,6 +1,6 @@
 //! Guesses of how many nodes a search has, by dives (D. E. Knuth, Estimating the efficiency of backtrack programs,
-//! 1975). A dive goes from a node to a leaf, and takes a child at random at each node. Where all children had as much
-//! below them as the one that is taken, a node had one node more than it has children times as many as that child.
+//! 1975). A dive goes from a node to a leaf, and takes a child at random at each node. If all children had as many
+//! nodes as the one that is taken, then a node would have one node more than that number times its children.
 
 ghost use Rattle.std.specs.Prelude.{◌≡◌};
 
@@ -9,7 +9,7 @@ use rand_xoshiro::Xoshiro256PlusPlus;
 use std::alloc::AllocError;
 use xcc_form::{OpenOptions, option_behind};
 
-// What the random numbers begin with. It is always the same, so that each call makes the same split.
+// The seed of the random numbers. It is always the same, so that each call makes the same split.
 const SEED: u64 = 1975;
 
 // What dives are made with.
@@ -18,12 +18,12 @@ pub(crate) struct Dives {
     random: Xoshiro256PlusPlus,
     // the most levels that a tree has
     levels: u16,
-    // how many nodes the dives have come to
+    // how many nodes the dives have visited
     steps: u64,
 }
 
 impl Dives {
-    // Dives for a puzzle of so many cells.
+    // Dives for a puzzle with this many cells.
     pub(crate) fn new(cells: u16) -> Dives {
         Dives {
             random: Xoshiro256PlusPlus::seed_from_u64(SEED),
@@ -32,12 +32,12 @@ impl Dives {
         }
     }
 
-    // How many nodes the dives have come to.
+    // How many nodes the dives have visited.
     pub(crate) fn steps(&self) -> u64 {
         self.steps
     }
 
-    // The mean of so many dives from where the engine is.
+    // The mean of `dives` dives from where the engine is.
     pub(crate) fn mean<E: OpenOptions>(
         &mut self,
         engine: &mut E,
@@ -53,7 +53,7 @@ impl Dives {
         Ok(sum / dives.max(1))
     }
 
-    // One dive, of at most so many levels.
+    // One dive, of at most `levels` levels.
     #[cycle(dive)]
     fn dive<E: OpenOptions>(&mut self, engine: &mut E, levels: u16) -> Result<u64, AllocError>
         ensures { engine.new ≡ engine.old }

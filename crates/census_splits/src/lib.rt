@@ -1,4 +1,4 @@
-//! Searches for all arrangements split into branches.
+//! Splits the search for all arrangements into branches.
 #![tactic(auto)]
 
 mod children;

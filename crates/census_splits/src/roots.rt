@@ -11,36 +11,36 @@ use census_branches::Branch;
 use std::alloc::{AllocError, Global};
 use xcc_form::{OpenOptions, open_option, uncovered_item};
 
-// How many dives tell whether a branch is worth a guess.
+// How many dives decide whether a branch is worth a guess.
 const DIVES_BEFORE: u64 = 16;
 
-// The nodes from which on a branch is worth one.
+// The least number of nodes for which a branch is worth a guess.
 const WORTH_A_GUESS: u64 = 1_000_000;
 
-// The most nodes that one dive below each child of the items may come to.
+// The most nodes that one dive below each child of the items may visit.
 const MOST_NODES: u64 = 400_000;
 
-// Halving so often leaves one of all items.
+// Halving this often leaves one of all items.
 const MOST_ROUNDS: u8 = 10;
 
-// One of so many nodes of the search may be spent on the dives of a round.
+// The dives of a round may take up to one in this many nodes of the search.
 const SPARED: u64 = 64;
 
-// The most nodes that the dives of a round are to come to.
+// The most nodes that the dives of a round are to visit.
 const MOST_STEPS: u64 = 200_000;
 
-// The most times as many dives as in a round before.
+// The number of dives grows at most by this factor from one round to the next.
 const MOST_TIMES: u64 = 16;
 
-// An item, and what it is ranked by: less is better.
+// An item, and its rank: less is better.
 #[derive(Clone, Copy)]
 struct Ranked {
     by: u64,
     item: u32,
 }
 
-// The item to branch on, for which dives guess the fewest nodes; none where all are covered, and below the root where a
-// guess would take longer than it spares.
+// The item to branch on for which dives guess the fewest nodes; `None` where all items are covered, and, below the
+// root, where a guess would take longer than it saves.
 pub(crate) fn guessed_item<E: OpenOptions>(
     splitter: &Splitter<'_>,
     engine: &mut E,
@@ -57,7 +57,7 @@ pub(crate) fn guessed_item<E: OpenOptions>(
     best_of(splitter, engine, &mut dives, items)
 }
 
-// Whether a guess spares more than it takes: at the root, and where dives come to many nodes.
+// Whether a guess saves more than it takes: at the root, and where dives expect many nodes.
 fn is_worth_a_guess<E: OpenOptions>(engine: &mut E, dives: &mut Dives) -> Result<bool, AllocError>
     ensures { engine.new ≡ engine.old }
 {
@@ -92,7 +92,7 @@ fn best_of<E: OpenOptions>(
     Ok(items.first().map(|ranked| ranked.item))
 }
 
-// What the best of these items is ranked by.
+// The rank of the best of these items.
 fn least_of(items: &[Ranked]) -> u64 {
     match items.first() {
         None => 0,
@@ -100,15 +100,15 @@ fn least_of(items: &[Ranked]) -> u64 {
     }
 }
 
-// How many dives to make below each child of the better half, where so many were made, the best item is guessed to leave
-// so many nodes, and the dives came to so many.
+// How many dives to make below each child of the better half. `count` were made, the best item is guessed to leave
+// `nodes` nodes, and the dives visited `steps` nodes.
 fn next_count(count: u64, nodes: u64, steps: u64) -> u64 {
     let most = (nodes / SPARED).min(MOST_STEPS);
     let times = (most / steps.max(1)).max(1).min(MOST_TIMES);
     count.saturating_mul(2).saturating_mul(times)
 }
 
-// The items that have the fewest children, as many as have so many children together.
+// The items with the fewest children: as many items as have at most `most` children together, at least one.
 fn first_items<E: OpenOptions>(
     splitter: &Splitter<'_>,
     engine: &E,
@@ -129,7 +129,7 @@ fn first_items<E: OpenOptions>(
     Ok(ranked)
 }
 
-// How many of these items, from the first on, are ranked by no more than this together, and the first in any case.
+// How many of these items, from the first on, have ranks of at most `most` together; at least the first.
 fn how_many(items: &[Ranked], most: u64) -> usize {
     let mut together: u64 = 0;
     let mut many: usize = 0;
@@ -143,7 +143,7 @@ fn how_many(items: &[Ranked], most: u64) -> usize {
     many
 }
 
-// The better half of these items, by so many dives below each child.
+// The better half of these items, by `count` dives below each child.
 fn better_half<E: OpenOptions>(
     splitter: &Splitter<'_>,
     engine: &mut E,
@@ -169,12 +169,12 @@ fn better_half<E: OpenOptions>(
     Ok(ranked)
 }
 
-// Puts the best of these items first; of two that are as good the lesser one.
+// Puts the best of these items first; of two equally good ones, the lesser.
 fn sort(items: &mut [Ranked]) {
     items.sort_unstable_by_key(|ranked| (ranked.by, ranked.item));
 }
 
-// How many nodes a search has that branches on this item, by so many dives below each child.
+// A guess of how many nodes a search has that branches on this item, by `count` dives below each child.
 fn guess<E: OpenOptions>(
     splitter: &Splitter<'_>,
     engine: &mut E,
@@ -199,7 +199,7 @@ fn guess<E: OpenOptions>(
     Ok(sum)
 }
 
-// How many nodes there are below an open option, by so many dives.
+// A guess of how many nodes there are below an open option, by `count` dives.
 fn guess_with<E: OpenOptions>(
     splitter: &Splitter<'_>,
     engine: &mut E,
@@ -217,7 +217,7 @@ fn guess_with<E: OpenOptions>(
     nodes
 }
 
-// How many nodes there are below, by so many dives: where symmetries merge children, from each that is left.
+// A guess of how many nodes there are below, by `count` dives; where symmetries merge children, from each that is left.
 fn guess_below<E: OpenOptions>(
     splitter: &Splitter<'_>,
     engine: &mut E,
@@ -240,7 +240,8 @@ fn guess_below<E: OpenOptions>(
     nodes_by(engine, dives, item, &children, count)
 }
 
-// How many nodes there are where these children of an item are its branches, by so many dives for all of them.
+// A guess of how many nodes there are where these children of an item are its branches, by `count` dives for all of
+// them.
 fn nodes_by<E: OpenOptions>(
     engine: &mut E,
     dives: &mut Dives,
@@ -261,7 +262,7 @@ fn nodes_by<E: OpenOptions>(
     Ok(sum)
 }
 
-// The mean of so many dives below an open option.
+// The mean of `count` dives below an open option.
 fn mean_with<E: OpenOptions>(
     engine: &mut E,
     dives: &mut Dives,
@@ -277,7 +278,7 @@ fn mean_with<E: OpenOptions>(
     nodes
 }
 
-// The option that the child has chosen last, if it is an open one of the item with this number.
+// The option that the child has chosen last, if it is an open option of the item with this number.
 fn last_option<E: OpenOptions>(engine: &E, number: u32, child: &Branch) -> Option<u32>
     ensures { let s = E.selection engine.now in IfSome result (IsOpen (cover_of s.compiled) s.chosen) }
 {

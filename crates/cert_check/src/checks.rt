@@ -1,4 +1,4 @@
-//! The check of a certificate.
+//! The check of a certificate, on one thread.
 
 ghost use Rattle.std.specs.Prelude.{◌≡◌, ◌<◌, ◌^◌, ◌↔◌, IfOk, OnErr, length, map};
 ghost use Rattle.puzzle_symmetry.specs.Motion.{motion_of};
@@ -17,16 +17,17 @@ use match_puzzle::{Arrangement, Partial, Puzzle};
 use puzzle_symmetry::Symmetry;
 use std::alloc::{AllocError, Global};
 
-/// Whether the certificate shows that the list, with the images of its members under the named symmetries, has each
-/// arrangement of the puzzle, and none twice in the list itself.
+/// Checks whether the certificate shows that the list is complete: that the listed arrangements, with their images
+/// under the certificate's symmetries, are all arrangements of the puzzle, and that none is listed twice.
 ///
-/// A refusal names the first fault in the order of [`Fault`](crate::Fault), with its least number, and within a tree the
-/// first in preorder; it does not mean that an arrangement is left out. An `Err` comes where memory is refused before a
-/// fault is found.
+/// A refusal names the first fault in the order of [`Fault`](crate::Fault), with its least number, and within a tree
+/// the first in preorder (each node before its children). A refusal does not mean that an arrangement is missing. An
+/// `Err` comes where memory is refused before a fault is found.
 ///
-/// The list is gone through twice; where its members don't rise, its places are sorted too, with sixteen bytes and
-/// O(log n) comparisons for each of n. Each tree is walked once, on one board for all lemmas and with no memory for a
-/// node, at most one level deeper than there are cells; a citation costs at most the length of its prefix.
+/// It goes through the list twice. Where the list does not rise, it also sorts its n places, with 16 bytes for each and
+/// O(log n) comparisons for each. It walks each tree once, on one board for all lemmas, with no memory for a node, and
+/// at most one level deeper than there are cells. A citation (a node that names an earlier lemma) costs at most the
+/// length of that lemma's prefix.
 pub fn check(
     alloc: Global,
     puzzle: &Puzzle,
@@ -38,15 +39,15 @@ pub fn check(
     // The main theorem: a list that is called complete is.
     ensures complete { IfOk result (IsSound (question_of puzzle.now listed.now certificate.now)) }
     ensures covered { IfOk result (IsCovering (question_of puzzle.now listed.now certificate.now)) }
-    // Want of memory hides no fault of a listed one.
+    // If memory is refused, no listed entry has a fault.
     ensures memory { OnErr result (AreArrangements puzzle.now listed.now) }
 {
     Question::new(puzzle, listed, certificate).check(alloc, &Open)
 }
 
-/// The first fault of the tree of the lemma with this number, in preorder, or none where it holds.
+/// Returns the first fault, in preorder, of the tree of the lemma with this number; `None` where the tree holds.
 ///
-/// The symmetries are those of the certificate's lines, in order. An `Err` comes where memory is refused.
+/// `symmetries` has to be the symmetries of the certificate's lines, in order. An `Err` comes where memory is refused.
 pub fn tree_fault(
     alloc: Global,
     puzzle: &Puzzle,
@@ -66,13 +67,13 @@ pub fn tree_fault(
     lemma_fault(alloc, &setting, &lemma, &mut partial)
 }
 
-/// Does nothing. Its promise is a law: a puzzle, a list and a certificate have no more than one answer.
+/// A law; the call does nothing. There is at most one answer to a puzzle, a list and a certificate.
 pub fn one_answer()
     ensures { OneAnswer }
 {}
 
-/// Does nothing. Its promise is a law: a puzzle's second form, of version 2 with a shape in place of a rectangle, has the
-/// same answer as the puzzle, to each list and certificate.
+/// A law; the call does nothing. A puzzle and its second form (the puzzle in version 2, with a shape in place of a
+/// rectangle) have the same answer for each list and certificate.
 pub fn second_form_has_the_same_answers()
     ensures { (question : Question) (answer : Answer)
         → IsAnswer question answer ↔ IsAnswer (in_second_form question) answer }

@@ -1,4 +1,4 @@
-//! The check of a certificate by a crew.
+//! The check of a certificate by a crew: several workers (threads) that share the lemmas as jobs.
 
 ghost use Rattle.std.specs.Prelude.{◌≡◌, ◌<◌, ◌≤◌, ◌^◌, IfOk, IfErr, OnErr, length};
 ghost use Rattle.std.specs.Thread.{IsSync};
@@ -23,7 +23,8 @@ use std::alloc::{AllocError, Global};
 use std::thread::Threads;
 use steal_crew::{both, run_from_last};
 
-// The first lemma whose tree has a fault, with its first fault, or none where all hold: each lemma is a job of a crew.
+// The first lemma whose tree has a fault, with its first fault; `None` where all trees hold. Each lemma is a job of a
+// crew.
 fn trees_fault<R: Threads + Sync, G: Gate + Sync>(
     rt: &R,
     alloc: Global,
@@ -47,7 +48,7 @@ fn trees_fault<R: Threads + Sync, G: Gate + Sync>(
     first_found(alloc, &found)
 }
 
-// What [`Question::prepare`] answers. The list is verified while repetitions are looked for in it.
+// What [`Question::prepare`] returns. The list is verified while repetitions are looked for in it.
 fn prepare<'a, R: Threads + Sync>(
     rt: &R,
     alloc: Global,
@@ -71,7 +72,7 @@ fn prepare<'a, R: Threads + Sync>(
         { first_repeated(alloc, listed) },
     );
     let Ok((bad, repeated)) = found else {
-        // Want of memory hides no fault of a listed one.
+        // if memory is refused, no listed entry has a fault
         return question.prepare(alloc, question.list_fault());
     };
     match bad {
@@ -80,7 +81,7 @@ fn prepare<'a, R: Threads + Sync>(
     }
 }
 
-// The answer, where all is right but perhaps the trees.
+// The answer to a question whose trees alone are still to be checked.
 fn answer_by_crew<R: Threads + Sync, G: Gate + Sync>(
     rt: &R,
     alloc: Global,
@@ -96,23 +97,23 @@ fn answer_by_crew<R: Threads + Sync, G: Gate + Sync>(
     ensures covered { IfOk result (IsCovering prepared.now) }
     ensures arrangements { AreArrangements prepared.now.puzzle prepared.now.listed }
 {
-    // It says that each listed one is an arrangement.
+    // its contract says that each listed entry is an arrangement
     let _ = prepared.question();
     let found = trees_fault(rt, alloc, prepared, workers, forks, gate)?;
     Ok(prepared.answer(found))
 }
 
-/// The answer to the question, by 1 to 64 workers and with 0 to 6 forks: neither they nor the gate change it.
+/// Answers the question with 1 to 64 workers and 0 to 6 forks. Neither they nor the gate change the answer.
 ///
-/// The list is verified by as many threads as the machine has processors for, and its repetitions are looked for by the
-/// caller. Then each lemma is a job of a crew: the gate is told of it by the worker that took it, which walks its tree
-/// on a board of its own, the halves of a branch's children at once in the first `forks` levels of a tree that has at
-/// least 10,000 nodes. All lemmas are walked, and of those with a fault the first counts. One worker without forks does
-/// all in turn, on the caller's thread, and stops at the first fault.
+/// As many threads as the machine has processors verify the list; the caller looks for repetitions in it. Then each
+/// lemma is a job of a crew. The worker that takes it tells the gate, and walks its tree on a board of its own. In a
+/// tree of at least 10,000 nodes, in the first `forks` levels, the two halves of a branch's children are walked at the
+/// same time. All lemmas are walked, and the first of those with a fault counts. One worker without forks does
+/// everything in turn, on the caller's thread, and stops at the first fault.
 ///
-/// It joins threads: one for each worker but the caller, and with forks one more for each branch with several children in
-/// these levels, of which at most 2^`forks` - 1 run at once for a worker. Forks pay where a tree has many nodes below
-/// them. An `Err` comes where memory is refused, to any of the workers.
+/// It joins threads: one for each worker but the caller, and with forks one more for each branch with several children
+/// in these levels, of which at most 2^`forks` - 1 run at once for a worker. Forks pay where a tree has many nodes
+/// below them. An `Err` comes where memory is refused to any of the workers.
 pub fn check_question<R: Threads + Sync, G: Gate + Sync>(
     rt: &R,
     alloc: Global,
@@ -127,7 +128,7 @@ pub fn check_question<R: Threads + Sync, G: Gate + Sync>(
     // The main theorem: a list that is called complete is.
     ensures complete { IfOk result (IsSound question.now) }
     ensures covered { IfOk result (IsCovering question.now) }
-    // Want of memory hides no fault of a listed one.
+    // If memory is refused, no listed entry has a fault.
     ensures memory { OnErr result (AreArrangements question.now.puzzle question.now.listed) }
 {
     if workers == 1 && forks == 0 {
@@ -139,7 +140,7 @@ pub fn check_question<R: Threads + Sync, G: Gate + Sync>(
     }
 }
 
-/// What [`check`](crate::check) answers, as [`check_question`] finds it.
+/// Answers as [`check`](crate::check) does, with workers, forks and gate as in [`check_question`].
 pub fn check_with<R: Threads + Sync, G: Gate + Sync>(
     rt: &R,
     alloc: Global,
@@ -157,7 +158,7 @@ pub fn check_with<R: Threads + Sync, G: Gate + Sync>(
     // The main theorem: a list that is called complete is.
     ensures complete { IfOk result (IsSound (question_of puzzle.now listed.now certificate.now)) }
     ensures covered { IfOk result (IsCovering (question_of puzzle.now listed.now certificate.now)) }
-    // Want of memory hides no fault of a listed one.
+    // If memory is refused, no listed entry has a fault.
     ensures memory { OnErr result (AreArrangements puzzle.now listed.now) }
 {
     let question = Question::new(puzzle, listed, certificate);

@@ -5,36 +5,36 @@ use puzzle_symmetry::SymmetryFault;
 use std::alloc::{AllocError, Global};
 use std::marker::Model;
 
-/// What may be wrong with a node of a tree, where some pairs are placed.
+/// What may be wrong with a node of a tree, given the pairs that are placed there.
 #[derive(Clone, Copy, PartialEq, Eq, Debug)]
 pub enum NodeFault {
     /// A branch or a dead end names a cell that the board does not have.
     CellRange,
-    /// .. or a cell where a tile stands.
+    /// A branch or a dead end names a cell that is filled.
     CellTaken,
-    /// .. or a tile that the puzzle does not have.
+    /// A branch or a dead end names a tile that the puzzle does not have.
     TileRange,
-    /// .. or a tile that is placed.
+    /// A branch or a dead end names a tile that is placed.
     TileTaken,
-    /// A branch does not have as many children as pairs fit, or has none.
+    /// A branch has no children, or not as many as pairs fit.
     WrongCount { fits: u32, children: u32 },
-    /// So many pairs fit at a dead end.
+    /// This many pairs fit at a dead end, where none should.
     NotDead { fits: u32 },
-    /// An arrangement is named as found, and a cell is empty.
+    /// The node names a listed arrangement, but a cell is empty.
     NotWhole,
-    /// .. and the list has no such number.
+    /// The node names a listed arrangement, and the list has no such number.
     ListRange,
-    /// .. and another arrangement stands there.
+    /// The node names a listed arrangement, and the list has another one at that number.
     NotListed,
-    /// A lemma is cited that does not come before the lemma itself.
+    /// The node cites a lemma that does not come before the lemma of the tree.
     NotEarlier,
-    /// .. and its image, under a symmetry that the certificate does not have.
+    /// The node cites the image of a lemma under a symmetry that the certificate does not have.
     SymmetryRange,
-    /// .. and its prefix, or the image of that, is not within what is placed.
+    /// The node cites a lemma whose prefix, or the image of it, is not part of what is placed.
     NotWithin,
 }
 
-/// Child numbers, from 0, that lead from the top of a tree to a node.
+/// The way from the top of a tree to a node: at each step the number of a child, from 0.
 #[derive(Debug, Drop)]
 pub struct Path {
     steps: Vec<u16>,
@@ -51,21 +51,21 @@ impl Model for Path {
 impl Path {
     ghost use Rattle.std.specs.Prelude.{◌≡◌, ◌∷◌, IfOk};
 
-    /// The path with these steps.
+    /// Makes the path with these steps.
     pub fn new(steps: Vec<u16>) -> Path
         ensures { result ≡ steps.items }
     {
         Path { steps }
     }
 
-    /// The child numbers, from the top.
+    /// Returns the child numbers, from the top.
     pub fn steps(&self) -> &[u16]
         ensures { result.now ≡ self.now }
     {
         &self.steps
     }
 
-    // The path that begins with one more step.
+    // The path with one more step before it.
     fn below(mut self, step: u16) -> Result<Path, AllocError>
         ensures { IfOk result (λ path. path ≡ step ∷ self) }
     {
@@ -74,7 +74,7 @@ impl Path {
     }
 }
 
-/// The first fault of a tree, in preorder, and where its node stands.
+/// The first fault of a tree, in preorder, and the path to its node.
 #[derive(Debug, Drop)]
 pub struct TreeFault {
     pub path: Path,
@@ -92,7 +92,7 @@ impl TreeFault {
         TreeFault { path, fault }
     }
 
-    // The same fault, of the tree whose child with this number has it.
+    // The fault of a tree whose child with this number has this fault.
     pub(crate) fn below(self, number: u16) -> Result<TreeFault, AllocError>
         ensures path { IfOk result (λ r. r.path ≡ number ∷ self.path) }
         ensures fault { IfOk result (λ r. r.fault ≡ self.fault) }
@@ -103,16 +103,16 @@ impl TreeFault {
     }
 }
 
-/// What is wrong with a list or its certificate: the first kind that occurs, at its least number.
+/// What is wrong with a list or its certificate: the first of these kinds that occurs, at its least number, from 0.
 #[derive(Debug, Drop)]
 pub enum Fault {
-    /// The listed arrangement with this number is none.
+    /// The listed entry with this number is no arrangement of the puzzle.
     List(u32, ArrangementFault),
     /// The listed arrangement with this number equals an earlier one.
     Repeated(u32),
-    /// The line with this number is no symmetry of the puzzle. `Memory` does not come here.
+    /// The symmetry line with this number is no symmetry of the puzzle. `Memory` does not come here.
     Symmetry(u32, SymmetryFault),
-    /// The lemma with this number does not begin with a prefix.
+    /// The lemma with this number does not begin with a prefix: pairs that can be placed together.
     Prefix(u32, PrefixFault),
     /// There is no lemma, or the last one does not begin with nothing placed.
     Root,
@@ -120,10 +120,10 @@ pub enum Fault {
     Tree(u32, TreeFault),
 }
 
-/// What the checker says of a list and a certificate.
+/// The checker's answer about a list and a certificate.
 #[derive(Debug, Drop)]
 pub enum Answer {
-    /// The list has different arrangements of the puzzle, and the named symmetries reach all others from them.
+    /// The list has different arrangements of the puzzle, and the certificate's symmetries reach all others from them.
     Complete,
     /// The certificate does not show that, for this reason.
     Refused(Fault),

@@ -1,4 +1,5 @@
-//! The walk of a tree in whose first levels the halves of a branch's children are walked at once.
+//! Walks of trees on several threads: in the first levels, the two halves of a branch's children are walked at the same
+//! time.
 
 ghost use Rattle.std.specs.Prelude.{◌≡◌, ◌≢◌, ◌<◌, ◌≤◌, ◌^◌, ℕ, List, Option, IfOk, IfSome, None, Ok, Some, length, map};
 ghost use Rattle.std.specs.Option.{option_or};
@@ -34,11 +35,11 @@ use std::alloc::{AllocError, Global};
 use std::thread::Threads;
 use steal_crew::both;
 
-/// The same as `tree_fault` answers, for every number of forks, by a walk on several threads.
+/// Returns what [`tree_fault`](crate::tree_fault) returns, whatever the number of forks, by a walk on several threads.
 ///
-/// In the first `forks` levels, at most 6, a branch's children are cut into two halves, which are walked at once, each
-/// on a copy of what is placed, and the fault of the left half wins. A half is walked on the caller's thread where no
-/// other can be started. An `Err` comes where memory is refused, in either half.
+/// In the first `forks` levels, at most 6, a branch's children are cut into two halves, which are walked at the same
+/// time, each on a copy of what is placed. A fault of the left half comes before one of the right. A half is walked on
+/// the caller's thread where no other thread can be started. An `Err` comes where memory is refused in either half.
 pub fn forked_tree_fault<R: Threads + Sync>(
     rt: &R,
     alloc: Global,
@@ -65,7 +66,7 @@ pub fn forked_tree_fault<R: Threads + Sync>(
     forker.lemma_fault(alloc, &setting, &lemma, forks)
 }
 
-// Who walks a lemma's tree: by which threads, and who is told of the halves that are walked at once.
+// How a lemma's tree is walked: by which threads, and who is told of the halves.
 #[derive(Drop)]
 pub(crate) struct Forker<'a, R: Threads + Sync, G: Gate + Sync> {
     pub rt: &'a R,
@@ -74,7 +75,8 @@ pub(crate) struct Forker<'a, R: Threads + Sync, G: Gate + Sync> {
 }
 
 impl<'a, R: Threads + Sync, G: Gate + Sync> Forker<'a, R, G> {
-    // The first fault of the lemma's tree, or none where it holds. In the first so many levels halves are walked at once.
+    // The first fault of the lemma's tree; `None` where it holds. In the first `forks` levels halves are walked at
+    // once.
     pub(crate) fn lemma_fault(
         &self,
         alloc: Global,
@@ -92,8 +94,8 @@ impl<'a, R: Threads + Sync, G: Gate + Sync> Forker<'a, R, G> {
     }
 }
 
-// The first fault of the first tree at what is placed, in preorder, or none where it holds; what is placed is then as
-// before. In the first so many levels halves are walked at once.
+// The first fault, in preorder, of the first tree with these pairs placed; `None` where it holds, and then the same
+// pairs are placed again. In the first `forks` levels halves are walked at once.
 #[cycle(forking)]
 fn forked_walk<R: Threads + Sync, G: Gate + Sync>(
     forker: &Forker<'_, R, G>,
@@ -114,7 +116,7 @@ fn forked_walk<R: Threads + Sync, G: Gate + Sync>(
     forked_branch(forker, alloc, setting, forks - 1, &branch, partial)
 }
 
-// The same on one thread.
+// The first fault of the first tree, found on one thread.
 fn plain_walk(
     alloc: Global,
     setting: &Setting<'_>,
@@ -132,7 +134,7 @@ fn plain_walk(
     Ok(fault)
 }
 
-// The same of a branch.
+// The first fault of a branch.
 #[cycle(forking)]
 fn forked_branch<R: Threads + Sync, G: Gate + Sync>(
     forker: &Forker<'_, R, G>,
@@ -161,7 +163,7 @@ fn forked_branch<R: Threads + Sync, G: Gate + Sync>(
     walk_halves(forker, alloc, forks, &all)
 }
 
-// A branch without its head: its children are the first so many trees.
+// A branch without its head: its children are the first `children` trees.
 #[derive(Drop)]
 struct Branch<'a> {
     item: Item,
@@ -190,7 +192,7 @@ fn branch_to_fork<'a>(forks: u8, trees: &Trees<'a>) -> Option<Branch<'a>>
     })
 }
 
-// What is wrong with a branch but for its children, as a fault of its tree.
+// What is wrong with a branch itself, apart from its children, as a fault of its tree.
 fn own_fault(alloc: Global, at: &Branch<'_>, partial: &Partial<'_>) -> Option<TreeFault>
     ensures fault { IfSome result (λ fault. (of_node : NodeFault) × IsAtTop (Some of_node) (Some fault)
         × IsFirst node_rank (BranchFails partial.now.puzzle partial.now.placed at.now.item at.now.children) of_node) }
@@ -222,7 +224,7 @@ impl<'a> Part<'a> {
     ghost use Rattle.cert_check.specs.declared.faults.TreeFault.{TreeFault};
     ghost use Rattle.cert_check.specs.Walk.{IsPart, TellsOfPart};
 
-    // The left half and the right one. What is said of both, the left one first, is said of the part.
+    // The left half and the right half. The left half's fault, or else the right half's, is that of the part.
     fn halves(&self) -> (Part<'a>, Part<'a>)
         requires { IsPart self.now }
         ensures left { IsPart result.0 }
@@ -243,7 +245,7 @@ impl<'a> Part<'a> {
     }
 }
 
-// The same of some children, the halves of which are walked at once where there are several.
+// The first fault of some children. Where there are several, their halves are walked at once.
 #[cycle(forking)]
 fn walk_halves<R: Threads + Sync, G: Gate + Sync>(
     forker: &Forker<'_, R, G>,
@@ -272,7 +274,7 @@ fn walk_halves<R: Threads + Sync, G: Gate + Sync>(
     )
 }
 
-// The first of what the walk finds of both, at once.
+// Walks both at once, and returns the first fault.
 fn at_once<P: Sync, F: Fn(&P) -> Result<Option<TreeFault>, AllocError> + Sync, R: Threads + Sync>(
     rt: &R,
     left: &P,
@@ -305,7 +307,7 @@ fn earlier(left: Option<TreeFault>, right: Option<TreeFault>) -> Option<TreeFaul
     left.or(right)
 }
 
-// The same of some children, on a copy of what is placed.
+// The first fault of some children, walked on a copy of what is placed.
 #[cycle(forking)]
 fn walk_part<R: Threads + Sync, G: Gate + Sync>(
     forker: &Forker<'_, R, G>,
@@ -320,7 +322,7 @@ fn walk_part<R: Threads + Sync, G: Gate + Sync>(
     walk_children(forker, alloc, forks, part, &mut own)
 }
 
-// The same, one child after the other, on this copy.
+// The first fault of some children, walked one after the other, on this copy.
 #[cycle(forking)]
 fn walk_children<R: Threads + Sync, G: Gate + Sync>(
     forker: &Forker<'_, R, G>,
@@ -347,7 +349,7 @@ fn walk_children<R: Threads + Sync, G: Gate + Sync>(
     Ok(None)
 }
 
-// A fault of the child with this number, as one of its parent.
+// A fault of the child with this number, as a fault of its parent.
 fn of_parent(of_child: TreeFault, number: u16) -> Result<Option<TreeFault>, AllocError>
     ensures { IfOk result (λ found. found ≡ Some (below number of_child)) }
 {

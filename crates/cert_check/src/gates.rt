@@ -1,16 +1,16 @@
-//! What is told of a check while it runs.
+//! Watching a check while it runs.
 
-/// Told of what is walked before it is, by who walks it. No answer depends on it.
+/// Is told, by the thread that walks, what it will walk next. No answer depends on it.
 pub trait Gate {
-    /// Told of each lemma, before its tree is walked.
+    /// Is called for each lemma, before its tree is walked.
     fn enter(&self, lemma: u32);
 
-    /// Told of each half of a branch's children that is walked beside the other: the lemma, and the half's first child,
-    /// from 0.
+    /// Is called for each half of a branch's children that is walked beside the other half, with the lemma and the
+    /// half's first child, from 0. Does nothing by default.
     fn enter_half(&self, _lemma: u32, _first: u32) {}
 }
 
-/// Does nothing.
+/// A gate that does nothing.
 #[derive(Drop)]
 pub struct Open;
 

@@ -1,4 +1,4 @@
-//! A job for each lemma.
+//! The jobs of a crew that checks a certificate: one for each lemma.
 
 ghost use Rattle.std.specs.Prelude.{◌≡◌, ◌≤◌, ◌<◌, ◌^◌, IfOk, Ok, length};
 ghost use Rattle.cert_check.specs.Jobs.{IsJob, IsFinding, IsFirstFound, fault_of};
@@ -13,7 +13,7 @@ use steal_crew::Work;
 // A tree of fewer nodes is walked by one thread, which is done before others would have started.
 const LEAST_FORKED: usize = 10_000;
 
-// The trees of a question's lemmas, each walked by a call: so what a walk sends to a thread rests on bounds of the
+// Walks the trees of a question's lemmas, each by a call: so what a walk sends to a thread depends on bounds of the
 // function that makes the closure.
 #[derive(Drop)]
 pub(crate) struct Walks<'a, F: Fn(u32) -> Result<Option<Box<TreeFault>>, AllocError> + Sync> {
@@ -32,8 +32,8 @@ impl<'a, F: Fn(u32) -> Result<Option<Box<TreeFault>>, AllocError> + Sync> Work f
     }
 }
 
-// The first fault of the lemma's tree, or none where it holds; the gate is told before. Most trees hold, and there may be
-// a million: so a fault has a place of its own.
+// The first fault of the lemma's tree; `None` where it holds. The gate is told before. Most trees hold, and there may
+// be a million, so a fault is boxed.
 pub(crate) fn walk_tree<R: Threads + Sync, G: Gate + Sync>(
     rt: &R,
     alloc: Global,
@@ -51,7 +51,7 @@ pub(crate) fn walk_tree<R: Threads + Sync, G: Gate + Sync>(
     boxed(alloc, found)
 }
 
-// The same, with a place of its own for a fault.
+// Boxes a fault, if there is one.
 fn boxed(alloc: Global, found: Option<TreeFault>) -> Result<Option<Box<TreeFault>>, AllocError>
     ensures { IfOk result (λ finding. fault_of finding ≡ found) }
 {
@@ -61,7 +61,7 @@ fn boxed(alloc: Global, found: Option<TreeFault>) -> Result<Option<Box<TreeFault
     Ok(Some(Box::new(alloc, fault)?))
 }
 
-// In how many levels, of at most `forks`, the halves of a branch of the lemma's tree are walked at once.
+// In how many levels of the lemma's tree, at most `forks`, the halves of a branch are walked at once.
 fn forks_of(prepared: &Prepared<'_>, number: u32, forks: u8) -> u8
     requires { number < length prepared.now.lemmas }
     ensures { result ≤ forks }
@@ -90,7 +90,7 @@ pub(crate) fn first_found(
     Ok(None)
 }
 
-// The same fault.
+// A copy of the fault.
 fn copy(alloc: Global, fault: &TreeFault) -> Result<TreeFault, AllocError>
     ensures { IfOk result (λ r. r ≡ fault.now) }
 {

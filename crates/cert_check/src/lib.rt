@@ -1,4 +1,5 @@
-//! The checker of certificates.
+//! The checker of certificates: whether a certificate (numbered lemmas, each with a tree of cases) shows that a list of
+//! arrangements of a puzzle is complete.
 #![tactic(auto)]
 
 mod checks;

@@ -8,7 +8,8 @@ use match_puzzle::{Arrangement, ArrangementFault, Puzzle};
 use rayon::prelude::*;
 use std::thread::Threads;
 
-/// The first one that is no arrangement, with its first fault, or none where each is one.
+/// Returns the first listed entry that is no arrangement of the puzzle, by its number from 0, with its first fault;
+/// `None` where all are arrangements.
 pub fn list_fault(puzzle: &Puzzle, listed: &[Arrangement]) -> Option<(u32, ArrangementFault)>
     requires { length listed.now < 2 ^ 32 }
     ensures { TellsOfArrangements puzzle.now listed.now result }
@@ -21,7 +22,7 @@ pub fn list_fault(puzzle: &Puzzle, listed: &[Arrangement]) -> Option<(u32, Arran
     None
 }
 
-// The same, found by as many threads as the machine has processors for.
+// Returns what `list_fault` returns, found by as many threads as the machine has processors.
 pub(crate) fn list_fault_with<R: Threads + Sync>(
     rt: &R,
     puzzle: &Puzzle,

@@ -1,4 +1,4 @@
-//! What is wrong with the prefixes of lemmas.
+//! What is wrong with the prefixes of lemmas (the pairs that they begin with).
 
 ghost use Rattle.std.specs.Prelude.{◌≡◌, ◌<◌, ◌^◌, MatchBool, length};
 ghost use Rattle.cert_check.specs.Lines.{TellsOfPrefixes};
@@ -20,7 +20,7 @@ pub(crate) fn prefixes_fault(puzzle: &Puzzle, lemmas: &Lemmas) -> Option<(u32, P
     None
 }
 
-// Whether there is a last lemma, which begins with nothing placed.
+// Whether there is a last lemma, and it begins with nothing placed.
 pub(crate) fn ends_at_a_root(lemmas: &Lemmas) -> bool
     ensures { MatchBool result (HasRoot lemmas.now) (HasRoot lemmas.now → ⊥) }
 {

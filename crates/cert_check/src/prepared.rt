@@ -1,4 +1,4 @@
-//! Questions in which all is right but perhaps the trees.
+//! Questions of which only the trees are still to be checked.
 
 use crate::faults::{Answer, Fault, TreeFault};
 use crate::forks::Forker;
@@ -13,8 +13,9 @@ use std::alloc::{AllocError, Global};
 use std::marker::Model;
 use std::thread::Threads;
 
-/// A question in which all is right but perhaps the trees: the list has different arrangements, each line is a symmetry,
-/// each lemma begins with a prefix, and the last with nothing placed.
+/// A question of which only the trees are still to be checked. The rest is right: the list has different arrangements,
+/// each symmetry line is a symmetry, each lemma begins with a prefix (pairs that can be placed together), and the last
+/// lemma with nothing placed.
 #[derive(Drop)]
 pub struct Prepared<'a> {
     question: &'a Question<'a>,
@@ -49,7 +50,7 @@ impl<'a> Prepared<'a> {
     ghost use Rattle.cert_tree.specs.Certificate.{flat_piece};
     ghost use Rattle.cert_check.specs.Answer.{IsPrepared, IsPreparedWith, IsAnswer, IsSound, IsCovering};
 
-    // The question with these symmetries, those of its lines.
+    // The question with these symmetries, which are those of its lines.
     pub(crate) fn new(question: &'a Question<'a>, symmetries: Vec<Symmetry<'a>>) -> Prepared<'a>
         requires { IsPreparedWith question.now symmetries.items }
         ensures { result ≡ question.now }
@@ -60,7 +61,7 @@ impl<'a> Prepared<'a> {
         }
     }
 
-    /// The question.
+    /// Returns the question.
     pub fn question(&self) -> &Question<'a>
         ensures question { result.now ≡ self.now }
         ensures prepared { IsPrepared self.now }
@@ -69,14 +70,14 @@ impl<'a> Prepared<'a> {
         self.question
     }
 
-    /// The symmetries of the certificate's lines, in order.
+    /// Returns the symmetries of the certificate's lines, in order.
     pub fn symmetries(&self) -> &[Symmetry<'a>]
         ensures { result.now ≡ motions_of self.now }
     {
         &self.symmetries
     }
 
-    /// The symmetries of the certificate's lines, in order, for the caller to keep.
+    /// Hands over the symmetries of the certificate's lines, in order.
     pub fn into_symmetries(self) -> Vec<Symmetry<'a>>
         ensures { result.items ≡ motions_of self.entry }
     {
@@ -107,11 +108,11 @@ impl<'a> Prepared<'a> {
         self.question.lemmas().at(number as usize)
     }
 
-    /// The first fault of the tree of the lemma with this number, in preorder, or none where it holds.
+    /// Returns the first fault, in preorder, of the tree of the lemma with this number; `None` where the tree holds.
     ///
-    /// In the first `forks` levels, at most 6, the halves of a branch's children are walked at once, as
-    /// [`forked_tree_fault`](crate::forked_tree_fault) does, and the gate is told of each. An `Err` comes where memory is
-    /// refused.
+    /// In the first `forks` levels, at most 6, the halves of a branch's children are walked at the same time, as
+    /// [`forked_tree_fault`](crate::forked_tree_fault) does, and the gate is told of each. An `Err` comes where memory
+    /// is refused.
     pub fn forked_tree_fault<R: Threads + Sync, G: Gate + Sync>(
         &self,
         rt: &R,
@@ -128,8 +129,8 @@ impl<'a> Prepared<'a> {
         forker.lemma_fault(alloc, &self.setting(lemma), &self.lemma(lemma), forks)
     }
 
-    // The first fault of the tree of the lemma with this number, or none where it holds; nothing is placed before, and
-    // after it if it has no fault.
+    // The first fault of the tree of the lemma with this number; `None` where it holds. Nothing is placed before, nor
+    // afterwards if it holds.
     fn tree_fault(
         &self,
         alloc: Global,
@@ -146,8 +147,8 @@ impl<'a> Prepared<'a> {
         lemma_fault(alloc, &setting, &lemma, partial)
     }
 
-    /// The first lemma whose tree has a fault, with its first fault in preorder, or none where all hold. The gate is
-    /// told of each lemma before its tree is walked. An `Err` comes where memory is refused.
+    /// Returns the first lemma whose tree has a fault, with its first fault in preorder; `None` where all trees hold.
+    /// The gate is told of each lemma before its tree is walked. An `Err` comes where memory is refused.
     pub fn trees_fault<G: Gate>(
         &self,
         alloc: Global,
@@ -165,8 +166,8 @@ impl<'a> Prepared<'a> {
         Ok(None)
     }
 
-    /// The answer, where this was found of the trees: the first lemma whose tree has a fault, with its first fault, or
-    /// none where all hold.
+    /// Returns the answer, given what was found of the trees: the first lemma whose tree has a fault, with its first
+    /// fault, or `None` where all trees hold.
     pub fn answer(&self, found: Option<(u32, TreeFault)>) -> Answer
         requires { TellsOfTrees self.now found }
         ensures answer { IsAnswer self.now result }
@@ -174,7 +175,7 @@ impl<'a> Prepared<'a> {
         ensures complete { IsSound self.now result }
         ensures covered { IsCovering self.now result }
     {
-        // It says that all is right but perhaps the trees.
+        // its contract says that all but the trees is right
         let _ = self.question();
         match found {
             None => Answer::Complete,

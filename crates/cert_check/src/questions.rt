@@ -1,4 +1,4 @@
-//! What is asked of the checker, and what is checked of it before the trees.
+//! Questions to the checker, and what is checked before the trees.
 
 use crate::faults::{Answer, Fault};
 use crate::gates::Gate;
@@ -12,8 +12,8 @@ use match_puzzle::{Arrangement, ArrangementFault, Puzzle};
 use std::alloc::{AllocError, Global};
 use std::marker::Model;
 
-/// Whether the certificate shows that the list, with the images of its members under the named symmetries, has each
-/// arrangement of the puzzle, and none twice in the list itself.
+/// The question whether a certificate shows that a list is complete: that the listed arrangements, with their images
+/// under the certificate's symmetries, are all arrangements of the puzzle, and that none is listed twice.
 #[derive(Drop)]
 pub struct Question<'a> {
     puzzle: &'a Puzzle,
@@ -46,7 +46,7 @@ impl<'a> Question<'a> {
     ghost use Rattle.match_puzzle.specs.Arrangement.{AreArrangements};
     ghost use Rattle.cert_check.specs.Answer.{IsAnswer, IsSound, IsCovering, Occurs, fault_rank};
 
-    /// Whether these are all arrangements of the puzzle, by this certificate.
+    /// Asks whether these are all arrangements of the puzzle, by this certificate.
     pub fn new(
         puzzle: &'a Puzzle,
         listed: &'a [Arrangement],
@@ -62,14 +62,14 @@ impl<'a> Question<'a> {
         }
     }
 
-    /// The puzzle.
+    /// Returns the puzzle.
     pub fn puzzle(&self) -> &'a Puzzle
         ensures { result.now ≡ self.now.puzzle }
     {
         self.puzzle
     }
 
-    /// The list, which has fewer than 2^32 members.
+    /// Returns the list, which has fewer than 2^32 entries.
     pub fn listed(&self) -> &'a [Arrangement]
         ensures listed { result.now ≡ self.now.listed }
         ensures few { length result.now < 2 ^ 32 }
@@ -77,14 +77,14 @@ impl<'a> Question<'a> {
         self.listed
     }
 
-    /// The certificate.
+    /// Returns the certificate.
     pub fn certificate(&self) -> &'a Certificate
         ensures { result.now ≡ record { symmetries = self.now.symmetries; lemmas = self.now.lemmas } }
     {
         self.certificate
     }
 
-    /// The certificate's lemmas, at most 1,000,000.
+    /// Returns the certificate's lemmas, at most 1,000,000.
     pub fn lemmas(&self) -> &'a Lemmas
         ensures lemmas { result.now ≡ self.now.lemmas }
         ensures few { length result.now ≤ MOST_LEMMAS }
@@ -92,17 +92,18 @@ impl<'a> Question<'a> {
         self.certificate.lemmas()
     }
 
-    /// The first listed one that is no arrangement, with its first fault, or none where each is one.
+    /// Returns the first listed entry that is no arrangement of the puzzle, with its first fault; `None` where all are
+    /// arrangements.
     pub fn list_fault(&self) -> Option<(u32, ArrangementFault)>
         ensures { TellsOfArrangements self.now.puzzle self.now.listed result }
     {
         list_fault(self.puzzle, self.listed)
     }
 
-    /// The question with the certificate's symmetries, where all is right but perhaps the trees; else the first fault.
+    /// Checks everything but the trees. Returns the question with the certificate's symmetries, or its first fault.
     ///
-    /// `bad` is the first listed one that is no arrangement, with its first fault, or none where each is one. An `Err`
-    /// comes where memory is refused before a fault is found.
+    /// `bad` has to be what [`list_fault`](Question::list_fault) returns: the first listed entry that is no
+    /// arrangement, with its first fault. An `Err` comes where memory is refused before a fault is found.
     pub fn prepare(
         &self,
         alloc: Global,
@@ -111,7 +112,7 @@ impl<'a> Question<'a> {
         requires { TellsOfArrangements self.now.puzzle self.now.listed bad }
         ensures prepared { IfOk result (λ r. IfOk r (λ prepared. prepared ≡ self.now)) }
         ensures fault { IfOk result (λ r. IfErr r (IsFirst fault_rank (Occurs self.now))) }
-        // Want of memory hides no fault of a listed one.
+        // If memory is refused, no listed entry has a fault.
         ensures memory { OnErr result (AreArrangements self.now.puzzle self.now.listed) }
     {
         if let Some((number, fault)) = bad {
@@ -121,9 +122,11 @@ impl<'a> Question<'a> {
         self.prepare_listed(alloc, repeated)
     }
 
-    /// The same as [`Question::prepare`], where each listed one is an arrangement.
+    /// Checks everything but the trees, for a list whose entries are known to be arrangements. Returns the question
+    /// with the certificate's symmetries, or its first fault. An `Err` comes where memory is refused before a fault is
+    /// found.
     ///
-    /// `repeated` is what [`first_repeated`] finds: the first that equals an earlier one, or none where all are different.
+    /// `repeated` has to be what [`first_repeated`] returns: the first entry that equals an earlier one, or `None`.
     pub fn prepare_listed(
         &self,
         alloc: Global,
@@ -152,19 +155,19 @@ impl<'a> Question<'a> {
         if !ends_at_a_root(lemmas) {
             return Ok(Err(Fault::Root));
         }
-        // It says that the puzzle is one.
+        // its contract says that this is a puzzle
         let _ = puzzle.board();
         Ok(Ok(Prepared::new(self, symmetries)))
     }
 
-    /// The answer, found on one thread and on one board for all lemmas. The gate is told of each lemma before its tree
-    /// is walked. An `Err` comes where memory is refused before a fault is found.
+    /// Answers the question on one thread, and on one board for all lemmas. The gate is told of each lemma before its
+    /// tree is walked. An `Err` comes where memory is refused before a fault is found.
     pub fn check<G: Gate>(&self, alloc: Global, gate: &G) -> Result<Answer, AllocError>
         ensures answer { IfOk result (IsAnswer self.now) }
         // The main theorem: a list that is called complete is.
         ensures complete { IfOk result (IsSound self.now) }
         ensures covered { IfOk result (IsCovering self.now) }
-        // Want of memory hides no fault of a listed one.
+        // If memory is refused, no listed entry has a fault.
         ensures memory { OnErr result (AreArrangements self.now.puzzle self.now.listed) }
     {
         let prepared = match self.prepare(alloc, self.list_fault())? {

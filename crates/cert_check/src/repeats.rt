@@ -12,20 +12,20 @@ use match_puzzle::{Arrangement, Placement};
 use std::alloc::{AllocError, Global};
 use std::cmp::Ordering;
 
-// An odd number whose products have digits that look like no order: 2^64 by the golden ratio.
+// An odd number whose products have digits without a visible order: 2^64 divided by the golden ratio.
 const SPREAD: u64 = 0x9E37_79B9_7F4A_7C15;
 
-// Where an entry stands, and the entry as one number.
+// The place of an entry, and a number made of the entry.
 #[derive(Clone, Copy)]
 pub(crate) struct KeyedPlace {
     key: u64,
     place: u32,
 }
 
-/// The first listed one that equals an earlier one, or none where all are different.
+/// Returns the first listed entry that equals an earlier one; `None` where all are different.
 ///
-/// A list that rises needs no memory, and others sixteen bytes an entry. There are O(n log n) comparisons of whole
-/// entries whatever the list is, and hardly any where no list was looked for whose entries have the same numbers.
+/// A list that rises needs no memory; any other needs 16 bytes for each entry. Whole entries are compared O(n log n)
+/// times at most, and hardly ever unless the list was made so that different entries get the same hash.
 pub fn first_repeated(alloc: Global, listed: &[Arrangement]) -> Result<Option<u32>, AllocError>
     requires { length listed.now < 2 ^ 32 }
     ensures { IfOk result (TellsOfRepeats listed.now) }
@@ -60,14 +60,14 @@ fn keyed_places(alloc: Global, listed: &[Arrangement]) -> Result<Vec<KeyedPlace>
     Ok(places)
 }
 
-// One number more.
+// Adds one more number to the key.
 fn spread(key: u64, number: u64) -> u64
     ensures { result ≡ with_number key number }
 {
     key.wrapping_mul(SPREAD).wrapping_add(number)
 }
 
-// The entry as one number, so that most entries are told apart without a look at them.
+// A number made of the entry, so that most entries are told apart without a look at them.
 fn key(arrangement: &Arrangement) -> u64
     ensures { result ≡ key_of arrangement.now }
 {
@@ -79,7 +79,7 @@ fn key(arrangement: &Arrangement) -> u64
     key
 }
 
-// Sorts the places, so that those of equal entries stand together and rise.
+// Sorts the places so that those of equal entries are next to each other, rising.
 fn sort(listed: &[Arrangement], places: &mut Vec<KeyedPlace>)
     requires { AreItsPlaces listed.now places.old.items }
     ensures places { AreItsPlaces listed.now places.new.items }
@@ -88,7 +88,7 @@ fn sort(listed: &[Arrangement], places: &mut Vec<KeyedPlace>)
     places.sort_unstable_by(|x, y| compare(listed, *x, *y));
 }
 
-// By key, then by what stands there, then by place.
+// Compares by key, then by entry, then by place.
 fn compare(listed: &[Arrangement], x: KeyedPlace, y: KeyedPlace) -> Ordering
     ensures { result ≡ keyed_cmp listed.now x y }
 {
@@ -107,7 +107,7 @@ fn placements_at<'a>(listed: &'a [Arrangement], at: KeyedPlace) -> Option<&'a [P
     }
 }
 
-// The first place whose entry equals an earlier one: the least that comes after an equal neighbour.
+// The first place whose entry equals an earlier one: the least place that follows an equal neighbour.
 fn least_repeated(listed: &[Arrangement], places: &[KeyedPlace]) -> Option<u32>
     requires places { AreItsPlaces listed.now places.now }
     requires sorted { IsSorted (keyed_cmp listed.now) places.now }

@@ -1,4 +1,4 @@
-//! Nodes of trees, and what is placed there.
+//! Nodes of trees, with what is placed there.
 
 ghost use Rattle.std.specs.Prelude.{◌≡◌, ◌≢◌, ◌≤◌, ℕ, List, IfOk, MatchOption, drop, length, slice_get};
 ghost use Rattle.match_board.specs.Board.{cell_count};
@@ -22,15 +22,15 @@ use std::alloc::{AllocError, Global};
 pub struct Scene<'a> {
     /// What is placed.
     pub partial: Partial<'a>,
-    /// What is left of a walk in preorder: the node is the first.
+    /// What is left of a walk in preorder; the node comes first.
     pub trees: Trees<'a>,
-    /// How many words of the tree's text stand before the node's, up to `usize::MAX`; no clause says it.
+    /// How many words of the tree's text come before the node's, up to `usize::MAX`. No contract says it.
     pub words: usize,
 }
 
 impl<'a> Scene<'a> {
-    /// The node that the path of child numbers, from 0, leads to from the top of the lemma's tree. It goes past each
-    /// node that stands before it in the text.
+    /// Goes from the top of the lemma's tree to the node at this path of child numbers, from 0. It passes each node
+    /// that comes before it in the text. An error comes where memory is refused.
     pub fn at(
         alloc: Global,
         puzzle: &'a Puzzle,
@@ -58,7 +58,7 @@ impl<'a> Scene<'a> {
         Ok(scene)
     }
 
-    /// The node without its children.
+    /// Returns the node without its children.
     pub fn head(&self) -> Head
         requires { self.now.trees ≢ none }
         ensures { (rest : Forest) × (put result rest ≡ self.now.trees) }
@@ -66,7 +66,7 @@ impl<'a> Scene<'a> {
         self.trees.copy().next()
     }
 
-    // Goes to the node that the path leads to from here.
+    // Goes to the node at this path from here.
     fn follow(&mut self, path: &[u16])
         requires some { self.old.trees ≢ none }
         requires long { length self.old.partial.placed ≡ cell_count self.old.partial.puzzle.board }
@@ -130,7 +130,7 @@ pub(crate) fn pairs_from(item: Item, number: u32, partial: &Partial<'_>) -> Fitt
     pairs
 }
 
-// Goes past so many trees, in a step for each of their nodes, and adds the words of their text.
+// Passes `number` trees, in a step for each of their nodes, and adds the words of their text.
 fn go_past(trees: &mut Trees<'_>, number: u16, words: &mut usize)
     requires { number ≤ count trees.old }
     ensures { trees.new ≡ past number trees.old }
@@ -143,7 +143,7 @@ fn go_past(trees: &mut Trees<'_>, number: u16, words: &mut usize)
     }
 }
 
-// The item that the node is a branch on, if it is one.
+// The item that the node is a branch on, if it is a branch.
 pub(crate) fn branched_on(head: Head) -> Option<Item>
     ensures { MatchOption result ((item : Item) (children : ℕ) → head ≢ branch_head item children)
         (λ item. head ≡ branch_head item (arity head)) }

@@ -17,7 +17,7 @@ pub(crate) struct Setting<'a> {
     listed: &'a [Arrangement],
     symmetries: &'a [Symmetry<'a>],
     lemmas: &'a Lemmas,
-    // how many of the lemmas come before the lemma
+    // how many lemmas come before the lemma
     earlier: usize,
 }
 
@@ -33,8 +33,8 @@ impl<'a> Model for Setting<'a> {
 }
 
 impl<'a> Setting<'a> {
-    // What the tree of the lemma with this number may name. The symmetries are those of the certificate's lines, and the
-    // lemmas begin with prefixes.
+    // What the tree of the lemma with this number may name. The symmetries have to be those of the certificate's lines,
+    // and the lemmas have to begin with prefixes.
     pub(crate) fn new(
         puzzle: &'a Puzzle,
         listed: &'a [Arrangement],

@@ -1,4 +1,4 @@
-//! The walk of a tree by its heads.
+//! Walks trees by their heads (nodes without their children).
 
 ghost use Rattle.std.specs.Prelude.{◌≡◌, ◌≢◌, ◌<◌, ◌≤◌, ◌^◌, ℕ, List, [], ◌∷◌, Option, IfOk, MatchBool, MatchOption, None, length};
 ghost use Rattle.std.specs.Option.{option_map};
@@ -21,10 +21,10 @@ use cert_tree::{FlatLemma, Head, Trees};
 use match_puzzle::{FittingPairs, Item, Pair, Partial};
 use std::alloc::{AllocError, Global};
 
-// Whether the first tree holds at what is placed. Then what is placed is as before, and the tree is gone past; else its
-// first fault in preorder is put down. Most trees hold, so a fault has a place of its own and isn't handed from node to
-// node. Each branch fills a cell for its children, so the walk goes no deeper than one level for each cell and one
-// more.
+// Whether the first tree holds with these pairs placed. If so, the same pairs are placed afterwards, and the walk has
+// passed the tree; if not, `fault` is its first fault in preorder. Most trees hold, so a fault has a place of its own
+// and is not handed from node to node. Each branch fills a cell for its children, so the walk goes no deeper than one
+// level for each cell and one more.
 #[cycle(walk)]
 pub(crate) fn walk(
     alloc: Global,
@@ -54,7 +54,8 @@ pub(crate) fn walk(
     }
 }
 
-// The same of a branch, whose children are the first so many trees.
+// Whether a branch holds whose children are the first `children` trees; what is placed, the walk and the fault are then
+// as after `walk`.
 #[cycle(walk)]
 fn walk_branch(
     alloc: Global,
@@ -89,7 +90,7 @@ fn walk_branch(
     Ok(true)
 }
 
-// What is wrong with a node that has no children. A walk calls it at each leaf, so it is inlined there.
+// What is wrong with a node that has no children. A walk calls this at each leaf, so it is inlined there.
 #[inline(always)]
 fn leaf_fault(setting: &Setting<'_>, leaf: Head, partial: &Partial<'_>) -> Option<NodeFault>
     requires made { partial.now.puzzle ≡ setting.now.puzzle }
@@ -107,7 +108,7 @@ fn leaf_fault(setting: &Setting<'_>, leaf: Head, partial: &Partial<'_>) -> Optio
     }
 }
 
-// Places the first of the pairs, and takes it from them. Walks call it at each node, so it is inlined there.
+// Places the first of the pairs, and takes it from them. Walks call this at each node, so it is inlined there.
 #[inline(always)]
 pub(crate) fn place_first(pairs: &mut FittingPairs, partial: &mut Partial<'_>) -> Pair
     requires some { pairs.old ≢ [] }
@@ -126,7 +127,7 @@ pub(crate) fn place_first(pairs: &mut FittingPairs, partial: &mut Partial<'_>) -
     pair
 }
 
-// Puts a fault of the first node down. Whether there is none.
+// Stores a fault of the first node; returns whether there is none.
 fn at_top(alloc: Global, of_node: Option<NodeFault>, fault: &mut Option<TreeFault>) -> bool
     requires { fault.old ≡ None }
     ensures holds { MatchBool result (fault.new ≡ None) (fault.new ≢ None) }
@@ -139,7 +140,7 @@ fn at_top(alloc: Global, of_node: Option<NodeFault>, fault: &mut Option<TreeFaul
     false
 }
 
-// Makes a fault of a child one of its parent.
+// Turns a fault of a child into one of its parent.
 fn put_below(number: u16, fault: &mut Option<TreeFault>) -> Result<(), AllocError>
     ensures { IfOk result (λ done. fault.new ≡ option_map (below number) fault.old) }
 {
@@ -149,8 +150,8 @@ fn put_below(number: u16, fault: &mut Option<TreeFault>) -> Result<(), AllocErro
     Ok(())
 }
 
-// The first fault of the lemma's tree in what it may name, or none where it holds, walked where nothing is placed before,
-// and after it if it has no fault.
+// The first fault of the lemma's tree, given what it may name; `None` where it holds. Nothing is placed before, nor
+// afterwards if it holds.
 pub(crate) fn lemma_fault(
     alloc: Global,
     setting: &Setting<'_>,

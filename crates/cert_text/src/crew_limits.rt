@@ -1,4 +1,4 @@
-//! Whether a certificate is within the limits of its text, told by a crew.
+//! Whether a certificate is within the limits of its text, found by a crew of workers (threads).
 
 ghost use Rattle.std.specs.Prelude.{◌≤◌, IfOk, MatchBool, length};
 ghost use Rattle.match_limits.specs.declared.TheConstants.{MOST_WORKERS};
@@ -89,11 +89,12 @@ fn are_lemmas_within<R: Threads + Sync>(
     }
 }
 
-/// Whether the certificate has a spelling in this version, told by 1 to 64 workers, whose number doesn't change it. The
-/// lemmas are cut into parts of about as many nodes each, and each part is a job of a crew.
+/// Whether the certificate has a spelling in this version (1 or 2), found by 1 to 64 workers, whose number doesn't
+/// change the result. The lemmas are cut into parts with about as many nodes each, and each part is a job of a crew. An
+/// `Err` comes where memory is refused.
 ///
-/// It joins threads, one for each worker but the caller; with one worker, or with less than 131,072 nodes, it goes through
-/// them on the caller's thread, and takes no memory.
+/// It joins threads, one for each worker but the caller. With one worker, or with fewer than 131,072 nodes, it goes
+/// through the lemmas on the caller's thread, and takes no memory.
 pub fn within_limits_with<R: Threads + Sync>(
     rt: &R,
     alloc: Global,

@@ -1,4 +1,4 @@
-//! Entries of a line, up to a word or to its end.
+//! Reads entries of a line, up to a word or to its end.
 
 ghost use Rattle.std.specs.Prelude.{◌≡◌, ◌+◌, ◌<◌, ◌++◌, codes, length, drop};
 ghost use Rattle.match_limits.specs.Ranges.{AreRanges};
@@ -12,7 +12,7 @@ use match_puzzle::Pair;
 use std::alloc::Global;
 use text_words::{ReadFault, Scan, TextFault};
 
-// Whether a further word stands there, other than this one.
+// Whether the line has a further word other than this one.
 fn has_other(scan: &Scan, stop: &[u8]) -> bool
     ensures { result ≡ goes_on stop.now scan.now.words }
 {
@@ -22,7 +22,7 @@ fn has_other(scan: &Scan, stop: &[u8]) -> bool
     }
 }
 
-// The number of a cell or of a tile.
+// Reads the number of a cell or of a tile.
 fn image(scan: &mut Scan, ranges: &Ranges) -> Result<u16, TextFault>
     ensures { Gives (λ n. n) result scan.new (word_by (number_in 0 ranges.now.last_cell) scan.old) }
 {
@@ -30,7 +30,7 @@ fn image(scan: &mut Scan, ranges: &Ranges) -> Result<u16, TextFault>
     Ok(image as u16)
 }
 
-/// The images of cells, up to the word `colours`.
+/// Reads the images of cells, up to the word `colours`.
 pub fn cell_images(alloc: Global, scan: &mut Scan, ranges: &Ranges) -> Result<Vec<u16>, ReadFault>
     ensures { Reads (λ images. images.items) result scan.new
         (entries_before (codes "colours") ranges.now.most_cells (number_in 0 ranges.now.last_cell) scan.old) }
@@ -44,7 +44,7 @@ pub fn cell_images(alloc: Global, scan: &mut Scan, ranges: &Ranges) -> Result<Ve
     Ok(images)
 }
 
-/// The images of colours, up to the word `tiles`.
+/// Reads the images of colours, up to the word `tiles`.
 pub fn colour_images(alloc: Global, scan: &mut Scan) -> Result<Vec<u8>, ReadFault>
     ensures { Reads
         (λ images. images.items) result scan.new (entries_before (codes "tiles") MOST_COLOURS colour_in scan.old) }
@@ -58,7 +58,7 @@ pub fn colour_images(alloc: Global, scan: &mut Scan) -> Result<Vec<u8>, ReadFaul
     Ok(images)
 }
 
-/// The images of tiles, up to the end of the line.
+/// Reads the images of tiles, up to the end of the line.
 pub fn tile_images(alloc: Global, scan: &mut Scan, ranges: &Ranges) -> Result<Vec<u16>, ReadFault>
     ensures { Reads (λ images. images.items) result scan.new
         (entries ranges.now.most_cells (number_in 0 ranges.now.last_cell) scan.old) }
@@ -72,7 +72,7 @@ pub fn tile_images(alloc: Global, scan: &mut Scan, ranges: &Ranges) -> Result<Ve
     Ok(images)
 }
 
-/// The pairs of a prefix, up to the word `tree`, go behind these.
+/// Reads the pairs of a prefix, up to the word `tree`, and appends them.
 pub fn prefix(scan: &mut Scan, ranges: &Ranges, pairs: &mut Vec<Pair>) -> Result<(), ReadFault>
     requires { AreRanges ranges.now }
     ensures reads { Reads (λ _. drop (length pairs.old.items) pairs.new.items) result scan.new

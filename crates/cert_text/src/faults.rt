@@ -11,14 +11,14 @@ use std::error::Error;
 use std::fmt;
 use text_words::{ReadFault, TextFault};
 
-/// Why there is no lemma of a text.
+/// Why a text has no lemma.
 pub type LemmaTextFault = ReadFault;
 
-/// Why there is no certificate of a text, in the order in which it is looked for.
+/// Why a text has no certificate, in the order in which faults are looked for.
 #[derive(Clone, Copy, PartialEq, Eq, Debug)]
 pub enum CertTextFault {
     Text(TextFault),
-    /// The lemmas make no certificate; the text has no fault.
+    /// The text has no fault, but its lemmas make no certificate.
     Assemble(AssembleFault),
     Memory,
 }

@@ -8,13 +8,13 @@ ghost use Rattle.cert_text.specs.LemmaParts.{AreCut, AreStarts, IsPart, part_sta
 use cert_tree::Lemmas;
 use std::alloc::{AllocError, Global};
 
-// More parts than workers, so that none is left alone with a large one.
+// More parts than workers, so that no worker is left alone with a large one.
 const PARTS_FOR_EACH: usize = 16;
 
 // No more parts than the most workers take.
 const MOST_PARTS: usize = 1_024;
 
-// Lemmas with fewer nodes are gone through by one thread, which is done before others would have started.
+// One thread goes through lemmas with fewer nodes: it is done before others would have started.
 const LEAST_NODES: usize = 1 << 17;
 
 // How many nodes all lemmas have together.
@@ -26,7 +26,8 @@ fn nodes_of(lemmas: &Lemmas) -> usize {
     nodes
 }
 
-// Where parts begin of so many nodes each, or more by a lemma, but for the last one; and then how many lemmas there are.
+// Where the parts begin, followed by the number of lemmas. Each part but the last has at least `nodes` nodes, and less
+// without its last lemma.
 fn starts_of(alloc: Global, lemmas: &Lemmas, nodes: usize) -> Result<Vec<usize>, AllocError>
     ensures { IfOk result (λ starts. AreStarts (length lemmas.now) starts.items) }
 {
@@ -44,11 +45,11 @@ fn starts_of(alloc: Global, lemmas: &Lemmas, nodes: usize) -> Result<Vec<usize>,
     Ok(starts)
 }
 
-/// Lemmas that are cut into parts.
+/// Lemmas, cut into parts.
 #[derive(Drop)]
 pub struct LemmaParts<'a> {
     pub lemmas: &'a Lemmas,
-    /// Where each part begins, and the last one ends.
+    /// Where each part begins, and where the last one ends.
     pub starts: Vec<usize>,
 }
 
@@ -57,7 +58,8 @@ impl<'a> LemmaParts<'a> {
     ghost use Rattle.match_limits.specs.declared.TheConstants.{MOST_LEMMAS};
     ghost use Rattle.cert_text.specs.LemmaParts.{AreCut, IsPart, part_start};
 
-    /// Parts of about as many nodes each, for so many workers. None where they are soon gone through by one.
+    /// Cuts the lemmas into parts with about as many nodes each, for this many workers. `None` where one worker is soon
+    /// through with them. An error comes where memory is refused.
     pub fn cut(
         alloc: Global,
         lemmas: &'a Lemmas,
@@ -75,7 +77,7 @@ impl<'a> LemmaParts<'a> {
         Ok(Some(LemmaParts { lemmas, starts }))
     }
 
-    /// How many parts there are.
+    /// Returns how many parts there are.
     pub fn count(&self) -> u32
         requires { AreCut self.now.lemmas.now self.now.starts.items }
         ensures few { result ≤ MOST_LEMMAS }
@@ -85,7 +87,7 @@ impl<'a> LemmaParts<'a> {
         (self.starts.len() - 1) as u32
     }
 
-    /// The numbers from which the part has its lemmas and up to which, which is left out.
+    /// Returns the number of the part's first lemma, and the number after that of its last.
     pub fn bounds(&self, number: u32) -> (usize, usize)
         requires { IsPart self.now.lemmas.now self.now.starts.items number }
         ensures first { result.0 ≡ part_start self.now.starts.items number }

@@ -1,4 +1,4 @@
-//! Texts of lemmas and of certificates.
+//! Reads and writes the texts of certificates and of their lemmas (numbered claims, each with a tree of cases).
 #![tactic(auto)]
 
 mod crew_limits;

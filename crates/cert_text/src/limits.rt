@@ -62,7 +62,7 @@ fn are_symmetries_within(ranges: &Ranges, lines: &[SymmetryLine]) -> bool
     true
 }
 
-/// Whether there are at most 1,024 symmetries, each of which has a spelling in the version.
+/// Whether there are at most 1,024 symmetries, and each has a spelling in the version (1 or 2).
 pub fn are_symmetries_within_limits(version: u8, lines: &[SymmetryLine]) -> bool
     requires { IsVersion version }
     ensures { MatchBool result (AreSymmetriesWithin (ranges_of version) lines.now)
@@ -84,7 +84,7 @@ fn are_lemmas_within(ranges: &Ranges, lemmas: &Lemmas, first: usize, last: usize
     true
 }
 
-/// Whether each lemma from this number up to the other, which is left out, has a spelling in the version.
+/// Whether each lemma from number `first` to before `last` has a spelling in the version (1 or 2).
 pub fn are_lemmas_within_limits(version: u8, lemmas: &Lemmas, first: usize, last: usize) -> bool
     requires version { IsVersion version }
     requires numbers { (first ≤ last) × (last ≤ length lemmas.now) }
@@ -94,7 +94,7 @@ pub fn are_lemmas_within_limits(version: u8, lemmas: &Lemmas, first: usize, last
     are_lemmas_within(&ranges_of(version), lemmas, first, last)
 }
 
-// What is short is looked at first: the symmetries, and of each lemma its prefix.
+// Looks at the short things first: the symmetries, and the prefix of each lemma.
 fn is_certificate_within(version: u8, certificate: &Certificate) -> bool
     requires { IsVersion version }
     ensures { MatchBool result (IsCertificateWithin (said_by version certificate.now))
@@ -105,7 +105,8 @@ fn is_certificate_within(version: u8, certificate: &Certificate) -> bool
         && are_lemmas_within_limits(version, lemmas, 0, lemmas.len())
 }
 
-/// The first version in which the certificate has a spelling, told by one walk over it.
+/// Returns the first version (1 or 2) in which the certificate has a spelling, by one walk over it. It has to have one
+/// in version 2.
 pub fn first_version(certificate: &Certificate) -> u8
     requires { IsCertificateWithin (said_by 2 certificate.now) }
     ensures within { IsCertificateWithin (said_by result certificate.now) }
@@ -123,7 +124,7 @@ pub fn first_version(certificate: &Certificate) -> u8
 pub trait WithinLimits {
     ghost fits: { Self → Type 0 };
 
-    /// Whether the value is within the limits, and so has a spelling.
+    /// Whether the value is within the limits, so that it has a spelling.
     fn within_limits(&self) -> bool
         ensures { MatchBool result (fits self.now) (fits self.now → ⊥) };
 }
@@ -133,9 +134,13 @@ impl WithinLimits for Lemma {
 
     ghost fits = { λ lemma. IsLemmaWithin MOST_CELLS (piece_of lemma) };
 
-    /// Whether the lemma has a spelling: a number, and numbers of lemmas and of listed arrangements, below 1,000,000;
-    /// numbers of symmetries below 1,024, and turns below 4; and cells, tiles, pairs, children and levels within the
-    /// ranges of version 2. It looks no deeper into the tree than that, and takes no memory.
+    /// Whether the lemma has a spelling:
+    ///
+    /// - its number, and the numbers of lemmas and of listed arrangements, are below 1,000,000
+    /// - numbers of symmetries are below 1,024, and turns below 4
+    /// - cells, tiles, pairs, children and levels are within the ranges of version 2
+    ///
+    /// It looks no deeper into the tree than that, and takes no memory.
     fn within_limits(&self) -> bool
         ensures within { MatchBool result (IsLemmaWithin MOST_CELLS (piece_of self.now))
             (IsLemmaWithin MOST_CELLS (piece_of self.now) → ⊥) }
@@ -149,8 +154,13 @@ impl WithinLimits for Lemma {
 impl WithinLimits for Certificate {
     ghost fits = { λ certificate. IsCertificateWithin (said_by 2 certificate) };
 
-    /// Whether the certificate has a spelling: up to 1,024 symmetries, with shifts below 4, up to 36 colours below 36,
-    /// and cells and tiles within the ranges of version 2; and lemmas that each have one. It takes no memory.
+    /// Whether the certificate has a spelling:
+    ///
+    /// - it has up to 1,024 symmetries, with shifts below 4, up to 36 colours below 36, and cells and tiles within the
+    ///   ranges of version 2
+    /// - each of its lemmas has a spelling
+    ///
+    /// It takes no memory.
     fn within_limits(&self) -> bool
         ensures within { MatchBool result (IsCertificateWithin (said_by 2 self.now))
             (IsCertificateWithin (said_by 2 self.now) → ⊥) }

@@ -1,4 +1,4 @@
-//! A certificate's text whose lemma lines are cut into parts, each of which is read by itself.
+//! Cuts the lemma lines of a certificate's text into parts, each of which can be read by itself.
 
 ghost use Rattle.std.specs.Prelude.{◌≡◌, ◌+◌, ◌<◌, ◌≤◌, ◌^◌, ℕ, List, Ok, IfOk, MatchResult, length};
 ghost use Rattle.match_limits.specs.Ranges.{ranges_of};
@@ -14,7 +14,7 @@ use match_limits::{MOST_LEMMAS, ranges_of};
 use std::alloc::{AllocError, Global};
 use text_words::{ReadFault, Scan};
 
-/// Some lemma lines of a certificate's text, one behind the other.
+/// Some lemma lines of a certificate's text, one after the other.
 #[derive(Drop)]
 pub struct LemmaPart<'a> {
     pub(crate) version: u8,
@@ -24,8 +24,8 @@ pub struct LemmaPart<'a> {
 }
 
 impl<'a> LemmaPart<'a> {
-    /// The lemmas, or the first fault of their lines, with the line's number in the whole text; `Memory` only where that
-    /// is refused. The part stays as it is.
+    /// Returns the lemmas, or the first fault of their lines, with the number of the line in the whole text. `Memory`
+    /// comes only where memory is refused. The part stays as it is.
     pub fn read(&self, alloc: Global) -> Result<Lemmas, ReadFault>
         ensures { Says (λ lemmas. lemmas) result (part_says self.now) }
     {
@@ -34,17 +34,18 @@ impl<'a> LemmaPart<'a> {
     }
 }
 
-/// A certificate's text whose lemma lines are cut into parts: so they can be read in any order, or at once.
+/// A certificate's text whose lemma lines are cut into parts, so that they can be read in any order, or at the same
+/// time.
 #[derive(Drop)]
 pub struct CutCertificate<'a> {
     pub(crate) beginning: Beginning,
     pub(crate) parts: Vec<LemmaPart<'a>>,
-    // behind the last of them
+    // after the last of them
     pub(crate) end: Scan<'a>,
 }
 
-// Goes past at least one line, and past further ones until they have `size` bytes, of at most so many. How many they
-// are: all, where the text has fewer.
+// Passes at least one line, and further ones until they have `size` bytes, at most `most` lines. Returns how many it
+// passed: all, where the text has fewer.
 fn skip_part(scan: &mut Scan, most: u32, size: usize) -> u32
     requires { 0 < most }
     ensures some { 0 < result }
@@ -65,7 +66,7 @@ fn skip_part(scan: &mut Scan, most: u32, size: usize) -> u32
     lines
 }
 
-// The lines of so many lemmas in parts of `size` bytes or more, but for the last one, and goes past them.
+// Passes the lines of `count` lemmas, and returns them in parts of at least `size` bytes each, except for the last one.
 fn cut_lines<'a>(
     alloc: Global,
     scan: &mut Scan<'a>,
@@ -92,11 +93,11 @@ fn cut_lines<'a>(
     Ok(parts)
 }
 
-/// Reads a certificate's text up to its lemmas, and cuts the lines of these into parts of at least `size` bytes each, but
-/// for the last one. An `Err` is the text's first fault, where it stands before the lemmas; `Memory` only where that is
-/// refused.
+/// Reads a certificate's text up to its lemmas, and cuts the lemma lines into parts of at least `size` bytes each,
+/// except for the last one. It passes these lines by looking for their ends alone.
 ///
-/// The lemma lines are gone past by their ends alone.
+/// An `Err` is the first fault of the text, where it comes before the lemmas. `Memory` comes only where memory is
+/// refused.
 pub fn cut_certificate(
     alloc: Global,
     text: &[u8],
@@ -133,14 +134,14 @@ fn joined(
 }
 
 impl<'a> CutCertificate<'a> {
-    /// The parts, in the order of the text. There are at most as many as lemmas.
+    /// Returns the parts, in the order of the text. There are at most as many as lemmas.
     pub fn parts(&self) -> &[LemmaPart<'a>]
         ensures { result.now ≡ self.now.parts.items }
     {
         &self.parts
     }
 
-    // What the text says, of what was read of the parts.
+    // What the text says, given what was read of the parts.
     fn lines(
         self,
         alloc: Global,
@@ -163,8 +164,11 @@ impl<'a> CutCertificate<'a> {
         })
     }
 
-    /// The certificate, of what was read of the parts, in their order; or the text's first fault, or else that of its
-    /// lemmas, as of [`read_certificate`](crate::read_certificate); `Memory` where that is refused here or was to a part.
+    /// Makes the certificate from what was read of the parts, in their order.
+    ///
+    /// An `Err` is the first fault of the text, or else the first fault of its lemmas, as
+    /// [`read_certificate`](crate::read_certificate) returns it. `Memory` comes where memory is refused here, or was
+    /// refused to a part.
     pub fn join(
         self,
         alloc: Global,

@@ -1,4 +1,4 @@
-//! Lemmas and certificates are read.
+//! Reads lemmas and certificates.
 
 ghost use Rattle.std.specs.Prelude.{◌≡◌, ◌+◌, ◌<◌, ◌≤◌, ◌^◌, ◌++◌, ℕ, Ok, Err, IfOk, IfSome};
 ghost use Rattle.std.specs.Prelude.{length, take};
@@ -89,7 +89,7 @@ fn symmetries(
     Ok(lines)
 }
 
-// A lemma, whose pairs and heads go behind these, and where it lies there.
+// Reads a lemma, appends its pairs and heads, and returns where it lies among them.
 #[tactic(auto, unfolding(crate::specs::CertificateText::lemma_line))]
 fn lemma(
     scan: &mut Scan,
@@ -114,7 +114,7 @@ fn lemma(
     Ok(LemmaSpan::of_last(number, pairs, pairs_start, heads, heads_start))
 }
 
-// So many lemmas, in the order of their lines.
+// Reads `count` lemmas, in the order of their lines.
 pub(crate) fn read_lemmas(
     alloc: Global,
     scan: &mut Scan,
@@ -135,7 +135,7 @@ pub(crate) fn read_lemmas(
     Ok(lemmas)
 }
 
-// One lemma, in the ranges of version 2, and nothing after it.
+// Reads one lemma, in the ranges of version 2, and nothing after it.
 #[tactic(auto, unfolding(crate::specs::CertificateText::lemma_text))]
 fn whole_lemma(alloc: Global, scan: &mut Scan) -> Result<Lemma, ReadFault>
     ensures { Reads piece_of result scan.new (lemma_text scan.old) }
@@ -158,16 +158,16 @@ fn read_lemma_text(alloc: Global, text: &[u8]) -> Result<Lemma, ReadFault>
     Ok(lemma)
 }
 
-/// The lemma that a text has, one lemma line in the ranges of version 2 and nothing after it, or the text's first
-/// fault; `Memory` only where that is refused.
+/// Reads a text that has one lemma line, in the ranges of version 2, and nothing after it. An `Err` is the first fault
+/// of the text; `Memory` comes only where memory is refused.
 pub fn read_lemma(alloc: Global, text: &[u8]) -> Result<Lemma, LemmaTextFault>
     requires { length text.now + 1 < 2 ^ 32 }
-    // Which lemma, and which fault.
+    // Which lemma is read, and which fault.
     ensures exact { Says piece_of result (lemma_of text.now) }
-    // What is read is spelled so.
+    // What is read is spelled this way.
     ensures found { IfOk result
         (λ lemma. IsLemmaWithin MOST_CELLS (piece_of lemma) × (text.now ≡ lemma_spelling (piece_of lemma))) }
-    // What is spelled so is read.
+    // What is spelled this way is read.
     ensures only { (piece : Piece) → IsLemmaWithin MOST_CELLS piece → text.now ≡ lemma_spelling piece
         → Says piece_of result (Ok piece) }
     // A spelling that is cut short ends at its last line.
@@ -178,7 +178,7 @@ pub fn read_lemma(alloc: Global, text: &[u8]) -> Result<Lemma, LemmaTextFault>
     read_lemma_text(alloc, text)
 }
 
-// What a certificate's text says before its lemmas, and how many of these there are.
+// What a certificate's text says before its lemmas, and how many lemmas there are.
 #[derive(Drop)]
 pub(crate) struct Beginning {
     pub(crate) version: u8,
@@ -236,8 +236,8 @@ fn read_lines(alloc: Global, text: &[u8]) -> Result<CertificateLines, ReadFault>
     whole(alloc, &mut scan)
 }
 
-/// Where the text of a certificate has its first fault; none where it has none, or memory is refused. Lemmas' numbers are
-/// no such fault.
+/// Returns where the text of a certificate has its first fault. `None` where it has no fault, or memory is refused.
+/// Numbers of lemmas that make no certificate are no such fault.
 #[tactic(auto, unfolding(crate::specs::CertificateText::certificate_of))]
 pub fn certificate_fault_place(alloc: Global, text: &[u8]) -> Option<FaultPlace<'_>>
     requires { length text.now + 1 < 2 ^ 32 }
@@ -257,13 +257,13 @@ pub struct LemmaLines {
     pub lemmas: Lemmas,
 }
 
-/// The lemmas of a certificate's text as they stand there, assembled or not; none where the text has a fault, or memory is
-/// refused.
+/// Reads the lemmas of a certificate's text as they are there, whether they make a certificate or not. `None` where the
+/// text has a fault, or memory is refused.
 pub fn read_lemma_lines(alloc: Global, text: &[u8]) -> Option<LemmaLines>
     requires { length text.now + 1 < 2 ^ 32 }
 {
     let lines = read_lines(alloc, text).ok()?;
-    // The version, how many symmetries, these, how many lemmas.
+    // lines before: the version, how many symmetries, the symmetries, how many lemmas
     let first_line = lines.symmetries.len().saturating_add(4);
     Some(LemmaLines {
         first_line,
@@ -289,18 +289,20 @@ fn read_and_make(alloc: Global, text: &[u8]) -> Result<Certificate, CertTextFaul
     made(alloc, lines)
 }
 
-/// The certificate that a text of either version has, its lemma lines in any order, or the text's first fault, or else
-/// that of its lemmas, which are assembled with the count that the text gives; `Memory` only where that is refused.
+/// Reads the text of a certificate, of version 1 or 2, with its lemma lines in any order.
+///
+/// An `Err` is the first fault of the text, or else the first fault of its lemmas, which are put together with the
+/// count that the text gives. `Memory` comes only where memory is refused.
 pub fn read_certificate(alloc: Global, text: &[u8]) -> Result<Certificate, CertTextFault>
     requires { length text.now + 1 < 2 ^ 32 }
-    // Which certificate, and which fault.
+    // Which certificate is read, and which fault.
     ensures exact { CertificateGives result (certificate_of text.now) }
-    // What is read is spelled so, and assembled of what the text says.
+    // What is read is spelled this way, and put together from what the text says.
     ensures found { IfOk result (λ certificate. (said : Said) × IsCertificateWithin said
         × (text.now ≡ certificate_spelling said) × Makes said (Ok certificate)) }
     // What is read can be written.
     ensures within { IfOk result (λ certificate. IsCertificateWithin (said_by 2 certificate)) }
-    // What is spelled so is read and assembled.
+    // What is spelled this way is read and put together.
     ensures only { (said : Said) → IsCertificateWithin said → text.now ≡ certificate_spelling said
         → CertificateGives result (Ok said) }
     // A spelling that is cut short ends at its last line.

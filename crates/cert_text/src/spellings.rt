@@ -1,4 +1,4 @@
-//! Lemmas and certificates are written.
+//! Writes lemmas and certificates.
 
 ghost use Rattle.std.specs.Prelude.{◌≡◌, ◌<◌, ◌≤◌, ◌^◌, ◌++◌, ◌∷◌, [], ℕ, Ok, length, map, decimal, IfOk, OnOk};
 ghost use Rattle.std.specs.List.{AllByRecursion};
@@ -22,7 +22,7 @@ use match_puzzle::Pair;
 use std::alloc::{AllocError, Global};
 use text_words::{character, put_end, put_number, put_number_line, put_placement};
 
-// The number behind these bytes.
+// Writes these bytes, and the number after them.
 fn put_behind(text: &mut Vec<u8>, bytes: &[u8], number: u32) -> Result<(), AllocError>
     ensures { OnOk result (text.new.items ≡ text.old.items ++ (bytes.now ++ decimal number)) }
 {
@@ -30,7 +30,7 @@ fn put_behind(text: &mut Vec<u8>, bytes: &[u8], number: u32) -> Result<(), Alloc
     put_number(text, u64::from(number))
 }
 
-// A head, each word behind a space.
+// Writes a head, each word after a space.
 #[tactic(auto, unfolding(text_words::specs::Spelling::spaced))]
 fn put_head(text: &mut Vec<u8>, head: Head) -> Result<(), AllocError>
     ensures { OnOk result (text.new.items ≡ text.old.items ++ spaced (head_words head)) }
@@ -55,7 +55,7 @@ fn put_head(text: &mut Vec<u8>, head: Head) -> Result<(), AllocError>
     }
 }
 
-// A tree's words are those of its heads.
+// Writes a tree: its words are those of its heads.
 #[tactic(auto, unfolding(text_words::specs::Spelling::spaced))]
 fn put_heads(text: &mut Vec<u8>, heads: &[Head]) -> Result<(), AllocError>
     ensures { OnOk result (text.new.items ≡ text.old.items ++ spaced (flat_map head_words heads.now)) }
@@ -66,7 +66,7 @@ fn put_heads(text: &mut Vec<u8>, heads: &[Head]) -> Result<(), AllocError>
     Ok(())
 }
 
-/// Adds a space and the pair, as it stands in a prefix.
+/// Writes a space and the pair, as in a prefix. An error comes where memory is refused.
 pub fn put_pair(text: &mut Vec<u8>, pair: Pair) -> Result<(), AllocError>
     ensures { OnOk result (text.new.items ≡ text.old.items ++ (32 ∷ pair_word pair)) }
 {
@@ -161,7 +161,7 @@ fn put_symmetries(text: &mut Vec<u8>, lines: &[SymmetryLine]) -> Result<(), Allo
     Ok(())
 }
 
-/// How many symmetries there are, and the line of each, as a certificate has them.
+/// Writes how many symmetries there are, and a line for each, as a certificate has them.
 pub fn write_symmetries(alloc: Global, lines: &[SymmetryLine]) -> Result<Vec<u8>, AllocError>
     requires few { length lines.now < 2 ^ 32 }
     requires colours { AllByRecursion (λ line. AreColourImagesWithin line.colours) lines.now }
@@ -173,7 +173,7 @@ pub fn write_symmetries(alloc: Global, lines: &[SymmetryLine]) -> Result<Vec<u8>
     Ok(text)
 }
 
-/// The text of the lemma, one line, which reads back as an equal lemma.
+/// Writes the text of the lemma: one line, which reads back as an equal lemma.
 pub fn write_lemma(alloc: Global, lemma: &Lemma) -> Result<Vec<u8>, AllocError>
     requires { IsLemmaWithin MOST_CELLS (piece_of lemma.now) }
     ensures spelling { IfOk result (λ text. text.items ≡ lemma_spelling (piece_of lemma.now)) }
@@ -185,7 +185,7 @@ pub fn write_lemma(alloc: Global, lemma: &Lemma) -> Result<Vec<u8>, AllocError>
     Ok(text)
 }
 
-/// What stands before the lemma lines of the certificate in this version.
+/// Writes what comes before the lemma lines of the certificate in this version.
 pub fn certificate_front(
     alloc: Global,
     version: u8,
@@ -203,7 +203,7 @@ pub fn certificate_front(
     Ok(text)
 }
 
-// The text of the certificate in this version.
+// Writes the text of the certificate in this version.
 fn certificate_text(
     alloc: Global,
     version: u8,
@@ -220,7 +220,8 @@ fn certificate_text(
     Ok(text)
 }
 
-/// The text of the certificate, its lemmas by number: in version 1 where that spells it, and else in version 2.
+/// Writes the text of the certificate, its lemmas by number: in version 1 where that can spell it, otherwise in version
+/// 2.
 pub fn write_certificate(alloc: Global, certificate: &Certificate) -> Result<Vec<u8>, AllocError>
     requires { IsCertificateWithin (said_by 2 certificate.now) }
     ensures first { IsCertificateWithin (said_by 1 certificate.now)
@@ -235,7 +236,7 @@ pub fn write_certificate(alloc: Global, certificate: &Certificate) -> Result<Vec
     certificate_text(alloc, first_version(certificate), certificate)
 }
 
-/// The lines of the certificate's lemmas from this number up to the other, which is left out.
+/// Writes the lines of the certificate's lemmas from number `first` to before `last`.
 pub fn write_lemma_lines(
     alloc: Global,
     lemmas: &Lemmas,

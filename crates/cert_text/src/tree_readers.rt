@@ -1,4 +1,4 @@
-//! Trees are read, node by node in preorder.
+//! Reads trees, node by node in preorder (each node before its children).
 
 ghost use Rattle.std.specs.Prelude.{◌≡◌, ◌+◌, ◌<◌, ◌≤◌, ◌^◌, ◌++◌, Err, OnOk, length, drop};
 ghost use Rattle.match_limits.specs.declared.ranges.Ranges.{Ranges as RangesOf};
@@ -25,7 +25,7 @@ enum NodeKind {
     Image,
 }
 
-// How the letters are told.
+// How a message names the letters.
 const NODE: Asked = Asked::OneOf("a node: c, t, d, e, f, s, or i");
 
 fn node_kind_word(word: &[u8]) -> Result<NodeKind, TextKind>
@@ -47,7 +47,7 @@ fn node_kind_word(word: &[u8]) -> Result<NodeKind, TextKind>
 fn node_kind(scan: &mut Scan) -> Result<NodeKind, TextFault>
     ensures { Gives (λ kind. kind) result scan.new (word_by node_kind_in scan.old) }
 {
-    // Looked at where it stands: in a `Result` beside a fault a word would pass through memory.
+    // The word is looked at where it is: in a `Result` beside a fault it would pass through memory.
     let Some(word) = scan.peek() else {
         scan.miss(NODE);
         return Err(scan.fault(TextKind::Word));
@@ -55,7 +55,7 @@ fn node_kind(scan: &mut Scan) -> Result<NodeKind, TextFault>
     scan.accept(NODE, node_kind_word(word))
 }
 
-// What is wrong where a node would begin below the last level.
+// The fault where a node would begin below the last level.
 #[tactic(auto, unfolding(crate::specs::TreeText::tree_by))]
 fn below_last(scan: &mut Scan) -> TextFault
     ensures { (ranges : RangesOf) → tree_by ranges 0 scan.old ≡ Err result }
@@ -82,7 +82,7 @@ fn most_number(ranges: &Ranges, kind: NodeKind) -> u32
     }
 }
 
-// The rest of a head of this kind behind its first number.
+// Reads the rest of a head of this kind, after its first number.
 #[tactic(auto, unfolding(crate::specs::HeadReading::rest_by))]
 fn rest(scan: &mut Scan, ranges: &Ranges, kind: NodeKind, number: u32) -> Result<Head, TextFault>
     requires ranges { AreRanges ranges.now }
@@ -112,7 +112,7 @@ fn rest(scan: &mut Scan, ranges: &Ranges, kind: NodeKind, number: u32) -> Result
     }
 }
 
-// The words of a node without its children.
+// Reads the words of a node without its children.
 #[tactic(auto, unfolding(crate::specs::HeadReading::head_by))]
 fn head(scan: &mut Scan, ranges: &Ranges) -> Result<Head, TextFault>
     requires { AreRanges ranges.now }
@@ -123,7 +123,7 @@ fn head(scan: &mut Scan, ranges: &Ranges) -> Result<Head, TextFault>
     rest(scan, ranges, kind, number)
 }
 
-// The heads of a tree of up to so many levels go behind these.
+// Reads a tree of up to `room` levels, and appends its heads.
 #[cycle(trees)]
 fn node(scan: &mut Scan, ranges: &Ranges, heads: &mut Vec<Head>, room: u16) -> Result<(), ReadFault>
     requires { AreRanges ranges.now }
@@ -137,7 +137,7 @@ fn node(scan: &mut Scan, ranges: &Ranges, heads: &mut Vec<Head>, room: u16) -> R
     nodes(scan, ranges, heads, room - 1, head.children())
 }
 
-// The same of so many trees, the children of a node.
+// Reads `count` trees of up to `room` levels, the children of a node, and appends their heads.
 #[cycle(trees)]
 fn nodes(
     scan: &mut Scan,
@@ -156,8 +156,8 @@ fn nodes(
     Ok(())
 }
 
-/// A tree of up to as many levels as these ranges have, by a recursion that is no deeper than that. Its heads go behind
-/// these.
+/// Reads a tree with at most as many levels as these ranges allow, and appends its heads. The recursion is no deeper
+/// than that.
 pub fn tree(scan: &mut Scan, ranges: &Ranges, heads: &mut Vec<Head>) -> Result<(), ReadFault>
     requires { AreRanges ranges.now }
     ensures reads { Reads (λ _. first (trees_in (drop (length heads.old.items) heads.new.items))) result scan.new

@@ -1,4 +1,4 @@
-//! Certificates are assembled of numbered pieces.
+//! Puts certificates together from numbered pieces.
 
 ghost use Rattle.std.specs.Prelude.{◌≡◌, ◌≤◌, ◌<◌, ◌^◌, Ok, Err, All, IfOk, IfErr, IsErrOf, length, map};
 ghost use Rattle.numbered_pieces.specs.Assembly.{Assembles, HaveNoStranger, IsOneInAnyOrder};
@@ -38,10 +38,12 @@ impl<'a> Numbered for FlatLemma<'a> {
     }
 }
 
-/// The same as [`assemble`], of pieces that lie flat: their pairs and heads stay where they lie.
+/// Makes a certificate of these symmetries and of lemmas that lie flat: lemma i is the only piece with number i. Their
+/// pairs and heads are not copied.
 ///
-/// An `Err` is the first fault in the order of [`AssembleFault`], with its least number; `Memory` only where memory is
-/// refused. On an `Err` all are dropped.
+/// The order of the pieces doesn't matter. An `Err` is the first fault in the order of [`AssembleFault`], with its
+/// least number: `Stranger`, `Double`, `Missing`; `Memory` comes only where memory is refused. On an `Err` all are
+/// dropped.
 pub fn assemble_flat(
     alloc: Global,
     count: u32,
@@ -61,15 +63,15 @@ pub fn assemble_flat(
     Ok(Certificate::of(symmetries, lemmas))
 }
 
-/// The certificate of these symmetries, whose lemma i is the only piece with number i.
+/// Makes a certificate of these symmetries and lemmas: lemma i is the only piece with number i.
 ///
-/// An `Err` is the first fault in the order of [`AssembleFault`], with its least number: `Stranger`, `Double`,
-/// `Missing`; `Memory` only where memory is refused, and then no number is at or past the count. The order of the
-/// pieces doesn't matter. On an `Err` all are dropped.
+/// The order of the pieces doesn't matter. An `Err` is the first fault in the order of [`AssembleFault`], with its
+/// least number: `Stranger`, `Double`, `Missing`; `Memory` comes only where memory is refused, and then every number is
+/// below `count`. On an `Err` all are dropped.
 ///
-/// The trees, which may be of any depth, are laid out flat without recursion, into 8 bytes a node beside the pieces; what
-/// is left of a tree meanwhile takes 32 bytes a level. The rest takes a step for each piece and each number below the
-/// count.
+/// The trees may be of any depth. They are laid out flat, without recursion, into 8 bytes for each node beside the
+/// pieces; while this goes on, what is left of a tree takes 32 bytes for each level. The rest takes a step for each
+/// piece and for each number below `count`.
 pub fn assemble(
     alloc: Global,
     count: u32,
@@ -95,8 +97,8 @@ pub fn assemble(
     assemble_flat(alloc, count, symmetries, flat)
 }
 
-/// A law: the same lemmas, in whatever order they come, make the same certificate, or have the same first fault. The
-/// call does nothing.
+/// A law; the call does nothing. Whatever order lemmas come in, they make the same certificate or have the same first
+/// fault.
 pub fn assembly_laws()
     ensures pieces { IsOneInAnyOrder piece_number }
 {}

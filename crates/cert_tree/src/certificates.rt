@@ -1,4 +1,4 @@
-//! Lemmas, and certificates that are made of them.
+//! Lemmas (numbered claims, each with a tree of cases that shows it), and certificates, which are made of them.
 
 use crate::flat_lemmas::Lemmas;
 use crate::nodes::Node;
@@ -6,7 +6,7 @@ use match_board::SymmetryLine;
 use match_puzzle::Pair;
 use std::marker::Model;
 
-/// Pairs of cells and placements, in order. Nothing is promised of them.
+/// Pairs of a cell and a placement, in order. They may be any pairs.
 #[derive(Drop)]
 pub struct Pairs {
     pairs: Vec<Pair>,
@@ -24,14 +24,14 @@ impl Model for Pairs {
 impl Pairs {
     ghost use Rattle.std.specs.Prelude.{◌≡◌};
 
-    /// These pairs, in order.
+    /// Keeps these pairs, in order.
     pub fn new(pairs: Vec<Pair>) -> Pairs
         ensures { result ≡ pairs.items }
     {
         Pairs { pairs }
     }
 
-    /// The pairs.
+    /// Returns the pairs, in order.
     pub fn as_slice(&self) -> &[Pair]
         ensures { result.now ≡ self.now }
     {
@@ -39,23 +39,24 @@ impl Pairs {
     }
 }
 
-/// A claim that each arrangement which extends the prefix is listed, or has an image that is, and a tree that shows it.
+/// A claim, and a tree of cases that shows it: each arrangement that extends the prefix (pairs of a cell and a
+/// placement) is listed, or has an image under a symmetry that is listed.
 ///
-/// The nodes own their children, so that a tree can be built from its leaves or from its root. A certificate keeps its
-/// lemmas as [`Lemmas`].
+/// The nodes of the tree own their children, so it can be built from its leaves or from its root. A certificate keeps
+/// its lemmas in another form, as [`Lemmas`].
 #[derive(Drop)]
 pub struct Lemma {
-    /// Which lemma of its certificate it is, from 0.
+    /// The number of the lemma in its certificate, from 0.
     pub number: u32,
-    /// What is placed where the tree begins.
+    /// The pairs that are placed where the tree begins.
     pub prefix: Pairs,
     pub tree: Node,
 }
 
-/// Symmetries by number, from 0, and lemmas by number, from 0; the last lemma is the root, which is to show that the
-/// list is complete.
+/// Symmetries and lemmas, both numbered from 0. The last lemma is the root: it is to show that the list of arrangements
+/// is complete.
 ///
-/// There are at most 1,000,000 lemmas, and fewer than 2^32 symmetries and pairs of a prefix.
+/// There are at most 1,000,000 lemmas, and fewer than 2^32 symmetries. A prefix has fewer than 2^32 pairs.
 #[derive(Drop)]
 pub struct Certificate {
     symmetries: Vec<SymmetryLine>,
@@ -81,7 +82,7 @@ impl Certificate {
     ghost use Rattle.std.specs.Prelude.{◌≡◌};
     ghost use Rattle.cert_tree.specs.Certificate.{IsNumbered};
 
-    /// The certificate of these symmetries and lemmas, each in the order of its numbers.
+    /// Makes a certificate of these symmetries and lemmas, each in the order of their numbers.
     pub fn of(symmetries: Vec<SymmetryLine>, lemmas: Lemmas) -> Certificate
         requires { IsNumbered (record { symmetries = symmetries.items; lemmas = lemmas }) }
         ensures { result ≡ record { symmetries = symmetries.items; lemmas = lemmas } }
@@ -89,7 +90,7 @@ impl Certificate {
         Certificate { symmetries, lemmas }
     }
 
-    /// The symmetries, by number.
+    /// Returns the symmetries, in the order of their numbers.
     pub fn symmetries(&self) -> &[SymmetryLine]
         ensures symmetries { result.now ≡ self.now.symmetries }
         ensures numbered { IsNumbered self.now }
@@ -97,7 +98,7 @@ impl Certificate {
         &self.symmetries
     }
 
-    /// The lemmas, by number.
+    /// Returns the lemmas, in the order of their numbers.
     pub fn lemmas(&self) -> &Lemmas
         ensures lemmas { result.now ≡ self.now.lemmas }
         ensures numbered { IsNumbered self.now }

@@ -1,4 +1,5 @@
-//! Lemmas in their two forms: of nodes that own their children, and flat.
+//! Converts lemmas between their two forms: nodes that own their children, and heads (nodes without their children)
+//! that lie flat.
 
 ghost use Rattle.std.specs.Prelude.{◌≡◌, ◌≢◌, ◌<◌, ◌≤◌, ◌^◌, ◌++◌, ◌∷◌, [], All, IfOk, OnOk, length, map, drop};
 ghost use Rattle.cert_tree.specs.Tree.{count, none, tree_of, forest_of, IsNarrow, AreNarrow};
@@ -15,7 +16,7 @@ use match_puzzle::{Item, Pair};
 use std::alloc::{AllocError, Global};
 use std::slice::from_ref;
 
-// The head of a branch, and its children.
+// Returns the head of a branch, and its children.
 fn branch_and_children(item: Item, children: &Children) -> (Head, &[Node])
     requires { length children.now.nodes.items < 2 ^ 32 }
     ensures head { result.0 ≡ branch_head item (length children.now.nodes.items) }
@@ -25,7 +26,7 @@ fn branch_and_children(item: Item, children: &Children) -> (Head, &[Node])
     (Head::branch(item, nodes.len() as u32), nodes)
 }
 
-// The head of a node, and its children.
+// Returns the head of a node, and its children.
 #[tactic(auto, using(crate::proofs::TreeLemmas::tree_laws))]
 fn head_and_children(node: &Node) -> (Head, &[Node])
     requires { IsNarrow (tree_of node.now) }
@@ -49,7 +50,7 @@ fn head_and_children(node: &Node) -> (Head, &[Node])
     }
 }
 
-// The heads of the node's tree go behind these, in preorder: by a loop, since a caller's tree may be of any depth.
+// Appends the heads of the node's tree, in preorder: by a loop, since a caller's tree may be of any depth.
 pub(crate) fn put_node(heads: &mut Vec<Head>, node: &Node) -> Result<(), AllocError>
     requires { IsNarrow (tree_of node.now) }
     ensures { OnOk result (heads.new.items ≡ heads.old.items ++ heads_of (tree_of node.now)) }
@@ -69,7 +70,7 @@ pub(crate) fn put_node(heads: &mut Vec<Head>, node: &Node) -> Result<(), AllocEr
     Ok(())
 }
 
-// The pairs and heads of the lemma go behind these. Where it lies there.
+// Appends the lemma's pairs and heads, and returns where the lemma lies among them.
 fn put_flat(
     pairs: &mut Vec<Pair>,
     heads: &mut Vec<Head>,
@@ -88,7 +89,7 @@ fn put_flat(
     Ok(LemmaSpan::of_last(lemma.number, pairs, pairs_start, heads, heads_start))
 }
 
-/// Equal lemmas, laid out flat, in order.
+/// Lays out equal lemmas flat, in order.
 pub(crate) fn flat_lemmas(alloc: Global, lemmas: &[Lemma]) -> Result<Lemmas, AllocError>
     requires { All (λ lemma. IsNarrow (tree_of lemma.tree)) lemmas.now }
     ensures { IfOk result (λ flat. flat ≡ map piece_of lemmas.now) }
@@ -103,7 +104,7 @@ pub(crate) fn flat_lemmas(alloc: Global, lemmas: &[Lemma]) -> Result<Lemmas, All
     Lemmas::of(pairs, heads, spans)
 }
 
-// The first tree as a node, and the walk goes past it.
+// Builds the first tree as a node, and moves the walk past it.
 #[cycle(building)]
 #[tactic(auto, using(crate::proofs::TreeLemmas::tree_laws))]
 pub(crate) fn first_node(alloc: Global, trees: &mut Trees<'_>) -> Result<Node, AllocError>
@@ -128,7 +129,7 @@ pub(crate) fn first_node(alloc: Global, trees: &mut Trees<'_>) -> Result<Node, A
     }
 }
 
-// The first so many trees as the children of a branch, and the walk goes past them.
+// Builds the first `children` trees as the children of a branch, and moves the walk past them.
 #[cycle(building)]
 fn first_children(
     alloc: Global,
@@ -153,8 +154,8 @@ impl<'a> FlatLemma<'a> {
     ghost use Rattle.cert_tree.specs.Limits.{HasLevels};
     ghost use Rattle.match_limits.specs.declared.TheConstants.{MOST_LEVELS};
 
-    /// An equal lemma of nodes that own their children. It is made by a recursion that is as deep as the tree, so this
-    /// has to have no more levels than a lemma's text may have.
+    /// Makes an equal lemma of nodes that own their children. A recursion as deep as the tree makes it, so the tree
+    /// must have no more levels than the text of a lemma may have.
     pub fn to_lemma(&self, alloc: Global) -> Result<Lemma, AllocError>
         requires { HasLevels MOST_LEVELS (flat_piece self.now).tree }
         ensures { IfOk result (λ lemma. piece_of lemma ≡ flat_piece self.now) }

@@ -1,4 +1,4 @@
-//! Lemmas are copied.
+//! Copies lemmas.
 
 ghost use Rattle.std.specs.Prelude.{◌≡◌, IfOk};
 ghost use Rattle.cert_tree.specs.Certificate.{piece_of};
@@ -11,7 +11,7 @@ use std::alloc::{AllocError, Global};
 use std::slice::from_ref;
 
 impl Lemma {
-    /// An equal lemma, by a recursion that is as deep as the tree.
+    /// Makes an equal lemma. The recursion is as deep as the tree.
     pub fn copy(&self, alloc: Global) -> Result<Lemma, AllocError>
         requires { IsLemmaWithin MOST_CELLS (piece_of self.now) }
         ensures { IfOk result (λ copy. piece_of copy ≡ piece_of self.now) }

@@ -1,4 +1,4 @@
-//! Lemmas that lie in a few pieces of memory.
+//! Lemmas that share a few pieces of memory.
 
 ghost use Rattle.std.specs.Prelude.{◌≡◌, ◌++◌, All, OnOk, map};
 ghost use Rattle.cert_tree.specs.Spans.{CanMove, moved_by};
@@ -9,7 +9,7 @@ use match_puzzle::Pair;
 use std::alloc::{AllocError, Global};
 use std::marker::Model;
 
-/// Pairs and heads among which lemmas lie, each in one piece of memory.
+/// The pairs and the heads of several lemmas, each in one piece of memory.
 #[derive(Drop)]
 pub(crate) struct Block {
     pub(crate) pairs: Vec<Pair>,
@@ -27,21 +27,22 @@ pub struct LemmaSpan {
     pub(crate) heads_end: usize,
 }
 
-/// A lemma of a certificate: its pairs and the heads of its tree lie among those of the other lemmas.
+/// A lemma of a certificate, borrowed: its pairs and the heads of its tree (its nodes without their children) lie among
+/// those of the other lemmas.
 #[derive(Drop)]
 pub struct FlatLemma<'a> {
-    /// Which lemma of its certificate it is, from 0.
+    /// The number of the lemma in its certificate, from 0.
     pub number: u32,
-    /// What is placed where the tree begins.
+    /// The pairs that are placed where the tree begins.
     pub prefix: &'a [Pair],
     pub tree: FlatTree<'a>,
 }
 
-/// The lemmas of a certificate, by number.
+/// The lemmas of a certificate, in the order of their numbers.
 ///
-/// The pairs of all prefixes lie in one piece of memory, and the heads of all trees in another, so that a lemma asks
-/// for none of its own: it takes 48 bytes, 6 for each pair and 8 for each node. Lemmas that were read side by side stay
-/// where they are, in a few such pieces.
+/// The pairs of all prefixes lie in one piece of memory, and the heads of all trees in another, so no lemma needs
+/// memory of its own: it takes 48 bytes, and 6 for each pair and 8 for each node. Lemmas that were read side by side
+/// stay where they are, in a few such pieces.
 #[derive(Drop)]
 pub struct Lemmas {
     blocks: Vec<Block>,
@@ -71,14 +72,14 @@ impl Lemmas {
     ghost use Rattle.cert_tree.specs.Certificate.{flat_piece};
     ghost use Rattle.cert_tree.specs.Spans.{piece_at, piece_in, ArePlaced, AreSpans};
 
-    /// No lemmas.
+    /// Returns an empty list of lemmas.
     pub fn none(alloc: Global) -> Lemmas
         ensures { result ≡ [] }
     {
         Lemmas::of_blocks(Vec::new(alloc), Vec::new(alloc))
     }
 
-    /// The lemmas that lie there, in order.
+    /// Takes the lemmas that lie at these spans of the pairs and heads, in order.
     pub fn of(
         pairs: Vec<Pair>,
         heads: Vec<Head>,
@@ -92,7 +93,7 @@ impl Lemmas {
         Ok(Lemmas::of_blocks(blocks, spans))
     }
 
-    // The lemmas that lie there.
+    // The lemmas at these spans of the blocks.
     pub(crate) fn of_blocks(blocks: Vec<Block>, spans: Vec<LemmaSpan>) -> Lemmas
         requires { ArePlaced blocks.items spans.items }
         ensures { result ≡ map (piece_at blocks.items) spans.items }
@@ -100,7 +101,7 @@ impl Lemmas {
         Lemmas { blocks, spans }
     }
 
-    // Their pairs and heads, and where each of them lies.
+    // Takes the lemmas apart: their blocks of pairs and heads, and where each lemma lies in them.
     pub(crate) fn apart(self) -> (Vec<Block>, Vec<LemmaSpan>)
         ensures spans { ArePlaced result.0.items result.1.items }
         ensures lemmas { self ≡ map (piece_at result.0.items) result.1.items }
@@ -108,7 +109,7 @@ impl Lemmas {
         (self.blocks, self.spans)
     }
 
-    /// These lemmas, and then those. Pairs and heads stay where they lie.
+    /// Returns these lemmas, followed by the others. Pairs and heads stay where they lie.
     pub fn with(self, others: Lemmas) -> Result<Lemmas, AllocError>
         ensures { IfOk result (λ all. all ≡ self ++ others) }
     {
@@ -120,14 +121,14 @@ impl Lemmas {
         Ok(Lemmas::of_blocks(blocks, spans))
     }
 
-    /// How many there are.
+    /// Returns how many lemmas there are.
     pub fn len(&self) -> usize
         ensures { result ≡ length self.now }
     {
         self.spans.len()
     }
 
-    /// The lemma with this number.
+    /// Returns the lemma at this place of the list, from 0.
     pub fn at(&self, number: usize) -> FlatLemma<'_>
         requires { number < length self.now }
         ensures { slice_get self.now number ≡ Some (flat_piece result) }
@@ -143,7 +144,7 @@ impl<'a> FlatLemma<'a> {
     ghost use Rattle.cert_tree.specs.Certificate.{flat_piece};
     ghost use Rattle.cert_tree.specs.Spans.{piece_in, LiesIn};
 
-    /// The lemma that lies there.
+    /// Returns the lemma that lies at this span of the pairs and heads.
     pub fn of(pairs: &'a [Pair], heads: &'a [Head], span: LemmaSpan) -> FlatLemma<'a>
         requires { LiesIn pairs.now heads.now span }
         ensures { flat_piece result ≡ piece_in pairs.now heads.now span }
@@ -161,7 +162,7 @@ impl LemmaSpan {
     ghost use Rattle.cert_tree.specs.Heads.{trees_in, first, AreOfTree};
     ghost use Rattle.cert_tree.specs.Spans.{CanMove, moved_by, piece_in, IsSpan};
 
-    /// Where a lemma lies whose pairs and heads are those from these places on.
+    /// Returns the span of a lemma that has all pairs from `pairs_start` on, and all heads from `heads_start` on.
     pub fn of_last(
         number: u32,
         pairs: &[Pair],
@@ -189,7 +190,7 @@ impl LemmaSpan {
         }
     }
 
-    // The same, so many blocks further on.
+    // This span, moved on by `blocks` blocks.
     fn moved(self, blocks: usize) -> LemmaSpan
         requires { CanMove blocks self }
         ensures { result ≡ moved_by blocks self }
@@ -205,7 +206,7 @@ impl LemmaSpan {
     }
 }
 
-// Behind these the others, each so many blocks further on.
+// Appends the other spans, each moved on by `blocks` blocks.
 fn put_moved(
     spans: &mut Vec<LemmaSpan>,
     others: &[LemmaSpan],

@@ -1,11 +1,12 @@
-//! Trees whose nodes lie one after the other in memory, in preorder.
+//! Trees whose nodes lie one after the other in memory, in preorder: each node before its children.
 
 ghost use Rattle.std.specs.Prelude.{◌≡◌, ◌≢◌};
 
 use crate::heads::Head;
 use std::marker::Model;
 
-/// A tree as the heads of its nodes in preorder, each node before its children, in one piece of memory: 8 bytes a node.
+/// A tree, borrowed as the heads of its nodes (nodes without their children). They lie in preorder, each node before
+/// its children, in one piece of memory, and take 8 bytes each.
 #[derive(Drop)]
 pub struct FlatTree<'a> {
     heads: &'a [Head],
@@ -27,10 +28,10 @@ impl<'a> Model for FlatTree<'a> {
     ghost invariant = { λ t. AreOfTree t.heads.now };
 }
 
-/// The trees that are left of a walk in preorder.
+/// The trees that a walk in preorder has still to visit.
 ///
-/// Going past a node leaves its children as the first trees. What is left is a slice of the heads, so that a walk takes
-/// no memory.
+/// When the walk passes a node, the node's children become the first of these trees. They are a slice of the heads, so
+/// a walk takes no memory.
 #[derive(Drop)]
 pub struct Trees<'a> {
     heads: &'a [Head],
@@ -65,21 +66,21 @@ impl<'a> FlatTree<'a> {
         FlatTree { heads }
     }
 
-    /// The heads of its nodes, in preorder.
+    /// Returns the heads of the nodes, in preorder.
     pub fn heads(&self) -> &'a [Head]
         ensures { result.now ≡ heads_of self.now }
     {
         self.heads
     }
 
-    /// How many nodes it has, each of which has a head.
+    /// Returns how many nodes the tree has. Each has one head.
     pub fn nodes(&self) -> usize
         ensures { result ≡ length (heads_of self.now) }
     {
         self.heads().len()
     }
 
-    /// The tree alone, to be walked in preorder.
+    /// Begins a walk in preorder over this tree alone.
     pub fn trees(&self) -> Trees<'a>
         ensures { result ≡ more self.now none }
     {
@@ -100,14 +101,14 @@ impl<'a> Trees<'a> {
         Trees { heads }
     }
 
-    /// The same trees, to be walked apart from these. It takes no memory.
+    /// Returns the same trees, for a walk of its own. It takes no memory.
     pub fn copy(&self) -> Trees<'a>
         ensures { result ≡ self.now }
     {
         Trees { heads: self.heads }
     }
 
-    /// Goes past the first node, whose children are then the first trees, and gives its head.
+    /// Passes the first node and returns its head. Its children are then the first trees. There has to be a tree.
     pub fn next(&mut self) -> Head
         requires { self.old ≢ none }
         ensures first { put result self.new ≡ self.old }
@@ -121,7 +122,7 @@ impl<'a> Trees<'a> {
         *head
     }
 
-    /// Goes past the first tree, in a step for each of its nodes.
+    /// Passes the first tree, in a step for each of its nodes. There has to be a tree.
     pub fn skip(&mut self)
         requires { self.old ≢ none }
         ensures { self.new ≡ past 1 self.old }

@@ -1,29 +1,34 @@
-//! Nodes without their children.
+//! Heads: nodes without their children.
 
 use match_puzzle::Item;
 
-/// A node without its children, of which a branch says how many there are.
+/// A node without its children. The head of a branch says how many there are.
 ///
-/// In preorder the children of a node follow it, one after the other, each with all that is below it; so heads alone,
-/// in this order, say which trees they are of. Nothing is promised of the numbers; those that were read from a text are
-/// within the ranges of its version for cells, tiles and children, of which a branch has at least one, below 1,000,000
-/// for arrangements and lemmas, and below 1,024 for symmetries. A head takes 8 bytes.
+/// In preorder the children of a node follow it, one after the other, each with everything below it. So heads in this
+/// order say, without anything else, which trees they belong to. A head takes 8 bytes.
+///
+/// The numbers may be any. Those that were read from a text are in these ranges:
+///
+/// - cells and tiles: within the range of the text's version
+/// - children of a branch: at least one, within the range of the text's version
+/// - arrangements and lemmas: below 1,000,000
+/// - symmetries: below 1,024
 #[derive(Clone, Copy, PartialEq, Eq)]
 pub enum Head {
-    /// A branch on the cell, with so many children.
+    /// A branch on the cell, with this number of children.
     Cell { cell: u16, children: u32 },
-    /// A branch on the tile, with so many children.
+    /// A branch on the tile, with this number of children.
     Tile { tile: u16, children: u32 },
-    /// Nothing fits at the cell.
+    /// Nothing fits at this cell.
     DeadCell(u16),
-    /// The tile fits nowhere.
+    /// This tile fits nowhere.
     DeadTile(u16),
-    /// What is placed is the listed arrangement with this number.
+    /// The placed pairs are the listed arrangement with this number.
     Found(u32),
-    /// The prefix of the lemma with this number is within what is placed.
+    /// The placed pairs include the prefix of the lemma with this number.
     Same(u32),
-    /// The image of that prefix under the symmetry with this number is within what is placed.
-    // Fields lie in memory as they stand here: with the shorter number first a head takes 8 bytes.
+    /// The placed pairs include the image of this lemma's prefix under the symmetry with this number.
+    // Fields lie in memory in the order written here: with the shorter number first a head takes 8 bytes.
     Image { symmetry: u16, lemma: u32 },
 }
 
@@ -33,7 +38,7 @@ impl Head {
     ghost use Rattle.std.specs.Prelude.{◌≡◌};
     ghost use Rattle.cert_tree.specs.Heads.{arity, branch_head, dead_head};
 
-    /// A branch on the item, with so many children.
+    /// Returns a branch on the item (a cell or a tile), with this number of children.
     pub fn branch(item: Item, children: u32) -> Head
         ensures { result ≡ branch_head item children }
     {
@@ -43,7 +48,7 @@ impl Head {
         }
     }
 
-    /// A dead end at the item.
+    /// Returns a dead end at the item: the cell where nothing fits, or the tile that fits nowhere.
     pub fn dead(item: Item) -> Head
         ensures { result ≡ dead_head item }
     {
@@ -53,7 +58,7 @@ impl Head {
         }
     }
 
-    /// How many children the node has.
+    /// Returns how many children the node has.
     pub fn children(self) -> u32
         ensures { result ≡ arity self }
     {

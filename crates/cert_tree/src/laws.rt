@@ -1,11 +1,12 @@
-//! Laws of trees and their heads: nothing is done here, and the contract says what holds.
+//! Laws of trees and their heads. The function does nothing: its contract says what holds.
 
 ghost use Rattle.cert_tree.specs.HeadLaws.{HaveOneReading, AreReadBack, AreOfTheirTrees};
 
-/// The laws of trees and their heads; it does nothing.
+/// The laws of trees and their heads (nodes without their children, in preorder); the call does nothing.
 ///
-/// No tree's heads begin another's, whatever follows; trees are read back from their heads; and heads that each have
-/// their children after them are those of the trees that are read.
+/// - The heads of one tree are never the beginning of those of another, whatever follows them.
+/// - A tree is read back from its heads.
+/// - Heads that are each followed by their children are the heads of the trees that are read from them.
 pub fn head_laws()
     ensures one_reading { HaveOneReading }
     ensures back { AreReadBack }

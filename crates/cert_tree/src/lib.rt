@@ -1,4 +1,5 @@
-//! Certificates: numbered lemmas with their trees, and how they are assembled.
+//! Certificates, which prove that a list of arrangements of a puzzle is complete: numbered claims (lemmas), each with a
+//! tree of cases that shows it, and how they are put together from pieces.
 #![tactic(auto)]
 
 mod assemblies;

@@ -1,22 +1,22 @@
 //! Trees whose nodes own their children.
 
-/// A case distinction that covers all arrangements which extend what is placed.
+/// A node of a tree of cases, which covers all arrangements that extend the placed pairs.
 #[cycle(tree)]
 #[derive(Drop)]
 pub enum Node {
-    /// A child for each placement that fits at the cell, by tile, then turn.
+    /// A branch on the cell: a child for each placement that fits there, in the order of tiles, then turns.
     Cell { cell: u16, children: Children },
-    /// A child for each cell and turn at which the tile fits, by cell, then turn.
+    /// A branch on the tile: a child for each cell and turn at which it fits, in the order of cells, then turns.
     Tile { tile: u16, children: Children },
-    /// Nothing fits at the cell.
+    /// Nothing fits at this cell.
     DeadCell(u16),
-    /// The tile fits nowhere.
+    /// This tile fits nowhere.
     DeadTile(u16),
-    /// What is placed is the listed arrangement with this number.
+    /// The placed pairs are the listed arrangement with this number.
     Found(u32),
-    /// The prefix of the lemma with this number is within what is placed.
+    /// The placed pairs include the prefix of the lemma with this number.
     Same(u32),
-    /// The image of that prefix under the symmetry with this number is within what is placed.
+    /// The placed pairs include the image of this lemma's prefix under the symmetry with this number.
     Image { lemma: u32, symmetry: u16 },
 }
 
@@ -30,14 +30,14 @@ pub struct Children {
 impl Children {
     ghost use Rattle.std.specs.Prelude.{◌≡◌};
 
-    /// These nodes, in order.
+    /// Keeps these nodes, in order.
     pub fn new(nodes: Vec<Node>) -> Children
         ensures { result.nodes.items ≡ nodes.items }
     {
         Children { nodes }
     }
 
-    /// The children.
+    /// Returns the children, in order.
     pub fn as_slice(&self) -> &[Node]
         ensures { result.now ≡ self.now.nodes.items }
     {

@@ -8,8 +8,8 @@ use match_puzzle::Pair;
 use std::alloc::{AllocError, Global};
 use std::marker::Model;
 
-/// A lemma that lies flat in memory of its own: 6 bytes for each pair and 8 for each node, and at most twice as many
-/// where room was taken for more.
+/// A lemma (a claim with a tree of cases) that lies flat in memory of its own: 6 bytes for each pair and 8 for each
+/// node, and up to twice as many where room was taken for more.
 #[derive(Drop)]
 pub struct PackedLemma {
     number: u32,
@@ -36,7 +36,7 @@ impl PackedLemma {
     ghost use Rattle.cert_tree.specs.Certificate.{flat_piece, piece_of};
     ghost use Rattle.cert_tree.specs.Limits.{IsLemmaWithin};
 
-    /// The lemma with this number, these pairs and this tree.
+    /// Makes the lemma with this number, these pairs and this tree.
     pub fn new(number: u32, pairs: Vec<Pair>, tree: PackedTree) -> PackedLemma
         ensures { result ≡ record { number = number; prefix = pairs.items; tree = tree } }
     {
@@ -47,7 +47,7 @@ impl PackedLemma {
         }
     }
 
-    /// An equal lemma that lies flat, laid out by a loop over the nodes.
+    /// Makes an equal lemma that lies flat, by a loop over the nodes.
     pub fn of(alloc: Global, lemma: &Lemma) -> Result<PackedLemma, AllocError>
         requires { IsLemmaWithin MOST_CELLS (piece_of lemma.now) }
         ensures { IfOk result (λ packed. packed ≡ piece_of lemma.now) }
@@ -58,7 +58,7 @@ impl PackedLemma {
         Ok(PackedLemma::new(lemma.number, pairs, PackedTree::of(heads)))
     }
 
-    /// The lemma as one of a certificate, whose pairs and heads stay where they lie.
+    /// Lends the lemma in the form that a certificate lends its lemmas in. Pairs and heads are not copied.
     pub fn lend(&self) -> FlatLemma<'_>
         ensures { flat_piece result ≡ self.now }
     {

@@ -1,4 +1,4 @@
-//! Trees whose heads lie in memory of their own.
+//! Trees whose heads (nodes without their children) lie in memory of their own.
 
 use crate::conversions::first_node;
 use crate::flat_trees::FlatTree;
@@ -7,8 +7,8 @@ use crate::nodes::Node;
 use std::alloc::{AllocError, Global};
 use std::marker::Model;
 
-/// A tree as the heads of its nodes in preorder, each node before its children, in memory of its own: 8 bytes for each
-/// node, and at most twice as many where room was taken for more.
+/// A tree in memory of its own, as the heads of its nodes in preorder, each node before its children. It takes 8 bytes
+/// for each node, and up to twice as many where room was taken for more.
 #[derive(Drop)]
 pub struct PackedTree {
     heads: Vec<Head>,
@@ -37,7 +37,7 @@ impl PackedTree {
     ghost use Rattle.match_limits.specs.declared.TheConstants.{MOST_LEVELS};
     ghost use Rattle.cert_tree.specs.Tree.{tree_of};
 
-    /// The tree with these heads.
+    /// Makes the tree with these heads.
     pub fn of(heads: Vec<Head>) -> PackedTree
         requires { AreOfTree heads.items }
         ensures { result ≡ first (trees_in heads.items) }
@@ -45,15 +45,15 @@ impl PackedTree {
         PackedTree { heads }
     }
 
-    /// The tree, whose heads stay where they lie.
+    /// Lends the tree. The heads are not copied.
     pub fn lend(&self) -> FlatTree<'_>
         ensures { result ≡ self.now }
     {
         FlatTree::of(&self.heads)
     }
 
-    /// An equal tree of nodes that own their children. It is made by a recursion that is as deep as the tree, so this
-    /// has to have no more levels than a lemma's text may have.
+    /// Makes an equal tree of nodes that own their children. A recursion as deep as the tree makes it, so the tree must
+    /// have no more levels than the text of a lemma may have.
     pub fn to_node(&self, alloc: Global) -> Result<Node, AllocError>
         requires { HasLevels MOST_LEVELS self.now }
         ensures { IfOk result (λ node. tree_of node ≡ self.now) }

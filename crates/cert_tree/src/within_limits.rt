@@ -1,4 +1,4 @@
-//! Which lemmas are within the limits of a board that has at most so many cells.
+//! Whether a lemma is within the limits of boards with up to a given number of cells.
 
 ghost use Rattle.std.specs.Prelude.{◌≡◌, ◌≢◌, ◌≤◌, IsTrue, MatchBool};
 ghost use Rattle.std.specs.List.{AllByRecursion};
@@ -16,7 +16,7 @@ use crate::packed_lemmas::PackedLemma;
 use match_limits::{LAST_ARRANGEMENT, LAST_LEMMA, LAST_SYMMETRY, LAST_TURN, MOST_CELLS, TURNS};
 use match_puzzle::Pair;
 
-// Stops below the last level.
+// Looks no deeper than `room` levels.
 #[cycle(limits)]
 #[tactic(auto, using(crate::proofs::TreeLemmas::tree_laws))]
 fn is_node_within(cells: u16, node: &Node, room: u32) -> bool
@@ -77,7 +77,7 @@ fn are_pairs_within(cells: u16, pairs: &[Pair]) -> bool
     pairs.iter().all(|pair| is_pair_within(cells, pair))
 }
 
-// The same of the first tree, which is then gone past.
+// Whether the first tree is within the limits; if so, the walk has passed it.
 #[cycle(flat_limits)]
 fn is_first_within(cells: u16, trees: &mut Trees<'_>, room: u32) -> bool
     requires { trees.old ≢ none }
@@ -103,7 +103,8 @@ fn is_first_within(cells: u16, trees: &mut Trees<'_>, room: u32) -> bool
     }
 }
 
-// The same of the first so many trees, as the children of a branch.
+// Whether the first `children` trees are within the limits as the children of a branch; if so, the walk has passed
+// them.
 #[cycle(flat_limits)]
 fn are_first_within(cells: u16, trees: &mut Trees<'_>, room: u32, children: u32) -> bool
     requires { children ≤ count trees.old }
@@ -131,10 +132,15 @@ impl Lemma {
     ghost use Rattle.cert_tree.specs.Certificate.{piece_of};
     ghost use Rattle.cert_tree.specs.Limits.{IsLemmaWithin};
 
-    /// Whether the lemma is within the limits of a board that has at most so many cells: numbers of lemmas and of listed
-    /// arrangements are below 1,000,000, numbers of symmetries below 1,024, and turns below 4; cells and tiles are below
-    /// this number, which is also the most pairs; a branch has from 1 to 4 times as many children, and the tree at most
-    /// one level more. It looks no deeper into the tree than that, and takes no memory.
+    /// Whether the lemma is within the limits of boards with at most `cells` cells:
+    ///
+    /// - numbers of lemmas and of listed arrangements are below 1,000,000, numbers of symmetries below 1,024
+    /// - cells and tiles are below `cells`, turns below 4
+    /// - the prefix has at most `cells` pairs
+    /// - a branch has from 1 to 4 times `cells` children
+    /// - the tree has at most `cells` + 1 levels
+    ///
+    /// It looks no deeper into the tree than that, and takes no memory.
     pub fn is_within(&self, cells: u16) -> bool
         ensures { MatchBool result (IsLemmaWithin cells (piece_of self.now))
             (IsLemmaWithin cells (piece_of self.now) → ⊥) }
@@ -152,7 +158,8 @@ impl<'a> FlatLemma<'a> {
     ghost use Rattle.cert_tree.specs.Certificate.{flat_piece};
     ghost use Rattle.cert_tree.specs.Limits.{IsLemmaWithin};
 
-    /// The same as of a [`Lemma`](crate::Lemma).
+    /// Whether the lemma is within the limits of boards with at most `cells` cells: the limits that
+    /// [`Lemma::is_within`](crate::Lemma) lists. It looks no deeper into the tree than they allow, and takes no memory.
     pub fn is_within(&self, cells: u16) -> bool
         ensures { MatchBool result (IsLemmaWithin cells (flat_piece self.now))
             (IsLemmaWithin cells (flat_piece self.now) → ⊥) }
@@ -169,8 +176,8 @@ impl PackedLemma {
     ghost use Rattle.match_limits.specs.declared.TheConstants.{MOST_CELLS, MOST_LEVELS};
     ghost use Rattle.cert_tree.specs.Limits.{IsTreeWithin, IsLemmaWithin};
 
-    /// Whether the lemma is within the limits of a board of 256 cells, where its tree is known to be: number and prefix
-    /// alone are looked at.
+    /// Whether the lemma is within the limits of boards with at most 256 cells, where its tree is known to be. Only the
+    /// number and the prefix are looked at.
     pub fn prefix_within_limits(&self) -> bool
         requires { IsTreeWithin MOST_CELLS MOST_LEVELS self.now.tree }
         ensures { MatchBool result (IsLemmaWithin MOST_CELLS self.now) (IsLemmaWithin MOST_CELLS self.now → ⊥) }

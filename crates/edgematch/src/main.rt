@@ -1,4 +1,4 @@
-//! Solves edge-matching puzzles, and checks whether a list of arrangements is complete, by a certificate.
+//! Solves edge-matching puzzles, and checks by a certificate whether a list of arrangements is complete.
 #![tactic(auto)]
 
 ghost use Rattle.std.specs.Prelude.{◌≤◌, IfSome, length};
@@ -17,20 +17,21 @@ use std::thread::{Builder, Threads};
 use std::time::Clock;
 use std::{env, io, str};
 
-// A stack that is enough, in bytes: 256 cells take a fifth of it. Threads get as much as the limit on stacks says.
+// A stack that is large enough, in bytes: 256 cells take a fifth of it. Threads get as much as the limit on stacks
+// says.
 const STACK_LEN: usize = 0x10_0000;
 
-// What may be opened everywhere, and holds nothing.
+// A file that can be opened everywhere, and is empty.
 const NOTHING: &str = "/dev/null";
 
-// A word that Linux takes has fewer bytes.
+// Linux takes only words with fewer bytes.
 const MOST_WORD_LEN: usize = 0x2_0000;
 
-// The descriptor of standard error, behind those of standard input and output.
+// The descriptor of standard error, after those of standard input and output.
 const LAST_STREAM: i32 = 2;
 
-// The stack that a program begins with grows as it is used, and where it can't, the system ends the program. So where
-// memory is limited, all is done on a thread, whose stack is there when it starts.
+// The stack that a program begins with grows as it is used; where it can't, the system ends the program. So where
+// memory is limited, everything is done on a thread, whose whole stack is there when it starts.
 fn main(rt: HostRuntime) -> ExitCode {
     take_closed_streams(&rt);
     let limits = limits(&rt, rt);
@@ -50,9 +51,9 @@ fn main(rt: HostRuntime) -> ExitCode {
     ExitCode::from(exit.code())
 }
 
-// Takes the descriptors of standard streams that are closed, so that no file that is opened later has one of them, and
-// gets what is told. They stay useless, as what is closed: the first can't be read, and the others can't be written.
-// Apart from `main`, as `run` is.
+// Takes the descriptors of standard streams that are closed. Otherwise a file that is opened later could have one of
+// them, and would get what is said there. The streams stay as useless as closed ones: the first can't be read, and the
+// others can't be written. Apart from `main`, as `run` is.
 #[inline(never)]
 fn take_closed_streams(rt: &HostRuntime) {
     if let Ok(file) = OpenOptions::new().write(true).open(rt, NOTHING) {
@@ -71,7 +72,7 @@ fn take_closed_streams(rt: &HostRuntime) {
     }
 }
 
-// What the system grants: asked for on a thread too, or here where none starts.
+// What the system grants, asked on a thread too, or here where no thread starts.
 fn limits<R: Threads>(threads: &R, rt: HostRuntime) -> SystemLimits {
     match Builder::new()
         .stack_size(STACK_LEN)
@@ -82,8 +83,8 @@ fn limits<R: Threads>(threads: &R, rt: HostRuntime) -> SystemLimits {
     }
 }
 
-// Does what the words order, over the system's files and streams, and says how the program ends. Apart from `main`,
-// whose share of the stack has to be small.
+// Does what the words order, over the system's files and streams, and returns how the program ends. Apart from `main`,
+// whose part of the stack has to be small.
 #[inline(never)]
 fn run<R: Threads + Wait + Sync + RandomSource + Clock + Eprint>(
     threads: &R,
@@ -145,8 +146,8 @@ fn unread(rt: &HostRuntime, error: &io::Error) -> Exit {
     Exit::Failed
 }
 
-// The number of the first word behind the program's name that is not UTF-8, if one is found, and how many bytes it has,
-// which stand at the front of `bytes` then.
+// The first word after the program's name that is not UTF-8, if one is found: its number, and how many bytes it has.
+// These are then at the front of `bytes`.
 fn word_of_no_text(rt: &HostRuntime, bytes: &mut [u8]) -> Option<(usize, usize)>
     ensures { IfSome result (λ found. found.1 ≤ length bytes.new) }
 {

@@ -1,4 +1,4 @@
-//! Counting by a search.
+//! Counts by a search.
 
 ghost use Rattle.std.specs.Prelude.{◌≡◌, ◌≤◌, ◌/◌, IfOk, IfSome, MatchOption};
 ghost use Rattle.match_puzzle.specs.Numbers.{AreMoreThan};
@@ -9,12 +9,13 @@ use crate::weights::weight_of;
 use std::alloc::AllocError;
 use xcc_form::OpenOptions;
 
-/// How many arrangements have all options that are chosen, or `None` where there are more than `most`.
+/// Returns how many arrangements have all chosen options, or `None` where there are more than `most`.
 ///
 /// It branches on the uncovered item with the fewest open options, and keeps nothing of what it finds. Of the options
-/// that show the same it chooses the first, which counts for all of them. What it chooses it takes back.
+/// that show the same it chooses only the first, which counts for all of them: `looks` has to name, for an option, the
+/// first that shows the same. Whatever it chooses it takes back.
 ///
-/// An error where memory is refused.
+/// An error comes where memory is refused.
 #[cycle(count_below)]
 pub fn count_below<E: OpenOptions>(
     engine: &mut E,
@@ -50,7 +51,7 @@ pub fn count_below<E: OpenOptions>(
     Ok(Some(sum))
 }
 
-// How often the weight goes into a number. Most weights are 1, and a division takes long.
+// How often the weight goes into a number. Most weights are 1, and a division is slow.
 fn share(number: u64, weight: u64) -> u64
     requires { 1 ≤ weight }
     ensures { result ≡ number / weight }

@@ -1,4 +1,4 @@
-//! Branches counted by a crew.
+//! Branches that a crew (several workers) counts.
 
 ghost use Rattle.std.specs.Prelude.{◌<◌, ◌≤◌, ◌*◌, ℕ, Option, IfOk, length, slice_index_or};
 ghost use Rattle.std.specs.Fork.{slice_chunk};
@@ -17,14 +17,13 @@ use steal_crew::{Work, run_crew};
 use xcc_dance::OpenSets;
 use xcc_form::Xcc;
 
-// So many jobs for each worker, so that all end at about the same time.
+// The number of jobs for each worker, so that all workers end at about the same time.
 const JOBS_FOR_EACH: usize = 64;
 
-// At most so many branches a job. Each job has an engine of its own: to make one costs as much as to begin a branch or
-// two.
+// The most branches of a job. Each job has an engine of its own: making one costs as much as beginning a branch or two.
 const MOST_IN_JOB: usize = 64;
 
-/// Branches of a search, as they are to be counted, and who is told meanwhile.
+/// Branches of a search that are to be counted, and who is told meanwhile.
 #[derive(Drop)]
 pub struct Count<'a, 'w, W: CensusWatch> {
     pub xcc: &'a Xcc<'a>,
@@ -41,7 +40,7 @@ struct Means<'a, 'l, 'w, W: CensusWatch> {
     watch: &'w W,
 }
 
-// Branches, so many for each job but perhaps the last.
+// Branches, the same number for each job except perhaps the last.
 #[derive(Drop)]
 struct Chunks<'a, 'l, 'w, 'b, W: CensusWatch> {
     means: Means<'a, 'l, 'w, W>,
@@ -72,10 +71,10 @@ impl<'a, 'l, 'w, 'b, W: CensusWatch> Work for Chunks<'a, 'l, 'w, 'b, W> {
     }
 }
 
-/// How many arrangements these branches have together, each as often as it weighs, counted by 1 to 64 workers, whose
-/// number doesn't change it. `None` where they have 2^64 or more.
+/// Returns how many arrangements these branches have together, each counted as often as its weight says, with 1 to 64
+/// workers, whose number doesn't change the result. `None` where they have 2^64 or more.
 ///
-/// It joins threads, one for each worker but the caller. An error where memory is refused, to any of the workers.
+/// It joins threads, one for each worker but the caller. An error comes where memory is refused to any of the workers.
 pub fn count_with_crew<R: Threads + Sync, W: CensusWatch + Sync>(
     rt: &R,
     alloc: Global,
@@ -103,7 +102,7 @@ pub fn count_with_crew<R: Threads + Sync, W: CensusWatch + Sync>(
     count_chunks(rt, means, &spread, workers)
 }
 
-// The same, of branches that are counted in their order.
+// How many arrangements branches have together that are counted in this order.
 fn count_chunks<R: Threads + Sync, W: CensusWatch + Sync>(
     rt: &R,
     means: Means<'_, '_, '_, W>,
@@ -129,7 +128,7 @@ fn count_chunks<R: Threads + Sync, W: CensusWatch + Sync>(
     Ok(sum_of(xcc, branches, size, crew.results()))
 }
 
-// The sum of what the chunks of so many branches have; none where it is 2^64 or more.
+// The sum over the chunks of the branches; `None` where it is 2^64 or more.
 fn sum_of(_xcc: &Xcc<'_>, _branches: &[Branch], _size: usize, totals: &[Option<u64>]) -> Option<u64>
     requires all { length _branches.now ≤ length totals.now * _size }
     requires each { (n : ℕ) (d : Option ℕ) → n < length totals.now

@@ -1,4 +1,4 @@
-//! Numbers of arrangements, counted by a search that keeps none of them.
+//! Counts arrangements by a search that keeps none of them.
 #![tactic(auto)]
 
 mod counting;

@@ -6,9 +6,9 @@ ghost use Rattle.census_branches.specs.Branches.{every};
 use census_branches::Branch;
 use std::alloc::{AllocError, Global};
 
-/// Of these branches, dealt in turn to so many parts, those of the part with this number, from 0: a copy of each.
+/// Deals the branches in turn to `parts` parts, and returns copies of those of part `part`, from 0.
 ///
-/// An error where memory is refused.
+/// An error comes where memory is refused.
 pub fn part_of(
     alloc: Global,
     branches: &[Branch],

@@ -9,17 +9,17 @@ use census_branches::Branch;
 use std::alloc::{AllocError, Global};
 use std::mem::swap;
 
-// So many branches or fewer stay next to each other.
+// This many branches or fewer stay next to each other.
 const NEAR: usize = 64;
 
-// Halving so often leaves few of the most branches.
+// Halving this often leaves few, even of the most branches.
 const MOST_HALVINGS: u8 = 16;
 
-// The same branches in another order, in which what is counted first is from all over the search: the work in a branch
-// is much like that in those beside it, and differs from the work in far ones. So the share of the branches that are
-// counted tells the share of the work that is done.
+// These branches in another order, so that those that are counted first come from all over the search. Neighbouring
+// branches need about the same work, and distant ones don't. So the share of the branches that are counted shows the
+// share of the work that is done.
 //
-// An error where memory is refused.
+// An error comes where memory is refused.
 pub(crate) fn spread(alloc: Global, branches: Vec<Branch>) -> Result<Vec<Branch>, AllocError>
     ensures stand { IfOk result (λ v. (x : Compiled) → StandFor x v.items branches.items) }
     ensures selections { IfOk result (λ v. (x : Compiled) → AllChoose (IsSelection x) branches.items

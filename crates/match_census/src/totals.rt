@@ -17,10 +17,10 @@ use std::alloc::{AllocError, Global};
 use xcc_dance::OpenSets;
 use xcc_form::OpenOptions;
 
-// How many arrangements these branches have together, each as often as it weighs, or `None` where they have more than
-// `most`. Nothing is chosen before.
+// How many arrangements these branches have together, each counted as often as its weight says; `None` where they have
+// more than `most`. Nothing is chosen before.
 //
-// An error where memory is refused.
+// An error comes where memory is refused.
 pub(crate) fn count_branches<E: OpenOptions, W: CensusWatch>(
     engine: &mut E,
     looks: &[Option<u32>],
@@ -51,7 +51,7 @@ pub(crate) fn count_branches<E: OpenOptions, W: CensusWatch>(
     Ok(Some(total))
 }
 
-// How many arrangements have these options too, or none where there are more than `most`.
+// How many arrangements have the chosen options and these; `None` where there are more than `most`.
 #[cycle(count_with)]
 fn count_with<E: OpenOptions>(
     engine: &mut E,
@@ -77,10 +77,10 @@ fn count_with<E: OpenOptions>(
     counted
 }
 
-/// How many arrangements a puzzle has, or `None` where there are more than `most`, by the branches into which the search
-/// for them is split.
+/// Returns how many arrangements a puzzle has, or `None` where there are more than `most`. It counts them by the
+/// branches into which their search is split.
 ///
-/// An error where memory is refused.
+/// An error comes where memory is refused.
 pub fn count_arrangements<W: CensusWatch>(
     alloc: Global,
     count: Count<'_, '_, W>,

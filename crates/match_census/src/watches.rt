@@ -1,10 +1,10 @@
-//! What is told of a count while it runs.
+//! Watching a count while it runs.
 
-/// Told of a count while it runs, by whichever worker comes by. No answer depends on it.
+/// Is told of a count while it runs, by any of the workers. No answer depends on it.
 pub trait CensusWatch {
-    /// So many branches are to be counted, in all counts of which it is told. Who has them counted tells it before the first.
+    /// Is called before the first count, by the caller of the counts, with the number of branches that all counts have.
     fn begins(&self, branches: usize);
 
-    /// One more of them is counted, and so many arrangements more, as often as it weighs.
+    /// Is called when one more branch is counted, with how many arrangements it has, times its weight.
     fn counted(&self, arrangements: u64);
 }

@@ -1,4 +1,4 @@
-//! Open branches.
+//! Branches that are still to be searched.
 
 ghost use Rattle.std.specs.Prelude.{◌≡◌, ◌≤◌, List, false, true, IfOk};
 ghost use Rattle.match_limits.specs.declared.TheConstants.{MOST_FUEL};
@@ -13,7 +13,7 @@ use std::alloc::{AllocError, Global};
 use xcc_dance::{Cites, OpenSets, PackedOutcome, SearchFault, SearchOver};
 use xcc_form::Xcc;
 
-// A branch whose arrangements are still to be found: its pairs, in the order of their placing.
+// A branch whose arrangements are still to be found: its pairs, in the order of placing.
 #[derive(Drop)]
 pub struct OpenBranch {
     pub pairs: Vec<Pair>,
@@ -33,7 +33,7 @@ pub fn fit_in_turn(alloc: Global, puzzle: &Puzzle, pairs: &[Pair]) -> Result<boo
     Ok(true)
 }
 
-// Whether the pair is of a cell and a tile of the puzzle, and fits what is placed.
+// Whether the pair has a cell and a tile of the puzzle, and fits what is placed.
 fn fits(puzzle: &Puzzle, partial: &Partial<'_>, pair: Pair) -> bool
     requires { partial.now.puzzle ≡ puzzle.now }
     ensures { result ≡ true → Fits puzzle.now partial.now.placed pair.cell pair.placement }
@@ -43,7 +43,7 @@ fn fits(puzzle: &Puzzle, partial: &Partial<'_>, pair: Pair) -> bool
             && puzzle.fits(partial, pair.cell, pair.placement))
 }
 
-// Searches below these pairs; gives up where they don't fit in turn, or the fuel doesn't do.
+// Searches below these pairs. It gives up where they don't fit in turn, or the fuel (the most branch nodes) is spent.
 pub fn search_below<C: Cites>(
     alloc: Global,
     xcc: &Xcc<'_>,
@@ -64,7 +64,7 @@ pub fn search_below<C: Cites>(
     run_first(&mut search, pairs, fuel, item_rule, cites)
 }
 
-// The first run of a search, which is below these pairs.
+// The first run of a search, below these pairs.
 fn run_first<C: Cites>(
     search: &mut SearchOver<OpenSets<'_>>,
     pairs: &[Pair],
@@ -87,7 +87,7 @@ fn run_first<C: Cites>(
     }
 }
 
-// The same pairs by cell, as a lemma's prefix has them.
+// These pairs in the order of their cells, as a lemma's prefix has them.
 pub fn rising_by_cell(alloc: Global, pairs: &[Pair]) -> Result<Vec<Pair>, AllocError> {
     let mut rising = pairs.to_vec(alloc)?;
     rising.sort_unstable_by_key(|pair| pair.cell);

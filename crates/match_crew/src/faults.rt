@@ -13,11 +13,11 @@ use xcc_form::CompileFault;
 /// Why a puzzle was not solved.
 #[derive(Clone, Copy, PartialEq, Eq, Debug)]
 pub enum SolveFault {
-    /// The fuel of a lemma was spent before its search was done.
+    /// The fuel of a lemma (the most branch nodes) was spent before its search was done.
     GaveUp,
-    /// The puzzle has more options than are searched.
+    /// The options of the puzzle have over 200,000 items together, more than are searched.
     TooMany,
-    /// More arrangements were found than are listed.
+    /// More arrangements were found than may be listed: over 1,000,000.
     Full,
     Memory,
 }

@@ -1,5 +1,5 @@
-//! Arrangements of a puzzle, with a certificate, by a crew of workers that give open branches away. The check by a crew
-//! is that of `cert_check`.
+//! Finds the arrangements of a puzzle and a certificate for their list, with a crew: workers that give each other
+//! branches to search. `cert_check` has the check by a crew.
 #![tactic(auto)]
 
 mod branches;

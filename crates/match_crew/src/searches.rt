@@ -1,4 +1,4 @@
-//! A job for each open branch.
+//! The jobs of a crew that searches: one for each open branch.
 
 ghost use Rattle.std.specs.Prelude.{IfOk, IfSome};
 ghost use Rattle.match_puzzle.specs.declared.placements.Placement.{Placement};
@@ -22,7 +22,7 @@ use std::sync::atomic::{AtomicBool, Ordering};
 use xcc_dance::{Counted, Met, PackedOutcome, Watch};
 use xcc_form::Xcc;
 
-// What an open branch came to.
+// The outcome of an open branch.
 #[derive(Drop)]
 pub enum Searched {
     // Its lemma is on the desk, and this is what it found.
@@ -30,13 +30,13 @@ pub enum Searched {
         receipt: FlatReceipt,
         found: Vec<Arrangement>,
     },
-    // Its fuel was spent, or another job came to no lemma before it began.
+    // Its fuel was spent, or another job had failed before it began.
     GaveUp,
-    // It found more than are listed.
+    // It found more than may be listed.
     Full,
 }
 
-// What open branches are searched by.
+// What the jobs need to search open branches.
 #[derive(Drop)]
 pub struct Searches<'a, T: Wait, W: Watch> {
     pub rt: &'a T,
@@ -67,7 +67,7 @@ impl<'a, T: Wait, W: Watch> Searches<'a, T, W> {
         }
     }
 
-    // The lemma with this number, if number and prefix are within the limits of a lemma's text.
+    // The lemma with this number, if its number and prefix are within the limits of a lemma's text.
     fn packed(
         &self,
         number: u32,
@@ -148,7 +148,7 @@ impl<'a, T: Wait, W: Watch> LiveWork for Searches<'a, T, W> {
     }
 }
 
-// Searches below a job's pairs, where no lemma is cited and no branch given away.
+// Searches below a job's pairs, and neither cites lemmas nor gives branches away.
 fn run_alone<W: Watch>(
     shared: &Shared<'_>,
     xcc: &Xcc<'_>,
@@ -168,7 +168,7 @@ fn run_alone<W: Watch>(
     outcome
 }
 
-// The same, where lemmas may be cited and branches given away.
+// Searches below a job's pairs, and may cite lemmas and give branches away.
 fn run_with_others<W: Watch>(
     shared: &Shared<'_>,
     xcc: &Xcc<'_>,

@@ -13,14 +13,14 @@ use std::sync::atomic::{AtomicU64, Ordering};
 use xcc_dance::{Cites, PackedOutcome};
 use xcc_form::Xcc;
 
-// What all jobs share: what they go by, and how many wait.
+// What all jobs share: the plan that they follow, and how many of them wait.
 #[derive(Drop)]
 pub struct Shared<'a> {
     pub alloc: Global,
     pub plan: &'a Plan,
     pub fuel: u32,
     pub workers: u8,
-    // how many jobs were given away and not begun; nothing rests on it
+    // how many jobs were given away and not begun; no result depends on it
     pub waiting: AtomicU64,
 }
 

@@ -1,4 +1,4 @@
-//! Solving a puzzle.
+//! Solves a puzzle.
 
 ghost use Rattle.std.specs.Prelude.{◌≡◌, ◌≢◌, ◌≤◌, ◌<◌, ◌+◌, ◌^◌, ◌++◌, ◌∷◌, [], All, IfOk, IfErr, IsErrOf, OnOk};
 ghost use Rattle.std.specs.Prelude.{length, vec_len};
@@ -39,20 +39,20 @@ use steal_crew::Crew;
 use xcc_dance::{Unwatched, Watch};
 use xcc_form::{Xcc, compile};
 
-/// By what a puzzle is searched.
+/// How a puzzle is searched.
 #[derive(Clone, Copy)]
 pub struct SearchPlan {
-    /// Of how many levels of branches lemmas are made before the search begins.
+    /// How many levels of branches become lemmas before the search begins.
     pub depth: Depth,
-    /// How many branch nodes a lemma may have.
+    /// The most branch nodes that a lemma may have.
     pub fuel: Fuel,
     pub workers: Workers,
-    /// By which symmetries lemmas may be cited, where the depth isn't 0.
+    /// The symmetries by which lemmas may be cited, where the depth isn't 0.
     pub symmetries: Suggested,
 }
 
-/// Arrangements of a puzzle, with a certificate, and who took which lemma: for each worker the numbers of those that it
-/// searched, as they were on the desk, where the root is 0.
+/// Arrangements of a puzzle, a certificate for them, and who searched which lemma: for each worker, the numbers of the
+/// lemmas that it searched, as they were on the desk, where the root is 0.
 #[derive(Drop)]
 pub struct Solved {
     pub list: Vec<Arrangement>,
@@ -96,7 +96,7 @@ fn symmetries_of<'a>(
     Ok(symmetries)
 }
 
-// The branches that become lemmas first, and the rule by which all take their items.
+// The branches that become lemmas first, and the rule by which all searches choose their items.
 fn plan_of<'a, R: Threads + Sync>(
     rt: &R,
     alloc: Global,
@@ -150,11 +150,11 @@ fn search_all<R: Threads + Wait + Sync, W: Watch + Sync>(
     Ok(crew)
 }
 
-// What all jobs posted and found, by their numbers.
+// What all jobs posted and found, in the order of their numbers.
 #[derive(Drop)]
 struct Collected {
     receipts: Vec<FlatReceipt>,
-    // for each lemma the number of the first that it found
+    // for each lemma, the number of the first arrangement that it found
     first: Vec<u32>,
     listed: Vec<Arrangement>,
 }
@@ -229,7 +229,7 @@ fn collect(
     Ok(collected)
 }
 
-// The certificate of what was posted, turned over: the root comes last.
+// The certificate of what was posted, turned round: the root comes last.
 fn certificate_of<R: Threads + Sync>(
     rt: &R,
     shared: &Shared<'_>,
@@ -294,7 +294,7 @@ fn put_together<R: Threads + Sync>(
     Ok((collected.listed, certificate))
 }
 
-// Searches by the plan, and puts together what all jobs came to.
+// Searches by the plan, and puts together the outcomes of all jobs.
 fn solve_by<R: Threads + Wait + Sync, W: Watch + Sync>(
     rt: &R,
     xcc: &Xcc<'_>,
@@ -319,16 +319,20 @@ fn solve_by<R: Threads + Wait + Sync, W: Watch + Sync>(
     })
 }
 
-/// Searches for all arrangements of the puzzle by 1 to 64 workers, each lemma by at most `fuel` branch nodes, 1 to
-/// 1,000,000. Their list is in the order of the lemmas' numbers on the desk, and of each lemma as they were found.
+/// Searches for all arrangements of the puzzle with 1 to 64 workers, and makes a certificate for their list. Each lemma
+/// (a numbered claim with a tree of cases) may have at most `fuel` branch nodes, 1 to 1,000,000. The list has what each
+/// lemma found, in the order in which it found it; the lemmas come in the order of their numbers on the desk, where
+/// they are put.
 ///
-/// With depth 0 and one worker there is one lemma, and no symmetry. With a depth of 1 to 3 branches of so many levels
-/// become lemmas before the search begins, at most 64, and are cited wherever they, or their images under symmetries
-/// that are looked for first, lie within what is placed. Several workers give each other branches, and so does a lemma
-/// that comes near the end of its fuel, where there are several workers or levels.
+/// - With depth 0 and one worker there is one lemma, and no symmetry.
+/// - With a depth from 1 to 3, up to 64 branches in the first `depth` levels become lemmas before the search begins. It
+///   looks for symmetries first. A lemma is cited wherever its prefix, or an image of it under a symmetry, is part of
+///   what is placed.
+/// - Several workers give each other branches. With several workers or levels, a lemma also gives branches away when it
+///   comes near the end of its fuel.
 ///
-/// `GaveUp` where the fuel of a lemma doesn't do, `TooMany` where the puzzle's options have over 200,000 items, `Full`
-/// where over 1,000,000 arrangements were found.
+/// `GaveUp` comes where the fuel of a lemma is too little, `TooMany` where the puzzle's options have over 200,000 items
+/// together, `Full` where over 1,000,000 arrangements were found.
 pub fn solve_with<R: Threads + Wait + Sync>(
     rt: &R,
     alloc: Global,
@@ -352,8 +356,8 @@ pub fn solve_with<R: Threads + Wait + Sync>(
     solve_watched(rt, alloc, puzzle, search, &Unwatched)
 }
 
-/// What [`solve_with`] does, by this plan, of which the watch is told while it runs. Each symmetry that the certificate
-/// names is one of those that the plan asks for.
+/// Searches as [`solve_with`] does, by this plan; the watch is told of the search while it runs. Each symmetry of the
+/// certificate is one of those that the plan asks for.
 pub fn solve_watched<R: Threads + Wait + Sync, W: Watch + Sync>(
     rt: &R,
     alloc: Global,

@@ -1,5 +1,5 @@
-//! Nothing here is promised: change it and measure. Which item a solve takes at the root, which lemmas it plans, and
-//! which of them a search cites, by guesses of the work that each leaves.
+//! Which item a solve takes at the root, which lemmas it plans, and which of them a search cites: by guesses of the
+//! work that each leaves. No contract depends on this: change it and measure.
 
 pub mod choices;
 mod dives;

@@ -1,4 +1,4 @@
-//! Where the pairs stand that come behind a pair, in an item's order.
+//! Where the pairs begin that come after a given pair, in the order of an item (a cell or a tile).
 
 ghost use Rattle.std.specs.Prelude.{◌≡◌, ◌↔◌, ◌<◌, ◌≤◌, ◌+◌, ◌*◌, ℕ, IfSome, MatchOption};
 ghost use Rattle.std.specs.Int.{bit_at};
@@ -9,7 +9,7 @@ use match_puzzle::Pair;
 /// The four turns of a tile, as bits.
 pub(crate) const EACH_TURN: u8 = 15;
 
-/// The first number of a placement behind that of the pair, four turns to a tile; the first of all behind none.
+/// The number after that of the pair's placement, with four turns to a tile; 0 without a pair.
 pub(crate) fn number_behind(after: Option<Pair>) -> u16
     requires { IfSome after (λ x. (x.placement.tile < MOST_TILES) × (x.placement.turn < 4)) }
     ensures few { result ≤ 4 * MOST_TILES }
@@ -21,7 +21,8 @@ pub(crate) fn number_behind(after: Option<Pair>) -> u16
     }
 }
 
-/// The cell from which on a tile stands behind the pair, and the turns behind it there, as bits; all behind none.
+/// The cell at which a tile's pairs after this one begin, and the turns there that come after it, as bits; cell 0 and
+/// all turns without a pair.
 pub(crate) fn place_behind(after: Option<Pair>) -> (u16, u8)
     requires { IfSome after (λ x. x.placement.turn < 4) }
     ensures cell { MatchOption after (result.0 ≡ 0) (λ x. result.0 ≡ x.cell) }

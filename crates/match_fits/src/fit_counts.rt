@@ -1,4 +1,4 @@
-//! Pairs that are placed one after the other, and how many fit beside them.
+//! Pairs of a cell and a placement that are placed one after the other, and counts of what fits beside them.
 
 ghost use Rattle.std.specs.Prelude.{◌≡◌, ◌↔◌, ◌<◌, ◌*◌, [], ℕ, List, IfOk, IfSome, IsTrue, MatchOption, OnErr, length};
 ghost use Rattle.match_board.specs.Board.{cell_count};
@@ -23,11 +23,12 @@ use match_puzzle::{Item, Pair, Partial, Placement, Puzzle};
 use std::alloc::{AllocError, Global};
 use std::marker::Model;
 
-/// Pairs of a puzzle, each of which fits those before it, and beside them what still fits: for each cell and each tile
-/// it keeps how many pairs do. It borrows the puzzle.
+/// Placed pairs of a puzzle, each of which fits those before it, and how many pairs still fit beside them: for each
+/// cell and for each tile. It borrows the puzzle.
 ///
-/// To place a pair costs a few words for each open cell and each side, and a step for each pair that fits no longer; to
-/// lift it costs less. It takes 8 bytes for each pair that was placed and each cell, and up to 16 while it grows.
+/// An item is a cell or a tile. A pair settles its cell and its tile; an item that no placed pair settles is open.
+/// Placing a pair costs a few words for each open cell and each side, and a step for each pair that fits no longer;
+/// lifting it costs less. The memory is 8 bytes for each placed pair and each cell, and up to 16 while it grows.
 #[derive(Drop)]
 pub struct FitCounts<'a> {
     partial: Partial<'a>,
@@ -35,7 +36,7 @@ pub struct FitCounts<'a> {
     pairs: Vec<Pair>,
     // what fits beside them
     counts: Counts,
-    // how many pairs fitted and settled each item, before each pair that is placed
+    // for each placed pair: how many pairs fitted and settled each item before it was placed
     saved: Vec<u32>,
 }
 
@@ -52,7 +53,7 @@ impl<'a> Model for FitCounts<'a> {
 }
 
 impl<'a> FitCounts<'a> {
-    /// Nothing is placed yet. It costs a look at each tile at each cell. An error comes where memory is refused.
+    /// Starts with nothing placed. It looks at each tile at each cell. An error comes where memory is refused.
     pub fn new(alloc: Global, puzzle: &'a Puzzle) -> Result<FitCounts<'a>, AllocError>
         ensures empty { IfOk result (λ f. f ≡ record { puzzle = puzzle.now; pairs = [] }) }
         ensures puzzle { IsPuzzle puzzle.now }
@@ -68,7 +69,7 @@ impl<'a> FitCounts<'a> {
         })
     }
 
-    /// The puzzle that it is of.
+    /// Returns the puzzle.
     pub fn puzzle(&self) -> &'a Puzzle
         ensures same { result.now ≡ self.now.puzzle }
         ensures puzzle { IsPuzzle self.now.puzzle }
@@ -76,7 +77,7 @@ impl<'a> FitCounts<'a> {
         self.partial.puzzle()
     }
 
-    /// The pairs that are placed, in the order of placing.
+    /// Returns the placed pairs, in the order of placing.
     pub fn pairs(&self) -> &[Pair]
         ensures value { result.now ≡ self.now.pairs }
         ensures fit { FitInTurn self.now.puzzle self.now.pairs }
@@ -84,7 +85,7 @@ impl<'a> FitCounts<'a> {
         &self.pairs
     }
 
-    /// Whether the item is not settled.
+    /// Whether the item is open: no placed pair settles it.
     pub fn is_open(&self, item: Item) -> bool
         requires { IsItem self.now.puzzle item }
         ensures { IsTrue result ↔ IsOpen self.now.puzzle (placed_by self.now) item }
@@ -92,7 +93,7 @@ impl<'a> FitCounts<'a> {
         self.counts.sizes[self.place_of(item)] != COVERED
     }
 
-    /// How many pairs fit and settle an open item.
+    /// Returns how many pairs fit and settle an open item.
     pub fn count(&self, item: Item) -> u32
         requires { IsOpen self.now.puzzle (placed_by self.now) item }
         ensures { (xs : List Placed) × AreFitting self.now.puzzle (placed_by self.now) item xs
@@ -101,8 +102,8 @@ impl<'a> FitCounts<'a> {
         self.counts.sizes[self.place_of(item)] / STEP
     }
 
-    /// The open item with the fewest pairs that fit, the first at a tie: cells by number, then tiles. `None` where each
-    /// is settled.
+    /// Returns the open item with the fewest pairs that fit. At a tie it is the first: cells by number, then tiles.
+    /// `None` where all items are settled.
     pub fn fewest(&self) -> Option<Item>
         ensures { MatchOption result
             ((item : PuzzleItem) → IsOpen self.now.puzzle (placed_by self.now) item → ⊥)
@@ -116,8 +117,8 @@ impl<'a> FitCounts<'a> {
         Some(Item::numbered(cells, least % STEP))
     }
 
-    /// The pair that fits and settles an open item and comes next after this one of them, in the item's order, or the
-    /// first of them: at a cell by tile, then by turn, of a tile by cell, then by turn.
+    /// Returns the pair that fits, settles an open item and comes next after `after`, or the first of these pairs
+    /// without one. The pairs at a cell come by tile, then by turn; those of a tile come by cell, then by turn.
     pub fn next(&self, item: Item, after: Option<Pair>) -> Option<Pair>
         requires item { IsOpen self.now.puzzle (placed_by self.now) item }
         requires after { IfSome after (FitsItem self.now.puzzle (placed_by self.now) item) }
@@ -133,7 +134,7 @@ impl<'a> FitCounts<'a> {
 
     /// Places a pair that fits.
     ///
-    /// An error where memory is refused; then nothing changes.
+    /// An error comes where memory is refused; then nothing changes.
     pub fn place(&mut self, pair: Pair) -> Result<(), AllocError>
         requires { Fits self.old.puzzle (placed_by self.old) pair.cell pair.placement }
         ensures placed { IfOk result (λ _. self.new ≡ with_next self.old pair) }
@@ -147,7 +148,7 @@ impl<'a> FitCounts<'a> {
         Ok(())
     }
 
-    /// Lifts the pair that was placed last. There is one.
+    /// Lifts the pair that was placed last. There has to be one.
     pub fn lift(&mut self)
         requires { 0 < length self.old.pairs }
         ensures { self.new ≡ without_last self.old }
@@ -161,7 +162,7 @@ impl<'a> FitCounts<'a> {
         }
     }
 
-    // The place of the item in the table of sizes.
+    // The place of the item in the table of counts.
     fn place_of(&self, item: Item) -> usize
         ensures place { result ≡ item_place (cell_count self.now.puzzle.board) item }
         ensures puzzle { IsPuzzle self.now.puzzle }
@@ -170,7 +171,7 @@ impl<'a> FitCounts<'a> {
         item.number(self.cells()) as usize
     }
 
-    // How many cells there are, and as many tiles.
+    // How many cells there are; there are as many tiles.
     fn cells(&self) -> u16
         ensures count { result ≡ cell_count self.now.puzzle.board }
         ensures puzzle { IsPuzzle self.now.puzzle }
@@ -219,7 +220,7 @@ impl<'a> FitCounts<'a> {
     }
 }
 
-// The table where nothing is placed.
+// The table of counts where nothing is placed.
 fn new_sizes(alloc: Global, partial: &Partial<'_>, rows: &FitRows) -> Result<Vec<u32>, AllocError>
     requires empty { partial.now.placed ≡ empty_prefix partial.now.puzzle }
     requires rows { AreRows partial.now.puzzle partial.now.placed rows.now }
@@ -234,7 +235,7 @@ fn new_sizes(alloc: Global, partial: &Partial<'_>, rows: &FitRows) -> Result<Vec
     Ok(sizes)
 }
 
-// How many pairs fit and settle the item, where nothing is placed: as many as the rows have.
+// How many pairs fit and settle the item where nothing is placed: as many as the rows have.
 fn count_in(partial: &Partial<'_>, rows: &FitRows, item: Item) -> u16
     requires item { IsItem partial.now.puzzle item }
     requires empty { partial.now.placed ≡ empty_prefix partial.now.puzzle }

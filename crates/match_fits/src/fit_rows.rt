@@ -1,4 +1,4 @@
-//! For each cell what shows there what is asked.
+//! For each cell, the placements that show there what is asked: by the border, the clues and the placed neighbours.
 
 ghost use Rattle.std.specs.Prelude.{◌≡◌, ◌<◌, ◌/◌, ◌%◌, ◌*◌, ◌+◌, ℕ, List, [], Contains, IfOk, length, replicate};
 ghost use Rattle.std.specs.Prelude.{slice_index_or, slice_set};
@@ -12,11 +12,11 @@ use match_puzzle::Partial;
 use std::alloc::{AllocError, Global};
 use std::marker::Model;
 
-/// A row for each cell of a board: placements by number, four turns to a tile.
+/// A row for each cell of a board: placements by number, with four turns to a tile.
 #[derive(Drop)]
 pub(crate) struct FitRows {
     rows: Vec<NumberSet>,
-    // the rows of other cells are empty
+    // the rows of all other cells are empty
     open_cells: NumberSet,
 }
 
@@ -32,8 +32,8 @@ impl Model for FitRows {
 }
 
 impl FitRows {
-    /// The row of each cell: all legal placements that show there what is asked, whether their tiles are used or not,
-    /// and none where something stands.
+    /// Makes the rows. The row of an open cell has all legal placements that show there what is asked, whether their
+    /// tiles are used or not; that of a filled cell is empty.
     pub(crate) fn new(alloc: Global, partial: &Partial<'_>) -> Result<FitRows, AllocError>
         ensures { IfOk result (AreRows partial.now.puzzle partial.now.placed) }
     {
@@ -64,7 +64,7 @@ impl FitRows {
         &self.rows[usize::from(cell)]
     }
 
-    /// Cells, the rows of all others are empty.
+    /// Some cells; the rows of all others are empty.
     #[inline]
     pub(crate) fn open_cells(&self) -> Members<'_>
         ensures { AreOpenRows self.now result }
@@ -72,7 +72,7 @@ impl FitRows {
         self.open_cells.members()
     }
 
-    /// Where placements of the tile stand in the rows: at cell c after turn r by 4 c + r.
+    /// Which rows have placements of the tile: the number 4 c + r where the row of cell c has its turn r.
     pub(crate) fn places_of(&self, tile: u16) -> NumberSet
         requires { tile < length self.now }
         ensures { IsListing ◌<◌ (λ n. (n / 4 < length self.now)
@@ -94,7 +94,7 @@ impl FitRows {
         self.open_cells.remove(cell);
     }
 
-    /// Takes off, in the row of the cell, what is not in the set.
+    /// Removes from the row of the cell what is not in the set.
     pub(crate) fn keep(&mut self, cell: u16, kept: &FixedSet)
         requires { cell < length self.old }
         ensures { (row : List ℕ)
@@ -104,7 +104,7 @@ impl FitRows {
         self.rows[usize::from(cell)].keep(kept);
     }
 
-    /// Makes the rows of this cell and of those that it meets, where the others are made.
+    /// Makes the rows of this cell and of those that it meets. All other rows have to be right already.
     pub(crate) fn put_beside(&mut self, partial: &Partial<'_>, cell: u16)
         requires cell { cell < cell_count partial.now.puzzle.board }
         requires others { AreRowsElsewhere partial.now.puzzle partial.now.placed cell self.old }
@@ -134,7 +134,7 @@ impl FitRows {
     }
 }
 
-// So many empty rows.
+// Makes `count` empty rows.
 fn empty_rows(alloc: Global, count: u16) -> Result<Vec<NumberSet>, AllocError>
     ensures { IfOk result (λ v. v.items ≡ replicate count []) }
 {
@@ -145,7 +145,7 @@ fn empty_rows(alloc: Global, count: u16) -> Result<Vec<NumberSet>, AllocError>
     Ok(rows)
 }
 
-// Makes this what is common to what the four sides of the cell ask, whether tiles are used or not.
+// Makes this the row of a free cell: the legal placements that show what each side asks, whether tiles are used or not.
 fn put_common(partial: &Partial<'_>, cell: u16, row: &mut NumberSet)
     requires cell { cell < cell_count partial.now.puzzle.board }
     requires free { IsFree partial.now.placed cell }

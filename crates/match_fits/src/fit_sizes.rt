@@ -1,7 +1,7 @@
 //! Tables of how many pairs fit and settle each item: the cells first, then the tiles.
 //!
-//! An entry is that number times `STEP` and its own place, so that the least entry is that of the item with the fewest,
-//! and of the first of those. The entry of a settled item is `COVERED`.
+//! An entry is that count times `STEP`, plus its own place. So the least entry belongs to the item with the fewest
+//! pairs, the first at a tie. The entry of a settled item is `COVERED`.
 
 ghost use Rattle.std.specs.Prelude.{◌≡◌, ◌⊎◌, ◌<◌, ◌≤◌, ◌+◌, ◌*◌, ℕ, [], Contains, length, slice_index, slice_index_or};
 ghost use Rattle.match_limits.specs.NumberSets.{count_of_group};
@@ -9,16 +9,16 @@ ghost use Rattle.match_limits.specs.NumberSets.{count_of_group};
 use crate::fit_rows::FitRows;
 use match_limits::{MOST_CELLS, NumberSet, TURNS};
 
-/// What one pair counts.
+/// What one pair adds to an entry.
 pub(crate) const STEP: u32 = 1024;
 
-/// The entry of a settled item. That of an open one is less, since its place is less than `STEP - 1`.
+/// The entry of a settled item. That of an open one is less, since its place is below `STEP - 1`.
 pub(crate) const COVERED: u32 = u32::MAX;
 
-// There are as many tiles as cells.
+// there are as many tiles as cells
 const _: () = prove!(2 * MOST_CELLS < 1024 - 1);
 
-/// Counts one pair less of its tile for each of these numbers, four to a tile. The tiles stand behind so many cells.
+/// For each of these numbers, four to a tile, lowers the count of its tile by one. The tiles follow `cells` cells.
 pub(crate) fn lower_tiles(sizes: &mut Vec<u32>, cells: usize, numbers: &NumberSet)
     requires long { length sizes.old.items ≡ 2 * cells }
     requires below { (n : ℕ) → Contains numbers.now n → n < 4 * cells }
@@ -35,7 +35,7 @@ pub(crate) fn lower_tiles(sizes: &mut Vec<u32>, cells: usize, numbers: &NumberSe
     }
 }
 
-/// Counts less at each cell, for each placement of the tile in its row.
+/// Lowers the count of each cell by one for each placement of the tile in the cell's row.
 pub(crate) fn lower_cells(sizes: &mut Vec<u32>, rows: &FitRows, tile: u16)
     requires long { length sizes.old.items ≡ 2 * length rows.now }
     requires tile { tile < length rows.now }

@@ -1,4 +1,4 @@
-//! Partial arrangements with counts of what fits.
+//! Partial arrangements that keep counts of what still fits.
 #![tactic(auto)]
 
 mod behind;

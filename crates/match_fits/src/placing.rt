@@ -1,4 +1,4 @@
-//! A pair is placed: what fits no longer goes out of the rows and the counts.
+//! What changes when a pair is placed: what no longer fits leaves the rows and the counts.
 
 ghost use Rattle.std.specs.Prelude.{◌≡◌, ◌<◌, ◌+◌};
 ghost use Rattle.match_board.specs.Board.{side_count};
@@ -11,7 +11,7 @@ use crate::fit_sizes::{COVERED, STEP, lower_cells, lower_tiles};
 use match_limits::{MOST_COLOURS, NumberSet};
 use match_puzzle::{Pair, Partial};
 
-/// What fits beside pairs that are placed: a row for each cell, and how many pairs settle each item.
+/// What fits beside the placed pairs: a row for each cell, and how many pairs settle each item.
 #[derive(Drop)]
 pub(crate) struct Counts {
     pub(crate) rows: FitRows,
@@ -19,7 +19,7 @@ pub(crate) struct Counts {
 }
 
 impl Counts {
-    /// Makes the rows and the counts what they are with one pair more, which fits and is not yet placed.
+    /// Changes the rows and counts to what they are with one pair more. It has to fit, and is not placed yet.
     pub(crate) fn take_out(&mut self, partial: &Partial<'_>, pair: Pair)
         requires fits { Fits partial.now.puzzle partial.now.placed pair.cell pair.placement }
         requires counts { AreCounts partial.now self.old }
@@ -49,7 +49,7 @@ impl Counts {
         lower_tiles(&mut self.sizes, cells, &gone);
     }
 
-    // Takes those pairs out of the rows and the counts that stand beside the pair and don't go with it.
+    // Takes out of the rows and the counts the pairs at neighbouring cells that don't go together with this one.
     fn take_out_beside(&mut self, partial: &Partial<'_>, pair: Pair)
         requires fits { Fits partial.now.puzzle partial.now.placed pair.cell pair.placement }
         requires counts { AreCountsBeside partial.now pair 0 self.old }
@@ -61,7 +61,7 @@ impl Counts {
         }
     }
 
-    // Of those pairs at the cell that the side meets, takes out what doesn't show there what the side asks.
+    // Of the pairs at the cell that the side meets, takes out those that don't show there what the side asks.
     fn take_out_side(&mut self, partial: &Partial<'_>, pair: Pair, side: u8, asked: u8)
         requires fits { Fits partial.now.puzzle partial.now.placed pair.cell pair.placement }
         requires side { side < side_count partial.now.puzzle.board }

@@ -1,4 +1,4 @@
-//! Readers of the files of three documents.
+//! Readers for the files of three documents.
 
 ghost use Rattle.std.specs.Prelude.{◌≡◌, IfOk, IfErr};
 ghost use Rattle.match_program.specs.FileOrigins.{AreOfFiles, IsUnopenedFile, all_three};

@@ -5,21 +5,21 @@ ghost use Rattle.match_program.specs.Exits.{code_of, fault_exit, status_exit};
 
 use match_runs::{RunFault, Status};
 
-/// How the program ends; each has its exit status.
+/// How the program ends, each way with its exit status.
 #[derive(Clone, Copy, PartialEq, Eq, Debug)]
 pub enum Exit {
-    /// 0: done; of a check, the list is complete.
+    /// 0: done; for a check, the list is complete.
     Done,
     /// 1: the certificate does not show that the list is complete.
     Refused,
-    /// 2: the words are wrong, or a fault came that isn't of solving.
+    /// 2: the words are wrong, or there was a fault other than of solving.
     Failed,
     /// 3: the puzzle was not solved.
     Unsolved,
 }
 
 impl Exit {
-    /// How a check ends that found this.
+    /// Returns how a check ends that found this.
     pub fn of_status(status: Status) -> Exit
         ensures { result ≡ status_exit status }
     {
@@ -29,7 +29,7 @@ impl Exit {
         }
     }
 
-    /// How a run ends that this fault stopped.
+    /// Returns how a run ends that this fault stopped.
     pub fn of_fault(fault: &RunFault) -> Exit
         ensures { result ≡ fault_exit fault.now }
     {
@@ -39,7 +39,7 @@ impl Exit {
         }
     }
 
-    /// The exit status.
+    /// Returns the exit status.
     pub fn code(self) -> u8
         ensures { result ≡ code_of self }
     {

@@ -1,4 +1,4 @@
-//! Files by their names.
+//! Files, by their names.
 
 ghost use Rattle.std.specs.Prelude.{◌≡◌, ◌≢◌, ◌↔◌, false, IfOk, IfErr, IsTrue};
 ghost use Rattle.match_program.specs.Files.{HaveDifferentNames};
@@ -8,12 +8,12 @@ use command_words::Files;
 use match_runs::{HintedFault, RunFault};
 use std::alloc::{AllocError, Global};
 
-// What is told of who names standard input where it isn't read so.
+// The hint for a user who names standard input where `-` doesn't stand for it.
 const NO_INPUT: &str =
     "-: there is no such file, and here it doesn't stand for standard input; edgematch check reads a puzzle, a list and a certificate from there, joined, where no file is named";
 
-/// The file of a document, opened, with nothing read of it. `Read` of the document where it can't
-/// be opened, and the hint says why.
+/// Opens the file of a document; nothing of it is read yet. `Read` of the document comes where it can't be opened, and
+/// the hint says why.
 pub fn open<S: FileSystem>(
     alloc: Global,
     system: &S,
@@ -40,7 +40,7 @@ pub fn open<S: FileSystem>(
     }
 }
 
-// Which file is refused, and why, where memory isn't refused to it.
+// Which file is refused, and why, unless memory is refused to it.
 pub(crate) fn hint_on(alloc: Global, name: &str, refusal: Refusal) -> Option<String> {
     let words = refusal.words();
     format!(in alloc; "{name}: {words}").ok()
@@ -54,7 +54,7 @@ pub fn have_different_names(puzzle: &str, list: &str, certificate: &str) -> bool
     puzzle != list && puzzle != certificate && list != certificate
 }
 
-// Whether the three files have different names, and as far as it can be told are three.
+// Whether the three files have different names and, as far as the system says, are three files.
 pub(crate) fn are_apart<S: FileSystem>(
     alloc: Global,
     files: &Files,

@@ -1,5 +1,5 @@
-//! The program without its `main`: the words that order runs, the files that these are over, how it ends, and what is
-//! told meanwhile.
+//! The program without its `main`: how words are run as orders, over which files, how the program ends, and what it
+//! says while it runs.
 #![tactic(auto)]
 
 mod document_readers;

@@ -1,4 +1,4 @@
-//! Files of a list and a certificate that are made beside their names, and put there once all is written.
+//! Makes the files of a list and a certificate beside their names, and puts them there once everything is written.
 
 ghost use Rattle.std.specs.Prelude.{◌≡◌, ◌⊎◌, IfOk, IfErr, OnErr};
 ghost use Rattle.byte_streams.specs.MadeFiles.{MakesBoth, Undid};
@@ -9,7 +9,7 @@ use byte_streams::{FileFault, FileSystem, MadeFiles, NotMade, NotPut, ProductNam
 use match_runs::{HintedFault, RunFault};
 use std::alloc::Global;
 
-// Makes both, the list's first, or none of them, and then the hint says why.
+// Makes both files, the list's first, or neither; then the hint says why.
 pub(crate) fn make_files<S: FileSystem>(
     alloc: Global,
     names: &ProductNames<'_>,
@@ -40,7 +40,7 @@ fn not_made(alloc: Global, failed: NotMade<'_>) -> HintedFault
     }
 }
 
-// That a file could not be put under its name.
+// The fault for a file that could not be put under its name.
 pub(crate) fn not_put(alloc: Global, refused: &NotPut<'_>) -> HintedFault
     ensures { result.fault ≡ RunFault.Write }
 {
@@ -50,7 +50,7 @@ pub(crate) fn not_put(alloc: Global, refused: &NotPut<'_>) -> HintedFault
     }
 }
 
-// That the name leads to another file than the one that was put under it.
+// The fault for a name that leads to another file than the one that was put there.
 pub(crate) fn replaced(alloc: Global, name: &str) -> HintedFault
     ensures { result.fault ≡ RunFault.Replaced }
 {
@@ -62,8 +62,9 @@ pub(crate) fn replaced(alloc: Global, name: &str) -> HintedFault
     }
 }
 
-/// After a solve that is done, the list and the certificate stand under their names, and the puzzle's file is as it was;
-/// after one that was stopped before all was written, what stood under any name stands there.
+/// A law; the call does nothing. After a solve that is done, the list and the certificate are under their names, and
+/// the puzzle's file is as it was. After a solve that was stopped before everything was written, the files under all
+/// names are as they were.
 pub fn nothing_is_lost()
     ensures { NothingIsLost }
 {}

@@ -1,4 +1,4 @@
-//! Runs of orders: over which files each runs, and the exit status.
+//! Runs orders: over which files each runs, and with which exit status it ends.
 
 ghost use Rattle.std.specs.Prelude.{◌≡◌, false, map, true};
 ghost use Rattle.std.specs.String.{string_bytes};
@@ -41,17 +41,18 @@ use std::sync::Wait;
 use std::thread::Threads;
 use std::time::Clock;
 
-/// Does what is ordered, and says how the program ends where no fault came: `Done`, or `Refused` where a list is not
-/// shown to be complete.
+/// Does what is ordered, and returns how the program ends where there was no fault: `Done`, or `Refused` where a list
+/// is not shown to be complete.
 ///
-/// The files of an order are all opened before one is read: the puzzle's, the list's, the certificate's. `Read` of the
-/// first that can't be opened. A document that stands on standard input is read from there in its turn; where none stands
-/// there, nothing is taken from it. A solve opens the puzzle's and makes the other two beside their names; where two of
-/// the three are one, or one can't be made, `Write`.
-/// What it made is put under the names once all is written, the list first, and after a fault it is removed.
+/// All files of an order are opened before one is read: the puzzle's, the list's, the certificate's. `Read` of the
+/// first that can't be opened comes then. A document on standard input is read from there in its turn; where none is,
+/// nothing is taken from standard input. A solve opens the puzzle's file, and makes the other two beside their names.
+/// `Write` comes where two of the three are one file, or one can't be made. What it made is put under the names once
+/// everything is written, the list first; after a fault it is removed.
 ///
-/// A hint says why a file is refused, or what has to be changed in a text that has a fault. Memory for it may be refused. A
-/// check and a solve make none of a text where it isn't asked for and nobody reads it on a terminal.
+/// A hint says why a file is refused, or what has to be changed in a text that has a fault. There is none where memory
+/// is refused to it. A check and a solve have no hint on a text where none is asked for and nobody reads it on a
+/// terminal.
 pub fn run_order<
     S: FileSystem,
     I: Source,
@@ -207,12 +208,13 @@ pub fn run_order<
     }
 }
 
-// Whether hints are told: where they are asked for, or somebody reads them on a terminal.
+// Whether hints are given: where they are asked for, or somebody reads them on a terminal.
 fn are_told(hints: bool, terminal: bool) -> bool {
     hints || terminal
 }
 
-// Where somebody watches on a terminal, what has to be changed is told there, and what the listed arrangements stand for.
+// Checks joined documents. Where somebody watches on a terminal, says there what has to be changed, and what the listed
+// arrangements stand for.
 fn check_joined<I: Source, W: Sink, R: Threads + Sync + Clock + Eprint>(
     rt: &R,
     alloc: Global,
@@ -244,7 +246,7 @@ fn check_joined<I: Source, W: Sink, R: Threads + Sync + Clock + Eprint>(
     Ok(Exit::of_status(status))
 }
 
-// Tells who watches on a terminal what the listed arrangements stand for, where their list is complete.
+// Where a list is complete and somebody watches on a terminal, says what the listed arrangements stand for.
 fn tell_scope<R: Clock + Eprint>(
     progress: &CheckProgress<'_, R>,
     is_watched: bool,
@@ -303,8 +305,8 @@ struct SolveOrder<'a> {
     hints: bool,
 }
 
-// Opens the puzzle's file and makes the others beside their names before anything is read, and puts them there when all
-// is written. A file that is another of them is not made.
+// Opens the puzzle's file, and makes the others beside their names, before anything is read. Puts them there when
+// everything is written. A file that is one of the others is not made.
 fn solve<S: FileSystem, W: Sink, R: Threads + Wait + Sync + Clock + Eprint>(
     rt: &R,
     alloc: Global,
@@ -357,7 +359,7 @@ fn solve<S: FileSystem, W: Sink, R: Threads + Wait + Sync + Clock + Eprint>(
     }
 }
 
-// That two of three names lead to one file, or it can't be told that they don't.
+// The fault where two of three names lead to one file, or it isn't known that they don't.
 fn not_apart<S: FileSystem>(alloc: Global, files: &Files, system: &S) -> HintedFault
     ensures { result.fault ≡ RunFault.Write }
 {
@@ -367,7 +369,7 @@ fn not_apart<S: FileSystem>(alloc: Global, files: &Files, system: &S) -> HintedF
     }
 }
 
-// Under which of the names no file can be made, and why, or that two of them lead to one.
+// The names under which no file can be made, and why, or that two of them lead to one file.
 fn hint_on_places<S: FileSystem>(alloc: Global, files: &Files, system: &S) -> Option<String> {
     for name in [&files.list, &files.certificate] {
         if let Some(refusal) = system.refusal_at(alloc, name) {
@@ -386,7 +388,7 @@ fn hint_on_writing<F: Sink>(alloc: Global, files: &Files, made: &MadeFiles<F>) -
     hint_on(alloc, &files.certificate, refusal)
 }
 
-// The list of one arrangement of each orbit, or of all.
+// The list of one arrangement of each orbit, or of all arrangements.
 fn listing_of(orbits: bool) -> Printing
     ensures { result ≡ list_printed orbits }
 {
@@ -397,7 +399,7 @@ fn listing_of(orbits: bool) -> Printing
     }
 }
 
-// The sum of what all parts of a search have, by the lines that stand there.
+// The sum over all parts of a search, by the lines at these places.
 fn add_up<S: FileSystem, I: Source, W: Sink>(
     alloc: Global,
     places: &PartPlaces,
@@ -450,7 +452,7 @@ fn add_up_files<S: FileSystem, W: Sink>(
     Ok(Exit::Done)
 }
 
-// The board of the puzzle, or the arrangement that is listed.
+// Draws the board of the puzzle, or the listed arrangement.
 fn show<S: FileSystem, I: Source, W: Sink>(
     alloc: Global,
     subject: &Subject,
@@ -488,7 +490,7 @@ struct PictureOrder<'a> {
     numbers: bool,
 }
 
-// A picture of the puzzle's empty board and its tiles, or of what is listed.
+// Draws a picture of the puzzle's empty board and its tiles, or of listed arrangements.
 fn picture<S: FileSystem, I: Source, W: Sink>(
     alloc: Global,
     order: &PictureOrder<'_>,

@@ -1,4 +1,4 @@
-//! Files of the lines that counts of parts printed, which are read one after the other.
+//! Files with the lines that counts of parts printed; they are read one after the other.
 
 ghost use Rattle.std.specs.Prelude.{◌≡◌, ◌≤◌, ◌-◌, ◌++◌, IfErr, List, OnOk, ℕ, length, map};
 ghost use Rattle.std.specs.String.{string_bytes};
@@ -12,7 +12,7 @@ use match_limits::MOST_BYTES;
 use match_runs::RunFault;
 use std::alloc::{AllocError, Global};
 
-// Where a file begins in what the files before it have together.
+// Where a file begins in the text that the files before it make together.
 #[derive(Clone, Copy)]
 struct FileStart {
     // how many lines end before it
@@ -22,7 +22,7 @@ struct FileStart {
 }
 
 impl FileStart {
-    // Where a text begins that stands behind another, which begins here.
+    // Where the file after this text begins, if the text begins here.
     fn behind(&self, text: &[u8]) -> FileStart {
         let lines = text.iter().filter(|byte| **byte == b'\n').count();
         FileStart {
@@ -34,7 +34,7 @@ impl FileStart {
         }
     }
 
-    // Whether the line of this number, from 1, begins behind this.
+    // Whether the line with this number, from 1, begins after this.
     fn is_before(&self, line: usize) -> bool {
         if self.is_within_line {
             self.lines.saturating_add(1) < line
@@ -44,15 +44,15 @@ impl FileStart {
     }
 }
 
-// Files of the lines that counts of parts printed, and what is seen while they are read.
+// Files with the lines that counts of parts printed, and what is noted while they are read.
 #[derive(Drop)]
 pub(crate) struct PartFiles<'a, S: FileSystem> {
     system: &'a S,
     names: &'a [String],
-    // where each file begins that was read, and where the next one does
+    // where each file begins that was read, and where the next one will
     starts: Vec<FileStart>,
     next: FileStart,
-    // why that one was refused, where it was
+    // why that one was refused, if it was
     refusal: Option<Refusal>,
 }
 
@@ -74,7 +74,7 @@ impl<S: FileSystem> Inputs for PartFiles<'_, S> {
 }
 
 impl<'a, S: FileSystem> PartFiles<'a, S> {
-    // The files of these names, of which none is read.
+    // The files with these names; none is read yet.
     pub(crate) fn new(alloc: Global, system: &'a S, names: &'a [String]) -> PartFiles<'a, S>
         ensures system { result.system ≡ system.entry }
         ensures names { result.names ≡ names.entry }
@@ -91,7 +91,7 @@ impl<'a, S: FileSystem> PartFiles<'a, S> {
         }
     }
 
-    // Puts the text of the file of this name behind what was read.
+    // Appends the text of the file with this name to what was read.
     fn read_on(
         &mut self,
         alloc: Global,
@@ -137,8 +137,8 @@ impl<'a, S: FileSystem> PartFiles<'a, S> {
         Ok(())
     }
 
-    // What is told beside the fault of a sum of these: which file was refused, and why, or in which of several files the
-    // wrong line begins.
+    // The hint beside a fault of the sum: which file was refused, and why, or in which of several files the wrong line
+    // begins.
     pub(crate) fn hint(&self, alloc: Global, fault: &RunFault) -> Option<String> {
         match fault {
             RunFault::Read(_) => hint_on(
@@ -152,7 +152,7 @@ impl<'a, S: FileSystem> PartFiles<'a, S> {
         }
     }
 
-    // The name of the file behind those that were read.
+    // The name of the file after those that were read.
     fn next_name(&self) -> Option<&str> {
         let name = self.names.get(self.starts.len())?;
         Some(name)
@@ -174,7 +174,7 @@ impl<'a, S: FileSystem> PartFiles<'a, S> {
     }
 }
 
-// The line that is wrong, where one is.
+// The line that is wrong, if one is.
 fn wrong_line(fault: &PartsFault) -> Option<u32> {
     match fault {
         PartsFault::Ends(line) | PartsFault::Unknown(line) | PartsFault::Clashes(line, _) => {

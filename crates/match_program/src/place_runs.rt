@@ -1,4 +1,4 @@
-//! Runs over documents of which one may stand on standard input. Where each stands in a file, nothing is taken from there.
+//! Runs over documents, one of which may be on standard input. Where all are files, nothing is taken from there.
 
 ghost use Rattle.byte_streams.specs.Moves.{reading_of, writing_of};
 ghost use Rattle.byte_streams.specs.Origins.{joined_source, one_source, three_sources, two_sources};
@@ -27,7 +27,7 @@ use std::time::Clock;
 
 // ---- of a puzzle
 
-// What is ordered of a puzzle alone.
+// An order about a puzzle alone.
 #[derive(Clone, Copy)]
 pub(crate) struct DescriptionOrder<'a> {
     pub(crate) puzzle: &'a Place,
@@ -55,7 +55,7 @@ pub(crate) fn describe<S: FileSystem, I: Source, W: Sink>(
     }
 }
 
-// Describes the puzzle that is read from there.
+// Describes the puzzle that this source has.
 fn describe_from<P: Source, W: Sink>(
     alloc: Global,
     puzzle: &mut P,
@@ -69,7 +69,7 @@ fn describe_from<P: Source, W: Sink>(
     Ok(Exit::Done)
 }
 
-// A count by a search that is ordered.
+// An order to count by a search.
 #[derive(Clone, Copy)]
 pub(crate) struct CensusOrder<'a, R> {
     pub(crate) rt: &'a R,
@@ -102,7 +102,7 @@ impl<'a, R: Threads + Sync + Clock + Eprint> CensusOrder<'a, R> {
         }
     }
 
-    // Counts arrangements of the puzzle that is read from there.
+    // Counts arrangements of the puzzle that this source has.
     fn count_from<P: Source, W: Sink>(
         &self,
         puzzle: &mut P,
@@ -126,9 +126,9 @@ impl<'a, R: Threads + Sync + Clock + Eprint> CensusOrder<'a, R> {
 // What is drawn of a list.
 #[derive(Clone, Copy)]
 pub(crate) enum Drawing {
-    // The arrangement of this number, by characters.
+    // The arrangement with this number, as text.
     Arrangement(ArrangementNumber),
-    // A picture of the first ones.
+    // A picture of arrangements.
     Picture(PicturePlan),
 }
 
@@ -139,7 +139,7 @@ pub(crate) struct DrawingOrder<'a> {
     pub(crate) drawing: Drawing,
 }
 
-// Opens what stands in files before anything is read.
+// Draws. Opens all files before anything is read.
 pub(crate) fn draw<S: FileSystem, I: Source, W: Sink>(
     alloc: Global,
     order: &DrawingOrder<'_>,
@@ -169,7 +169,7 @@ pub(crate) fn draw<S: FileSystem, I: Source, W: Sink>(
     }
 }
 
-// Draws of a puzzle and a list that are read from there.
+// Draws from the puzzle and the list that these sources have.
 fn draw_from<P: Source, L: Source, W: Sink>(
     alloc: Global,
     drawing: Drawing,
@@ -195,7 +195,7 @@ fn draw_from<P: Source, L: Source, W: Sink>(
 
 // ---- of three documents
 
-// A check that prints all arrangements or one of each orbit, or how many they are, or why the list is refused.
+// A check that prints all arrangements, one of each orbit, how many there are, or why the list is refused.
 #[derive(Clone, Copy)]
 pub(crate) struct PrintingOrder<'a, R> {
     pub(crate) rt: &'a R,
@@ -204,7 +204,7 @@ pub(crate) struct PrintingOrder<'a, R> {
 }
 
 impl<'a, R: RandomSource> PrintingOrder<'a, R> {
-    // Prints it of documents that are joined on standard input, or stand apart.
+    // Prints it for documents that are joined on standard input, or apart.
     pub(crate) fn print<S: FileSystem, I: Source, W: Sink>(
         &self,
         given: &Given,
@@ -241,7 +241,7 @@ impl<'a, R: RandomSource> PrintingOrder<'a, R> {
         Ok(Exit::of_status(status))
     }
 
-    // Opens what stands in files before anything is read.
+    // Prints it for documents that are apart. Opens all files before anything is read.
     fn print_apart<S: FileSystem, I: Source, W: Sink>(
         &self,
         places: &ThreePlaces,
@@ -284,7 +284,7 @@ impl<'a, R: RandomSource> PrintingOrder<'a, R> {
         }
     }
 
-    // Prints it of three documents that are read from there.
+    // Prints it for the three documents that these sources have.
     fn print_from<P: Source, L: Source, C: Source, W: Sink>(
         &self,
         puzzle: &mut P,

@@ -1,4 +1,4 @@
-//! How far a check, a solve or a count is, told on standard error.
+//! Says on standard error how far a check, a solve or a count is.
 
 ghost use Rattle.std.specs.Prelude.{◌≡◌, ◌-◌, ◌*◌, ◌/◌, ◌^◌, max, min};
 ghost use Rattle.match_runs.specs.Runs.{unhinted};
@@ -12,13 +12,13 @@ use std::alloc::Global;
 use std::sync::atomic::{AtomicBool, AtomicU64, Ordering};
 use std::time::{Clock, Instant};
 
-// Whose turn it is to tell: once a second, the worker that comes by first.
+// Who may say it next: once a second, the first worker that asks.
 #[derive(Drop)]
 struct Turns<'a, R: Clock + Eprint> {
     rt: &'a R,
-    // none where nothing is to be told, or there is no clock
+    // none where nothing is to be said, or there is no clock
     start: Option<Instant>,
-    // the second in which it was told last
+    // the second in which it was said last
     told: AtomicU64,
 }
 
@@ -39,7 +39,7 @@ impl<'a, R: Clock + Eprint> Turns<'a, R> {
         Some(passed.as_secs())
     }
 
-    // The same, where it is the caller's turn.
+    // The seconds since the start, if it is the caller's turn.
     fn take(&self) -> Option<u64> {
         let now = self.passed()?;
         let told = self.told.load(Ordering::Relaxed);
@@ -52,8 +52,8 @@ impl<'a, R: Clock + Eprint> Turns<'a, R> {
     }
 }
 
-/// Tells how far a check is: of how many lemmas it was begun to walk the tree; and at its end what the listed arrangements
-/// stand for.
+/// Says how far a check is: for how many lemmas the walk of the tree has begun. At its end it says what the listed
+/// arrangements stand for.
 #[derive(Drop)]
 pub struct CheckProgress<'a, R: Clock + Eprint> {
     turns: Turns<'a, R>,
@@ -64,7 +64,7 @@ pub struct CheckProgress<'a, R: Clock + Eprint> {
 }
 
 impl<'a, R: Clock + Eprint> CheckProgress<'a, R> {
-    /// Tells how far it is where that is asked for.
+    /// Says how far it is if `asked`, otherwise nothing.
     pub fn new(rt: &'a R, asked: bool) -> CheckProgress<'a, R> {
         CheckProgress {
             turns: Turns::new(rt, asked),
@@ -75,7 +75,7 @@ impl<'a, R: Clock + Eprint> CheckProgress<'a, R> {
         }
     }
 
-    // Tells up to what a list that is complete has every arrangement.
+    // Says up to what a complete list has every arrangement.
     pub(crate) fn tell_scope(&self) {
         let listed = self.listed.load(Ordering::Relaxed);
         let symmetries = self.symmetries.load(Ordering::Relaxed);
@@ -109,11 +109,11 @@ impl<R: Clock + Eprint> CheckWatch for CheckProgress<'_, R> {
     }
 }
 
-// A node of a certificate has at least so many bytes: a letter and a digit, each behind a space.
+// A node of a certificate has at least this many bytes: a letter and a digit, each after a space.
 const LEAST_NODE_LEN: u64 = 4;
 
-/// Tells how far a solve is: how many children of branches were looked at, how many lemmas are done and how many wait
-/// for a worker, and how many arrangements were met, in the lemmas that are being searched too.
+/// Says how far a solve is: how many children of branches were looked at, how many lemmas are done, how many wait for a
+/// worker, and how many arrangements were met, also in lemmas that are still being searched.
 #[derive(Drop)]
 pub struct SolveProgress<'a, R: Clock + Eprint> {
     turns: Turns<'a, R>,
@@ -121,12 +121,12 @@ pub struct SolveProgress<'a, R: Clock + Eprint> {
     lemmas: AtomicU64,
     waiting: AtomicU64,
     met: AtomicU64,
-    // whether it was told that the certificate is too long to be checked
+    // whether it has said that the certificate is too long to be checked
     is_too_long: AtomicBool,
 }
 
 impl<'a, R: Clock + Eprint> SolveProgress<'a, R> {
-    /// Tells where it is asked for, and else nothing.
+    /// Says how far it is if `asked`, otherwise nothing.
     pub fn new(rt: &'a R, asked: bool) -> SolveProgress<'a, R> {
         SolveProgress {
             turns: Turns::new(rt, asked),
@@ -138,8 +138,8 @@ impl<'a, R: Clock + Eprint> SolveProgress<'a, R> {
         }
     }
 
-    /// The hint, and before it, where the search gave up, what it had met until then. None where there is no hint, or memory
-    /// is refused.
+    /// Returns the hint and, where the search gave up, before it what the search had met until then. `None` where there
+    /// is no hint, or memory is refused.
     pub fn with_met(
         &self,
         alloc: Global,
@@ -155,7 +155,8 @@ impl<'a, R: Clock + Eprint> SolveProgress<'a, R> {
         format!(in alloc; "nodes met: {nodes}, arrangements met: {met}, {hint}").ok()
     }
 
-    // What a solve came to: its fault has the hint with what was met, or else the one on writing, if there is one.
+    // The outcome of a solve. Its fault has the hint, with what was met, or else the hint about writing, if there is
+    // one.
     pub(crate) fn told(
         &self,
         alloc: Global,
@@ -180,7 +181,7 @@ impl<'a, R: Clock + Eprint> SolveProgress<'a, R> {
         children.saturating_add(lemmas)
     }
 
-    // Tells how far it is after so many seconds.
+    // Says how far it is after this many seconds.
     fn tell(&self, seconds: u64) {
         let children = self.children.load(Ordering::Relaxed);
         let lemmas = self.lemmas.load(Ordering::Relaxed);
@@ -192,7 +193,7 @@ impl<'a, R: Clock + Eprint> SolveProgress<'a, R> {
         );
     }
 
-    // Tells once that the certificate is too long, as soon as its nodes say so.
+    // Says once that the certificate is too long, as soon as its nodes show it.
     fn tell_of_length(&self) {
         let is_too_long = self.nodes() > u64::from(MOST_BYTES) / LEAST_NODE_LEN;
         if is_too_long && !self.is_too_long.swap(true, Ordering::Relaxed) {
@@ -253,7 +254,7 @@ impl<R: Clock + Eprint> SolveWatch for SolveProgress<'_, R> {
     }
 }
 
-/// Tells how far a count by a search is: how many of its subtrees are done, how many arrangements they have, and about
+/// Says how far a count by a search is: how many of its subtrees are done, how many arrangements they have, and about
 /// how long the others will take, at the pace of those that are done.
 #[derive(Drop)]
 pub struct CensusProgress<'a, R: Clock + Eprint> {
@@ -264,7 +265,7 @@ pub struct CensusProgress<'a, R: Clock + Eprint> {
 }
 
 impl<'a, R: Clock + Eprint> CensusProgress<'a, R> {
-    /// Tells where it is asked for, and else nothing.
+    /// Says how far it is if `asked`, otherwise nothing.
     pub fn new(rt: &'a R, asked: bool) -> CensusProgress<'a, R> {
         CensusProgress {
             turns: Turns::new(rt, asked),
@@ -274,7 +275,7 @@ impl<'a, R: Clock + Eprint> CensusProgress<'a, R> {
         }
     }
 
-    // Tells how far it is after so many seconds.
+    // Says how far it is after this many seconds.
     fn tell(&self, seconds: u64) {
         let subtrees = self.subtrees.load(Ordering::Relaxed);
         let done = self.done.load(Ordering::Relaxed);
@@ -286,7 +287,7 @@ impl<'a, R: Clock + Eprint> CensusProgress<'a, R> {
     }
 }
 
-// How many seconds it takes until all are done, where so many were done in so many seconds.
+// How many seconds it takes until all are done, given how many were done in how many seconds.
 fn seconds_left(seconds: u64, done: u64, all: u64) -> u64
     ensures { result ≡ min (seconds * (all - done)) (2 ^ 64 - 1) / max done 1 }
 {

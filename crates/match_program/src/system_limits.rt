@@ -4,10 +4,10 @@ use std::alloc::Alloc;
 use std::fs;
 use std::rt::Files;
 
-// Where Linux tells the limits of a process: a line for each, with its name and then the limit.
+// The file in which Linux says the limits of a process: a line for each, with its name and then the limit.
 const LIMITS: &str = "/proc/self/limits";
 
-/// Limits of a process, in bytes. None where there is none, or the system doesn't tell it.
+/// Limits of a process, in bytes. `None` where there is no limit, or the system doesn't say it.
 #[derive(Clone, Copy)]
 pub struct SystemLimits {
     stack: Option<u64>,
@@ -15,7 +15,7 @@ pub struct SystemLimits {
 }
 
 impl SystemLimits {
-    /// The limits of this process.
+    /// Reads the limits of this process.
     pub fn read<R: Files + Alloc>(rt: &R) -> SystemLimits {
         match fs::read_to_string(rt, LIMITS) {
             Ok(limits) => SystemLimits::of(&limits),
@@ -23,7 +23,7 @@ impl SystemLimits {
         }
     }
 
-    /// The limits that a text tells as Linux does: a line for each, with its name and then the limit.
+    /// Reads the limits from a text in the form that Linux uses: a line for each, with its name and then the limit.
     pub fn of(limits: &str) -> SystemLimits {
         SystemLimits {
             stack: limit(limits, "Max stack size"),
@@ -31,7 +31,7 @@ impl SystemLimits {
         }
     }
 
-    /// Whether each thread may have a stack of so many bytes.
+    /// Whether each thread may have a stack of `len` bytes.
     pub fn allow_stack(&self, len: u64) -> bool {
         self.stack.is_none_or(|most| len <= most)
     }
@@ -42,7 +42,7 @@ impl SystemLimits {
     }
 }
 
-// The limit of this name.
+// The limit with this name.
 fn limit(limits: &str, name: &str) -> Option<u64> {
     let words = limits.lines().find_map(|line| line.strip_prefix(name))?;
     words.split_whitespace().next()?.parse().ok()

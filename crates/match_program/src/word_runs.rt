@@ -1,4 +1,4 @@
-//! Runs of the words of a command line: what they order, and what is told where that fails.
+//! Runs the words of a command line: does what they order, and says why where that fails.
 
 ghost use Rattle.std.specs.Prelude.{◌≡◌, map};
 ghost use Rattle.std.specs.String.{string_bytes};
@@ -24,11 +24,11 @@ use std::sync::Wait;
 use std::thread::Threads;
 use std::time::Clock;
 
-/// Does what the words after the program's name order, and says how the program ends. A fault's line goes to `errors`, and
-/// nothing else but what is wrong with words. How far a check or a solve is, what has to be changed in a text that has a
-/// fault, and on a terminal why a file is refused, is told by `rt`.
+/// Does what the words after the program's name order, and returns how the program ends. `errors` gets the line of a
+/// fault, or what is wrong with the words, and nothing else. How far a check or a solve is, what has to be changed in a
+/// text that has a fault, and on a terminal why a file is refused, is said through `rt`.
 ///
-/// Help and the version go to the output. All is done then; where they can't be written, it ends as `Write` does.
+/// Help and the version go to the output, and then all is done; where they can't be written, it ends as after `Write`.
 pub fn run_words<
     S: FileSystem,
     I: Source,
@@ -54,7 +54,7 @@ pub fn run_words<
     }
 }
 
-// Does what is ordered, and tells of a fault.
+// Does what is ordered, and reports a fault.
 fn carry_out<
     S: FileSystem,
     I: Source,
@@ -90,8 +90,8 @@ fn carry_out<
     }
 }
 
-// Whether what is told beside the fault is told also where nobody reads it on a terminal: where hints are asked for, and
-// else of a text that has a fault, by orders that people give. Scripts want one line alone.
+// Whether the hint beside the fault is given even where nobody reads it on a terminal: where hints are asked for;
+// otherwise for a text that has a fault, with orders that people give. Scripts want the line alone.
 fn is_always_told(order: &Order, fault: &RunFault) -> bool {
     match order {
         Order::Joined => false,
@@ -104,12 +104,12 @@ fn is_always_told(order: &Order, fault: &RunFault) -> bool {
         Order::Show(_) | Order::Draw { .. } | Order::Symmetries(_) | Order::Tiles { .. } => {
             is_of_texts(fault)
         }
-        // which of many files it is has to be told everywhere
+        // which of many files it is has to be said everywhere
         Order::Total(_) => true,
     }
 }
 
-// Whether the fault is none of reading or writing.
+// Whether the fault is not about reading or writing.
 fn is_of_texts(fault: &RunFault) -> bool {
     !matches!(
         fault,
@@ -117,8 +117,8 @@ fn is_of_texts(fault: &RunFault) -> bool {
     )
 }
 
-// What is seen of the standard streams: whether somebody reads what is told on a terminal, and why the last read and the
-// last write failed, where they did.
+// What is known of the standard streams: whether somebody reads the errors on a terminal, and why the last read and the
+// last write failed, if they did.
 #[derive(Clone, Copy)]
 struct Seen {
     terminal: bool,
@@ -126,7 +126,7 @@ struct Seen {
     output: Option<Refusal>,
 }
 
-// Tells what was left to be told beside a fault: its hint, or which stream or file failed while it was read or written.
+// Says what is left to say beside a fault: its hint, or which stream or file failed while it was read or written.
 fn tell_hint<R: Eprint>(rt: &R, alloc: Global, order: &Order, hinted: &HintedFault, seen: Seen) {
     if !seen.terminal && !is_always_told(order, &hinted.fault) {
         return;
@@ -153,7 +153,7 @@ fn stream_hint(alloc: Global, stream: &str, refusal: Option<Refusal>) -> Option<
     hint_on(alloc, stream, refusal?)
 }
 
-// The name of the document's file, where the order reads it from one.
+// The name of the document's file, if the order reads it from one.
 fn file_of<'a>(order: &'a Order, document: Document) -> Option<&'a str> {
     match order {
         Order::Check { files, .. } | Order::Solve { files, .. } => Some(name_in(files, document)),
@@ -214,7 +214,7 @@ fn file_of_three<'a>(places: &'a ThreePlaces, document: Document) -> Option<&'a 
     }
 }
 
-// Tells who types what is read from standard input, if anything is.
+// Tells a user who types on standard input what is read from there, if anything is.
 fn tell_what_is_read<R: Eprint>(rt: &R, order: &Order) {
     if let Some(documents) = read_from_input(order) {
         let _ = eprintln!(rt;
@@ -278,7 +278,7 @@ fn one_of_three(places: &ThreePlaces) -> Option<&'static str> {
     }
 }
 
-// Says why words order nothing.
+// Says why words are no order.
 fn refuse<W: Sink, E: Sink>(
     alloc: Global,
     fault: &WordsFault,
@@ -294,7 +294,8 @@ fn refuse<W: Sink, E: Sink>(
     }
 }
 
-/// Says in one line why a run stopped, and how the program ends then. Where the line can't be written, nothing can be said.
+/// Writes a line that says why a run stopped, and returns how the program ends then. Where the line can't be written,
+/// nothing can be said.
 pub fn stopped<E: Sink>(alloc: Global, fault: &RunFault, errors: &mut E) -> Exit
     ensures exit { result ≡ fault_exit fault.now }
     ensures told { TellsFault (writing_of E.Sink errors.old errors.new) fault.now }
@@ -303,7 +304,7 @@ pub fn stopped<E: Sink>(alloc: Global, fault: &RunFault, errors: &mut E) -> Exit
     Exit::of_fault(fault)
 }
 
-// Where memory is refused to the line, that is told.
+// Writes the line; where memory is refused to it, says that.
 fn tell<E: Sink>(alloc: Global, fault: &RunFault, errors: &mut E)
     ensures { TellsFault (writing_of E.Sink errors.old errors.new) fault.now }
 {
@@ -313,18 +314,18 @@ fn tell<E: Sink>(alloc: Global, fault: &RunFault, errors: &mut E)
     }
 }
 
-// Writes the text, or a front of it.
+// Writes the text, or the beginning of it.
 fn put<E: Sink>(errors: &mut E, text: &[u8])
     ensures { Tells (writing_of E.Sink errors.old errors.new) text.now }
 {
     match write_whole(errors, text) {
         Ok(()) => {}
-        // Nothing can be said.
+        // nothing can be said
         Err(_) => {}
     }
 }
 
-// Prints help or the version where it was asked for, else what is wrong with the words.
+// Prints help or the version where it was asked for, otherwise what is wrong with the words.
 fn explained<W: Sink, E: Sink>(
     alloc: Global,
     error: &clap::Error,

@@ -85,7 +85,7 @@ fn put_fault(line: &mut Line, fault: &Fault) -> Result<(), AllocError>
     }
 }
 
-/// The line of an answer on a list of so many arrangements.
+/// Writes the line of an answer about a list of `listed` arrangements. An error comes where memory is refused.
 #[tactic(auto, using(crate::proofs::LineLemmas::line_laws), unfolding(crate::specs::AnswerText::answer_line))]
 pub fn write_answer(alloc: Global, answer: &Answer, listed: u32) -> Result<Vec<u8>, AllocError>
     requires { HasLine answer.now }

@@ -39,11 +39,10 @@ fn put_cell(
     Ok(())
 }
 
-/// An arrangement of the puzzle as it lies on the board: for each cell, in order, a line with its
-/// number, the tile there with its turn, and the colours that it shows on sides 0, 1 and so on, as
-/// `0 2.2 020`.
+/// Writes an arrangement of the puzzle as it lies on the board. Each cell, in order, has a line with its number, the
+/// tile there with its turn, and the colours that it shows on sides 0, 1 and so on: `0 2.2 020`.
 ///
-/// An `Err` where memory is refused, and nowhere else.
+/// An `Err` comes only where memory is refused.
 pub fn write_board(
     alloc: Global,
     puzzle: &Puzzle,

@@ -1,4 +1,4 @@
-//! What is printed of a complete list: all arrangements of the puzzle, one of each orbit, or how many they are.
+//! What is printed of a complete list: all arrangements of the puzzle, one of each orbit, or how many there are.
 
 ghost use Rattle.std.specs.Prelude.{◌≡◌, List, IfOk, IsErrOf, length};
 ghost use Rattle.match_limits.specs.declared.TheConstants.{MOST_ARRANGEMENTS};
@@ -18,8 +18,8 @@ use symmetry_orbits::{
 };
 use text_words::put_number_line;
 
-/// The list of all arrangements of the puzzle, from a complete one: the listed ones and then their images, in the order
-/// of the closure.
+/// Writes the list of all arrangements of the puzzle, from a complete list: the listed ones and then their images, in
+/// the order in which the symmetries reach them.
 ///
 /// `TooMany` comes only where there are over 1,000,000, and `Memory` where memory is refused.
 pub fn write_all<S: BuildHasher + Drop>(
@@ -42,10 +42,10 @@ pub fn write_all<S: BuildHasher + Drop>(
     Ok(text)
 }
 
-/// The list of one arrangement of each orbit, from a complete list: the first of each that is listed, in the order of
-/// the list.
+/// Writes the list of one arrangement of each orbit (arrangements that symmetries take into each other), from a
+/// complete list: the first listed one of each orbit, in the order of the list.
 ///
-/// `TooMany` comes only where over 1,000,000 are listed, or in one orbit, and `Memory` where memory is refused.
+/// `TooMany` comes only where over 1,000,000 are listed, or are in one orbit, and `Memory` where memory is refused.
 pub fn write_orbits<S: BuildHasher + Copy + Drop>(
     alloc: Global,
     prepared: &Prepared<'_>,
@@ -65,10 +65,11 @@ pub fn write_orbits<S: BuildHasher + Copy + Drop>(
     Ok(text)
 }
 
-/// How many arrangements, pictures and orbits the puzzle has, from a complete list, and by how many symmetries that the
-/// certificate names: a line each.
+/// Writes, from a complete list, how many arrangements, pictures and orbits the puzzle has, and how many symmetries the
+/// certificate names: a line for each. Arrangements that look the same at each cell are one picture, and those that
+/// symmetries take into each other are one orbit.
 ///
-/// The faults are those of [`write_orbits`].
+/// `TooMany` comes only where over 1,000,000 are listed, or are in one orbit, and `Memory` where memory is refused.
 pub fn write_counts<S: BuildHasher + Copy + Drop>(
     alloc: Global,
     prepared: &Prepared<'_>,
@@ -90,7 +91,7 @@ pub fn write_counts<S: BuildHasher + Copy + Drop>(
     Ok(text)
 }
 
-// The numbers, a line each.
+// The numbers, a line for each.
 fn count_lines(alloc: Global, counted: Count, symmetries: u64) -> Result<Vec<u8>, AllocError>
     ensures { IfOk result (λ text. text.items ≡ count_text counted symmetries) }
 {

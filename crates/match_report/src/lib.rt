@@ -1,4 +1,4 @@
-//! What is said of a check and of a search, and what is printed of a complete list.
+//! Prints the answer of a check, the report of a search, and what follows from a complete list.
 #![tactic(auto)]
 
 mod answers;

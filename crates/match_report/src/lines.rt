@@ -10,7 +10,8 @@ use std::io::Write;
 use std::marker::Model;
 use text_words::put_number;
 
-/// A line that is being written, seen as its bytes. Where memory is refused, a part of a word may have been written.
+/// A line that is being written; contracts see its bytes. Where memory is refused, a part of a word may have been
+/// written.
 #[derive(Drop)]
 pub struct Line {
     text: Vec<u8>,
@@ -24,7 +25,7 @@ impl Model for Line {
 
 #[tactic(auto, unfolding(text_words::specs::Spelling::spaced))]
 impl Line {
-    /// A line that begins with this word.
+    /// Begins a line with this word.
     pub fn new(alloc: Global, word: &[u8]) -> Result<Line, AllocError>
         ensures { IfOk result (λ line. line ≡ word.now) }
     {
@@ -32,7 +33,7 @@ impl Line {
         Ok(Line { text })
     }
 
-    /// One word more.
+    /// Adds a space and this word.
     pub fn word(&mut self, word: &[u8]) -> Result<(), AllocError>
         ensures { OnOk result (self.new ≡ self.old ++ spaced (word.now ∷ [])) }
     {
@@ -40,21 +41,21 @@ impl Line {
         self.text.extend_from_slice(word)
     }
 
-    /// One word more, or several: what the value is displayed as.
+    /// Adds a space and what the value is displayed as: one word, or several.
     pub fn displayed<D: Display>(&mut self, value: &D) -> Result<(), AllocError>
         ensures { OnOk result (IfSome (D.output value.now) (λ words. self.new ≡ self.old ++ spaced (words ∷ []))) }
     {
         write!(self.text, " {value}").map_err(|_| AllocError)
     }
 
-    /// One number more.
+    /// Adds a space and this number.
     pub fn number(&mut self, number: u32) -> Result<(), AllocError>
         ensures { OnOk result (self.new ≡ self.old ++ spaced (decimal number ∷ [])) }
     {
         self.count(u64::from(number))
     }
 
-    /// One number more, of 64 bits.
+    /// Adds a space and this number of 64 bits.
     pub fn count(&mut self, count: u64) -> Result<(), AllocError>
         ensures { OnOk result (self.new ≡ self.old ++ spaced (decimal count ∷ [])) }
     {
@@ -62,7 +63,7 @@ impl Line {
         put_number(&mut self.text, count)
     }
 
-    /// One number more, with a colon behind it.
+    /// Adds a space, this number and a colon.
     pub fn label(&mut self, number: u32) -> Result<(), AllocError>
         ensures { OnOk result (self.new ≡ self.old ++ spaced (label (decimal number) ∷ [])) }
     {
@@ -71,7 +72,7 @@ impl Line {
         Ok(())
     }
 
-    /// One word more, the steps of a path: `-` for none.
+    /// Adds a space and the steps of a path as one word; `-` for no steps.
     pub fn path(&mut self, steps: &[u16]) -> Result<(), AllocError>
         ensures { OnOk result (self.new ≡ self.old ++ spaced (path_text steps.now ∷ [])) }
     {
@@ -82,7 +83,7 @@ impl Line {
         self.dotted(others)
     }
 
-    // Numbers with a dot before each.
+    // Adds the numbers, each after a dot.
     fn dotted(&mut self, numbers: &[u16]) -> Result<(), AllocError>
         ensures { OnOk result (self.new ≡ self.old ++ dotted numbers.now) }
     {
@@ -99,7 +100,7 @@ impl Line {
         put_number(&mut self.text, u64::from(number))
     }
 
-    /// The LF that ends the line.
+    /// Ends the line with LF, and returns its bytes.
     pub fn end(mut self) -> Result<Vec<u8>, AllocError>
         ensures { IfOk result (λ text. text.items ≡ self ++ 10 ∷ []) }
     {

@@ -1,4 +1,4 @@
-//! What a check found, and how that is said.
+//! The result of a check, and how it is said.
 
 ghost use Rattle.std.specs.Prelude.{◌≡◌, IfOk, length};
 ghost use Rattle.cert_check.specs.Answer.{IsAnswer};
@@ -9,17 +9,17 @@ use crate::answers::write_answer;
 use cert_check::{Answer, Question};
 use std::alloc::{AllocError, Global};
 
-/// What a check found.
+/// The result of a check.
 #[derive(Clone, Copy, PartialEq, Eq, Debug)]
 pub enum Status {
     /// The list is complete.
     Complete,
-    /// The certificate does not show that it is.
+    /// The certificate does not show that the list is complete.
     Refused,
 }
 
 impl Status {
-    // What an answer comes to.
+    // The status of an answer.
     fn of_answer(answer: &Answer) -> Status
         ensures { result ≡ status_of answer.now }
     {
@@ -30,16 +30,16 @@ impl Status {
     }
 }
 
-/// The line of an answer, and what the answer comes to.
+/// The line of an answer, and its status.
 #[derive(Drop)]
 pub struct Verdict {
     pub line: Vec<u8>,
     pub status: Status,
 }
 
-/// What is said of a question that has this answer.
+/// Returns what to say about a question that has this answer.
 ///
-/// An `Err` where memory is refused, and nowhere else.
+/// An `Err` comes only where memory is refused.
 pub fn write_verdict(
     alloc: Global,
     question: &Question<'_>,
@@ -49,7 +49,7 @@ pub fn write_verdict(
     ensures line { IfOk result (λ verdict. verdict.line.items ≡ answer_line answer.now (length question.now.listed)) }
     ensures status { IfOk result (λ verdict. verdict.status ≡ status_of answer.now) }
 {
-    // It says that the puzzle is one.
+    // its contract says that this is a puzzle
     let _ = question.puzzle().board();
     let line = write_answer(alloc, answer, question.listed().len() as u32)?;
     Ok(Verdict {

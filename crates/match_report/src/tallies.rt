@@ -1,4 +1,4 @@
-//! How it is printed which worker took what.
+//! How it is printed which worker took which lemmas.
 
 ghost use Rattle.std.specs.Prelude.{◌≡◌, ◌<◌, ◌++◌, ◌^◌, IfOk, OnOk, decimal, length, map};
 ghost use Rattle.text_words.specs.Spelling.{line_text, spaced};
@@ -30,7 +30,7 @@ impl Taken {
         Taken { numbers }
     }
 
-    /// The numbers, the first taken first.
+    /// Returns the numbers, the first taken first.
     pub fn numbers(&self) -> &[u32]
         ensures { result.now ≡ self.now }
     {
@@ -38,7 +38,7 @@ impl Taken {
     }
 }
 
-// Numbers with a space before each.
+// Writes the numbers, each after a space.
 #[tactic(auto, unfolding(text_words::specs::Spelling::spaced))]
 fn put_numbers(text: &mut Vec<u8>, numbers: &[u32]) -> Result<(), AllocError>
     ensures { OnOk result (text.new.items ≡ text.old.items ++ spaced (map decimal numbers.now)) }
@@ -61,10 +61,9 @@ fn put_worker(text: &mut Vec<u8>, worker: u32, taken: &Taken) -> Result<(), Allo
     Ok(())
 }
 
-/// The line `worker W took` for each worker W, from 0, with the numbers that it took behind it, each
-/// after a space.
+/// Writes a line `worker W took` for each worker W, from 0, followed by the numbers that it took, each after a space.
 ///
-/// An `Err` where memory is refused, and nowhere else.
+/// An `Err` comes only where memory is refused.
 pub fn write_tally(alloc: Global, tally: &[Taken]) -> Result<Vec<u8>, AllocError>
     requires { length tally.now < 2 ^ 32 }
     ensures { IfOk result (λ text. text.items ≡ tally_text tally.now) }

@@ -1,4 +1,4 @@
-//! What is told of a puzzle that can't be solved as it was asked.
+//! Advice where a puzzle can't be solved as it was asked.
 
 use crate::faults::RunFault;
 use crate::hints::hint_on;
@@ -14,8 +14,8 @@ const GREATER_DEPTH: &str = "a greater depth may help, up to --depth 3";
 
 const NO_LIST: &str = "a list has at most 1000000: edgematch count PUZZLE counts without one";
 
-/// What may help where a solve of this puzzle's text had this fault: what has to be changed in the text, or how many
-/// arrangements may be expected, and what can be done then. None where there is nothing to tell, or memory for it is
+/// Returns what may help where a solve of this puzzle's text had this fault: what has to be changed in the text, or how
+/// many arrangements may be expected and what can be done then. `None` where there is nothing to say, or memory is
 /// refused.
 pub(crate) fn solve_hint(
     alloc: Global,
@@ -31,9 +31,9 @@ pub(crate) fn solve_hint(
     }
 }
 
-/// What is told before a search from which more arrangements may be expected than a list has: how many, and what may help.
-/// None where no more are expected, where a greater depth can't be asked for and images are left out already, or where
-/// memory is refused.
+/// Returns what to say before a search that may find more arrangements than a list can have: how many are expected, and
+/// what may help. `None` where no more are expected, where no greater depth can be asked for and images are left out
+/// already, or where memory is refused.
 pub(crate) fn word_before(alloc: Global, puzzle: &Puzzle, plan: &SearchPlan) -> Option<String> {
     let estimate = estimate_of(alloc, puzzle).ok()?;
     if !estimate.is_over_a_list() {
@@ -48,14 +48,14 @@ pub(crate) fn word_before(alloc: Global, puzzle: &Puzzle, plan: &SearchPlan) -> 
     format!(in alloc; "arrangements by an estimate: {number}; {advice}").ok()
 }
 
-// How many arrangements may be expected of the puzzle, and what may help.
+// How many arrangements of the puzzle may be expected, and what may help.
 fn expectation(
     alloc: Global,
     puzzle: &[u8],
     plan: &SearchPlan,
     fault: &RunFault,
 ) -> Option<String> {
-    // What was read is no longer.
+    // the text that was read is no longer than this
     if puzzle.len() > MOST_BYTES as usize {
         return None;
     }
@@ -70,8 +70,8 @@ fn expectation(
     format!(in alloc; "arrangements by an estimate: {number}; {advice}").ok()
 }
 
-// What may help where there are too many arrangements for a list: a greater depth, which leaves out images of others, where
-// the puzzle has symmetries. Fuel can't help.
+// What may help where there are too many arrangements for a list: if the puzzle has symmetries, a greater depth, which
+// leaves out images of others. Fuel can't help.
 fn advice_on_many(alloc: Global, puzzle: &Puzzle, plan: &SearchPlan) -> &'static str {
     if may_be_deeper(plan) && has_symmetries(alloc, puzzle, plan) {
         GREATER_DEPTH
@@ -80,7 +80,7 @@ fn advice_on_many(alloc: Global, puzzle: &Puzzle, plan: &SearchPlan) -> &'static
     }
 }
 
-// Whether a search of the puzzle by the plan finds symmetries to cite by. Not where memory is refused.
+// Whether a search of the puzzle by the plan finds symmetries to cite by; false where memory is refused.
 fn has_symmetries(alloc: Global, puzzle: &Puzzle, plan: &SearchPlan) -> bool {
     match suggest_of(alloc, puzzle, plan.symmetries) {
         Ok(lines) => !lines.is_empty(),
@@ -93,7 +93,7 @@ fn may_be_deeper(plan: &SearchPlan) -> bool {
     plan.depth.get() < u32::from(MOST_DEPTH)
 }
 
-// What may help where the fuel ran out, and no more arrangements may be expected than a list has.
+// What may help where the fuel ran out, and no more arrangements are expected than a list can have.
 fn advice_on_fuel(plan: &SearchPlan) -> &'static str {
     if plan.fuel.get() < MOST_FUEL {
         "more fuel may help, up to --fuel 1000000"

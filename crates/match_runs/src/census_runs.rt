@@ -39,17 +39,17 @@ use std::thread::Threads;
 use text_words::put_number_line;
 use xcc_form::{Xcc, compile};
 
-// Into so many branches at least a search is split that may end early, where it has so many: enough for symmetries to
+// The least number of branches of a split for a search that may end early, if it has as many: enough for symmetries to
 // merge them, and few enough to begin at once.
 const SHORT: u32 = 256;
 
-// Into so many a search is split whose workers share them.
+// The least number of branches of a split that workers share.
 const SHARED: u32 = 4_096;
 
-// Into so many one is split of which parts are counted.
+// The least number of branches of a split that is counted in parts.
 const DEALT: u32 = 100_000;
 
-/// What is counted by a search, by how many workers, and who is told meanwhile.
+/// What a search counts, with how many workers, and who watches it.
 #[derive(Drop)]
 pub struct CensusPlan<'w, W: CensusWatch> {
     pub extent: Extent,
@@ -57,14 +57,20 @@ pub struct CensusPlan<'w, W: CensusWatch> {
     pub watch: &'w W,
 }
 
-/// Reads a puzzle to its end, and writes how many arrangements it has, counted by a search: a line `arrangements N`. Where
-/// it is only to be told whether there are more than `M`, `arrangements more than M` where there are. Of parts of the search,
-/// `puzzle DIGEST`, `split BRANCHES HASH` and for each part `K` of `N`, in their order, `part K/N arrangements M`: the parts of
-/// one split add up, and one call makes one. The digest is the SHA-256 of the puzzle's text.
+/// Reads a puzzle to its end, counts its arrangements by a search, and writes what `plan.extent` asks for:
 ///
-/// `Read` and `TooLong` are of the puzzle; `Puzzle` where its text spells none, with a hint of what has to be changed there;
-/// `Solve(TooMany)` where its options have over 200,000 items together, and `Solve(Full)` where 2^64 arrangements or more
-/// are counted, by one of several parts. Where a fault other than `Write` is answered, nothing was written.
+/// - for all: a line `arrangements N`
+/// - for whether there are more than `M`: `arrangements more than M` where there are, otherwise `arrangements N`
+/// - for parts of the search: `puzzle DIGEST`, `split BRANCHES HASH`, and for each part `K` of `N`, in their order,
+///   `part K/N arrangements M`
+///
+/// DIGEST is the SHA-256 of the puzzle's text. The parts of one split (the search cut into branches) add up; one call
+/// makes one split.
+///
+/// `Read` and `TooLong` are about the puzzle. `Puzzle` comes where its text has a fault, with a hint of what has to be
+/// changed there. `Solve(TooMany)` comes where its options have over 200,000 items together, and `Solve(Full)` where
+/// 2^64 arrangements or more are counted, in one of several parts. After a fault other than `Write` nothing was
+/// written.
 pub fn run_census<P: Source, W: Sink, R: Threads + Sync, T: CensusWatch + Sync>(
     rt: &R,
     alloc: Global,
@@ -93,7 +99,7 @@ pub fn run_census<P: Source, W: Sink, R: Threads + Sync, T: CensusWatch + Sync>(
     with_hint(ended, hint)
 }
 
-// What is printed of the puzzle that the text spells.
+// What to print for the puzzle with this text.
 fn counted<R: Threads + Sync, T: CensusWatch + Sync>(
     rt: &R,
     alloc: Global,
@@ -118,7 +124,7 @@ struct SpelledPuzzle<'a, 'p> {
     puzzle: &'p Puzzle,
 }
 
-// What is printed of the puzzle.
+// What to print for the puzzle.
 fn count_text<R: Threads + Sync, T: CensusWatch + Sync>(
     rt: &R,
     alloc: Global,
@@ -136,7 +142,7 @@ fn count_text<R: Threads + Sync, T: CensusWatch + Sync>(
     }
 }
 
-// How many arrangements there are.
+// Counts all arrangements.
 fn all_counted<R: Threads + Sync, T: CensusWatch + Sync>(
     rt: &R,
     alloc: Global,
@@ -178,7 +184,7 @@ fn counted_together<R: Threads + Sync, T: CensusWatch + Sync>(
     Ok(count)
 }
 
-// How many arrangements there are, or that there are more than so many.
+// How many arrangements there are, or that there are more than `most`.
 fn counted_to<T: CensusWatch>(
     alloc: Global,
     puzzle: &Puzzle,
@@ -200,7 +206,7 @@ fn counted_to<T: CensusWatch>(
     Ok(bounded_line(alloc, counted, most)?)
 }
 
-// The line of how many there are, or that there are more than so many.
+// The line that says how many there are, or that there are more than `most`.
 fn bounded_line(alloc: Global, counted: Option<u64>, most: u64) -> Result<Vec<u8>, AllocError>
     ensures { IfOk result (λ text. MatchOption counted
         (text.items ≡ number_line (codes "arrangements more than") most)
@@ -230,7 +236,7 @@ fn parts_counted<R: Threads + Sync, T: CensusWatch + Sync>(
     Ok(parts_text(alloc, spelled.text.bytes(), &branches, &parts, &counts)?)
 }
 
-// How many of so many branches are dealt to these parts.
+// How many of the branches belong to these parts.
 fn dealt_to(parts: &Parts, branches: usize) -> usize {
     let all = parts.count() as usize;
     let earlier = parts.earlier() as usize;
@@ -238,7 +244,7 @@ fn dealt_to(parts: &Parts, branches: usize) -> usize {
     dealt_before(branches, last, all).saturating_sub(dealt_before(branches, earlier, all))
 }
 
-// How many of so many branches are dealt to the first so many of all parts.
+// How many of the branches belong to the first `parts` of all parts.
 fn dealt_before(branches: usize, parts: usize, all: usize) -> usize
     requires { 0 < all }
 {
@@ -247,7 +253,7 @@ fn dealt_before(branches: usize, parts: usize, all: usize) -> usize
     each.saturating_mul(parts).saturating_add(left.min(parts))
 }
 
-// How many arrangements each of the parts has to which these branches are dealt.
+// How many arrangements each of the parts has that these branches belong to.
 fn counts_of<R: Threads + Sync, T: CensusWatch + Sync>(
     rt: &R,
     alloc: Global,
@@ -272,7 +278,7 @@ fn counts_of<R: Threads + Sync, T: CensusWatch + Sync>(
     Ok(counts)
 }
 
-// The lines of a puzzle that is spelled so, of its split, and of the parts to which that is dealt, with their counts.
+// The lines of a puzzle with this text, of its split, and of the parts with their counts.
 fn parts_text(
     alloc: Global,
     spelled: &[u8],
@@ -324,7 +330,7 @@ fn digest_of(text: &[u8]) -> [u8; 32]
     Sha256::digest(text)
 }
 
-// The branches of a split into so many at least, merged by symmetries of the puzzle.
+// The branches of a split into at least `least`, merged by symmetries of the puzzle.
 fn branches_of(alloc: Global, xcc: &Xcc<'_>, least: u32) -> Result<Vec<Branch>, AllocError>
     ensures split { IfOk result (λ v. IsSplit xcc.now v.items) }
     ensures selections { IfOk result (λ v. AllChoose (IsSelection xcc.now) v.items) }

@@ -21,19 +21,18 @@ use match_report::{Status, Verdict, write_verdict};
 use std::alloc::{AllocError, Global};
 use std::thread::Threads;
 
-/// By what a list is checked.
+/// How a list is checked.
 #[derive(Clone, Copy)]
 pub struct CheckPlan {
     pub workers: Workers,
     pub forks: Forks,
 }
 
-/// Reads a puzzle, a list and a certificate, each to its end and in this order, and writes the
-/// answer to them and nothing else. The answer is the same for any number of workers and of forks.
+/// Reads a puzzle, a list and a certificate, each to its end and in this order, and writes only the answer about them.
+/// The answer is the same for any number of workers and of forks.
 ///
-/// `Read` and `TooLong` name the document, and the ones after it are not touched then; a fault of a
-/// document is the first one, in the order of the documents. Where a fault other than `Write` is
-/// answered, nothing was written.
+/// `Read` and `TooLong` name the document; those after it are not touched then. A fault of a document is the first one,
+/// in the order of the documents. After a fault other than `Write` nothing was written.
 pub fn run_check<P: Source, L: Source, C: Source, W: Sink, R: Threads + Sync>(
     rt: &R,
     alloc: Global,
@@ -69,8 +68,9 @@ pub fn run_check<P: Source, L: Source, C: Source, W: Sink, R: Threads + Sync>(
     without_hint(ended)
 }
 
-/// The same, over whatever the documents come from and the answer goes to, and the watch is told while it runs. Where a
-/// hint is wanted and a text has a fault, it says what has to be changed there, if memory isn't refused to it.
+/// Reads a puzzle, a list and a certificate, and writes the answer about them, wherever the documents come from and the
+/// answer goes to. The watch is told of the check while it runs. Where a hint is wanted and a text has a fault, the
+/// hint says what has to be changed there, unless memory is refused to it.
 pub fn run_check_watched<
     I: Inputs<Texts = OwnedDocuments>,
     O: Outputs<Made = MadeText>,
@@ -101,11 +101,11 @@ pub fn run_check_watched<
     with_hint(ended, hint)
 }
 
-/// Reads a puzzle, a list and a certificate, joined, to the end, and writes the answer to them and nothing else. The
-/// answer is the same for any number of workers and of forks.
+/// Reads a puzzle, a list and a certificate, joined, to the end, and writes only the answer about them. The answer is
+/// the same for any number of workers and of forks.
 ///
-/// `Read` and `TooLong` are of the input; a fault of a document is the first one, in the order of the documents.
-/// Where a fault other than `Write` is answered, nothing was written.
+/// `Read` and `TooLong` are about the input. A fault of a document is the first one, in the order of the documents.
+/// After a fault other than `Write` nothing was written.
 pub fn run_joined<S: Source, W: Sink, R: Threads + Sync>(
     rt: &R,
     alloc: Global,
@@ -128,7 +128,7 @@ pub fn run_joined<S: Source, W: Sink, R: Threads + Sync>(
     without_hint(ended)
 }
 
-// The line of the answer to the texts.
+// The line of the answer about the texts.
 fn answer_of<R: Threads + Sync, G: CheckWatch + Sync>(
     rt: &R,
     alloc: Global,
@@ -143,7 +143,7 @@ fn answer_of<R: Threads + Sync, G: CheckWatch + Sync>(
     Ok((MadeText::new(verdict.line), verdict.status))
 }
 
-// What is said of the answer to a question.
+// What to say about the answer to a question.
 fn verdict_of<R: Threads + Sync, G: CheckWatch + Sync>(
     rt: &R,
     alloc: Global,

@@ -25,26 +25,26 @@ use puzzle_reasons::write_reasons;
 use std::alloc::{AllocError, Global};
 use xcc_form::{CompileFault, compile};
 
-/// What is written of a puzzle.
+/// What is written about a puzzle.
 #[derive(Clone, Copy)]
 pub enum Description {
-    /// Its empty board, drawn, with the numbers of its cells and the colours that the border asks for, and then how
-    /// many cells, tiles and colours there are, where each colour stands, how many options a search has, and an estimate
-    /// of how many arrangements there are.
+    /// A drawing of its empty board, with the numbers of its cells and the colours that the border and clues ask for.
+    /// Below it: how many cells, tiles and colours there are, where each colour occurs, how many options a search has,
+    /// and an estimate of how many arrangements there are.
     Board,
-    /// A picture of its empty board, with the colours that the border asks for, and of each tile.
+    /// A picture of its empty board, with the colours that the border and clues ask for, and of each tile.
     Picture,
-    /// Symmetries of it, at most 1,024: how many they are, and then the line of each, as a certificate has them. They
-    /// are those that a solve of the puzzle may cite by.
+    /// Symmetries of it, at most 1,024: first how many, then a line for each, as in a certificate. They are those by
+    /// which a solve of the puzzle may cite.
     Symmetries,
     /// That it has no fault, and what makes an arrangement of it impossible, as far as that is seen without a search.
     NoFault,
 }
 
-/// Reads a puzzle to its end, and writes what is asked of it.
+/// Reads a puzzle to its end, and writes what is asked about it.
 ///
-/// `Read` and `TooLong` are of the puzzle; `Puzzle` where its text spells none, with a hint of what has to be changed
-/// there. Where a fault other than `Write` is answered, nothing was written.
+/// `Read` and `TooLong` are about the puzzle. `Puzzle` comes where its text has a fault, with a hint of what has to be
+/// changed there. After a fault other than `Write` nothing was written.
 pub fn run_description<P: Source, W: Sink>(
     alloc: Global,
     puzzle: &mut P,
@@ -72,7 +72,7 @@ pub fn run_description<P: Source, W: Sink>(
     with_hint(ended, hint)
 }
 
-// What is written of the puzzle that the text spells.
+// What to write about the puzzle with this text.
 fn described(
     alloc: Global,
     text: &Text,
@@ -90,7 +90,7 @@ fn described(
     Ok((MadeText::new(printed), ()))
 }
 
-// The board of the puzzle, and facts of it.
+// The board of the puzzle, and facts about it.
 fn board_text(alloc: Global, puzzle: &Puzzle) -> Result<Vec<u8>, AllocError>
     ensures { IfOk result (λ text. IsBoardText puzzle.now text.items) }
 {

@@ -1,4 +1,4 @@
-//! What may go wrong with a run, and how that is printed.
+//! What may go wrong in a run, and how that is printed.
 
 ghost use Rattle.std.specs.Prelude.{◌≡◌, Some, IfOk};
 ghost use Rattle.match_runs.specs.FaultText.{run_fault_text, fault_line};
@@ -31,21 +31,21 @@ pub enum RunFault {
     Puzzle(PuzzleTextFault),
     List(ListTextFault),
     Certificate(CertTextFault),
-    /// Lines of counted parts have no total.
+    /// The lines of counted parts have no total.
     Parts(PartsFault),
-    /// The list has no arrangement of this number.
+    /// The list has no arrangement with this number.
     NoArrangement(u32),
-    /// The listed arrangement of this number is none of the puzzle's.
+    /// The listed entry with this number is no arrangement of the puzzle.
     Arrangement(u32, ArrangementFault),
     /// The puzzle was not solved.
     Solve(SolveFault),
-    /// More arrangements are reached than are listed.
+    /// The symmetries reach more arrangements than may be listed.
     Expand,
-    /// There are more tiles than are listed.
+    /// There are more tiles than may be listed.
     Tiles,
     /// Writing failed, or nothing more was taken.
     Write,
-    /// Both files of a solve were put under their names, and one leads to another file by now.
+    /// Both files of a solve were put under their names, but one of the names leads to another file by now.
     Replaced,
     Memory,
 }
@@ -224,7 +224,7 @@ impl From<AllocError> for RunFault {
     }
 }
 
-/// The line that says why a run stopped.
+/// Returns the line that says why a run stopped. An error comes where memory is refused.
 pub fn fault_text(alloc: Global, fault: &RunFault) -> Result<Vec<u8>, AllocError>
     ensures { IfOk result (λ text. text.items ≡ fault_line fault.now) }
 {

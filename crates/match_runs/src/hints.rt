@@ -1,4 +1,4 @@
-//! What is told beside a fault.
+//! What is said beside a fault.
 
 ghost use Rattle.std.specs.Prelude.{◌≡◌};
 ghost use Rattle.match_runs.specs.declared.faults.RunFault.TheVariants as runs;
@@ -9,8 +9,8 @@ use byte_streams::Documents;
 use match_hints::{certificate_hint, list_hint, puzzle_hint};
 use std::alloc::{AllocError, Global};
 
-/// Why a run stopped, and what is told beside that, if anything is: what has to be changed in a text that has a fault, what
-/// may help where a puzzle was not solved, or why a file is refused. Nothing depends on the hint.
+/// Why a run stopped, and a hint, if there is one: what has to be changed in a text that has a fault, what may help
+/// where a puzzle was not solved, or why a file is refused. Nothing depends on the hint.
 #[derive(Drop)]
 pub struct HintedFault {
     pub fault: RunFault,
@@ -36,7 +36,7 @@ impl From<AllocError> for HintedFault {
     }
 }
 
-/// What a run came to, whatever is told beside its fault.
+/// The outcome of a run, without its hint.
 pub(crate) fn without_hint<E>(ended: Result<E, HintedFault>) -> Result<E, RunFault>
     ensures { result ≡ unhinted ended }
 {
@@ -46,7 +46,7 @@ pub(crate) fn without_hint<E>(ended: Result<E, HintedFault>) -> Result<E, RunFau
     }
 }
 
-/// What a run came to, with this hint beside its fault.
+/// The outcome of a run, with this hint beside its fault.
 pub(crate) fn with_hint<E>(
     ended: Result<E, RunFault>,
     hint: Option<String>,
@@ -59,7 +59,7 @@ pub(crate) fn with_hint<E>(
     }
 }
 
-/// What has to be changed in the text that has the fault. None where there is nothing to tell, or memory for it is refused.
+/// What has to be changed in the text that has the fault. `None` where there is nothing to say, or memory is refused.
 pub(crate) fn hint_of(
     alloc: Global,
     documents: &Documents<'_>,
@@ -77,8 +77,8 @@ pub(crate) fn hint_of(
     }
 }
 
-/// What has to be changed in the text of the puzzle or of the list, whichever has the fault, where no certificate was read. A
-/// text that wasn't read is empty here. None where there is nothing to tell, or memory for it is refused.
+/// What has to be changed in the text of the puzzle or of the list, whichever has the fault, where no certificate was
+/// read. A text that wasn't read is empty here. `None` where there is nothing to say, or memory is refused.
 pub(crate) fn hint_on(
     alloc: Global,
     puzzle: &[u8],

@@ -1,4 +1,4 @@
-//! What follows for every sum of counted parts.
+//! A law of sums of counted parts. The function does nothing: its contract says what holds.
 
 ghost use Rattle.std.specs.Prelude.{ℕ, List};
 ghost use Rattle.match_puzzle.specs.Arrangement.{HasArrangements};
@@ -8,8 +8,8 @@ ghost use Rattle.count_totals.specs.Totals.{HaveTotal};
 ghost use Rattle.count_totals.specs.declared.lines.Line.{Line};
 ghost use Rattle.match_runs.specs.Totals.{AreTrueOf};
 
-/// Does nothing. Its promise is a law: where each line of counted parts tells how many arrangements that part has of one
-/// split of a puzzle's search, their total is how many arrangements the puzzle has.
+/// A law; the call does nothing. If each line of counted parts says how many arrangements that part has, of one split
+/// of a puzzle's search, then their total is how many arrangements the puzzle has.
 pub fn totals_count_all()
     ensures { (x : Compiled) (branches : List WeightedBranch) (told : List Line) (total : ℕ) → IsSplit x branches
         → AreTrueOf x branches told → HaveTotal told total → HasArrangements x.puzzle total }

@@ -1,5 +1,5 @@
-//! Runs from bytes to bytes: checks, explanations, expansions, counts, solves, boards, pictures, symmetries and lists of
-//! tiles; and what is told of faults.
+//! Runs of the program's orders, from bytes to bytes: checks, explanations, expansions, counts, solves, boards,
+//! pictures, symmetries and lists of tiles. And the texts that tell of faults.
 #![tactic(auto)]
 
 mod advice;

@@ -14,13 +14,15 @@ use match_show::write_arrangement;
 use match_text::{read_list, read_puzzle};
 use std::alloc::Global;
 
-/// Reads a puzzle and a list, each to its end and in this order, and writes the board with the listed arrangement of
-/// this number on it, drawn.
+/// Reads a puzzle and a list, each to its end and in this order, and writes a drawing of the board with the listed
+/// arrangement with this number.
 ///
-/// `Read` and `TooLong` name the document, and the list is not touched where that is the puzzle; `Puzzle` or `List`
-/// where a text spells none, with a hint of what has to be changed there; `NoArrangement` where fewer are listed,
-/// `Arrangement` where what is listed there is none of the puzzle's. Where a fault other than `Write` is answered, nothing
-/// was written.
+/// - `Read` and `TooLong` name the document; the list is not touched where that is the puzzle.
+/// - `Puzzle` or `List` comes where a text has a fault, with a hint of what has to be changed there.
+/// - `NoArrangement` comes where fewer are listed.
+/// - `Arrangement` comes where the listed entry is no arrangement of the puzzle.
+///
+/// After a fault other than `Write` nothing was written.
 pub fn run_listed<P: Source, L: Source, W: Sink>(
     alloc: Global,
     puzzle: &mut P,
@@ -50,7 +52,7 @@ pub fn run_listed<P: Source, L: Source, W: Sink>(
     with_hint(ended, hint)
 }
 
-// The board with the listed arrangement of this number on it.
+// The board with the listed arrangement with this number.
 fn drawn(alloc: Global, texts: &TwoTexts, number: u32) -> Result<(MadeText, ()), RunFault>
     ensures { MadeOf (DrawsListed number) (DrawFails number) texts.now result }
 {

@@ -17,10 +17,12 @@ use std::alloc::Global;
 /// Reads a puzzle and a list, each to its end and in this order, and writes a picture of the arrangements that are
 /// asked for.
 ///
-/// `Read` and `TooLong` name the document, and the list is not touched where that is the puzzle; `Puzzle` or `List`
-/// where a text spells none, with a hint of what has to be changed there; `NoArrangement` of the first number where fewer
-/// are listed, `Arrangement` of the first that is to be drawn and is none of the puzzle's. Where a fault other than `Write`
-/// is answered, nothing was written.
+/// - `Read` and `TooLong` name the document; the list is not touched where that is the puzzle.
+/// - `Puzzle` or `List` comes where a text has a fault, with a hint of what has to be changed there.
+/// - `NoArrangement` has the first number, and comes where fewer are listed.
+/// - `Arrangement` has the first entry to be drawn that is no arrangement of the puzzle.
+///
+/// After a fault other than `Write` nothing was written.
 pub fn run_picture<P: Source, L: Source, W: Sink>(
     alloc: Global,
     puzzle: &mut P,

@@ -1,4 +1,4 @@
-//! Runs that print all arrangements, or why a list is refused.
+//! Runs that check a list, and print all arrangements, or why the list is refused.
 
 ghost use Rattle.std.specs.Prelude.{◌≡◌, IfOk, length};
 ghost use Rattle.puzzle_symmetry.specs.Complete.{IsCompleteList};
@@ -25,16 +25,16 @@ use std::alloc::{AllocError, Global};
 use std::random::RandomSource;
 use symmetry_orbits::RandomFold;
 
-/// What is printed of a puzzle, a list and a certificate.
+/// What is printed about a puzzle, a list and a certificate.
 #[derive(Clone, Copy)]
 pub enum Printing {
     /// The list of all arrangements.
     All,
-    /// The list of one arrangement of each orbit.
+    /// The list of one arrangement of each orbit (arrangements that symmetries take into each other).
     Orbits,
-    /// How many arrangements there are, how many pictures, how many orbits, and how many symmetries are named.
+    /// How many arrangements, pictures and orbits there are, and how many symmetries the certificate names.
     Count,
-    /// The answer, and where it is refused, why.
+    /// The answer and, where it is a refusal, the reason.
     Explanation,
 }
 
@@ -45,14 +45,13 @@ pub struct PrintingPlan {
     pub hints: bool,
 }
 
-/// Reads a puzzle, a list and a certificate, each to its end and in this order, and checks them. Where
-/// the list is complete, writes the list of all arrangements of the puzzle, each once: the listed ones
-/// and then their images, in the order of the closure. Where it is refused, writes the answer. The
-/// arrangements are hashed with a secret, so that no list can be made to be dear.
+/// Reads a puzzle, a list and a certificate, each to its end and in this order, and checks them. Where the list is
+/// complete, it writes the list of all arrangements of the puzzle, each once: the listed ones and then their images, in
+/// the order in which the symmetries reach them. Where the list is refused, it writes the answer. The arrangements are
+/// hashed with a secret, so that nobody can make a list that is slow to expand.
 ///
-/// `Expand` where there are over 1,000,000. The other faults are those of
-/// [`run_check`](crate::check_runs::run_check). Where a fault other than `Write` is answered, nothing was
-/// written.
+/// `Expand` comes where there are over 1,000,000 arrangements. The other faults are those of
+/// [`run_check`](crate::check_runs::run_check). After a fault other than `Write` nothing was written.
 pub fn run_expand<P: Source, L: Source, C: Source, W: Sink, R: RandomSource>(
     rt: &R,
     alloc: Global,
@@ -78,16 +77,20 @@ pub fn run_expand<P: Source, L: Source, C: Source, W: Sink, R: RandomSource>(
     without_hint(ended)
 }
 
-/// As [`run_expand`], over whatever the documents come from and the text goes to, and prints the list of all
-/// arrangements; or one of each orbit, the first that is listed; or how many they are; or the answer, and where it is
-/// refused, why.
+/// Reads a puzzle, a list and a certificate, and checks them, wherever the documents come from and the text goes to.
+/// Then it prints what the plan asks for: the list of all arrangements; the first listed one of each orbit; how many
+/// there are; or the answer with, where the list is refused, the reason. Where the list is refused, the first three
+/// print the answer alone.
 ///
-/// A count is of four lines. `arrangements N`; `pictures P`, how many where those count once that show the same at each
-/// cell; `orbits K`, how many where those count once that the certificate's symmetries take into each other; and
-/// `symmetries S`, how many the certificate names.
+/// A count has four lines:
 ///
-/// `Expand` where over 1,000,000 are to be listed; of orbits, where so many are in one. Where a hint is wanted and a text
-/// has a fault, it says what has to be changed there, if memory isn't refused to it.
+/// - `arrangements N`
+/// - `pictures P`: how many, if those that show the same at each cell count once
+/// - `orbits K`: how many, if those that the certificate's symmetries take into each other count once
+/// - `symmetries S`: how many symmetries the certificate names
+///
+/// `Expand` comes where over 1,000,000 are to be listed; for orbits, where so many are in one orbit. Where a hint is
+/// wanted and a text has a fault, the hint says what has to be changed there, unless memory is refused to it.
 pub fn run_printing<
     I: Inputs<Texts = OwnedDocuments>,
     O: Outputs<Made = MadeText>,
@@ -117,7 +120,7 @@ pub fn run_printing<
     with_hint(ended, hint)
 }
 
-// What is printed of the documents.
+// What to print about the documents.
 fn printing_of<R: RandomSource>(
     rt: &R,
     alloc: Global,
@@ -135,7 +138,7 @@ fn printing_of<R: RandomSource>(
     question_text(alloc, &owned.question(), &explaining, printing)
 }
 
-// What is printed of the question, and the status of its answer.
+// What to print about the question, and the status of its answer.
 fn question_text(
     alloc: Global,
     question: &Question<'_>,
@@ -153,7 +156,7 @@ fn question_text(
     }
 }
 
-// The same where only a tree may have a fault.
+// What to print about a question of which only a tree may have a fault.
 fn prepared_text(
     alloc: Global,
     prepared: Prepared<'_>,
@@ -172,7 +175,7 @@ fn prepared_text(
     }
 }
 
-// The same where the list is complete.
+// What to print where the list is complete.
 fn complete_text(
     alloc: Global,
     prepared: Prepared<'_>,
@@ -199,14 +202,14 @@ fn complete_line(alloc: Global, prepared: &Prepared<'_>) -> Result<Vec<u8>, Allo
     write_answer(alloc, &Answer::Complete, listed)
 }
 
-// What a fault is explained by: the certificate's text, and a hash for images of arrangements.
+// What the explanation of a fault needs: the certificate's text, and a hash for images of arrangements.
 #[derive(Clone, Copy)]
 struct Explaining<'a> {
     certificate: &'a [u8],
     hasher: RandomFold,
 }
 
-// What is printed where the list is refused for this fault.
+// What to print where the list is refused for this fault.
 fn refused_text(
     alloc: Global,
     question: &Question<'_>,

@@ -1,4 +1,4 @@
-//! What documents ask.
+//! The questions that documents ask.
 
 ghost use Rattle.std.specs.Prelude.{◌≤◌};
 ghost use Rattle.match_limits.specs.declared.TheConstants.{MOST_WORKERS};
@@ -18,7 +18,7 @@ use std::marker::Model;
 use std::thread::Threads;
 use text_crew::{ReadTexts, read_texts_with};
 
-/// A question and what it is about: the puzzle, the list, of at most 1,000,000 arrangements, and the certificate.
+/// A question with its parts: the puzzle, the list, of at most 1,000,000 arrangements, and the certificate.
 #[derive(Drop)]
 pub struct OwnedQuestion {
     puzzle: Puzzle,
@@ -46,7 +46,7 @@ impl Model for OwnedQuestion {
 impl OwnedQuestion {
     ghost use Rattle.std.specs.Prelude.{◌≡◌};
 
-    /// The question.
+    /// Returns the question.
     pub fn question(&self) -> Question<'_>
         ensures { result ≡ self.now }
     {
@@ -54,8 +54,8 @@ impl OwnedQuestion {
     }
 }
 
-/// The question that the documents spell, or their first fault, in the order of the documents;
-/// `Memory` only where that is refused.
+/// Reads the question that the documents ask. An `Err` is their first fault, in the order of the documents; `Memory`
+/// comes only where memory is refused.
 pub fn read_question(alloc: Global, documents: &Documents<'_>) -> Result<OwnedQuestion, RunFault>
     requires { AreShort (texts_of documents.now) }
     ensures { ReadsQuestion (texts_of documents.now) result }
@@ -70,7 +70,8 @@ pub fn read_question(alloc: Global, documents: &Documents<'_>) -> Result<OwnedQu
     })
 }
 
-/// The same, of which the certificate is read by so many workers, beside the list.
+/// Reads the question that the documents ask, with `workers` workers that read the certificate beside the list. An
+/// `Err` is their first fault, in the order of the documents; `Memory` comes only where memory is refused.
 pub fn read_question_with<R: Threads + Sync>(
     rt: &R,
     alloc: Global,

@@ -1,4 +1,4 @@
-//! Documents that are read whole.
+//! Reads whole documents.
 
 ghost use Rattle.std.specs.Prelude.{IfErr, IfOk};
 ghost use Rattle.byte_streams.specs.Moves.{Gives, reading_of};
@@ -8,10 +8,11 @@ use crate::faults::RunFault;
 use byte_streams::{Document, Source};
 use std::alloc::Global;
 
-/// All bytes of a document, up to the end that a read found, at most `bound`. Takes a buffer of 64 KiB beside them.
+/// Reads all bytes of a document, at most `bound`, up to the end that a read finds. It takes a buffer of 64 KiB beside
+/// them.
 ///
-/// `Read` of the document where the source answered an error, `TooLong` of it exactly where more bytes than `bound`
-/// came without one.
+/// `Read` of the document comes where the source returned an error; `TooLong` of it exactly where more bytes than
+/// `bound` came without an error.
 pub fn read_whole<R: Source>(
     alloc: Global,
     reader: &mut R,

@@ -1,4 +1,4 @@
-//! A run, of whatever is made of whatever texts.
+//! A run in general, whatever it makes from whatever texts.
 
 ghost use Rattle.std.specs.Prelude.{Err, Ok};
 ghost use Rattle.std.specs.Fn.{FnOnceReturnsAt};
@@ -9,7 +9,7 @@ use crate::faults::RunFault;
 use byte_streams::{Inputs, Outputs};
 use std::alloc::Global;
 
-/// Reads texts, each to its end, and writes what is made of them, and nothing where a fault came before.
+/// Reads texts, each to its end, and writes what `make` makes of them; nothing where a fault came before.
 pub(crate) fn run_by<
     I: Inputs,
     O: Outputs,

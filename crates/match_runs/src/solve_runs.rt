@@ -30,15 +30,15 @@ use std::thread::Threads;
 use text_crew::write_texts_with;
 use text_words::put_number_line;
 
-/// Reads a puzzle to its end, searches for all its arrangements, and writes their list, then a certificate of them,
-/// and then a report: how many were found, by how many lemmas, who took which lemma, and the first arrangement as it
-/// lies on the board.
+/// Reads a puzzle to its end, and searches for all its arrangements. Writes their list, then a certificate for it, then
+/// a report: how many were found, by how many lemmas, who took which lemma, and the first arrangement as it lies on the
+/// board.
 ///
-/// Branches of so many levels as the depth says, 0 to 3, become lemmas before the search begins. Each lemma has at most
-/// `fuel` branch nodes, 1 to 1,000,000, and so many workers search them, 1 to 64.
+/// Branches in the first `depth` levels, 0 to 3, become lemmas before the search begins. Each lemma (a numbered claim
+/// of the certificate) has at most `fuel` branch nodes, 1 to 1,000,000; `workers` workers search, 1 to 64.
 ///
-/// `Read` and `TooLong` are of the puzzle; `Puzzle` where its text spells none; `Solve` where the search gave up, or
-/// the puzzle has too many options or arrangements. Where a fault other than `Write` is answered, nothing was written.
+/// `Read` and `TooLong` are about the puzzle. `Puzzle` comes where its text has a fault; `Solve` where the search gave
+/// up, or the puzzle has too many options or arrangements. After a fault other than `Write` nothing was written.
 pub fn run_solve<R: Threads + Wait + Sync, P: Source, L: Sink, C: Sink, W: Sink>(
     rt: &R,
     alloc: Global,
@@ -77,10 +77,10 @@ pub fn run_solve<R: Threads + Wait + Sync, P: Source, L: Sink, C: Sink, W: Sink>
     without_hint(run_solve_watched(rt, alloc, &search, &mut inputs, &mut outputs))
 }
 
-/// What [`run_solve`] does, by this plan, over whatever the puzzle comes from and the texts go to, and the watch is told
-/// while it runs. Each symmetry that the certificate names is one of those that the plan asks for. Where a hint is
-/// wanted, it says what has to be changed in a text that has a fault, or of a search that gave up or found too many how
-/// many arrangements may be expected, and what may help, if memory isn't refused to it.
+/// Solves as [`run_solve`] does, by this plan, wherever the puzzle comes from and the texts go to. The watch is told of
+/// the search while it runs. Each symmetry of the certificate is one of those that the plan asks for. Where a hint is
+/// wanted, it says what has to be changed in a text that has a fault; for a search that gave up or found too many, how
+/// many arrangements may be expected, and what may help. There is no hint where memory is refused to it.
 pub fn run_solve_watched<
     R: Threads + Wait + Sync,
     T: SolveWatch + Sync,
@@ -112,7 +112,7 @@ pub fn run_solve_watched<
     with_hint(ended, hint)
 }
 
-// What is made of a puzzle's text.
+// What to write for a puzzle's text.
 fn make_products<R: Threads + Wait + Sync, T: SolveWatch + Sync>(
     rt: &R,
     alloc: Global,
@@ -126,7 +126,7 @@ fn make_products<R: Threads + Wait + Sync, T: SolveWatch + Sync>(
     solved(rt, alloc, &puzzle, search)
 }
 
-// Tells where hints are wanted that more arrangements may be expected than a list has.
+// Where hints are wanted, says that more arrangements may be expected than a list can have.
 fn tell_before<T: SolveWatch>(alloc: Global, puzzle: &Puzzle, search: &Watched<'_, SearchPlan, T>) {
     if !search.hints {
         return;
@@ -136,7 +136,7 @@ fn tell_before<T: SolveWatch>(alloc: Global, puzzle: &Puzzle, search: &Watched<'
     }
 }
 
-// What is made of a puzzle that was read.
+// What to write for a puzzle that was read.
 fn solved<R: Threads + Wait + Sync, T: SolveWatch + Sync>(
     rt: &R,
     alloc: Global,
@@ -146,7 +146,7 @@ fn solved<R: Threads + Wait + Sync, T: SolveWatch + Sync>(
     ensures { (text : List ℕ) → PuzzleReads text (Ok puzzle.now)
         → MadeOf (SolveGivesOf search.now.plan.symmetries search.now.plan.workers) SolveFails text result }
 {
-    // They are at most 64, and so are the lines of the report.
+    // There are at most 64, and so are the lines of the report.
     let _workers_in_range = search.plan.workers.get();
     let Solved {
         list: listed,
@@ -197,7 +197,7 @@ fn products_of<R: Threads + Wait + Sync, T: SolveWatch + Sync>(
     })
 }
 
-// How many bytes these parts have, as it is told while they are written.
+// How many bytes these parts have, for the watch.
 fn bytes_in(parts: &[Vec<u8>]) -> usize {
     let mut sum: usize = 0;
     for part in parts {
@@ -213,7 +213,7 @@ fn shares(alloc: Global, tally: Vec<Vec<u32>>) -> Result<Vec<Taken>, AllocError>
     tally.into_iter().map(Taken::new).collect(alloc)
 }
 
-// How many were found, by how many lemmas, who took them, and the first arrangement.
+// The report: how many were found, by how many lemmas, who took them, and the first arrangement.
 fn report_on(alloc: Global, found: &Found<'_>) -> Result<Vec<u8>, AllocError>
     requires { IsFound found.now }
     ensures { IfOk result (λ text. text.items ≡ report_text found.now.puzzle.now found.now.listed.now

@@ -19,11 +19,10 @@ use match_text::write_tiles;
 use std::alloc::{AllocError, Global};
 use std::slice::from_ref;
 
-/// Writes a tile for each class of tiles that turn into each other, with so many sides and colours:
-/// its least word, rising, one on each line, as they stand in a puzzle's text.
+/// Writes one tile for each class of tiles that turn into each other, with this many sides and colours: its least word,
+/// one on each line, rising, spelled as in a puzzle's text.
 ///
-/// `Tiles` where there are over 100. Where a fault other than `Write` is answered, nothing was
-/// written.
+/// `Tiles` comes where there are over 100. After a fault other than `Write` nothing was written.
 pub fn run_tiles<W: Sink>(
     alloc: Global,
     sides: Sides,
@@ -39,7 +38,10 @@ pub fn run_tiles<W: Sink>(
     run_by(alloc, &mut NoSource, make, &mut OneSink { sink: writer })
 }
 
-/// The same tiles, each as the line that a puzzle's text has of it.
+/// Writes one tile for each class of tiles that turn into each other, with this many sides and colours, as the line
+/// that a puzzle's text has for it.
+///
+/// `Tiles` comes where there are over 100. After a fault other than `Write` nothing was written.
 pub fn run_tile_lines<W: Sink>(
     alloc: Global,
     sides: Sides,

@@ -11,11 +11,12 @@ use byte_streams::{Inputs, MadeText, OneSink, Sink, Text};
 use count_totals::total_of;
 use std::alloc::Global;
 
-/// Reads lines that counts of parts printed to their end, in any order, and writes the sum of what all parts have: a line
-/// `arrangements N`. They have to name one puzzle, one split, and each part of it with one number, be it once or more often.
+/// Reads the lines that counts of parts printed, in any order and to their end, and writes the sum over all parts as a
+/// line `arrangements N`. The lines have to name one puzzle and one split, and each part of it at least once, always
+/// with the same number.
 ///
-/// `Read` and `TooLong` are of the lines; `Parts` tells the first line that is wrong, or else what is missing. Where a fault
-/// other than `Write` is answered, nothing was written.
+/// `Read` and `TooLong` are about the lines. `Parts` has the first line that is wrong, or else what is missing. After a
+/// fault other than `Write` nothing was written.
 pub fn run_total<I: Inputs<Texts = Text>, W: Sink>(
     alloc: Global,
     parts: &mut I,

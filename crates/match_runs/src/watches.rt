@@ -1,9 +1,9 @@
-//! What is told of a check or a solve while it runs.
+//! Watching a check or a solve while it runs.
 
 use cert_check::{Gate, Open};
 use match_crew::{Unwatched, Watch};
 
-/// What is to be done, who is told of it while it runs, and whether a hint is wanted beside the fault of a text.
+/// What is to be done, who watches it, and whether a hint is wanted beside the fault of a text.
 #[derive(Drop)]
 pub struct Watched<'a, P, W> {
     pub plan: P,
@@ -11,7 +11,7 @@ pub struct Watched<'a, P, W> {
     pub hints: bool,
 }
 
-/// How much a check has to look at: arrangements that are listed, and symmetries and lemmas of the certificate.
+/// How much a check has to look at: listed arrangements, and the symmetries and lemmas of the certificate.
 #[derive(Clone, Copy)]
 pub struct CheckSize {
     pub listed: usize,
@@ -19,9 +19,9 @@ pub struct CheckSize {
     pub lemmas: usize,
 }
 
-/// Told of a check while it runs. No answer depends on it.
+/// Is told of a check while it runs. No answer depends on it.
 pub trait CheckWatch: Gate {
-    /// A list and a certificate of this size were read, and the check of them begins.
+    /// Is called when a list and a certificate of this size were read, and their check begins.
     fn begins(&self, size: CheckSize);
 }
 
@@ -29,12 +29,13 @@ impl CheckWatch for Open {
     fn begins(&self, _size: CheckSize) {}
 }
 
-/// Told of a solve while it runs. Nothing that is made depends on it.
+/// Is told of a solve while it runs. No result depends on it.
 pub trait SolveWatch: Watch {
-    /// Before the search, where hints are wanted: more arrangements may be expected than a list has, and this may help.
+    /// Is called before the search, where hints are wanted and more arrangements may be expected than a list can have.
+    /// The advice is what may help.
     fn expects_many(&self, advice: &str);
 
-    /// A list and a certificate of so many bytes are to be written.
+    /// Is called when a list and a certificate with this many bytes are going to be written.
     fn made(&self, list: usize, certificate: usize);
 }
 

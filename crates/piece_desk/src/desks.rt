@@ -1,4 +1,4 @@
-//! Desks, receipts of what was posted there, and walks over it.
+//! Desks, receipts for what was posted there, and walks over it.
 
 ghost use Rattle.std.specs.Prelude.{All, ◌≡◌, ◌<◌, ◌≤◌, ◌^◌, Ok, Err, IfOk, IfErr, IfSome, length, map};
 ghost use Rattle.std.specs.Iterator.{at_most};
@@ -34,7 +34,7 @@ pub struct Desk {
     posted: Places<Lemma, Global, Within>,
 }
 
-/// Stands for the one lemma that was posted for it. It is three numbers, and asks for no memory of its own.
+/// Stands for the one lemma that was posted for it. It is three numbers, and needs no memory of its own.
 #[derive(Drop)]
 pub struct Receipt {
     token: Pushed<Lemma, Global, Within>,
@@ -65,7 +65,7 @@ pub struct Shown<'a> {
 }
 
 impl Desk {
-    /// A desk with nothing on it. Want of memory is the one error.
+    /// Makes a desk with nothing on it. An error comes only where memory is refused.
     pub fn new(alloc: Global) -> Result<Desk, AllocError> {
         let posted = Places::with_rule(alloc, Tag::empty())?;
         Ok(Desk { posted })
@@ -83,7 +83,8 @@ impl Desk {
         Ok(Receipt { token })
     }
 
-    /// The lemma that the receipt stands for, at any time and on any thread, whatever others post. It waits for nobody.
+    /// Returns the lemma that the receipt stands for, at any time and on any thread, whatever others post. It waits for
+    /// nobody.
     pub fn read<'a>(&'a self, receipt: &Receipt) -> &'a Lemma
         requires { IsOf self.now receipt.now }
         ensures lemma { result.now ≡ lemma_of receipt.now }
@@ -92,15 +93,15 @@ impl Desk {
         self.posted.value(&receipt.token)
     }
 
-    /// A walk over lemmas that were posted, each within the limits of its text. Which of them it gives, and in what
-    /// order, is no part of any contract.
+    /// Begins a walk over lemmas that were posted, each within the limits of its text. No contract says which of them
+    /// it returns, nor in what order.
     pub fn shown(&self) -> Shown<'_> {
         Shown {
             rest: self.posted.iter(),
         }
     }
 
-    // Lemmas that lie flat, equal to those that the receipts stand for, in their order.
+    // Lemmas that lie flat, equal to those of the receipts, in their order.
     fn packed(&self, alloc: Global, receipts: &[Receipt]) -> Result<Vec<PackedLemma>, AllocError>
         requires { All (λ receipt. IsOf self.now receipt) receipts.now }
         ensures pieces { IfOk result (λ lemmas. lemmas.items ≡ map posted_piece receipts.now) }
@@ -114,16 +115,16 @@ impl Desk {
         Ok(lemmas)
     }
 
-    /// The certificate of these symmetries and of the receipts' lemmas, whose numbers run upwards from the root, which
-    /// is 0: number t of a lemma, and a cited one below the count, becomes count - 1 - t, and arrangement i of lemma t
-    /// becomes `first[t] + i`. The order of the receipts doesn't matter.
+    /// Makes the certificate of these symmetries and of the receipts' lemmas. On the desk the root is lemma 0; in the
+    /// certificate it is the last. So the number t of a lemma, and of a cited lemma below `count`, becomes `count - 1 -
+    /// t`, and arrangement i of lemma t becomes `first[t] + i`. The order of the receipts doesn't matter.
     ///
-    /// An `Err` is the first fault in the order of [`AssembleFault`], and names a number as it is on the desk:
-    /// `Stranger`, `Double`, `Missing`; `Memory` where memory is refused, perhaps before a number was looked at. On an
-    /// `Err` the symmetries are dropped.
+    /// An `Err` is the first fault in the order of [`AssembleFault`], with a number as it is on the desk: `Stranger`,
+    /// `Double`, `Missing`. `Memory` comes where memory is refused, perhaps before a number was looked at. On an `Err`
+    /// the symmetries are dropped.
     ///
     /// Each tree is laid out flat, in a step for each node, and then copied. The rest takes a step for each receipt and
-    /// each number below the count.
+    /// for each number below `count`.
     pub fn gather(
         &self,
         alloc: Global,

@@ -1,4 +1,4 @@
-//! Desks of lemmas that lie flat, and receipts of what was posted there.
+//! Desks of lemmas that lie flat, and receipts for what was posted there.
 
 ghost use Rattle.std.specs.Prelude.{All, ◌≡◌, ◌<◌, ◌≤◌, ◌^◌, Ok, Err, IfOk, IfErr, length, map};
 ghost use Rattle.match_limits.specs.declared.TheConstants.{MOST_CELLS};
@@ -29,13 +29,14 @@ impl Keeps<PackedLemma> for PackedWithin {
     ghost holds = { λ _ _ lemma. IsLemmaWithin MOST_CELLS lemma };
 }
 
-/// What [`Desk`](crate::Desk) is, of lemmas that lie flat, so that whoever posts one is done with its nodes.
+/// Lemmas that threads put there for each other, as on a [`Desk`](crate::Desk), but lying flat, so that a thread that
+/// posts one needs its nodes no longer. None is ever taken away or changed.
 #[derive(Drop)]
 pub struct FlatDesk {
     posted: Places<PackedLemma, Global, PackedWithin>,
 }
 
-/// Stands for the one lemma that was posted for it. It is three numbers, and asks for no memory of its own.
+/// Stands for the one lemma that was posted for it. It is three numbers, and needs no memory of its own.
 #[derive(Drop)]
 pub struct FlatReceipt {
     token: Pushed<PackedLemma, Global, PackedWithin>,
@@ -59,7 +60,7 @@ impl Model for FlatReceipt {
 }
 
 impl FlatDesk {
-    /// A desk with nothing on it. Want of memory is the one error.
+    /// Makes a desk with nothing on it. An error comes only where memory is refused.
     pub fn new(alloc: Global) -> Result<FlatDesk, AllocError> {
         let posted = Places::with_rule(alloc, Tag::empty())?;
         Ok(FlatDesk { posted })
@@ -77,7 +78,8 @@ impl FlatDesk {
         Ok(FlatReceipt { token })
     }
 
-    /// The lemma that the receipt stands for, at any time and on any thread, whatever others post. It waits for nobody.
+    /// Returns the lemma that the receipt stands for, at any time and on any thread, whatever others post. It waits for
+    /// nobody.
     pub fn read<'a>(&'a self, receipt: &FlatReceipt) -> FlatLemma<'a>
         requires { IsOfFlat self.now receipt.now }
         ensures lemma { flat_piece result ≡ flat_posted receipt.now }
@@ -103,8 +105,9 @@ impl FlatDesk {
         Ok(lemmas)
     }
 
-    /// What [`Desk::gather`](crate::Desk::gather) gathers, of this desk's lemmas, whose numbers run upwards from the
-    /// root. Each tree is copied once, 8 bytes a node, by at most four threads, and by no more than there are workers.
+    /// Makes a certificate of this desk's lemmas, as [`Desk::gather`](crate::Desk::gather) does: on the desk the root
+    /// is lemma 0, in the certificate it is the last. Each tree is copied once, 8 bytes for each node, by at most four
+    /// threads, and by no more than there are workers.
     pub fn gather<R: Threads + Sync>(
         &self,
         rt: &R,

@@ -1,4 +1,4 @@
-//! Desks of finished lemmas, which threads share without a lock.
+//! Desks: finished lemmas (numbered claims of a certificate) that threads share without a lock.
 #![tactic(auto)]
 
 mod desks;

@@ -1,4 +1,4 @@
-//! Lemmas whose numbers run upwards from the root, counted from the other end.
+//! Lemmas whose numbers run upwards from the root, renumbered from the other end.
 
 ghost use Rattle.std.specs.Prelude.{◌≡◌, ◌<◌, ◌≤◌, ◌^◌, ◌++◌, Ok, Err, All, IfOk, IfErr, IsErrOf, OnOk, length, map};
 ghost use Rattle.std.specs.Prelude.{reverse, take, drop};
@@ -16,7 +16,7 @@ use match_puzzle::Pair;
 use numbered_pieces::assembled;
 use std::alloc::{AllocError, Global};
 
-// A number below the count, counted from the other end; another one as it is.
+// A number below `count`, counted from the other end; any other number stays as it is.
 fn turned_number(count: u32, number: u32) -> u32
     ensures { result ≡ number_of_turned count number }
 {
@@ -26,7 +26,7 @@ fn turned_number(count: u32, number: u32) -> u32
     count - 1 - number
 }
 
-// The head with its citation turned, or its arrangement counted from the first.
+// The head, with the lemma that it cites renumbered, or its arrangement counted from `first`.
 fn turned_head(count: u32, first: u32, head: Head) -> Head
     requires first { first ≤ MOST_ARRANGEMENTS }
     requires found { IsFoundUpTo MOST_ARRANGEMENTS head }
@@ -45,7 +45,7 @@ fn turned_head(count: u32, first: u32, head: Head) -> Head
     }
 }
 
-// Turns the heads from the start on, where they lie.
+// Renumbers the heads from `start` on, where they lie.
 fn turn_heads(heads: &mut Vec<Head>, start: usize, count: u32, first: u32)
     requires start { start ≤ length heads.old.items }
     requires first { first ≤ MOST_ARRANGEMENTS }
@@ -58,7 +58,7 @@ fn turn_heads(heads: &mut Vec<Head>, start: usize, count: u32, first: u32)
     }
 }
 
-// The pairs of the lemma and the heads of its turned tree go behind these. Where it lies there.
+// Appends the pairs of the lemma and the heads of its renumbered tree, and returns where it lies among them.
 fn put_turned(
     pairs: &mut Vec<Pair>,
     heads: &mut Vec<Head>,
@@ -84,7 +84,8 @@ fn put_turned(
     Ok(LemmaSpan::of_last(number, pairs, pairs_start, heads, heads_start))
 }
 
-// The turned lemmas, the last first. Each tree is copied once, 8 bytes a node, and is turned where the copy lies.
+// The renumbered lemmas, the last first. Each tree is copied once, 8 bytes for each node, and renumbered where the copy
+// lies.
 pub(crate) fn turned_lemmas(
     alloc: Global,
     count: u32,
@@ -109,10 +110,10 @@ pub(crate) fn turned_lemmas(
     Ok(turned)
 }
 
-// The pieces in the order of their numbers, to be turned then.
+// The pieces in the order of their numbers, to be renumbered afterwards.
 //
-// An `Err` is that of `cert_tree::assemble` on these pieces: `Stranger`, `Double`, `Missing`; `Memory` only where memory
-// is refused, and then no number is at or past the count.
+// An `Err` is the one that `cert_tree::assemble` returns for these pieces: `Stranger`, `Double`, `Missing`; `Memory`
+// only where memory is refused, and then every number is below `count`.
 pub(crate) fn in_turned_order(
     alloc: Global,
     count: u32,
@@ -132,15 +133,16 @@ pub(crate) fn in_turned_order(
     Ok(lemmas)
 }
 
-// The certificate of these symmetries and pieces, whose numbers run upwards from the root, which is 0: number t of a
-// piece, and a cited one below the count, becomes count - 1 - t, and arrangement i of piece t becomes `first[t] + i`.
+// The certificate of these symmetries and pieces. The numbers of the pieces run upwards from the root, which is 0; in
+// the certificate the root is the last. So the number t of a piece, and of a cited piece below `count`, becomes `count
+// - 1 - t`, and arrangement i of piece t becomes `first[t] + i`.
 //
-// An `Err` is that of `cert_tree::assemble` on these pieces, and so names a number before it is turned:
-// `Stranger`, `Double`, `Missing`; `Memory` only where memory is refused, and then no number is at or past the count.
-// On an `Err` the symmetries are dropped.
+// An `Err` is the one that `cert_tree::assemble` returns for these pieces, so its number is not yet renumbered:
+// `Stranger`, `Double`, `Missing`; `Memory` only where memory is refused, and then every number is below `count`. On an
+// `Err` the symmetries are dropped.
 //
-// Each tree is copied once, 8 bytes a node, and is turned where the copy lies. The rest takes a step for each piece and
-// each number below the count.
+// Each tree is copied once, 8 bytes for each node, and renumbered where the copy lies. The rest takes a step for each
+// piece and for each number below `count`.
 pub(crate) fn assemble_turned(
     alloc: Global,
     count: u32,

@@ -1,4 +1,4 @@
-//! Lemmas are turned by several threads.
+//! Renumbers lemmas with several threads.
 
 ghost use Rattle.std.specs.Prelude.{◌≤◌, IfOk, Ok, length};
 ghost use Rattle.std.specs.Fn.{FnReturnsAt};
@@ -11,7 +11,7 @@ use std::alloc::{AllocError, Global};
 use std::thread::Threads;
 use steal_crew::both;
 
-// Lemmas with fewer nodes are turned by one thread, which is done before others would have started.
+// One thread renumbers lemmas with fewer nodes: it is done before others would have started.
 const LEAST_NODES: usize = 1 << 17;
 
 // How many nodes all lemmas have together.
@@ -39,13 +39,13 @@ fn middle(lemmas: &[FlatLemma<'_>]) -> usize
     lemmas.len()
 }
 
-// Some lemmas, one behind the other.
+// Some lemmas, one after the other.
 #[derive(Clone, Copy)]
 struct Half<'a, 'p> {
     lemmas: &'a [FlatLemma<'p>],
 }
 
-// What the call gives of both, at once.
+// Calls `turn` for both at the same time, and returns both results.
 fn at_once<P: Sync, F: Fn(&P) -> Result<Lemmas, AllocError> + Sync, R: Threads>(
     rt: &R,
     left: &P,
@@ -70,7 +70,7 @@ fn at_once<P: Sync, F: Fn(&P) -> Result<Lemmas, AllocError> + Sync, R: Threads>(
     )
 }
 
-// What `turned_lemmas` gives, by two threads.
+// What `turned_lemmas` returns, by two threads.
 fn turned_by_two<R: Threads>(
     rt: &R,
     alloc: Global,
@@ -94,7 +94,7 @@ fn turned_by_two<R: Threads>(
     back.with(front)
 }
 
-// The same by four threads.
+// What `turned_lemmas` returns, by four threads.
 fn turned_by_four<R: Threads + Sync>(
     rt: &R,
     alloc: Global,
@@ -118,7 +118,7 @@ fn turned_by_four<R: Threads + Sync>(
     back.with(front)
 }
 
-// The turned lemmas, the last first, by one, two or four threads: no more than there are workers, and by one where
+// The renumbered lemmas, the last first, by one, two or four threads: no more than there are workers, and by one where
 // there are few nodes.
 pub(crate) fn turned_by<R: Threads + Sync>(
     rt: &R,

@@ -1,4 +1,4 @@
-//! The reading and the writing of a list and a certificate by a crew of workers.
+//! Reads and writes a list and a certificate with a crew of workers (threads).
 #![tactic(auto)]
 
 mod list_writings;

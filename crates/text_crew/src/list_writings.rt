@@ -1,4 +1,4 @@
-//! A list's lines are written by a crew.
+//! A list's lines, written by a crew.
 
 ghost use Rattle.std.specs.Prelude.{◌≡◌, ◌≤◌, IfOk, length};
 ghost use Rattle.std.specs.List.{flat_map};
@@ -15,13 +15,13 @@ use std::alloc::{AllocError, Global};
 use std::thread::Threads;
 use steal_crew::{Work, run_from_last};
 
-// More parts than workers: so a worker that began late takes fewer.
+// More parts than workers, so that a worker that began late takes fewer.
 const PARTS_FOR_EACH: usize = 8;
 
 // No more parts than the most workers take.
 const MOST_PARTS: usize = 1_024;
 
-// Where parts begin of so many arrangements each, but for the last one; and then how many there are.
+// Where the parts begin, with `each` arrangements in each but the last, followed by how many arrangements there are.
 fn starts_of(alloc: Global, count: usize, each: usize) -> Result<Vec<usize>, AllocError>
     ensures { IfOk result (λ starts. AreStarts count starts.items) }
 {
@@ -44,7 +44,7 @@ fn starts_of(alloc: Global, count: usize, each: usize) -> Result<Vec<usize>, All
 struct ListParts<'a> {
     alloc: Global,
     list: &'a [Arrangement],
-    // where each part begins and the last one ends
+    // where each part begins, and where the last one ends
     starts: Vec<usize>,
 }
 
@@ -67,7 +67,7 @@ impl<'a> Work for ListParts<'a> {
     }
 }
 
-// The lines of the list in parts of as many arrangements each, by so many workers.
+// The lines of the list, in parts with the same number of arrangements, written by `workers` workers.
 fn write_row_parts<R: Threads + Sync>(
     rt: &R,
     alloc: Global,
@@ -100,7 +100,7 @@ fn texts_of(alloc: Global, parts: Vec<RowLines>) -> Result<Vec<Vec<u8>>, AllocEr
     Ok(texts)
 }
 
-/// What [`write_list`](match_text::write_list) writes, in parts, by so many workers.
+/// Writes what [`write_list`](match_text::write_list) writes, in parts, by `workers` workers.
 pub(crate) fn write_list_with<R: Threads + Sync>(
     rt: &R,
     alloc: Global,

@@ -1,4 +1,4 @@
-//! Texts in parts, which are written one behind the other.
+//! Texts in parts, which are written one after the other.
 
 ghost use Rattle.std.specs.Prelude.{◌≡◌, ◌++◌, IfOk};
 ghost use Rattle.std.specs.List.{flat_map};
@@ -7,7 +7,7 @@ ghost use Rattle.text_words.specs.Spelling.{end_lines, text_of};
 use std::alloc::{AllocError, Global};
 use text_words::put_end;
 
-// A text that is one part.
+// A text as one part.
 pub(crate) fn alone(alloc: Global, text: Vec<u8>) -> Result<Vec<Vec<u8>>, AllocError>
     ensures { IfOk result (λ parts. flat_map (λ part. part.items) parts.items ≡ text.items) }
 {
@@ -16,8 +16,8 @@ pub(crate) fn alone(alloc: Global, text: Vec<u8>) -> Result<Vec<Vec<u8>>, AllocE
     Ok(parts)
 }
 
-// The lines with what stands before them, and the last line of a text behind them. There are so few parts that it costs
-// nothing to move them.
+// The lines with `front` before them and the last line of a text after them. There are so few parts that moving them
+// costs nothing.
 pub(crate) fn between(
     alloc: Global,
     front: Vec<u8>,

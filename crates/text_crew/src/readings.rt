@@ -1,4 +1,4 @@
-//! A certificate's text is read by a crew.
+//! A certificate's text, read by a crew.
 
 ghost use Rattle.std.specs.Prelude.{◌≡◌, ◌+◌, ◌<◌, ◌≤◌, ◌^◌, ℕ, Ok, IfOk, length, take};
 ghost use Rattle.match_limits.specs.declared.TheConstants.{MOST_LEMMAS, MOST_WORKERS};
@@ -17,13 +17,13 @@ use std::thread::Threads;
 use steal_crew::{Work, run_from_last};
 use text_words::ReadFault;
 
-// A text of fewer bytes is read by one thread, which is done before others would have started.
+// One thread reads a text with fewer bytes: it is done before others would have started.
 const LEAST_SHARED: usize = 1 << 20;
 
-// More parts than workers: so a worker that began late takes fewer.
+// More parts than workers, so that a worker that began late takes fewer.
 const PARTS_FOR_EACH: usize = 8;
 
-// Each part has at least so many bytes, but for the last one.
+// The least number of bytes of each part but the last.
 const LEAST_PART: usize = 1 << 16;
 
 // The parts of a certificate, each read by a job.
@@ -45,7 +45,7 @@ impl<'a, 't> Work for Parts<'a, 't> {
     }
 }
 
-// How many bytes a part has, where so many workers read a text of so many bytes.
+// How many bytes a part has, where `workers` workers read a text of `bytes` bytes.
 fn part_size(bytes: usize, workers: u8) -> usize
     requires { 1 ≤ workers }
 {
@@ -83,11 +83,11 @@ fn read_by_parts<R: Threads + Sync>(
     cut.join(alloc, read)
 }
 
-/// What [`read_certificate`] reads, by 1 to 64 workers, whose number doesn't change it.
+/// Reads what [`read_certificate`] reads, with 1 to 64 workers, whose number doesn't change the result.
 ///
-/// The lemma lines are cut into parts of about the same length, each of which is a job of a crew. All parts are read, and
-/// of those with a fault the first counts. A text of less than a MiB is read on the caller's thread, and so is any by one
-/// worker. It joins threads, one for each worker but the caller.
+/// The lemma lines are cut into parts with about the same length, each of which is a job of a crew. All parts are read,
+/// and the first of those with a fault counts. A text of less than a MiB is read on the caller's thread, and so is any
+/// text with one worker. It joins threads, one for each worker but the caller.
 pub fn read_certificate_with<R: Threads + Sync>(
     rt: &R,
     alloc: Global,
@@ -96,14 +96,14 @@ pub fn read_certificate_with<R: Threads + Sync>(
 ) -> Result<Certificate, CertTextFault>
     requires text { length text.now + 1 < 2 ^ 32 }
     requires workers { (1 ≤ workers) × (workers ≤ MOST_WORKERS) }
-    // Which certificate, and which fault.
+    // Which certificate is read, and which fault.
     ensures exact { CertificateGives result (certificate_of text.now) }
-    // What is read is spelled so, and assembled of what the text says.
+    // What is read is spelled this way, and put together from what the text says.
     ensures found { IfOk result (λ certificate. (said : Said) × IsCertificateWithin said
         × (text.now ≡ certificate_spelling said) × Makes said (Ok certificate)) }
     // What is read can be written.
     ensures within { IfOk result (λ certificate. IsCertificateWithin (said_by 2 certificate)) }
-    // What is spelled so is read and assembled.
+    // What is spelled this way is read and put together.
     ensures only { (said : Said) → IsCertificateWithin said → text.now ≡ certificate_spelling said
         → CertificateGives result (Ok said) }
     // A spelling that is cut short ends at its last line.

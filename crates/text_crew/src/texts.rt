@@ -1,4 +1,4 @@
-//! The texts of a list and of a certificate are read, and written.
+//! Reads and writes the texts of a list and of a certificate.
 
 ghost use Rattle.std.specs.Prelude.{◌+◌, ◌<◌, ◌≤◌, ◌^◌, IfOk, length};
 ghost use Rattle.std.specs.List.{flat_map};
@@ -23,27 +23,28 @@ use std::alloc::{AllocError, Global};
 use std::thread::Threads;
 use steal_crew::both;
 
-// A list of fewer bytes is read before another thread would have started.
+// A list with fewer bytes is read before another thread would have started.
 const LEAST_BYTES: usize = 1 << 16;
 
-// One of fewer arrangements is written before that.
+// A list with fewer arrangements is written before another thread would have started.
 const LEAST_LISTED: usize = 1_024;
 
-/// What the texts of a list and of a certificate were read as.
+/// What was read from the texts of a list and of a certificate.
 #[derive(Drop)]
 pub struct ReadTexts {
     pub listed: Result<Vec<Arrangement>, ListTextFault>,
     pub certificate: Result<Certificate, CertTextFault>,
 }
 
-/// The texts of a list and of a certificate, each in the parts in which it was written: one behind the other they are it.
+/// The texts of a list and of a certificate, each in the parts in which it was written: one after the other they are
+/// the text.
 #[derive(Drop)]
 pub struct WrittenTexts {
     pub list: Vec<Vec<u8>>,
     pub certificate: Vec<Vec<u8>>,
 }
 
-// Both texts, each read on a thread of its own; the certificate by so many workers.
+// Both texts, each read on a thread of its own, the certificate by `workers` workers.
 fn read_at_once<R: Threads + Sync>(
     rt: &R,
     alloc: Global,
@@ -63,7 +64,7 @@ fn read_at_once<R: Threads + Sync>(
             requires { IsSync R.row × (length certificate.now + 1 < 2 ^ 32) × (1 ≤ workers) × (workers ≤ MOST_WORKERS) }
             ensures { IfOk result (λ read. CertificateGives read (certificate_of certificate.entry.now)) }
         { Ok(read_certificate_with(rt, alloc, certificate, workers)) },
-        // On the caller's thread, where memory for many small pieces comes with the fewest calls of the system.
+        // On the caller's thread, where memory for many small pieces takes the fewest calls of the system.
         || -> Result<Result<Vec<Arrangement>, ListTextFault>, AllocError>
             requires { length list.now + 1 < 2 ^ 32 }
             ensures { IfOk result (IsListRead list.entry.now) }
@@ -75,11 +76,11 @@ fn read_at_once<R: Threads + Sync>(
     })
 }
 
-/// What [`read_list`] reads of the one text and [`read_certificate_with`] of the other, at once.
+/// Reads a list as [`read_list`] does, and a certificate as [`read_certificate_with`] does, at the same time.
 ///
-/// Each fault stands where it was found, and so it is the caller's to look at the list's first. The list is read on the
-/// caller's thread: with one worker, or where it has less than 64 KiB, before the certificate, and else while workers on
-/// other threads read that. Want of memory is each reading's own fault.
+/// Each text has its own result, with its own fault, `Memory` too. The caller has to look at that of the list first.
+/// The list is read on the caller's thread: with one worker, or where it has less than 64 KiB, before the certificate;
+/// otherwise while workers on other threads read the certificate.
 pub fn read_texts_with<R: Threads + Sync>(
     rt: &R,
     alloc: Global,
@@ -104,7 +105,7 @@ pub fn read_texts_with<R: Threads + Sync>(
     })
 }
 
-// The text of the list, by so many workers.
+// The text of the list, written by `workers` workers.
 fn write_listed<R: Threads + Sync>(
     rt: &R,
     alloc: Global,
@@ -122,10 +123,10 @@ fn write_listed<R: Threads + Sync>(
     alone(alloc, text)
 }
 
-/// What [`write_list`] writes of the list, and what [`write_certificate_with`] writes of the certificate behind it.
+/// Writes the list as [`write_list`] does, and then the certificate as [`write_certificate_with`] does.
 ///
-/// With one worker, or fewer than 1,024 arrangements, the list's text is written on the caller's thread, as one part. Else
-/// its lines are written by a crew, eight parts for each worker, which are not put together.
+/// With one worker, or fewer than 1,024 arrangements, the list's text is written on the caller's thread, as one part.
+/// Otherwise a crew writes its lines, in eight parts for each worker, which are not put together.
 pub fn write_texts_with<R: Threads + Sync>(
     rt: &R,
     alloc: Global,

@@ -1,4 +1,4 @@
-//! A certificate's text is written by a crew.
+//! A certificate's text, written by a crew.
 
 ghost use Rattle.std.specs.Prelude.{◌≡◌, ◌≤◌, ℕ, Ok, IfOk};
 ghost use Rattle.std.specs.List.{flat_map};
@@ -58,7 +58,7 @@ fn write_parts<R: Threads + Sync>(
     run_from_last(rt, alloc, &lines, parts.count(), workers)
 }
 
-// The first version that has the numbers for the certificate, found by so many workers.
+// The first version that has the numbers for the certificate, found by `workers` workers.
 fn first_version_with<R: Threads + Sync>(
     rt: &R,
     alloc: Global,
@@ -72,11 +72,11 @@ fn first_version_with<R: Threads + Sync>(
     Ok(if is_first { 1 } else { 2 })
 }
 
-/// What [`write_certificate`] writes, in parts, by 1 to 64 workers, whose number doesn't change the text.
+/// Writes what [`write_certificate`] writes, in parts, with 1 to 64 workers, whose number doesn't change the text.
 ///
-/// The lemmas are cut into parts of about as many nodes each, whose lines are each written by a job of a crew, and which
-/// are not put together. A certificate of less than 131,072 nodes is written on the caller's thread, as one part, and so is
-/// any by one worker. It joins threads, one for each worker but the caller.
+/// The lemmas are cut into parts with about as many nodes each. The lines of each part are written by a job of a crew,
+/// and the parts are not put together. A certificate with fewer than 131,072 nodes is written on the caller's thread,
+/// as one part, and so is any certificate with one worker. It joins threads, one for each worker but the caller.
 pub fn write_certificate_with<R: Threads + Sync>(
     rt: &R,
     alloc: Global,

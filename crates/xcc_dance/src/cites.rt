@@ -1,4 +1,4 @@
-//! What a search may cite in place of searching.
+//! What a search may cite instead of searching.
 
 ghost use Rattle.std.specs.Prelude.{◌≡◌, List, Option, IfOk, IfSome};
 ghost use Rattle.match_puzzle.specs.declared.placements.Pair.{Pair as Placed};
@@ -7,30 +7,30 @@ ghost use Rattle.xcc_dance.specs.Outcome.{IsCiteWithin};
 use match_puzzle::Pair;
 use std::alloc::AllocError;
 
-/// A lemma that stands for a child of a branch.
+/// A lemma (an earlier claim) that takes the place of a child of a branch.
 #[derive(Clone, Copy, PartialEq, Eq, Debug)]
 pub enum Cite {
-    /// The lemma with this number, whose prefix is within what is placed.
+    /// The lemma with this number. Its prefix is part of what is placed.
     Same(u32),
-    /// The image of that lemma under the symmetry with this number.
+    /// The image of a lemma under a symmetry: the number of the lemma, then that of the symmetry.
     Image(u32, u16),
 }
 
-/// Who knows lemmas that a search may cite.
+/// Knows lemmas that a search may cite.
 pub trait Cites {
     ghost use Rattle.xcc_dance.specs.declared.cites.Cite.{Cite as Answer};
 
-    /// The prefixes that it may be asked of.
+    /// The prefixes that it may be asked about.
     ghost takes: { Self → List Placed → Type 0 };
     /// How it may change when it is asked.
     ghost moves: { Self → Self → Type 0 };
-    /// What it may have answered of these pairs.
+    /// What it may have answered about these pairs.
     ghost answers: { Self → List Placed → Option Answer → Type 0 };
 
-    /// What stands for the node at which these pairs are placed, in the order of their placing, or `None` where it is
-    /// to be searched. Lemmas are numbered below 1,000,000 and symmetries below 1,024.
+    /// Returns what takes the place of the node at which these pairs are placed, in the order of placing; `None` where
+    /// the node is to be searched. Lemmas are numbered below 1,000,000 and symmetries below 1,024.
     ///
-    /// An error where memory is refused.
+    /// An error comes where memory is refused.
     fn cite(&mut self, prefix: &[Pair]) -> Result<Option<Cite>, AllocError>
         requires { takes self.old prefix.now }
         ensures within { IfOk result (λ o. IfSome o IsCiteWithin) }

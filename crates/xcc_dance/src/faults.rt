@@ -1,4 +1,4 @@
-//! Why a search gives no outcome.
+//! Why a search has no outcome.
 
 ghost use Rattle.std.specs.Prelude.{◌≡◌};
 ghost use Rattle.xcc_dance.specs.declared.faults.SearchFault.TheVariants as search_faults;
@@ -6,7 +6,7 @@ ghost use Rattle.xcc_dance.specs.declared.faults.SearchFault.TheVariants as sear
 use std::alloc::AllocError;
 use thiserror::Error;
 
-/// Why a search gives no outcome: it failed before, or memory ran out.
+/// Why a search has no outcome: it failed before, or memory ran out.
 #[derive(Clone, Copy, PartialEq, Eq, Debug, Error)]
 pub enum SearchFault {
     /// An earlier run gave up, or ran out of memory.

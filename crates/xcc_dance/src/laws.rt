@@ -1,4 +1,4 @@
-//! What follows for every selection.
+//! Laws that hold for every selection of options. The functions do nothing: their contracts say what holds.
 
 ghost use Rattle.std.specs.Prelude.{ℕ, List};
 ghost use Rattle.match_puzzle.specs.declared.placements.Pair.{Pair};
@@ -10,23 +10,23 @@ ghost use Rattle.xcc_dance.specs.FittingOptions.{AreOpenWhereFitting, AreOpenWhe
 ghost use Rattle.xcc_dance.specs.FittingOptions.{AreOpenInOrder, AreFittingInOrder, AreAsManyAsFitting};
 ghost use Rattle.xcc_dance.specs.FittingOptions.{AreUncoveredWhereOpen, AreBranchedOnWhereFewest, StandAsPairs};
 
-/// Does nothing. Its promise is a law: chosen options of which no two clash, and which cover all primary items, are a
+/// A law; the call does nothing. Chosen options, no two of which clash and which cover all primary items, are a
 /// solution of the exact cover.
 pub fn whole_selections_are_solutions()
     ensures { (x : Compiled) (chosen : List ℕ) → IsSelection x chosen → AreAllCovered (cover_of x) chosen
         → IsSolution (cover_of x) chosen }
 {}
 
-/// Does nothing. Its promise is a law: an option goes with the chosen ones just where its pair fits what their pairs
-/// make.
+/// A law; the call does nothing. An option goes with the chosen ones exactly where its pair (a cell and a placement)
+/// fits beside theirs.
 pub fn open_options_are_those_that_fit()
     ensures { (x : Compiled) (chosen : List ℕ) (pairs : List Pair) → IsSelection x chosen → ArePairsOf x chosen pairs
         → AreOpenWhereFitting x chosen pairs }
 {}
 
-/// Does nothing. Its promise is a law: an option of a cell or a tile goes with the chosen ones just where its pair is
-/// one of those that fit there. The list of all pairs that fit there has the pairs of these options in their order, and
-/// is as long as there are options.
+/// A law; the call does nothing. An option of a cell or a tile goes with the chosen ones exactly where its pair is one
+/// of those that fit there. The list of all pairs that fit there has the pairs of these options, in the order of the
+/// options, and is as long as there are such options.
 pub fn open_options_are_listed()
     ensures settling { (x : Compiled) (chosen : List ℕ) (pairs : List Pair) → IsSelection x chosen
         → ArePairsOf x chosen pairs → AreOpenWhereSettling x chosen pairs }
@@ -40,22 +40,20 @@ pub fn open_options_are_listed()
         → ArePairsOf x chosen pairs → AreAsManyAsFitting x chosen pairs }
 {}
 
-/// Does nothing. Its promise is a law: a cell or a tile is of no chosen option just where the pairs of the chosen ones
+/// A law; the call does nothing. No chosen option has a cell or a tile exactly where the pairs of the chosen options
 /// leave it open.
 pub fn uncovered_items_are_open()
     ensures { (x : Compiled) (chosen : List ℕ) (pairs : List Pair) → IsSelection x chosen → ArePairsOf x chosen pairs
         → AreUncoveredWhereOpen x chosen pairs }
 {}
 
-/// Does nothing. Its promise is a law: the cell or tile to branch on is the first of those with the fewest pairs that
-/// fit.
+/// A law; the call does nothing. The cell or tile to branch on is the first of those with the fewest pairs that fit.
 pub fn branch_items_have_the_fewest()
     ensures { (x : Compiled) (chosen : List ℕ) (pairs : List Pair) → IsSelection x chosen → ArePairsOf x chosen pairs
         → AreBranchedOnWhereFewest x chosen pairs }
 {}
 
-/// Does nothing. Its promise is a law: options of one cell or tile are numbered in the order of the pairs that settle
-/// it.
+/// A law; the call does nothing. The options of one cell or tile are numbered in the order of the pairs that settle it.
 pub fn options_stand_as_pairs()
     ensures { (x : Compiled) → IsCompiled x → StandAsPairs x }
 {}

@@ -1,5 +1,5 @@
-//! The search for solutions of a compiled puzzle, over an engine that keeps which options still go with the chosen ones,
-//! as `OpenSets` does by counts of what fits.
+//! The search for solutions of a compiled puzzle (an exact cover with colours). An engine keeps which options still go
+//! with the chosen ones; `OpenSets` does so by counts of what fits.
 #![tactic(auto)]
 
 mod cites;

@@ -1,4 +1,4 @@
-//! An engine of a search that counts what fits.
+//! The engine of a search that counts what fits.
 
 ghost use Rattle.std.specs.Prelude.{◌≡◌, ◌<◌, ◌+◌, [], IfOk, IfSome, MatchOption, length};
 ghost use Rattle.xcc_form.specs.Options.{cover_of};
@@ -11,8 +11,9 @@ use std::alloc::{AllocError, Global};
 use std::marker::Model;
 use xcc_form::{FromCompiled, OpenOptions, Xcc};
 
-/// Options chosen of a compiled puzzle, no two of which clash, with the pairs that fit beside theirs: an option is open
-/// just where its pair fits. It is seen as what is chosen, and nothing more. It borrows the compiled puzzle.
+/// Chosen options of a compiled puzzle, no two of which clash, with the pairs that fit beside theirs. An option is open
+/// exactly where its pair fits. Contracts see only the compiled puzzle and what is chosen. It borrows the compiled
+/// puzzle.
 #[derive(Drop)]
 pub struct OpenSets<'a> {
     xcc: &'a Xcc<'a>,
@@ -32,7 +33,7 @@ impl<'a> Model for OpenSets<'a> {
 }
 
 impl<'a> OpenSets<'a> {
-    /// Nothing is chosen yet. An error comes where memory is refused.
+    /// Makes an engine in which nothing is chosen yet. An error comes where memory is refused.
     pub fn new(alloc: Global, xcc: &'a Xcc<'a>) -> Result<OpenSets<'a>, AllocError>
         ensures { IfOk result (λ s. s ≡ record { compiled = xcc.now; chosen = [] }) }
     {
@@ -43,7 +44,7 @@ impl<'a> OpenSets<'a> {
         })
     }
 
-    // The first number behind that of an uncovered item, or the first of all behind none.
+    // The number after that of an uncovered item; 0 without one.
     fn first_behind(&self, after: Option<u32>) -> u32
         requires { IfSome after (IsUncovered (cover_of self.now.compiled) self.now.chosen) }
         ensures { MatchOption after (result ≡ 0) (λ item. result ≡ item + 1) }
@@ -55,7 +56,7 @@ impl<'a> OpenSets<'a> {
         }
     }
 
-    // The pair of an option, if one is named.
+    // The pair of an option, if there is an option.
     fn pair_of(&self, option: Option<u32>) -> Option<Pair>
         requires { IfSome option (λ o. o < length self.now.compiled.options) }
         ensures { IsPairOfAny self.now.compiled option result }

@@ -17,7 +17,7 @@ use std::alloc::{AllocError, Global};
 use std::marker::Model;
 use xcc_form::{Chooses, FormFault, OpenOptions};
 
-// The item that a rule branches on, with its number, and how many open options it has.
+// The item that a rule branches on, its number, and how many open options it has.
 #[derive(Clone, Copy)]
 pub(crate) struct Branch {
     pub(crate) number: u32,
@@ -25,7 +25,7 @@ pub(crate) struct Branch {
     pub(crate) size: u32,
 }
 
-// Chosen options with their pairs, in the order of choosing. It is seen as the engine that keeps the options.
+// Chosen options with their pairs, in the order of choosing. Contracts see it as the engine that keeps the options.
 #[derive(Drop)]
 pub(crate) struct SearchPath<E: OpenOptions + Drop> {
     alloc: Global,
@@ -96,7 +96,7 @@ impl<E: OpenOptions + Drop> SearchPath<E> {
         rule.choose_item(&mut self.engine)
     }
 
-    // The branch that a rule takes, or `None` where all primary items are covered.
+    // The branch that a rule chooses; `None` where all primary items are covered.
     pub(crate) fn choose_branch<R: Chooses>(
         &mut self,
         rule: &R,
@@ -118,7 +118,7 @@ impl<E: OpenOptions + Drop> SearchPath<E> {
         }))
     }
 
-    // The open option of an uncovered item that comes next after this one of them, by number, or the first of them.
+    // The open option of an uncovered item that comes next after `after`, by number, or the first without one.
     pub(crate) fn next_option(&self, item: u32, after: Option<u32>) -> Option<u32>
         requires item { let s = E.selection self.now in IsUncovered (cover_of s.compiled) s.chosen item }
         requires after { let s = E.selection self.now in IfSome after (IsOpenAt (cover_of s.compiled) s.chosen item) }
@@ -145,7 +145,7 @@ impl<E: OpenOptions + Drop> SearchPath<E> {
         Ok(())
     }
 
-    // Takes back the option that was chosen last. There is one.
+    // Takes back the option that was chosen last. There has to be one.
     pub(crate) fn undo(&mut self)
         requires { 0 < length (E.selection self.old).chosen }
         ensures { self.new ≡ E.taken_back self.old }
@@ -189,7 +189,7 @@ impl<E: OpenOptions + Drop> SearchPath<E> {
             .arrangement_of(self.alloc, self.engine.chosen())
         {
             Ok(arrangement) => Ok(arrangement),
-            // whole selections are solutions
+            // chosen options that cover all primary items are a solution
             Err(FormFault::NotASolution) => unreachable!(),
             Err(FormFault::Memory) => Err(AllocError),
         }

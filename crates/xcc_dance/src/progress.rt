@@ -17,7 +17,7 @@ pub(crate) struct Progress {
 }
 
 impl Progress {
-    // Puts the node of a further arrangement.
+    // Adds the node of a further arrangement.
     pub(crate) fn put_found(&mut self, arrangement: Arrangement) -> Result<(), AllocError>
         requires room { length self.old.found.items < 2 ^ 32 }
         ensures fuel { self.new.fuel ≡ self.old.fuel }
@@ -32,7 +32,7 @@ impl Progress {
         Ok(())
     }
 
-    // Puts a dead end.
+    // Adds a dead end.
     pub(crate) fn put_dead_end(&mut self, about: Item) -> Result<(), AllocError>
         ensures fuel { self.new.fuel ≡ self.old.fuel }
         ensures found { self.new.found.items ≡ self.old.found.items }
@@ -42,7 +42,7 @@ impl Progress {
         Ok(())
     }
 
-    // Puts a branch with so many children, which are still to come, for a unit of fuel.
+    // Adds a branch with this number of children, which are still to come. It costs one unit of fuel.
     pub(crate) fn put_branch(&mut self, about: Item, children: u32) -> Result<(), AllocError>
         requires fuel { 0 < self.old.fuel }
         ensures fuel { self.new.fuel + 1 ≡ self.old.fuel }

@@ -21,20 +21,21 @@ use std::alloc::{AllocError, Global};
 use std::marker::Model;
 use xcc_form::{Chooses, FewestOptions, FromCompiled, OpenOptions, Xcc};
 
-/// What a run of a search comes to.
+/// The outcome of a run of a search.
 #[derive(Drop)]
 pub enum Outcome {
-    /// All arrangements that extend the prefix were found, but those that a citation stands for. `Node::Found(i)` is
-    /// number i of them.
+    /// All arrangements that extend the prefix were found, except those that a cited lemma covers. `Node::Found(i)` is
+    /// arrangement i of `found`, from 0.
     Done { tree: Node, found: Vec<Arrangement> },
     /// The fuel was spent, and another branch node was needed.
     GaveUp,
 }
 
-/// What a run of a search comes to, with a tree whose nodes lie one after the other.
+/// The outcome of a run of a search, with a tree whose nodes lie one after the other.
 #[derive(Drop)]
 pub enum PackedOutcome {
-    /// As in [`Outcome`]; `Head::Found(i)` is number i of the arrangements.
+    /// All arrangements that extend the prefix were found, except those that a cited lemma covers. `Head::Found(i)` is
+    /// arrangement i of `found`, from 0.
     Done {
         tree: PackedTree,
         found: Vec<Arrangement>,
@@ -43,10 +44,10 @@ pub enum PackedOutcome {
     GaveUp,
 }
 
-/// A search for all arrangements of a compiled puzzle, over an engine that keeps what is chosen and what is open.
+/// A search for all arrangements of a compiled puzzle. Its engine keeps what is chosen and what is open.
 ///
-/// At each node it takes an uncovered item by a rule, and goes through its open options by number (Knuth, TAOCP 4B,
-/// 7.2.2.1). Where there is none, the node is a dead end.
+/// At each node a rule chooses an uncovered item, and the search tries its open options in the order of their numbers
+/// (Knuth, TAOCP 4B, 7.2.2.1). Where it has none, the node is a dead end.
 #[derive(Drop)]
 pub struct SearchOver<E: OpenOptions + Drop> {
     alloc: Global,
@@ -67,9 +68,9 @@ impl<E: OpenOptions + Drop> Model for SearchOver<E> {
 }
 
 impl<'a, E: FromCompiled<'a> + Drop> SearchOver<E> {
-    /// A search that did not run yet, over a new engine.
+    /// Makes a search, with a new engine, that has not run yet.
     ///
-    /// An error where memory is refused, for the engine, and for as many pairs as there are cells.
+    /// An error comes where memory is refused, for the engine or for as many pairs as there are cells.
     pub fn new(alloc: Global, xcc: &'a Xcc<'a>) -> Result<SearchOver<E>, AllocError>
         ensures empty { IfOk result (λ s. E.selection s.engine ≡ record { compiled = xcc.now; chosen = [] }) }
         ensures ready { IfOk result (λ s. (s.branches ≡ 0) × (s.failed ≡ false)) }
@@ -79,9 +80,9 @@ impl<'a, E: FromCompiled<'a> + Drop> SearchOver<E> {
 }
 
 impl<E: OpenOptions + Drop> SearchOver<E> {
-    /// A search over this engine that did not run yet. Nothing is chosen.
+    /// Makes a search, with this engine, that has not run yet. Nothing may be chosen in the engine.
     ///
-    /// An error where memory for as many pairs as there are cells is refused.
+    /// An error comes where memory is refused for as many pairs as there are cells.
     pub fn over(alloc: Global, engine: E) -> Result<SearchOver<E>, AllocError>
         requires { (E.selection engine).chosen ≡ [] }
         ensures { IfOk result (λ s. s ≡ record { engine = engine; branches = 0; failed = false }) }
@@ -94,7 +95,7 @@ impl<E: OpenOptions + Drop> SearchOver<E> {
         })
     }
 
-    /// The engine. Nothing is chosen where the search did not fail.
+    /// Returns the engine. Nothing is chosen in it, unless the search failed.
     pub fn engine(&self) -> &E
         ensures same { result.now ≡ self.now.engine }
         ensures ready { self.now.failed ≡ false → (E.selection self.now.engine).chosen ≡ [] }
@@ -102,21 +103,23 @@ impl<E: OpenOptions + Drop> SearchOver<E> {
         self.path.engine()
     }
 
-    /// How many branch nodes the last run made that did not answer `Failed`; none before any.
+    /// Returns how many branch nodes were made by the last run that did not return `Failed`; 0 before any run.
     pub fn branches(&self) -> u32
         ensures { result ≡ self.now.branches }
     {
         self.branches
     }
 
-    /// Finds the arrangements that extend the prefix, each pair of which fits those before it, with at most `fuel`
-    /// branch nodes, which is at most 1,000,000. It branches on the uncovered item with the fewest open options, the
-    /// least number at a tie. Before a child of a branch is searched, `cites` is asked what stands for it, with all
-    /// pairs that are placed there. After `Done` the search is ready for another run: its engine is what it was, with
-    /// link arrays each link and each size.
+    /// Finds the arrangements that extend the prefix, with at most `fuel` branch nodes. Each pair of the prefix has to
+    /// fit those before it, and `fuel` is at most 1,000,000.
     ///
-    /// `GaveUp` after just `fuel` branch nodes, where another was needed. `Failed` where an earlier run gave up or ran
-    /// out of memory; then nothing changes. `Memory` where memory is refused, also to `cites`.
+    /// It branches on the uncovered item with the fewest open options, at a tie on that with the least number. Before
+    /// it searches a child of a branch, it asks `cites` what may take the child's place, with all pairs that are placed
+    /// there. After `Done` the search is ready for another run: its engine is as it was (one with link arrays, in each
+    /// link and each size).
+    ///
+    /// `GaveUp` comes after exactly `fuel` branch nodes, where another was needed. `Failed` comes where an earlier run
+    /// gave up or ran out of memory; then nothing changes. `Memory` comes where memory is refused, also to `cites`.
     pub fn run<C: Cites>(
         &mut self,
         prefix: &[Pair],
@@ -161,8 +164,8 @@ impl<E: OpenOptions + Drop> SearchOver<E> {
         Ok(node)
     }
 
-    /// Searches as `run` does, but branches on the items that the rule takes, and answers a tree whose nodes lie one
-    /// after the other. `Memory` comes where memory is refused to the rule, too.
+    /// Searches as `run` does, but branches on the items that the rule chooses, and returns a tree whose nodes lie one
+    /// after the other. `Memory` also comes where memory is refused to the rule.
     pub fn run_by<R: Chooses, C: Cites>(
         &mut self,
         prefix: &[Pair],

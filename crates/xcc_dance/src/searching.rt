@@ -1,4 +1,4 @@
-//! The recursion of a search: a branch on the item that a rule takes, and a child for each of its open options.
+//! The recursion of a search: a branch on the item that a rule chooses, and a child for each of its open options.
 
 ghost use Rattle.std.specs.Prelude.{◌≡◌, ◌∷◌, []};
 ghost use Rattle.xcc_form.specs.Options.{cover_of};
@@ -16,7 +16,8 @@ use match_limits::MOST_CHILDREN;
 use std::alloc::AllocError;
 use xcc_form::{Chooses, OpenOptions};
 
-// Puts the tree of what is chosen behind the heads, and leaves the choices as before; or finds that the fuel does not do.
+// Appends the heads of the tree below what is chosen, and leaves the choices as they were; or returns false, where the
+// fuel is not enough.
 #[cycle(walk)]
 pub(crate) fn walk<E: OpenOptions + Drop, R: Chooses, C: Cites>(
     path: &mut SearchPath<E>,
@@ -44,7 +45,7 @@ pub(crate) fn walk<E: OpenOptions + Drop, R: Chooses, C: Cites>(
     walk_options(path, node.number, rule, cites, progress)
 }
 
-// Puts the trees of what is chosen with each open option of an item, in their order.
+// Appends the trees below what is chosen with each open option of an item, in the order of the options.
 #[cycle(walk)]
 fn walk_options<E: OpenOptions + Drop, R: Chooses, C: Cites>(
     path: &mut SearchPath<E>,
@@ -71,7 +72,7 @@ fn walk_options<E: OpenOptions + Drop, R: Chooses, C: Cites>(
     Ok(true)
 }
 
-// Puts what stands for the choices as a child: what is cited, or else their tree.
+// Appends a child: what is cited for the choices, or else the tree below them.
 #[cycle(walk)]
 fn child<E: OpenOptions + Drop, R: Chooses, C: Cites>(
     path: &mut SearchPath<E>,

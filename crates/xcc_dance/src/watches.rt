@@ -1,23 +1,23 @@
-//! What is told of a search while it runs.
+//! Watching a search while it runs.
 
 use crate::cites::{Cite, Cites};
 use match_puzzle::Pair;
 use std::alloc::AllocError;
 
-/// Told of a search while it runs, by whichever worker comes by. Nothing that is found depends on it.
+/// Is told of a search while it runs, by any of the workers. Nothing that is found depends on it.
 pub trait Watch {
-    /// A worker looked at so many further children of branches, and met so many further arrangements, which it has found
-    /// if its lemma is searched to its end.
+    /// Is called when a worker has looked at this many more children of branches, and met this many more arrangements.
+    /// They count as found if their lemma is searched to its end.
     fn looked(&self, children: u32, arrangements: u32);
 
-    /// A lemma has been searched; so many branches wait for a worker.
+    /// Is called when a lemma has been searched; this many branches wait for a worker.
     fn searched(&self, waiting: u64);
 
-    /// The fuel of a lemma was spent, whose prefix has so many pairs.
+    /// Is called when the fuel of a lemma was spent whose prefix has this many pairs.
     fn gave_up(&self, pairs: usize);
 }
 
-/// Does nothing.
+/// A watch that does nothing.
 #[derive(Drop)]
 pub struct Unwatched;
 
@@ -29,20 +29,20 @@ impl Watch for Unwatched {
     fn gave_up(&self, _pairs: usize) {}
 }
 
-// So many children are told of at once.
+// this many children are reported at once
 const TOLD_AT_ONCE: u32 = 1_024;
 
 /// What a search met, as far as the numbers fit.
 #[derive(Clone, Copy)]
 pub struct Met {
-    /// How many children of branches.
+    /// How many children of branches were met.
     pub children: u32,
-    // how many arrangements that were not told of
+    // how many arrangements were met and not reported yet
     untold: u32,
 }
 
 impl Met {
-    /// Where a lemma's root is an arrangement, or isn't.
+    /// Starts at the root of a lemma, which is an arrangement or isn't.
     pub fn at_root(is_arrangement: bool) -> Met {
         Met {
             children: 0,
@@ -50,7 +50,7 @@ impl Met {
         }
     }
 
-    /// One child more; tells of the last ones, where so many were looked at that it is time.
+    /// Counts one more child; reports to the watch after every 1,024.
     pub fn child<W: Watch>(&mut self, watch: &W) {
         self.children = self.children.saturating_add(1);
         if self.children % TOLD_AT_ONCE == 0 {
@@ -59,18 +59,18 @@ impl Met {
         }
     }
 
-    /// One arrangement more.
+    /// Counts one more arrangement.
     pub fn arrangement(&mut self) {
         self.untold = self.untold.saturating_add(1);
     }
 
-    /// Tells of what was met since it was told last.
+    /// Reports what was met since the last report.
     pub fn tell_rest<W: Watch>(&self, watch: &W) {
         watch.looked(self.children % TOLD_AT_ONCE, self.untold);
     }
 }
 
-/// Cites nothing, and tells what was met.
+/// Cites nothing, and reports what was met.
 #[derive(Drop)]
 pub struct Counted<'a, W: Watch> {
     pub watch: &'a W,

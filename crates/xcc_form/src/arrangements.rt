@@ -1,4 +1,4 @@
-//! Solutions of a compiled puzzle, and arrangements.
+//! Converts between arrangements of a puzzle and solutions of its exact cover.
 
 ghost use Rattle.std.specs.Prelude.{◌≡◌, ℕ, List, IfOk, IsErrOf};
 ghost use Rattle.match_puzzle.specs.Arrangement.{IsArrangement};
@@ -14,10 +14,11 @@ use match_puzzle::{Arrangement, Placement};
 use std::alloc::Global;
 
 impl<'a> Xcc<'a> {
-    /// The solution of an arrangement: the numbers of its options, by cell, so rising.
+    /// Returns the solution that belongs to an arrangement: the numbers of its options, in the order of their cells, so
+    /// rising.
     ///
-    /// `NotASolution` where the placements are no arrangement of the puzzle, and `Memory` where they are one and the
-    /// list cannot grow. It goes over the options once.
+    /// `NotASolution` comes where the placements are no arrangement of the puzzle, and `Memory` where they are one and
+    /// the list cannot grow. It goes over the options once.
     pub fn options_of(&self, alloc: Global, placements: &[Placement]) -> Result<Vec<u32>, FormFault>
         ensures solution { IfOk result (λ v. IsSolutionOf self.now placements.now v.items) }
         ensures by_cell { IfOk result (λ v. AreByCell self.now placements.now v.items) }
@@ -38,10 +39,10 @@ impl<'a> Xcc<'a> {
         Ok(options)
     }
 
-    /// The arrangement of a solution, whose options may stand in any order.
+    /// Returns the arrangement that belongs to a solution. The options may come in any order.
     ///
-    /// `NotASolution` where the numbers are no solution, also where one is repeated or out of range, and `Memory`
-    /// where they are one and the list cannot grow.
+    /// `NotASolution` comes where the numbers are no solution, also where one is repeated or out of range, and `Memory`
+    /// where they are a solution and the list cannot grow.
     pub fn arrangement_of(&self, alloc: Global, options: &[u32]) -> Result<Arrangement, FormFault>
         ensures solution { IfOk result (λ a. IsSolutionOf self.now a options.now) }
         ensures undone { IfOk result
@@ -50,7 +51,7 @@ impl<'a> Xcc<'a> {
         ensures memory { IsErrOf result FormFault.Memory → IsSolution (cover_of self.now) options.now }
     {
         let puzzle = self.puzzle();
-        // a tile that there isn't, where nothing stands yet
+        // a tile out of range, where nothing is placed yet
         let nothing = Placement {
             tile: self.cells(),
             turn: 0,

@@ -1,4 +1,4 @@
-//! The shared edges of a board, which are the secondary items of its puzzles.
+//! The shared edges of a board (two sides that meet), which are the secondary items of its puzzles.
 
 ghost use Rattle.std.specs.Prelude.{◌≡◌, ◌<◌, ◌≤◌, ◌+◌, ◌*◌, ℕ, IfOk, MatchOption, length};
 ghost use Rattle.match_board.specs.Board.{cell_count, side_count};
@@ -10,13 +10,13 @@ use match_limits::{MOST_CELLS, MOST_COLOURS};
 use match_puzzle::Puzzle;
 use std::alloc::{AllocError, Global};
 
-/// A secondary item of an option, with the colour that it has there.
+/// A secondary item (a shared edge) of an option, with its colour there.
 #[derive(Clone, Copy, PartialEq, Eq)]
 pub struct Edge {
-    /// The number of the item: secondary items follow the primary ones.
+    /// The number of the item. Secondary items follow the primary ones.
     pub item: u32,
-    /// The colour, from 0 to 35: what is shown at the edge's lesser (cell, side), or the mate of what is shown at the
-    /// other.
+    /// The colour, from 0 to 35: what the placement shows at the edge's lesser (cell, side), or the mate of what it
+    /// shows at the other.
     pub colour: u8,
 }
 
@@ -30,7 +30,7 @@ pub(crate) struct SharedEdge {
 }
 
 impl SharedEdge {
-    /// The side of the cell that this edge is, if it is one.
+    /// The side of the cell that lies at this edge, if one does.
     pub(crate) fn side_at(self, cell: u16) -> Option<u8>
         ensures { MatchOption result
             ((side : ℕ) → IsSideOf self cell side → ⊥)
@@ -45,7 +45,7 @@ impl SharedEdge {
         }
     }
 
-    /// The colour that the cell gives to this edge, where it shows this colour on it.
+    /// The colour that the cell gives to this edge when it shows `shown` there.
     pub(crate) fn given(self, puzzle: &Puzzle, cell: u16, shown: u8) -> u8
         requires { shown < MOST_COLOURS }
         ensures given { result ≡ colour_given puzzle.now self cell shown }
@@ -59,7 +59,7 @@ impl SharedEdge {
     }
 }
 
-/// The shared edges of a puzzle's board, by their lesser (cell, side).
+/// The shared edges of a puzzle's board, in the order of their lesser (cell, side).
 pub(crate) fn shared_edges(alloc: Global, puzzle: &Puzzle) -> Result<Vec<SharedEdge>, AllocError>
     ensures edges { IfOk result (λ v. AreSharedEdges puzzle.now.board v.items) }
     ensures few { IfOk result (λ v. length v.items ≤ 4 * MOST_CELLS) }
@@ -88,7 +88,7 @@ fn add_edges_of(edges: &mut Vec<SharedEdge>, puzzle: &Puzzle, cell: u16) -> Resu
     Ok(())
 }
 
-// The shared edge whose lesser (cell, side) this is, if there is one.
+// The shared edge whose lesser (cell, side) is this one, if there is one.
 fn edge_from(puzzle: &Puzzle, cell: u16, side: u8) -> Option<SharedEdge>
     requires cell { cell < cell_count puzzle.now.board }
     requires side { side < side_count puzzle.now.board }

@@ -1,4 +1,4 @@
-//! Why a puzzle is not compiled, and why there is no solution or arrangement.
+//! Why a puzzle cannot be compiled, and why there is no solution or arrangement.
 
 ghost use Rattle.std.specs.Prelude.{◌≡◌};
 ghost use Rattle.xcc_form.specs.declared.faults.CompileFault.TheVariants as compile_faults;
@@ -7,7 +7,7 @@ ghost use Rattle.xcc_form.specs.declared.faults.FormFault.TheVariants as form_fa
 use std::alloc::{AllocError, AllocFailed};
 use thiserror::Error;
 
-/// Why a puzzle is not compiled: its options have over 200,000 items, or memory ran out.
+/// Why a puzzle is not compiled: its options have over 200,000 items together, or memory ran out.
 #[derive(Clone, Copy, PartialEq, Eq, Debug, Error)]
 pub enum CompileFault {
     #[error("too many options")]
@@ -24,10 +24,10 @@ impl From<AllocError> for CompileFault {
     }
 }
 
-/// Why there are no options, or no arrangement: what was given is none, or memory ran out.
+/// Why a conversion between arrangements and solutions has no result: what was given is neither, or memory ran out.
 #[derive(Clone, Copy, PartialEq, Eq, Debug, Error)]
 pub enum FormFault {
-    /// The placements are no arrangement of the puzzle, or the options no solution.
+    /// The placements are no arrangement of the puzzle, or the options are no solution.
     #[error("not a solution")]
     NotASolution,
     #[error("out of memory")]

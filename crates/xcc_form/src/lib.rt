@@ -1,4 +1,5 @@
-//! Puzzles compiled to exact covers with colours (Knuth, TAOCP 4B, 7.2.2.1), and what a search asks of its engine: which
+//! Puzzles compiled to exact covers with colours (Knuth, TAOCP 4B, 7.2.2.1): choosing options so that each primary item
+//! is in exactly one of them, and each secondary item has one colour. And what a search needs from its engine: which
 //! options stay open beside the chosen ones.
 #![tactic(auto)]
 

@@ -13,8 +13,8 @@ use match_limits::{MOST_CELLS, MOST_CHILDREN};
 use match_puzzle::{FittingPairs, Item, Pair, Partial, Puzzle};
 use std::alloc::{AllocError, Global};
 
-/// The options by number: their cells and placements, and where their edges start among all edges, which lie one
-/// option after another. There is one start more, the end of the last option.
+/// The options, by number: their cells and placements, and where the edges of each start among all edges, which lie one
+/// option after another. One more start is the end of the last option.
 #[derive(Drop)]
 pub(crate) struct OptionLists {
     pub(crate) pairs: Vec<Pair>,
@@ -23,7 +23,7 @@ pub(crate) struct OptionLists {
 }
 
 impl OptionLists {
-    /// The options of the puzzle, whose shared edges these are.
+    /// The options of the puzzle; `shared` has its shared edges.
     pub(crate) fn new(
         alloc: Global,
         puzzle: &Puzzle,

@@ -1,4 +1,4 @@
-//! Items and options that are looked up by what they are: in the engine's own lists, so that what is found is open.
+//! Looks up items and options by number in the engine's own lists, so that what is found is open.
 
 ghost use Rattle.std.specs.Prelude.{◌≡◌, IfSome};
 ghost use Rattle.xcc_form.specs.Options.{cover_of};
@@ -7,7 +7,7 @@ ghost use Rattle.xcc_form.specs.Clashes.{IsOpen, IsOpenAt};
 
 use crate::open_options::OpenOptions;
 
-/// The item with this number, if it is uncovered. Time in how many items are.
+/// Returns the item with this number, if it is primary and not covered. It looks at each such item up to this one.
 pub fn uncovered_item<E: OpenOptions>(engine: &E, number: u32) -> Option<u32>
     ensures number { IfSome result (λ item. item ≡ number) }
     ensures uncovered { let s = E.selection engine.now in IfSome result (IsUncovered (cover_of s.compiled) s.chosen) }
@@ -22,7 +22,7 @@ pub fn uncovered_item<E: OpenOptions>(engine: &E, number: u32) -> Option<u32>
     None
 }
 
-/// The option with this number, if it is an open one of the item. Time in how many are open.
+/// Returns the option with this number, if it is an open option of the item. It looks at each of these up to this one.
 pub fn open_option<E: OpenOptions>(engine: &E, item: u32, number: u32) -> Option<u32>
     requires { let s = E.selection engine.now in IsUncovered (cover_of s.compiled) s.chosen item }
     ensures number { IfSome result (λ option. option ≡ number) }
@@ -38,7 +38,7 @@ pub fn open_option<E: OpenOptions>(engine: &E, item: u32, number: u32) -> Option
     None
 }
 
-/// The open option of an item that has so many before it, if there is one.
+/// Returns the open option of an item that has `before` open options of the item before it, if there is one.
 pub fn option_behind<E: OpenOptions>(engine: &E, item: u32, before: u32) -> Option<u32>
     requires { let s = E.selection engine.now in IsUncovered (cover_of s.compiled) s.chosen item }
     ensures { let s = E.selection engine.now in IfSome result (IsOpenAt (cover_of s.compiled) s.chosen item) }

@@ -1,4 +1,4 @@
-//! The options of a puzzle by cell, tile and turn.
+//! Numbers for pairs of a cell and a placement: by cell, tile and turn.
 
 ghost use Rattle.std.specs.Prelude.{◌≡◌, ◌<◌, ◌≤◌, ◌*◌, IfOk, length};
 ghost use Rattle.match_board.specs.Board.{cell_count};
@@ -11,7 +11,7 @@ use match_limits::{MOST_ENTRIES, TURNS};
 use match_puzzle::{Pair, Puzzle};
 use std::alloc::{AllocError, Global};
 
-/// The number of a pair of so many cells and as many tiles, of which each has four turns at most.
+/// The number of a pair, for `cells` cells, as many tiles, and at most four turns of each.
 pub(crate) fn number_of(cells: u16, pair: Pair) -> usize
     ensures { result ≡ pair_number cells pair }
 {
@@ -20,7 +20,7 @@ pub(crate) fn number_of(cells: u16, pair: Pair) -> usize
         + usize::from(placement.turn)
 }
 
-/// The options of the puzzle by the numbers of their pairs.
+/// The options of the puzzle, by the numbers of their pairs.
 pub(crate) fn option_numbers(
     alloc: Global,
     puzzle: &Puzzle,

@@ -1,4 +1,4 @@
-//! What a search asks of its engine, which keeps what is chosen and what is open.
+//! What a search needs from its engine, which keeps the chosen options and the open ones.
 
 ghost use Rattle.std.specs.Prelude.{◌≡◌, ◌<◌, [], IfOk, IfSome, OnErr, MatchOption, length};
 ghost use Rattle.xcc_form.specs.Options.{cover_of};
@@ -9,46 +9,46 @@ ghost use Rattle.xcc_form.specs.Chosen.{HasSize, IsToBranchOn, IsNextItem, IsLas
 use crate::xccs::Xcc;
 use std::alloc::{AllocError, Global};
 
-/// An engine of a search: options chosen of a compiled puzzle, no two of which clash, and the open options beside them,
-/// however these are kept: `OpenSets` counts what fits.
+/// The engine of a search. It keeps chosen options of a compiled puzzle, no two of which clash, and the open options
+/// beside them, in whatever form: `OpenSets` counts what fits.
 ///
-/// An option is open where it clashes with no chosen one. An item is covered where a chosen option has it.
+/// An option is open where it clashes with no chosen option. An item is covered where a chosen option has it.
 pub trait OpenOptions {
     /// The compiled puzzle and the chosen options.
     ghost selection: { Self → Selection };
-    /// All as it was before the last choice.
+    /// The engine as it was before the last choice.
     ghost taken_back: { Self → Self };
 
-    /// The compiled puzzle.
+    /// Returns the compiled puzzle.
     fn xcc(&self) -> &Xcc<'_>
         ensures { result.now ≡ (selection self.now).compiled };
 
-    /// The chosen options, in the order of choosing.
+    /// Returns the chosen options, in the order of choosing.
     fn chosen(&self) -> &[u32]
         ensures value { result.now ≡ (selection self.now).chosen }
         ensures right { IsSelection (selection self.now).compiled (selection self.now).chosen };
 
-    /// The item to branch on: of the uncovered primary items the one with the fewest open options, the least number
-    /// at a tie, so that a cell comes before a tile. `None` where each primary item is covered.
+    /// Returns the item to branch on: the uncovered primary item with the fewest open options. At a tie it is the one
+    /// with the least number, so a cell before a tile. `None` where every primary item is covered.
     fn branch_item(&self) -> Option<u32>
         ensures { let s = selection self.now in MatchOption result
             (AreAllCovered (cover_of s.compiled) s.chosen)
             (IsToBranchOn (cover_of s.compiled) s.chosen) };
 
-    /// The uncovered primary item that comes next after this one of them, by number, or the first of them.
+    /// Returns the uncovered primary item that comes next after `after`, by number, or the first without one.
     fn next_item(&self, after: Option<u32>) -> Option<u32>
         requires { let s = selection self.now in IfSome after (IsUncovered (cover_of s.compiled) s.chosen) }
         ensures { let s = selection self.now in MatchOption result
             (IsLastItem (cover_of s.compiled) s.chosen after)
             (IsNextItem (cover_of s.compiled) s.chosen after) };
 
-    /// How many open options an item has that is primary and uncovered.
+    /// Returns how many open options a primary, uncovered item has.
     fn size(&self, item: u32) -> u32
         requires { let s = selection self.now in IsUncovered (cover_of s.compiled) s.chosen item }
         ensures { let s = selection self.now in HasSize (cover_of s.compiled) s.chosen item result };
 
-    /// The open option of an item that comes next after this one of them, by number, or the first of them. The item is
-    /// primary and uncovered.
+    /// Returns the open option of an item that comes next after `after`, by number, or the first without one. The item
+    /// has to be primary and uncovered.
     fn next_option(&self, item: u32, after: Option<u32>) -> Option<u32>
         requires item { let s = selection self.now in IsUncovered (cover_of s.compiled) s.chosen item }
         requires after { let s = selection self.now in IfSome after (IsOpenAt (cover_of s.compiled) s.chosen item) }
@@ -58,7 +58,7 @@ pub trait OpenOptions {
 
     /// Chooses an open option.
     ///
-    /// An error where memory is refused; then nothing changes.
+    /// An error comes where memory is refused; then nothing changes.
     fn choose(&mut self, option: u32) -> Result<(), AllocError>
         requires { let s = selection self.old in IsOpen (cover_of s.compiled) s.chosen option }
         ensures chosen { IfOk result (λ _. selection self.new ≡ with_option (selection self.old) option) }
@@ -66,26 +66,26 @@ pub trait OpenOptions {
         ensures room { length (selection self.old).chosen < length (selection self.old).compiled.options }
         ensures refused { OnErr result (self.new ≡ self.old) };
 
-    /// Takes back the option that was chosen last. There is one.
+    /// Takes back the option that was chosen last. There has to be one.
     fn undo(&mut self)
         requires { 0 < length (selection self.old).chosen }
         ensures { self.new ≡ taken_back self.old };
 
-    /// Before the last choice all chosen options but the last were chosen.
+    /// Before the last choice, all chosen options but the last were chosen.
     ghost all_but_last: { (s : Self) → selection (taken_back s) ≡ without_last (selection s) };
 }
 
-/// An engine that is made of a compiled puzzle, which it may borrow.
+/// An engine that is made from a compiled puzzle, which it may borrow.
 pub trait FromCompiled<'a>: OpenOptions + Sized {
-    /// Nothing is chosen yet. An error comes where memory is refused.
+    /// Makes an engine in which nothing is chosen yet. An error comes where memory is refused.
     fn from_compiled(alloc: Global, xcc: &'a Xcc<'a>) -> Result<Self, AllocError>
         ensures { IfOk result (λ s. Self.selection s ≡ record { compiled = xcc.now; chosen = [] }) };
 }
 
-/// How much is left by an open option: one, and the fewest open options that an uncovered item has where it is chosen
-/// too.
+/// Returns how much an open option leaves: 1, plus the fewest open options that an uncovered item has once this option
+/// is chosen too.
 ///
-/// An error where memory is refused.
+/// An error comes where memory is refused. The engine is left as it was.
 pub fn left_by<E: OpenOptions>(engine: &mut E, option: u32) -> Result<u32, AllocError>
     requires { let s = E.selection engine.old in IsOpen (cover_of s.compiled) s.chosen option }
     ensures { engine.new ≡ engine.old }

@@ -1,4 +1,4 @@
-//! Compiled puzzles.
+//! Puzzles compiled to exact covers with colours.
 
 ghost use Rattle.std.specs.Prelude.{◌≡◌, ◌<◌, ◌≤◌, ◌*◌, ◌/◌, ℕ, IfOk, IsErrOf, MatchOption, Some, length, slice_get};
 ghost use Rattle.match_board.specs.Board.{cell_count};
@@ -15,13 +15,17 @@ use match_puzzle::{Pair, Placement, Puzzle};
 use std::alloc::Global;
 use std::marker::Model;
 
-/// A puzzle as an exact cover with colours (Knuth, TAOCP 4B, 7.2.2.1). It borrows the puzzle that it was compiled from.
+/// A puzzle as an exact cover with colours (Knuth, TAOCP 4B, 7.2.2.1). It borrows the puzzle.
 ///
-/// Items are numbered from 0. The primary ones are the cells, then the tiles; the secondary ones, after them, are the
-/// shared edges, by their lesser (cell, side). There is one option for each cell and legal placement that shows there
-/// what the border and clues ask; they are numbered from 0 by cell, then by tile, then by turn. An option has its cell,
-/// its tile, and each shared edge of the cell with a colour: what the placement shows at the edge's lesser (cell, side),
-/// or the mate of what it shows at the other.
+/// Items are numbered from 0, in this order:
+///
+/// - primary items: the cells, then the tiles
+/// - secondary items: the shared edges, by their lesser (cell, side)
+///
+/// There is one option for each cell and each legal placement that shows there what the border and clues ask. Options
+/// are numbered from 0, by cell, then by tile, then by turn. The items of an option are its cell, its tile, and each
+/// shared edge of the cell. The edge has a colour: what the placement shows at the edge's lesser (cell, side), or the
+/// mate of what it shows at the other.
 #[derive(Drop)]
 pub struct Xcc<'a> {
     puzzle: &'a Puzzle,
@@ -46,10 +50,10 @@ impl<'a> Model for Xcc<'a> {
         x.options.pairs.items x.options.starts.items x.options.edges.items x.numbers.items };
 }
 
-/// The puzzle as an exact cover with colours.
+/// Compiles the puzzle to an exact cover with colours.
 ///
-/// `TooMany` where the options have over 200,000 items together, and `Memory` where a vector cannot grow before that
-/// is known, or memory for the table of options is refused.
+/// `TooMany` comes where the options have over 200,000 items together. `Memory` comes where a vector cannot grow before
+/// that is known, or memory for the table of options is refused.
 pub fn compile(alloc: Global, puzzle: &Puzzle) -> Result<Xcc<'_>, CompileFault>
     ensures puzzle { IfOk result (λ x. x.puzzle ≡ puzzle.now) }
     ensures compiled { IfOk result IsCompiled }
@@ -71,7 +75,7 @@ pub fn compile(alloc: Global, puzzle: &Puzzle) -> Result<Xcc<'_>, CompileFault>
 }
 
 impl<'a> Xcc<'a> {
-    /// The puzzle that it was compiled from.
+    /// Returns the puzzle that this was compiled from.
     pub fn puzzle(&self) -> &'a Puzzle
         ensures value { result.now ≡ self.now.puzzle }
         ensures compiled { IsCompiled self.now }
@@ -79,7 +83,7 @@ impl<'a> Xcc<'a> {
         self.puzzle
     }
 
-    /// How many cells there are: they are the first items.
+    /// Returns how many cells there are. They are the first items.
     pub fn cells(&self) -> u16
         ensures count { result ≡ cell_count self.now.puzzle.board }
         ensures most { result ≤ MOST_CELLS }
@@ -88,7 +92,7 @@ impl<'a> Xcc<'a> {
         self.puzzle.board().cells()
     }
 
-    /// How many primary items there are: cells and tiles, at most 512.
+    /// Returns how many primary items there are: cells and tiles, at most 512.
     pub fn primaries(&self) -> u32
         ensures count { result ≡ primary_count self.now.puzzle }
         ensures few { result ≤ 2 * MOST_CELLS }
@@ -96,7 +100,7 @@ impl<'a> Xcc<'a> {
         2 * u32::from(self.cells())
     }
 
-    /// How many secondary items there are: shared edges, at most 1,024.
+    /// Returns how many secondary items there are: shared edges, at most 1,024.
     pub fn secondaries(&self) -> u32
         ensures count { result ≡ length self.now.shared }
         ensures few { result ≤ 4 * MOST_CELLS }
@@ -104,7 +108,7 @@ impl<'a> Xcc<'a> {
         self.shared.len() as u32
     }
 
-    /// How many options there are, at most 100,000.
+    /// Returns how many options there are, at most 100,000.
     pub fn options(&self) -> u32
         ensures count { result ≡ length self.now.options }
         ensures few { result ≤ MOST_ENTRIES / 2 }
@@ -112,7 +116,7 @@ impl<'a> Xcc<'a> {
         self.options.pairs.len() as u32
     }
 
-    /// How many items all options have together, at most 200,000.
+    /// Returns how many items all options have together, at most 200,000.
     pub fn entries(&self) -> u32
         ensures count { result ≡ entries_of self.now }
         ensures few { result ≤ MOST_ENTRIES }
@@ -120,7 +124,7 @@ impl<'a> Xcc<'a> {
         (2 * self.options.pairs.len() + self.options.edges.len()) as u32
     }
 
-    /// The cell and the placement of an option.
+    /// Returns the cell and the placement of an option.
     pub fn pair(&self, option: u32) -> Pair
         requires { option < length self.now.options }
         ensures { IsPairOf self.now option result }
@@ -128,7 +132,7 @@ impl<'a> Xcc<'a> {
         self.options.pairs[option as usize]
     }
 
-    /// The option of a pair. There is one where the placement is legal, and shows at the cell what is asked there.
+    /// Returns the option of a pair. It exists where the placement is legal and shows at the cell what is asked there.
     pub fn option_of(&self, pair: Pair) -> Option<u32>
         ensures { MatchOption result (IsOptionPair self.now.puzzle pair → ⊥) (λ option. IsPairOf self.now option pair) }
     {
@@ -140,7 +144,7 @@ impl<'a> Xcc<'a> {
         self.numbers[number_of(cells, pair)]
     }
 
-    /// The secondary items of an option with their colours, by item.
+    /// Returns the secondary items of an option with their colours, in the order of items.
     pub fn edges(&self, option: u32) -> &[Edge]
         requires { option < length self.now.options }
         ensures { (c : Choice) × (slice_get self.now.options option ≡ Some c) × (c.edges ≡ result.now) }

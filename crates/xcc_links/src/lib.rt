@@ -1,4 +1,4 @@
-//! Linked lists of the options that still go with the chosen ones: an engine of the search, each choice of which can be
+//! Linked lists of the options that still go with the chosen ones: an engine of the search in which each choice can be
 //! taken back link by link.
 #![tactic(auto)]
 

@@ -1,4 +1,4 @@
-//! Chosen options, and link arrays that tell which options still go with them.
+//! Chosen options, and arrays of links that keep which options still go with them.
 
 ghost use Rattle.std.specs.Prelude.{◌≡◌, ◌<◌, ◌++◌, ◌∷◌, [], IfOk, IfSome, OnErr, MatchOption, length};
 ghost use Rattle.xcc_form.specs.Options.{cover_of};
@@ -17,14 +17,14 @@ use std::marker::Model;
 use tables::NodeTable;
 use xcc_form::{FromCompiled, OpenOptions, Xcc};
 
-/// Options chosen of a compiled puzzle, no two of which clash: they share no primary item, and give no secondary item
-/// two colours. The other options are in linked lists by item: dancing links with colours (Knuth, TAOCP 4B, 7.2.2.1,
-/// Algorithm C), in arrays of numbered nodes. It borrows the compiled puzzle.
+/// Chosen options of a compiled puzzle, no two of which clash: they share no primary item, and give no secondary item
+/// two colours. The other options are in linked lists, one for each item: dancing links with colours (Knuth, TAOCP 4B,
+/// 7.2.2.1, Algorithm C), in arrays of numbered nodes. It borrows the compiled puzzle.
 ///
-/// An option is open where it clashes with no chosen one. An item is covered where a chosen option has it. An item's
-/// list has the options that are open, so that the next one and the number of them are read off. A choice takes out of
-/// all lists the options that clash with it, and taking it back puts them in again, the last one first: each link and
-/// each size is then as it was.
+/// An option is open where it clashes with no chosen option. An item is covered where a chosen option has it. The list
+/// of an item has its open options, so the next one and their number are read off. A choice takes all options that
+/// clash with it out of all lists. Taking the choice back puts them in again, the last one first: each link and each
+/// size is then as it was.
 #[derive(Drop)]
 pub struct Links<'a> {
     xcc: &'a Xcc<'a>,
@@ -45,14 +45,14 @@ impl<'a> Model for Links<'a> {
 }
 
 impl<'a> Links<'a> {
-    /// Nothing is chosen yet.
+    /// Starts with nothing chosen.
     ///
-    /// An error where memory is refused, for a node for each item of each option, and for as many options as there are
-    /// cells.
+    /// An error comes where memory is refused, for a node for each item of each option, or for as many options as there
+    /// are cells.
     pub fn new(alloc: Global, xcc: &'a Xcc<'a>) -> Result<Links<'a>, AllocError>
         ensures { IfOk result (λ s. selection_of s ≡ record { compiled = xcc.now; chosen = [] }) }
     {
-        // what is proved of the puzzle holds of each compiled one
+        // what is proved of the puzzle holds for each compiled one
         let puzzle = xcc.puzzle();
         let cells = usize::from(puzzle.board().cells());
         let table = NodeTable::new(alloc, xcc)?;
@@ -68,14 +68,14 @@ impl<'a> Links<'a> {
         })
     }
 
-    /// The compiled puzzle.
+    /// Returns the compiled puzzle.
     pub fn xcc(&self) -> &'a Xcc<'a>
         ensures { result.now ≡ self.now.compiled }
     {
         self.xcc
     }
 
-    /// The chosen options, in the order of choosing.
+    /// Returns the chosen options, in the order of choosing.
     pub fn chosen(&self) -> &[u32]
         ensures value { result.now ≡ self.now.chosen }
         ensures right { IsSelection self.now.compiled self.now.chosen }
@@ -83,8 +83,8 @@ impl<'a> Links<'a> {
         &self.chosen
     }
 
-    /// The item to branch on: of the uncovered primary items the one with the fewest open options, the least number
-    /// at a tie, so that a cell comes before a tile. `None` where each primary item is covered.
+    /// Returns the item to branch on: the uncovered primary item with the fewest open options. At a tie it is the one
+    /// with the least number, so a cell before a tile. `None` where every primary item is covered.
     pub fn branch_item(&self) -> Option<u32>
         ensures { MatchOption result
             (AreAllCovered (cover_of self.now.compiled) self.now.chosen)
@@ -107,7 +107,7 @@ impl<'a> Links<'a> {
         best
     }
 
-    /// The uncovered primary item that comes next after this one of them, by number, or the first of them.
+    /// Returns the uncovered primary item that comes next after `after`, by number, or the first without one.
     pub fn next_item(&self, after: Option<u32>) -> Option<u32>
         requires { IfSome after (IsUncovered (cover_of self.now.compiled) self.now.chosen) }
         ensures { MatchOption result
@@ -128,7 +128,7 @@ impl<'a> Links<'a> {
         }
     }
 
-    /// How many open options an item has that is primary and uncovered.
+    /// Returns how many open options a primary, uncovered item has.
     pub fn size(&self, item: u32) -> u32
         requires { IsUncovered (cover_of self.now.compiled) self.now.chosen item }
         ensures { HasSize (cover_of self.now.compiled) self.now.chosen item result }
@@ -136,8 +136,8 @@ impl<'a> Links<'a> {
         self.arrays.sizes[item as usize]
     }
 
-    /// The open option of an item that comes next after this one of them, by number, or the first of them. The item is
-    /// primary and uncovered.
+    /// Returns the open option of an item that comes next after `after`, by number, or the first without one. The item
+    /// has to be primary and uncovered.
     pub fn next_option(&self, item: u32, after: Option<u32>) -> Option<u32>
         requires item { IsUncovered (cover_of self.now.compiled) self.now.chosen item }
         requires after { IfSome after (IsOpenAt (cover_of self.now.compiled) self.now.chosen item) }
@@ -159,7 +159,7 @@ impl<'a> Links<'a> {
 
     /// Chooses an open option.
     ///
-    /// An error where the list of chosen options, or that of hidden ones, cannot grow; then nothing changes.
+    /// An error comes where the list of chosen options, or that of hidden ones, cannot grow; then nothing changes.
     pub fn choose(&mut self, option: u32) -> Result<(), AllocError>
         requires { IsOpen (cover_of self.old.compiled) self.old.chosen option }
         ensures chosen { IfOk result (λ _. selection_of self.new ≡ with_option (selection_of self.old) option) }
@@ -177,7 +177,7 @@ impl<'a> Links<'a> {
         Ok(())
     }
 
-    /// Takes back the option that was chosen last. There is one.
+    /// Takes back the option that was chosen last. There has to be one.
     pub fn undo(&mut self)
         requires { 0 < length self.old.chosen }
         ensures { self.new ≡ taken_back self.old }
@@ -238,9 +238,9 @@ impl<'a> FromCompiled<'a> for Links<'a> {
     }
 }
 
-// Notes how many options were hidden, and which is chosen then.
+// Notes how many options were hidden, and which one is chosen then.
 //
-// An error where a list cannot grow; then neither gets longer.
+// An error comes where a list cannot grow; then neither gets longer.
 fn note_choice(
     marks: &mut Vec<usize>,
     mark: usize,
@@ -260,15 +260,15 @@ fn note_choice(
     Ok(())
 }
 
-/// Does nothing. Its promise is a law: links of one compiled puzzle with nothing chosen are the same, each link and
-/// each size. So links whose choices were all taken back are as new ones.
+/// A law; the call does nothing. Links of one compiled puzzle with nothing chosen are the same, in each link and each
+/// size. So links whose choices were all taken back are like new ones.
 pub fn links_with_nothing_chosen_are_one(first: &Links<'_>, second: &Links<'_>)
     requires compiled { second.now.compiled ≡ first.now.compiled }
     requires first { first.now.chosen ≡ [] }
     requires second { second.now.chosen ≡ [] }
     ensures { second.now ≡ first.now }
 {
-    // what is proved of the fields holds of all links
+    // what is proved of the fields holds for all links
     let _first = &first.chosen;
     let _second = &second.chosen;
 }

@@ -8,8 +8,8 @@ use xcc_dance::SearchOver;
 /// A search over linked lists.
 pub type Search<'a> = SearchOver<Links<'a>>;
 
-/// Does nothing. Its promise is a law: two searches of one compiled puzzle have the same links, each link and each
-/// size, where neither failed. So one that is done has the links of a new one.
+/// A law; the call does nothing. Two searches of one compiled puzzle, neither of which failed, have the same links, in
+/// each link and each size. So a search that is done has the links of a new one.
 pub fn links_of_ready_searches_are_one(first: &Search<'_>, second: &Search<'_>)
     requires compiled { second.now.engine.compiled ≡ first.now.engine.compiled }
     requires first { first.now.failed ≡ false }
