@@ -76,7 +76,7 @@ uninstall: ## takes away what install put below PREFIX, and no more
 	done
 	[ ! -d "$$root/share/doc/edgematch" ] || rmdir --ignore-fail-on-non-empty -- "$$root/share/doc/edgematch"
 
-# The same program and pages give the same archive. Its README is the page for readers, with the program's SHA-256, and
+# Equal programs and pages give equal archives. Its README is the page for readers, with the program's SHA-256, and
 # with the commit of the sources where these are as they were committed.
 package: ## makes an archive in FOLDER (.) for readers who only check, and prints its SHA-256
 	@$(needs_program)

@@ -197,7 +197,7 @@ impl SideColours {
         }
     }
 
-    // The same, or 0 where another colour is asked of the side.
+    // How often a side shows the colour; 0 if another is asked.
     fn count_as_asked(&self, asked: Asked, colour: u8) -> u32 {
         match asked.colour {
             Some(other) if other != colour => 0,
