@@ -5,8 +5,9 @@ Reads the puzzle's text from the file PUZZLE, and writes the other two. At each 
 placements is filled, the least number at a tie; a cell that nothing fits ends a branch. Nodes with DEPTH pairs (0,
 unless given) are lemmas of their own, which the root cites. After MOST nodes (no bound, unless given) it gives up. With
 --items a branch is on the cell or tile with the fewest fitting pairs, a cell at a tie, as `edgematch solve --depth 0`
-has it, which then writes the same. Nobody has to trust it: `edgematch check` reads what it wrote. It ends with 0 where
-both are written, and with 2 and a line on standard error where they aren't.
+has it, which then writes the same. Where there are more tiles than cells it is on a cell alone, since a tile may be
+left over. Nobody has to trust it: `edgematch check` reads what it wrote. It ends with 0 where both are written, and
+with 2 and a line on standard error where they aren't.
 """
 import argparse
 import os
@@ -214,7 +215,7 @@ class Search:
 
 
 class ItemSearch(Search):
-    """The same, where a branch may be on a tile too."""
+    """The same, where a branch may be on a tile too, if there are as many tiles as cells."""
 
     def item(self):
         if None not in self.at:
@@ -227,7 +228,8 @@ class ItemSearch(Search):
         ]
         cells = [cell for cell in range(self.cells) if self.at[cell] is None]
         items = [(f"c {cell}", f"d {cell}", [it for it in pairs if it[0] == cell]) for cell in cells]
-        items += [(f"t {tile}", f"e {tile}", [it for it in pairs if it[1][0] == tile]) for tile in self.free]
+        if len(self.shown) == self.cells:
+            items += [(f"t {tile}", f"e {tile}", [it for it in pairs if it[1][0] == tile]) for tile in self.free]
         return min(items, key=lambda it: len(it[2]))
 
 

@@ -10,7 +10,6 @@ use Rattle.match_puzzle.proofs.NumberLemmas.{no_such, same_number, both_kinds}
 use Rattle.xcc_form.specs.ExactCover.{HasPrimary, HasColour}
 use Rattle.xcc_form.specs.Options.{Compiled, IsCompiled, cover_of}
 use Rattle.xcc_form.specs.Correspondence.{IsSolutionOf}
-use Rattle.xcc_form.proofs.CoverLemmas.{coloured_cover}
 use Rattle.xcc_form.proofs.OptionLemmas.{one_option, many_options, pair_at}
 use Rattle.xcc_form.proofs.WholeLemmas.{are_one_to_one}
 use Rattle.census_branches.specs.Extensions.{HasOptions, HaveOptions}
@@ -79,9 +78,7 @@ module _ (x : Compiled) (is : IsCompiled x) where
           solution.real by.0 by.1,
           of_solution (options ++ by.0 ∷ []) a f.0 f.1 (λ option c. ⊎_elim (λ old. f.2 option old) (λ e. subst (Contains f.0) e by.1) (Contains-push_cases options by.0 option c)),
           λ other c. (
-            λ shared there here.
-                let one = (solution.covered shared ((coloured_cover x is).cover.primary by.0 shared here)).3 in
-                one other (f.2 other c) there ∙ sym (one by.0 by.1 here),
+            λ shared there here. solution.apart shared other by.0 (f.2 other c) by.1 there here,
             λ shared colour colour' there here. solution.coloured shared other by.0 colour colour' (f.2 other c) by.1 there here,
           ),
         )

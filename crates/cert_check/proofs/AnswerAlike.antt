@@ -35,7 +35,7 @@ use Rattle.cert_check.specs.declared.faults.Answer.TheVariants.{Complete, Refuse
 use Rattle.cert_check.specs.declared.faults.Fault.{Fault}
 use Rattle.cert_check.specs.declared.faults.Fault.TheVariants as faults
 use Rattle.cert_check.specs.declared.faults.NodeFault.{NodeFault}
-use Rattle.cert_check.specs.declared.faults.NodeFault.TheVariants.{CellRange, WrongCount, NotDead, NotWithin}
+use Rattle.cert_check.specs.declared.faults.NodeFault.TheVariants.{CellRange, TileSpare, WrongCount, NotDead, NotWithin}
 use Rattle.cert_check.specs.Setting.{Question, Setting, setting_at, in_second_form}
 use Rattle.cert_check.specs.NodeRules.{IsBranch, IsDead, Holds, EachHolds}
 use Rattle.cert_check.specs.TreeFaults.{ItemFails, BranchFails, DeadFails, ImageFails, NodeFails, IsNodeFault, FailsAt, EachFails}
@@ -123,7 +123,7 @@ module _ (turns : Bool) (border : BorderRule) (mates : List ℕ) (clues : List C
 
     open_alike : (q : Prefix) (item : Item) → IsOpen (at s v) q item → IsOpen (at t w) q item
     open_alike q (items.Cell cell) is = is
-    open_alike q (items.Tile tile) is = is
+    open_alike q (items.Tile tile) is = (is.0, is.1, is.2 ∙ a.cells)
 
     fits_item_alike : (q : Prefix) (item : Item) (x : Pair) → FitsItem (at s v) q item x → FitsItem (at t w) q item x
     fits_item_alike q item x is = (is.0, fits_alike turns border mates clues words a v w q x.cell x.placement is.1)
@@ -136,6 +136,7 @@ module _ (turns : Bool) (border : BorderRule) (mates : List ℕ) (clues : List C
     item_fails : (q : Prefix) (item : Item) (fault : NodeFault) → ItemFails (at s v) q item fault → ItemFails (at t w) q item fault
     item_fails q (items.Cell cell) CellRange h = omega (arith, a.cells, h)
     item_fails q (items.Cell cell) _ h = h
+    item_fails q (items.Tile tile) TileSpare h = λ all. h (all ∙ sym a.cells)
     item_fails q (items.Tile tile) _ h = h
 
   module _ {s t : Figure} (a : AreAlike s t) (v w : ℕ) where

@@ -14,7 +14,7 @@ use Rattle.match_puzzle.specs.declared.placements.Pair.{Pair}
 use Rattle.puzzle_symmetry.specs.Images.{IsImageWithin}
 use Rattle.match_board.specs.declared.symmetry_lines.SymmetryLine.{SymmetryLine}
 use Rattle.cert_check.specs.declared.faults.NodeFault.{NodeFault}
-use Rattle.cert_check.specs.declared.faults.NodeFault.TheVariants.{CellRange, CellTaken, TileRange, TileTaken, WrongCount, NotDead, NotWhole, ListRange, NotListed, NotEarlier, SymmetryRange, NotWithin}
+use Rattle.cert_check.specs.declared.faults.NodeFault.TheVariants.{CellRange, CellTaken, TileSpare, TileRange, TileTaken, WrongCount, NotDead, NotWhole, ListRange, NotListed, NotEarlier, SymmetryRange, NotWithin}
 use Rattle.cert_check.specs.Setting.{Setting}
 use Rattle.cert_tree.specs.Tree.{Tree, Forest, branch, dead, found, same, image, none, more, count}
 use Rattle.cert_check.specs.NodeRules.{IsBranch, IsDead, IsListedAt, IsCited, IsCitedByImage, Holds, EachHolds}
@@ -56,6 +56,7 @@ taken_free free has = none≢some (inside (sym free ∙ has))
 open_no_fault : (p : Task) (q : Prefix) (item : Item) (fault : NodeFault) → length q ≡ cell_count p.board → IsOpen p q item → ItemFails p q item fault → ⊥
 open_no_fault p q (Cell cell) CellRange long unsettled fails = omega (arith, slice_get_within q cell None unsettled)
 open_no_fault p q (Cell cell) CellTaken long unsettled fails = taken_free unsettled fails.1
+open_no_fault p q (Tile tile) TileSpare long unsettled fails = fails unsettled.2
 open_no_fault p q (Tile tile) TileRange long unsettled fails = omega (arith, unsettled.0)
 open_no_fault p q (Tile tile) TileTaken long unsettled fails = unsettled.1 fails.0 fails.1 fails.2 fails.3
 open_no_fault p q (Cell cell) _ long unsettled fails = fails
@@ -141,6 +142,7 @@ AreAlike f g = f ≡ g
 alike : (f g : NodeFault) → (node_rank f).first ≡ (node_rank g).first → AreAlike f g
 alike CellRange CellRange e = refl
 alike CellTaken CellTaken e = refl
+alike TileSpare TileSpare e = refl
 alike TileRange TileRange e = refl
 alike TileTaken TileTaken e = refl
 alike (WrongCount n m) (WrongCount n' m') e = (n', m', refl)

@@ -52,16 +52,16 @@ record Settled (p : Task) (q : Prefix) (a : List Placement) (item : Item) : Type
   stands : Stands a pair.cell pair.placement
   fits : FitsItem p q item pair
 
-settled : (p : Task) (puzzle : IsPuzzle p) (q : Prefix) (a : List Placement) (item : Item) → length q ≡ cell_count p.board → IsArrangement p a → Extends a q → IsOpen p q item → Settled p q a item
-settled p puzzle q a (Cell cell) long is extends free =
+settled : (p : Task) (q : Prefix) (a : List Placement) (item : Item) → length q ≡ cell_count p.board → IsArrangement p a → Extends a q → IsOpen p q item → Settled p q a item
+settled p q a (Cell cell) long is extends free =
     let at = stands_in a cell (omega (arith, slice_get_within q cell None free, long, is.cells)) in record {
       pair = record { cell = cell; placement = at.0 };
       free = free;
       stands = at.1;
       fits = (refl, fits_free p q a cell at.0 is extends free at.1);
     }
-settled p puzzle q a (Tile tile) long is extends unsettled =
-    let at = all_placed p a puzzle.tiles is tile unsettled.0 in
+settled p q a (Tile tile) long is extends unsettled =
+    let at = all_placed p a unsettled.2 is tile unsettled.0 in
     let free = ⊎_elim (λ f. f) (λ w. absurd (unsettled.1 at.0 w.0 w.1 (ap (λ (x : Placement). x.tile) (inside (sym (extends at.0 w.0 w.1) ∙ at.2)) ∙ at.3))) (free_or_filled q at.0 (omega (arith, slice_get_within a at.0 at.1 at.2, long, is.cells))) in record {
       pair = record { cell = at.0; placement = at.1 };
       free = free;
@@ -108,10 +108,10 @@ module _ (s : Setting) (puzzle : IsPuzzle s.puzzle) (symmetries : AreSymmetries 
   mutual
     pub covered : (tree : Tree) (q : Prefix) → length q ≡ cell_count s.puzzle.board → Holds s tree q → CoveredIn s q
     covered (branch item children) q long holds a is extends =
-        let w = settled s.puzzle puzzle q a item long is extends holds.1.unsettled in
+        let w = settled s.puzzle q a item long is extends holds.1.unsettled in
         covered_each children q holds.0 long holds.2 w.pair (holds.1.fitting.all w.pair w.fits) a is (extends_more q a w.pair.cell w.pair.placement extends w.free w.stands)
     covered (dead item) q long holds a is extends =
-        let w = settled s.puzzle puzzle q a item long is extends holds.unsettled in
+        let w = settled s.puzzle q a item long is extends holds.unsettled in
         absurd (holds.nothing w.pair w.fits)
     covered (found number) q long holds a is extends = covered_listed q number long holds a is extends
     covered (same lemma) q long holds a is extends = covered_same q lemma holds a is extends

@@ -2,7 +2,7 @@
 use Rattle.std.specs.Prelude.{◌≡◌, ◌≢◌, ◌⊎◌, ◌≤◌, ℕ, zero, suc, List, [], ◌∷◌, Some, length, map, slice_get}
 use Rattle.match_board.specs.Board.{cell_count}
 use Rattle.match_limits.specs.First.{Rank, IsFirst, rank_by}
-use Rattle.match_puzzle.specs.Puzzle.{Task}
+use Rattle.match_puzzle.specs.Puzzle.{Task, AllHaveToStand}
 use Rattle.match_puzzle.specs.Prefix.{Prefix, Has, IsFree, IsUsed, IsWithin, with_pair}
 use Rattle.match_puzzle.specs.Fitting.{AreFitting}
 use Rattle.match_puzzle.specs.declared.items.Item.{Item}
@@ -12,17 +12,18 @@ use Rattle.match_puzzle.specs.declared.placements.Pair.{Pair}
 use Rattle.puzzle_symmetry.specs.Images.{IsImageWithin}
 use Rattle.match_board.specs.declared.symmetry_lines.SymmetryLine.{SymmetryLine}
 use Rattle.cert_check.specs.declared.faults.NodeFault.{NodeFault}
-use Rattle.cert_check.specs.declared.faults.NodeFault.TheVariants.{CellRange, CellTaken, TileRange, TileTaken}
+use Rattle.cert_check.specs.declared.faults.NodeFault.TheVariants.{CellRange, CellTaken, TileSpare, TileRange, TileTaken}
 use Rattle.cert_check.specs.declared.faults.NodeFault.TheVariants.{WrongCount, NotDead, NotWhole, ListRange, NotListed}
 use Rattle.cert_check.specs.declared.faults.NodeFault.TheVariants.{NotEarlier, SymmetryRange, NotWithin}
 use Rattle.cert_check.specs.Setting.{Setting}
 use Rattle.cert_tree.specs.Tree.{Tree, Forest, branch, dead, found, same, image, none, more, count}
 use Rattle.cert_check.specs.NodeRules.{IsBranch, Holds}
 
--- The item is none of the puzzle, or it is settled.
+-- The item is none of the puzzle, or it is settled; or it is a tile, and not all have to stand.
 abbrev pub ItemFails : Task → Prefix → Item → NodeFault → Type 0
 ItemFails p q (Cell cell) CellRange = cell_count p.board ≤ cell
 ItemFails p q (Cell cell) CellTaken = (x : Placement) × Has q cell x
+ItemFails p q (Tile tile) TileSpare = AllHaveToStand p → ⊥
 ItemFails p q (Tile tile) TileRange = length p.words ≤ tile
 ItemFails p q (Tile tile) TileTaken = IsUsed q tile
 ItemFails p q item fault = ⊥
@@ -72,6 +73,7 @@ NodeFails s (image lemma symmetry) q = ImageFails s q lemma symmetry
 
 -- the order of the faults
 abbrev pub node_rank : NodeFault → Rank
+node_rank TileSpare = rank_by 0
 node_rank CellRange = rank_by 1
 node_rank CellTaken = rank_by 2
 node_rank TileRange = rank_by 3

@@ -72,7 +72,7 @@ pub fn one_answer()
     ensures { OneAnswer }
 {}
 
-/// A law; the call does nothing. A puzzle and its second form (the puzzle in version 2, with a shape in place of a
+/// A law; the call does nothing. A puzzle and its second form (the puzzle in version 2 or 3, with a shape in place of a
 /// rectangle) have the same answer for each list and certificate.
 pub fn second_form_has_the_same_answers()
     ensures { (question : Question) (answer : Answer)

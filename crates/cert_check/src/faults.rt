@@ -12,6 +12,8 @@ pub enum NodeFault {
     CellRange,
     /// A branch or a dead end names a cell that is filled.
     CellTaken,
+    /// A branch or a dead end names a tile, where there are more tiles than cells, so that none has to be placed.
+    TileSpare,
     /// A branch or a dead end names a tile that the puzzle does not have.
     TileRange,
     /// A branch or a dead end names a tile that is placed.
@@ -112,7 +114,7 @@ pub enum Fault {
     Repeated(u32),
     /// The symmetry line with this number is no symmetry of the puzzle. `Memory` does not come here.
     Symmetry(u32, SymmetryFault),
-    /// The lemma with this number does not begin with a prefix: pairs that can be placed together.
+    /// The lemma with this number does not begin with a prefix: legal placements of different tiles at rising cells.
     Prefix(u32, PrefixFault),
     /// There is no lemma, or the last one does not begin with nothing placed.
     Root,

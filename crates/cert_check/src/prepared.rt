@@ -14,8 +14,8 @@ use std::marker::Model;
 use std::thread::Threads;
 
 /// A question of which only the trees are still to be checked. The rest is right: the list has different arrangements,
-/// each symmetry line is a symmetry, each lemma begins with a prefix (pairs that can be placed together), and the last
-/// lemma with nothing placed.
+/// each symmetry line is a symmetry, each lemma begins with a prefix (legal placements of different tiles at rising
+/// cells), and the last lemma with nothing placed.
 #[derive(Drop)]
 pub struct Prepared<'a> {
     question: &'a Question<'a>,

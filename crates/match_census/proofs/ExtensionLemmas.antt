@@ -5,8 +5,7 @@ use Rattle.match_puzzle.proofs.NumberLemmas.{just_one}
 use Rattle.xcc_form.specs.ExactCover.{IsSolution}
 use Rattle.xcc_form.specs.Options.{Compiled, IsCompiled, cover_of}
 use Rattle.xcc_form.specs.Correspondence.{IsFilledBy, HaveSameOptions}
-use Rattle.xcc_form.proofs.CoverLemmas.{coloured_cover}
-use Rattle.xcc_form.proofs.OptionLemmas.{many_options, pair_at, has_cell}
+use Rattle.xcc_form.proofs.OptionLemmas.{many_options, option_pair, pair_at, has_cell, cell_is_primary}
 use Rattle.xcc_form.proofs.WholeLemmas.{are_one_to_one}
 use Rattle.xcc_form.specs.Clashes.{IsOpenAt}
 use Rattle.xcc_form.specs.Chosen.{Selection, IsSelection, IsUncovered, AreAllCovered, IsNext, IsLast, with_option, IsFoundFrom}
@@ -45,7 +44,8 @@ module _ (s : Selection) (right : IsSelection s.compiled s.chosen) where
         let many = many_options s.compiled right.compiled in
         let y = pair_at s.compiled right.compiled option (omega (arith, real, many)) in
         let at = has_cell s.compiled right.compiled option y.0 y.1 in
-        let item = (coloured_cover s.compiled right.compiled).cover.primary option y.0.cell at in
+        let good = option_pair s.compiled right.compiled option y.0 y.1 in
+        let item = cell_is_primary s.compiled.puzzle y.0.cell good.cell in
         let by = covered y.0.cell item in
         let one = (is.covered y.0.cell item).3 in
         subst (Contains s.chosen) (one by.0 (has by.0 by.1) by.2 ∙ sym (one option c at)) by.1,

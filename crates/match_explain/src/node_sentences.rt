@@ -58,13 +58,17 @@ impl<'a> Node<'a> {
 
     // What is wrong with it.
     pub(crate) fn sentence(&self, alloc: Global, fault: NodeFault) -> Result<String, AllocError> {
-        let cells = self.partial.puzzle().board().cells();
+        let puzzle = self.partial.puzzle();
+        let (cells, tiles) = (puzzle.board().cells(), puzzle.tile_count());
         match fault {
             NodeFault::CellRange => format!(in alloc;
                 "cells of the board, numbered from 0: {cells}"
             ),
             NodeFault::TileRange => format!(in alloc;
-                "tiles of the puzzle, numbered from 0: {cells}"
+                "tiles of the puzzle, numbered from 0: {tiles}"
+            ),
+            NodeFault::TileSpare => format!(in alloc;
+                "the puzzle has {tiles} tiles for {cells} cells, so no tile has to be placed, and none is branched on"
             ),
             NodeFault::CellTaken | NodeFault::TileTaken => self.taken_sentence(alloc),
             NodeFault::WrongCount { fits, children } => self.count_sentence(alloc, fits, children),

@@ -9,7 +9,7 @@ use Rattle.match_limits.specs.Listing.{IsListing, ByKey}
 use Rattle.match_board.proofs.Places.{StandsAt-in_range, Meets-turned}
 use Rattle.match_puzzle.specs.Puzzle.{Task, IsPuzzle, colour_of, mate_of}
 use Rattle.match_puzzle.specs.Prefix.{Prefix, IsFree, with_pair}
-use Rattle.match_puzzle.specs.Fitting.{Settles, IsOpen, item_key, numbered_pair}
+use Rattle.match_puzzle.specs.Fitting.{Settles, IsUnsettled, item_key, numbered_pair}
 use Rattle.match_puzzle.specs.PlacementSets.{AreFreeNumbers, AreShowing, numbered}
 use Rattle.match_fits.specs.FitRows.{StandsBeside}
 use Rattle.match_fits.specs.FitSizes.{AreSizesOf, AreCovered, FitsPair, FitsBeside}
@@ -167,7 +167,7 @@ module _ (p : Task) (q : Prefix) (x : Pair) (side cell met asked : ℕ) (kept ro
   gone_free : (n : ℕ) → Contains gone n → IsFree (with_pair q x.cell x.placement) cell
   gone_free n c = let f = gone_beside n c in free_still p q x are.fits cell f.other_cell f.fits.free
 
-  gone_open : (n : ℕ) → Contains gone n → IsOpen p (with_pair q x.cell x.placement) (Tile (n / 4))
+  gone_open : (n : ℕ) → Contains gone n → IsUnsettled p (with_pair q x.cell x.placement) (Tile (n / 4))
   gone_open n c = let f = gone_beside n c in (f.fits.legal.tile, unused_still p q x are.fits (n / 4) f.other_tile f.fits.unused)
 
   -- none, where something stands at the cell
@@ -183,8 +183,8 @@ module _ (p : Task) (q : Prefix) (x : Pair) (side cell met asked : ℕ) (kept ro
     cell_in : cell < cells
     cell_in = let lt = StandsAt-in_range are.meets.there in omega (arith, lt, cells_is)
 
-    pub side_below : (n : ℕ) → Contains gone n → n < 4 * cells
-    side_below n c = let tile = (gone_beside n c).fits.legal.tile in let tiles = are.puzzle.tiles in omega (arith, tile, tiles, cells_is)
+    pub side_below : (entry n : ℕ) → Contains gone n → cells + n / 4 < length (set old cell entry)
+    side_below entry n c = let tile = (gone_beside n c).fits.legal.tile in let long = sizes.long in let kept = length-set old cell entry in omega (arith, tile, long, kept, cells_is)
 
     pub side_enough_cell : STEP * length gone ≤ get_or old cell 0
     side_enough_cell = enough_at_cell p (with_pair q x.cell x.placement) cell (FitsBeside p q x side) (FitsBeside p q x (side + 1)) gone gone_at old sizes gone_free
@@ -193,13 +193,13 @@ module _ (p : Task) (q : Prefix) (x : Pair) (side cell met asked : ℕ) (kept ro
       tile_kept : (tile : ℕ) → get_or (set old cell entry) (cells + tile) 0 ≡ get_or old (cell_count p.board + tile) 0
       tile_kept tile = get_or-set_other old cell (cells + tile) entry 0 (λ e. let lt = cell_in in omega (arith, e, lt)) ∙ ap (λ k. get_or old (k + tile) 0) cells_is
 
-      pub side_enough_tile : (tile : ℕ) → tile < cells → STEP * count_of_group gone tile ≤ get_or (set old cell entry) (cells + tile) 0
+      pub side_enough_tile : (tile : ℕ) → cells + tile < length (set old cell entry) → STEP * count_of_group gone tile ≤ get_or (set old cell entry) (cells + tile) 0
       side_enough_tile tile lt =
           subst (λ k. STEP * count_of_group gone tile ≤ k) (sym (tile_kept tile))
           (enough_at_tile p (with_pair q x.cell x.placement) cell (FitsBeside p q x side) (FitsBeside p q x (side + 1)) gone gone_at old sizes gone_open tile)
 
       module _ (lowered : entry + STEP * length gone ≡ get_or old cell 0) (new : List ℕ) (long : length new ≡ length (set old cell entry))
-          (tiles : (tile : ℕ) → tile < cells → get_or new (cells + tile) 0 + STEP * count_of_group gone tile ≡ get_or (set old cell entry) (cells + tile) 0)
+          (tiles : (tile : ℕ) → cells + tile < length (set old cell entry) → get_or new (cells + tile) 0 + STEP * count_of_group gone tile ≡ get_or (set old cell entry) (cells + tile) 0)
           (others : (k : ℕ) → k < cells → get_or new k 0 ≡ get_or (set old cell entry) k 0) where
         at_cell : get_or new cell 0 ≡ entry
         at_cell = let lt = cell_in in let whole = sizes.long in others cell lt ∙ get_or-set_same old cell entry 0 (omega (arith, lt, whole, cells_is))
@@ -209,8 +209,9 @@ module _ (p : Task) (q : Prefix) (x : Pair) (side cell met asked : ℕ) (kept ro
 
         at_tile : (tile : ℕ) → tile < length p.words → get_or new (cell_count p.board + tile) 0 + STEP * count_of_group gone tile ≡ get_or old (cell_count p.board + tile) 0
         at_tile tile lt =
-            let as_many = are.puzzle.tiles in
-            ap (λ k. get_or new (k + tile) 0 + STEP * count_of_group gone tile) (sym cells_is) ∙ tiles tile (omega (arith, lt, as_many, cells_is)) ∙ tile_kept tile
+            let whole = sizes.long in
+            let kept = length-set old cell entry in
+            ap (λ k. get_or new (k + tile) 0 + STEP * count_of_group gone tile) (sym cells_is) ∙ tiles tile (omega (arith, lt, whole, kept, cells_is)) ∙ tile_kept tile
 
         pub side_sizes : length q ≡ cell_count p.board → AreSizesOf p (with_pair q x.cell x.placement) (FitsBeside p q x (side + 1)) new
         side_sizes many =

@@ -7,7 +7,7 @@ use Rattle.match_limits.specs.Listing.{IsListing, ByKey, ComesBefore}
 use Rattle.match_limits.proofs.Listings.{contains_none, listing_rest, by_key_asymmetric, same_listing}
 use Rattle.match_puzzle.specs.Puzzle.{Task}
 use Rattle.match_puzzle.specs.Prefix.{Prefix, IsFree, IsUnused}
-use Rattle.match_puzzle.specs.Fitting.{Settles, IsOpen, item_key, numbered_pair}
+use Rattle.match_puzzle.specs.Fitting.{Settles, IsUnsettled, item_key, numbered_pair}
 use Rattle.match_fits.specs.FitSizes.{AreSizesOf, AreCovered}
 use Rattle.match_limits.specs.NumberSets.{count_of_group}
 use Rattle.match_puzzle.specs.Fitting.{item_place}
@@ -66,7 +66,7 @@ pub record AreGoneAt (p : Task) (q : Prefix) (cell : ℕ) (Among Among' : Pair �
   pub among : (n : ℕ) → Contains gone n → Among (numbered_pair (Cell cell) n)
   pub out : (n : ℕ) → Contains gone n → Among' (numbered_pair (Cell cell) n) → ⊥
   pub before : (y : Pair) → Among' y → Among y
-  pub either : (item : Item) (y : Pair) → IsOpen p q item → Settles item y → Among y → Among' y ⊎ ((n : ℕ) × Contains gone n × (numbered_pair (Cell cell) n ≡ y))
+  pub either : (item : Item) (y : Pair) → IsUnsettled p q item → Settles item y → Among y → Among' y ⊎ ((n : ℕ) × Contains gone n × (numbered_pair (Cell cell) n ≡ y))
 
 -- how many of them settle the item
 abbrev pub count_at : (cell : ℕ) (gone : List ℕ) → Item → ℕ
@@ -117,7 +117,7 @@ module _ (p : Task) (q : Prefix) (cell : ℕ) (Among Among' : Pair → Type 0) (
   gone_of (Tile tile) = gone_of_tile tile
 
   -- the pairs that are still among them
-  fewer_at : (item : Item) → IsOpen p q item → (xs : List Pair) → IsListing (ByKey (item_key item)) (λ y. Settles item y × Among y) xs →
+  fewer_at : (item : Item) → IsUnsettled p q item → (xs : List Pair) → IsListing (ByKey (item_key item)) (λ y. Settles item y × Among y) xs →
       (ys : List Pair) × IsListing (ByKey (item_key item)) (λ y. Settles item y × Among' y) ys × (length ys + count_at cell gone item ≡ length xs)
   fewer_at item is_open xs is =
       let zs = gone_of item in
@@ -126,7 +126,7 @@ module _ (p : Task) (q : Prefix) (cell : ℕ) (Among Among' : Pair → Type 0) (
 
   module _ (old : List ℕ) (sizes : AreSizesOf p q Among old) where
     -- There is enough to lower at an open item.
-    enough_at : (item : Item) → IsOpen p q item → STEP * count_at cell gone item ≤ get_or old (item_place (cell_count p.board) item) 0
+    enough_at : (item : Item) → IsUnsettled p q item → STEP * count_at cell gone item ≤ get_or old (item_place (cell_count p.board) item) 0
     enough_at item is_open =
         let size = sizes.counts item is_open in
         let w = fewer_at item is_open size.0 size.1 in
@@ -142,9 +142,9 @@ module _ (p : Task) (q : Prefix) (cell : ℕ) (Among Among' : Pair → Type 0) (
             let all : cond (eqb cell cell) (length gone) 0 ≡ length gone = ⊎_elim (λ same. ap (λ b. cond b (length gone) 0) same.0) (λ ne. absurd (ne.1 refl)) (eqb_tells cell cell) in
             omega (arith, enough, all)
 
-    pub enough_at_tile : ((n : ℕ) → Contains gone n → IsOpen p q (Tile (n / 4))) → (tile : ℕ) → STEP * count_of_group gone tile ≤ get_or old (cell_count p.board + tile) 0
+    pub enough_at_tile : ((n : ℕ) → Contains gone n → IsUnsettled p q (Tile (n / 4))) → (tile : ℕ) → STEP * count_of_group gone tile ≤ get_or old (cell_count p.board + tile) 0
     enough_at_tile is_open tile =
-        ⊎_elim (λ none. omega (arith, none)) (λ w. enough_at (Tile tile) (subst (λ t. IsOpen p q (Tile t)) w.2 (is_open w.0 w.1))) (some_of_tile gone tile)
+        ⊎_elim (λ none. omega (arith, none)) (λ w. enough_at (Tile tile) (subst (λ t. IsUnsettled p q (Tile t)) w.2 (is_open w.0 w.1))) (some_of_tile gone tile)
 
     -- the table where they are counted no more
     pub sizes_without : (new : List ℕ) → length new ≡ length old → (IsFree q cell → get_or new cell 0 + STEP * length gone ≡ get_or old cell 0) →
@@ -152,7 +152,7 @@ module _ (p : Task) (q : Prefix) (cell : ℕ) (Among Among' : Pair → Type 0) (
         ((tile : ℕ) → tile < length p.words → IsUnused q tile → get_or new (cell_count p.board + tile) 0 + STEP * count_of_group gone tile ≡ get_or old (cell_count p.board + tile) 0) → AreSizesOf p q Among' new
     sizes_without new long at_cell other_cells at_tiles = record { long = long ∙ sizes.long; counts = counts }
       where
-        lowered : (item : Item) → IsOpen p q item → get_or new (item_place (cell_count p.board) item) 0 + STEP * count_at cell gone item ≡ get_or old (item_place (cell_count p.board) item) 0
+        lowered : (item : Item) → IsUnsettled p q item → get_or new (item_place (cell_count p.board) item) 0 + STEP * count_at cell gone item ≡ get_or old (item_place (cell_count p.board) item) 0
         lowered (Cell other) free =
             ⊎_elim
             (λ e.
@@ -163,7 +163,7 @@ module _ (p : Task) (q : Prefix) (cell : ℕ) (Among Among' : Pair → Type 0) (
             (eqb_tells other cell)
         lowered (Tile tile) is_open = at_tiles tile is_open.0 is_open.1
 
-        counts : (item : Item) → IsOpen p q item → (xs : List Pair) × IsListing (ByKey (item_key item)) (λ y. Settles item y × Among' y) xs × (get_or new (item_place (cell_count p.board) item) 0 ≡ STEP * length xs + item_place (cell_count p.board) item)
+        counts : (item : Item) → IsUnsettled p q item → (xs : List Pair) × IsListing (ByKey (item_key item)) (λ y. Settles item y × Among' y) xs × (get_or new (item_place (cell_count p.board) item) 0 ≡ STEP * length xs + item_place (cell_count p.board) item)
         counts item is_open =
             let size = sizes.counts item is_open in
             let w = fewer_at item is_open size.0 size.1 in

@@ -63,7 +63,7 @@ module _ (p : Task) (pairs : List Pair) (y : Pair) (q : Prefix) (rows : List (Li
   pub kept_popped : (at : ℕ) → at + length sizes ≡ length saved → (rows' : List (List ℕ)) → AreRows p (without_cell q y.cell) rows' → AreKeptBeside p pairs (without_cell q y.cell) rows' (drop at saved) (take at saved)
   kept_popped at e rows' are_rows =
       let long = kept.sizes.open_items.long in
-      let place : at + 2 * cell_count p.board ≡ length saved = omega (arith, long, e) in
+      let place : at + (cell_count p.board + length p.words) ≡ length saved = omega (arith, long, e) in
       record {
         puzzle = kept.puzzle;
         fit = fit_popped p pairs y kept.fit;

@@ -14,11 +14,11 @@ use Rattle.match_limits.proofs.GroupCounts.{one_if_same, none_if_other}
 -- what becomes of the first table where some of the numbers are left
 pub record AreTilesLowered (numbers left : List ℕ) (cells : ℕ) (first sizes : List ℕ) : Type 0 where
   pub long : length sizes ≡ length first
-  pub below : (n : ℕ) → Contains left n → n < 4 * cells
-  pub tiles : (tile : ℕ) → tile < cells → get_or sizes (cells + tile) 0 + STEP * count_of_group numbers tile ≡ get_or first (cells + tile) 0 + STEP * count_of_group left tile
+  pub below : (n : ℕ) → Contains left n → cells + n / 4 < length first
+  pub tiles : (tile : ℕ) → cells + tile < length first → get_or sizes (cells + tile) 0 + STEP * count_of_group numbers tile ≡ get_or first (cells + tile) 0 + STEP * count_of_group left tile
   pub others : (cell : ℕ) → cell < cells → get_or sizes cell 0 ≡ get_or first cell 0
 
-pub no_tiles_lowered : (numbers : List ℕ) (cells : ℕ) (first : List ℕ) → ((n : ℕ) → Contains numbers n → n < 4 * cells) → AreTilesLowered numbers numbers cells first first
+pub no_tiles_lowered : (numbers : List ℕ) (cells : ℕ) (first : List ℕ) → ((n : ℕ) → Contains numbers n → cells + n / 4 < length first) → AreTilesLowered numbers numbers cells first first
 no_tiles_lowered numbers cells first below = record {
   long = refl;
   below = below;
@@ -27,16 +27,16 @@ no_tiles_lowered numbers cells first below = record {
 }
 
 -- one number more
-module _ (numbers : List ℕ) (n : ℕ) (left : List ℕ) (cells : ℕ) (first sizes : List ℕ) (before : AreTilesLowered numbers (n ∷ left) cells first sizes) (long : length first ≡ 2 * cells)
-    (enough : (tile : ℕ) → tile < cells → STEP * count_of_group numbers tile ≤ get_or first (cells + tile) 0) where
+module _ (numbers : List ℕ) (n : ℕ) (left : List ℕ) (cells : ℕ) (first sizes : List ℕ) (before : AreTilesLowered numbers (n ∷ left) cells first sizes)
+    (enough : (tile : ℕ) → cells + tile < length first → STEP * count_of_group numbers tile ≤ get_or first (cells + tile) 0) where
   abbrev Tile : ℕ
   Tile = n / 4
 
-  inside : Tile < cells
-  inside = let lt = before.below n (0, omega arith, refl) in omega (arith, lt)
+  inside : cells + Tile < length first
+  inside = before.below n (0, omega arith, refl)
 
   pub tile_in_table : cells + Tile < length sizes
-  tile_in_table = let same = before.long in let lt = inside in omega (arith, same, long, lt)
+  tile_in_table = let same = before.long in let lt = inside in omega (arith, same, lt)
 
   -- the number is of its tile
   one_of_tile : count_of_group (n ∷ left) Tile ≡ count_of_group left Tile + 1
@@ -52,7 +52,7 @@ module _ (numbers : List ℕ) (n : ℕ) (left : List ℕ) (cells : ℕ) (first s
   abbrev Lowered : List ℕ
   Lowered = set sizes (cells + Tile) (get_or sizes (cells + Tile) 0 - STEP)
 
-  lowered : (tile : ℕ) → tile < cells → get_or Lowered (cells + tile) 0 + STEP * count_of_group numbers tile ≡ get_or first (cells + tile) 0 + STEP * count_of_group left tile
+  lowered : (tile : ℕ) → cells + tile < length first → get_or Lowered (cells + tile) 0 + STEP * count_of_group numbers tile ≡ get_or first (cells + tile) 0 + STEP * count_of_group left tile
   lowered tile within =
       ⊎_elim
       (λ e. subst (λ t. get_or Lowered (cells + t) 0 + STEP * count_of_group numbers t ≡ get_or first (cells + t) 0 + STEP * count_of_group left t) (sym e.1)
@@ -78,7 +78,7 @@ module _ (numbers : List ℕ) (n : ℕ) (left : List ℕ) (cells : ℕ) (first s
   }
 
 -- no number is left
-pub all_tiles_lowered : (numbers left : List ℕ) (cells : ℕ) (first sizes : List ℕ) → left ≡ [] → AreTilesLowered numbers left cells first sizes → (tile : ℕ) → tile < cells → get_or sizes (cells + tile) 0 + STEP * count_of_group numbers tile ≡ get_or first (cells + tile) 0
+pub all_tiles_lowered : (numbers left : List ℕ) (cells : ℕ) (first sizes : List ℕ) → left ≡ [] → AreTilesLowered numbers left cells first sizes → (tile : ℕ) → cells + tile < length first → get_or sizes (cells + tile) 0 + STEP * count_of_group numbers tile ≡ get_or first (cells + tile) 0
 all_tiles_lowered numbers left cells first sizes none is tile lt =
     let now = is.tiles tile lt in
     let no_more = ap (λ xs. count_of_group xs tile) none in
@@ -104,7 +104,7 @@ no_cells_lowered rows tile cells first are = record {
 }
 
 -- one cell more
-module _ (rows : List (List ℕ)) (tile cell : ℕ) (left first sizes : List ℕ) (before : AreCellsLowered rows tile (cell ∷ left) first sizes) (long : length first ≡ 2 * length rows)
+module _ (rows : List (List ℕ)) (tile cell : ℕ) (left first sizes : List ℕ) (before : AreCellsLowered rows tile (cell ∷ left) first sizes) (long : length rows ≤ length first)
     (enough : (other : ℕ) → other < length rows → STEP * count_of_group (get_or rows other []) tile ≤ get_or first other 0) (above : (other : ℕ) → Contains left other → cell < other) where
   pub cell_in_rows : cell < length rows
   cell_in_rows = before.within cell (0, omega arith, refl)

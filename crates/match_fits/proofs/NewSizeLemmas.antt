@@ -9,7 +9,7 @@ use Rattle.match_limits.specs.Listing.{IsListing}
 use Rattle.match_puzzle.specs.Prefix.{Prefix, Has, IsFree, IsUnused, empty_prefix}
 use Rattle.match_puzzle.specs.PlacementSets.{numbered}
 use Rattle.match_fits.specs.FitRows.{StandsInRow, IsRow, AreRows}
-use Rattle.match_puzzle.specs.Fitting.{Fits, AreFitting, IsItem, IsOpen, IsNumberOf, numbered_pair, turned_tile}
+use Rattle.match_puzzle.specs.Fitting.{Fits, AreFitting, IsItem, IsUnsettled, IsNumberOf, numbered_pair, turned_tile}
 use Rattle.match_fits.specs.FitSizes.{AreSizes}
 use Rattle.match_puzzle.specs.Fitting.{item_place}
 use Rattle.match_puzzle.specs.declared.items.Item.{Item}
@@ -52,25 +52,25 @@ module _ (p : Task) (q : Prefix) where
   no_entries place lt item is = absurd (omega (arith, lt))
 
 -- where nothing is placed, each item is open
-all_open : (p : Task) (item : Item) → IsItem p item → IsOpen p (empty_prefix p) item
+all_open : (p : Task) (item : Item) → IsItem p item → IsUnsettled p (empty_prefix p) item
 all_open p (Cell cell) lt = free_in_empty p cell lt
 all_open p (Tile tile) lt = (lt, λ cell x has same. has_none (cell_count p.board) cell x has)
 
 -- a free cell is one of the board
-within_board : (p : Task) (cell : ℕ) → IsOpen p (empty_prefix p) (Cell cell) → cell < cell_count p.board
+within_board : (p : Task) (cell : ℕ) → IsUnsettled p (empty_prefix p) (Cell cell) → cell < cell_count p.board
 within_board p cell free = omega (arith, slice_get_within (empty_prefix p) cell None free, length-replicate {A = Option Placement} (cell_count p.board) None)
 
-pub all_entries : (p : Task) (q : Prefix) (sizes : List ℕ) → IsPuzzle p → q ≡ empty_prefix p → length sizes ≡ 2 * cell_count p.board → AreEntriesBelow p q sizes (2 * cell_count p.board) → AreSizes p q sizes
+pub all_entries : (p : Task) (q : Prefix) (sizes : List ℕ) → IsPuzzle p → q ≡ empty_prefix p → length sizes ≡ cell_count p.board + length p.words → AreEntriesBelow p q sizes (cell_count p.board + length p.words) → AreSizes p q sizes
 all_entries p q sizes puzzle empty long are = record {
   open_items = record { long = long; counts = λ item is_open. counted item is_open };
-  settled = λ item is settled. absurd (settled (subst (λ r. IsOpen p r item) (sym empty) (all_open p item is)));
+  settled = λ item is settled. absurd (settled (subst (λ r. IsUnsettled p r item) (sym empty) (all_open p item is)));
 }
   where
-    counted : (item : Item) → IsOpen p q item → IsEntry p q item (item_place (cell_count p.board) item) (get_or sizes (item_place (cell_count p.board) item) 0)
+    counted : (item : Item) → IsUnsettled p q item → IsEntry p q item (item_place (cell_count p.board) item) (get_or sizes (item_place (cell_count p.board) item) 0)
     counted (Cell cell) free =
-        let lt = within_board p cell (subst (λ r. IsOpen p r (Cell cell)) empty free) in
+        let lt = within_board p cell (subst (λ r. IsUnsettled p r (Cell cell)) empty free) in
         are cell (omega (arith, lt)) (Cell cell) (refl, lt)
-    counted (Tile tile) h = let lt = h.0 in let tiles = puzzle.tiles in are (cell_count p.board + tile) (omega (arith, lt, tiles)) (Tile tile) refl
+    counted (Tile tile) h = let lt = h.0 in are (cell_count p.board + tile) (omega (arith, lt)) (Tile tile) refl
 
 -- ---- what the rows have
 

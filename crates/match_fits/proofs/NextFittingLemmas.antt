@@ -62,9 +62,8 @@ module _ (p : Task) (q : Prefix) (item : Item) (puzzle : IsPuzzle p) where
   small_placements None fits = tt
   small_placements (Some x) fits =
       let lt = fits.1.legal.tile in
-      let many = puzzle.tiles in
-      let most = puzzle.board.most in
-      (omega (arith, lt, many, most), small_turn p x.placement puzzle fits.1.legal)
+      let few = puzzle.tiles.few in
+      (omega (arith, lt, few), small_turn p x.placement puzzle fits.1.legal)
 
 -- ---- at a cell
 

@@ -9,7 +9,7 @@ use Rattle.match_limits.specs.Listing.{IsListing, ByKey}
 use Rattle.match_puzzle.specs.Puzzle.{Task, IsPuzzle}
 use Rattle.match_puzzle.specs.Prefix.{Prefix, IsFree, IsUnused, IsPrefix, with_pair}
 use Rattle.match_puzzle.specs.PlacementSets.{AreFreeNumbers, numbered}
-use Rattle.match_puzzle.specs.Fitting.{Fits, Settles, IsItem, IsOpen, item_key, numbered_pair}
+use Rattle.match_puzzle.specs.Fitting.{Fits, Settles, IsItem, IsUnsettled, item_key, numbered_pair}
 use Rattle.match_fits.specs.FitRows.{StandsBeside, IsRow, AreRows, AreRowsBeside}
 use Rattle.match_fits.specs.FitSizes.{AreSizes, AreSizesOf, AreCovered, FitsPair, FitsElsewhere, FitsBeside}
 use Rattle.match_limits.specs.NumberSets.{count_of_group}
@@ -51,7 +51,7 @@ module _ (p : Task) (q : Prefix) (x : Pair) (fits : FitsPair p q x) where
   unused_still tile ne unused cell y has same =
       ⊎_elim (λ w. ne (sym same ∙ ap (λ (z : Placement). z.tile) w.1)) (λ w. unused cell y w.1 same) (has_placed q x.cell x.placement cell y fits.free has)
 
-  open_before : (item : Item) → IsOpen p Placed item → IsOpen p q item
+  open_before : (item : Item) → IsUnsettled p Placed item → IsUnsettled p q item
   open_before (Cell cell) is_open = (free_before cell is_open).1
   open_before (Tile tile) is_open = (is_open.0, (unused_before tile is_open.1).1)
 
@@ -62,8 +62,8 @@ module _ (p : Task) (q : Prefix) (x : Pair) (fits : FitsPair p q x) where
   pub pair_cell_in : IsPrefix p q → x.cell < cell_count p.board
   pair_cell_in prefix = omega (arith, slice_get_within q x.cell None fits.free, prefix.cells)
 
-  pub pair_tile_in : IsPuzzle p → x.placement.tile < cell_count p.board
-  pair_tile_in puzzle = let tile = fits.legal.tile in let tiles = puzzle.tiles in omega (arith, tile, tiles)
+  pub pair_tile_in : x.placement.tile < length p.words
+  pair_tile_in = fits.legal.tile
 
   -- ---- the other pairs of the cell
 
@@ -80,7 +80,7 @@ module _ (p : Task) (q : Prefix) (x : Pair) (fits : FitsPair p q x) where
     either = either;
   }
     where
-      either : (item : Item) (y : Pair) → IsOpen p Placed item → Settles item y → FitsPair p q y → FitsElsewhere p q x y ⊎ ((n : ℕ) × Contains gone n × (numbered_pair (Cell x.cell) n ≡ y))
+      either : (item : Item) (y : Pair) → IsUnsettled p Placed item → Settles item y → FitsPair p q y → FitsElsewhere p q x y ⊎ ((n : ℕ) × Contains gone n × (numbered_pair (Cell x.cell) n ≡ y))
       either (Cell cell) y is_open settles fits_y = inl (fits_y, λ e. (free_before cell is_open).0 (sym settles ∙ e))
       either (Tile tile) y is_open settles fits_y =
           ⊎_elim
@@ -97,7 +97,7 @@ module _ (p : Task) (q : Prefix) (x : Pair) (fits : FitsPair p q x) where
           (eqb_tells y.cell x.cell)
 
   -- The counts are those of open items.
-  pub gone_of_open : (row free both gone : List ℕ) → AreFreeNumbers p q free → IsListing ◌<◌ (λ n. Contains row n × Contains free n) both → IsListing ◌<◌ (λ n. Contains both n × (n / 4 ≢ x.placement.tile)) gone → (n : ℕ) → Contains gone n → IsOpen p Placed (Tile (n / 4)) × IsUnused q (n / 4)
+  pub gone_of_open : (row free both gone : List ℕ) → AreFreeNumbers p q free → IsListing ◌<◌ (λ n. Contains row n × Contains free n) both → IsListing ◌<◌ (λ n. Contains both n × (n / 4 ≢ x.placement.tile)) gone → (n : ℕ) → Contains gone n → IsUnsettled p Placed (Tile (n / 4)) × IsUnused q (n / 4)
   gone_of_open row free both gone are_free is_both is_gone n c =
       let w = is_gone.only n c in
       let h = are_free.only n (is_both.only n w.0).1 in
@@ -115,19 +115,19 @@ module _ (p : Task) (q : Prefix) (x : Pair) (fits : FitsPair p q x) where
     sizes_before : AreSizesOf p Placed (FitsPair p q) old
     sizes_before = sizes_placed (FitsPair p q) old sizes.open_items
 
-    pub cell_below : (n : ℕ) → Contains gone n → n < 4 * cells
-    cell_below n c = let tile = (gone_of_open row free both gone are_free is_both is_gone n c).0.0 in let tiles = puzzle.tiles in omega (arith, tile, tiles, cells_is)
+    pub cell_below : (n : ℕ) → Contains gone n → cells + n / 4 < length old
+    cell_below n c = let tile = (gone_of_open row free both gone are_free is_both is_gone n c).0.0 in let long = sizes.open_items.long in omega (arith, tile, long, cells_is)
 
-    pub cell_enough : (tile : ℕ) → tile < cells → STEP * count_of_group gone tile ≤ get_or old (cells + tile) 0
+    pub cell_enough : (tile : ℕ) → cells + tile < length old → STEP * count_of_group gone tile ≤ get_or old (cells + tile) 0
     cell_enough tile lt =
         subst (λ k. STEP * count_of_group gone tile ≤ get_or old (k + tile) 0) (sym cells_is)
         (enough_at_tile p Placed x.cell (FitsPair p q) (FitsElsewhere p q x) gone gone_is old sizes_before (λ n c. (gone_of_open row free both gone are_free is_both is_gone n c).0) tile)
 
-    module _ (new : List ℕ) (long : length new ≡ length old) (at_tiles : (tile : ℕ) → tile < cells → get_or new (cells + tile) 0 + STEP * count_of_group gone tile ≡ get_or old (cells + tile) 0) (at_cells : (cell : ℕ) → cell < cells → get_or new cell 0 ≡ get_or old cell 0) where
+    module _ (new : List ℕ) (long : length new ≡ length old) (at_tiles : (tile : ℕ) → cells + tile < length old → get_or new (cells + tile) 0 + STEP * count_of_group gone tile ≡ get_or old (cells + tile) 0) (at_cells : (cell : ℕ) → cell < cells → get_or new cell 0 ≡ get_or old cell 0) where
       lowered : (tile : ℕ) → tile < length p.words → get_or new (cell_count p.board + tile) 0 + STEP * count_of_group gone tile ≡ get_or old (cell_count p.board + tile) 0
       lowered tile lt =
-          let tiles = puzzle.tiles in
-          subst (λ k. get_or new (k + tile) 0 + STEP * count_of_group gone tile ≡ get_or old (k + tile) 0) cells_is (at_tiles tile (omega (arith, lt, tiles, cells_is)))
+          let long = sizes.open_items.long in
+          subst (λ k. get_or new (k + tile) 0 + STEP * count_of_group gone tile ≡ get_or old (k + tile) 0) cells_is (at_tiles tile (omega (arith, lt, long, cells_is)))
 
       pub cell_sizes : AreSizesOf p Placed (FitsElsewhere p q x) new
       cell_sizes =
@@ -156,7 +156,7 @@ module _ (p : Task) (q : Prefix) (x : Pair) (fits : FitsPair p q x) where
     count_in_rows (Tile tile) = 0
 
     module _ (puzzle : IsPuzzle p) (prefix : IsPrefix p q) where
-      gone_of_tile : (item : Item) → IsOpen p Placed item → (zs : List Pair) × IsListing (ByKey (item_key item)) (λ y. (Settles item y × FitsElsewhere p q x y) × IsOfTile y) zs × (length zs ≡ count_in_rows item)
+      gone_of_tile : (item : Item) → IsUnsettled p Placed item → (zs : List Pair) × IsListing (ByKey (item_key item)) (λ y. (Settles item y × FitsElsewhere p q x y) × IsOfTile y) zs × (length zs ≡ count_in_rows item)
       gone_of_tile (Cell cell) is_open =
           let free = free_before cell is_open in
           let within : cell < cell_count p.board = omega (arith, slice_get_within q cell None free.1, prefix.cells) in
@@ -182,7 +182,7 @@ module _ (p : Task) (q : Prefix) (x : Pair) (fits : FitsPair p q x) where
       gone_of_tile (Tile tile) is_open =
           ([], listing_of_none (ByKey (item_key (Tile tile))) (λ y. (Settles (Tile tile) y × FitsElsewhere p q x y) × IsOfTile y) (λ y h. (unused_before tile is_open.1).0 (sym h.0.0 ∙ h.1)), refl)
 
-      fewer_of_tile : (item : Item) → IsOpen p Placed item → (xs : List Pair) → IsListing (ByKey (item_key item)) (λ y. Settles item y × FitsElsewhere p q x y) xs →
+      fewer_of_tile : (item : Item) → IsUnsettled p Placed item → (xs : List Pair) → IsListing (ByKey (item_key item)) (λ y. Settles item y × FitsElsewhere p q x y) xs →
           (ys : List Pair) × IsListing (ByKey (item_key item)) (λ y. Settles item y × FitsBeside p q x 0 y) ys × (length ys + count_in_rows item ≡ length xs)
       fewer_of_tile item is_open xs is =
           let zs = gone_of_tile item is_open in
@@ -207,11 +207,11 @@ module _ (p : Task) (q : Prefix) (x : Pair) (fits : FitsPair p q x) where
         pub sizes_without_tile : (new : List ℕ) → length new ≡ length old → ((cell : ℕ) → cell < length rows → get_or new cell 0 + STEP * count_of_group (Row cell) x.placement.tile ≡ get_or old cell 0) → ((place : ℕ) → length rows ≤ place → get_or new place 0 ≡ get_or old place 0) → AreSizesOf p Placed (FitsBeside p q x 0) new
         sizes_without_tile new long cells others = record { long = long ∙ sizes.long; counts = counts }
           where
-            lowered : (item : Item) → IsOpen p Placed item → get_or new (item_place (cell_count p.board) item) 0 + STEP * count_in_rows item ≡ get_or old (item_place (cell_count p.board) item) 0
+            lowered : (item : Item) → IsUnsettled p Placed item → get_or new (item_place (cell_count p.board) item) 0 + STEP * count_in_rows item ≡ get_or old (item_place (cell_count p.board) item) 0
             lowered (Cell cell) is_open = cells cell (let long = are.long in omega (arith, slice_get_within q cell None (free_before cell is_open).1, prefix.cells, long))
             lowered (Tile tile) is_open = let same = others (cell_count p.board + tile) (let long = are.long in omega (arith, long)) in omega (arith, same)
 
-            counts : (item : Item) → IsOpen p Placed item → (xs : List Pair) × IsListing (ByKey (item_key item)) (λ y. Settles item y × FitsBeside p q x 0 y) xs × (get_or new (item_place (cell_count p.board) item) 0 ≡ STEP * length xs + item_place (cell_count p.board) item)
+            counts : (item : Item) → IsUnsettled p Placed item → (xs : List Pair) × IsListing (ByKey (item_key item)) (λ y. Settles item y × FitsBeside p q x 0 y) xs × (get_or new (item_place (cell_count p.board) item) 0 ≡ STEP * length xs + item_place (cell_count p.board) item)
             counts item is_open =
                 let size = sizes.counts item is_open in
                 let w = fewer_of_tile item is_open size.0 size.1 in
@@ -230,7 +230,7 @@ module _ (p : Task) (q : Prefix) (x : Pair) (fits : FitsPair p q x) where
   -- ---- the pair itself
 
   -- the table where cell and tile of the pair are covered
-  module _ (sizes : List ℕ) (open_items : AreSizesOf p Placed (FitsPair p Placed) sizes) (settled : AreCovered p q sizes) (cell_in : x.cell < cell_count p.board) (tile_in : x.placement.tile < cell_count p.board) where
+  module _ (sizes : List ℕ) (open_items : AreSizesOf p Placed (FitsPair p Placed) sizes) (settled : AreCovered p q sizes) (cell_in : x.cell < cell_count p.board) (tile_in : x.placement.tile < length p.words) where
     abbrev TilePlace : ℕ
     TilePlace = cell_count p.board + x.placement.tile
 
@@ -254,7 +254,7 @@ module _ (p : Task) (q : Prefix) (x : Pair) (fits : FitsPair p q x) where
       settled = are_covered;
     }
       where
-        counts : (item : Item) → IsOpen p Placed item → (xs : List Pair) × IsListing (ByKey (item_key item)) (λ y. Settles item y × FitsPair p Placed y) xs × (get_or Covered (item_place (cell_count p.board) item) 0 ≡ STEP * length xs + item_place (cell_count p.board) item)
+        counts : (item : Item) → IsUnsettled p Placed item → (xs : List Pair) × IsListing (ByKey (item_key item)) (λ y. Settles item y × FitsPair p Placed y) xs × (get_or Covered (item_place (cell_count p.board) item) 0 ≡ STEP * length xs + item_place (cell_count p.board) item)
         counts (Cell cell) is_open =
             let size = open_items.counts (Cell cell) is_open in
             let free = free_before cell is_open in
@@ -265,7 +265,7 @@ module _ (p : Task) (q : Prefix) (x : Pair) (fits : FitsPair p q x) where
             let ne = (unused_before tile is_open.1).0 in
             (size.0, size.1, kept_entry (cell_count p.board + tile) (λ e. omega (arith, e, cell_in)) (λ e. ne (omega (arith, e))) ∙ size.2)
 
-        are_covered : (item : Item) → IsItem p item → (IsOpen p Placed item → ⊥) → get_or Covered (item_place (cell_count p.board) item) 0 ≡ COVERED
+        are_covered : (item : Item) → IsItem p item → (IsUnsettled p Placed item → ⊥) → get_or Covered (item_place (cell_count p.board) item) 0 ≡ COVERED
         are_covered (Cell cell) within closed =
             ⊎_elim
             (λ e. ap (λ c. get_or Covered c 0) e.1 ∙ cell_entry)

@@ -67,20 +67,20 @@ module _ (p : Task) (pairs : List Pair) (y : Pair) (saved : List ℕ) (is : AreS
         subst (λ ps. AreSizes p (prefix_of p ps) table) (take-append-le count pairs (y ∷ []) (omega (arith, less))) (is.are count table w.1);
   }
 
-  pub last_long : 2 * cell_count p.board ≤ length saved
+  pub last_long : cell_count p.board + length p.words ≤ length saved
   last_long =
       let all = ap length joined_apart ∙ length-append (concat Before) Last in
       let long = last_sizes.open_items.long in
       omega (arith, all, long)
 
-  front_long : (at : ℕ) → at + 2 * cell_count p.board ≡ length saved → length (concat Before) ≡ at
+  front_long : (at : ℕ) → at + (cell_count p.board + length p.words) ≡ length saved → length (concat Before) ≡ at
   front_long at e =
       let all = ap length joined_apart ∙ length-append (concat Before) Last in
       let long = last_sizes.open_items.long in
       omega (arith, all, long, e)
 
-  pub saved_before : (at : ℕ) → at + 2 * cell_count p.board ≡ length saved → AreSaved p pairs (take at saved)
+  pub saved_before : (at : ℕ) → at + (cell_count p.board + length p.words) ≡ length saved → AreSaved p pairs (take at saved)
   saved_before at e = subst (AreSaved p pairs) (sym (ap (take at) joined_apart ∙ take_at (concat Before) Last at (front_long at e))) before_saved
 
-  pub sizes_before : (at : ℕ) → at + 2 * cell_count p.board ≡ length saved → AreSizes p (prefix_of p pairs) (drop at saved)
+  pub sizes_before : (at : ℕ) → at + (cell_count p.board + length p.words) ≡ length saved → AreSizes p (prefix_of p pairs) (drop at saved)
   sizes_before at e = subst (AreSizes p (prefix_of p pairs)) (sym (ap (drop at) joined_apart ∙ drop_at (concat Before) Last at (front_long at e))) last_sizes

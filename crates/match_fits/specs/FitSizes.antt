@@ -1,22 +1,22 @@
 -- How many pairs fit and settle each item, in a table: the cells first, then the tiles.
-use Rattle.std.specs.Prelude.{◌≡◌, ◌≢◌, ◌<◌, ◌+◌, ◌*◌, ℕ, List, Some, length}
+use Rattle.std.specs.Prelude.{◌≡◌, ◌≢◌, ◌⊎◌, ◌<◌, ◌+◌, ◌*◌, ℕ, List, Some, length}
 use Rattle.std.specs.Prelude.{slice_get, slice_index, take}
 use Rattle.std.specs.List.{concat}
 use Rattle.match_board.specs.Board.{cell_count, Meets}
 use Rattle.match_limits.specs.Listing.{IsListing, ByKey}
-use Rattle.match_puzzle.specs.Puzzle.{Task, IsPuzzle, colour_of, mate_of}
+use Rattle.match_puzzle.specs.Puzzle.{Task, IsPuzzle, AllHaveToStand, colour_of, mate_of}
 use Rattle.match_puzzle.specs.Prefix.{Prefix}
-use Rattle.match_puzzle.specs.Fitting.{Fits, Settles, IsItem, IsOpen, item_key, item_place}
+use Rattle.match_puzzle.specs.Fitting.{Fits, Settles, IsItem, IsUnsettled, item_key, item_place}
 use Rattle.match_fits.specs.Placing.{FitInTurn, prefix_of}
 use Rattle.match_fits.specs.FitRows.{AreRows}
 use Rattle.match_fits.specs.declared.fit_sizes.TheConstants.{STEP, COVERED}
 use Rattle.match_puzzle.specs.declared.items.Item.{Item}
 use Rattle.match_puzzle.specs.declared.placements.Pair.{Pair}
 
--- For each open item the table has how many of the pairs among these settle it, times STEP, and the item's place.
+-- For each item that isn't settled the table has how many of the pairs among these settle it, times STEP, and the item's place.
 pub record AreSizesOf (p : Task) (q : Prefix) (Among : Pair → Type 0) (sizes : List ℕ) : Type 0 where
-  pub long : length sizes ≡ 2 * cell_count p.board
-  pub counts : (item : Item) → IsOpen p q item
+  pub long : length sizes ≡ cell_count p.board + length p.words
+  pub counts : (item : Item) → IsUnsettled p q item
       → (xs : List Pair) × IsListing (ByKey (item_key item)) (λ x. Settles item x × Among x) xs
       × (slice_index sizes (item_place (cell_count p.board) item)
       ≡ STEP * length xs + item_place (cell_count p.board) item)
@@ -24,8 +24,14 @@ pub record AreSizesOf (p : Task) (q : Prefix) (Among : Pair → Type 0) (sizes :
 -- For each settled item the table has COVERED.
 abbrev pub AreCovered : Task → Prefix → (sizes : List ℕ) → Type 0
 AreCovered p q sizes =
-    (item : Item) → IsItem p item → (IsOpen p q item → ⊥)
+    (item : Item) → IsItem p item → (IsUnsettled p q item → ⊥)
     → slice_index sizes (item_place (cell_count p.board) item) ≡ COVERED
+
+-- the entries of the items that have to be settled: all, or where there are tiles to spare those of the cells
+abbrev pub AreToSettle : Task → (sizes seen : List ℕ) → Type 0
+AreToSettle p sizes seen =
+    (AllHaveToStand p × (seen ≡ sizes))
+    ⊎ ((AllHaveToStand p → ⊥) × (seen ≡ take (cell_count p.board) sizes))
 
 -- the pairs that fit
 abbrev pub FitsPair : Task → Prefix → Pair → Type 0

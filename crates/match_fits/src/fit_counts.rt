@@ -1,14 +1,16 @@
 //! Pairs of a cell and a placement that are placed one after the other, and counts of what fits beside them.
 
-ghost use Rattle.std.specs.Prelude.{◌≡◌, ◌↔◌, ◌<◌, ◌*◌, [], ℕ, List, IfOk, IfSome, IsTrue, MatchOption, OnErr, length};
+ghost use Rattle.std.specs.Prelude.{◌≡◌, ◌↔◌, ◌<◌, ◌≤◌, ◌*◌, [], ℕ, List, IfOk, IfSome, IsTrue, MatchBool, MatchOption, OnErr};
+ghost use Rattle.std.specs.Prelude.{length};
 ghost use Rattle.match_board.specs.Board.{cell_count};
 ghost use Rattle.match_puzzle.specs.Puzzle.{IsPuzzle};
 ghost use Rattle.match_puzzle.specs.Prefix.{IsPrefix, empty_prefix};
-ghost use Rattle.match_puzzle.specs.Fitting.{Fits, FitsItem, AreFitting, IsItem, IsOpen};
+ghost use Rattle.match_puzzle.specs.Fitting.{Fits, FitsItem, AreFitting, HasToBeSettled, IsItem, IsOpen};
+ghost use Rattle.match_puzzle.specs.Fitting.{IsUnsettled};
 ghost use Rattle.match_puzzle.specs.Fitting.{HasFewestFitting, IsNextFitting, IsLastFitting};
 ghost use Rattle.match_fits.specs.Placing.{FitInTurn, placed_by, with_next, without_last};
 ghost use Rattle.match_fits.specs.FitRows.{AreRows};
-ghost use Rattle.match_fits.specs.FitSizes.{AreSizes};
+ghost use Rattle.match_fits.specs.FitSizes.{AreSizes, AreToSettle};
 ghost use Rattle.match_puzzle.specs.Fitting.{item_place};
 ghost use Rattle.match_puzzle.specs.declared.items.Item.{Item as PuzzleItem};
 ghost use Rattle.match_puzzle.specs.declared.items.Item.TheVariants as items;
@@ -26,7 +28,8 @@ use std::marker::Model;
 /// Placed pairs of a puzzle, each of which fits those before it, and how many pairs still fit beside them: for each
 /// cell and for each tile. It borrows the puzzle.
 ///
-/// An item is a cell or a tile. A pair settles its cell and its tile; an item that no placed pair settles is open.
+/// An item is a cell or a tile. A pair settles its cell and its tile. An item is open where no placed pair settles it and
+/// each arrangement has to: where there are more tiles than cells, only cells are.
 /// Placing a pair costs a few words for each open cell and each side, and a step for each pair that fits no longer;
 /// lifting it costs less. The memory is 8 bytes for each placed pair and each cell, and up to 16 while it grows.
 #[derive(Drop)]
@@ -85,12 +88,15 @@ impl<'a> FitCounts<'a> {
         &self.pairs
     }
 
-    /// Whether the item is open: no placed pair settles it.
+    /// Whether the item is open: no placed pair settles it, and each arrangement has to.
     pub fn is_open(&self, item: Item) -> bool
         requires { IsItem self.now.puzzle item }
         ensures { IsTrue result ↔ IsOpen self.now.puzzle (placed_by self.now) item }
     {
-        self.counts.sizes[self.place_of(item)] != COVERED
+        if !has_to_be_settled(self.puzzle(), item) {
+            return false;
+        }
+        self.is_unsettled(item)
     }
 
     /// Returns how many pairs fit and settle an open item.
@@ -103,14 +109,14 @@ impl<'a> FitCounts<'a> {
     }
 
     /// Returns the open item with the fewest pairs that fit. At a tie it is the first: cells by number, then tiles.
-    /// `None` where all items are settled.
+    /// `None` where no item is open.
     pub fn fewest(&self) -> Option<Item>
         ensures { MatchOption result
             ((item : PuzzleItem) → IsOpen self.now.puzzle (placed_by self.now) item → ⊥)
             (HasFewestFitting self.now.puzzle (placed_by self.now)) }
     {
         let cells = self.cells();
-        let least = least_size(&self.counts.sizes);
+        let least = least_size(sizes_to_settle(self.puzzle(), &self.counts.sizes));
         if least == COVERED {
             return None;
         }
@@ -162,6 +168,14 @@ impl<'a> FitCounts<'a> {
         }
     }
 
+    // Whether no placed pair settles the item.
+    fn is_unsettled(&self, item: Item) -> bool
+        requires { IsItem self.now.puzzle item }
+        ensures { IsTrue result ↔ IsUnsettled self.now.puzzle (placed_by self.now) item }
+    {
+        self.counts.sizes[self.place_of(item)] != COVERED
+    }
+
     // The place of the item in the table of counts.
     fn place_of(&self, item: Item) -> usize
         ensures place { result ≡ item_place (cell_count self.now.puzzle.board) item }
@@ -171,7 +185,7 @@ impl<'a> FitCounts<'a> {
         item.number(self.cells()) as usize
     }
 
-    // How many cells there are; there are as many tiles.
+    // How many cells there are.
     fn cells(&self) -> u16
         ensures count { result ≡ cell_count self.now.puzzle.board }
         ensures puzzle { IsPuzzle self.now.puzzle }
@@ -220,15 +234,38 @@ impl<'a> FitCounts<'a> {
     }
 }
 
-// The table of counts where nothing is placed.
+// Whether each arrangement settles the item.
+fn has_to_be_settled(puzzle: &Puzzle, item: Item) -> bool
+    ensures { MatchBool result (HasToBeSettled puzzle.now item) (HasToBeSettled puzzle.now item → ⊥) }
+{
+    match item {
+        Item::Cell(_) => true,
+        Item::Tile(_) => puzzle.have_all_to_stand(),
+    }
+}
+
+// The entries of the items that each arrangement settles.
+fn sizes_to_settle<'s>(puzzle: &Puzzle, sizes: &'s [u32]) -> &'s [u32]
+    requires { cell_count puzzle.now.board ≤ length sizes.now }
+    ensures { AreToSettle puzzle.now sizes.now result.now }
+{
+    if puzzle.have_all_to_stand() {
+        return sizes;
+    }
+    &sizes[..usize::from(puzzle.board().cells())]
+}
+
+// The table where nothing is placed.
 fn new_sizes(alloc: Global, partial: &Partial<'_>, rows: &FitRows) -> Result<Vec<u32>, AllocError>
     requires empty { partial.now.placed ≡ empty_prefix partial.now.puzzle }
     requires rows { AreRows partial.now.puzzle partial.now.placed rows.now }
     ensures { IfOk result (λ v. AreSizes partial.now.puzzle partial.now.placed v.items) }
 {
-    let cells = partial.puzzle().board().cells();
-    let mut sizes = Vec::with_capacity(alloc, 2 * usize::from(cells))?;
-    for place in 0..2 * u32::from(cells) {
+    let puzzle = partial.puzzle();
+    let cells = puzzle.board().cells();
+    let items = u32::from(cells) + u32::from(puzzle.tile_count());
+    let mut sizes = Vec::with_capacity(alloc, items as usize)?;
+    for place in 0..items {
         let count = count_in(partial, rows, Item::numbered(cells, place));
         sizes.push(STEP * u32::from(count) + place)?;
     }

@@ -7,7 +7,7 @@ ghost use Rattle.match_limits.specs.Listing.{IsListing};
 ghost use Rattle.match_puzzle.specs.Prefix.{IsFree};
 ghost use Rattle.match_fits.specs.FitRows.{IsRow, AreRows, AreRowsElsewhere, AreOpenRows};
 
-use match_limits::{FixedSet, Members, NumberSet};
+use match_limits::{FixedSet, MOST_TILES, Members, NumberSet};
 use match_puzzle::Partial;
 use std::alloc::{AllocError, Global};
 use std::marker::Model;
@@ -74,7 +74,7 @@ impl FitRows {
 
     /// Which rows have placements of the tile: the number 4 c + r where the row of cell c has its turn r.
     pub(crate) fn places_of(&self, tile: u16) -> NumberSet
-        requires { tile < length self.now }
+        requires { tile < MOST_TILES }
         ensures { IsListing ◌<◌ (λ n. (n / 4 < length self.now)
             × Contains (slice_index_or self.now (n / 4) []) (4 * tile + n % 4)) result }
     {

@@ -3,11 +3,11 @@
 //! An entry is that count times `STEP`, plus its own place. So the least entry belongs to the item with the fewest
 //! pairs, the first at a tie. The entry of a settled item is `COVERED`.
 
-ghost use Rattle.std.specs.Prelude.{◌≡◌, ◌⊎◌, ◌<◌, ◌≤◌, ◌+◌, ◌*◌, ℕ, [], Contains, length, slice_index, slice_index_or};
+ghost use Rattle.std.specs.Prelude.{◌≡◌, ◌⊎◌, ◌<◌, ◌≤◌, ◌+◌, ◌*◌, ◌/◌, ℕ, [], Contains, length, slice_index, slice_index_or};
 ghost use Rattle.match_limits.specs.NumberSets.{count_of_group};
 
 use crate::fit_rows::FitRows;
-use match_limits::{MOST_CELLS, NumberSet, TURNS};
+use match_limits::{MOST_CELLS, MOST_TILES, NumberSet, TURNS};
 
 /// What one pair adds to an entry.
 pub(crate) const STEP: u32 = 1024;
@@ -15,17 +15,16 @@ pub(crate) const STEP: u32 = 1024;
 /// The entry of a settled item. That of an open one is less, since its place is below `STEP - 1`.
 pub(crate) const COVERED: u32 = u32::MAX;
 
-// there are as many tiles as cells
-const _: () = prove!(2 * MOST_CELLS < 1024 - 1);
+// The greatest place is that of the last tile.
+const _: () = prove!(MOST_CELLS + MOST_TILES < 1024 - 1);
 
 /// For each of these numbers, four to a tile, lowers the count of its tile by one. The tiles follow `cells` cells.
 pub(crate) fn lower_tiles(sizes: &mut Vec<u32>, cells: usize, numbers: &NumberSet)
-    requires long { length sizes.old.items ≡ 2 * cells }
-    requires below { (n : ℕ) → Contains numbers.now n → n < 4 * cells }
-    requires enough { (tile : ℕ) → tile < cells
+    requires below { (n : ℕ) → Contains numbers.now n → cells + n / 4 < length sizes.old.items }
+    requires enough { (tile : ℕ) → cells + tile < length sizes.old.items
         → STEP * count_of_group numbers.now tile ≤ slice_index sizes.old.items (cells + tile) }
     ensures long { length sizes.new.items ≡ length sizes.old.items }
-    ensures tiles { (tile : ℕ) → tile < cells → slice_index sizes.new.items (cells + tile)
+    ensures tiles { (tile : ℕ) → cells + tile < length sizes.old.items → slice_index sizes.new.items (cells + tile)
         + STEP * count_of_group numbers.now tile ≡ slice_index sizes.old.items (cells + tile) }
     ensures cells { (cell : ℕ) → cell < cells → slice_index sizes.new.items cell ≡ slice_index sizes.old.items cell }
 {
@@ -37,8 +36,8 @@ pub(crate) fn lower_tiles(sizes: &mut Vec<u32>, cells: usize, numbers: &NumberSe
 
 /// Lowers the count of each cell by one for each placement of the tile in the cell's row.
 pub(crate) fn lower_cells(sizes: &mut Vec<u32>, rows: &FitRows, tile: u16)
-    requires long { length sizes.old.items ≡ 2 * length rows.now }
-    requires tile { tile < length rows.now }
+    requires long { length rows.now ≤ length sizes.old.items }
+    requires tile { tile < MOST_TILES }
     requires most { length rows.now ≤ MOST_CELLS }
     requires enough { (cell : ℕ) → cell < length rows.now
         → STEP * count_of_group (slice_index_or rows.now cell []) tile ≤ slice_index sizes.old.items cell }

@@ -94,8 +94,8 @@ impl AskedTwice {
         );
         let side = self.side;
         format!(in alloc;
-            "puzzle line {line}, word 3, asks for {own} on side {side} of cell {cell}, where the border asks for {other}: \
-             a clue has to ask for the same there, or for nothing (-)"
+            "puzzle line {line}, word 3, asks for {own} on side {side} of cell {cell}, where the border asks for \
+             {other}: a clue has to ask for the same there, or for nothing (-)"
         )
     }
 }

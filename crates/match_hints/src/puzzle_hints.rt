@@ -108,6 +108,17 @@ fn shape_note(text: &PuzzleText, cells: usize) -> &'static str {
     }
 }
 
+// That there may be more tiles than cells, in version 3 alone.
+fn more_tiles_note(text: &PuzzleText, cells: usize) -> &'static str {
+    if text.version == 3 {
+        ", and there may be more"
+    } else if text.tiles.len() > cells {
+        "; more tiles than cells stand in \"match 3\" alone"
+    } else {
+        ""
+    }
+}
+
 impl Said {
     // What has to be changed where the puzzle has this fault.
     fn hint(&self, alloc: Global, fault: &PuzzleFault) -> Result<Option<String>, AllocError> {
@@ -143,14 +154,15 @@ impl Said {
         let (cells, tiles) = (board.cells(), self.text.tiles.len());
         let line = self.first_tile_line().saturating_sub(1);
         let several = if cells == 1 { "" } else { "s" };
+        let further = more_tiles_note(&self.text, usize::from(cells));
         format!(in alloc;
             "the board of puzzle line 2 has {cells} cell{several}, and puzzle line {line} says \"tiles {tiles}\": \
-             there has to be a tile for each cell"
+             there has to be a tile for each cell{further}"
         )
     }
 
-    // The line of the first tile. Before it stand those of the version, the board, rows, turns, the border and the count,
-    // from version 2 on one of mates, and in version 3 those of clues with their count.
+    // The line of the first tile. Before it stand those of the version, the board, rows, turns, the border and the
+    // count, from version 2 on one of mates, and in version 3 those of clues with their count.
     fn first_tile_line(&self) -> usize {
         let further = match self.text.version {
             1 => 0,

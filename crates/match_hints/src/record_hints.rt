@@ -23,8 +23,9 @@ pub fn list_hint(
     }
 }
 
-/// What has to be changed in the text of a certificate that has this fault, in one line: what has to stand at a place of
-/// the text, and what stands there, or which lines have a number that they can't have. None where there is nothing to tell.
+/// What has to be changed in the text of a certificate that has this fault, in one line: what has to stand at a place
+/// of the text, and what stands there, or which lines have a number that they can't have. None where there is nothing
+/// to tell.
 ///
 /// An `Err` where memory is refused. It takes the time and the memory of reading the text once or twice more.
 pub fn certificate_hint(

@@ -1,5 +1,8 @@
 -- Pictures of arrangements and puzzles.
-use Rattle.std.specs.Prelude.{◌≡◌, ◌++◌, ℕ, List, Some, length, slice_get}
+use Rattle.std.specs.Prelude.{◌≡◌, ◌≢◌, ◌<◌, ◌++◌, ℕ, List, Some, length, slice_get}
+use Rattle.match_limits.specs.Listing.{IsListing, ByKey}
+use Rattle.match_puzzle.specs.Arrangement.{Stands}
+use Rattle.match_puzzle.specs.Fitting.{tile_turn}
 use Rattle.match_puzzle.specs.Puzzle.{Task}
 use Rattle.match_puzzle.specs.declared.placements.Placement.{Placement}
 use Rattle.picture_parts.specs.Arrows.{AreTileLines}
@@ -9,20 +12,54 @@ use Rattle.picture_parts.specs.Joined.{IsJoined}
 use Rattle.picture_parts.specs.declared.canvases.Site.{Site}
 use Rattle.match_picture.specs.Sites.{AreSites}
 
--- A picture of an arrangement: the board begins 40 right of and below its corner; bands where the border or a clue asks
--- for a colour of an outer side, and then a part for each side of each cell, in the order of cells and sides, with the
--- colour that is shown there; behind the parts an arrow for each cell, where tiles may not be turned.
-pub record IsArrangementPicture (p : Task) (a : List Placement) (text : List ℕ) : Type 0 where
+-- A board with an arrangement, 40 right of and below the picture's corner: bands where the border or a clue asks for a
+-- colour of an outer side, and then a part for each side of each cell, in the order of cells and sides, with the colour
+-- that is shown there; behind the parts an arrow for each cell, where tiles may not be turned.
+pub record IsFullBoard (p : Task) (a : List Placement) (text : List ℕ) : Type 0 where
   pub sites : List Site
   pub are_sites : AreSites p.board sites
-  pub before : List ℕ
   pub bands : List ℕ
   pub are_bands : AreBandLines p 40 40 sites bands
   pub between : List ℕ
   pub parts : List ℕ
   pub are_parts : AreTileLines p 40 40 sites a parts
+  pub written : text ≡ bands ++ between ++ parts
+
+-- a picture of an arrangement
+pub record IsArrangementPicture (p : Task) (a : List Placement) (text : List ℕ) : Type 0 where
+  pub before : List ℕ
+  pub board : List ℕ
+  pub is_board : IsFullBoard p a board
   pub after : List ℕ
-  pub written : text ≡ before ++ bands ++ between ++ parts ++ after
+  pub written : text ≡ before ++ board ++ after
+
+-- The arrangement leaves the tile over, and it isn't turned.
+pub record IsSpare (p : Task) (a : List Placement) (x : Placement) : Type 0 where
+  pub tile : x.tile < length p.words
+  pub turn : x.turn ≡ 0
+  pub nowhere : (cell : ℕ) (y : Placement) → Stands a cell y → y.tile ≢ x.tile
+
+-- the tiles that the arrangement leaves over, in order, unturned
+abbrev pub AreSpare : Task → List Placement → List Placement → Type 0
+AreSpare p a xs = IsListing (ByKey tile_turn) (IsSpare p a) xs
+
+-- A picture of an arrangement by itself: the board, and then a part for each side of each tile that is left over, in
+-- order, unturned; behind the parts an arrow for each such tile, where tiles may not be turned.
+pub record IsLonePicture (p : Task) (a : List Placement) (text : List ℕ) : Type 0 where
+  pub before : List ℕ
+  pub board : List ℕ
+  pub is_board : IsFullBoard p a board
+  pub between : List ℕ
+  pub tray_left : ℕ
+  pub tray_top : ℕ
+  pub tray : List Site
+  pub tiles : List Placement
+  pub room : length tray ≡ length tiles
+  pub are_tiles : AreSpare p a tiles
+  pub parts : List ℕ
+  pub are_parts : AreTileLines p tray_left tray_top tray tiles parts
+  pub after : List ℕ
+  pub written : text ≡ before ++ board ++ between ++ parts ++ after
 
 -- each of so many tiles, in order, unturned
 pub record AreUnturned (count : ℕ) (xs : List Placement) : Type 0 where

@@ -8,7 +8,7 @@ ghost use Rattle.match_picture.specs.Grown.{Wraps};
 use crate::elements::put_group;
 use crate::tiles::{SIGN_LETTERS, put_disc, side_sign};
 use match_puzzle::Puzzle;
-use picture_parts::{Canvas, asked_by_clue, clue_lines, put_ended};
+use picture_parts::{Canvas, clue_lines, put_ended};
 use std::alloc::{AllocError, Global};
 
 /// Writes a hatched part for each side of which a clue asks for a colour, a disc for the number of each such cell, and
@@ -46,7 +46,7 @@ fn sign_line(alloc: Global, canvas: &Canvas<'_>, cell: u16) -> Result<Vec<u8>, A
     let site = canvas.sites[usize::from(cell)];
     let mut line = Vec::new(alloc);
     for side in 0..canvas.puzzle.board().sides() {
-        if let Some(colour) = asked_by_clue(canvas.puzzle, cell, side) {
+        if let Some(colour) = canvas.puzzle.clue_colour(cell, side) {
             let sign = side_sign(alloc, canvas, site, side, colour)?;
             line.extend_from_slice(sign.as_bytes())?;
         }
@@ -74,7 +74,7 @@ fn is_clued(puzzle: &Puzzle, cell: u16) -> bool
     requires { cell < cell_count puzzle.now.board }
 {
     for side in 0..puzzle.board().sides() {
-        if asked_by_clue(puzzle, cell, side).is_some() {
+        if puzzle.clue_colour(cell, side).is_some() {
             return true;
         }
     }

@@ -62,7 +62,7 @@ fn word_shown(alloc: Global, puzzle: &Puzzle, placement: Placement) -> Result<St
     Ok(word)
 }
 
-/// Arrangements, numbered from the first on.
+/// Each of these arrangements, numbered from `first` on.
 pub fn describe_list(
     alloc: Global,
     puzzle: &Puzzle,

@@ -4,7 +4,7 @@ use crate::elements::put_numbered;
 use match_board::Figure;
 use std::alloc::{AllocError, Global};
 
-/// A picture that begins: its frame, its title, what it says to who can't see it, and white paper.
+/// The beginning of a picture: its frame, its title, a description for those who can't see it, and white paper.
 pub fn begin_picture(
     alloc: Global,
     wide: u64,
@@ -47,14 +47,15 @@ pub fn board_words(alloc: Global, figure: &Figure) -> Result<String, AllocError>
     }
 }
 
-/// Things in rows of the same length but for the last.
+/// How many rows there are, and how many things each has; the last row may have fewer.
 #[derive(Clone, Copy)]
 pub struct EvenRows {
     pub rows: u16,
     pub columns: u16,
 }
 
-/// So many things in as few rows as there have to be with at most so many in each, and then as few in each as can be.
+/// Puts `count` things into as few rows as it takes with at most `most` in each, and then as few into each row as it
+/// takes.
 pub fn even_rows(count: u16, most: u16) -> EvenRows {
     let rows = count.div_ceil(most.max(1));
     EvenRows {

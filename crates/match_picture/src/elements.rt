@@ -10,7 +10,7 @@ use picture_parts::{Canvas, Edge, Point, Site, edge_path, side_of};
 use std::alloc::{AllocError, Global};
 use text_words::{character, put_number};
 
-/// Writes the lines as a group with these attributes, or nothing where there are none.
+/// Writes the lines as a group with these attributes, unless there are no lines.
 pub fn put_group(text: &mut Vec<u8>, attributes: &[u8], lines: &[u8]) -> Result<(), AllocError>
     ensures { OnOk result (IsWrapped lines.now text.old.items text.new.items) }
 {
@@ -25,7 +25,7 @@ pub fn put_group(text: &mut Vec<u8>, attributes: &[u8], lines: &[u8]) -> Result<
     Ok(())
 }
 
-/// Writes each of these words with its number behind it, and then the last ones.
+/// Writes each of these words followed by its number, and then the last words.
 pub fn put_numbered(
     text: &mut Vec<u8>,
     parts: &[(&str, u64)],

@@ -3,9 +3,12 @@
 ghost use Rattle.picture_parts.specs.Palette.{PaletteLaw};
 ghost use Rattle.match_picture.specs.Laws.{FillLaw, FittingLaw, SeamLaw};
 
-/// Does nothing. Its promises are laws. There are 36 different fills, none of them white, and colours of a puzzle that
-/// have one fill are one, or mates. In an arrangement sides that meet have one fill and edges that fit, a knob with a
-/// hollow or two flat ones; and they lie on each other, so that each begins where the other ends.
+/// Does nothing. Its promises are laws:
+///
+/// - There are 36 different fills, none of them white.
+/// - Where two colours of a puzzle have one fill, they are mates, or the colour is one.
+/// - In an arrangement, sides that meet have one fill, and edges that fit: a knob and a hollow, or two flat ones.
+/// - Such sides lie on each other: each begins where the other ends.
 pub fn picture_laws()
     ensures palette { PaletteLaw }
     ensures fills { FillLaw }

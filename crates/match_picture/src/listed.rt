@@ -11,10 +11,11 @@ use match_puzzle::{Arrangement, Puzzle};
 use picture_parts::{NotDrawn, PicturePlan, arrangements_to_draw};
 use std::alloc::{AllocError, Global};
 
-/// A picture of the arrangements that are asked for of the list.
+/// A picture of those arrangements of the list that the plan asks for.
 ///
-/// `NoArrangement` of the first number where fewer are listed, `Arrangement` of the first that is to be drawn and is none
-/// of the puzzle's, with its first fault, and `Memory` where memory is refused.
+/// An `Err` is `NoArrangement` with the number of the first, where the list has no more arrangements than that;
+/// `Arrangement` with the first of those to be drawn that is no arrangement of the puzzle, and its first fault; or
+/// `Memory` where memory is refused.
 pub fn write_listed_picture(
     alloc: Global,
     puzzle: &Puzzle,

@@ -21,7 +21,7 @@ pub fn extent(form: Form) -> Offset {
     }
 }
 
-/// The radius of the disc that the number of a tile or of a clued cell stands on.
+/// The radius of the disc below the number of a tile or of a clued cell.
 pub fn disc_radius(form: Form) -> u8 {
     match form {
         Form::Square => 13,

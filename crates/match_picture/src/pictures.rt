@@ -1,10 +1,12 @@
 //! A puzzle or an arrangement as a picture.
 
 ghost use Rattle.std.specs.Prelude.{◌≡◌, ◌<◌, ◌≤◌, ◌^◌, List, All, IfOk, OnOk, length};
+ghost use Rattle.match_limits.specs.declared.TheConstants.{MOST_TILES};
 ghost use Rattle.picture_parts.specs.Arrows.{AreTileLines};
 ghost use Rattle.picture_parts.specs.declared.canvases.Site.{Site};
 ghost use Rattle.match_picture.specs.Grown.{Wraps};
-ghost use Rattle.match_picture.specs.Pictures.{AreUnturned, IsArrangementPicture, IsEmptyBoard, IsPuzzlePicture};
+ghost use Rattle.match_picture.specs.Pictures.{AreUnturned, IsArrangementPicture, IsEmptyBoard, IsFullBoard};
+ghost use Rattle.match_picture.specs.Pictures.{IsLonePicture, IsPuzzlePicture};
 ghost use Rattle.match_picture.specs.Sites.{AreSites};
 ghost use Rattle.match_puzzle.specs.Arrangement.{IsArrangement};
 ghost use Rattle.match_puzzle.specs.declared.placements.Placement.{Placement};
@@ -16,8 +18,7 @@ use crate::documents::{END, begin_picture, board_words};
 use crate::signed_bands::put_bands;
 use crate::sites::{board_extent, sites_of};
 use crate::tiles::{Labels, put_tiles};
-use crate::trays::{Tray, tray_sites, unturned};
-use match_board::Board;
+use crate::trays::{Tray, spare_tiles, tray_sites, unturned};
 use match_puzzle::{Placement, Puzzle};
 use picture_parts::Canvas;
 use std::alloc::{AllocError, Global};
@@ -26,6 +27,7 @@ use std::alloc::{AllocError, Global};
 pub const MARGIN: u32 = 40;
 
 /// The arrangement with this number in its list as a picture; where they are wanted, with the number of each tile.
+/// Below the board lie the tiles that it leaves over, with their numbers.
 pub fn write_arrangement_picture(
     alloc: Global,
     puzzle: &Puzzle,
@@ -34,16 +36,40 @@ pub fn write_arrangement_picture(
     numbers: bool,
 ) -> Result<Vec<u8>, AllocError>
     requires { IsArrangement puzzle.now arrangement.now }
-    ensures { IfOk result (λ text. IsArrangementPicture puzzle.now arrangement.now text.items) }
+    ensures { IfOk result (λ text. IsLonePicture puzzle.now arrangement.now text.items) }
 {
-    let begun = begin_arrangement(alloc, puzzle, arrangement, number)?;
+    let spare = spare_tiles(alloc, puzzle, arrangement)?;
+    let layout = lone_layout(puzzle, spare.len() as u16);
+    let mut text = begin_arrangement(alloc, puzzle, arrangement, number, &layout)?;
     let labels = Labels {
         outline: 2,
         signs: true,
         numbers,
     };
-    let text = draw_arrangement(alloc, puzzle, begun, arrangement, labels)?;
+    put_full_board(alloc, &mut text, puzzle, arrangement, labels)?;
+    put_spare(alloc, &mut text, puzzle, &spare, &layout)?;
+    text.extend_from_slice(END)?;
     Ok(text)
+}
+
+// The layout of a board with an arrangement, and below it of so many tiles, if there are some.
+fn lone_layout(puzzle: &Puzzle, spare: u16) -> Layout {
+    let extent = board_extent(puzzle.board().figure());
+    let tray = Tray::new(spare, extent.wide, puzzle.board().sides());
+    let board_high = extent.high + 2 * MARGIN;
+    let tray_high = if spare == 0 {
+        0
+    } else {
+        tray.height() + MARGIN
+    };
+    Layout {
+        tray,
+        wide: extent.wide.max(tray.width()) + 2 * MARGIN,
+        high: board_high + tray_high,
+        board_left: MARGIN,
+        tray_left: MARGIN,
+        tray_top: board_high,
+    }
 }
 
 fn begin_arrangement(
@@ -51,24 +77,23 @@ fn begin_arrangement(
     puzzle: &Puzzle,
     arrangement: &[Placement],
     number: u32,
+    layout: &Layout,
 ) -> Result<Vec<u8>, AllocError>
     requires { IsArrangement puzzle.now arrangement.now }
 {
     let words = board_words(alloc, puzzle.board().figure())?;
     let title = format!(in alloc; "Arrangement {number}: {words}")?;
     let description = describe_arrangement(alloc, puzzle, arrangement)?;
-    let board = board_extent(puzzle.board().figure());
-    let (wide, high) = (board.wide + 2 * MARGIN, board.high + 2 * MARGIN);
     begin_picture(
         alloc,
-        u64::from(wide),
-        u64::from(high),
+        u64::from(layout.wide),
+        u64::from(layout.high),
         &title,
         &description,
     )
 }
 
-/// A picture that has begun, with the arrangement on the board, ended.
+/// Ends a picture that has begun with a board and the arrangement on it. Tiles that are left over aren't drawn.
 pub fn draw_arrangement(
     alloc: Global,
     puzzle: &Puzzle,
@@ -80,18 +105,53 @@ pub fn draw_arrangement(
     ensures { IfOk result (λ text. IsArrangementPicture puzzle.now arrangement.now text.items) }
 {
     let mut text = begun;
-    let canvas = board_canvas(alloc, puzzle, MARGIN)?;
-    put_bands(alloc, &mut text, &canvas, labels.signs)?;
-    put_tiles(alloc, &mut text, &canvas, arrangement, labels)?;
+    put_full_board(alloc, &mut text, puzzle, arrangement, labels)?;
     text.extend_from_slice(END)?;
     Ok(text)
+}
+
+// The board with the arrangement.
+fn put_full_board(
+    alloc: Global,
+    text: &mut Vec<u8>,
+    puzzle: &Puzzle,
+    arrangement: &[Placement],
+    labels: Labels,
+) -> Result<(), AllocError>
+    requires { IsArrangement puzzle.now arrangement.now }
+    ensures { OnOk result (Wraps (IsFullBoard puzzle.now arrangement.now) text.old.items text.new.items) }
+{
+    let canvas = board_canvas(alloc, puzzle, MARGIN)?;
+    put_bands(alloc, text, &canvas, labels.signs)?;
+    put_tiles(alloc, text, &canvas, arrangement, labels)?;
+    Ok(())
+}
+
+// The tiles below a full board, if there are some.
+fn put_spare(
+    alloc: Global,
+    text: &mut Vec<u8>,
+    puzzle: &Puzzle,
+    spare: &[Placement],
+    layout: &Layout,
+) -> Result<(), AllocError>
+    requires tiles { All (λ x. x.tile < length puzzle.now.words) spare.now }
+    requires few { length spare.now ≤ MOST_TILES }
+    ensures { OnOk result ((tray : List Site) × (length tray ≡ length spare.now)
+        × Wraps (AreTileLines puzzle.now layout.now.tray_left layout.now.tray_top tray spare.now)
+        text.old.items text.new.items) }
+{
+    if spare.is_empty() {
+        return Ok(());
+    }
+    put_below(alloc, text, puzzle, spare, layout)
 }
 
 /// The empty board of a puzzle as a picture, with the colours that the border and clues ask for, and each tile below.
 pub fn write_puzzle_picture(alloc: Global, puzzle: &Puzzle) -> Result<Vec<u8>, AllocError>
     ensures { IfOk result (λ text. IsPuzzlePicture puzzle.now text.items) }
 {
-    let layout = layout_of(puzzle.board());
+    let layout = puzzle_layout(puzzle);
     let mut text = begin_puzzle(alloc, puzzle, &layout)?;
     put_empty_board(alloc, &mut text, puzzle, layout.board_left)?;
     put_tray(alloc, &mut text, puzzle, &layout)?;
@@ -99,7 +159,7 @@ pub fn write_puzzle_picture(alloc: Global, puzzle: &Puzzle) -> Result<Vec<u8>, A
     Ok(text)
 }
 
-// How the empty board of a puzzle and the tray below it stand in a picture.
+// Where a board and the tray below it lie in a picture, and how large that is.
 #[derive(Clone, Copy)]
 struct Layout {
     tray: Tray,
@@ -110,10 +170,11 @@ struct Layout {
     tray_top: u32,
 }
 
-// The layout with both in the middle.
-fn layout_of(board: &Board) -> Layout {
+// The layout of an empty board and all tiles, with both in the middle.
+fn puzzle_layout(puzzle: &Puzzle) -> Layout {
+    let board = puzzle.board();
     let extent = board_extent(board.figure());
-    let tray = Tray::new(board.cells(), extent.wide, board.sides());
+    let tray = Tray::new(puzzle.tile_count(), extent.wide, board.sides());
     let (tray_width, tray_height) = (tray.width(), tray.height());
     let width = extent.wide.max(tray_width);
     Layout {
@@ -169,24 +230,41 @@ fn put_tray(
         × Wraps (AreTileLines puzzle.now layout.now.tray_left layout.now.tray_top tray tiles)
         text.old.items text.new.items) }
 {
-    let cells = puzzle.board().cells();
+    let tiles = unturned(alloc, puzzle.tile_count())?;
+    put_below(alloc, text, puzzle, &tiles, layout)?;
+    Ok(())
+}
+
+// These tiles in the tray, with their signs and numbers.
+fn put_below(
+    alloc: Global,
+    text: &mut Vec<u8>,
+    puzzle: &Puzzle,
+    tiles: &[Placement],
+    layout: &Layout,
+) -> Result<(), AllocError>
+    requires tiles { All (λ x. x.tile < length puzzle.now.words) tiles.now }
+    requires few { length tiles.now ≤ MOST_TILES }
+    ensures { OnOk result ((tray : List Site) × (length tray ≡ length tiles.now)
+        × Wraps (AreTileLines puzzle.now layout.now.tray_left layout.now.tray_top tray tiles.now)
+        text.old.items text.new.items) }
+{
     let below = Canvas {
         puzzle,
-        sites: tray_sites(alloc, layout.tray, cells)?,
+        sites: tray_sites(alloc, layout.tray, tiles.len() as u16)?,
         left: layout.tray_left,
         top: layout.tray_top,
     };
-    let tiles = unturned(alloc, cells)?;
     let labels = Labels {
         outline: 2,
         signs: true,
         numbers: true,
     };
-    put_tiles(alloc, text, &below, &tiles, labels)?;
+    put_tiles(alloc, text, &below, tiles, labels)?;
     Ok(())
 }
 
-/// The sites of the puzzle's cells, so far from the left edge.
+/// The sites of the puzzle's cells, on a board that is `left` away from the left edge.
 pub fn board_canvas<'a>(
     alloc: Global,
     puzzle: &'a Puzzle,

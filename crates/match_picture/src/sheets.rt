@@ -68,7 +68,7 @@ impl Sheet {
     }
 }
 
-/// Arrangements as one picture, 1 to 100, numbered from the first on: each small, without signs, and its number below.
+/// Up to 100 arrangements as one picture, numbered from `first` on: each small, without signs, with its number below.
 pub fn write_sheet(
     alloc: Global,
     puzzle: &Puzzle,

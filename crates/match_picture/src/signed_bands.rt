@@ -12,7 +12,7 @@ use picture_parts::{
 };
 use std::alloc::{AllocError, Global};
 
-/// Writes a band for each side that meets nothing where a colour is asked for, and their signs where they are wanted.
+/// Writes a band for each outer side that is asked for a colour, with the signs of the colours where they are wanted.
 pub fn put_bands(
     alloc: Global,
     text: &mut Vec<u8>,

@@ -31,8 +31,8 @@ enum Layer {
     Numbers,
 }
 
-/// Writes tiles, so turned, each at the site of its place in the list: a part for each side, and above these outlines,
-/// signs, numbers on discs, and an arrow that points north, where tiles may not be turned.
+/// Writes these placed tiles, each at the site with its place in the list: a part for each side, and above the parts
+/// outlines, signs, numbers on discs, and where tiles may not be turned an arrow that points north.
 pub fn put_tiles(
     alloc: Global,
     text: &mut Vec<u8>,

@@ -1,12 +1,15 @@
 //! The tray: tiles below a board.
 
-ghost use Rattle.std.specs.Prelude.{◌≡◌, ◌≤◌, ◌^◌, IfOk, length};
-ghost use Rattle.match_picture.specs.Pictures.{AreUnturned};
+ghost use Rattle.std.specs.Prelude.{◌≡◌, ◌↔◌, ◌≤◌, ◌^◌, ℕ, IfOk, IsTrue, length};
+ghost use Rattle.match_limits.specs.declared.TheConstants.{MOST_TILES};
+ghost use Rattle.match_picture.specs.Pictures.{AreSpare, AreUnturned};
+ghost use Rattle.match_puzzle.specs.Arrangement.{Stands};
+ghost use Rattle.match_puzzle.specs.declared.placements.Placement.{Placement as PuzzlePlacement};
 
 use crate::documents::{EvenRows, even_rows};
 use crate::measures::extent;
 use match_board::Board;
-use match_puzzle::Placement;
+use match_puzzle::{Placement, Puzzle};
 use picture_parts::{Form, Site};
 use std::alloc::{AllocError, Global};
 
@@ -24,7 +27,7 @@ pub struct Tray {
 }
 
 impl Tray {
-    /// The tray of so many tiles below a board so wide, whose tiles have so many sides.
+    /// The tray of `count` tiles, which have `sides` sides each, below a board that is `board_width` wide.
     pub fn new(count: u16, board_width: u32, sides: u8) -> Tray
         requires { board_width ≤ 2 ^ 24 }
     {
@@ -85,4 +88,34 @@ pub fn unturned(alloc: Global, count: u16) -> Result<Vec<Placement>, AllocError>
         placements.push(Placement { tile, turn: 0 })?;
     }
     Ok(placements)
+}
+
+/// The tiles that an arrangement leaves over, by number, unturned.
+pub fn spare_tiles(
+    alloc: Global,
+    puzzle: &Puzzle,
+    arrangement: &[Placement],
+) -> Result<Vec<Placement>, AllocError>
+    ensures spare { IfOk result (λ v. AreSpare puzzle.now arrangement.now v.items) }
+    ensures few { IfOk result (λ v. length v.items ≤ MOST_TILES) }
+{
+    let mut spare = Vec::new(alloc);
+    for tile in 0..puzzle.tile_count() {
+        if !is_placed(arrangement, tile) {
+            spare.push(Placement { tile, turn: 0 })?;
+        }
+    }
+    Ok(spare)
+}
+
+// Whether the tile is one of the arrangement's.
+fn is_placed(arrangement: &[Placement], tile: u16) -> bool
+    ensures { IsTrue result ↔ ((cell : ℕ) × (x : PuzzlePlacement) × Stands arrangement.now cell x × (x.tile ≡ tile)) }
+{
+    for placement in arrangement {
+        if placement.tile == tile {
+            return true;
+        }
+    }
+    false
 }

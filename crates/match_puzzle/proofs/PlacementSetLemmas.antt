@@ -139,7 +139,7 @@ module _ (p : Task) (puzzle : IsPuzzle p) (table : List ℕ) (counts : AreTurnCo
       subst (λ n. n ≤ 4) (get_or_default table k 0 d lt) few
 
   pub few_counts : length table ≤ MOST_TILES
-  few_counts = let long = counts.long in let tiles = puzzle.tiles in let cells = puzzle.board.most in omega (arith, long, tiles, cells)
+  few_counts = let long = counts.long in let few = puzzle.tiles.few in omega (arith, long, few)
 
   legal_is : (tile turn : ℕ) → tile < length p.words → (turn < get_or table tile 0 → IsLegal p (turned_tile tile turn)) × (IsLegal p (turned_tile tile turn) → turn < get_or table tile 0)
   legal_is tile turn lt =

@@ -109,7 +109,11 @@ second_is_puzzle p is =
     record {
       board = second_is_board p.board is.board;
       triangles = λ three. is.triangles (a.sides ∙ three);
-      tiles = is.tiles ∙ a.cells;
+      tiles = record {
+        enough = let same = a.cells in let enough = is.tiles.enough in omega (arith, same, enough);
+        few = is.tiles.few;
+        as_many = λ before. is.tiles.as_many (omega (arith, before)) ∙ a.cells;
+      };
       sides = λ tile lt. is.sides tile lt ∙ a.sides;
       tile_colours = is.tile_colours;
       border_colours = is.border_colours;

@@ -1,9 +1,12 @@
 -- The first fault of a puzzle.
-use Rattle.std.proofs.Common.{◌≡◌, ◌<◌, ℕ, false, length, arith, refl, inl, inr, ⊎_elim}
+use Rattle.std.proofs.Common.{◌≡◌, ◌<◌, ℕ, List, Bool, true, false, MatchBool, length, map, arith, refl, sym, subst, inl, inr, ⊎_elim}
+use Rattle.std.proofs.lemmas.List.{length-map}
+use Rattle.match_board.specs.Tile.{word}
+use Rattle.match_board.specs.declared.tiles.Tile.{Tile}
 use Rattle.match_limits.specs.declared.TheConstants.{MOST_COLOURS}
 use Rattle.match_board.specs.Board.{cell_count, side_count}
 use Rattle.match_limits.specs.First.{AtMost, IsFirst, IsLeast}
-use Rattle.match_puzzle.specs.Puzzle.{Task, AreClues, word_of}
+use Rattle.match_puzzle.specs.Puzzle.{Task, AreClues, AreEnough, word_of}
 use Rattle.match_board.specs.Borders.{StandsInRule, IsAsLongAsBorder}
 use Rattle.match_puzzle.specs.PuzzleFaults.{PuzzleFails, BreaksCluesAt, puzzle_rank}
 use Rattle.match_limits.proofs.ListLemmas.{contains_at}
@@ -14,8 +17,13 @@ use Rattle.match_board.specs.Mates.{AreMates}
 use Rattle.match_board.proofs.MateLemmas.{not_without}
 use Rattle.match_limits.proofs.FirstLemmas.{sooner, not_after_number}
 
+-- what the test of how many tiles there are says of their words
+pub enough_words : (version cells : ℕ) (tiles : List Tile) (b : Bool) → b ≡ true → MatchBool b (AreEnough version cells (length tiles)) (AreEnough version cells (length tiles) → ⊥) → AreEnough version cells (length (map word tiles))
+enough_words version cells tiles b e told =
+    subst (AreEnough version cells) (sym (length-map tiles word)) (subst (λ x. MatchBool x (AreEnough version cells (length tiles)) (AreEnough version cells (length tiles) → ⊥)) e told)
+
 -- a colour that there is not, where all before is right
-pub first_bad_colour : (p : Task) (place : ℕ) → (side_count p.board ≡ 3 → p.turns ≡ false → ⊥) → length p.words ≡ cell_count p.board →
+pub first_bad_colour : (p : Task) (place : ℕ) → (side_count p.board ≡ 3 → p.turns ≡ false → ⊥) → AreEnough p.mating.version (cell_count p.board) (length p.words) →
     ((tile : ℕ) → tile < length p.words → length (word_of p tile) ≡ side_count p.board) → IsLeast (λ n. PuzzleFails p (BadColour n)) place → IsFirst puzzle_rank (PuzzleFails p) (BadColour place)
 first_bad_colour p place triangles tiles sides least = record { occurs = least.holds; first = by_kind }
   where
@@ -27,7 +35,7 @@ first_bad_colour p place triangles tiles sides least = record { occurs = least.h
     by_kind g o = sooner _ _ (omega arith)
 
 -- a colour without its mate, where all before is right
-pub first_bad_mate : (p : Task) (place : ℕ) → (side_count p.board ≡ 3 → p.turns ≡ false → ⊥) → length p.words ≡ cell_count p.board →
+pub first_bad_mate : (p : Task) (place : ℕ) → (side_count p.board ≡ 3 → p.turns ≡ false → ⊥) → AreEnough p.mating.version (cell_count p.board) (length p.words) →
     ((tile : ℕ) → tile < length p.words → length (word_of p tile) ≡ side_count p.board) → ((n colour : ℕ) → StandsInRule p.border n colour → colour < MOST_COLOURS) → IsAsLongAsBorder p.board p.border →
     IsLeast (λ n. PuzzleFails p (Mates n)) place → IsFirst puzzle_rank (PuzzleFails p) (Mates place)
 first_bad_mate p place triangles tiles sides colours long least = record { occurs = least.holds; first = by_kind }
@@ -43,7 +51,7 @@ first_bad_mate p place triangles tiles sides colours long least = record { occur
     by_kind Memory o = absurd o
 
 -- a clue that the puzzle can't have, where all before is right
-pub first_bad_clue : (p : Task) (number : ℕ) → (side_count p.board ≡ 3 → p.turns ≡ false → ⊥) → length p.words ≡ cell_count p.board →
+pub first_bad_clue : (p : Task) (number : ℕ) → (side_count p.board ≡ 3 → p.turns ≡ false → ⊥) → AreEnough p.mating.version (cell_count p.board) (length p.words) →
     ((tile : ℕ) → tile < length p.words → length (word_of p tile) ≡ side_count p.board) → ((n colour : ℕ) → StandsInRule p.border n colour → colour < MOST_COLOURS) → IsAsLongAsBorder p.board p.border → AreMates p.mating.mates →
     IsLeast (λ n. PuzzleFails p (Clue n)) number → IsFirst puzzle_rank (PuzzleFails p) (Clue number)
 first_bad_clue p number triangles tiles sides colours long mates least = record { occurs = least.holds; first = by_kind }

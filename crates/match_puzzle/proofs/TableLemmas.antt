@@ -168,6 +168,11 @@ one_clue p are c d has_c has_d same =
 pub clue_sides : (p : Task) → AreClues p → (c : Clue) (side : ℕ) → Contains p.clues c → side < side_count p.board → side < length c.asks
 clue_sides p are c side has lt = let i = place_of p.clues c has in let long = are.sides i.0 c i.1 in omega (arith, long, lt)
 
+-- what a clue asks for is a colour
+pub clue_below : (p : Task) (cell side : ℕ) (asked : Option ℕ) → AreClues p → ((colour : ℕ) → asked ≡ Some colour → AsksByClue p.clues cell side colour) → IfSome asked (λ colour. colour < MOST_COLOURS)
+clue_below p cell side None are is = tt
+clue_below p cell side (Some colour) are is = are.colours cell side colour (is colour refl)
+
 -- The clues of a puzzle are those of each version and for all tiles.
 pub clues_alike : (board : Figure) (rules : Rules) (v w : ℕ) (ts us : List Tile) → AreClues (task_by board rules v ts) → AreClues (task_by board rules w us)
 clues_alike board rules v w ts us are = record {

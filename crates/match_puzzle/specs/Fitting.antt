@@ -2,7 +2,7 @@
 use Rattle.std.specs.Prelude.{◌≡◌, ◌⊎◌, ◌<◌, ◌≤◌, ◌+◌, ◌/◌, ◌%◌, ℕ, List, Option, IfSome, length}
 use Rattle.match_board.specs.Board.{cell_count, Meets}
 use Rattle.match_limits.specs.Listing.{IsListing, ByKey}
-use Rattle.match_puzzle.specs.Puzzle.{Task, colour_of, mate_of, GoTogether, IsLegal, HasRule}
+use Rattle.match_puzzle.specs.Puzzle.{Task, AllHaveToStand, colour_of, mate_of, GoTogether, IsLegal, HasRule}
 use Rattle.match_puzzle.specs.Prefix.{Prefix, Has, IsFree, IsUnused}
 use Rattle.match_puzzle.specs.declared.placements.Placement.{Placement}
 use Rattle.match_puzzle.specs.declared.placements.Pair.{Pair}
@@ -46,9 +46,19 @@ abbrev pub AreFitting : Task → Prefix → Item → List Pair → Type 0
 AreFitting p q item xs = IsListing (ByKey (item_key item)) (FitsItem p q item) xs
 
 -- The item is one of the puzzle, and not settled.
+abbrev pub IsUnsettled : Task → Prefix → Item → Type 0
+IsUnsettled p q (Cell cell) = IsFree q cell
+IsUnsettled p q (Tile tile) = (tile < length p.words) × IsUnused q tile
+
+-- Each arrangement settles the item: it is a cell, or a tile where each tile has to stand.
+abbrev pub HasToBeSettled : Task → Item → Type 0
+HasToBeSettled p (Cell cell) = Unit {0}
+HasToBeSettled p (Tile tile) = AllHaveToStand p
+
+-- The item is one of the puzzle, not settled, and each arrangement settles it.
 abbrev pub IsOpen : Task → Prefix → Item → Type 0
 IsOpen p q (Cell cell) = IsFree q cell
-IsOpen p q (Tile tile) = (tile < length p.words) × IsUnused q tile
+IsOpen p q (Tile tile) = (tile < length p.words) × IsUnused q tile × AllHaveToStand p
 
 -- A placement at the cell has to show the colour on the side: the border asks for it, or a neighbour shows its
 -- mate.

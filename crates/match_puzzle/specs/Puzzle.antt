@@ -1,7 +1,7 @@
 -- What a puzzle asks.
 use Rattle.std.specs.Prelude.{◌≡◌, ◌<◌, ◌≤◌, ◌⊎◌, ℕ, Bool, true, List, [], Some, MatchBool, All, map, max, length}
 use Rattle.std.specs.Prelude.{slice_get, slice_index_or}
-use Rattle.match_limits.specs.declared.TheConstants.{MOST_COLOURS}
+use Rattle.match_limits.specs.declared.TheConstants.{MOST_COLOURS, MOST_TILES}
 use Rattle.match_board.specs.Board.{cell_count, side_count, IsBoard, IsShape, IsBorderPair}
 use Rattle.match_board.specs.Board.{second_figure}
 use Rattle.match_board.specs.declared.figures.Figure.{Figure}
@@ -72,12 +72,22 @@ pub record AreClues (p : Task) : Type 0 where
   pub colours : (cell side colour : ℕ) → AsksByClue p.clues cell side colour → colour < MOST_COLOURS
   pub agree : (cell side colour other : ℕ) → HasRule p cell side colour → HasRule p cell side other → colour ≡ other
 
--- as many tiles as cells, with as many sides; triangles may be turned; colours that there are; a rule for each border
+-- at least as many tiles as cells, and no more than there are numbers for; before version 3 just as many
+pub record AreEnough (version cells tiles : ℕ) : Type 0 where
+  pub enough : cells ≤ tiles
+  pub few : tiles ≤ MOST_TILES
+  pub as_many : version < 3 → tiles ≡ cells
+
+-- Each tile has to stand: there are as many as cells.
+abbrev pub AllHaveToStand : Task → Type 0
+AllHaveToStand p = length p.words ≡ cell_count p.board
+
+-- enough tiles, with as many sides as a cell; triangles may be turned; colours that there are; a rule for each border
 -- pair; each colour the mate of its mate; clues in version 3 alone, and a shape from version 2 on
 pub record IsPuzzle (p : Task) : Type 0 where
   pub board : IsBoard p.board
   pub triangles : side_count p.board ≡ 3 → p.turns ≡ true
-  pub tiles : length p.words ≡ cell_count p.board
+  pub tiles : AreEnough p.mating.version (cell_count p.board) (length p.words)
   pub sides : (tile : ℕ) → tile < length p.words → length (word_of p tile) ≡ side_count p.board
   pub tile_colours : (tile : ℕ) → tile < length p.words → All (λ colour. colour < MOST_COLOURS) (word_of p tile)
   pub border_colours : (place colour : ℕ) → StandsInRule p.border place colour → colour < MOST_COLOURS

@@ -5,7 +5,7 @@ use Rattle.match_board.specs.Board.{cell_count, side_count, IsBorderPair}
 use Rattle.match_limits.specs.First.{Rank, rank_by, rank_by_two}
 use Rattle.match_board.specs.Mates.{BreaksMatesAt}
 use Rattle.match_board.specs.Clues.{Clue}
-use Rattle.match_puzzle.specs.Puzzle.{Task, word_of}
+use Rattle.match_puzzle.specs.Puzzle.{Task, AreEnough, word_of}
 use Rattle.match_board.specs.declared.figures.Figure.{Figure}
 use Rattle.match_board.specs.Borders.{BorderRule, Asks, StandsInRule, IsAsLongAsBorder}
 use Rattle.match_puzzle.specs.declared.faults.PuzzleFault.{PuzzleFault}
@@ -31,7 +31,7 @@ BreaksCluesAt p n =
 -- When a fault occurs; want of memory is none of the puzzle.
 abbrev pub PuzzleFails : Task → PuzzleFault → Type 0
 PuzzleFails p FixedTriangles = (side_count p.board ≡ 3) × (p.turns ≡ false)
-PuzzleFails p TileCount = length p.words ≢ cell_count p.board
+PuzzleFails p TileCount = AreEnough p.mating.version (cell_count p.board) (length p.words) → ⊥
 PuzzleFails p (TileSides tile) = (tile < length p.words) × (length (word_of p tile) ≢ side_count p.board)
 PuzzleFails p (BadColour place) = (colour : ℕ) × StandsInRule p.border place colour × (MOST_COLOURS ≤ colour)
 PuzzleFails p BorderLength = IsAsLongAsBorder p.board p.border → ⊥

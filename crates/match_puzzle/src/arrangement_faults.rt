@@ -51,9 +51,9 @@ impl Puzzle {
         ensures { MatchOption result (HaveTiles self.now placements.now)
             (IsLeast (HasNoTileAt self.now placements.now)) }
     {
-        let cells = self.board().cells();
-        for cell in 0..cells {
-            if placements[usize::from(cell)].tile >= cells {
+        let tiles = self.tile_count();
+        for cell in 0..self.board().cells() {
+            if placements[usize::from(cell)].tile >= tiles {
                 return Some(u32::from(cell));
             }
         }

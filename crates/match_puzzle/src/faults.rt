@@ -7,21 +7,21 @@ ghost use Rattle.match_puzzle.specs.declared.faults.PuzzleFault.TheVariants.{Mem
 use std::alloc::AllocError;
 use std::{error, fmt};
 
-/// Why there is no such puzzle, in the order in which it is looked for.
+/// Why these parts are no puzzle. Faults are looked for in the order in which they are listed here.
 #[derive(Clone, Copy, PartialEq, Eq, Debug)]
 pub enum PuzzleFault {
     /// Cells have three sides, and tiles may not be turned.
     FixedTriangles,
-    /// There are not as many tiles as cells.
+    /// The number of tiles isn't that of the cells; in version 3, there are fewer tiles than cells, or more than 256.
     TileCount,
-    /// The tile with this number does not have as many sides as a cell, and is the first such.
+    /// The tile with this number, from 0, hasn't as many sides as a cell has. It is the first such tile.
     TileSides(u32),
-    /// The border's rule at this place asks for 36 or more, and is the first such.
+    /// The border's rule at this place, from 0, asks for a colour of 36 or more. It is the first such place.
     BadColour(u32),
-    /// There are not as many rules in the border's list as border pairs.
+    /// The border's list hasn't as many rules as the board has outer sides.
     BorderLength,
-    /// The colour at this place has no mate in the list, or one with another mate, and is the first such; or the list
-    /// is longer than there are colours, and this is the place after the last.
+    /// The colour with this number is the first that has no mate in the list, or a mate that has another mate. Where
+    /// the list is longer than there are colours, this is the number of colours, 36.
     Mates(u32),
     /// The clue with this number, from 0, is the first whose cell isn't on the board or doesn't come after that of the
     /// clue before, that hasn't as many sides as a cell, or that asks for another colour than the border does.
@@ -56,7 +56,7 @@ impl From<AllocError> for PuzzleFault {
     }
 }
 
-/// Why a list of placements is no arrangement: the first kind that occurs, at its least place.
+/// Why a list of placements is no arrangement: the first kind of fault here that occurs, at the least cell.
 #[derive(Clone, Copy, PartialEq, Eq, Debug)]
 pub enum ArrangementFault {
     /// There are not as many placements as cells.
@@ -65,11 +65,11 @@ pub enum ArrangementFault {
     TileRange(u32),
     /// The tile at this cell may not be turned so.
     Turn(u32),
-    /// The tile at this cell stands at an earlier cell too.
+    /// The tile at this cell is at an earlier cell too.
     TileTwice(u32),
-    /// This side of this cell does not show what the border or a clue asks.
+    /// This side of this cell shows another colour than the border or a clue asks for.
     BorderBroken(u32, u32),
-    /// This side of this cell does not show the mate of what the side that it meets shows.
+    /// This side of this cell meets another side, and what it shows isn't the mate of what that side shows.
     EdgeBroken(u32, u32),
 }
 
@@ -90,7 +90,8 @@ impl fmt::Display for ArrangementFault {
 
 impl error::Error for ArrangementFault {}
 
-/// Why a list of pairs is no prefix: at the least place, the first kind that occurs there.
+/// Why a list of pairs is no prefix: the fault of the first pair that has one. Where it has several, the first kind
+/// here.
 #[derive(Clone, Copy, PartialEq, Eq, Debug)]
 pub enum PrefixFault {
     /// The pair at this place names no cell of the board, or none after the cell before it.

@@ -19,9 +19,9 @@ use match_limits::{FixedSet, MOST_TURNS, NumberSet};
 use std::alloc::{AllocError, Global};
 
 impl<'a> Partial<'a> {
-    /// All pairs that fit and settle the item, in the item's order. It takes no memory.
+    /// All pairs that fit and settle the item: for a cell by tile, for a tile by cell, and then by turn.
     ///
-    /// At a cell it costs a few words for each side, of a tile as much for each cell.
+    /// It takes no memory. For a cell it costs a few words for each side, for a tile as much for each cell.
     pub fn fitting(&self, item: Item) -> FittingPairs
         requires { IsItem self.now.puzzle item }
         ensures { AreFitting self.now.puzzle self.now.placed item result }
@@ -108,8 +108,8 @@ impl<'a> Partial<'a> {
 }
 
 impl Puzzle {
-    /// Whether the placement may be put at the cell: cell and tile are free, the placement is legal, and it shows
-    /// what the border asks and what matches its placed neighbours.
+    /// Whether the placement may be put at the cell: the cell and the tile are free, the placement is legal, and it
+    /// shows what the border and clues ask, and what matches the placed neighbours.
     pub fn fits(&self, partial: &Partial<'_>, cell: u16, placement: Placement) -> bool
         requires made { partial.now.puzzle ≡ self.now }
         requires cell { cell < cell_count self.now.board }

@@ -6,8 +6,8 @@ use crate::placements::{Pair, Placement};
 use match_limits::{MOST_CHILDREN, NumberSet, TURNS};
 use std::marker::Model;
 
-/// Pairs that settle one item, each of which can be placed: those that were not yet taken, in the item's order, at a
-/// cell by tile, then by turn, and of a tile by cell, then by turn. They are kept as bits and take no memory.
+/// The pairs that fit and settle one item, and that were not taken yet: for a cell by tile, for a tile by cell, and
+/// then by turn. They are kept as bits, in no memory of the heap.
 #[derive(Drop)]
 pub struct FittingPairs {
     item: Item,
@@ -37,10 +37,10 @@ impl FittingPairs {
         FittingPairs { item, numbers }
     }
 
-    /// Makes these all pairs that fit and settle the item, in the item's order. It takes no memory.
+    /// Replaces these by all pairs that fit and settle the item.
     ///
-    /// It costs what `Partial::fitting` does, which moves them to the caller: a walk that wants them at each node has
-    /// them put in their place.
+    /// It costs what `Partial::fitting` does, and writes the pairs where they are wanted, where that call moves them.
+    /// It takes no memory.
     pub fn refill(&mut self, partial: &Partial<'_>, item: Item)
         requires { IsItem partial.now.puzzle item }
         ensures { AreFitting partial.now.puzzle partial.now.placed item self.new }

@@ -4,8 +4,9 @@ ghost use Rattle.std.specs.Prelude.{◌≡◌, ◌<◌, ◌^◌};
 ghost use Rattle.match_puzzle.specs.Fitting.{IsNumberOf};
 ghost use Rattle.match_puzzle.specs.Fitting.{item_place};
 
-/// What each arrangement settles once: the tile of a cell, or the cell of a tile.
-/// These are the primary items of the exact cover (Knuth, TAOCP 4B, 7.2.2.1).
+/// What an arrangement settles at most once: which tile a cell has, or which cell a tile has.
+/// Where there are as many tiles as cells, these are the primary items of the exact cover (Knuth, TAOCP 4B, 7.2.2.1);
+/// where there are more, cells alone are primary.
 #[derive(Clone, Copy, PartialEq, Eq)]
 pub enum Item {
     /// The cell with this number is filled.
@@ -15,7 +16,8 @@ pub enum Item {
 }
 
 impl Item {
-    /// The number of an item where there are so many cells: a cell's own number, and a tile's behind the cells.
+    /// The number of an item on a board of this many cells: a cell's own number, and a tile's number plus the number of
+    /// cells.
     pub fn number(self, cells: u16) -> u32
         ensures { result ≡ item_place cells self }
     {
@@ -25,7 +27,7 @@ impl Item {
         }
     }
 
-    /// The item with this number, below 2^16, where there are so many cells.
+    /// The item with this number, below 2^16, on a board of this many cells.
     pub fn numbered(cells: u16, number: u32) -> Item
         requires { number < 2 ^ 16 }
         ensures { IsNumberOf cells number result }

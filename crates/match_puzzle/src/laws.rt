@@ -8,10 +8,11 @@ ghost use Rattle.match_puzzle.specs.Fitting.{Fits};
 ghost use Rattle.match_puzzle.specs.declared.placements.Placement.{Placement};
 
 /// Does nothing. Its promises are laws:
-/// - Where there are as many tiles as cells, an arrangement has each tile.
-/// - In a puzzle, whether colours go together is the same from either side. Without mates equal colours do.
-/// - A puzzle's second form, of version 2 or 3 with a shape in place of a rectangle, is a puzzle, has the same
-///   arrangements, and the same fits a prefix.
+/// - Where there are as many tiles as cells, an arrangement uses each tile.
+/// - In a puzzle, whether two colours go together doesn't depend on which is named first. Without mates, a colour goes
+///   with itself.
+/// - The second form of a puzzle (a shape in place of a rectangle) is a puzzle. It has the same arrangements, and what
+///   fits a prefix is the same.
 pub fn puzzle_laws()
     ensures placed { AllTilesArePlaced }
     ensures turned { (p : Task) (colour other : ℕ) → IsPuzzle p → GoTogether p colour other → GoTogether p other colour }

@@ -14,7 +14,7 @@ use match_limits::NumberSet;
 use std::alloc::{AllocError, Global};
 use std::marker::Model;
 
-/// Legal placements of different tiles at some cells of a puzzle. It borrows the puzzle that it is of.
+/// Some cells of a puzzle, filled with different tiles in legal placements. It borrows the puzzle.
 #[derive(Drop)]
 pub struct Partial<'a> {
     puzzle: &'a Puzzle,
@@ -45,7 +45,7 @@ impl<'a> Partial<'a> {
     ghost use Rattle.match_puzzle.specs.PrefixFaults.{IsPairList};
     ghost use Rattle.match_puzzle.specs.PlacementSets.{AreFreeNumbers};
 
-    /// Nothing is placed yet.
+    /// A board with nothing placed.
     pub fn new(alloc: Global, puzzle: &'a Puzzle) -> Result<Partial<'a>, AllocError>
         ensures empty { IfOk result (λ q. q ≡ record { puzzle = puzzle.now; placed = empty_prefix puzzle.now }) }
         ensures puzzle { IsPuzzle puzzle.now }
@@ -61,7 +61,7 @@ impl<'a> Partial<'a> {
         })
     }
 
-    /// Just these pairs are placed.
+    /// A board with these pairs placed, and no others.
     pub fn of(alloc: Global, puzzle: &'a Puzzle, pairs: &[Pair]) -> Result<Partial<'a>, AllocError>
         requires { IsPairList puzzle.now pairs.now }
         ensures pairs { IfOk result
@@ -73,7 +73,7 @@ impl<'a> Partial<'a> {
         Ok(partial)
     }
 
-    /// The same placements of the same puzzle.
+    /// A copy, of the same puzzle.
     pub fn copy(&self, alloc: Global) -> Result<Partial<'a>, AllocError>
         ensures { IfOk result (λ q. q ≡ self.now) }
     {
@@ -87,7 +87,7 @@ impl<'a> Partial<'a> {
         })
     }
 
-    /// The puzzle that it is of.
+    /// The puzzle.
     pub fn puzzle(&self) -> &'a Puzzle
         ensures same { result.now ≡ self.now.puzzle }
         ensures puzzle { IsPuzzle self.now.puzzle }
@@ -96,7 +96,7 @@ impl<'a> Partial<'a> {
         self.puzzle
     }
 
-    /// The legal placements of tiles that are not placed, by number.
+    /// The legal placements of tiles that are not placed yet: 4 times the tile's number, plus the turn.
     pub fn free(&self) -> &NumberSet
         ensures { AreFreeNumbers self.now.puzzle self.now.placed result.now }
     {
@@ -113,7 +113,7 @@ impl<'a> Partial<'a> {
         self.asks[self.puzzle.asked_at(cell, side)]
     }
 
-    /// What stands at the cell.
+    /// The placement at the cell, if it is filled.
     pub fn at(&self, cell: u16) -> Option<Placement>
         requires { cell < cell_count self.now.puzzle.board }
         ensures value { slice_get self.now.placed cell ≡ Some result }
@@ -123,7 +123,7 @@ impl<'a> Partial<'a> {
         self.placed[usize::from(cell)]
     }
 
-    /// Whether the tile stands at a cell.
+    /// Whether the tile is placed.
     pub fn used(&self, tile: u16) -> bool
         requires { tile < length self.now.puzzle.words }
         ensures used { MatchBool result (IsUsed self.now.placed tile) (IsUnused self.now.placed tile) }
@@ -132,7 +132,7 @@ impl<'a> Partial<'a> {
         self.free.group(tile) == 0
     }
 
-    /// Whether no cell is empty.
+    /// Whether each cell is filled.
     pub fn is_whole(&self) -> bool
         ensures { MatchBool result ((cell : ℕ) → IsFree self.now.placed cell → ⊥)
             ((cell : ℕ) × IsFree self.now.placed cell) }
@@ -140,21 +140,21 @@ impl<'a> Partial<'a> {
         is_filled(&self.placed)
     }
 
-    /// Whether just these placements stand, one at each cell, in order.
+    /// Whether each cell is filled, and with these placements, by the cell's number.
     pub fn equals(&self, placements: &[Placement]) -> bool
         ensures { IsTrue result ↔ (self.now.placed ≡ map Some placements.now) }
     {
         is_all(&self.placed, placements)
     }
 
-    /// Whether each of these pairs stands here.
+    /// Whether each of these pairs is placed.
     pub fn holds(&self, pairs: &[Pair]) -> bool
         ensures { IsTrue result ↔ IsWithin pairs.now self.now.placed }
     {
         has_all(&self.placed, pairs)
     }
 
-    /// Puts a tile into place.
+    /// Places a tile at a cell.
     pub fn place(&mut self, cell: u16, placement: Placement)
         requires legal { IsLegal self.old.puzzle placement }
         requires free { IsFree self.old.placed cell }
@@ -170,7 +170,7 @@ impl<'a> Partial<'a> {
         );
     }
 
-    /// Takes the tile at the cell away.
+    /// Empties the cell.
     pub fn lift(&mut self, cell: u16)
         requires { (x : Placement) × Has self.old.placed cell x }
         ensures { self.new ≡ record { puzzle = self.old.puzzle; placed = without_cell self.old.placed cell } }
@@ -188,7 +188,7 @@ impl<'a> Partial<'a> {
     ghost use Rattle.match_puzzle.specs.Prefix.{Layout, empty_prefix, with_pairs};
     ghost use Rattle.match_puzzle.specs.PrefixFaults.{IsPairList};
 
-    /// Puts these pairs into place, where nothing is placed yet.
+    /// Places these pairs on an empty board.
     pub fn place_all(&mut self, pairs: &[Pair])
         requires pairs { IsPairList self.old.puzzle pairs.now }
         requires empty { self.old.placed ≡ empty_prefix self.old.puzzle }
@@ -203,7 +203,7 @@ impl<'a> Partial<'a> {
         }
     }
 
-    /// Takes these pairs away, where just they are placed.
+    /// Takes these pairs away, where no others are placed.
     pub fn lift_all(&mut self, pairs: &[Pair])
         requires pairs { IsPairList self.old.puzzle pairs.now }
         requires placed { self.old.placed ≡ with_pairs pairs.now (empty_prefix self.old.puzzle) }

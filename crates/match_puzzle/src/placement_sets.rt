@@ -19,8 +19,8 @@ use std::alloc::{AllocError, Global};
 pub(crate) struct PlacementSets {
     /// Those that are legal.
     pub(crate) legal: NumberSet,
-    /// For each colour, for `ANY_COLOUR` and for `NO_COLOUR`, and each of four sides, those that show it there: of colour c
-    /// on side k at 4 c + k.
+    /// For each colour, for `ANY_COLOUR` and for `NO_COLOUR`, and each of four sides, those that show it there: of
+    /// colour c on side k at 4 c + k.
     pub(crate) showing: Vec<FixedSet>,
     /// What each placement shows, by number: the colour on each side, and `ANY_COLOUR` on a fourth that isn't there.
     pub(crate) shown: Vec<[u8; SIDES]>,
@@ -28,10 +28,10 @@ pub(crate) struct PlacementSets {
     pub(crate) asked: Vec<[u8; SIDES]>,
 }
 
-/// What stands for no colour in particular, where a colour is asked.
+/// Written where a colour could be asked for and none is: each colour will do.
 pub const ANY_COLOUR: u8 = MOST_COLOURS;
 
-/// What stands for two colours at once, where a colour is asked: nothing shows it.
+/// Written where two colours are asked for at once: no colour will do.
 pub const NO_COLOUR: u8 = ANY_COLOUR + 1;
 
 // What each placement shows, by number.

@@ -4,7 +4,7 @@ ghost use Rattle.match_puzzle.specs.Equality as equality;
 
 use std::hash::{Hash, Hasher};
 
-/// A tile of the puzzle, and how often it is turned.
+/// A tile of the puzzle, by its number from 0, and how often it's turned, from 0 on.
 #[derive(Clone, Copy, PartialEq, Eq, PartialOrd, Ord, Debug)]
 pub struct Placement {
     pub tile: u16,
@@ -22,7 +22,7 @@ impl Hash for Placement {
     }
 }
 
-/// A placement at a cell.
+/// A placement at a cell, which is numbered from 0.
 #[derive(Clone, Copy, PartialEq, Eq, Debug)]
 pub struct Pair {
     pub cell: u16,

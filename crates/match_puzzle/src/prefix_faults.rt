@@ -9,8 +9,8 @@ use crate::puzzles::Puzzle;
 use match_limits::MOST_TILES;
 
 impl Puzzle {
-    /// The first fault of a list of pairs, at its least place, or none where it is a prefix with cells rising.
-    /// Matching edges are not asked. It is one pass and takes no memory.
+    /// The first fault of a list of pairs: `None` where cells rise, tiles differ, and each placement is legal. Edges
+    /// needn't match. It is one pass, and takes no memory.
     pub fn prefix_fault(&self, pairs: &[Pair]) -> Option<PrefixFault>
         ensures { MatchOption result (IsPairList self.now pairs.now) (IsPrefixFault self.now pairs.now) }
     {
@@ -32,11 +32,10 @@ impl Puzzle {
         requires { length seen.now ≡ MOST_TILES }
         ensures { TellsOfPair self.now place pair least seen.now result }
     {
-        let cells = self.board().cells();
-        if pair.cell < least || pair.cell >= cells {
+        if pair.cell < least || pair.cell >= self.board().cells() {
             return Some(PrefixFault::Cell(place));
         }
-        if pair.placement.tile >= cells || seen[usize::from(pair.placement.tile)] {
+        if pair.placement.tile >= self.tile_count() || seen[usize::from(pair.placement.tile)] {
             return Some(PrefixFault::Tile(place));
         }
         if !self.legal(pair.placement) {

@@ -1,28 +1,32 @@
 //! A puzzle: a board, tiles, and what is asked of them.
 
 ghost use Rattle.std.specs.Prelude.{◌≡◌, ◌≢◌, ◌⊎◌, ◌<◌, ◌≤◌, ◌↔◌, ◌^◌, ℕ, IfOk, IfErr, IsErrOf, IfSome, IsTrue, MatchOption};
+ghost use Rattle.std.specs.Prelude.{MatchBool};
 ghost use Rattle.std.specs.Prelude.{Some, length, map, [], slice_index};
-ghost use Rattle.match_board.specs.Board.{cell_count, side_count, IsShape, Meets};
+ghost use Rattle.match_board.specs.Board.{cell_count, side_count, IsBoard, IsShape, Meets};
 ghost use Rattle.match_limits.specs.First.{IsFirst};
 ghost use Rattle.match_board.specs.Mates.{IsOfVersion, mating_of, mated};
 ghost use Rattle.match_puzzle.specs.Puzzle.{Task, task_of, task_by, mating_for, second_form_of, IsPuzzle};
+ghost use Rattle.match_puzzle.specs.Puzzle.{AreEnough, AllHaveToStand};
 ghost use Rattle.match_board.specs.Borders.{rule_of, IsShortRule};
 ghost use Rattle.match_puzzle.specs.PuzzleFaults.{PuzzleFails, puzzle_rank};
 
 use crate::asking::{both_asked, four_from};
 use crate::clue_faults::broken_clue;
+use crate::clue_rules::asked_by_clue;
 use crate::faults::PuzzleFault;
 use crate::placement_sets::{ANY_COLOUR, NO_COLOUR};
 use crate::placements::Placement;
 use crate::rules::Rules;
 use crate::tables::{FIRST_PLACE, Side, Tables, odd_tile};
 use match_board::{Board, Border, Clue, Figure, Tile, broken_mate, mate_in};
-use match_limits::{FixedSet, MOST_COLOURS, NumberSet, SIDES, TURNS};
+use match_limits::{FixedSet, MOST_COLOURS, MOST_TILES, NumberSet, SIDES, TURNS};
 use std::alloc::{AllocError, Global};
 use std::marker::Model;
 
-/// A board to be filled with tiles, each once, so that of two sides that meet the one shows the mate of what the other
-/// shows, and the border is as asked. In version 1 each colour is its own mate.
+/// A board to be filled with different tiles, so that of two sides that meet one shows the mate of what the other
+/// shows, and the border and clues get the colours that they ask for. In version 1 each colour is its own mate. Before
+/// version 3 there are as many tiles as cells; in version 3 some may be left over.
 #[derive(Drop)]
 pub struct Puzzle {
     board: Board,
@@ -54,7 +58,7 @@ impl Model for Puzzle {
 impl Puzzle {
     ghost use Rattle.match_board.specs.Tile.{word};
     ghost use Rattle.match_board.specs.Mates.{AreMates};
-    ghost use Rattle.match_board.specs.Clues.{clue_of};
+    ghost use Rattle.match_board.specs.Clues.{clue_of, AsksByClue};
     ghost use Rattle.match_puzzle.specs.Puzzle.{IsLegal, HasRule, colour_of, mate_of, word_of};
     ghost use Rattle.match_puzzle.specs.Colours.{IsColourCount};
     ghost use Rattle.match_puzzle.specs.Tables.{IsSide, IsAskedAt, IsTurnCount};
@@ -63,8 +67,8 @@ impl Puzzle {
     ghost use Rattle.match_puzzle.specs.Prefix.{empty_prefix};
     ghost use Rattle.match_puzzle.specs.Partials.{AreAsking};
 
-    /// The puzzle of this board and these tiles, where tiles may be turned or not: of version 1, or of version 2 with
-    /// no mates where the board is a shape.
+    /// The puzzle of this board and these tiles, without mates and clues. It is of version 1, or of version 2 where the
+    /// board is a shape.
     ///
     /// An `Err` is the first fault in the order of [`PuzzleFault`], with its least tile or place; `Memory` comes last.
     pub fn new(
@@ -96,7 +100,7 @@ impl Puzzle {
         Puzzle::make(alloc, board, &rules, version, tiles)
     }
 
-    /// The puzzle of version 2 of this board and these tiles, where colours have the mates of this list.
+    /// The puzzle of version 2 of this board and these tiles, where entry i of the list is the mate of colour i.
     ///
     /// An `Err` is the first fault in the order of [`PuzzleFault`], with its least tile or place; `Memory` comes last.
     pub fn with_mates(
@@ -126,7 +130,8 @@ impl Puzzle {
         Puzzle::make(alloc, board, &rules, 2, tiles)
     }
 
-    /// The puzzle of version 3 of this board, these rules and these tiles.
+    /// The puzzle of version 3 of this board, these rules and these tiles: with clues, and as many tiles as cells or
+    /// more.
     ///
     /// An `Err` is the first fault in the order of [`PuzzleFault`], with its least tile or place; `Memory` comes last.
     pub fn with_clues(
@@ -147,9 +152,8 @@ impl Puzzle {
         Puzzle::make(alloc, board, rules, 3, tiles)
     }
 
-    /// The puzzle with the same turns, border, mates, clues and tiles, and a rectangle as the shape with all of its
-    /// cells, of version 3 where the puzzle is, and else of version 2. It has the same arrangements. An `Err` comes
-    /// where memory runs out.
+    /// A copy in which a rectangle is written as the shape that has all its cells. It is of version 3 where the puzzle
+    /// is, else of version 2. It has the same arrangements. An `Err` comes where memory runs out.
     pub fn second_form(&self, alloc: Global) -> Result<Puzzle, AllocError>
         ensures form { IfOk result (λ p. (p ≡ second_form_of self.now) × IsPuzzle p) }
         ensures puzzle { IsPuzzle self.now }
@@ -242,7 +246,8 @@ impl Puzzle {
         &self.border
     }
 
-    /// 1, or 2 where colours have mates by a list or the board is a shape, or 3 where there may be clues.
+    /// The version of the format: 1; 2 where there is a list of mates or the board is a shape; 3 where there may be
+    /// clues, and more tiles than cells.
     pub fn version(&self) -> u8
         ensures version { result ≡ self.now.mating.version }
         ensures three { IsOfVersion self.now.mating }
@@ -250,7 +255,7 @@ impl Puzzle {
         self.version
     }
 
-    /// The list of mates: entry i is the mate of colour i, and a colour past the end is its own mate.
+    /// The list of mates. Entry i is the mate of colour i; a colour past the end is its own mate.
     pub fn mates(&self) -> &[u8]
         ensures list { result.now ≡ self.now.mating.mates }
         ensures mates { AreMates result.now }
@@ -258,12 +263,21 @@ impl Puzzle {
         self.mates.as_slice()
     }
 
-    /// The clues, by their cells.
+    /// The clues, in the order of their cells.
     pub fn clues(&self) -> &[Clue]
         ensures clues { map clue_of result.now ≡ self.now.clues }
         ensures puzzle { IsPuzzle self.now }
     {
         self.clues.as_slice()
+    }
+
+    /// The colour that a clue asks for at a side, if one does.
+    pub fn clue_colour(&self, cell: u16, side: u8) -> Option<u8>
+        requires { side < side_count self.now.board }
+        ensures rule { (colour : ℕ) → (result ≡ Some colour) ↔ AsksByClue self.now.clues cell side colour }
+        ensures below { IfSome result (λ colour. colour < MOST_COLOURS) }
+    {
+        asked_by_clue(self.clues(), cell, side)
     }
 
     /// The mate of a colour.
@@ -283,14 +297,32 @@ impl Puzzle {
         self.tiles.as_slice()
     }
 
-    /// One more than the greatest colour on a tile, in the border's rule, in the list of mates or in a clue.
+    /// How many tiles there are.
+    pub fn tile_count(&self) -> u16
+        ensures count { result ≡ length self.now.words }
+        ensures few { result ≤ MOST_TILES }
+        ensures puzzle { IsPuzzle self.now }
+    {
+        self.tiles.len() as u16
+    }
+
+    /// Whether each tile has to stand: there are as many as cells.
+    pub fn have_all_to_stand(&self) -> bool
+        ensures all { MatchBool result (AllHaveToStand self.now) (AllHaveToStand self.now → ⊥) }
+        ensures puzzle { IsPuzzle self.now }
+    {
+        self.tile_count() == self.board().cells()
+    }
+
+    /// One more than the greatest colour that occurs on a tile, in the border's rule, in the list of mates or in a
+    /// clue.
     pub fn colours(&self) -> u8
         ensures { IsColourCount self.now result }
     {
         self.tables.colours
     }
 
-    /// What the border or a clue asks of a side of a cell: a colour, or nothing.
+    /// The colour that the border or a clue asks for at a side of a cell, if one does.
     pub fn rule(&self, cell: u16, side: u8) -> Option<u8>
         requires cell { cell < cell_count self.now.board }
         requires side { side < side_count self.now.board }
@@ -299,9 +331,9 @@ impl Puzzle {
         self.side(cell, side).rule()
     }
 
-    /// What the side of the cell meets: another cell and its side, or nothing at the border.
+    /// The cell and the side that this side of the cell meets; `None` at the border.
     ///
-    /// It is a look-up, where the board's own call goes through the rows.
+    /// It looks into a table, where the board's own call goes through the rows.
     pub fn meets(&self, cell: u16, side: u8) -> Option<(u16, u8)>
         requires cell { cell < cell_count self.now.board }
         requires side { side < side_count self.now.board }
@@ -314,7 +346,7 @@ impl Puzzle {
         }
     }
 
-    /// Whether the tile is one of the puzzle's, and may be turned so.
+    /// Whether the tile is one of the puzzle's, and may be turned this often.
     pub fn legal(&self, placement: Placement) -> bool
         ensures { IsTrue result ↔ IsLegal self.now placement }
     {
@@ -331,7 +363,8 @@ impl Puzzle {
         self.tables.sides[usize::from(cell)].sides[usize::from(side)]
     }
 
-    // Where in a table of what cells ask the colour stands that is asked of the side; none, where there is no such side.
+    // Where in a table of what cells ask the colour stands that is asked of the side; none, where there is no such
+    // side.
     pub(crate) fn asked_at(&self, cell: u16, side: u8) -> usize
         requires cell { cell < cell_count self.now.board }
         requires side { side < 4 }
@@ -348,7 +381,7 @@ impl Puzzle {
         self.tables.turn_counts[usize::from(tile)]
     }
 
-    /// The legal placements, by number.
+    /// The legal placements: 4 times the tile's number, plus the turn.
     pub fn legal_numbers(&self) -> &NumberSet
         ensures legal { AreLegalNumbers self.now result.now }
         ensures unturned { AreUnturnedLegal self.now }
@@ -356,7 +389,7 @@ impl Puzzle {
         &self.tables.sets.legal
     }
 
-    /// The placements that show on the side what is asked, by number.
+    /// The placements that show on the side what is asked: 4 times the tile's number, plus the turn.
     pub fn showing(&self, asked: u8, side: u8) -> &FixedSet
         requires asked { asked ≤ NO_COLOUR }
         requires side { side < 4 }
@@ -404,8 +437,8 @@ impl Puzzle {
         four_from(&self.tables.asks, FIRST_PLACE + SIDES * usize::from(cell))
     }
 
-    // What is asked of those that meet the placement's sides at the cell: the mate of the colour that it shows there, and
-    // of none that there is where a clue asks for another.
+    // What is asked of those that meet the placement's sides at the cell: the mate of the colour that it shows there,
+    // and of none that there is where a clue asks for another.
     pub(crate) fn asked_beside(&self, cell: u16, placement: Placement) -> [u8; SIDES]
         requires cell { cell < cell_count self.now.board }
         requires legal { IsLegal self.now placement }
@@ -420,7 +453,7 @@ impl Puzzle {
         both_asked(self.asked_beside_empty(cell), placed)
     }
 
-    /// The colour that a placed tile shows on a side.
+    /// The colour that a tile shows on a side when it is placed so.
     #[tactic(auto, unfolding(crate::specs::Puzzle::colour_of))]
     pub fn colour(&self, placement: Placement, side: u8) -> u8
         requires tile { placement.tile < length self.now.words }
@@ -462,7 +495,7 @@ fn puzzle_fault(
     if board.sides() == 3 && !rules.turns {
         return Some(PuzzleFault::FixedTriangles);
     }
-    if tiles.len() != usize::from(board.cells()) {
+    if !are_enough(board, version, tiles) {
         return Some(PuzzleFault::TileCount);
     }
     if let Some(tile) = odd_tile(board, tiles) {
@@ -481,4 +514,18 @@ fn puzzle_fault(
         return Some(PuzzleFault::Clue(number));
     }
     None
+}
+
+// Whether there are as many tiles as cells; in version 3 at least as many, and no more than there are numbers for.
+fn are_enough(board: &Board, version: u8, tiles: &[Tile]) -> bool
+    ensures enough { MatchBool result (AreEnough version (cell_count board.now) (length tiles.now))
+        (AreEnough version (cell_count board.now) (length tiles.now) → ⊥) }
+    ensures board { IsBoard board.now }
+{
+    let cells = usize::from(board.cells());
+    if version < 3 {
+        tiles.len() == cells
+    } else {
+        cells <= tiles.len() && tiles.len() <= usize::from(MOST_TILES)
+    }
 }

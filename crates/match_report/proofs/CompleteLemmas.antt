@@ -40,7 +40,7 @@ row_within p a puzzle is = (
   omega (arith, is.cells, puzzle.board.most),
   all_by_place (IsPlacementWithin SECOND) a (λ cell x at.
       let legal = is.legal cell x at in
-      (omega (arith, legal.tile, puzzle.tiles, puzzle.board.most), omega (arith, small_turn p x puzzle legal))),
+      (let few = puzzle.tiles.few in omega (arith, legal.tile, few), omega (arith, small_turn p x puzzle legal))),
 )
 
 -- arrangements that are few enough have a spelling

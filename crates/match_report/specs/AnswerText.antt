@@ -22,6 +22,7 @@ symmetry_fault_words fault = symmetry_fault_text fault ∷ []
 unfoldable pub node_fault_words : NodeFault → List (List ℕ)
 node_fault_words nodes.CellRange = codes "cell-range" ∷ []
 node_fault_words nodes.CellTaken = codes "cell-taken" ∷ []
+node_fault_words nodes.TileSpare = codes "tile-spare" ∷ []
 node_fault_words nodes.TileRange = codes "tile-range" ∷ []
 node_fault_words nodes.TileTaken = codes "tile-taken" ∷ []
 node_fault_words (nodes.WrongCount fits children) = codes "wrong-count" ∷ decimal fits ∷ decimal children ∷ []

@@ -40,6 +40,7 @@ fn put_node_fault(line: &mut Line, fault: &NodeFault) -> Result<(), AllocError>
     match *fault {
         NodeFault::CellRange => line.word(b"cell-range"),
         NodeFault::CellTaken => line.word(b"cell-taken"),
+        NodeFault::TileSpare => line.word(b"tile-spare"),
         NodeFault::TileRange => line.word(b"tile-range"),
         NodeFault::TileTaken => line.word(b"tile-taken"),
         NodeFault::WrongCount { fits, children } => {

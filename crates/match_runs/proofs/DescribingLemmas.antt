@@ -1,11 +1,12 @@
 -- Symmetries of a puzzle have a spelling.
-use Rattle.std.proofs.Common.{◌<◌, ℕ, suc, List, [], ◌∷◌, All, length, arith, subst}
+use Rattle.std.proofs.Common.{◌<◌, ◌≤◌, ℕ, suc, List, [], ◌∷◌, All, length, arith}
 use Rattle.std.specs.Prelude.{slice_index}
 use Rattle.std.specs.List.{AllByRecursion}
 use Rattle.std.proofs.lemmas.List.Elements.{recursion_from_All}
 use Rattle.match_board.specs.Board.{cell_count}
 use Rattle.match_puzzle.specs.Puzzle.{IsPuzzle, Task}
 use Rattle.match_puzzle.proofs.Words.{few_sides}
+use Rattle.match_limits.specs.declared.TheConstants.{MOST_CELLS}
 use Rattle.match_limits.specs.declared.ranges.TheConstants.{SECOND}
 use Rattle.match_symmetry.specs.Suggestions.{HasLeastShift}
 use Rattle.puzzle_symmetry.specs.Symmetry.{IsPermutation, IsSymmetry}
@@ -19,9 +20,8 @@ each_at P [] at = tt
 each_at P (image ∷ images) at = (at 0 (omega arith), each_at P images (λ i lt. at (suc i) (omega (arith, lt))))
 
 module _ (p : Task) (puzzle : IsPuzzle p) where
-  images_within : (images : List ℕ) → IsPermutation (cell_count p.board) images → AreImagesWithin SECOND images
-  images_within images is =
-      let most = puzzle.board.most in
+  images_within : (count : ℕ) → count ≤ MOST_CELLS → (images : List ℕ) → IsPermutation count images → AreImagesWithin SECOND images
+  images_within count most images is =
       (omega (arith, is.long, most), each_at _ images (λ i lt. let below = is.below i (omega (arith, lt, is.long)) in omega (arith, below, most)))
 
   symmetry_within : (g : SymmetryLine) → IsSymmetry p g → HasLeastShift p g → IsSymmetryWithin SECOND g
@@ -30,9 +30,9 @@ module _ (p : Task) (puzzle : IsPuzzle p) where
       let long = symmetry.colours.long in
       record {
         shift = omega (arith, least, few_sides p.board);
-        cells = images_within g.cells symmetry.cells;
+        cells = images_within (cell_count p.board) puzzle.board.most g.cells symmetry.cells;
         colours = (omega (arith, long, few), each_at _ g.colours (λ i lt. let below = symmetry.colours.below i (omega (arith, lt, long)) in omega (arith, below, few)));
-        tiles = images_within g.tiles (subst (λ n. IsPermutation n g.tiles) puzzle.tiles symmetry.tiles);
+        tiles = images_within (length p.words) puzzle.tiles.few g.tiles symmetry.tiles;
       }
 
   -- each line is within the limits of version 2

@@ -23,10 +23,10 @@ abbrev pub FitsIn : ℕ → Option ℕ → Type 0
 FitsIn digits None = Unit {0}
 FitsIn digits (Some number) = length (decimal number) ≤ digits
 
--- The numbers of the face have at most so many digits.
-pub record FaceFits (digits : ℕ) (face : Face) : Type 0 where
-  pub cell : length (decimal face.cell) ≤ digits
-  pub tile : FitsIn digits face.tile
+-- The numbers of the face's cell and of its tile have at most so many digits.
+pub record FaceFits (cell_digits tile_digits : ℕ) (face : Face) : Type 0 where
+  pub cell : length (decimal face.cell) ≤ cell_digits
+  pub tile : FitsIn tile_digits face.tile
 
 pub length-padded : (digits : ℕ) (number : Option ℕ) → FitsIn digits number → length (padded digits number) ≡ digits
 length-padded digits None fits = length-replicate {A = ℕ} digits 32
@@ -77,7 +77,7 @@ fenced_at sign width before (p ∷ pieces) (suc place) piece wide at =
 
 -- ---- squares
 
-pub length-square_part : (digits : ℕ) (part : Part) (face : Face) → FaceFits digits face → length (square_part digits part face) ≡ inside_width digits
+pub length-square_part : (digits : ℕ) (part : Part) (face : Face) → FaceFits digits digits face → length (square_part digits part face) ≡ inside_width digits
 length-square_part digits Top face fits =
     omega (arith, length-append (padded digits (Some face.cell)) (star face.marked ∷ 32 ∷ slice_index face.signs 0 ∷ spaces 3), length-padded digits (Some face.cell) fits.cell)
 length-square_part digits Middle face fits =
@@ -86,8 +86,9 @@ length-square_part digits Bottom face fits =
     omega (arith, length-append (spaces (digits + 2)) (slice_index face.signs 2 ∷ spaces 3), length-replicate {A = ℕ} (digits + 2) 32)
 
 -- Each face of the row fits.
-abbrev pub AreFitting : ℕ → List (Option Face) → Type 0
-AreFitting digits places = (k : ℕ) (face : Face) → slice_get places k ≡ Some (Some face) → FaceFits digits face
+abbrev pub AreFitting : (cell_digits tile_digits : ℕ) → List (Option Face) → Type 0
+AreFitting cell_digits tile_digits places =
+    (k : ℕ) (face : Face) → slice_get places k ≡ Some (Some face) → FaceFits cell_digits tile_digits face
 
 -- what a piece is made of
 mapped_from : {X Y : Type 0} (f : X → Y) (xs : List (Option X)) (k : ℕ) (y : Y) → slice_get (map (option_map f) xs) k ≡ Some (Some y) → (x : X) × (slice_get xs k ≡ Some (Some x)) × (f x ≡ y)
@@ -96,7 +97,7 @@ mapped_from f (None ∷ xs) zero y at = absurd (none_some (inside at))
 mapped_from f (Some x ∷ xs) zero y at = (x, refl, inside (inside at))
 mapped_from f (x ∷ xs) (suc k) y at = mapped_from f xs k y at
 
-part_at : (digits : ℕ) (part : Part) (places : List (Option Face)) (place : ℕ) (face : Face) → AreFitting digits places → slice_get places place ≡ Some (Some face) → Splits (part_line digits part places) ((digits + 7) * place + 1) (square_part digits part face)
+part_at : (digits : ℕ) (part : Part) (places : List (Option Face)) (place : ℕ) (face : Face) → AreFitting digits digits places → slice_get places place ≡ Some (Some face) → Splits (part_line digits part places) ((digits + 7) * place + 1) (square_part digits part face)
 part_at digits part places place face fit at =
     let width : inside_width digits + 1 ≡ digits + 7 = omega arith in
     let there = slice_get-map (option_map (square_part digits part)) places place ∙ ap (option_map (option_map (square_part digits part))) at in
@@ -132,7 +133,7 @@ part_line_at digits columns above (here ∷ rows) (suc row) places at =
     let three : 4 * suc row + 3 ≡ suc (suc (suc (suc (4 * row + 3)))) = omega arith in
     (ap (slice_get lines) one ∙ next.0, ap (slice_get lines) two ∙ next.1, ap (slice_get lines) three ∙ next.2)
 
-pub square_at : (digits columns : ℕ) (rows : List (List (Option Face))) (row place : ℕ) (places : List (Option Face)) (face : Face) → AreFitting digits places → slice_get rows row ≡ Some places → slice_get places place ≡ Some (Some face) → HasSquare (square_lines digits columns [] rows) digits row place face
+pub square_at : (digits columns : ℕ) (rows : List (List (Option Face))) (row place : ℕ) (places : List (Option Face)) (face : Face) → AreFitting digits digits places → slice_get rows row ≡ Some places → slice_get places place ≡ Some (Some face) → HasSquare (square_lines digits columns [] rows) digits row place face
 square_at digits columns rows row place places face fit row_at at =
     let lines = part_line_at digits columns [] rows row places row_at in
     record {
@@ -143,15 +144,15 @@ square_at digits columns rows row place places face fit row_at at =
 
 -- ---- triangles
 
-pub length-triangle_part : (up : Bool) (level : Level) (face : Face) → FaceFits 2 face → length (triangle_part up level face) + 2 * above_base level ≡ 8
+pub length-triangle_part : (up : Bool) (level : Level) (face : Face) → FaceFits 2 3 face → length (triangle_part up level face) + 2 * above_base level ≡ 8
 length-triangle_part up Tip face fits = refl
 length-triangle_part up Blank face fits = refl
 length-triangle_part up Number face fits =
     omega (arith, length-append (32 ∷ padded 2 (Some face.cell)) (star face.marked ∷ []), length-padded 2 (Some face.cell) fits.cell)
 length-triangle_part true Tile face fits =
-    omega (arith, length-append (slice_index face.signs 2 ∷ 32 ∷ padded 2 face.tile) (32 ∷ slice_index face.signs 0 ∷ []), length-padded 2 face.tile fits.tile)
+    omega (arith, length-append (slice_index face.signs 2 ∷ padded 3 face.tile) (32 ∷ slice_index face.signs 0 ∷ []), length-padded 3 face.tile fits.tile)
 length-triangle_part false Tile face fits =
-    omega (arith, length-append (slice_index face.signs 0 ∷ 32 ∷ padded 2 face.tile) (32 ∷ slice_index face.signs 2 ∷ []), length-padded 2 face.tile fits.tile)
+    omega (arith, length-append (slice_index face.signs 0 ∷ padded 3 face.tile) (32 ∷ slice_index face.signs 2 ∷ []), length-padded 3 face.tile fits.tile)
 length-triangle_part true Base face fits = refl
 length-triangle_part false Base face fits = refl
 
@@ -172,7 +173,7 @@ levels_add false Base = refl
 abbrev pub AreThere : List (Option Face) → Type 0
 AreThere places = (k : ℕ) → slice_get places k ≡ Some None → ⊥
 
-crossed_at : (level : Level) (up : Bool) (places : List (Option Face)) (place : ℕ) (face : Face) → AreThere places → AreFitting 2 places → slice_get places place ≡ Some (Some face)
+crossed_at : (level : Level) (up : Bool) (places : List (Option Face)) (place : ℕ) (face : Face) → AreThere places → AreFitting 2 3 places → slice_get places place ≡ Some (Some face)
     → (column : ℕ) × Splits (crossed level up places) column (triangle_part (points_up up place) (own_level (points_up up place) level) face)
     × (column + above_base (own_level up level) ≡ 5 * place + above_base (own_level (points_up up place) level) + 1)
 crossed_at level up [] place face there fit at = absurd (none_some at)
@@ -195,7 +196,7 @@ crossed_at level up (Some f ∷ places) (suc place) face there fit at =
     let piece = crossed_piece level up (Some f) in
     (length piece + rest.0, splits_later piece (crossed level (not up) places) rest.0 (length piece + rest.0) _ refl rest.1, omega (arith, long, levels, rest.2))
 
-level_at : (size row : ℕ) (level : Level) (places : List (Option Face)) (place : ℕ) (face : Face) → AreThere places → AreFitting 2 places → slice_get places place ≡ Some (Some face)
+level_at : (size row : ℕ) (level : Level) (places : List (Option Face)) (place : ℕ) (face : Face) → AreThere places → AreFitting 2 3 places → slice_get places place ≡ Some (Some face)
     → Splits (level_line size row level places) (5 * (rows_in size row + place) + above_base (own_level (points_up (nat_lt row size) place) level) + 1) (triangle_part (points_up (nat_lt row size) place) (own_level (points_up (nat_lt row size) place) level) face)
 level_at size row level places place face there fit at =
     let up = nat_lt row size in
@@ -224,7 +225,7 @@ level_line_at size first (here ∷ rows) (suc row) level places at =
     let same : first + 1 + row ≡ first + suc row = omega arith in
     ap (slice_get lines) line ∙ level_line_at size (first + 1) rows row level places at ∙ ap (λ n. Some (level_line size n level places)) same
 
-pub triangle_at : (size : ℕ) (rows : List (List (Option Face))) (row place : ℕ) (places : List (Option Face)) (face : Face) → AreThere places → AreFitting 2 places → slice_get rows row ≡ Some places → slice_get places place ≡ Some (Some face) → HasTriangle (triangle_lines size 0 rows) 0 size row place face
+pub triangle_at : (size : ℕ) (rows : List (List (Option Face))) (row place : ℕ) (places : List (Option Face)) (face : Face) → AreThere places → AreFitting 2 3 places → slice_get rows row ≡ Some places → slice_get places place ≡ Some (Some face) → HasTriangle (triangle_lines size 0 rows) 0 size row place face
 triangle_at size rows row place places face there fit row_at at level =
     let number : 0 + 5 * row + above_base (turned level) ≡ 5 * row + above_base (turned level) = omega arith in
     let same : 0 + row ≡ row = omega arith in
@@ -233,7 +234,7 @@ triangle_at size rows row place places face there fit row_at at level =
     (level_at size row level places place face there fit at)
 
 -- the same below a roof
-pub triangle_below : (size : ℕ) (roof : List ℕ) (rows : List (List (Option Face))) (row place : ℕ) (places : List (Option Face)) (face : Face) → AreThere places → AreFitting 2 places → slice_get rows row ≡ Some places → slice_get places place ≡ Some (Some face) → HasTriangle (roof ∷ triangle_lines size 0 rows) 1 size row place face
+pub triangle_below : (size : ℕ) (roof : List ℕ) (rows : List (List (Option Face))) (row place : ℕ) (places : List (Option Face)) (face : Face) → AreThere places → AreFitting 2 3 places → slice_get rows row ≡ Some places → slice_get places place ≡ Some (Some face) → HasTriangle (roof ∷ triangle_lines size 0 rows) 1 size row place face
 triangle_below size roof rows row place places face there fit row_at at level =
     let number : 1 + 5 * row + above_base (turned level) ≡ suc (5 * row + above_base (turned level)) = omega arith in
     let same : 0 + row ≡ row = omega arith in

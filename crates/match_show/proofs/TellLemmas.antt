@@ -178,9 +178,9 @@ clean_triangle_part up Blank face sound = clean_replicate 2 32 clean_space
 clean_triangle_part up Number face sound =
     (clean_space, clean_append (padded 2 (Some face.cell)) (star face.marked ∷ []) (clean_cell 2 face sound.cell) (clean_star face.marked, tt))
 clean_triangle_part true Tile face sound =
-    ((sound.signs 2 (omega arith)).0, (clean_space, clean_append (padded 2 face.tile) (32 ∷ slice_index face.signs 0 ∷ []) (clean_padded 2 face.tile sound.tile) (clean_space, ((sound.signs 0 (omega arith)).0, tt))))
+    ((sound.signs 2 (omega arith)).0, clean_append (padded 3 face.tile) (32 ∷ slice_index face.signs 0 ∷ []) (clean_padded 3 face.tile sound.tile) (clean_space, ((sound.signs 0 (omega arith)).0, tt)))
 clean_triangle_part false Tile face sound =
-    ((sound.signs 0 (omega arith)).0, (clean_space, clean_append (padded 2 face.tile) (32 ∷ slice_index face.signs 2 ∷ []) (clean_padded 2 face.tile sound.tile) (clean_space, ((sound.signs 2 (omega arith)).0, tt))))
+    ((sound.signs 0 (omega arith)).0, clean_append (padded 3 face.tile) (32 ∷ slice_index face.signs 2 ∷ []) (clean_padded 3 face.tile sound.tile) (clean_space, ((sound.signs 2 (omega arith)).0, tt)))
 clean_triangle_part up Base face sound =
     clean_append (replicate 4 (level_stroke up)) (sign_on (level_stroke up) (slice_index face.signs 1) ∷ replicate 3 (level_stroke up)) (clean_replicate 4 (level_stroke up) (clean_level_stroke up))
     (clean_choice (slice_index face.signs 1 == 32) (level_stroke up) (slice_index face.signs 1) (clean_level_stroke up) (sound.signs 1 (omega arith)).0, clean_replicate 3 (level_stroke up) (clean_level_stroke up))
@@ -346,14 +346,14 @@ three_signs signs other a b c (suc zero) lt = b
 three_signs signs other a b c (suc (suc zero)) lt = c
 three_signs signs other a b c (suc (suc (suc side))) lt = absurd (omega (arith, lt))
 
+-- what is behind the number of a cell
+behind_number : (digits : ℕ) (face other : Face) → face.cell ≡ other.cell → (xs ys : List ℕ) → padded digits (Some face.cell) ++ xs ≡ padded digits (Some other.cell) ++ ys → xs ≡ ys
+behind_number digits face other cell xs ys e =
+    append_cancel_left (padded digits (Some face.cell)) xs ys (e ∙ ap (λ n. padded digits (Some n) ++ ys) (sym cell))
+
 module _ (digits : ℕ) (face other : Face) (cell : face.cell ≡ other.cell)
     (fit : FitsIn digits face.tile) (fit' : FitsIn digits other.tile)
     (few : (n : ℕ) → face.tile ≡ Some n → n < 1000) (few' : (n : ℕ) → other.tile ≡ Some n → n < 1000) where
-  -- what is behind the number of a cell
-  behind_number : (xs ys : List ℕ) → padded digits (Some face.cell) ++ xs ≡ padded digits (Some other.cell) ++ ys → xs ≡ ys
-  behind_number xs ys e =
-      append_cancel_left (padded digits (Some face.cell)) xs ys (e ∙ ap (λ n. padded digits (Some n) ++ ys) (sym cell))
-
   -- the tile, and what is behind it
   behind_tile : (xs ys : List ℕ) → padded digits face.tile ++ xs ≡ padded digits other.tile ++ ys → (face.tile ≡ other.tile) × (xs ≡ ys)
   behind_tile xs ys e =
@@ -362,7 +362,7 @@ module _ (digits : ℕ) (face other : Face) (cell : face.cell ≡ other.cell)
 
   pub square_tells : square_part digits Top face ≡ square_part digits Top other → square_part digits Middle face ≡ square_part digits Middle other → square_part digits Bottom face ≡ square_part digits Bottom other → ShowAlike 4 face other
   square_tells top middle bottom =
-      let first = behind_number (star face.marked ∷ 32 ∷ slice_index face.signs 0 ∷ spaces 3) (star other.marked ∷ 32 ∷ slice_index other.signs 0 ∷ spaces 3) top in
+      let first = behind_number digits face other cell (star face.marked ∷ 32 ∷ slice_index face.signs 0 ∷ spaces 3) (star other.marked ∷ 32 ∷ slice_index other.signs 0 ∷ spaces 3) top in
       let starred : star face.marked ≡ star other.marked = cc first in
       let north : slice_index face.signs 0 ≡ slice_index other.signs 0 = cc first in
       let west : slice_index face.signs 3 ≡ slice_index other.signs 3 = cc middle in
@@ -380,7 +380,7 @@ module _ (digits : ℕ) (face other : Face) (cell : face.cell ≡ other.cell)
       }
 
 module _ (face other : Face) (cell : face.cell ≡ other.cell) (sound : IsSound 3 face) (sound' : IsSound 3 other)
-    (fit : FitsIn 2 face.tile) (fit' : FitsIn 2 other.tile) where
+    (fit : FitsIn 3 face.tile) (fit' : FitsIn 3 other.tile) where
   -- by the triangle's own levels
   own_levels : (up : Bool) → ((level : Level) → triangle_part up (own_level up level) face ≡ triangle_part up (own_level up level) other) → (level : Level) → triangle_part up level face ≡ triangle_part up level other
   own_levels true same level = same level
@@ -393,15 +393,15 @@ module _ (face other : Face) (cell : face.cell ≡ other.cell) (sound : IsSound 
   tile_tells : (up : Bool) → triangle_part up Tile face ≡ triangle_part up Tile other → (face.tile ≡ other.tile) × (slice_index face.signs 0 ≡ slice_index other.signs 0) × (slice_index face.signs 2 ≡ slice_index other.signs 2)
   tile_tells true e =
       let west : slice_index face.signs 2 ≡ slice_index other.signs 2 = cc e in
-      let rest : padded 2 face.tile ++ (32 ∷ slice_index face.signs 0 ∷ []) ≡ padded 2 other.tile ++ (32 ∷ slice_index other.signs 0 ∷ []) = cc e in
-      let found = behind_tile 2 face other cell fit fit' sound.tile sound'.tile (32 ∷ slice_index face.signs 0 ∷ []) (32 ∷ slice_index other.signs 0 ∷ []) rest in
+      let rest : padded 3 face.tile ++ (32 ∷ slice_index face.signs 0 ∷ []) ≡ padded 3 other.tile ++ (32 ∷ slice_index other.signs 0 ∷ []) = cc e in
+      let found = behind_tile 3 face other cell fit fit' sound.tile sound'.tile (32 ∷ slice_index face.signs 0 ∷ []) (32 ∷ slice_index other.signs 0 ∷ []) rest in
       let behind = found.1 in
       let east : slice_index face.signs 0 ≡ slice_index other.signs 0 = cc behind in
       (found.0, east, west)
   tile_tells false e =
       let west : slice_index face.signs 0 ≡ slice_index other.signs 0 = cc e in
-      let rest : padded 2 face.tile ++ (32 ∷ slice_index face.signs 2 ∷ []) ≡ padded 2 other.tile ++ (32 ∷ slice_index other.signs 2 ∷ []) = cc e in
-      let found = behind_tile 2 face other cell fit fit' sound.tile sound'.tile (32 ∷ slice_index face.signs 2 ∷ []) (32 ∷ slice_index other.signs 2 ∷ []) rest in
+      let rest : padded 3 face.tile ++ (32 ∷ slice_index face.signs 2 ∷ []) ≡ padded 3 other.tile ++ (32 ∷ slice_index other.signs 2 ∷ []) = cc e in
+      let found = behind_tile 3 face other cell fit fit' sound.tile sound'.tile (32 ∷ slice_index face.signs 2 ∷ []) (32 ∷ slice_index other.signs 2 ∷ []) rest in
       let behind = found.1 in
       let east : slice_index face.signs 2 ≡ slice_index other.signs 2 = cc behind in
       (found.0, west, east)
@@ -410,7 +410,7 @@ module _ (face other : Face) (cell : face.cell ≡ other.cell) (sound : IsSound 
   triangle_tells up same =
       let parts = own_levels up same in
       let number : padded 2 (Some face.cell) ++ (star face.marked ∷ []) ≡ padded 2 (Some other.cell) ++ (star other.marked ∷ []) = let e = parts Number in cc e in
-      let marks = behind_number 2 face other cell fit fit' sound.tile sound'.tile (star face.marked ∷ []) (star other.marked ∷ []) number in
+      let marks = behind_number 2 face other cell (star face.marked ∷ []) (star other.marked ∷ []) number in
       let starred : star face.marked ≡ star other.marked = cc marks in
       let tile = tile_tells up (parts Tile) in
       let base = append_cancel_left (replicate 4 (level_stroke up)) (sign_on (level_stroke up) (slice_index face.signs 1) ∷ replicate 3 (level_stroke up)) (sign_on (level_stroke up) (slice_index other.signs 1) ∷ replicate 3 (level_stroke up)) (parts Base) in

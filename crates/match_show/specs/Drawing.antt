@@ -1,6 +1,5 @@
 -- Boards, drawn.
-use Rattle.std.specs.Prelude.{◌≡◌, ℕ, List, [], ◌∷◌, Option, nat_le, if◌then◌else◌}
-use Rattle.match_board.specs.Board.{cell_count}
+use Rattle.std.specs.Prelude.{◌≡◌, ℕ, List, [], ◌∷◌, Option, nat_le, if◌then◌else◌, length}
 use Rattle.match_board.specs.declared.figures.Figure.{Figure}
 use Rattle.match_board.specs.declared.figures.Figure.TheVariants.{Rectangle, Triangle, Hexagon, Shape}
 use Rattle.match_puzzle.specs.Prefix.{Layout}
@@ -14,16 +13,15 @@ use Rattle.match_show.specs.Triangles.{roof_line, triangle_lines}
 abbrev pub digits_of : ℕ → ℕ
 digits_of count = if nat_le count 10 then 1 else (if nat_le count 100 then 2 else 3)
 
--- the lines of the board with these rows, each with the spaces at its end
-abbrev pub board_lines : Figure → List (List (Option Face)) → List (List ℕ)
-board_lines (Rectangle width height) rows = square_lines (digits_of (cell_count (Rectangle width height))) width [] rows
-board_lines (Triangle size) rows = triangle_lines size 0 rows
-board_lines (Hexagon size) rows = roof_line size ∷ triangle_lines size 0 rows
-board_lines (Shape width height mask) rows =
-    square_lines (digits_of (cell_count (Shape width height mask))) width [] rows
+-- the lines of the board with these rows, for so many tiles, each with the spaces at its end; there are no more cells
+abbrev pub board_lines : (tiles : ℕ) → Figure → List (List (Option Face)) → List (List ℕ)
+board_lines tiles (Rectangle width height) rows = square_lines (digits_of tiles) width [] rows
+board_lines tiles (Triangle size) rows = triangle_lines size 0 rows
+board_lines tiles (Hexagon size) rows = roof_line size ∷ triangle_lines size 0 rows
+board_lines tiles (Shape width height mask) rows = square_lines (digits_of tiles) width [] rows
 
 -- the text is the board of a partial arrangement, drawn, where this cell is marked
 pub record IsDrawing (q : Layout) (mark : Option ℕ) (text : List ℕ) : Type 0 where
   pub rows : List (List (Option Face))
   pub seen : AreRows q mark rows
-  pub drawn : text ≡ sheet_text (board_lines q.puzzle.board rows)
+  pub drawn : text ≡ sheet_text (board_lines (length q.puzzle.words) q.puzzle.board rows)

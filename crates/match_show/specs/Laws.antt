@@ -42,14 +42,12 @@ HasTriangle lines first size row place face =
     (5 * (rows_in size row + place) + above_base (own_level up level) + 1)
     (triangle_part up (own_level up level) face)
 
--- The lines of a board have the cell with this face at its place.
-abbrev pub HasFace : Figure → (lines : List (List ℕ)) → (row place : ℕ) → Face → Type 0
-HasFace (Rectangle width height) lines row place face =
-    HasSquare lines (digits_of (cell_count (Rectangle width height))) row place face
-HasFace (Triangle size) lines row place face = HasTriangle lines 0 size row place face
-HasFace (Hexagon size) lines row place face = HasTriangle lines 1 size row place face
-HasFace (Shape width height mask) lines row place face =
-    HasSquare lines (digits_of (cell_count (Shape width height mask))) row place face
+-- The lines of a board for so many tiles have the cell with this face at its place.
+abbrev pub HasFace : (tiles : ℕ) → Figure → (lines : List (List ℕ)) → (row place : ℕ) → Face → Type 0
+HasFace tiles (Rectangle width height) lines row place face = HasSquare lines (digits_of tiles) row place face
+HasFace tiles (Triangle size) lines row place face = HasTriangle lines 0 size row place face
+HasFace tiles (Hexagon size) lines row place face = HasTriangle lines 1 size row place face
+HasFace tiles (Shape width height mask) lines row place face = HasSquare lines (digits_of tiles) row place face
 
 -- In the lines of a drawing what is seen of each cell stands at its place.
 abbrev pub DrawingLaw : Type 0
@@ -57,7 +55,8 @@ DrawingLaw =
     (q : Layout) (mark : Option ℕ) (rows : List (List (Option Face))) → IsPuzzle q.puzzle → IsPrefix q.puzzle q.placed
     → AreRows q mark rows → (cell row place : ℕ) → StandsAt q.puzzle.board cell row place
     → (face : Face) × (face.cell ≡ cell) × IsFace q mark face
-    × HasFace q.puzzle.board (board_lines q.puzzle.board rows) row place face
+    × HasFace (length q.puzzle.words) q.puzzle.board (board_lines (length q.puzzle.words) q.puzzle.board rows) row place
+    face
 
 -- The same is seen of a cell with so many sides.
 pub record ShowAlike (sides : ℕ) (face other : Face) : Type 0 where
@@ -66,11 +65,12 @@ pub record ShowAlike (sides : ℕ) (face other : Face) : Type 0 where
   pub tile : face.tile ≡ other.tile
   pub signs : (side : ℕ) → side < sides → slice_index face.signs side ≡ slice_index other.signs side
 
--- Where drawings of a board are the same text, the same is seen of each cell.
+-- Where drawings of a board for as many tiles are the same text, the same is seen of each cell.
 abbrev pub TellingLaw : Type 0
 TellingLaw =
     (q q' : Layout) (mark mark' : Option ℕ) (text : List ℕ) → IsPuzzle q.puzzle → IsPrefix q.puzzle q.placed
     → IsPuzzle q'.puzzle → IsPrefix q'.puzzle q'.placed → q'.puzzle.board ≡ q.puzzle.board
+    → length q'.puzzle.words ≡ length q.puzzle.words
     → IsDrawing q mark text → IsDrawing q' mark' text → (cell row place : ℕ) → StandsAt q.puzzle.board cell row place
     → (face other : Face) × (face.cell ≡ cell) × IsFace q mark face × IsFace q' mark' other
     × ShowAlike (side_count q.puzzle.board) face other

@@ -52,9 +52,9 @@ triangle_part up Tip face = []
 triangle_part up Blank face = spaces 2
 triangle_part up Number face = (32 ∷ padded 2 (Some face.cell)) ++ star face.marked ∷ []
 triangle_part true Tile face =
-    (slice_index face.signs 2 ∷ 32 ∷ padded 2 face.tile) ++ 32 ∷ slice_index face.signs 0 ∷ []
+    (slice_index face.signs 2 ∷ padded 3 face.tile) ++ 32 ∷ slice_index face.signs 0 ∷ []
 triangle_part false Tile face =
-    (slice_index face.signs 0 ∷ 32 ∷ padded 2 face.tile) ++ 32 ∷ slice_index face.signs 2 ∷ []
+    (slice_index face.signs 0 ∷ padded 3 face.tile) ++ 32 ∷ slice_index face.signs 2 ∷ []
 triangle_part up Base face =
     replicate 4 (level_stroke up) ++ sign_on (level_stroke up) (slice_index face.signs 1) ∷ replicate 3 (level_stroke up)
 

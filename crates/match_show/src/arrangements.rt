@@ -1,4 +1,4 @@
-//! Arrangements are drawn.
+//! Draws arrangements as text.
 
 ghost use Rattle.std.specs.Prelude.{◌≡◌, IfOk};
 ghost use Rattle.match_puzzle.specs.Arrangement.{IsArrangement};
@@ -8,7 +8,7 @@ use crate::drawings::write_drawing;
 use match_puzzle::{Partial, Placement, Puzzle};
 use std::alloc::{AllocError, Global};
 
-/// The board with an arrangement of the puzzle on it, as [`write_drawing`] draws it, with no cell marked.
+/// The board with an arrangement on it, drawn as [`write_drawing`] does, with no cell marked.
 pub fn write_arrangement(
     alloc: Global,
     puzzle: &Puzzle,

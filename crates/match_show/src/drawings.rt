@@ -1,4 +1,4 @@
-//! Boards are drawn.
+//! Draws boards as text.
 
 ghost use Rattle.std.specs.Prelude.{◌≡◌, IfOk};
 ghost use Rattle.match_show.specs.Drawing.{IsDrawing, digits_of};
@@ -10,16 +10,17 @@ use match_board::Figure;
 use match_puzzle::Partial;
 use std::alloc::{AllocError, Global};
 
-/// The board of a partial arrangement in text, with the number of each cell.
+/// The board of a partial arrangement, drawn as text.
 ///
-/// Where a tile stands, its number and the colours that it shows, each at its side; at an empty cell the colour that
-/// the border or a clue asks of a side, and a space where none is asked. A star follows the number of the marked cell; a
-/// mark that is no cell's number marks none. A square takes three lines between its edges, a triangle five lines; where
-/// a shape has no cell there are spaces, but for the edges of its neighbours. A line has no space at its end, and ends
-/// with LF.
+/// - A filled cell has its number, the number of its tile, and at each side the colour that the tile shows there.
+/// - An empty cell has its number, and at each side the colour that the border or a clue asks for there, or a space.
+/// - The number of the marked cell has a star after it. A mark that is no cell's number marks none.
+/// - A square has three lines between its edges, and a triangle five lines. Where a shape has no cell there are spaces,
+///   beside the edges of its neighbours.
+/// - No line ends with a space, and each ends with LF.
 ///
-/// An `Err` where memory is refused, and nowhere else. It takes time in proportion to the text, and memory for it, for a
-/// few bytes at each place of the board and for a line.
+/// An `Err` comes only where memory is refused. Time is in proportion to the text. Memory is for the text, for a line,
+/// and for a few bytes at each place of the board.
 pub fn write_drawing(
     alloc: Global,
     partial: &Partial<'_>,
@@ -31,7 +32,7 @@ pub fn write_drawing(
     let board = partial.puzzle().board();
     match *board.figure() {
         Figure::Rectangle { width, .. } | Figure::Shape { width, .. } => {
-            write_squares(alloc, &rows, width, digits(board.cells()))
+            write_squares(alloc, &rows, width, digits(partial.puzzle().tile_count()))
         }
         Figure::Triangle { size } => {
             let mut text = Vec::new(alloc);

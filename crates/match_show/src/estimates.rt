@@ -1,9 +1,10 @@
-//! How many arrangements a puzzle may be expected to have.
+//! Estimates how many arrangements a puzzle has.
 
 ghost use Rattle.std.specs.Prelude.{◌<◌, IfOk};
 ghost use Rattle.match_board.specs.Board.{cell_count, side_count};
 ghost use Rattle.match_show.specs.Facts.{IsEstimateLine};
 
+use match_board::Tile;
 use match_limits::{MOST_COLOURS, MOST_SIDES};
 use match_puzzle::Puzzle;
 use std::alloc::{AllocError, Global};
@@ -13,11 +14,12 @@ const DIGITS_END: u64 = 1_000_000_000_000;
 // Up to so many places before the point an estimate is written in full.
 const MOST_PLACES: i32 = 6;
 
-/// How many arrangements a puzzle would have in the mean, if each side of each tile showed a colour of its own accord,
-/// each as often as it stands on the tiles: as many as there are ways to lay the tiles, times the chance of each shared
-/// edge that its colours go together and are those that clues ask for, and of each outer side that it shows what is
-/// asked. Where tiles aren't turned, colours are counted for each side apart. It is an estimate, and the number itself
-/// may be far from it: sides of one tile don't go their own ways.
+/// An estimate of how many arrangements a puzzle has.
+///
+/// It is the number of ways to lay tiles on all cells, times a chance for each shared edge and for each outer side:
+/// that they show what they have to, if the colour at each side of a tile were drawn by lot, each colour as often as
+/// tiles have it. Where tiles may not be turned, the lots are drawn for each side apart. The true number may be far
+/// from it, since the sides of a tile don't go their own ways.
 #[derive(Clone, Copy)]
 pub struct Estimate {
     // 12 digits, or 0
@@ -54,9 +56,9 @@ impl Estimate {
         self.digits > 0 && self.places > MOST_PLACES
     }
 
-    /// In full up to 999,999, and else as `1.5e7`, with two digits.
+    /// The number in full up to 999,999, and else with two digits, as `1.5e7`.
     ///
-    /// An `Err` where memory is refused, and nowhere else.
+    /// An `Err` comes only where memory is refused.
     pub fn to_text(self, alloc: Global) -> Result<String, AllocError> {
         if self.digits == 0 {
             return format!(in alloc; "0");
@@ -75,9 +77,9 @@ impl Estimate {
     }
 }
 
-/// How many arrangements the puzzle may be expected to have.
+/// Estimates how many arrangements the puzzle has.
 ///
-/// An `Err` where memory for a table of colours is refused, and nowhere else. It asks what each side of each cell meets.
+/// An `Err` comes only where memory for a table of colours is refused. It asks what each side of each cell meets.
 pub fn estimate_of(alloc: Global, puzzle: &Puzzle) -> Result<Estimate, AllocError> {
     let colours = SideColours::of(alloc, puzzle)?;
     let mut estimate = ways_to_lay(puzzle);
@@ -89,14 +91,46 @@ pub fn estimate_of(alloc: Global, puzzle: &Puzzle) -> Result<Estimate, AllocErro
 
 // In how many ways tiles can be laid, whatever they show.
 fn ways_to_lay(puzzle: &Puzzle) -> Estimate {
+    if !puzzle.have_all_to_stand() {
+        return ways_to_lay_some(puzzle);
+    }
     let mut ways = Estimate::one();
     let mut laid = 0u32;
     for tile in puzzle.tiles() {
-        let turns = if puzzle.turns() { tile.period() } else { 1 };
         laid = laid.saturating_add(1);
-        ways = ways.times(laid.saturating_mul(u32::from(turns)), 1);
+        ways = ways.times(laid.saturating_mul(turns_of(puzzle, tile)), 1);
     }
     ways
+}
+
+// In how many ways a tile for each cell can be laid, where there are more tiles; each has as many turns as tiles have
+// in the mean.
+fn ways_to_lay_some(puzzle: &Puzzle) -> Estimate {
+    let tiles = u32::from(puzzle.tile_count());
+    let turns = turns_together(puzzle);
+    let mut ways = Estimate::one();
+    for laid in 0..u32::from(puzzle.board().cells()) {
+        ways = ways.times(tiles.saturating_sub(laid).saturating_mul(turns), tiles);
+    }
+    ways
+}
+
+// How many different turns all tiles have together.
+fn turns_together(puzzle: &Puzzle) -> u32 {
+    let mut turns = 0u32;
+    for tile in puzzle.tiles() {
+        turns = turns.saturating_add(turns_of(puzzle, tile));
+    }
+    turns
+}
+
+// After how many turns the tile looks different, if it may be turned.
+fn turns_of(puzzle: &Puzzle, tile: &Tile) -> u32 {
+    if puzzle.turns() {
+        u32::from(tile.period())
+    } else {
+        1
+    }
 }
 
 // The estimate, times the chances of the cell's sides, of each shared edge at the lesser cell.
@@ -179,11 +213,11 @@ impl SideColours {
                 counts.push(count_of(puzzle, side, colour))?;
             }
         }
-        let cells = u32::from(puzzle.board().cells());
+        let tiles = u32::from(puzzle.tile_count());
         let sides = if puzzle.turns() {
-            cells * u32::from(board_sides)
+            tiles * u32::from(board_sides)
         } else {
-            cells
+            tiles
         };
         Ok(SideColours { counts, sides })
     }
@@ -236,9 +270,9 @@ fn count_of(puzzle: &Puzzle, side: u8, colour: u8) -> u32 {
     count
 }
 
-/// The line `estimate N`: how many arrangements the puzzle may be expected to have.
+/// The line `estimate N`, where N estimates how many arrangements the puzzle has.
 ///
-/// An `Err` where memory is refused, and nowhere else.
+/// An `Err` comes only where memory is refused.
 pub fn write_estimate(alloc: Global, puzzle: &Puzzle) -> Result<Vec<u8>, AllocError>
     ensures { IfOk result (λ text. IsEstimateLine text.items) }
 {

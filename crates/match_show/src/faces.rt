@@ -10,7 +10,7 @@ use match_limits::SIDES;
 use match_puzzle::{Partial, Placement, Puzzle};
 use text_words::character;
 
-/// What is seen of a cell: its number, whether it is marked, the tile that stands there, and a sign at each side.
+/// What a drawing shows of a cell: its number, whether it is marked, its tile if it is filled, and a sign at each side.
 #[derive(Clone, Copy)]
 pub struct Face {
     pub cell: u16,
@@ -19,7 +19,7 @@ pub struct Face {
     pub signs: [u8; SIDES],
 }
 
-/// The face of the cell.
+/// What a drawing shows of the cell, where `mark` is the number of the marked cell.
 pub fn face_of(partial: &Partial<'_>, cell: u16, mark: Option<u16>) -> Face
     requires { cell < cell_count partial.now.puzzle.board }
     ensures cell { result.cell ≡ cell }

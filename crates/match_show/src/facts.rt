@@ -1,4 +1,4 @@
-//! What is known of a puzzle before it is solved.
+//! Facts of a puzzle that are known before it is solved.
 
 ghost use Rattle.std.specs.Prelude.{◌≡◌, ◌++◌, ◌<◌, ◌≤◌, ◌^◌, IfOk, OnOk, count_by, decimal, length, map, sum_by};
 ghost use Rattle.std.specs.List.{flat_map, range_with_len};
@@ -14,14 +14,18 @@ use match_puzzle::{Border, Puzzle};
 use std::alloc::{AllocError, Global};
 use text_words::{character, put_number, put_number_line};
 
-/// Facts of a puzzle: the lines `cells N`, `tiles N` and `colours N`, and for each colour C, from 0 on, a line
-/// `colour C: N on the border, N on tiles` with how many outer sides ask for it, and how many sides of tiles have it;
-/// then `tiles may be turned` or `tiles may not be turned`; and `equal colours meet`, or where the puzzle has mates a line
-/// `colours C and D are mates` or `colour C is its own mate` for each colour but the greater of two mates; and `clues N`
-/// where the puzzle has some.
+/// Facts of a puzzle, as lines:
 ///
-/// An `Err` where memory is refused, and nowhere else. It asks what each side of each cell meets, and goes through the
-/// tiles once for each colour.
+/// - `cells N`, `tiles N` and `colours N`;
+/// - for each colour C, from 0 on, `colour C: N on the border, N on tiles`: how many outer sides ask for it, and how
+///   many sides of tiles have it;
+/// - `tiles may be turned` or `tiles may not be turned`;
+/// - `equal colours meet`; or where the puzzle has mates, `colours C and D are mates` or `colour C is its own mate`, a
+///   line for each colour but the greater of two mates;
+/// - `clues N`, where the puzzle has clues.
+///
+/// An `Err` comes only where memory is refused. It asks what each side of each cell meets, and goes through the tiles
+/// once for each colour.
 pub fn write_facts(alloc: Global, puzzle: &Puzzle) -> Result<Vec<u8>, AllocError>
     ensures { IfOk result (λ text. IsFacts puzzle.now text.items) }
 {
@@ -29,8 +33,7 @@ pub fn write_facts(alloc: Global, puzzle: &Puzzle) -> Result<Vec<u8>, AllocError
     let board = puzzle.board();
     let colours = puzzle.colours();
     put_number_line(&mut text, b"cells", u64::from(board.cells()))?;
-    // a puzzle has as many tiles as cells
-    put_number_line(&mut text, b"tiles", u64::from(board.cells()))?;
+    put_number_line(&mut text, b"tiles", u64::from(puzzle.tile_count()))?;
     put_number_line(&mut text, b"colours", u64::from(colours))?;
     put_colour_lines(&mut text, puzzle, board.border_len(), colours)?;
     put_turns_line(&mut text, puzzle.turns())?;
@@ -168,7 +171,7 @@ pub fn put_named(text: &mut Vec<u8>, words: &[u8], colour: u8) -> Result<(), All
     Ok(())
 }
 
-/// How many of so many outer sides ask for the colour.
+/// How many outer sides ask for the colour, where the board has `outer` of them.
 pub fn sides_asked(border: &Border, outer: u16, colour: u8) -> usize
     ensures { result ≡ border_count (rule_of border.now) outer colour }
 {

@@ -2,10 +2,12 @@
 
 ghost use Rattle.match_show.specs.Laws.{DrawingLaw, TellingLaw};
 
-/// Does nothing. Its promises are two laws. In the lines of a drawing each cell has its place, which is given by its
-/// row and its place there, and there stand its number, the star of the mark, the number of the tile on it, and the sign
-/// at each of its sides. Where two drawings of a board are the same text, the same is seen of each cell: so partial
-/// arrangements that show something else anywhere, and other marks, give other texts.
+/// Does nothing. Its promises are two laws:
+///
+/// - In a drawing, what is shown of a cell (its number, its mark, its tile, a sign at each side) is at a place that
+///   depends only on the cell's row and its place there.
+/// - Where two drawings of a board, for as many tiles, are the same text, they show the same of each cell. So partial
+///   arrangements that differ anywhere in what is shown, or in the mark, have different drawings.
 pub fn drawing_laws()
     ensures drawing { DrawingLaw }
     ensures telling { TellingLaw }

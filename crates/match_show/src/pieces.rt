@@ -6,7 +6,7 @@ ghost use Rattle.match_show.specs.Pieces.{padded, star, trimmed_line};
 use itoa::Buffer;
 use std::alloc::AllocError;
 
-/// Writes the byte so often.
+/// Writes the byte `count` times.
 pub fn put_copies(line: &mut Vec<u8>, byte: u8, count: usize) -> Result<(), AllocError>
     ensures { OnOk result (line.new.items ≡ line.old.items ++ replicate count byte) }
 {
@@ -16,7 +16,7 @@ pub fn put_copies(line: &mut Vec<u8>, byte: u8, count: usize) -> Result<(), Allo
     Ok(())
 }
 
-/// Writes the number at the right end of so many columns, or leaves them blank where there is none.
+/// Writes the number at the right end of `width` columns, or spaces where there is no number.
 pub fn put_padded(line: &mut Vec<u8>, number: Option<u16>, width: u8) -> Result<(), AllocError>
     ensures { OnOk result (line.new.items ≡ line.old.items ++ padded width number) }
 {

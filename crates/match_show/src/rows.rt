@@ -9,7 +9,7 @@ use match_puzzle::Partial;
 use std::alloc::{AllocError, Global};
 use std::marker::Model;
 
-/// A face for each place of a row, or none where there is no cell.
+/// For each place of a row what is shown of its cell, or `None` where there is no cell.
 #[derive(Drop)]
 pub struct Row {
     places: Vec<Option<Face>>,

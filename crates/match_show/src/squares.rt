@@ -1,4 +1,4 @@
-//! Boards of squares are drawn.
+//! Draws boards of squares.
 
 ghost use Rattle.std.specs.Prelude.{◌≡◌, ◌++◌, ◌||◌, [], IfOk, OnOk, option_map};
 ghost use Rattle.match_show.specs.Pieces.{sheet_text, trimmed_line};
@@ -18,7 +18,7 @@ pub enum Part {
     Bottom,
 }
 
-/// The rows of a board so many columns wide, with room for so many digits in a number.
+/// The rows of a board of `columns` columns, with room for `digits` digits in each number.
 pub fn write_squares(
     alloc: Global,
     rows: &[Row],

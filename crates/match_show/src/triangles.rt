@@ -1,4 +1,4 @@
-//! Boards of triangles are drawn.
+//! Draws boards of triangles.
 
 ghost use Rattle.std.specs.Prelude.{◌≡◌, ◌+◌, ◌*◌, ◌++◌, ◌^◌, ◌<◌, ◌≤◌, OnOk, length};
 ghost use Rattle.match_show.specs.Triangles.{turned, above_base, own_level, slant, sign_on, triangle_part};
@@ -21,7 +21,7 @@ pub enum Level {
     Base,
 }
 
-/// The rows of triangles of a board with so many at each side.
+/// The rows of a board of triangles with `size` of them at each side.
 pub fn put_triangles(
     alloc: Global,
     text: &mut Vec<u8>,
@@ -188,8 +188,7 @@ fn put_tile(line: &mut Vec<u8>, up: bool, face: &Face) -> Result<(), AllocError>
     ensures { OnOk result (line.new.items ≡ line.old.items ++ triangle_part up Level.Tile face.now) }
 {
     line.push(face.signs[if up { 2 } else { 0 }])?;
-    line.push(b' ')?;
-    put_padded(line, face.tile, 2)?;
+    put_padded(line, face.tile, 3)?;
     line.push(b' ')?;
     line.push(face.signs[if up { 0 } else { 2 }])?;
     Ok(())

@@ -262,12 +262,25 @@ clues_within p is =
     let most = is.board.most in
     ((λ other. is.without (before_third p.mating is.mating.version other)), omega (arith, few, most), clues_fit p.clues (clue_fits p is))
 
+tiles_within : (p : Task) → IsPuzzle p → length p.words ≤ (ranges_of p.mating.version).most_cells
+unfolding ranges_of
+tiles_within p is =
+    let as_many : p.mating.version < 3 → length p.words ≤ (ranges_of p.mating.version).most_cells = λ before. let same = is.tiles.as_many before in omega (arith, same, cells_within p is) in
+    ⊎_elim
+    (λ one. as_many (let e = one.0 in omega (arith, e)))
+    (λ later.
+    ⊎_elim
+    (λ e. as_many (omega (arith, e)))
+    (λ e. subst (λ v. length p.words ≤ (ranges_of v).most_cells) (sym e) is.tiles.few)
+    later)
+    is.mating.version
+
 pub puzzle_within : (p : Task) → IsPuzzle p → IsTaskWithin p
 puzzle_within p is = record {
   board = figure_within p.mating.version p.board is.board is.shapes;
   border = border_within (ranges_of p.mating.version) (are_ranges p.mating.version) p.board is.board.some (cells_within p is) p.border is.border is.border_colours;
-  some_tiles = omega (arith, is.tiles, is.board.some);
-  few_tiles = omega (arith, is.tiles, cells_within p is);
+  some_tiles = let enough = is.tiles.enough in omega (arith, enough, is.board.some);
+  few_tiles = tiles_within p is;
   mating = (is.mating.version, is.mating.mates.few, listed_within p.mating.mates (λ k lt. mates_below p is k lt));
   clues = clues_within p is;
   words = words_within (side_count p.board) (three_or_four p.board) p.words is.sides is.tile_colours;

@@ -11,16 +11,16 @@ use std::error::Error;
 use std::fmt;
 use text_words::{ReadFault, TextFault};
 
-/// Why there is no list of a text.
+/// Why a text gives no list.
 pub type ListTextFault = ReadFault;
 
-/// Why there is no puzzle of a text, in the order in which it is looked for.
+/// Why a text gives no puzzle. Faults are looked for in the order in which they are listed here.
 #[derive(Clone, Copy, PartialEq, Eq, Debug)]
 pub enum PuzzleTextFault {
     Text(TextFault),
-    /// There is no such board; the text has no fault.
+    /// The text has no fault, but the board that it describes is none.
     Board(BoardFault),
-    /// There is no such puzzle; there is such a board.
+    /// The text and its board have no fault, but the puzzle has one.
     Puzzle(PuzzleFault),
     Memory,
 }

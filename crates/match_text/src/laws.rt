@@ -8,15 +8,14 @@ ghost use Rattle.match_text.specs.PuzzleSpelling.{puzzle_spelling, IsTaskWithin}
 
 /// The laws of lists and their texts; it does nothing.
 ///
-/// What a text says has its version in it: so a list has one spelling in each version that spells it.
+/// What a text says includes its version, so a list has at most one spelling in each version.
 pub fn list_laws()
     ensures { ReadsWhatIsSpelled list_said IsSaidWithin said_spelling }
 {}
 
 /// The laws of puzzles and their texts; it does nothing.
 ///
-/// A text may ask for a puzzle that there isn't, such as one with too few tiles: the laws hold of it
-/// too.
+/// They also hold of texts that describe no puzzle, such as one with too few tiles.
 pub fn puzzle_laws()
     ensures { ReadsWhatIsSpelled puzzle_of IsTaskWithin puzzle_spelling }
 {}

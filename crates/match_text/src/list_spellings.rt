@@ -1,4 +1,4 @@
-//! Lists of arrangements are written.
+//! Writes lists of arrangements.
 
 ghost use Rattle.std.specs.Prelude.{◌≡◌, ◌≢◌, ◌<◌, ◌≤◌, ◌++◌, ◌∷◌, [], ◌&&◌, ℕ, List, Ok, nat_le, length, map, codes};
 ghost use Rattle.std.specs.Prelude.{IfOk, OnOk, MatchBool};
@@ -51,8 +51,8 @@ fn is_list_within(ranges: &Ranges, rows: &[Arrangement]) -> bool
     rows.len() <= MOST_ARRANGEMENTS as usize && are_rows_within(ranges, rows)
 }
 
-/// Whether the list has a spelling: up to 1,000,000 arrangements, each of a placement or more, within
-/// the ranges of version 2.
+/// Whether the list can be written as a text: it has at most 1,000,000 arrangements, each with at least one placement,
+/// and all numbers are within the ranges of version 2.
 pub fn list_within_limits(list: &[Arrangement]) -> bool
     ensures within { MatchBool result (IsListWithin SECOND list.now) (IsListWithin SECOND list.now → ⊥) }
     ensures spelled { MatchBool result ((text : List ℕ) × (list_of text ≡ Ok list.now))
@@ -113,8 +113,8 @@ fn list_text(alloc: Global, version: u8, list: &[Arrangement]) -> Result<Vec<u8>
     Ok(text)
 }
 
-/// The text of the list, which reads back as the list: in version 1 where it is within the ranges of
-/// that, else in version 2.
+/// The text of the list. Reading it gives the list back. It is in version 1 where all numbers are within the ranges of
+/// version 1, else in version 2.
 pub fn write_list(alloc: Global, list: &[Arrangement]) -> Result<Vec<u8>, AllocError>
     requires { IsListWithin SECOND list.now }
     ensures first { IsListWithin FIRST list.now → IfOk result (λ text. text.items ≡ list_spelling 1 list.now) }

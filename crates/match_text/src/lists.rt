@@ -1,4 +1,4 @@
-//! Lists of arrangements are read.
+//! Reads lists of arrangements.
 
 ghost use Rattle.std.specs.Prelude.{◌≡◌, ◌+◌, ◌<◌, ◌^◌, ℕ, List, Ok, Err, IfOk, IfSome, length, take};
 ghost use Rattle.match_limits.specs.Ranges.{AreRanges};
@@ -115,7 +115,7 @@ fn read_text(alloc: Global, text: &[u8]) -> Result<Vec<Arrangement>, ReadFault>
     Ok(said.rows)
 }
 
-/// Where the text of a list has its first fault; none where it has none, or memory is refused.
+/// Where the text of a list has its first fault. `None` where it has no fault, or memory is refused.
 #[tactic(auto, unfolding(crate::specs::Lists::list_of, crate::specs::Lists::list_said))]
 pub fn list_fault_place(alloc: Global, text: &[u8]) -> Option<FaultPlace<'_>>
     requires { length text.now + 1 < 2 ^ 32 }
@@ -128,7 +128,7 @@ pub fn list_fault_place(alloc: Global, text: &[u8]) -> Option<FaultPlace<'_>>
     }
 }
 
-/// The arrangements that a text lists, or its first fault; `Memory` only where that is refused.
+/// The arrangements that a text lists. An `Err` is the text's first fault, or `Memory` where memory is refused.
 pub fn read_list(alloc: Global, text: &[u8]) -> Result<Vec<Arrangement>, ListTextFault>
     requires { length text.now + 1 < 2 ^ 32 }
     // Which list, and which fault.

@@ -1,4 +1,4 @@
-//! Puzzles are written.
+//! Writes puzzles.
 
 ghost use Rattle.std.specs.Prelude.{◌≡◌, ◌<◌, ◌≤◌, ◌*◌, ◌++◌, ◌∷◌, [], Ok, length, map, codes, decimal, IfOk, OnOk};
 ghost use Rattle.std.specs.List.{AllByRecursion};
@@ -308,7 +308,7 @@ fn put_tiles(text: &mut Vec<u8>, tiles: &[Tile]) -> Result<(), AllocError>
     Ok(())
 }
 
-/// The text of the puzzle, which reads back as the puzzle.
+/// The text of the puzzle. Reading it gives the puzzle back.
 pub fn write_puzzle(alloc: Global, puzzle: &Puzzle) -> Result<Vec<u8>, AllocError>
     ensures spelling { IfOk result (λ text. text.items ≡ puzzle_spelling puzzle.now) }
     ensures reads { IfOk result (λ text. PuzzleReads text.items (Ok puzzle.now)) }

@@ -1,4 +1,4 @@
-//! Puzzles are read.
+//! Reads puzzles.
 
 ghost use Rattle.std.specs.Prelude.{◌≡◌, ◌≢◌, ◌+◌, ◌*◌, ◌<◌, ◌^◌, ◌++◌, ℕ, Ok, Err, IfOk, IfErr, IfSome, OnOk};
 ghost use Rattle.std.specs.Prelude.{[], length, map, take};
@@ -33,22 +33,22 @@ use plain_words::version_word;
 use std::alloc::{AllocError, Global};
 use text_words::{Asked, FaultPlace, ReadFault, Scan, TextFault, TextKind, row_word};
 
-/// What a text says of a puzzle. There may be no such puzzle.
+/// What a text says of a puzzle. There may be no such puzzle: tiles may be too few, for instance.
 #[derive(Drop)]
 pub struct PuzzleText {
     /// 1, 2 or 3.
     pub version: u8,
     pub board: BoardLine,
-    /// One for each place of a shape, row by row, whether it has a cell; else none.
+    /// For each place of a shape, row by row, whether it has a cell. Empty for other boards.
     pub marks: Vec<bool>,
     pub turns: bool,
-    /// With as many rules as a text may give.
+    /// The border's rule, with no more entries than a text may have.
     pub border: Border,
-    /// As many as a text may give, none in version 1.
+    /// The list of mates, no longer than a text may give it. Empty in version 1.
     pub mates: Vec<u8>,
-    /// As many as a text may give, none before version 3.
+    /// The clues, no more than a text may have. Empty before version 3.
     pub clues: Vec<Clue>,
-    /// At least one, and as many as a text may give.
+    /// The tiles, at least one, and no more than a text may have.
     pub tiles: Vec<Tile>,
 }
 
@@ -61,13 +61,13 @@ enum BoardKind {
     Shape,
 }
 
-/// What the line of a board says, with numbers that a text may give.
+/// What the line of a board says. Its numbers are within the ranges of the text's version.
 #[derive(Clone, Copy)]
 pub enum BoardLine {
     Rectangle { width: u16, height: u16 },
     Triangle { size: u16 },
     Hexagon { size: u16 },
-    /// So many places in each row, and so many rows, which follow.
+    /// How many places each row has, and how many rows follow.
     Shape { width: u16, height: u16 },
 }
 
@@ -505,7 +505,7 @@ fn whole(alloc: Global, scan: &mut Scan) -> Result<PuzzleText, ReadFault>
     })
 }
 
-/// What a text says of a puzzle, or its first fault; `Memory` only where that is refused.
+/// What a text says of a puzzle. An `Err` is the text's first fault, or `Memory` where memory is refused.
 #[tactic(auto, unfolding(crate::specs::Puzzles::puzzle_of))]
 pub fn read_puzzle_text(alloc: Global, text: &[u8]) -> Result<PuzzleText, ReadFault>
     requires { length text.now + 1 < 2 ^ 32 }
@@ -516,7 +516,7 @@ pub fn read_puzzle_text(alloc: Global, text: &[u8]) -> Result<PuzzleText, ReadFa
     whole(alloc, &mut scan)
 }
 
-/// Where the text of a puzzle has its first fault; none where it has none, or memory is refused.
+/// Where the text of a puzzle has its first fault. `None` where it has no fault, or memory is refused.
 #[tactic(auto, unfolding(crate::specs::Puzzles::puzzle_of))]
 pub fn puzzle_fault_place(alloc: Global, text: &[u8]) -> Option<FaultPlace<'_>>
     requires { length text.now + 1 < 2 ^ 32 }
@@ -544,7 +544,7 @@ fn make_board(line: BoardLine, marks: &[bool]) -> Result<Board, BoardFault>
 }
 
 impl PuzzleText {
-    /// The board that is said, or why there is none.
+    /// The board that the text describes, or why there is none.
     pub fn make_board(&self) -> Result<Board, BoardFault>
         requires { HasItsMarks self.now.board self.now.marks.items }
         ensures board { IfOk result (λ b. (b ≡ figure_of self.now.board self.now.marks.items) × IsBoard b) }
@@ -601,8 +601,10 @@ fn read_and_make(alloc: Global, text: &[u8]) -> Result<Puzzle, PuzzleTextFault>
     Ok(puzzle)
 }
 
-/// The puzzle that a text asks for. An `Err` is the text's first fault; where it has none, that of
-/// the board; where there is such a board, that of the puzzle; `Memory` only where that is refused.
+/// The puzzle that a text describes.
+///
+/// An `Err` is the first fault of the text; where it has none, that of the board; where that has none, that of the
+/// puzzle; and `Memory` where memory is refused.
 pub fn read_puzzle(alloc: Global, text: &[u8]) -> Result<Puzzle, PuzzleTextFault>
     requires { length text.now + 1 < 2 ^ 32 }
     // Which puzzle, and which fault.

@@ -1,4 +1,4 @@
-//! The lines of a list's arrangements are written in parts.
+//! Writes the lines of a list's arrangements in parts, so that several threads can share the work.
 
 ghost use Rattle.std.specs.Prelude.{◌≡◌, ◌⊎◌, Ok, IfOk, true, MatchBool};
 ghost use Rattle.std.specs.List.{AllByRecursion};
@@ -12,10 +12,10 @@ use match_limits::FIRST;
 use match_puzzle::Arrangement;
 use std::alloc::{AllocError, Global};
 
-/// Lines of arrangements, one behind the other.
+/// The lines of some arrangements, one after the other.
 #[derive(Drop)]
 pub struct RowLines {
-    /// Whether version 1 has the numbers for all of them.
+    /// Whether all numbers in them are within the ranges of version 1.
     pub is_first: bool,
     pub text: Vec<u8>,
 }
@@ -46,8 +46,8 @@ fn version_of(parts: &[RowLines]) -> u8
     if are_all_first(parts) { 1 } else { 2 }
 }
 
-/// What stands before the lines of the list, which were written in parts: behind it stand all lines, and then the last line
-/// of a text.
+/// The beginning of a list's text, up to its first arrangement. After it come all lines, written in parts, and then the
+/// last line of the text.
 pub fn list_front(
     alloc: Global,
     list: &[Arrangement],

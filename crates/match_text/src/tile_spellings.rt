@@ -1,4 +1,4 @@
-//! Tiles by themselves are written.
+//! Writes tiles by themselves.
 
 ghost use Rattle.std.specs.Prelude.{◌≡◌, ◌++◌, ◌∷◌, [], map, IfOk, OnOk};
 ghost use Rattle.match_board.specs.Tile.{word as colours_of};
@@ -28,7 +28,7 @@ fn put_lone_tiles(text: &mut Vec<u8>, tiles: &[Tile]) -> Result<(), AllocError>
     Ok(())
 }
 
-/// The words of tiles, one on each line, as they stand in a puzzle's text.
+/// The words of tiles, one a line, as a puzzle's text has them.
 #[tactic(auto, unfolding(crate::specs::PuzzleSpelling::tiles_spelling))]
 pub fn write_tiles(alloc: Global, tiles: &[Tile]) -> Result<Vec<u8>, AllocError>
     ensures { IfOk result (λ text. text.items ≡ tiles_spelling (map colours_of tiles.now)) }

@@ -1,15 +1,8 @@
 -- Clues, drawn.
-use Rattle.std.proofs.Common.{◌≡◌, ◌<◌, ◌++◌, ◌∷◌, [], ℕ, List, Option, Some, None, IfSome, refl, ap, ◌∙◌, append_assoc}
-use Rattle.match_board.specs.Clues.{AsksByClue}
-use Rattle.match_limits.specs.declared.TheConstants.{MOST_COLOURS}
-use Rattle.match_puzzle.specs.Puzzle.{Task, IsPuzzle}
+use Rattle.std.proofs.Common.{◌≡◌, ◌++◌, ◌∷◌, [], ℕ, List, ap, ◌∙◌, append_assoc}
+use Rattle.match_puzzle.specs.Puzzle.{Task}
 use Rattle.picture_parts.specs.Clued.{IsHatched, hatching_begin}
 use Rattle.picture_parts.specs.Elements.{IsAlong, element_begin}
-
--- what a clue asks for is a colour
-pub clue_below : (p : Task) (cell side : ℕ) (asked : Option ℕ) → IsPuzzle p → ((colour : ℕ) → asked ≡ Some colour → AsksByClue p.clues cell side colour) → IfSome asked (λ colour. colour < MOST_COLOURS)
-clue_below p cell side None puzzle is = tt
-clue_below p cell side (Some colour) puzzle is = puzzle.clues.colours cell side colour (is colour refl)
 
 -- an element, and its path once more
 pub hatched_once : (p : Task) (colour x y x' y' : ℕ) (t0 t1 t2 t3 path : List ℕ) → t0 ≡ element_begin p colour x y → t1 ≡ t0 ++ path → t2 ≡ t1 ++ hatching_begin x' y' → t3 ≡ t2 ++ path → x' ≡ x → y' ≡ y → IsAlong p colour path → IsHatched p colour x y t3

@@ -9,8 +9,7 @@ use crate::forms::Offset;
 use std::alloc::{AllocError, Global};
 use text_words::put_number;
 
-/// The arrows of tiles at the canvas's sites: a line for each where tiles may not be turned, and nothing where they
-/// may.
+/// An arrow for each site of the canvas, each on a line, where tiles may not be turned. Empty where they may.
 pub fn arrow_lines(alloc: Global, canvas: &Canvas<'_>) -> Result<Vec<u8>, AllocError>
     ensures { IfOk result (λ lines. lines.items ≡ arrow_lines canvas.now.puzzle.now canvas.now.left canvas.now.top
         canvas.now.sites.items) }

@@ -23,7 +23,7 @@ pub(crate) struct Ruled {
     pub(crate) colour: u8,
 }
 
-/// The bands of a board's cells, each at its site: a line for each cell that has some.
+/// The bands of a board's cells. Each cell that has some has a line.
 pub fn band_lines(alloc: Global, canvas: &Canvas<'_>) -> Result<Vec<u8>, AllocError>
     requires { length canvas.now.sites.items ≡ cell_count canvas.now.puzzle.now.board }
     ensures { IfOk result (λ lines. AreBandLines canvas.now.puzzle.now canvas.now.left canvas.now.top
@@ -37,7 +37,7 @@ pub fn band_lines(alloc: Global, canvas: &Canvas<'_>) -> Result<Vec<u8>, AllocEr
     Ok(lines)
 }
 
-/// Writes the line with its end, or nothing where there is nothing in it.
+/// Writes the line and its end, unless the line is empty.
 pub fn put_ended(lines: &mut Vec<u8>, line: &[u8]) -> Result<(), AllocError>
     ensures { OnOk result (lines.new.items ≡ lines.old.items ++ ended line.now) }
 {

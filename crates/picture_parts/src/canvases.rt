@@ -5,8 +5,8 @@ ghost use Rattle.std.specs.Prelude.{◌≡◌, ◌+◌};
 use crate::forms::{Form, Offset};
 use match_puzzle::Puzzle;
 
-/// Where a cell or a tile is drawn: its form, and the upper left corner of the box round it, counted from that of the
-/// board or the tray.
+/// Where a cell or a tile is drawn: its form, and the upper left corner of the box round it, counted from the corner of
+/// the board or the tray.
 #[derive(Clone, Copy)]
 pub struct Site {
     pub form: Form,
@@ -21,7 +21,8 @@ pub struct Point {
     pub y: u64,
 }
 
-/// The sites of a puzzle's cells, or of its tiles in the tray, by number, and the point of the picture where they begin.
+/// The sites of a puzzle's cells, or of its tiles in the tray, by number, and the point of the picture where they
+/// begin.
 #[derive(Drop)]
 pub struct Canvas<'a> {
     pub puzzle: &'a Puzzle,
@@ -31,7 +32,7 @@ pub struct Canvas<'a> {
 }
 
 impl Canvas<'_> {
-    /// The point so far from the corner of the box round a site.
+    /// The point that is `offset` away from the corner of the box round a site.
     pub fn point(&self, site: Site, offset: Offset) -> Point
         ensures x { result.x ≡ self.now.left + site.x + offset.x }
         ensures y { result.y ≡ self.now.top + site.y + offset.y }

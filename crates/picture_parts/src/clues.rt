@@ -19,8 +19,8 @@ use match_puzzle::Puzzle;
 use std::alloc::{AllocError, Global};
 use text_words::put_number;
 
-/// What clues ask for, each at the site of its cell: a line for each cell that has some, and before these the pattern
-/// with which they are hatched. Nothing where clues ask for nothing.
+/// The colours that clues ask for, each drawn at its side in the cell. Each cell that has some has a line, and before
+/// the lines comes the pattern with which they are hatched. Empty where clues ask for nothing.
 pub fn clue_lines(alloc: Global, canvas: &Canvas<'_>) -> Result<Vec<u8>, AllocError>
     requires { length canvas.now.sites.items ≡ cell_count canvas.now.puzzle.now.board }
     ensures { IfOk result (λ text. ShowsClues canvas.now.puzzle.now canvas.now.left canvas.now.top
@@ -96,39 +96,13 @@ fn part_at(alloc: Global, canvas: &Canvas<'_>, cell: u16, side: u8) -> Result<Ve
     ensures { IfOk result (λ part. (site : Site) → slice_get canvas.now.sites.items cell ≡ Some site
         → IsClued canvas.now.puzzle.now canvas.now.left canvas.now.top site cell side part.items) }
 {
-    match asked_by_clue(canvas.puzzle, cell, side) {
+    match canvas.puzzle.clue_colour(cell, side) {
         Some(colour) => {
             let part = hatched(alloc, canvas, Ruled { cell, side, colour })?;
             Ok(part)
         }
         None => Ok(Vec::new(alloc)),
     }
-}
-
-/// The colour that a clue asks for at a side.
-pub fn asked_by_clue(puzzle: &Puzzle, cell: u16, side: u8) -> Option<u8>
-    requires cell { cell < cell_count puzzle.now.board }
-    requires side { side < side_count puzzle.now.board }
-    requires puzzle { IsPuzzle puzzle.now }
-    ensures rule { (colour : ℕ) → (result ≡ Some colour) ↔ AsksByClue puzzle.now.clues cell side colour }
-    ensures below { IfSome result (λ colour. colour < MOST_COLOURS) }
-{
-    asked_in(puzzle.clues(), cell, side)
-}
-
-// What a clue asks of the side of the cell, where each cell has one clue at most.
-fn asked_in(clues: &[Clue], cell: u16, side: u8) -> Option<u8>
-    requires once { (c d : Asking) → Contains (map clue_of clues.now) c → Contains (map clue_of clues.now) d
-        → c.cell ≡ d.cell → c ≡ d }
-    requires sides { (c : Asking) → Contains (map clue_of clues.now) c → side < length c.asks }
-    ensures { (colour : ℕ) → (result ≡ Some colour) ↔ AsksByClue (map clue_of clues.now) cell side colour }
-{
-    for clue in clues {
-        if clue.cell() == cell {
-            return clue.asks(side);
-        }
-    }
-    None
 }
 
 // A part in the fill of the colour, and its path once more, hatched.

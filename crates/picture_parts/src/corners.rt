@@ -15,7 +15,7 @@ pub enum End {
     Last,
 }
 
-/// The outer corner of a band, so far right of and below the end of its side.
+/// The outer corner of a band: how far it is to the right of the end of its side, and how far below.
 #[derive(Clone, Copy)]
 pub struct Corner {
     pub x: i16,

@@ -10,8 +10,8 @@ use match_puzzle::Puzzle;
 use std::alloc::{AllocError, Global};
 use std::cmp::Ordering;
 
-/// How the edge of a colour runs: straight where the colour is its own mate; of two mates the lesser has a knob, and the
-/// greater a hollow for it.
+/// How the edge of a colour runs. It is straight where the colour is its own mate. Of two mates, the lesser has a knob,
+/// and the greater a hollow for it.
 #[derive(Clone, Copy)]
 pub enum Edge {
     Flat,

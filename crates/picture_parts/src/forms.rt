@@ -13,15 +13,15 @@ pub enum Form {
     Down,
 }
 
-/// So far right of and below the upper left corner of the box round a cell: 80 by 80 round a square, 104 by 90 round a
-/// triangle.
+/// How far a point is to the right of the upper left corner of the box round a cell, and how far below. The box is 80
+/// by 80 round a square, and 104 by 90 round a triangle.
 #[derive(Clone, Copy)]
 pub struct Offset {
     pub x: u8,
     pub y: u8,
 }
 
-/// So far to the right, and so far down, from one point of a form to another.
+/// The way from one point of a form to another: how far to the right, and how far down.
 #[derive(Clone, Copy)]
 pub struct Way {
     pub x: i8,
@@ -38,7 +38,7 @@ impl Way {
     }
 }
 
-/// A step of a path: so far to the right, and so far down. It is written as `h`, `v` or `l` with its numbers.
+/// A step of a path: how far to the right, and how far down. It is written as `h`, `v` or `l` with its numbers.
 #[derive(Clone, Copy)]
 pub struct Step {
     pub x: i32,
@@ -59,7 +59,7 @@ impl fmt::Display for Step {
     }
 }
 
-/// A number behind another in a path: a space parts them where it has no sign.
+/// A number that follows another in a path. A space separates them where it has no sign.
 #[derive(Clone, Copy)]
 pub struct Next {
     pub number: i32,
@@ -90,13 +90,13 @@ pub struct FormSide {
     pub neck: Way,
     /// the middle of a sign at it
     pub sign: Offset,
-    /// the same beside a hollow
+    /// the middle of a sign at a hollow
     pub hollow_sign: Offset,
     /// from an end to the outer corner of a band along it, where the board's edge goes straight on
     pub out: Way,
 }
 
-/// The side of the form; the last one for a number that is none of its sides.
+/// The side of the form with this number. A number that is too great gives the last side.
 pub fn side_of(form: Form, side: u8) -> FormSide
     ensures x { result.begin.x ≡ (begin_of form side).0 }
     ensures y { result.begin.y ≡ (begin_of form side).1 }

@@ -16,7 +16,7 @@ mod plans;
 pub use arrows::arrow_lines;
 pub use bands::{asked, asked_outside, band_lines, put_ended};
 pub use canvases::{Canvas, Point, Site};
-pub use clues::{asked_by_clue, clue_lines};
+pub use clues::clue_lines;
 pub use edges::{Edge, edge_of, edge_path};
 pub use forms::{Form, FormSide, Offset, Way, side_of};
 pub use numbers::{number, tile_number};

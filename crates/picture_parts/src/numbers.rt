@@ -8,7 +8,7 @@ use crate::canvases::Point;
 use match_puzzle::Placement;
 use std::alloc::{AllocError, Global};
 
-/// The number, its base line so far below the point.
+/// The number, with its base line `base` below the point.
 pub fn number(alloc: Global, number: u32, at: Point, base: u8) -> Result<String, AllocError>
     ensures { IfOk result (λ label. SaysNumber number (string_bytes label)) }
 {

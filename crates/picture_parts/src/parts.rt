@@ -14,7 +14,7 @@ use match_puzzle::{Placement, Puzzle};
 use std::alloc::{AllocError, Global};
 use text_words::put_number;
 
-/// The parts of tiles, so turned, each at the site of its place in the list: a line for each tile.
+/// The parts of these placed tiles, a line for each tile. A tile's site is that with its place in the list.
 pub fn part_lines(
     alloc: Global,
     canvas: &Canvas<'_>,

@@ -12,11 +12,11 @@ use std::alloc::AllocError;
 /// What is drawn of a list.
 #[derive(Clone, Copy)]
 pub struct PicturePlan {
-    /// From which number on.
+    /// The number of the first arrangement to draw.
     pub number: ArrangementNumber,
-    /// How many at most, on a sheet; or 0: the one of the number, alone.
+    /// How many to draw at most, on a sheet; or 0 to draw one by itself.
     pub first: Drawn,
-    /// With each tile's number, where it is one alone.
+    /// Whether one by itself has the number of each tile.
     pub numbers: bool,
 }
 
@@ -40,8 +40,8 @@ impl From<AllocError> for NotDrawn {
 
 /// The arrangements that are to be drawn of the list.
 ///
-/// `NoArrangement` of the first number where fewer are listed, and `Arrangement` of the first that is to be drawn and is
-/// none of the puzzle's, with its first fault.
+/// An `Err` is `NoArrangement` with the number of the first, where the list has no more arrangements than that; or
+/// `Arrangement` with the first of those to be drawn that is no arrangement of the puzzle, and its first fault.
 pub fn arrangements_to_draw<'a>(
     puzzle: &Puzzle,
     listed: &'a [Arrangement],

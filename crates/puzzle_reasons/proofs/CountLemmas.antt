@@ -8,7 +8,7 @@ use Rattle.match_board.specs.declared.figures.Figure.{Figure}
 use Rattle.match_board.specs.declared.figures.Figure.TheVariants.{Rectangle, Triangle, Hexagon, Shape}
 use Rattle.match_puzzle.proofs.Pigeonhole.{all_placed}
 use Rattle.match_puzzle.specs.Arrangement.{Stands, IsArrangement}
-use Rattle.match_puzzle.specs.Puzzle.{Task, IsPuzzle, colour_of, word_of}
+use Rattle.match_puzzle.specs.Puzzle.{Task, IsPuzzle, AllHaveToStand, colour_of, word_of}
 use Rattle.match_puzzle.specs.declared.placements.Placement.{Placement}
 use Rattle.match_puzzle.proofs.ArrangementLemmas.{read_stands, standing_is}
 use Rattle.match_puzzle.proofs.Words.{legal_below}
@@ -123,20 +123,25 @@ module _ (p : Task) (a : List Placement) where
         let turned = turned_ones p.board colour (word_of p (at cell).tile) (at cell).turn (puzzle.sides (at cell).tile legal.tile) (legal_below p (at cell) puzzle legal) in
         omega (arith, ap (shows colour) first, shows_at colour cell 0 (omega arith), shows_at colour cell 1 (omega arith), shows_at colour cell 2 (omega arith), shows_at colour cell 3 (omega arith), turned)
 
-    -- Each tile stands at one cell.
-    tiles_once : (colour : ℕ) → total (λ cell. of_tile colour (at cell).tile) (cell_count p.board) ≡ total (of_tile colour) (length p.words)
-    tiles_once colour = omega (arith, there, back)
-      where
-        there : total (λ cell. of_tile colour (at cell).tile) (cell_count p.board) ≤ total (of_tile colour) (length p.words)
-        there =
-            carried (λ cell. of_tile colour (at cell).tile) (of_tile colour) (cell_count p.board) (length p.words) (λ cell tile. (cell < cell_count p.board) × ((at cell).tile ≡ tile))
-            (λ cell lt some. ((at cell).tile, (is.legal cell (at cell) (stands_at cell lt)).tile, (lt, refl), omega arith))
-            (λ cell cell' tile r r'. is.once cell cell' (at cell) (at cell') (stands_at cell r.0) (stands_at cell' r'.0) (r.1 ∙ sym r'.1))
+    -- how many sides of the tiles that stand have the colour
+    abbrev standing : (colour : ℕ) → ℕ
+    standing colour = total (λ cell. of_tile colour (at cell).tile) (cell_count p.board)
 
-        back : total (of_tile colour) (length p.words) ≤ total (λ cell. of_tile colour (at cell).tile) (cell_count p.board)
+    -- No tile stands at two cells.
+    tiles_few : (colour : ℕ) → standing colour ≤ total (of_tile colour) (length p.words)
+    tiles_few colour =
+        carried (λ cell. of_tile colour (at cell).tile) (of_tile colour) (cell_count p.board) (length p.words) (λ cell tile. (cell < cell_count p.board) × ((at cell).tile ≡ tile))
+        (λ cell lt some. ((at cell).tile, (is.legal cell (at cell) (stands_at cell lt)).tile, (lt, refl), omega arith))
+        (λ cell cell' tile r r'. is.once cell cell' (at cell) (at cell') (stands_at cell r.0) (stands_at cell' r'.0) (r.1 ∙ sym r'.1))
+
+    -- Where all have to stand, each stands at one.
+    tiles_once : AllHaveToStand p → (colour : ℕ) → standing colour ≡ total (of_tile colour) (length p.words)
+    tiles_once all colour = omega (arith, tiles_few colour, back)
+      where
+        back : total (of_tile colour) (length p.words) ≤ standing colour
         back =
             carried (of_tile colour) (λ cell. of_tile colour (at cell).tile) (length p.words) (cell_count p.board) (λ tile cell. (at cell).tile ≡ tile)
-            (λ tile lt some. found tile (all_placed p a puzzle.tiles is tile lt))
+            (λ tile lt some. found tile (all_placed p a all is tile lt))
             (λ tile tile' cell r r'. sym r ∙ r')
           where
             found : (tile : ℕ) → (cell : ℕ) × (x : Placement) × Stands a cell x × (x.tile ≡ tile) → Goes (of_tile colour) (λ cell. of_tile colour (at cell).tile) (λ tile cell. (at cell).tile ≡ tile) (cell_count p.board) tile
@@ -148,10 +153,16 @@ module _ (p : Task) (a : List Placement) where
                 inside : (cell : ℕ) (x : Placement) → Stands a cell x → cell < cell_count p.board
                 inside cell x s = let lt = slice_get_within a cell x s in omega (arith, lt, is.cells)
 
-    -- An arrangement shows each colour as often as tiles have it.
-    pub shown_often : (colour : ℕ) → total (shows colour) (4 * cell_count p.board) ≡ tile_count p.words colour
-    shown_often colour =
+    -- An arrangement shows each colour as often as the tiles that stand have it,
+    shown_standing : (colour : ℕ) → total (shows colour) (4 * cell_count p.board) ≡ standing colour
+    shown_standing colour =
         total_fours (shows colour) (cell_count p.board)
         ∙ total_same _ (λ cell. of_tile colour (at cell).tile) (cell_count p.board) (λ cell lt. of_cell colour cell lt)
-        ∙ tiles_once colour
-        ∙ total_list (count_by (is_colour colour)) p.words []
+
+    -- so at most as often as all tiles have it,
+    pub shown_few : (colour : ℕ) → total (shows colour) (4 * cell_count p.board) ≤ tile_count p.words colour
+    shown_few colour = omega (arith, shown_standing colour, tiles_few colour, total_list (count_by (is_colour colour)) p.words [])
+
+    -- and where all have to stand just as often.
+    pub shown_often : AllHaveToStand p → (colour : ℕ) → total (shows colour) (4 * cell_count p.board) ≡ tile_count p.words colour
+    shown_often all colour = shown_standing colour ∙ tiles_once all colour ∙ total_list (count_by (is_colour colour)) p.words []

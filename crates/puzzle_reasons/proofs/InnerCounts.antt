@@ -12,7 +12,7 @@ use Rattle.match_puzzle.specs.declared.placements.Placement.{Placement}
 use Rattle.match_puzzle.proofs.ArrangementLemmas.{side_in_range}
 use Rattle.match_puzzle.proofs.TogetherLemmas.{together_turned}
 use Rattle.match_show.specs.Facts.{border_count, tile_count}
-use Rattle.puzzle_reasons.specs.Reasons.{AsksEverywhere}
+use Rattle.puzzle_reasons.specs.Reasons.{AsksEverywhere, FillsInside}
 use Rattle.puzzle_reasons.proofs.Totals.{total, total_both, carried, Goes}
 use Rattle.puzzle_reasons.proofs.CountLemmas.{at, shows, shows_tells, shows_one, shows_few, stands_at, shown_often}
 use Rattle.puzzle_reasons.proofs.BorderCounts.{HasBorderRule, of_border, asks_one, asks_few, asked_often, asks_counts, IsOf, is_asked, one_number_of, one_side_of}
@@ -125,13 +125,13 @@ module _ (p : Task) (a : List Placement) (puzzle : IsPuzzle p) (is : IsArrangeme
             let same = ap (λ met. outside met (shows p a colour n)) e in
             absurd (omega (arith, same, some))
 
-    -- Where the border asks each outer side for a colour, what is left is on inner sides.
-    pub left_inside : AsksEverywhere p → tile_count p.words colour ≡ border_count p.border (length outer) colour + total (λ n. inner (partner n) (shows p a colour n)) sides
-    left_inside everywhere =
-        let all = shown_often p a puzzle is colour in
+    -- Where each tile has to stand and the border asks each outer side for a colour, what is left is on inner sides.
+    pub left_inside : FillsInside p → tile_count p.words colour ≡ border_count p.border (length outer) colour + total (λ n. inner (partner n) (shows p a colour n)) sides
+    left_inside fills =
+        let all = shown_often p a puzzle is fills.0 colour in
         let both = total_both (shows p a colour) (λ n. outside (partner n) (shows p a colour n)) (λ n. inner (partner n) (shows p a colour n)) sides (λ n. outside_or_inner (partner n) (shows p a colour n)) in
         let asked = asked_often p outer colour puzzle border in
-        omega (arith, all, both, asked, asked_outside, outside_asked everywhere)
+        omega (arith, all, both, asked, asked_outside, outside_asked fills.1)
 
   -- ---- inner sides
 

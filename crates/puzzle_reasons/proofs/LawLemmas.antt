@@ -18,7 +18,7 @@ use Rattle.puzzle_reasons.specs.Reasons.{AreReasons, HoldsOf, IsShort, IsOdd, Ar
 use Rattle.puzzle_reasons.specs.declared.reasons.Reason.{Reason}
 use Rattle.puzzle_reasons.specs.declared.reasons.Reason.TheVariants.{ColourShort, Odd, Unequal, DeadCell, DeadTile}
 use Rattle.puzzle_reasons.proofs.MeetLemmas.{some_partner}
-use Rattle.puzzle_reasons.proofs.CountLemmas.{at, stands_at, shown_often}
+use Rattle.puzzle_reasons.proofs.CountLemmas.{at, stands_at, shown_few}
 use Rattle.puzzle_reasons.proofs.BorderCounts.{asked_often, asked_few}
 use Rattle.puzzle_reasons.proofs.InnerCounts.{left_inside, inner_mates, inner_even}
 
@@ -27,20 +27,20 @@ module _ (p : Task) (a : List Placement) (puzzle : IsPuzzle p) (is : IsArrangeme
   none_short colour asked shown h =
       let outer = h.counted.outer in
       let le = asked_few p outer colour h.counted.border a puzzle is in
-      omega (arith, h.short, h.on_tiles, h.counted.counted, le, asked_often p outer colour puzzle h.counted.border, shown_often p a puzzle is colour)
+      omega (arith, h.short, h.on_tiles, h.counted.counted, le, asked_often p outer colour puzzle h.counted.border, shown_few p a puzzle is colour)
 
   none_odd : (colour left : ℕ) → IsOdd p colour left → ⊥
   none_odd colour left h = some_partner p.board (4 * cell_count p.board) (λ partner tells.
       let asked = h.counted.1 in
-      let inside = left_inside p a puzzle is partner tells asked.outer asked.border colour h.everywhere in
+      let inside = left_inside p a puzzle is partner tells asked.outer asked.border colour h.inside in
       omega (arith, inside, inner_even p a puzzle is partner tells colour h.own, h.odd, h.counted.2, asked.counted))
 
   none_unequal : (colour left mate mate_left : ℕ) → AreUnequal p colour left mate mate_left → ⊥
   none_unequal colour left mate mate_left h = some_partner p.board (4 * cell_count p.board) (λ partner tells.
       let asked = h.counted.1 in
       let mate_asked = h.mate_counted.1 in
-      let inside = left_inside p a puzzle is partner tells asked.outer asked.border colour h.everywhere in
-      let mate_inside = left_inside p a puzzle is partner tells mate_asked.outer mate_asked.border (mate_of p colour) h.everywhere in
+      let inside = left_inside p a puzzle is partner tells asked.outer asked.border colour h.inside in
+      let mate_inside = left_inside p a puzzle is partner tells mate_asked.outer mate_asked.border (mate_of p colour) h.inside in
       let same = inner_mates p a puzzle is partner tells colour (mate_back p.mating.mates puzzle.mating.mates colour) in
       let tiles = ap (tile_count p.words) h.mates in
       let asks = ap (border_count p.border (length mate_asked.outer)) h.mates in
@@ -61,7 +61,7 @@ module _ (p : Task) (a : List Placement) (puzzle : IsPuzzle p) (is : IsArrangeme
   none_with (Odd colour left) h = none_odd colour left h
   none_with (Unequal colour left mate mate_left) h = none_unequal colour left mate mate_left h
   none_with (DeadCell cell) h = h.1 (at p a cell) (fits_there cell (at p a cell) (stands_at p a puzzle is cell h.0))
-  none_with (DeadTile tile) h = let w = all_placed p a puzzle.tiles is tile h.0 in h.1 w.0 w.1 w.3 (fits_there w.0 w.1 w.2)
+  none_with (DeadTile tile) h = let w = all_placed p a h.0 is tile h.1 in h.2 w.0 w.1 w.3 (fits_there w.0 w.1 w.2)
 
 pub reason_law : ReasonLaw
 reason_law = λ p reason a puzzle h is. none_with p a puzzle is reason h

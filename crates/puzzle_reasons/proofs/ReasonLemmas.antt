@@ -1,5 +1,5 @@
 -- Which reasons there are.
-use Rattle.std.proofs.Common.{◌≡◌, ◌<◌, ◌≤◌, ◌+◌, ◌-◌, ◌%◌, ℕ, List, [], ◌∷◌, ◌++◌, All, get_or, length, refl, ap, sym, ◌∙◌, subst, arith, inl, inr, ⊎_elim}
+use Rattle.std.proofs.Common.{◌≡◌, ◌<◌, ◌≤◌, ◌+◌, ◌-◌, ◌%◌, ℕ, Bool, true, false, List, [], ◌∷◌, ◌++◌, All, MatchBool, get_or, length, refl, ap, sym, ◌∙◌, subst, arith, inl, inr, ⊎_elim}
 use Rattle.std.proofs.lemmas.Bool.Decides.{eqb_tells}
 use Rattle.std.proofs.lemmas.List.Elements.{All-from_get_or, Contains-get_or}
 use Rattle.match_puzzle.proofs.TogetherLemmas.{small_mate}
@@ -9,7 +9,7 @@ use Rattle.match_limits.proofs.ListLemmas.{member_at, contains_at}
 use Rattle.match_board.specs.Board.{cell_count}
 use Rattle.match_puzzle.specs.Fitting.{Fits, FitsItem, AreFitting}
 use Rattle.match_puzzle.specs.Prefix.{Prefix, empty_prefix}
-use Rattle.match_puzzle.specs.Puzzle.{Task, IsPuzzle, mate_of}
+use Rattle.match_puzzle.specs.Puzzle.{Task, IsPuzzle, AllHaveToStand, mate_of}
 use Rattle.match_puzzle.specs.declared.items.Item.{Item}
 use Rattle.match_puzzle.specs.declared.items.Item.TheVariants.{Cell, Tile}
 use Rattle.match_puzzle.specs.declared.placements.Pair.{Pair}
@@ -200,11 +200,11 @@ module _ (p : Task) where
       by_kind (DeadCell other) holds e f = omega (arith, e)
       by_kind (DeadTile other) holds e f =
           let fits = fits_some (Tile tile) counted.0 counted.1 (λ none. some (sym counted.2 ∙ none)) in
-          holds.1 fits.0.cell fits.0.placement (fits.1.0 ∙ sym f) fits.1.1
+          holds.2 fits.0.cell fits.0.placement (fits.1.0 ∙ sym f) fits.1.1
 
-  pub tile_put : (tile count : ℕ) (reasons : List Reason) → tile < length p.words → (xs : List Pair) × AreFitting p (empty_prefix p) (Tile tile) xs × (length xs ≡ count) → count ≡ 0 → AreReasonsBefore p (2, tile) reasons → AreReasonsBefore p (2, tile + 1) (reasons ++ DeadTile tile ∷ [])
-  tile_put tile count reasons lt counted none h =
-      reason_put 2 tile reasons (DeadTile tile) ((lt, λ cell x e fits. fits_none (Tile tile) counted.0 counted.1 (counted.2 ∙ none) (record { cell = cell; placement = x }) (e, fits)), refl) h
+  pub tile_put : (tile count : ℕ) (reasons : List Reason) → AllHaveToStand p → tile < length p.words → (xs : List Pair) × AreFitting p (empty_prefix p) (Tile tile) xs × (length xs ≡ count) → count ≡ 0 → AreReasonsBefore p (2, tile) reasons → AreReasonsBefore p (2, tile + 1) (reasons ++ DeadTile tile ∷ [])
+  tile_put tile count reasons all lt counted none h =
+      reason_put 2 tile reasons (DeadTile tile) ((all, lt, λ cell x e fits. fits_none (Tile tile) counted.0 counted.1 (counted.2 ∙ none) (record { cell = cell; placement = x }) (e, fits)), refl) h
 
   -- ---- the next kind
 
@@ -243,7 +243,26 @@ module _ (p : Task) where
       by_kind (Odd c left) holds e = absurd (omega (arith, e))
       by_kind (Unequal c left mate mate_left) holds e = absurd (omega (arith, e))
       by_kind (DeadCell other) holds e = absurd (omega (arith, e))
-      by_kind (DeadTile tile) holds e = holds.0
+      by_kind (DeadTile tile) holds e = holds.1
+
+  -- none is of a tile where some tile is left over
+  pub no_tiles : (reasons : List Reason) → (AllHaveToStand p → ⊥) → AreReasonsBefore p (2, 0) reasons → AreReasons p reasons
+  no_tiles reasons over h = listing_all reason_key (HoldsOf p) 2 reasons (λ reason holds. by_kind reason holds) h
+    where
+      by_kind : (reason : Reason) → HoldsOf p reason → (reason_key reason).0 < 2
+      by_kind (ColourShort c asked shown) holds = omega arith
+      by_kind (Odd c left) holds = omega arith
+      by_kind (Unequal c left mate mate_left) holds = omega arith
+      by_kind (DeadCell other) holds = omega arith
+      by_kind (DeadTile tile) holds = absurd (over holds.0)
+
+-- ---- whether each tile has to stand, where the puzzle was asked
+
+pub all_stand : (p q : Task) → q ≡ p → (b : Bool) → MatchBool b (AllHaveToStand q) (AllHaveToStand q → ⊥) → b ≡ true → AllHaveToStand p
+all_stand p q same b told e = subst AllHaveToStand same (subst (λ x. MatchBool x (AllHaveToStand q) (AllHaveToStand q → ⊥)) e told)
+
+pub some_over : (p q : Task) → q ≡ p → (b : Bool) → MatchBool b (AllHaveToStand q) (AllHaveToStand q → ⊥) → b ≡ false → AllHaveToStand p → ⊥
+some_over p q same b told e all = subst (λ x. MatchBool x (AllHaveToStand q) (AllHaveToStand q → ⊥)) e told (subst AllHaveToStand (sym same) all)
 
 -- Reasons that hold name colours.
 pub name_colours : (p : Task) → IsPuzzle p → (reasons : List Reason) → AreReasons p reasons → All NamesColours reasons

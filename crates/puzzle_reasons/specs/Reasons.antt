@@ -6,7 +6,7 @@ use Rattle.match_board.specs.Board.{cell_count, IsBorderPair, IsBorderOrder}
 use Rattle.match_board.specs.Borders.{Asks}
 use Rattle.match_puzzle.specs.Fitting.{Fits}
 use Rattle.match_puzzle.specs.Prefix.{empty_prefix}
-use Rattle.match_puzzle.specs.Puzzle.{Task, mate_of}
+use Rattle.match_puzzle.specs.Puzzle.{Task, AllHaveToStand, mate_of}
 use Rattle.match_puzzle.specs.declared.placements.Placement.{Placement}
 use Rattle.match_show.specs.Facts.{border_count, tile_count}
 use Rattle.puzzle_reasons.specs.declared.reasons.Reason.{Reason}
@@ -23,6 +23,11 @@ abbrev pub AsksEverywhere : Task → Type 0
 AsksEverywhere p =
     (cell side : ℕ) → IsBorderPair p.board cell side → (colour : ℕ) × Asks p.board p.border cell side colour
 
+-- What the border leaves of a colour just fills inner sides: each tile has to stand, and the border asks each outer
+-- side for a colour.
+abbrev pub FillsInside : Task → Type 0
+FillsInside p = AllHaveToStand p × AsksEverywhere p
+
 -- So many sides of tiles with the colour are left for inner sides, when the border has those that it asks for.
 abbrev pub IsLeft : Task → (colour left : ℕ) → Type 0
 IsLeft p colour left = (asked : ℕ) × IsAskedCount p colour asked × (tile_count p.words colour ≡ asked + left)
@@ -34,18 +39,18 @@ pub record IsShort (p : Task) (colour asked shown : ℕ) : Type 0 where
   pub on_tiles : shown ≡ tile_count p.words colour
   pub short : shown < asked
 
--- The border asks each outer side for a colour, and an odd number of sides is left of a colour that meets itself.
+-- What is left fills inner sides, and an odd number of sides is left of a colour that meets itself.
 pub record IsOdd (p : Task) (colour left : ℕ) : Type 0 where
   pub few : colour < MOST_COLOURS
-  pub everywhere : AsksEverywhere p
+  pub inside : FillsInside p
   pub own : mate_of p colour ≡ colour
   pub counted : IsLeft p colour left
   pub odd : left % 2 ≡ 1
 
--- The border asks each outer side for a colour, and of two mates different numbers of sides are left.
+-- What is left fills inner sides, and of two mates different numbers of sides are left.
 pub record AreUnequal (p : Task) (colour left mate mate_left : ℕ) : Type 0 where
   pub few : colour < MOST_COLOURS
-  pub everywhere : AsksEverywhere p
+  pub inside : FillsInside p
   pub mates : mate ≡ mate_of p colour
   pub lesser : colour < mate
   pub counted : IsLeft p colour left
@@ -56,10 +61,11 @@ pub record AreUnequal (p : Task) (colour left mate mate_left : ℕ) : Type 0 whe
 abbrev pub IsDeadCell : Task → (cell : ℕ) → Type 0
 IsDeadCell p cell = (cell < cell_count p.board) × ((x : Placement) → Fits p (empty_prefix p) cell x → ⊥)
 
--- The tile fits nowhere on the empty board.
+-- Each tile has to stand, and this one fits nowhere on the empty board.
 abbrev pub IsDeadTile : Task → (tile : ℕ) → Type 0
 IsDeadTile p tile =
-    (tile < length p.words) × ((cell : ℕ) (x : Placement) → x.tile ≡ tile → Fits p (empty_prefix p) cell x → ⊥)
+    AllHaveToStand p × (tile < length p.words)
+    × ((cell : ℕ) (x : Placement) → x.tile ≡ tile → Fits p (empty_prefix p) cell x → ⊥)
 
 -- The reason holds of the puzzle.
 abbrev pub HoldsOf : Task → Reason → Type 0

@@ -6,7 +6,8 @@ ghost use Rattle.match_board.specs.Board.{IsBorderOrder};
 ghost use Rattle.match_limits.specs.declared.TheConstants.{MOST_COLOURS};
 ghost use Rattle.match_puzzle.specs.Puzzle.{IsPuzzle, mate_of};
 ghost use Rattle.match_show.specs.Facts.{tile_count};
-ghost use Rattle.puzzle_reasons.specs.Reasons.{AsksEverywhere, IsAskedCount, IsLeft, IsReasonAt, HasNoReasonAt};
+ghost use Rattle.puzzle_reasons.specs.Reasons.{AsksEverywhere, FillsInside, IsAskedCount, IsLeft, IsReasonAt};
+ghost use Rattle.puzzle_reasons.specs.Reasons.{HasNoReasonAt};
 
 use crate::reasons::Reason;
 use match_puzzle::{Border, Puzzle};
@@ -34,8 +35,22 @@ impl Sides {
     }
 }
 
-/// Whether the border asks each outer side for a colour, where the board has so many.
-pub(crate) fn asks_everywhere(puzzle: &Puzzle, outer: u16) -> bool
+/// Whether what the border leaves of a colour just fills inner sides, where the board has so many outer ones: each tile
+/// has to stand, and the border asks each outer side for a colour.
+pub(crate) fn fills_inside(puzzle: &Puzzle, outer: u16) -> bool
+    requires puzzle { IsPuzzle puzzle.now }
+    requires outer { (pairs : List (ℕ × ℕ)) × IsBorderOrder puzzle.now.board pairs × (length pairs ≡ outer) }
+    ensures { IsTrue result ↔ FillsInside puzzle.now }
+{
+    if puzzle.have_all_to_stand() {
+        asks_everywhere(puzzle, outer)
+    } else {
+        false
+    }
+}
+
+// Whether the border asks each outer side for a colour, where the board has so many.
+fn asks_everywhere(puzzle: &Puzzle, outer: u16) -> bool
     requires puzzle { IsPuzzle puzzle.now }
     requires outer { (pairs : List (ℕ × ℕ)) × IsBorderOrder puzzle.now.board pairs × (length pairs ≡ outer) }
     ensures { IsTrue result ↔ AsksEverywhere puzzle.now }
@@ -55,17 +70,13 @@ fn is_full(rules: &[Option<u8>]) -> bool
     !rules.contains(&None)
 }
 
-/// The reason of a colour, if there is one, where the board has so many outer sides, and the border asks each or not.
-pub(crate) fn colour_reason(
-    puzzle: &Puzzle,
-    outer: u16,
-    everywhere: bool,
-    colour: u8,
-) -> Option<Reason>
+/// The reason of a colour, if there is one, where the board has so many outer sides, and what is left fills inner sides
+/// or not.
+pub(crate) fn colour_reason(puzzle: &Puzzle, outer: u16, inside: bool, colour: u8) -> Option<Reason>
     requires colour { colour < MOST_COLOURS }
     requires puzzle { IsPuzzle puzzle.now }
     requires outer { (pairs : List (ℕ × ℕ)) × IsBorderOrder puzzle.now.board pairs × (length pairs ≡ outer) }
-    requires everywhere { IsTrue everywhere ↔ AsksEverywhere puzzle.now }
+    requires inside { IsTrue inside ↔ FillsInside puzzle.now }
     ensures { MatchOption result (HasNoReasonAt puzzle.now (0, colour)) (IsReasonAt puzzle.now (0, colour)) }
 {
     let Sides { asked, shown } = Sides::of(puzzle, outer, colour);
@@ -76,19 +87,19 @@ pub(crate) fn colour_reason(
             shown,
         });
     }
-    if everywhere {
+    if inside {
         inner_reason(puzzle, outer, colour, shown - asked)
     } else {
         None
     }
 }
 
-// The reason of a colour of which so many sides are left, where the border asks each outer side for a colour.
+// The reason of a colour of which so many sides are left, where they fill inner sides.
 fn inner_reason(puzzle: &Puzzle, outer: u16, colour: u8, left: usize) -> Option<Reason>
     requires colour { colour < MOST_COLOURS }
     requires puzzle { IsPuzzle puzzle.now }
     requires outer { (pairs : List (ℕ × ℕ)) × IsBorderOrder puzzle.now.board pairs × (length pairs ≡ outer) }
-    requires everywhere { AsksEverywhere puzzle.now }
+    requires inside { FillsInside puzzle.now }
     requires left { IsLeft puzzle.now colour left }
     ensures { MatchOption result (HasNoReasonAt puzzle.now (0, colour)) (IsReasonAt puzzle.now (0, colour)) }
 {
@@ -105,7 +116,7 @@ fn inner_reason(puzzle: &Puzzle, outer: u16, colour: u8, left: usize) -> Option<
 // The reason of a colour that meets itself.
 fn odd_reason(puzzle: &Puzzle, colour: u8, left: usize) -> Option<Reason>
     requires colour { colour < MOST_COLOURS }
-    requires everywhere { AsksEverywhere puzzle.now }
+    requires inside { FillsInside puzzle.now }
     requires left { IsLeft puzzle.now colour left }
     requires own { mate_of puzzle.now colour ≡ colour }
     ensures { MatchOption result (HasNoReasonAt puzzle.now (0, colour)) (IsReasonAt puzzle.now (0, colour)) }
@@ -119,7 +130,7 @@ fn odd_reason(puzzle: &Puzzle, colour: u8, left: usize) -> Option<Reason>
 // The reason of the lesser of two mates, of which so many sides are left, where the other is asked and shown so often.
 fn unequal_reason(puzzle: &Puzzle, colour: u8, left: usize, of_mate: Sides) -> Option<Reason>
     requires colour { colour < MOST_COLOURS }
-    requires everywhere { AsksEverywhere puzzle.now }
+    requires inside { FillsInside puzzle.now }
     requires left { IsLeft puzzle.now colour left }
     requires lesser { colour < mate_of puzzle.now colour }
     requires asked { IsAskedCount puzzle.now (mate_of puzzle.now colour) of_mate.asked }

@@ -5,7 +5,7 @@ ghost use Rattle.match_puzzle.specs.Prefix.{empty_prefix};
 ghost use Rattle.match_puzzle.specs.Puzzle.{IsPuzzle};
 ghost use Rattle.puzzle_reasons.specs.Reasons.{AreReasons, AreReasonsBefore, NamesColours};
 
-use crate::colours::{asks_everywhere, colour_reason};
+use crate::colours::{colour_reason, fills_inside};
 use crate::reasons::Reason;
 use match_limits::MOST_COLOURS;
 use match_puzzle::{Item, Partial, Puzzle};
@@ -33,9 +33,9 @@ fn put_colours(reasons: &mut Vec<Reason>, puzzle: &Puzzle) -> Result<(), AllocEr
     ensures { OnOk result (AreReasonsBefore puzzle.now (1, 0) reasons.new.items) }
 {
     let outer = puzzle.board().border_len();
-    let everywhere = asks_everywhere(puzzle, outer);
+    let inside = fills_inside(puzzle, outer);
     for colour in 0..MOST_COLOURS {
-        if let Some(reason) = colour_reason(puzzle, outer, everywhere, colour) {
+        if let Some(reason) = colour_reason(puzzle, outer, inside, colour) {
             reasons.push(reason)?;
         }
     }
@@ -60,8 +60,12 @@ fn put_tiles(reasons: &mut Vec<Reason>, partial: &Partial<'_>) -> Result<(), All
     requires before { AreReasonsBefore partial.now.puzzle (2, 0) reasons.old.items }
     ensures { OnOk result (AreReasons partial.now.puzzle reasons.new.items) }
 {
-    // a puzzle has as many tiles as cells
-    for tile in 0..partial.puzzle().board().cells() {
+    let puzzle = partial.puzzle();
+    if !puzzle.have_all_to_stand() {
+        // a tile that fits nowhere may be left over
+        return Ok(());
+    }
+    for tile in 0..puzzle.tile_count() {
         if partial.count(Item::Tile(tile)) == 0 {
             reasons.push(Reason::DeadTile { tile })?;
         }

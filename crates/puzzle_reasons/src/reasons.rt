@@ -9,14 +9,14 @@ pub enum Reason {
         asked: usize,
         shown: usize,
     },
-    /// The border asks each outer side for a colour, and when it has these, an odd number of sides is left of a colour
-    /// that meets itself.
+    /// Each tile has to stand, and the border asks each outer side for a colour. When it has these, an odd number of
+    /// sides is left of a colour that meets itself.
     Odd {
         colour: u8,
         left: usize,
     },
-    /// The border asks each outer side for a colour, and when it has these, different numbers of sides are left of a
-    /// colour and of its mate, which is the greater.
+    /// Each tile has to stand, and the border asks each outer side for a colour. When it has these, different numbers
+    /// of sides are left of a colour and of its mate, which is the greater.
     Unequal {
         colour: u8,
         left: usize,
@@ -27,7 +27,7 @@ pub enum Reason {
     DeadCell {
         cell: u16,
     },
-    /// The tile fits at no cell of the empty board.
+    /// Each tile has to stand, and this one fits at no cell of the empty board.
     DeadTile {
         tile: u16,
     },

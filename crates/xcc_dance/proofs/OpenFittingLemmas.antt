@@ -22,9 +22,9 @@ use Rattle.match_fits.proofs.PlacedPairLemmas.{fit_pushed, at_end}
 use Rattle.match_puzzle.proofs.PairLemmas.{has_of_pairs, free_of_pairs, free_in_empty, length-with_pairs}
 use Rattle.match_puzzle.proofs.Prefixes.{inside, free_or_has}
 use Rattle.xcc_form.specs.ExactCover.{HasPrimary}
-use Rattle.xcc_form.specs.Options.{Compiled, IsCompiled, IsOptionPair, PairComesBefore, cover_of}
+use Rattle.xcc_form.specs.Options.{Compiled, IsCompiled, IsOptionPair, PairComesBefore, cover_of, primary_count}
 use Rattle.xcc_form.specs.Correspondence.{IsPairOf}
-use Rattle.xcc_form.proofs.OptionLemmas.{contains_at, place_of, read_in, option_pair, option_for, pairs_rise, one_option, one_pair, pair_at, many_options}
+use Rattle.xcc_form.proofs.OptionLemmas.{contains_at, place_of, read_in, option_pair, option_for, pairs_rise, one_option, one_pair, pair_at, many_options, primaries_are, cell_is_primary}
 use Rattle.xcc_form.proofs.PairsLemmas.{in_first, in_rest}
 use Rattle.xcc_form.specs.Clashes.{IsPartialSolution, IsOpen, IsOpenAt}
 use Rattle.xcc_form.specs.Chosen.{AreOpenAt, HasSize, IsUncovered, IsCovered}
@@ -161,7 +161,10 @@ module _ (x : Compiled) (is : IsCompiled x) where
     pub uncovered_open : (item : Item) (number : ℕ) → IsNumberOf (cell_count x.puzzle.board) number item → IsUncovered (cover_of x) chosen number → items.IsOpen x.puzzle (prefix_of x.puzzle pairs) item
     uncovered_open (Cell cell) number n un = free_of_pairs pairs (empty_prefix x.puzzle) cell (λ j z there same. let v = chosen_of j z there in un.uncovered (v.0, v.1, settles_has (Cell cell) number v.0 z n v.2 same)) (free_in_empty x.puzzle cell n.1)
     uncovered_open (Tile tile) number n un = (
-      let lt = un.primary in omega (arith, lt, n),
+      ⊎_elim
+          (λ all. let lt = un.primary in let many = all.1 in omega (arith, lt, n, many))
+          (λ some. let lt = un.primary in let many = some.1 in absurd (omega (arith, lt, n, many)))
+          (primaries_are x.puzzle),
       λ cell z has same.
           ⊎_elim
           (λ u.
@@ -169,11 +172,15 @@ module _ (x : Compiled) (is : IsCompiled x) where
           un.uncovered (v.0, v.1, settles_has (Tile tile) number v.0 u.pair n v.2 (ap (λ (q : Placement). q.tile) u.placement ∙ same)))
           (λ none. has_none (cell_count x.puzzle.board) cell z none)
           (has_of_pairs pairs (empty_prefix x.puzzle) cell z has),
+      ⊎_elim
+          (λ all. all.0)
+          (λ some. let lt = un.primary in let many = some.1 in absurd (omega (arith, lt, n, many)))
+          (primaries_are x.puzzle),
     )
 
     -- a settled item is covered
-    pub settled_covered : (item : Item) (number : ℕ) → IsNumberOf (cell_count x.puzzle.board) number item → items.IsItem x.puzzle item → (items.IsOpen x.puzzle (prefix_of x.puzzle pairs) item → ⊥) → IsCovered (cover_of x) chosen number
-    settled_covered (Cell cell) number n lt settled =
+    pub settled_covered : (item : Item) (number : ℕ) → IsNumberOf (cell_count x.puzzle.board) number item → items.IsItem x.puzzle item → items.HasToBeSettled x.puzzle item → (items.IsOpen x.puzzle (prefix_of x.puzzle pairs) item → ⊥) → IsCovered (cover_of x) chosen number
+    settled_covered (Cell cell) number n lt has settled =
         let long = length-with_pairs pairs (empty_prefix x.puzzle) ∙ length-replicate {A = Option Placement} (cell_count x.puzzle.board) None in
         ⊎_elim
         (λ free. absurd (settled free))
@@ -183,14 +190,14 @@ module _ (x : Compiled) (is : IsCompiled x) where
         (λ none. absurd (has_none (cell_count x.puzzle.board) cell w.0 none))
         (has_of_pairs pairs (empty_prefix x.puzzle) cell w.0 w.1))
         (free_or_has (prefix_of x.puzzle pairs) cell (omega (arith, lt, long)))
-    settled_covered (Tile tile) number n lt settled =
+    settled_covered (Tile tile) number n lt has settled =
         ⊎_elim
         (λ w.
         ⊎_elim
         (λ u. let v = chosen_of u.place u.pair u.there in (v.0, v.1, settles_has (Tile tile) number v.0 u.pair n v.2 (ap (λ (q : Placement). q.tile) u.placement ∙ w.3)))
         (λ none. absurd (has_none (cell_count x.puzzle.board) w.0 w.1 none))
         (has_of_pairs pairs (empty_prefix x.puzzle) w.0 w.1 w.2))
-        (λ unused. absurd (settled (lt, unused)))
+        (λ unused. absurd (settled (lt, unused, has)))
         (used_or_unused (prefix_of x.puzzle pairs) tile)
 
     -- ---- where the chosen options don't clash
@@ -218,7 +225,7 @@ module _ (x : Compiled) (is : IsCompiled x) where
       -- an open item is uncovered
       pub open_uncovered : (item : Item) (number : ℕ) → IsNumberOf (cell_count x.puzzle.board) number item → items.IsOpen x.puzzle (prefix_of x.puzzle pairs) item → IsUncovered (cover_of x) chosen number
       open_uncovered (Cell cell) number n free = record {
-        primary = let same = n.0 in let lt = n.1 in omega (arith, same, lt);
+        primary = subst (λ k. k < primary_count x.puzzle) (sym n.0) (cell_is_primary x.puzzle cell n.1);
         uncovered = λ w.
             let z = stands w.0 w.1 in
             let settles = has_settles (Cell cell) number w.0 z.0 n z.1 w.2 in
@@ -228,7 +235,7 @@ module _ (x : Compiled) (is : IsCompiled x) where
           full : (q : Prefix) (c : ℕ) (u : Placement) → Has q c u → IsFree q c → ⊥
           full q c u has free = cc
       open_uncovered (Tile tile) number n unused = record {
-        primary = let lt = unused.0 in omega (arith, lt, n);
+        primary = ⊎_elim (λ all. let lt = unused.0 in let many = all.1 in omega (arith, lt, n, many)) (λ some. absurd (some.0 unused.2)) (primaries_are x.puzzle);
         uncovered = λ w.
             let z = stands w.0 w.1 in
             unused.1 z.0.cell z.0.placement z.2 (has_settles (Tile tile) number w.0 z.0 n z.1 w.2);

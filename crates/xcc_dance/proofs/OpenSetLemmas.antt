@@ -17,7 +17,7 @@ use Rattle.match_fits.proofs.ItemLemmas.{item_of}
 use Rattle.match_puzzle.proofs.PairLemmas.{length-with_pairs}
 use Rattle.xcc_form.specs.Options.{Compiled, IsCompiled, IsOptionPair, cover_of}
 use Rattle.xcc_form.specs.Correspondence.{IsPairOf}
-use Rattle.xcc_form.proofs.OptionLemmas.{one_option, pair_at, many_options}
+use Rattle.xcc_form.proofs.OptionLemmas.{one_option, pair_at, many_options, primaries_are}
 use Rattle.xcc_form.specs.Clashes.{IsOpen, IsOpenAt}
 use Rattle.xcc_form.specs.Chosen.{IsUncovered, AreAllCovered, HasSize, IsToBranchOn, ComesAfter, IsNext, IsLast}
 use Rattle.xcc_dance.specs.Placing.{ArePairsOf, IsPlacingOf, IsPairOfAny}
@@ -130,12 +130,17 @@ module _ (x : Compiled) (chosen : List ℕ) (placing : Placing) (is : IsPlacingO
   pub all_covered : ((item : Item) → items.IsOpen placing.puzzle (placed_by placing) item → ⊥) → AreAllCovered (cover_of x) chosen
   all_covered none number lt =
       let w = item_of Cells number in
-      settled_covered x Compiles chosen placing.pairs is.pairs w.0 number w.1 (is_item w.0 w.1)
+      settled_covered x Compiles chosen placing.pairs is.pairs w.0 number w.1 (is_item w.0 w.1) (has_to w.0 w.1)
       (λ is_open. none w.0 (to_puzzle (λ p. items.IsOpen p (prefix_of p placing.pairs) w.0) is_open))
     where
       is_item : (item : Item) → IsNumberOf Cells number item → items.IsItem x.puzzle item
       is_item (Cell cell) n = n.1
-      is_item (Tile tile) n = let tiles = Compiles.puzzle.tiles in omega (arith, n, tiles, lt)
+      is_item (Tile tile) n =
+          ⊎_elim (λ all. let many = all.1 in omega (arith, n, many, lt)) (λ some. let many = some.1 in absurd (omega (arith, n, many, lt))) (primaries_are x.puzzle)
+
+      has_to : (item : Item) → IsNumberOf Cells number item → items.HasToBeSettled x.puzzle item
+      has_to (Cell cell) n = tt
+      has_to (Tile tile) n = ⊎_elim (λ all. all.0) (λ some. let many = some.1 in absurd (omega (arith, n, many, lt))) (primaries_are x.puzzle)
 
   -- an open option's pair can be placed
   pub open_fits_placing : (option : ℕ) (y : Pair) → IsPairOf x option y → IsOpen (cover_of x) chosen option → Fits placing.puzzle (placed_by placing) y.cell y.placement

@@ -16,7 +16,7 @@ use Rattle.match_fits.proofs.PlacedPairLemmas.{pushed_at}
 use Rattle.match_puzzle.proofs.PairLemmas.{has_of_pairs, free_of_pairs, free_in_empty, length-with_pairs, taken_at, next_pair}
 use Rattle.match_puzzle.proofs.UsedTiles.{has_none}
 use Rattle.match_board.specs.Board.{cell_count}
-use Rattle.xcc_form.specs.Options.{Compiled, IsCompiled, IsOptionPair, IsSideOf, IsShownEdge, colour_given, cover_of, primary_count}
+use Rattle.xcc_form.specs.Options.{Compiled, IsCompiled, IsOptionPair, IsSideOf, IsShownEdge, colour_given, cover_of, item_count}
 use Rattle.xcc_form.specs.Correspondence.{IsPairOf}
 use Rattle.xcc_form.specs.declared.edges.Edge.{Edge}
 use Rattle.xcc_form.specs.declared.edges.SharedEdge.{SharedEdge}
@@ -43,7 +43,7 @@ module _ (x : Compiled) (is : IsCompiled x) where
     pub match : (Clash (cover_of x) o p → ⊥) → Match y z
     match apart side side' meets =
         let e = shared_by x is y.cell side z.cell side' meets in
-        let item = primary_count x.puzzle + e.0 in
+        let item = item_count x.puzzle + e.0 in
         let shared = shared_at x.puzzle.board x.shared e.0 e.1 is.shared e.2 in
         let shown = colour_of x.puzzle y.placement side in
         let shown' = colour_of x.puzzle z.placement side' in

@@ -98,9 +98,9 @@ module _ (x : Compiled) (is : IsCompiled x) where
         let good = option_pair x is o y of.1 in
         let cell = good.cell in
         let tile = good.legal.tile in
-        let tiles = is.puzzle.tiles in
+        let few_tiles = is.puzzle.tiles.few in
         let few = few_cells in
-        let part_small = small y (omega (arith, cell, few)) (omega (arith, tile, tiles, few)) in
+        let part_small = small y (omega (arith, cell, few)) (omega (arith, tile, few_tiles)) in
         let turn = small_turn x.puzzle y.placement is.puzzle good.legal in
         (4 * part y + y.placement.turn, record { y = y; is_pair = of.1; number_is = refl }, omega (arith, part_small, turn)))
         (λ i j o o' key at at' k k'.

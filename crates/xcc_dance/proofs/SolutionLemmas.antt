@@ -71,5 +71,6 @@ module _ (x : Compiled) (chosen : List ℕ) (is : IsSelection x chosen) where
           w.2,
           λ other d has. one_option other w.0 d w.1 (inl (record { item = item; one = has; two = w.2 })) (inl (record { item = item; one = w.2; two = has })),
         );
+    apart = λ item option option' c d has has'. one_option option option' c d (inl (record { item = item; one = has; two = has' })) (inl (record { item = item; one = has'; two = has }));
     coloured = one_colour;
   }

@@ -115,15 +115,13 @@ module _ (x : Compiled) (is : IsCompiled x) (nothing : Placement) (options : Lis
   }
 
   -- what is put on the board is no nothing
-  pub is_something : (option : ℕ) (z : Pair) → nothing.tile ≡ cell_count x.puzzle.board → IsPairOf x option z → nothing ≡ z.placement → ⊥
+  pub is_something : (option : ℕ) (z : Pair) → nothing.tile ≡ length x.puzzle.words → IsPairOf x option z → nothing ≡ z.placement → ⊥
   is_something option z outside v e =
       let within = (option_pair x is option z v).legal.tile in
-      let puzzle = is.puzzle in
-      let many = puzzle.tiles in
       let tile = ap (λ (q : Placement). q.tile) e in
-      omega (arith, within, many, tile, outside)
+      omega (arith, within, tile, outside)
 
-  module _ (outside : nothing.tile ≡ cell_count x.puzzle.board) where
+  module _ (outside : nothing.tile ≡ length x.puzzle.words) where
     pub one_put : (k option : ℕ) (y : Pair) (a a' : List Placement) → slice_get options k ≡ Some option → IsPairOf x option y → Stands a y.cell nothing → a' ≡ set a y.cell y.placement → ArePut x nothing options k a → ArePut x nothing options (k + 1) a'
     one_put k option y a a' here w empty written h = record {
       room = let long = ap length written in let kept = length-set a y.cell y.placement in let room = h.room in omega (arith, long, kept, room);
@@ -199,7 +197,7 @@ module _ (x : Compiled) (is : IsCompiled x) (nothing : Placement) (options : Lis
 
       pub put_solves : IsArrangement x.puzzle b → IsSolutionOf x b options
       put_solves whole =
-          let same = same_if_full (λ cell y s e. let within = (whole.legal cell y s).tile in let puzzle = is.puzzle in let many = puzzle.tiles in let tile = ap (λ (q : Placement). q.tile) e in omega (arith, within, many, tile, outside)) in
+          let same = same_if_full (λ cell y s e. let within = (whole.legal cell y s).tile in let tile = ap (λ (q : Placement). q.tile) e in omega (arith, within, tile, outside)) in
           record {
             solution = whole_solves x is b whole options same
                 (λ option c. let at = place_of options option c in h.real at.0 option (let lt = slice_get_within options at.0 option at.1 in omega (arith, lt, all)) at.1)

@@ -20,7 +20,7 @@ use Rattle.xcc_form.specs.declared.edges.Edge.{Edge}
 use Rattle.xcc_form.specs.declared.edges.SharedEdge.{SharedEdge}
 use Rattle.xcc_form.proofs.GivenLemmas.{given_below}
 use Rattle.xcc_form.proofs.ShownLemmas.{ItemComesBefore}
-use Rattle.xcc_form.proofs.OptionLemmas.{option_pair, pair_at, many_options, primary_of, has_cell, colour_at, of_map}
+use Rattle.xcc_form.proofs.OptionLemmas.{option_pair, pair_at, many_options, primary_of, has_cell, colour_at, of_map, few_primaries}
 
 -- ---- colours
 
@@ -67,6 +67,7 @@ module _ (x : Compiled) (is : IsCompiled x) where
   is_cover : IsCover (cover_of x)
   is_cover = record {
     some = λ option lt. let many = many_options x is in let y = pair_at x is option (omega (arith, lt, many)) in let q = y.0 in (q.cell, has_cell x is option q y.1);
+    few = few_primaries x.puzzle;
     primary = λ option item has.
         let w = primary_of x is option item has in
         let good = option_pair x is option w.0 w.1 in

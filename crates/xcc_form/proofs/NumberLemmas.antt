@@ -1,11 +1,10 @@
 -- Options by the numbers of their pairs: no two pairs have one number.
-use Rattle.std.proofs.Common.{◌≡◌, ◌<◌, ◌≤◌, ◌+◌, ◌*◌, ℕ, List, Option, Some, None, MatchOption, slice_get, get_or, take, set, replicate, arith, refl, ap, sym, ◌∙◌, subst, ⊎_elim}
+use Rattle.std.proofs.Common.{◌≡◌, ◌<◌, ◌≤◌, ◌+◌, ◌*◌, ℕ, List, Option, Some, None, MatchOption, slice_get, get_or, take, set, replicate, length, arith, refl, ap, sym, ◌∙◌, subst, ⊎_elim}
 use Rattle.std.proofs.Math.ListN.{length-set}
 use Rattle.std.proofs.Math.Nat.{mul-le-mul_left}
 use Rattle.std.proofs.lemmas.Bool.Decides.{eqb_tells}
 use Rattle.std.proofs.lemmas.List.{length-replicate}
 use Rattle.std.proofs.lemmas.Option.{slice_get_within, get_or_from_slice_get, none-some}
-use Rattle.match_board.specs.Board.{cell_count}
 use Rattle.match_limits.specs.Listing.{IsListing}
 use Rattle.match_puzzle.specs.Puzzle.{Task, IsPuzzle}
 use Rattle.match_puzzle.specs.declared.placements.Pair.{Pair}
@@ -55,10 +54,10 @@ number_within cells y s =
     omega (arith, mul-le-mul_left cells le, tile, turn)
 
 -- the pair of an option is small
-pub small_pair : (p : Task) (y : Pair) → IsPuzzle p → IsOptionPair p y → IsSmall (cell_count p.board) y
+pub small_pair : (p : Task) (y : Pair) → IsPuzzle p → IsOptionPair p y → IsSmall (length p.words) y
 small_pair p y puzzle good = record {
-  cell = good.cell;
-  tile = let lt = good.legal.tile in let many = puzzle.tiles in omega (arith, lt, many);
+  cell = let lt = good.cell in let enough = puzzle.tiles.enough in omega (arith, lt, enough);
+  tile = good.legal.tile;
   turn = small_turn p y.placement puzzle good.legal;
 }
 
@@ -77,15 +76,15 @@ module _ (p : Task) (puzzle : IsPuzzle p) (pairs : List Pair) (are : IsListing P
       omega (arith, not_before, not_after)
 
   -- no options
-  pub none_numbered : AreNumbered (cell_count p.board) (take 0 pairs) (replicate (4 * cell_count p.board * cell_count p.board) None)
+  pub none_numbered : AreNumbered (length p.words) (take 0 pairs) (replicate (4 * length p.words * length p.words) None)
   none_numbered = record {
-    long = length-replicate (4 * cell_count p.board * cell_count p.board) None;
+    long = length-replicate (4 * length p.words * length p.words) None;
     stands = λ option y at. absurd (none-some y at);
-    only = λ number option at. absurd (none-some option (sym (slice_get-replicate (4 * cell_count p.board * cell_count p.board) number None (Some option) at)));
+    only = λ number option at. absurd (none-some option (sym (slice_get-replicate (4 * length p.words * length p.words) number None (Some option) at)));
   }
 
   -- one option more
-  pub one_more_numbered : (k : ℕ) (y : Pair) (options : List (Option ℕ)) → slice_get pairs k ≡ Some y → AreNumbered (cell_count p.board) (take k pairs) options → AreNumbered (cell_count p.board) (take (k + 1) pairs) (set options (pair_number (cell_count p.board) y) (Some k))
+  pub one_more_numbered : (k : ℕ) (y : Pair) (options : List (Option ℕ)) → slice_get pairs k ≡ Some y → AreNumbered (length p.words) (take k pairs) options → AreNumbered (length p.words) (take (k + 1) pairs) (set options (pair_number (length p.words) y) (Some k))
   one_more_numbered k y options at are_numbered = record {
     long = length-set options here (Some k) ∙ are_numbered.long;
     stands = λ option z there.
@@ -112,20 +111,20 @@ module _ (p : Task) (puzzle : IsPuzzle p) (pairs : List Pair) (are : IsListing P
   }
     where
       cells : ℕ
-      cells = cell_count p.board
+      cells = length p.words
 
       here : ℕ
-      here = pair_number (cell_count p.board) y
+      here = pair_number (length p.words) y
 
       written : slice_get (set options here (Some k)) here ≡ Some (Some k)
-      written = slice_get-set_same options here (Some k) (let lt = number_within (cell_count p.board) y (small_pair p y puzzle (option_pair k y at)) in let long = are_numbered.long in omega (arith, lt, long))
+      written = slice_get-set_same options here (Some k) (let lt = number_within (length p.words) y (small_pair p y puzzle (option_pair k y at)) in let long = are_numbered.long in omega (arith, lt, long))
 
   -- what stands at a pair's number tells its option
-  pub told : (shared : List SharedEdge) (starts : List ℕ) (edges : List Edge) (options : List (Option ℕ)) (y : Pair) (o : Option ℕ) → AreNumbered (cell_count p.board) pairs options → IsSmall (cell_count p.board) y → slice_get options (pair_number (cell_count p.board) y) ≡ Some o → MatchOption o (IsOptionPair p y → ⊥) (λ option. IsPairOf (kept_value p shared pairs starts edges) option y)
+  pub told : (shared : List SharedEdge) (starts : List ℕ) (edges : List Edge) (options : List (Option ℕ)) (y : Pair) (o : Option ℕ) → AreNumbered (length p.words) pairs options → IsSmall (length p.words) y → slice_get options (pair_number (length p.words) y) ≡ Some o → MatchOption o (IsOptionPair p y → ⊥) (λ option. IsPairOf (kept_value p shared pairs starts edges) option y)
   told shared starts edges options y None numbered small at = λ good.
       let place = place_of pairs y (are.all y good) in
       none-some place.0 (inside (sym at ∙ numbered.stands place.0 y place.1))
   told shared starts edges options y (Some option) numbered small at =
-      let z = numbered.only (pair_number (cell_count p.board) y) option at in
-      let same = one_number (cell_count p.board) z.0 y (small_pair p z.0 puzzle (option_pair option z.0 z.1)) small z.2 in
+      let z = numbered.only (pair_number (length p.words) y) option at in
+      let same = one_number (length p.words) z.0 y (small_pair p z.0 puzzle (option_pair option z.0 z.1)) small z.2 in
       (choice starts edges option y, choice_of starts edges 0 pairs option option y (omega arith) (z.1 ∙ ap Some same), refl)

@@ -1,14 +1,16 @@
 -- The options of a compiled puzzle, by their pairs and by their items.
-use Rattle.std.proofs.Common.{◌≡◌, ◌⊎◌, ◌<◌, ◌+◌, ℕ, zero, suc, List, [], ◌∷◌, Some, Contains, length, slice_get, get_or, map, arith, refl, ap, sym, ◌∙◌, subst, inl, inr, ⊎_elim}
+use Rattle.std.proofs.Common.{◌≡◌, ◌⊎◌, ◌<◌, ◌≤◌, ◌+◌, if◌then◌else◌, ℕ, zero, suc, List, [], ◌∷◌, Some, Contains, length, slice_get, get_or, map, arith, refl, ap, sym, ◌∙◌, subst, inl, inr, ⊎_elim}
+use Rattle.std.proofs.lemmas.Bool.Decides.{eqb_tells}
 use Rattle.std.proofs.lemmas.List.{length-map}
 use Rattle.std.proofs.lemmas.Option.{slice_get_within, slice_get-get_or, get_or_from_slice_get, none-some}
 use Rattle.match_board.specs.Board.{cell_count, Meets}
 use Rattle.match_limits.proofs.Listings.{lt_or_le}
 use Rattle.match_board.proofs.Places.{Meets-turned}
+use Rattle.match_puzzle.specs.Puzzle.{Task, AllHaveToStand}
 use Rattle.match_puzzle.specs.declared.placements.Pair.{Pair}
 use Rattle.match_puzzle.proofs.Prefixes.{inside}
 use Rattle.xcc_form.specs.ExactCover.{ItemSet, HasPrimary, HasColour}
-use Rattle.xcc_form.specs.Options.{Compiled, IsCompiled, IsOptionPair, IsSideOf, IsShownEdge, PairComesBefore, pair_of, items_of, cover_of}
+use Rattle.xcc_form.specs.Options.{Compiled, IsCompiled, IsOptionPair, IsSideOf, IsShownEdge, PairComesBefore, pair_of, items_of, cover_of, item_count, primary_count}
 use Rattle.xcc_form.specs.Correspondence.{IsPairOf}
 use Rattle.xcc_form.specs.declared.edges.Edge.{Edge}
 use Rattle.xcc_form.specs.declared.edges.SharedEdge.{SharedEdge}
@@ -48,6 +50,21 @@ in_two a b item c = by_place c.0 c.1 c.2
 -- a pair does not come before itself, nor before one that comes before it
 pub irreflexive : (x : Pair) → PairComesBefore x x → ⊥
 irreflexive x before = ⊎_elim (λ lt. omega (arith, lt)) (λ w. ⊎_elim (λ lt. omega (arith, lt)) (λ v. omega (arith, v.1)) w.1) before
+
+-- which items are primary
+pub primaries_are : (p : Task) → (AllHaveToStand p × (primary_count p ≡ item_count p)) ⊎ ((AllHaveToStand p → ⊥) × (primary_count p ≡ cell_count p.board))
+primaries_are p =
+    ⊎_elim
+    (λ w. inl (w.1, ap (λ b. if b then item_count p else cell_count p.board) w.0))
+    (λ w. inr (w.1, ap (λ b. if b then item_count p else cell_count p.board) w.0))
+    (eqb_tells (length p.words) (cell_count p.board))
+
+pub few_primaries : (p : Task) → primary_count p ≤ item_count p
+few_primaries p = ⊎_elim (λ w. let e = w.1 in omega (arith, e)) (λ w. let e = w.1 in omega (arith, e)) (primaries_are p)
+
+-- each cell is a primary item
+pub cell_is_primary : (p : Task) (cell : ℕ) → cell < cell_count p.board → cell < primary_count p
+cell_is_primary p cell lt = ⊎_elim (λ w. let e = w.1 in omega (arith, e, lt)) (λ w. let e = w.1 in omega (arith, e, lt)) (primaries_are p)
 
 module _ (x : Compiled) (is : IsCompiled x) where
   -- ---- by pairs

@@ -12,7 +12,7 @@ use Rattle.match_puzzle.specs.Puzzle.{Task, colour_of}
 use Rattle.match_puzzle.specs.declared.placements.Pair.{Pair}
 use Rattle.match_puzzle.proofs.Prefixes.{inside}
 use Rattle.match_puzzle.proofs.ArrangementLemmas.{side_in_range}
-use Rattle.xcc_form.specs.Options.{IsSharedEdge, AreSharedEdges, IsSideOf, IsShownEdge, colour_given, primary_count}
+use Rattle.xcc_form.specs.Options.{IsSharedEdge, AreSharedEdges, IsSideOf, IsShownEdge, colour_given, item_count}
 use Rattle.xcc_form.specs.Layout.{AddsEdges}
 use Rattle.xcc_form.specs.declared.edges.Edge.{Edge}
 use Rattle.xcc_form.specs.declared.edges.SharedEdge.{SharedEdge}
@@ -98,7 +98,7 @@ module _ (p : Task) (shared : List SharedEdge) (x : Pair) where
     }
 
     -- the next edge is one of the cell's
-    pub one_more : (old new new' : List Edge) (side : ℕ) (y : Edge) → IsSharedEdge p.board e → IsSideOf e x.cell side → y.item ≡ primary_count p + k → y.colour ≡ colour_given p e x.cell (colour_of p x.placement side) → new' ≡ new ++ y ∷ [] → AreAdded k old new → AreAdded (k + 1) old new'
+    pub one_more : (old new new' : List Edge) (side : ℕ) (y : Edge) → IsSharedEdge p.board e → IsSideOf e x.cell side → y.item ≡ item_count p + k → y.colour ≡ colour_given p e x.cell (colour_of p x.placement side) → new' ≡ new ++ y ∷ [] → AreAdded k old new → AreAdded (k + 1) old new'
     one_more old new new' side y is_edge at item colour pushed are = record {
       more = are.more ++ y ∷ [];
       added = pushed ∙ ap (λ (es : List Edge). es ++ y ∷ []) are.added ∙ append_assoc old are.more (y ∷ []);
@@ -113,4 +113,4 @@ module _ (p : Task) (shared : List SharedEdge) (x : Pair) where
         is_last : (f : Edge) (is : IsShownEdge p shared x f) → is.number ≡ k → is.edge ≡ e → f ≡ y
         is_last f is n g =
             let side_same : is.side ≡ side = one_side p.board e x.cell is.side side is_edge (subst (λ h. IsSideOf h x.cell is.side) g is.side_of) at in
-            same_colours (is.item ∙ ap (λ i. primary_count p + i) n ∙ sym item) (is.colour ∙ ap (λ h. colour_given p h x.cell (colour_of p x.placement is.side)) g ∙ ap (λ k. colour_given p e x.cell (colour_of p x.placement k)) side_same ∙ sym colour)
+            same_colours (is.item ∙ ap (λ i. item_count p + i) n ∙ sym item) (is.colour ∙ ap (λ h. colour_given p h x.cell (colour_of p x.placement is.side)) g ∙ ap (λ k. colour_given p e x.cell (colour_of p x.placement k)) side_same ∙ sym colour)

@@ -3,20 +3,20 @@ use Rattle.std.proofs.Common.{◌≡◌, ◌<◌, ◌+◌, ◌-◌, ℕ, List, S
 use Rattle.match_board.specs.Board.{cell_count, Meets}
 use Rattle.std.proofs.lemmas.Bool.Decides.{eqb_tells}
 use Rattle.match_limits.proofs.Listings.{lt_or_le}
-use Rattle.match_puzzle.specs.Puzzle.{colour_of, GoTogether}
+use Rattle.match_puzzle.specs.Puzzle.{AllHaveToStand, colour_of, GoTogether}
 use Rattle.match_puzzle.specs.Arrangement.{IsArrangement, Stands}
 use Rattle.match_puzzle.specs.declared.placements.Placement.{Placement}
 use Rattle.match_puzzle.specs.declared.placements.Pair.{Pair}
 use Rattle.match_puzzle.proofs.Pigeonhole.{all_placed}
 use Rattle.match_puzzle.proofs.Prefixes.{inside}
 use Rattle.xcc_form.specs.ExactCover.{IsSolution, IsInExactlyOne, HasPrimary, HasColour}
-use Rattle.xcc_form.specs.Options.{Compiled, IsCompiled, IsSharedEdge, IsSideOf, colour_given, cover_of, primary_count}
+use Rattle.xcc_form.specs.Options.{Compiled, IsCompiled, IsSharedEdge, IsSideOf, colour_given, cover_of, primary_count, item_count}
 use Rattle.xcc_form.specs.Correspondence.{IsPairOf, IsFilledBy}
 use Rattle.xcc_form.specs.declared.edges.SharedEdge.{SharedEdge}
 use Rattle.xcc_form.proofs.EdgeLemmas.{other_cell}
 use Rattle.xcc_form.proofs.GivenLemmas.{given_alike, met}
 use Rattle.xcc_form.proofs.ShownLemmas.{one_side}
-use Rattle.xcc_form.proofs.OptionLemmas.{option_pair, one_option, one_pair, many_options, IsItemOf, primary_of, has_cell, has_tile, colour_at, has_colour, shared_by, contains_at, read_in}
+use Rattle.xcc_form.proofs.OptionLemmas.{option_pair, one_option, one_pair, many_options, IsItemOf, primary_of, has_cell, has_tile, primaries_are, cell_is_primary, colour_at, has_colour, shared_by, contains_at, read_in}
 
 -- the pair of a cell and a placement
 abbrev pub pair : ℕ → Placement → Pair
@@ -29,9 +29,6 @@ module _ (x : Compiled) (is : IsCompiled x) where
   -- how many cells there are
   abbrev cells : ℕ
   cells = cell_count x.puzzle.board
-
-  many_tiles : length x.puzzle.words ≡ cells
-  many_tiles = let puzzle = is.puzzle in puzzle.tiles
 
   -- a cell is no tile's item
   cell_of : (y : Pair) (item : ℕ) → item < cells → IsItemOf x is y item → y.cell ≡ item
@@ -48,23 +45,19 @@ module _ (x : Compiled) (is : IsCompiled x) where
     -- the option at a cell
     pub chosen_at : (cell : ℕ) → cell < cells → (option : ℕ) × (y : Pair) × Contains chosen option × IsPairOf x option y × (y.cell ≡ cell)
     chosen_at cell lt =
-        let one = solution.covered cell (omega (arith, lt)) in
+        let one = solution.covered cell (cell_is_primary x.puzzle cell lt) in
         let of = primary_of x is one.0 cell one.2 in
         (one.0, of.0, one.1, of.1, cell_of of.0 cell lt of.2)
 
     -- no two options have one cell
     pub one_chosen_at : (option option' : ℕ) (y z : Pair) → Contains chosen option → Contains chosen option' → IsPairOf x option y → IsPairOf x option' z → y.cell ≡ z.cell → option ≡ option'
     one_chosen_at option option' y z c d w v e =
-        let within = (option_pair x is option y w).cell in
-        let one = solution.covered y.cell (omega (arith, within)) in
-        one.3 option c (has_cell x is option y w) ∙ sym (one.3 option' d (subst (HasPrimary (cover_of x) option') (sym e) (has_cell x is option' z v)))
+        solution.apart y.cell option option' c d (has_cell x is option y w) (subst (HasPrimary (cover_of x) option') (sym e) (has_cell x is option' z v))
 
     -- nor one tile
     one_chosen_of : (option option' : ℕ) (y z : Pair) → Contains chosen option → Contains chosen option' → IsPairOf x option y → IsPairOf x option' z → y.placement.tile ≡ z.placement.tile → option ≡ option'
     one_chosen_of option option' y z c d w v e =
-        let within = (option_pair x is option y w).legal.tile in
-        let one = solution.covered (cells + y.placement.tile) (omega (arith, within)) in
-        one.3 option c (has_tile x is option y w) ∙ sym (one.3 option' d (subst (λ tile. HasPrimary (cover_of x) option' (cells + tile)) (sym e) (has_tile x is option' z v)))
+        solution.apart (cells + y.placement.tile) option option' c d (has_tile x is option y w) (subst (λ tile. HasPrimary (cover_of x) option' (cells + tile)) (sym e) (has_tile x is option' z v))
 
     module _ (a : List Placement) (same : IsFilledBy x chosen a) where
       once : (cell cell' : ℕ) (y z : Placement) → Stands a cell y → Stands a cell' z → y.tile ≡ z.tile → cell ≡ cell'
@@ -79,7 +72,7 @@ module _ (x : Compiled) (is : IsCompiled x) where
           let o = same.put cell y s in
           let o' = same.put cell' z t in
           let e = shared_by x is cell side cell' side' meets in
-          let item = primary_count x.puzzle + e.0 in
+          let item = item_count x.puzzle + e.0 in
           let shared = is.shared.only e.1 (contains_at x.shared e.0 e.1 e.2) in
           let shown = colour_of x.puzzle y side in
           let shown' = colour_of x.puzzle z side' in
@@ -127,9 +120,9 @@ module _ (x : Compiled) (is : IsCompiled x) where
               same_option other o.0 of.0 (pair item here.0) of.1 o.2 (chosen_pair other of.0 d of.1) here.1 (cell_of of.0 item lt of.2),
         )
 
-    tile_in_one : (tile : ℕ) → tile < length x.puzzle.words → IsInExactlyOne (cover_of x) chosen (cells + tile)
-    tile_in_one tile lt =
-        let here = all_placed x.puzzle a many_tiles whole tile lt in
+    tile_in_one : AllHaveToStand x.puzzle → (tile : ℕ) → tile < length x.puzzle.words → IsInExactlyOne (cover_of x) chosen (cells + tile)
+    tile_in_one all tile lt =
+        let here = all_placed x.puzzle a all whole tile lt in
         let o = same.put here.0 here.1 here.2 in (
           o.0,
           o.1,
@@ -146,10 +139,29 @@ module _ (x : Compiled) (is : IsCompiled x) where
         ⊎_elim
         (λ cell. cell_in_one item cell)
         (λ le.
+        ⊎_elim
+        (λ w.
+        let many = w.1 in
         let tile = item - cells in
         let at : cells + tile ≡ item = omega (arith, le) in
-        subst (IsInExactlyOne (cover_of x) chosen) at (tile_in_one tile (omega (arith, le, lt))))
+        subst (IsInExactlyOne (cover_of x) chosen) at (tile_in_one w.0 tile (omega (arith, le, lt, many))))
+        (λ w. let many = w.1 in absurd (omega (arith, le, lt, many)))
+        (primaries_are x.puzzle))
         (lt_or_le item cells)
+
+    -- no item is taken twice
+    one_takes : (item option option' : ℕ) → Contains chosen option → Contains chosen option' → HasPrimary (cover_of x) option item → HasPrimary (cover_of x) option' item → option ≡ option'
+    one_takes item option option' c d has has' =
+        let y = primary_of x is option item has in
+        let z = primary_of x is option' item has' in
+        let s = chosen_pair option y.0 c y.1 in
+        let t = chosen_pair option' z.0 d z.1 in
+        let within = (option_pair x is option y.0 y.1).cell in
+        same_option option option' y.0 z.0 y.1 z.1 s t
+        (⊎_elim
+        (λ e. sym e ∙ sym (cell_of z.0 item (omega (arith, e, within)) z.2))
+        (λ e. whole.once y.0.cell z.0.cell y.0.placement z.0.placement s t (sym (tile_of option' z.0 y.0.placement.tile z.1 (subst (IsItemOf x is z.0) e z.2))))
+        y.2)
 
     -- two placements give one colour to one edge
     same_given : (e : SharedEdge) (y z : Pair) (side side' : ℕ) → IsSharedEdge x.puzzle.board e → IsSideOf e y.cell side → IsSideOf e z.cell side' → Stands a y.cell y.placement → Stands a z.cell z.placement →
@@ -189,5 +201,6 @@ module _ (x : Compiled) (is : IsCompiled x) where
       real = λ option c. let lt = real option c in let many = many_options x is in omega (arith, lt, many);
       different = different;
       covered = in_one;
+      apart = one_takes;
       coloured = one_colour;
     }

@@ -2,7 +2,6 @@
 use Rattle.std.specs.Prelude.{◌≡◌, ◌<◌, ◌≤◌, ◌+◌, ◌*◌, ℕ, List, [], ◌∷◌, ◌++◌, Option, Some, length, slice_get, slice_index}
 use Rattle.std.specs.Prelude.{slice_range}
 use Rattle.match_limits.specs.declared.TheConstants.{MOST_CELLS, MOST_ENTRIES}
-use Rattle.match_board.specs.Board.{cell_count}
 use Rattle.match_limits.specs.Listing.{IsListing}
 use Rattle.match_puzzle.specs.Puzzle.{Task, IsPuzzle}
 use Rattle.match_puzzle.specs.declared.placements.Pair.{Pair}
@@ -50,4 +49,4 @@ pub record IsKept (p : Task) (shared : List SharedEdge) (pairs : List Pair) (sta
   pub laid_out : AreLaidOut p shared pairs starts edges
   pub few : 2 * length pairs + length edges ≤ MOST_ENTRIES
   pub few_shared : length shared ≤ 4 * MOST_CELLS
-  pub numbered : AreNumbered (cell_count p.board) pairs numbers
+  pub numbered : AreNumbered (length p.words) pairs numbers

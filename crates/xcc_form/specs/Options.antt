@@ -1,4 +1,5 @@
--- The exact cover of a puzzle: its primary items are the cells, then the tiles, its secondary items the shared edges.
+-- The exact cover of a puzzle: its primary items are the cells, then the tiles where all have to stand, its secondary
+-- items the shared edges.
 use Rattle.std.specs.Prelude.{◌≡◌, ◌⊎◌, ◌<◌, ◌+◌, ◌==◌, if◌then◌else◌, ℕ, List, [], ◌∷◌, Some, length, map, slice_get}
 use Rattle.match_limits.specs.declared.TheConstants.{MOST_ENTRIES}
 use Rattle.match_board.specs.Board.{cell_count, Meets}
@@ -38,9 +39,13 @@ pub record IsOptionPair (p : Task) (x : Pair) : Type 0 where
 abbrev pub PairComesBefore : (x y : Pair) → Type 0
 PairComesBefore x y = (x.cell < y.cell) ⊎ ((x.cell ≡ y.cell) × ByKey tile_turn x.placement y.placement)
 
--- how many primary items there are
+-- how many items options take: the cells, then the tiles
+abbrev pub item_count : Task → ℕ
+item_count p = cell_count p.board + length p.words
+
+-- how many of them have to be taken: the tiles too, where all have to stand
 abbrev pub primary_count : Task → ℕ
-primary_count p = cell_count p.board + length p.words
+primary_count p = if length p.words == cell_count p.board then item_count p else cell_count p.board
 
 -- the colour that a cell gives to a shared edge: what is shown at the lesser (cell, side), or the mate of what is shown
 -- at the other
@@ -54,7 +59,7 @@ pub record IsShownEdge (p : Task) (shared : List SharedEdge) (x : Pair) (e : Edg
   pub side : ℕ
   pub numbered : slice_get shared number ≡ Some edge
   pub side_of : IsSideOf edge x.cell side
-  pub item : e.item ≡ primary_count p + number
+  pub item : e.item ≡ item_count p + number
   pub colour : e.colour ≡ colour_given p edge x.cell (colour_of p x.placement side)
 
 -- all shared edges of the pair's cell with the colours given, by item
@@ -93,6 +98,7 @@ abbrev pub cover_of : Compiled → Cover
 cover_of x =
     record {
       primaries = primary_count x.puzzle;
+      takable = item_count x.puzzle;
       secondaries = length x.shared;
       options = map
           (items_of (cell_count x.puzzle.board)) x.options;

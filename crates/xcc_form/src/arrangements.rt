@@ -53,7 +53,7 @@ impl<'a> Xcc<'a> {
         let puzzle = self.puzzle();
         // a tile out of range, where nothing is placed yet
         let nothing = Placement {
-            tile: self.cells(),
+            tile: puzzle.tile_count(),
             turn: 0,
         };
         let mut placements = [nothing; MOST_CELLS as usize];

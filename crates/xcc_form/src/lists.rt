@@ -104,7 +104,7 @@ fn add_edges(
     requires few { length shared.now ≤ 4 * MOST_CELLS }
     ensures { IfOk result (λ _. AddsEdges puzzle.now shared.now pair edges.old.items edges.new.items) }
 {
-    let mut item = 2 * u32::from(puzzle.board().cells());
+    let mut item = u32::from(puzzle.board().cells()) + u32::from(puzzle.tile_count());
     for edge in shared {
         if let Some(side) = edge.side_at(pair.cell) {
             let shown = puzzle.colour(pair.placement, side);

@@ -11,12 +11,12 @@ use match_limits::{MOST_ENTRIES, TURNS};
 use match_puzzle::{Pair, Puzzle};
 use std::alloc::{AllocError, Global};
 
-/// The number of a pair, for `cells` cells, as many tiles, and at most four turns of each.
-pub(crate) fn number_of(cells: u16, pair: Pair) -> usize
-    ensures { result ≡ pair_number cells pair }
+/// The number of a pair of so many tiles, of which each has four turns at most, and as many cells or fewer.
+pub(crate) fn number_of(tiles: u16, pair: Pair) -> usize
+    ensures { result ≡ pair_number tiles pair }
 {
     let placement = pair.placement;
-    TURNS as usize * (usize::from(cells) * usize::from(pair.cell) + usize::from(placement.tile))
+    TURNS as usize * (usize::from(tiles) * usize::from(pair.cell) + usize::from(placement.tile))
         + usize::from(placement.turn)
 }
 
@@ -29,15 +29,15 @@ pub(crate) fn option_numbers(
     requires puzzle { IsPuzzle puzzle.now }
     requires pairs { IsListing PairComesBefore (IsOptionPair puzzle.now) pairs.now }
     requires few { length pairs.now ≤ MOST_ENTRIES }
-    ensures { IfOk result (λ v. AreNumbered (cell_count puzzle.now.board) pairs.now v.items) }
+    ensures { IfOk result (λ v. AreNumbered (length puzzle.now.words) pairs.now v.items) }
 {
-    let cells = puzzle.board().cells();
+    let tiles = puzzle.tile_count();
     let mut numbers = vec![in alloc; None; TURNS as usize
-        * usize::from(cells)
-        * usize::from(cells)]?;
+        * usize::from(tiles)
+        * usize::from(tiles)]?;
     let mut option: u32 = 0;
     for pair in pairs {
-        numbers[number_of(cells, *pair)] = Some(option);
+        numbers[number_of(tiles, *pair)] = Some(option);
         option += 1;
     }
     Ok(numbers)

@@ -92,12 +92,17 @@ impl<'a> Xcc<'a> {
         self.puzzle.board().cells()
     }
 
-    /// Returns how many primary items there are: cells and tiles, at most 512.
+    /// How many primary items there are: cells, and tiles where all have to stand, at most 512.
     pub fn primaries(&self) -> u32
         ensures count { result ≡ primary_count self.now.puzzle }
         ensures few { result ≤ 2 * MOST_CELLS }
     {
-        2 * u32::from(self.cells())
+        let cells = u32::from(self.cells());
+        if self.puzzle.have_all_to_stand() {
+            cells + u32::from(self.puzzle.tile_count())
+        } else {
+            cells
+        }
     }
 
     /// Returns how many secondary items there are: shared edges, at most 1,024.
@@ -136,12 +141,12 @@ impl<'a> Xcc<'a> {
     pub fn option_of(&self, pair: Pair) -> Option<u32>
         ensures { MatchOption result (IsOptionPair self.now.puzzle pair → ⊥) (λ option. IsPairOf self.now option pair) }
     {
-        let cells = self.cells();
+        let tiles = self.puzzle.tile_count();
         let Placement { tile, turn } = pair.placement;
-        if pair.cell >= cells || tile >= cells || turn >= MOST_TURNS {
+        if pair.cell >= self.cells() || tile >= tiles || turn >= MOST_TURNS {
             return None;
         }
-        self.numbers[number_of(cells, pair)]
+        self.numbers[number_of(tiles, pair)]
     }
 
     /// Returns the secondary items of an option with their colours, in the order of items.

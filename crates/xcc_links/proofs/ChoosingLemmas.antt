@@ -52,14 +52,14 @@ module _ (trail trail' : List ℕ) (marks : List ℕ) where
 one : (x o : ℕ) → Contains (x ∷ []) o → o ≡ x
 one x o w = let z : w.0 ≡ 0 = omega (arith, w.1) in sym w.2 ∙ ap (λ n. get_or (x ∷ []) n o) z
 
-module _ (primaries items options : ℕ) (entries : List Entry) (starts : List ℕ) where
-  right_at : (c c' : List ℕ) (a a' : Arrays) (t t' : List ℕ) → c' ≡ c → a' ≡ a → t' ≡ t → AreRightFor primaries items options entries starts c a t → AreRightFor primaries items options entries starts c' a' t'
+module _ (takable items options : ℕ) (entries : List Entry) (starts : List ℕ) where
+  right_at : (c c' : List ℕ) (a a' : Arrays) (t t' : List ℕ) → c' ≡ c → a' ≡ a → t' ≡ t → AreRightFor takable items options entries starts c a t → AreRightFor takable items options entries starts c' a' t'
   right_at c c' a a' t t' ec ea et h =
-      subst (λ x. AreRightFor primaries items options entries starts x a' t') (sym ec)
-      (subst (λ x. AreRightFor primaries items options entries starts c x t') (sym ea)
-      (subst (λ x. AreRightFor primaries items options entries starts c a x) (sym et) h))
+      subst (λ x. AreRightFor takable items options entries starts x a' t') (sym ec)
+      (subst (λ x. AreRightFor takable items options entries starts c x t') (sym ea)
+      (subst (λ x. AreRightFor takable items options entries starts c a x) (sym et) h))
 
-  module _ (a a' : Arrays) (trail trail' marks chosen : List ℕ) (all : WereAlwaysRight primaries items options entries starts a trail marks chosen) (goes : LeadsBack (put_back entries starts) a trail a' trail') where
+  module _ (a a' : Arrays) (trail trail' marks chosen : List ℕ) (all : WereAlwaysRight takable items options entries starts a trail marks chosen) (goes : LeadsBack (put_back entries starts) a trail a' trail') where
     in_marks : (k : ℕ) → k ≤ length chosen → k ≤ length marks
     in_marks k le = omega (arith, all.as_many)
 
@@ -71,7 +71,7 @@ module _ (primaries items options : ℕ) (entries : List Entry) (starts : List �
     trail_kept k le =
         ap (λ n. take n trail') (mark_kept trail trail' marks k (in_marks k le)) ∙ goes_take (put_back entries starts) a trail a' trail' (mark_of trail marks k) goes (marks_in trail marks all.rising k (in_marks k le))
 
-    pub all_right_more : (option : ℕ) → option < options → ((o : ℕ) → Contains chosen o → NodesClash primaries items entries o option → ⊥) → AreRightFor primaries items options entries starts (chosen ++ option ∷ []) a' trail' → WereAlwaysRight primaries items options entries starts a' trail' (marks ++ length trail ∷ []) (chosen ++ option ∷ [])
+    pub all_right_more : (option : ℕ) → option < options → ((o : ℕ) → Contains chosen o → NodesClash takable items entries o option → ⊥) → AreRightFor takable items options entries starts (chosen ++ option ∷ []) a' trail' → WereAlwaysRight takable items options entries starts a' trail' (marks ++ length trail ∷ []) (chosen ++ option ∷ [])
     all_right_more option in_ free now = record {
       as_many = length-append marks (length trail ∷ []) ∙ ap (λ n. n + 1) all.as_many ∙ sym (length-append chosen (option ∷ []));
       rising = λ k lt. rises k (omega (arith, length-append marks (length trail ∷ [])));
@@ -80,13 +80,13 @@ module _ (primaries items options : ℕ) (entries : List Entry) (starts : List �
       right = λ k le. rights k (cases_lt (length chosen) k) (omega (arith, length-append chosen (option ∷ [])));
     }
       where
-        apart2 : (i j d : ℕ) → i < j → j < length chosen + 1 → NodesClash primaries items entries (get_or (chosen ++ option ∷ []) i d) (get_or (chosen ++ option ∷ []) j d) → ⊥
+        apart2 : (i j d : ℕ) → i < j → j < length chosen + 1 → NodesClash takable items entries (get_or (chosen ++ option ∷ []) i d) (get_or (chosen ++ option ∷ []) j d) → ⊥
         apart2 i j d lt jt h =
             let li : i < length chosen = omega (arith, lt, jt) in
-            let h2 = subst (λ o. NodesClash primaries items entries o (get_or (chosen ++ option ∷ []) j d)) (get_or_append_left chosen (option ∷ []) d i li) h in
+            let h2 = subst (λ o. NodesClash takable items entries o (get_or (chosen ++ option ∷ []) j d)) (get_or_append_left chosen (option ∷ []) d i li) h in
             ⊎_elim
-            (λ (l : j < length chosen). all.apart i j d lt l (subst (λ o. NodesClash primaries items entries (get_or chosen i d) o) (get_or_append_left chosen (option ∷ []) d j l) h2))
-            (λ (g : length chosen ≤ j). free (get_or chosen i d) (Contains-get_or chosen i d li) (subst (λ o. NodesClash primaries items entries (get_or chosen i d) o) (get_or_at chosen option [] d j (omega (arith, g, jt))) h2))
+            (λ (l : j < length chosen). all.apart i j d lt l (subst (λ o. NodesClash takable items entries (get_or chosen i d) o) (get_or_append_left chosen (option ∷ []) d j l) h2))
+            (λ (g : length chosen ≤ j). free (get_or chosen i d) (Contains-get_or chosen i d li) (subst (λ o. NodesClash takable items entries (get_or chosen i d) o) (get_or_at chosen option [] d j (omega (arith, g, jt))) h2))
             (cases_lt j (length chosen))
 
         longer : length trail ≤ length trail'
@@ -98,7 +98,7 @@ module _ (primaries items options : ℕ) (entries : List Entry) (starts : List �
             (λ (ge : length marks ≤ k). let e : length marks ≡ k = omega arith in let x = mark_kept trail trail' marks k le in let p = get_or_past marks k (length trail) ge in let b = subst (λ n. mark_of trail' (marks ++ length trail ∷ []) (n + 1) ≡ length trail') e (mark_new trail trail' marks) in omega (arith, x, b, p, longer))
             (cases_lt k (length marks))
 
-        rights : (k : ℕ) → (length chosen < k) ⊎ (k ≤ length chosen) → k ≤ length chosen + 1 → AreRightFor primaries items options entries starts (take k (chosen ++ option ∷ [])) (arrays_before entries starts a' trail' (marks ++ length trail ∷ []) k) (take (mark_of trail' (marks ++ length trail ∷ []) k) trail')
+        rights : (k : ℕ) → (length chosen < k) ⊎ (k ≤ length chosen) → k ≤ length chosen + 1 → AreRightFor takable items options entries starts (take k (chosen ++ option ∷ [])) (arrays_before entries starts a' trail' (marks ++ length trail ∷ []) k) (take (mark_of trail' (marks ++ length trail ∷ []) k) trail')
         rights k (inl lt) le =
             let e : length marks + 1 ≡ k = omega (arith, all.as_many) in
             let m = subst (λ n. mark_of trail' (marks ++ length trail ∷ []) n ≡ length trail') e (mark_new trail trail' marks) in
@@ -123,7 +123,7 @@ module _ (primaries items options : ℕ) (entries : List Entry) (starts : List �
         (ap (λ n. take n (chosen ++ option ∷ [])) last ∙ take-append-le (length chosen) chosen (option ∷ []) (omega arith) ∙ take_all (length chosen) chosen (omega arith))
 
   -- What taking back leaves; last is the number of choices that are left.
-  module _ (a : Arrays) (trail marks chosen : List ℕ) (all : WereAlwaysRight primaries items options entries starts a trail marks chosen) (last : ℕ) (is : last + 1 ≡ length chosen) (mark : ℕ) (mark_is : mark ≡ mark_of trail marks last) where
+  module _ (a : Arrays) (trail marks chosen : List ℕ) (all : WereAlwaysRight takable items options entries starts a trail marks chosen) (last : ℕ) (is : last + 1 ≡ length chosen) (mark : ℕ) (mark_is : mark ≡ mark_of trail marks last) where
     pub mark_in : mark ≤ length trail
     mark_in = subst (λ n. n ≤ length trail) (sym mark_is) (marks_in trail marks all.rising last (omega (arith, all.as_many)))
 
@@ -148,22 +148,22 @@ module _ (primaries items options : ℕ) (entries : List Entry) (starts : List �
     trail_left : (k : ℕ) → k ≤ last → take (mark_of (take mark trail) (take last marks) k) (take mark trail) ≡ take (mark_of trail marks k) trail
     trail_left k le = ap (λ n. take n (take mark trail)) (mark_left k le) ∙ take-take (mark_of trail marks k) mark trail (lower k le)
 
-    pub all_right_less : WereAlwaysRight primaries items options entries starts (back (put_back entries starts) (drop mark trail) a) (take mark trail) (take last marks) (take last chosen)
+    pub all_right_less : WereAlwaysRight takable items options entries starts (back (put_back entries starts) (drop mark trail) a) (take mark trail) (take last marks) (take last chosen)
     all_right_less = record {
       as_many = length-take-le last marks (omega (arith, all.as_many)) ∙ sym (length-take-le last chosen (omega arith));
       rising = λ k lt. let lt2 : k < last = omega (arith, length-take last marks) in let x = mark_left k (omega arith) in let b = mark_left (k + 1) (omega arith) in let r = all.rising k (omega (arith, all.as_many)) in omega (arith, x, b, r);
       real = λ o among. all.real o (subst (λ l. Contains l o) (take-append-drop last chosen) (Contains-append_left (take last chosen) (drop last chosen) o among));
-      apart = λ i j d lt jt h. let jl : j < last = omega (arith, jt, length-take last chosen) in all.apart i j d lt (omega (arith, jl, is)) (subst (λ o. NodesClash primaries items entries o (get_or chosen j d)) (get_or-take last chosen i d (omega (arith, jl, lt))) (subst (λ o. NodesClash primaries items entries (get_or (take last chosen) i d) o) (get_or-take last chosen j d jl) h));
+      apart = λ i j d lt jt h. let jl : j < last = omega (arith, jt, length-take last chosen) in all.apart i j d lt (omega (arith, jl, is)) (subst (λ o. NodesClash takable items entries o (get_or chosen j d)) (get_or-take last chosen i d (omega (arith, jl, lt))) (subst (λ o. NodesClash takable items entries (get_or (take last chosen) i d) o) (get_or-take last chosen j d jl) h));
       right = λ k le. let in_ : k ≤ last = omega (arith, length-take last chosen) in right_at _ _ _ _ _ _ (take-take k last chosen in_) (before_left k in_) (trail_left k in_) (all.right k (omega arith));
     }
 
   -- The same at equal lists.
-  pub moved : (a a' : Arrays) (t t' m m' c c' : List ℕ) → a' ≡ a → t' ≡ t → m' ≡ m → c' ≡ c → WereAlwaysRight primaries items options entries starts a t m c → WereAlwaysRight primaries items options entries starts a' t' m' c'
+  pub moved : (a a' : Arrays) (t t' m m' c c' : List ℕ) → a' ≡ a → t' ≡ t → m' ≡ m → c' ≡ c → WereAlwaysRight takable items options entries starts a t m c → WereAlwaysRight takable items options entries starts a' t' m' c'
   moved a a' t t' m m' c c' ea et em ec h =
-      subst (λ x. WereAlwaysRight primaries items options entries starts x t' m' c') (sym ea) (subst (λ x. WereAlwaysRight primaries items options entries starts a x m' c') (sym et) (subst (λ x. WereAlwaysRight primaries items options entries starts a t x c') (sym em) (subst (λ x. WereAlwaysRight primaries items options entries starts a t m x) (sym ec) h)))
+      subst (λ x. WereAlwaysRight takable items options entries starts x t' m' c') (sym ea) (subst (λ x. WereAlwaysRight takable items options entries starts a x m' c') (sym et) (subst (λ x. WereAlwaysRight takable items options entries starts a t x c') (sym em) (subst (λ x. WereAlwaysRight takable items options entries starts a t m x) (sym ec) h)))
 
   -- The arrays are right now.
-  pub current : (a : Arrays) (trail marks chosen : List ℕ) → WereAlwaysRight primaries items options entries starts a trail marks chosen → AreRightFor primaries items options entries starts chosen a trail
+  pub current : (a : Arrays) (trail marks chosen : List ℕ) → WereAlwaysRight takable items options entries starts a trail marks chosen → AreRightFor takable items options entries starts chosen a trail
   current a trail marks chosen all =
       let m : mark_of trail marks (length chosen) ≡ length trail = get_or_past marks (length chosen) (length trail) (omega (arith, all.as_many)) in
       right_at _ _ _ _ _ _
@@ -173,28 +173,28 @@ module _ (primaries items options : ℕ) (entries : List Entry) (starts : List �
       (all.right (length chosen) (omega arith))
 
   -- An option that clashes with none chosen is chosen.
-  module _ (table : IsNodeTable primaries items options entries starts) (chosen trail : List ℕ) (hides : HidesJust primaries items options entries chosen trail) (real : (o : ℕ) → Contains chosen o → o < options) (option : ℕ) (in_ : option < options) (free : (o : ℕ) → Contains chosen o → NodesClash primaries items entries o option → ⊥) where
-    pub uncovered : (n : ℕ) → start_of starts option ≤ n → n < start_of starts (option + 1) → item_of entries n < primaries → has trail (options + item_of entries n) ≡ false
-    uncovered n from to primary = false_from_ne_true (has trail (options + item_of entries n)) (λ e. let w = hides.only (options + item_of entries n) e in bad w.by w.among w.excludes)
+  module _ (table : IsNodeTable takable items options entries starts) (chosen trail : List ℕ) (hides : HidesJust takable items options entries chosen trail) (real : (o : ℕ) → Contains chosen o → o < options) (option : ℕ) (in_ : option < options) (free : (o : ℕ) → Contains chosen o → NodesClash takable items entries o option → ⊥) where
+    pub uncovered : (n : ℕ) → start_of starts option ≤ n → n < start_of starts (option + 1) → item_of entries n < takable → has trail (options + item_of entries n) ≡ false
+    uncovered n from to can_take = false_from_ne_true (has trail (options + item_of entries n)) (λ e. let w = hides.only (options + item_of entries n) e in bad w.by w.among w.excludes)
       where
-        bad : (o : ℕ) → Contains chosen o → Excludes primaries items options entries o (options + item_of entries n) → ⊥
+        bad : (o : ℕ) → Contains chosen o → Excludes takable items options entries o (options + item_of entries n) → ⊥
         bad o among b = ⊎_elim
-            (λ (h : NodeClashes primaries items entries b.node (options + item_of entries n)).
+            (λ (h : NodeClashes takable items entries b.node (options + item_of entries n)).
             let r = table.rooted h.node h.from h.to (omega (arith, h.option)) in
             let i = table.real b.node b.from b.to (let lt = real o among in omega (arith, b.option, lt)) in
             omega (arith, r, i, h.item))
-            (λ (h : CoversItem primaries options entries b.node (options + item_of entries n)).
+            (λ (h : CoversItem takable options entries b.node (options + item_of entries n)).
             let same : item_of entries b.node ≡ item_of entries n = omega (arith, h.is) in
             free o among (record {
               node = b.node;
               from = b.from;
               to = b.to;
               option = b.option;
-              clashes = record { node = n; from = node_from primaries items options entries starts table option in_ n from to; to = node_to primaries items options entries starts table option in_ n from to; option = node_of primaries items options entries starts table option in_ n from to; item = sym same; differ = inl h.primary };
+              clashes = record { node = n; from = node_from takable items options entries starts table option in_ n from to; to = node_to takable items options entries starts table option in_ n from to; option = node_of takable items options entries starts table option in_ n from to; item = sym same; differ = inl h.can_take };
             }))
             b.excludes
 
-    pub hides_more : (trail' : List ℕ) → ((p : ℕ) → has trail p ≡ true → has trail' p ≡ true) → ((p : ℕ) → Excludes primaries items options entries option p → has trail' p ≡ true) → ((p : ℕ) → has trail' p ≡ true → (has trail p ≡ true) ⊎ Excludes primaries items options entries option p) → HidesJust primaries items options entries (chosen ++ option ∷ []) trail'
+    pub hides_more : (trail' : List ℕ) → ((p : ℕ) → has trail p ≡ true → has trail' p ≡ true) → ((p : ℕ) → Excludes takable items options entries option p → has trail' p ≡ true) → ((p : ℕ) → has trail' p ≡ true → (has trail p ≡ true) ⊎ Excludes takable items options entries option p) → HidesJust takable items options entries (chosen ++ option ∷ []) trail'
     hides_more trail' on all only = record {
       only = λ p e. ⊎_elim
           (λ h. let w = hides.only p h in record { by = w.by; among = Contains-append_left chosen (option ∷ []) w.by w.among; excludes = w.excludes })
@@ -202,7 +202,7 @@ module _ (primaries items options : ℕ) (entries : List Entry) (starts : List �
           (only p e);
       all = λ p w. ⊎_elim
           (λ (old : Contains chosen w.by). on p (hides.all p (record { by = w.by; among = old; excludes = w.excludes })))
-          (λ (new : Contains (option ∷ []) w.by). all p (subst (λ o. Excludes primaries items options entries o p) (one option w.by new) w.excludes))
+          (λ (new : Contains (option ∷ []) w.by). all p (subst (λ o. Excludes takable items options entries o p) (one option w.by new) w.excludes))
           (Contains-append_cases chosen (option ∷ []) w.by w.among);
     }
 

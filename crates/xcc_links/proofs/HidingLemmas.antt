@@ -70,7 +70,7 @@ same_bools false false f g = refl
 pub both_at : (f g : ℕ → Bool) → ((k : ℕ) → f k ≡ g k) → f ≡ g
 both_at f g h = λ i. λ k. h k i
 
-module _ (primaries items options : ℕ) (entries : List Entry) (starts : List ℕ) (table : IsNodeTable primaries items options entries starts) (trail : List ℕ) (option : ℕ) (in_ : option + 1 < length starts) (free : has trail option ≡ false) where
+module _ (takable items options : ℕ) (entries : List Entry) (starts : List ℕ) (table : IsNodeTable takable items options entries starts) (trail : List ℕ) (option : ℕ) (in_ : option + 1 < length starts) (free : has trail option ≡ false) where
   pub rise : start_of starts option ≤ start_of starts (option + 1)
   rise = table.runs.rising option in_
 
@@ -108,16 +108,16 @@ module _ (primaries items options : ℕ) (entries : List Entry) (starts : List �
     right_hidden fits = record {
       fits = fits;
       options = λ o e. ⊎_elim (λ h. right.options o h) (λ (s : o ≡ option). omega (arith, s, in_)) (has_cases trail option o e);
-      kept = subst (λ s. AreLinked items entries s (hidden_links links (start_of starts option) (width_of starts option))) all_hidden (stage primaries items options entries starts table (shown_by items entries trail) links sizes right.kept right.counted (start_of starts option) (width_of starts option) nodes_shown (width_of starts option) (omega arith));
-      counted = subst (λ s. AreCounted items entries s (hidden_sizes entries sizes (start_of starts option) (width_of starts option))) all_hidden (stage_sizes primaries items options entries starts table (shown_by items entries trail) links sizes right.kept right.counted (start_of starts option) (width_of starts option) nodes_shown (width_of starts option) (omega arith));
+      kept = subst (λ s. AreLinked items entries s (hidden_links links (start_of starts option) (width_of starts option))) all_hidden (stage takable items options entries starts table (shown_by items entries trail) links sizes right.kept right.counted (start_of starts option) (width_of starts option) nodes_shown (width_of starts option) (omega arith));
+      counted = subst (λ s. AreCounted items entries s (hidden_sizes entries sizes (start_of starts option) (width_of starts option))) all_hidden (stage_sizes takable items options entries starts table (shown_by items entries trail) links sizes right.kept right.counted (start_of starts option) (width_of starts option) nodes_shown (width_of starts option) (omega arith));
     }
 
     pub goes_hidden : LeadsBack (put_back entries starts) (links, sizes) trail (hidden_links links (start_of starts option) (width_of starts option), hidden_sizes entries sizes (start_of starts option) (width_of starts option)) (trail ++ option ∷ [])
     goes_hidden = record {
       more = option ∷ [];
       longer = refl;
-      back_to = let l = links_back primaries items options entries starts table (shown_by items entries trail) links sizes right.kept right.counted (start_of starts option) (width_of starts option) nodes_shown (width_of starts option) (omega arith) in
-          let s = all_sizes_back primaries items options entries starts table (shown_by items entries trail) links sizes right.kept right.counted (start_of starts option) (width_of starts option) nodes_shown (width_of starts option) (omega arith) in
+      back_to = let l = links_back takable items options entries starts table (shown_by items entries trail) links sizes right.kept right.counted (start_of starts option) (width_of starts option) nodes_shown (width_of starts option) (omega arith) in
+          let s = all_sizes_back takable items options entries starts table (shown_by items entries trail) links sizes right.kept right.counted (start_of starts option) (width_of starts option) nodes_shown (width_of starts option) (omega arith) in
           λ i. (l i, s i);
     }
 

@@ -19,7 +19,7 @@ use Rattle.xcc_links.specs.declared.links.tables.NodeTable.{NodeTable}
 use Rattle.xcc_links.proofs.TrailLemmas.{goes_back, goes_take}
 use Rattle.xcc_links.proofs.ChoosingLemmas.{current}
 use Rattle.xcc_links.proofs.NodeSizeLemmas.{size_open}
-use Rattle.xcc_links.proofs.MeaningLemmas.{all_options, clash_nodes, free_open_at, open_at_free}
+use Rattle.xcc_links.proofs.MeaningLemmas.{takes_primary, all_options, clash_nodes, free_open_at, open_at_free}
 
 -- what was hidden since a state is put back
 pub put_all_back : (step : ℕ → Arrays → Arrays) (a : Arrays) (t : List ℕ) (a' : Arrays) (t' : List ℕ) (mark : ℕ) → mark ≡ length t → LeadsBack step a t a' t' → back step (drop mark t') a' ≡ a
@@ -30,8 +30,8 @@ pub trail_put_back : (step : ℕ → Arrays → Arrays) (a : Arrays) (t : List �
 trail_put_back step a t a' t' mark e g = goes_take step a t a' t' mark g (omega (arith, e)) ∙ take_all mark t (omega (arith, e))
 
 module _ (x : Compiled) (t : NodeTable) (a : LinkArrays) (marks chosen : List ℕ) (h : AreLinksOf x t a marks chosen) where
-  pub right_now : AreRightFor t.primaries t.items t.options t.entries.items t.starts.items chosen (a.links.items, a.sizes.items) a.trail.items
-  right_now = current t.primaries t.items t.options t.entries.items t.starts.items (a.links.items, a.sizes.items) a.trail.items marks chosen h.right
+  pub right_now : AreRightFor t.takable t.items t.options t.entries.items t.starts.items chosen (a.links.items, a.sizes.items) a.trail.items
+  right_now = current t.takable t.items t.options t.entries.items t.starts.items (a.links.items, a.sizes.items) a.trail.items marks chosen h.right
 
   pub selection_is : IsSelection x chosen
   selection_is = record {
@@ -40,17 +40,17 @@ module _ (x : Compiled) (t : NodeTable) (a : LinkArrays) (marks chosen : List �
       real = λ o among. all_options x h.compiled t h.table o (h.right.real o among);
       apart = λ place place' o p lt at at' clash.
           h.right.apart place place' o lt (slice_get_within chosen place' p at')
-          (subst (λ q. NodesClash t.primaries t.items t.entries.items q (get_or chosen place' o)) (sym (get_or_from_slice_get chosen place o o at))
-          (subst (λ q. NodesClash t.primaries t.items t.entries.items o q) (sym (get_or_from_slice_get chosen place' p o at')) (clash_nodes x h.compiled t h.table o p clash)));
+          (subst (λ q. NodesClash t.takable t.items t.entries.items q (get_or chosen place' o)) (sym (get_or_from_slice_get chosen place o o at))
+          (subst (λ q. NodesClash t.takable t.items t.entries.items o q) (sym (get_or_from_slice_get chosen place' p o at')) (clash_nodes x h.compiled t h.table o p clash)));
     };
   }
 
   pub size_is : (item : ℕ) → IsUncovered (cover_of x) chosen item → HasSize (cover_of x) chosen item (count (in_list (item_of t.entries.items) (shown_by t.items t.entries.items a.trail.items) item) (length t.entries.items))
   size_is item is =
-      let primary : item < t.primaries = let p = is.primary in omega (arith, p, h.table.primaries) in
-      let w = size_open t.primaries t.items t.options t.entries.items t.starts.items h.table.table chosen a.trail.items right_now.hides item primary in (
+      let can_take = takes_primary x t h.table item is.primary in
+      let w = size_open t.takable t.items t.options t.entries.items t.starts.items h.table.table chosen a.trail.items right_now.hides item can_take in (
         w.0,
-        listing_same ◌<◌ (IsFreeAt t.primaries t.items t.options t.entries.items chosen item) (IsOpenAt (cover_of x) chosen item) w.0
-            (λ o. free_open_at x h.compiled t h.table chosen h.right.real item o primary) (open_at_free x h.compiled t h.table chosen h.right.real item) w.1,
+        listing_same ◌<◌ (IsFreeAt t.takable t.items t.options t.entries.items chosen item) (IsOpenAt (cover_of x) chosen item) w.0
+            (λ o. free_open_at x h.compiled t h.table chosen h.right.real item o can_take) (open_at_free x h.compiled t h.table chosen h.right.real item) w.1,
         w.2,
       )

@@ -34,7 +34,7 @@ count_below t (suc n) = let h = count_below t n in by (t n) (count t n) h
     by true x h = omega arith
     by false x h = omega arith
 
-module _ (primaries items options : ℕ) (entries : List Entry) (starts : List ℕ) (table : IsNodeTable primaries items options entries starts) (shown : ℕ → Bool) (m : ℕ) (links : List Link) (kept : AreLinked items entries shown links) (sm : shown m ≡ true) where
+module _ (takable items options : ℕ) (entries : List Entry) (starts : List ℕ) (table : IsNodeTable takable items options entries starts) (shown : ℕ → Bool) (m : ℕ) (links : List Link) (kept : AreLinked items entries shown links) (sm : shown m ≡ true) where
   pub node_in : m < length links
   node_in = let h = kept.high m sm in omega (arith, h, kept.long)
 
@@ -80,7 +80,7 @@ module _ (primaries items options : ℕ) (entries : List Entry) (starts : List �
   pub unlinked_back : relinked (unlinked links m) m ≡ links
   unlinked_back = relinked_exact links m last_in next_in off_up off_down (kept.linked.forth m (inr sm)) (kept.linked.back_up m (inr sm))
 
-module _ (primaries items options : ℕ) (entries : List Entry) (starts : List ℕ) (table : IsNodeTable primaries items options entries starts) (shown : ℕ → Bool) (m : ℕ) (sizes : List ℕ) (counted : AreCounted items entries shown sizes) (sm : shown m ≡ true) (lm : m < length entries) where
+module _ (takable items options : ℕ) (entries : List Entry) (starts : List ℕ) (table : IsNodeTable takable items options entries starts) (shown : ℕ → Bool) (m : ℕ) (sizes : List ℕ) (counted : AreCounted items entries shown sizes) (sm : shown m ≡ true) (lm : m < length entries) where
   pub own_in : item_of entries m < length sizes
   own_in = let h = table.small m in omega (arith, h, counted.long)
 
@@ -148,36 +148,36 @@ hidden_step shown a n = record {
   others = λ k ne. ⊎_elim (λ w. absurd (ne w.1)) (λ w. rw (w.0) refl) (eqb_tells k (a + n));
 }
 
-module _ (primaries items options : ℕ) (entries : List Entry) (starts : List ℕ) (table : IsNodeTable primaries items options entries starts) (shown : ℕ → Bool) (links : List Link) (sizes : List ℕ) (kept : AreLinked items entries shown links) (counted : AreCounted items entries shown sizes) (a w : ℕ) (there : (k : ℕ) → a ≤ k → k < a + w → shown k ≡ true) where
+module _ (takable items options : ℕ) (entries : List Entry) (starts : List ℕ) (table : IsNodeTable takable items options entries starts) (shown : ℕ → Bool) (links : List Link) (sizes : List ℕ) (kept : AreLinked items entries shown links) (counted : AreCounted items entries shown sizes) (a w : ℕ) (there : (k : ℕ) → a ≤ k → k < a + w → shown k ≡ true) where
   still : (n : ℕ) → n < w → hidden shown a n (a + n) ≡ true
   still n lt = hidden_still shown a n (a + n) (omega arith) ∙ there (a + n) (omega arith) (omega arith)
 
   pub stage : (n : ℕ) → n ≤ w → AreLinked items entries (hidden shown a n) (hidden_links links a n)
   stage zero le = kept
-  stage (suc n) le = kept_without primaries items options entries starts table (hidden shown a n) (a + n) (hidden_links links a n) (stage n (omega arith)) (still n (omega arith)) (hidden shown a (suc n)) (hidden_step shown a n)
+  stage (suc n) le = kept_without takable items options entries starts table (hidden shown a n) (a + n) (hidden_links links a n) (stage n (omega arith)) (still n (omega arith)) (hidden shown a (suc n)) (hidden_step shown a n)
 
   high : (n : ℕ) → n < w → a + n < length entries
   high n lt = kept.high (a + n) (there (a + n) (omega arith) (omega arith))
 
   pub stage_sizes : (n : ℕ) → n ≤ w → AreCounted items entries (hidden shown a n) (hidden_sizes entries sizes a n)
   stage_sizes zero le = counted
-  stage_sizes (suc n) le = counted_without primaries items options entries starts table (hidden shown a n) (a + n) (hidden_sizes entries sizes a n) (stage_sizes n (omega arith)) (still n (omega arith)) (high n (omega arith)) (hidden shown a (suc n)) (hidden_step shown a n)
+  stage_sizes (suc n) le = counted_without takable items options entries starts table (hidden shown a n) (a + n) (hidden_sizes entries sizes a n) (stage_sizes n (omega arith)) (still n (omega arith)) (high n (omega arith)) (hidden shown a (suc n)) (hidden_step shown a n)
 
   pub links_back : (n : ℕ) → n ≤ w → shown_links (hidden_links links a n) a n ≡ links
   links_back zero le = refl
-  links_back (suc n) le = ap (λ l. shown_links l a n) (unlinked_back primaries items options entries starts table (hidden shown a n) (a + n) (hidden_links links a n) (stage n (omega arith)) (still n (omega arith))) ∙ links_back n (omega arith)
+  links_back (suc n) le = ap (λ l. shown_links l a n) (unlinked_back takable items options entries starts table (hidden shown a n) (a + n) (hidden_links links a n) (stage n (omega arith)) (still n (omega arith))) ∙ links_back n (omega arith)
 
   pub all_sizes_back : (n : ℕ) → n ≤ w → shown_sizes entries (hidden_sizes entries sizes a n) a n ≡ sizes
   all_sizes_back zero le = refl
-  all_sizes_back (suc n) le = ap (λ l. shown_sizes entries l a n) (sizes_back primaries items options entries starts table (hidden shown a n) (a + n) (hidden_sizes entries sizes a n) (stage_sizes n (omega arith)) (still n (omega arith)) (high n (omega arith))) ∙ all_sizes_back n (omega arith)
+  all_sizes_back (suc n) le = ap (λ l. shown_sizes entries l a n) (sizes_back takable items options entries starts table (hidden shown a n) (a + n) (hidden_sizes entries sizes a n) (stage_sizes n (omega arith)) (still n (omega arith)) (high n (omega arith))) ∙ all_sizes_back n (omega arith)
 
   -- what taking out the next node needs
   module _ (n : ℕ) (lt : n < w) where
     pub can_node : a + n < length (hidden_links links a n)
-    can_node = node_in primaries items options entries starts table (hidden shown a n) (a + n) (hidden_links links a n) (stage n (omega arith)) (still n lt)
+    can_node = node_in takable items options entries starts table (hidden shown a n) (a + n) (hidden_links links a n) (stage n (omega arith)) (still n lt)
 
     pub can_item : item_of entries (a + n) < length (hidden_sizes entries sizes a n)
-    can_item = own_in primaries items options entries starts table (hidden shown a n) (a + n) (hidden_sizes entries sizes a n) (stage_sizes n (omega arith)) (still n lt) (high n lt)
+    can_item = own_in takable items options entries starts table (hidden shown a n) (a + n) (hidden_sizes entries sizes a n) (stage_sizes n (omega arith)) (still n lt) (high n lt)
 
     pub can_size : 1 ≤ get_or (hidden_sizes entries sizes a n) (item_of entries (a + n)) 0
-    can_size = size_some primaries items options entries starts table (hidden shown a n) (a + n) (hidden_sizes entries sizes a n) (stage_sizes n (omega arith)) (still n lt) (high n lt)
+    can_size = size_some takable items options entries starts table (hidden shown a n) (a + n) (hidden_sizes entries sizes a n) (stage_sizes n (omega arith)) (still n lt) (high n lt)

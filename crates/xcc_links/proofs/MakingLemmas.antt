@@ -49,7 +49,7 @@ alone_more links n links' e a = subst (λ l. AreAlone l (n + 1)) (sym e) (record
         (λ (ne : k ≢ n). let inner : k < length links = omega (arith, a.long, lt, ne) in ap f (get_or_append_left links ((record { up = n; down = n }) ∷ []) no_link k inner) ∙ h k (omega (arith, lt, ne)))
         (cases_eq k n)
 
-module _ (primaries items options : ℕ) (entries : List Entry) (starts : List ℕ) (table : IsNodeTable primaries items options entries starts) where
+module _ (takable items options : ℕ) (entries : List Entry) (starts : List ℕ) (table : IsNodeTable takable items options entries starts) where
   pub items_in : items ≤ length entries
   items_in = let e = table.starts_long in let h = table.runs.high 0 (omega (arith, e)) in let l = table.runs.low 0 (omega (arith, e)) in omega (arith, h, l)
 

@@ -1,5 +1,5 @@
--- The next uncovered item is the next in the root's list.
-use Rattle.std.proofs.Common.{◌≡◌, ◌≢◌, ◌<◌, ◌≤◌, ◌+◌, ◌-◌, ℕ, List, Option, None, Some, IfSome, length, arith, ap, sym, ◌∙◌, subst}
+-- The next uncovered item is the next in the root's list, where that is a primary one.
+use Rattle.std.proofs.Common.{◌≡◌, ◌≢◌, ◌⊎◌, ◌<◌, ◌≤◌, ◌+◌, ◌-◌, ℕ, List, Option, None, Some, IfSome, length, arith, ap, sym, ◌∙◌, subst, ⊎_elim}
 use Rattle.xcc_form.specs.Options.{Compiled, cover_of}
 use Rattle.xcc_form.specs.Chosen.{IsUncovered, ComesAfter, IsNextItem, IsLastItem}
 use Rattle.xcc_links.specs.Rings.{down_of}
@@ -10,7 +10,7 @@ use Rattle.xcc_links.specs.declared.links.tables.NodeTable.{NodeTable}
 use Rattle.xcc_links.proofs.HidingLemmas.{shown_parts}
 use Rattle.xcc_links.proofs.FewestLemmas.{item_there, own_node}
 use Rattle.xcc_links.proofs.NodeSizeLemmas.{uncovered_shown, shown_uncovered}
-use Rattle.xcc_links.proofs.MeaningLemmas.{node_uncovered, uncovered_node}
+use Rattle.xcc_links.proofs.MeaningLemmas.{takes_primary, node_uncovered, uncovered_node}
 use Rattle.xcc_links.proofs.LinkLemmas.{right_now}
 use Rattle.xcc_links.proofs.FollowingLemmas.{IsListed, IsPlace, listed_within, listed_place, own_place, place_linked, ends, goes_on, next_listed}
 
@@ -22,19 +22,18 @@ module _ {x : Compiled} {t : NodeTable} {a : LinkArrays} {marks chosen : List �
   listed : (item : ℕ) → IsUncovered (cover_of x) chosen item → IsListed t a root (first + item)
   listed item is =
       let now = right_now x t a marks chosen h in
-      let primary : item < t.primaries = let p = is.primary in omega (arith, p, h.table.primaries) in
-      let w = own_node t.primaries t.items t.options t.entries.items t.starts.items h.table.table a.links.items a.sizes.items a.trail.items now.right root is_root first is_first item primary
-      (uncovered_shown t.primaries t.items t.options t.entries.items t.starts.items h.table.table chosen a.trail.items now.hides item (uncovered_node x h.compiled t h.table chosen h.right.real item is) h.right.real) in
+      let w = own_node t.takable t.items t.options t.entries.items t.starts.items h.table.table a.links.items a.sizes.items a.trail.items now.right root is_root first is_first item (takes_primary x t h.table item is.primary)
+      (uncovered_shown t.takable t.items t.options t.entries.items t.starts.items h.table.table chosen a.trail.items now.hides item (uncovered_node x h.compiled t h.table chosen h.right.real item is) h.right.real) in
       record { shown = w.0; at = w.1 }
 
-  -- a listed node is that of an uncovered item
-  uncovered : (n : ℕ) → IsListed t a root n → (first ≤ n) × IsUncovered (cover_of x) chosen (n - first)
+  -- a listed node is that of an uncovered item, where it is a primary one
+  uncovered : (n : ℕ) → IsListed t a root n → (first ≤ n) × (n < first + t.primaries → IsUncovered (cover_of x) chosen (n - first))
   uncovered n s =
       let now = right_now x t a marks chosen h in
-      let w = item_there t.primaries t.items t.options t.entries.items t.starts.items h.table.table a.links.items a.sizes.items a.trail.items now.right root is_root first is_first n s.shown s.at in (
+      let w = item_there t.takable t.items t.options t.entries.items t.starts.items h.table.table a.links.items a.sizes.items a.trail.items now.right root is_root first is_first n s.shown s.at in (
         w.0,
-        node_uncovered x h.compiled t h.table chosen h.right.real (n - first) w.1
-            (shown_uncovered t.primaries t.items t.options t.entries.items t.starts.items h.table.table chosen a.trail.items now.hides (n - first) w.1
+        λ lt. node_uncovered x h.compiled t h.table chosen h.right.real (n - first) (let le = w.0 in omega (arith, lt, le))
+            (shown_uncovered t.takable t.items t.options t.entries.items t.starts.items h.table.table chosen a.trail.items now.hides (n - first) w.1
             (ap (has a.trail.items) (sym w.2) ∙ (shown_parts t.items t.entries.items a.trail.items n s.shown).2)),
       )
 
@@ -71,23 +70,29 @@ module _ {x : Compiled} {t : NodeTable} {a : LinkArrays} {marks chosen : List �
     pub node_in : n < length a.links.items
     node_in = place_linked h root root_in n here
 
-    pub next_none : down_of a.links.items n ≡ root → IsLastItem (cover_of x) chosen after
-    next_none e other is c =
+    -- the list ends, or goes on past the nodes of the primary items
+    pub next_none : (down_of a.links.items n ≡ root) ⊎ ((down_of a.links.items n ≢ root) × (first + t.primaries ≤ down_of a.links.items n)) → IsLastItem (cover_of x) chosen after
+    next_none done other is c =
         let w = listed other is in
-        let le = (ends h root root_in n here e).none_after (first + other) w.shown (w.at ∙ sym here.at) in
         let lt = behind after n other begins w c in
-        omega (arith, le, lt)
+        ⊎_elim
+        (λ e. let le = (ends h root root_in n here e).none_after (first + other) w.shown (w.at ∙ sym here.at) in omega (arith, le, lt))
+        (λ v.
+        let le = (goes_on h root root_in n here v.0).none_between (first + other) w.shown (w.at ∙ sym here.at) lt in
+        let over = v.1 in
+        let primary = is.primary in
+        omega (arith, le, over, primary, h.table.primaries))
+        done
 
-    pub next_uncovered : down_of a.links.items n ≢ root → (first ≤ down_of a.links.items n) × IsUncovered (cover_of x) chosen (down_of a.links.items n - first)
-    next_uncovered ne = uncovered (down_of a.links.items n) (next_listed h root root_in n here ne)
+    pub next_from : down_of a.links.items n ≢ root → first ≤ down_of a.links.items n
+    next_from ne = (uncovered (down_of a.links.items n) (next_listed h root root_in n here ne)).0
 
-    pub next_some : down_of a.links.items n ≢ root → IsNextItem (cover_of x) chosen after (down_of a.links.items n - first)
-    next_some ne =
-        let free = next_uncovered ne in
+    pub next_some : down_of a.links.items n ≢ root → down_of a.links.items n < first + t.primaries → IsNextItem (cover_of x) chosen after (down_of a.links.items n - first)
+    next_some ne below =
         let l = goes_on h root root_in n here ne in
         record {
-          uncovered = free.1;
-          after_it = ahead after n (down_of a.links.items n) begins free.0 l.after;
+          uncovered = (uncovered (down_of a.links.items n) (next_listed h root root_in n here ne)).1 below;
+          after_it = ahead after n (down_of a.links.items n) begins (next_from ne) l.after;
           first = λ other is c.
               let w = listed other is in
               let lt = behind after n other begins w c in

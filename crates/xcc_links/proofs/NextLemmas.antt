@@ -19,23 +19,23 @@ use Rattle.xcc_links.proofs.FollowingLemmas.{IsListed, IsPlace, listed_within, l
 after_same : (after : Option ℕ) (o p : ℕ) → o ≡ p → ComesAfter after o → ComesAfter after p
 after_same after o p e c = subst (ComesAfter after) e c
 
-module _ {x : Compiled} {t : NodeTable} {a : LinkArrays} {marks chosen : List ℕ} (h : AreLinksOf x t a marks chosen) (item : ℕ) (primary : item < t.primaries) where
+module _ {x : Compiled} {t : NodeTable} {a : LinkArrays} {marks chosen : List ℕ} (h : AreLinksOf x t a marks chosen) (item : ℕ) (can_take : item < t.takable) where
   item_in : item < t.items
-  item_in = let s = h.table.table.some in omega (arith, s, primary)
+  item_in = let s = h.table.table.some in omega (arith, s, can_take)
 
   rise : (m n : ℕ) → IsListed t a item m → IsListed t a item n → m < n → option_of t.entries.items m < option_of t.entries.items n
-  rise m n p q lt = options_rise t.primaries t.items t.options t.entries.items t.starts.items h.table.table m n lt (listed_within p).0 (listed_within q).1 (p.at ∙ sym q.at)
+  rise m n p q lt = options_rise t.takable t.items t.options t.entries.items t.starts.items h.table.table m n lt (listed_within p).0 (listed_within q).1 (p.at ∙ sym q.at)
 
   opens : (n : ℕ) → IsListed t a item n → IsOpenAt (cover_of x) chosen item (option_of t.entries.items n)
-  opens n s = free_open_at x h.compiled t h.table chosen h.right.real item (option_of t.entries.items n) primary
-      (opened_at t.primaries t.items t.options t.entries.items t.starts.items h.table.table chosen a.trail.items (right_now x t a marks chosen h).hides item primary n s.shown s.at)
+  opens n s = free_open_at x h.compiled t h.table chosen h.right.real item (option_of t.entries.items n) can_take
+      (opened_at t.takable t.items t.options t.entries.items t.starts.items h.table.table chosen a.trail.items (right_now x t a marks chosen h).hides item can_take n s.shown s.at)
 
   -- an open option's node is listed
   shows : (option n : ℕ) → IsOpenAt (cover_of x) chosen item option → IsNodeAt t option item n → IsListed t a item n
   shows option n is w =
       let f = open_at_free x h.compiled t h.table chosen h.right.real item option is in
       record {
-        shown = shown_true t.items t.entries.items a.trail.items n w.from w.to (ap (has a.trail.items) w.of ∙ open_shown t.primaries t.items t.options t.entries.items t.starts.items h.table.table chosen a.trail.items (right_now x t a marks chosen h).hides option f.small f.free);
+        shown = shown_true t.items t.entries.items a.trail.items n w.from w.to (ap (has a.trail.items) w.of ∙ open_shown t.takable t.items t.options t.entries.items t.starts.items h.table.table chosen a.trail.items (right_now x t a marks chosen h).hides option f.small f.free);
         at = w.at;
       }
 

@@ -13,7 +13,7 @@ use Rattle.xcc_links.specs.declared.links.tables.Entry.{Entry}
 use Rattle.xcc_links.proofs.HidingLemmas.{shown_true, shown_parts}
 use Rattle.xcc_links.proofs.CountLemmas.{IsPassed, passing, length_passing, listing_passing, count_listing}
 
-module _ (primaries items options : ℕ) (entries : List Entry) (starts : List ℕ) (table : IsNodeTable primaries items options entries starts) where
+module _ (takable items options : ℕ) (entries : List Entry) (starts : List ℕ) (table : IsNodeTable takable items options entries starts) where
   starts_rise : (d o : ℕ) → o + d < length starts → start_of starts o ≤ start_of starts (o + d)
   starts_rise zero o lt = let e : o ≡ o + 0 = omega arith in subst (λ k. start_of starts o ≤ start_of starts k) e (omega arith)
   starts_rise (suc d) o lt =
@@ -38,36 +38,36 @@ module _ (primaries items options : ℕ) (entries : List Entry) (starts : List �
       o)
       (cases_order (option_of entries a) (option_of entries b))
 
-  module _ (chosen trail : List ℕ) (hides : HidesJust primaries items options entries chosen trail) where
-    pub open_shown : (o : ℕ) → o < options → ((c : ℕ) → Contains chosen c → NodesClash primaries items entries c o → ⊥) → has trail o ≡ false
+  module _ (chosen trail : List ℕ) (hides : HidesJust takable items options entries chosen trail) where
+    pub open_shown : (o : ℕ) → o < options → ((c : ℕ) → Contains chosen c → NodesClash takable items entries c o → ⊥) → has trail o ≡ false
     open_shown o lt free = false_from_ne_true (has trail o) (λ e. let w = hides.only o e in bad w.by w.among w.excludes)
       where
-        bad : (c : ℕ) → Contains chosen c → Excludes primaries items options entries c o → ⊥
+        bad : (c : ℕ) → Contains chosen c → Excludes takable items options entries c o → ⊥
         bad c among b = ⊎_elim
-            (λ (h : NodeClashes primaries items entries b.node o). free c among (record { node = b.node; from = b.from; to = b.to; option = b.option; clashes = h }))
-            (λ (h : CoversItem primaries options entries b.node o). let e = h.is in omega (arith, e, lt))
+            (λ (h : NodeClashes takable items entries b.node o). free c among (record { node = b.node; from = b.from; to = b.to; option = b.option; clashes = h }))
+            (λ (h : CoversItem takable options entries b.node o). let e = h.is in omega (arith, e, lt))
             b.excludes
 
-    pub shown_open : (o : ℕ) → has trail o ≡ false → (c : ℕ) → Contains chosen c → NodesClash primaries items entries c o → ⊥
+    pub shown_open : (o : ℕ) → has trail o ≡ false → (c : ℕ) → Contains chosen c → NodesClash takable items entries c o → ⊥
     shown_open o e c among k = true≢false (sym (hides.all o (record { by = c; among = among; excludes = record { node = k.node; from = k.from; to = k.to; option = k.option; excludes = inl k.clashes } })) ∙ e)
 
-    module _ (i : ℕ) (primary : i < primaries) where
+    module _ (i : ℕ) (can_take : i < takable) where
       test : ℕ → Bool
       test = in_list (item_of entries) (shown_by items entries trail) i
 
-      opened : (o : ℕ) → IsPassed (option_of entries) (in_list (item_of entries) (shown_by items entries trail) i) (length entries) o → IsFreeAt primaries items options entries chosen i o
+      opened : (o : ℕ) → IsPassed (option_of entries) (in_list (item_of entries) (shown_by items entries trail) i) (length entries) o → IsFreeAt takable items options entries chosen i o
       opened o p =
           let t = and_parts (shown_by items entries trail p.place) (item_of entries p.place == i) p.passes in
           let q = shown_parts items entries trail p.place t.0 in
           let it = eqb-true (item_of entries p.place) i t.1 in
           let m = p.marked in
           record {
-            small = ⊎_elim (λ l. l) (λ (ge : options ≤ o). absurd (let r = table.rooted p.place q.0 q.1 (omega (arith, m, ge)) in let s = table.some in omega (arith, r, it, s, primary))) (cases_lt o options);
+            small = ⊎_elim (λ l. l) (λ (ge : options ≤ o). absurd (let r = table.rooted p.place q.0 q.1 (omega (arith, m, ge)) in let s = table.some in omega (arith, r, it, s, can_take))) (cases_lt o options);
             free = shown_open o (ap (has trail) (sym m) ∙ q.2);
             at = record { node = p.place; from = q.0; to = q.1; option = m; item = it };
           }
 
-      passed_by : (o : ℕ) → IsFreeAt primaries items options entries chosen i o → IsPassed (option_of entries) (in_list (item_of entries) (shown_by items entries trail) i) (length entries) o
+      passed_by : (o : ℕ) → IsFreeAt takable items options entries chosen i o → IsPassed (option_of entries) (in_list (item_of entries) (shown_by items entries trail) i) (length entries) o
       passed_by o w = record {
         place = w.at.node;
         below = w.at.to;
@@ -76,7 +76,7 @@ module _ (primaries items options : ℕ) (entries : List Entry) (starts : List �
       }
 
       -- a shown node of the item is an open option's
-      pub opened_at : (n : ℕ) → shown_by items entries trail n ≡ true → item_of entries n ≡ i → IsFreeAt primaries items options entries chosen i (option_of entries n)
+      pub opened_at : (n : ℕ) → shown_by items entries trail n ≡ true → item_of entries n ≡ i → IsFreeAt takable items options entries chosen i (option_of entries n)
       opened_at n s same = opened (option_of entries n) (record { place = n; below = (shown_parts items entries trail n s).1; passes = and_from (shown_by items entries trail n) (item_of entries n == i) s (eq-eqb (item_of entries n) i same); marked = refl })
 
       marks_rise : (a b : ℕ) → a < b → b < length entries → in_list (item_of entries) (shown_by items entries trail) i a ≡ true → in_list (item_of entries) (shown_by items entries trail) i b ≡ true → option_of entries a < option_of entries b
@@ -86,43 +86,43 @@ module _ (primaries items options : ℕ) (entries : List Entry) (starts : List �
           options_rise a b lt (shown_parts items entries trail a pa.0).0 to (eqb-true (item_of entries a) i pa.1 ∙ sym (eqb-true (item_of entries b) i pb.1))
 
       -- the open options of the item, as many as its shown nodes
-      pub size_open : (xs : List ℕ) × IsListing ◌<◌ (IsFreeAt primaries items options entries chosen i) xs × (length xs ≡ count (in_list (item_of entries) (shown_by items entries trail) i) (length entries))
+      pub size_open : (xs : List ℕ) × IsListing ◌<◌ (IsFreeAt takable items options entries chosen i) xs × (length xs ≡ count (in_list (item_of entries) (shown_by items entries trail) i) (length entries))
       size_open =
           let passes = in_list (item_of entries) (shown_by items entries trail) i in (
             passing (option_of entries) passes (length entries),
-            listing_same ◌<◌ (IsPassed (option_of entries) passes (length entries)) (IsFreeAt primaries items options entries chosen i) (passing (option_of entries) passes (length entries)) opened passed_by (listing_passing (option_of entries) passes (length entries) marks_rise),
+            listing_same ◌<◌ (IsPassed (option_of entries) passes (length entries)) (IsFreeAt takable items options entries chosen i) (passing (option_of entries) passes (length entries)) opened passed_by (listing_passing (option_of entries) passes (length entries) marks_rise),
             length_passing (option_of entries) passes (length entries),
           )
 
-      pub size_listing : (xs : List ℕ) → IsListing ◌<◌ (IsFreeAt primaries items options entries chosen i) xs → count (in_list (item_of entries) (shown_by items entries trail) i) (length entries) ≡ length xs
+      pub size_listing : (xs : List ℕ) → IsListing ◌<◌ (IsFreeAt takable items options entries chosen i) xs → count (in_list (item_of entries) (shown_by items entries trail) i) (length entries) ≡ length xs
       size_listing xs h = count_listing (option_of entries) (in_list (item_of entries) (shown_by items entries trail) i) (length entries) marks_rise
-          (IsFreeAt primaries items options entries chosen i) opened passed_by xs h
+          (IsFreeAt takable items options entries chosen i) opened passed_by xs h
 
     -- an item's own option is shown just where it is uncovered
     pub uncovered_shown : (i : ℕ) → HasNoChosenNode items entries chosen i → ((o : ℕ) → Contains chosen o → o < options) → has trail (options + i) ≡ false
     uncovered_shown i free real = false_from_ne_true (has trail (options + i)) (λ e. let w = hides.only (options + i) e in bad w.by w.among w.excludes)
       where
-        bad : (c : ℕ) → Contains chosen c → Excludes primaries items options entries c (options + i) → ⊥
+        bad : (c : ℕ) → Contains chosen c → Excludes takable items options entries c (options + i) → ⊥
         bad c among b = ⊎_elim
-            (λ (h : NodeClashes primaries items entries b.node (options + i)).
+            (λ (h : NodeClashes takable items entries b.node (options + i)).
             let r = table.rooted h.node h.from h.to (omega (arith, h.option)) in
             let j = table.real b.node b.from b.to (let lt = real c among in omega (arith, b.option, lt)) in
             omega (arith, r, j, h.item))
-            (λ (h : CoversItem primaries options entries b.node (options + i)). free c among (record { node = b.node; from = b.from; to = b.to; option = b.option; item = omega (arith, h.is) }))
+            (λ (h : CoversItem takable options entries b.node (options + i)). free c among (record { node = b.node; from = b.from; to = b.to; option = b.option; item = omega (arith, h.is) }))
             b.excludes
 
-    pub shown_uncovered : (i : ℕ) → i < primaries → has trail (options + i) ≡ false → HasNoChosenNode items entries chosen i
-    shown_uncovered i primary e c among h = true≢false (sym (hides.all (options + i) (record { by = c; among = among; excludes = record { node = h.node; from = h.from; to = h.to; option = h.option; excludes = inr (record { primary = omega (arith, h.item, primary); is = omega (arith, h.item) }) } })) ∙ e)
+    pub shown_uncovered : (i : ℕ) → i < takable → has trail (options + i) ≡ false → HasNoChosenNode items entries chosen i
+    shown_uncovered i can_take e c among h = true≢false (sym (hides.all (options + i) (record { by = c; among = among; excludes = record { node = h.node; from = h.from; to = h.to; option = h.option; excludes = inr (record { can_take = omega (arith, h.item, can_take); is = omega (arith, h.item) }) } })) ∙ e)
 
     -- a hidden item is covered
     pub hidden_covered : (i : ℕ) → has trail (options + i) ≡ true → ((o : ℕ) → Contains chosen o → o < options) → HasChosenNode items entries chosen i
     hidden_covered i e real = let w = hides.only (options + i) e in covers w.by w.among w.excludes
       where
-        covers : (c : ℕ) → Contains chosen c → Excludes primaries items options entries c (options + i) → HasChosenNode items entries chosen i
+        covers : (c : ℕ) → Contains chosen c → Excludes takable items options entries c (options + i) → HasChosenNode items entries chosen i
         covers c among b = ⊎_elim
-            (λ (h : NodeClashes primaries items entries b.node (options + i)).
+            (λ (h : NodeClashes takable items entries b.node (options + i)).
             absurd (let r = table.rooted h.node h.from h.to (omega (arith, h.option)) in
             let j = table.real b.node b.from b.to (let lt = real c among in omega (arith, b.option, lt)) in
             omega (arith, r, j, h.item)))
-            (λ (h : CoversItem primaries options entries b.node (options + i)). record { by = c; among = among; at = record { node = b.node; from = b.from; to = b.to; option = b.option; item = omega (arith, h.is) } })
+            (λ (h : CoversItem takable options entries b.node (options + i)). record { by = c; among = among; at = record { node = b.node; from = b.from; to = b.to; option = b.option; item = omega (arith, h.is) } })
             b.excludes

@@ -20,12 +20,12 @@ HasNoChosenNode items entries chosen i = (c : ℕ) → Contains chosen c → Has
 
 -- The option clashes with none chosen.
 abbrev pub HasNoClash : ℕ → ℕ → List Entry → List ℕ → ℕ → Type 0
-HasNoClash primaries items entries chosen o = (c : ℕ) → Contains chosen c → NodesClash primaries items entries c o → ⊥
+HasNoClash takable items entries chosen o = (c : ℕ) → Contains chosen c → NodesClash takable items entries c o → ⊥
 
 -- The option has the item, and clashes with none chosen.
-pub record IsFreeAt (primaries items options : ℕ) (entries : List Entry) (chosen : List ℕ) (i o : ℕ) : Type 0 where
+pub record IsFreeAt (takable items options : ℕ) (entries : List Entry) (chosen : List ℕ) (i o : ℕ) : Type 0 where
   pub small : o < options
-  pub free : HasNoClash primaries items entries chosen o
+  pub free : HasNoClash takable items entries chosen o
   pub at : HasNode items entries o i
 
 -- The walk stands at a node of the item's list or is back at its own, and those before it pass.
@@ -48,10 +48,10 @@ abbrev pub HaveChosenNodes : ℕ → ℕ → List Entry → List ℕ → Type 0
 HaveChosenNodes primaries items entries chosen = (j : ℕ) → j < primaries → HasChosenNode items entries chosen j
 
 -- Of the uncovered primary items it has the fewest open options, and the least number among those.
-pub record HasLeastSize (primaries items options : ℕ) (entries : List Entry) (chosen : List ℕ) (i : ℕ) : Type 0 where
+pub record HasLeastSize (primaries takable items options : ℕ) (entries : List Entry) (chosen : List ℕ) (i : ℕ) : Type 0 where
   pub primary : i < primaries
   pub uncovered : HasNoChosenNode items entries chosen i
-  pub fewest : (j : ℕ) → j < primaries → HasNoChosenNode items entries chosen j → (xs ys : List ℕ) → IsListing ◌<◌ (IsFreeAt primaries items options entries chosen i) xs → IsListing ◌<◌ (IsFreeAt primaries items options entries chosen j) ys → (length xs < length ys) ⊎ ((length xs ≡ length ys) × (i ≤ j))
+  pub fewest : (j : ℕ) → j < primaries → HasNoChosenNode items entries chosen j → (xs ys : List ℕ) → IsListing ◌<◌ (IsFreeAt takable items options entries chosen i) xs → IsListing ◌<◌ (IsFreeAt takable items options entries chosen j) ys → (length xs < length ys) ⊎ ((length xs ≡ length ys) × (i ≤ j))
 
 -- The size at the node's item is greater, or the same and the item no less.
 abbrev pub NoBetter : List ℕ → ℕ → ℕ → ℕ → ℕ → Type 0

@@ -35,14 +35,14 @@ first_start x t tab =
     let w = tab.table.runs.around t.items (omega arith) lt in
     let real = w.0 in
     let from = w.1 in
-    let rise = starts_to t.primaries t.items t.options t.entries.items t.starts.items tab.table 0 (option_of t.entries.items t.items) (omega arith) (omega (arith, real)) in
+    let rise = starts_to t.takable t.items t.options t.entries.items t.starts.items tab.table 0 (option_of t.entries.items t.items) (omega arith) (omega (arith, real)) in
     omega (arith, low, from, rise))
     (λ (none : length t.entries.items ≤ t.items). omega (arith, low, high, none))
     (cases_lt t.items (length t.entries.items))
 
 module _ (x : Compiled) (t t' : NodeTable) (tab : IsTableOf x t) (tab' : IsTableOf x t') where
-  same_primaries : t.primaries ≡ t'.primaries
-  same_primaries = tab.primaries ∙ sym tab'.primaries
+  same_takable : t.takable ≡ t'.takable
+  same_takable = tab.takable ∙ sym tab'.takable
 
   pub same_items : t.items ≡ t'.items
   same_items = tab.items ∙ sym tab'.items
@@ -61,10 +61,10 @@ module _ (x : Compiled) (t t' : NodeTable) (tab : IsTableOf x t) (tab' : IsTable
       let e : suc o ≡ o + 1 = omega arith in
       ap (start_of t.starts.items) e ∙ omega (arith, w, w', before) ∙ sym (ap (start_of t'.starts.items) e)
 
-  root_starts : (item : ℕ) → item ≤ t.primaries → start_of t.starts.items (t.options + item) ≡ start_of t'.starts.items (t.options + item)
+  root_starts : (item : ℕ) → item ≤ t.takable → start_of t.starts.items (t.options + item) ≡ start_of t'.starts.items (t.options + item)
   root_starts item le =
       let s = tab.table.single item le in
-      let s' = tab'.table.single item (omega (arith, le, same_primaries)) in
+      let s' = tab'.table.single item (omega (arith, le, same_takable)) in
       let last = option_starts t.options (omega arith) in
       let last' = ap (start_of t'.starts.items) same_options in
       let e' = ap (λ o. start_of t'.starts.items (o + item)) same_options in
@@ -79,7 +79,7 @@ module _ (x : Compiled) (t t' : NodeTable) (tab : IsTableOf x t) (tab' : IsTable
       (cases_lt t.options o)
 
   pub same_starts : t.starts.items ≡ t'.starts.items
-  same_starts = ext_get_or 0 t.starts.items t'.starts.items (omega (arith, tab.table.starts_long, tab'.table.starts_long, same_options, same_primaries)) same_start
+  same_starts = ext_get_or 0 t.starts.items t'.starts.items (omega (arith, tab.table.starts_long, tab'.table.starts_long, same_options, same_takable)) same_start
 
   start_is : (o : ℕ) → start_of t.starts.items o ≡ start_of t'.starts.items o
   start_is o = ap (λ s. start_of s o) same_starts
@@ -95,12 +95,12 @@ module _ (x : Compiled) (t t' : NodeTable) (tab : IsTableOf x t) (tab' : IsTable
   same_place o n c at (at_edge k d there e) =
       ap (λ m. get_or t.entries.items m no_entry) e ∙ (tab.nodes o c at).edge k d there ∙ sym (ap (λ m. get_or t'.entries.items m no_entry) (e ∙ ap (λ s. s + 2 + k) (start_is o)) ∙ (tab'.nodes o c at).edge k d there)
 
-  same_root : (item n : ℕ) → item < t.primaries → n ≡ start_of t.starts.items (t.options + item) → get_or t.entries.items n no_entry ≡ get_or t'.entries.items n no_entry
+  same_root : (item n : ℕ) → item < t.takable → n ≡ start_of t.starts.items (t.options + item) → get_or t.entries.items n no_entry ≡ get_or t'.entries.items n no_entry
   same_root item n lt at =
       let at' = at ∙ start_is (t.options + item) ∙ ap (λ o. start_of t'.starts.items (o + item)) same_options in
       ap (λ m. get_or t.entries.items m no_entry) at ∙ (tab.root item lt).entry
       ∙ ap (λ o. primary_entry (o + item) (t.items - 1)) same_options ∙ ap (λ i. primary_entry (t'.options + item) (i - 1)) same_items
-      ∙ sym (ap (λ m. get_or t'.entries.items m no_entry) at' ∙ (tab'.root item (omega (arith, lt, same_primaries))).entry)
+      ∙ sym (ap (λ m. get_or t'.entries.items m no_entry) at' ∙ (tab'.root item (omega (arith, lt, same_takable))).entry)
 
   same_entry : (n : ℕ) → n < length t.entries.items → get_or t.entries.items n no_entry ≡ get_or t'.entries.items n no_entry
   same_entry n to = ⊎_elim
@@ -115,12 +115,12 @@ module _ (x : Compiled) (t t' : NodeTable) (tab : IsTableOf x t) (tab' : IsTable
       (λ (ge : t.options ≤ option_of t.entries.items n).
       let item = option_of t.entries.items n - t.options in
       let real = w.0 in
-      let primary : item < t.primaries = omega (arith, real, ge, tab.table.starts_long) in
+      let can_take : item < t.takable = omega (arith, real, ge, tab.table.starts_long) in
       let e : option_of t.entries.items n ≡ t.options + item = omega (arith, ge) in
-      let width = (tab.root item primary).width in
+      let width = (tab.root item can_take).width in
       let low = subst (λ p. start_of t.starts.items p ≤ n) e w.1 in
       let high = subst (λ p. n < start_of t.starts.items (p + 1)) e w.2 in
-      same_root item n primary (omega (arith, low, high, width)))
+      same_root item n can_take (omega (arith, low, high, width)))
       (cases_lt (option_of t.entries.items n) t.options))
       (cases_lt n t.items)
 
@@ -173,16 +173,16 @@ module _ (items : ℕ) (entries : List Entry) (starts : List ℕ) (links links' 
 
 -- ---- with nothing chosen
 
-pub none_hidden : (primaries items options : ℕ) (entries : List Entry) (trail : List ℕ) → HidesJust primaries items options entries [] trail → trail ≡ []
-none_hidden primaries items options entries [] h = refl
-none_hidden primaries items options entries (o ∷ trail) h =
+pub none_hidden : (takable items options : ℕ) (entries : List Entry) (trail : List ℕ) → HidesJust takable items options entries [] trail → trail ≡ []
+none_hidden takable items options entries [] h = refl
+none_hidden takable items options entries (o ∷ trail) h =
     let here : has (o ∷ trail) o ≡ true = ⊎_elim (λ w. rw (w.0) refl) (λ w. absurd (w.1 refl)) (eqb_tells o o) in
     let w = h.only o here in
     absurd (contains_none w.by w.among)
 
 module _ (x : Compiled) (t : NodeTable) (a : LinkArrays) (marks chosen : List ℕ) (h : AreLinksOf x t a marks chosen) (none : chosen ≡ []) where
   pub trail_none : a.trail.items ≡ []
-  trail_none = none_hidden t.primaries t.items t.options t.entries.items a.trail.items (subst (λ c. HidesJust t.primaries t.items t.options t.entries.items c a.trail.items) none (right_now x t a marks chosen h).hides)
+  trail_none = none_hidden t.takable t.items t.options t.entries.items a.trail.items (subst (λ c. HidesJust t.takable t.items t.options t.entries.items c a.trail.items) none (right_now x t a marks chosen h).hides)
 
   pub marks_none : marks ≡ []
   marks_none = nil_from_length marks (h.right.as_many ∙ ap length none)

@@ -16,7 +16,7 @@ use Rattle.xcc_links.proofs.HidingLemmas.{shown_true, shown_parts, has_last, has
 pub goes_has : (step : ℕ → Arrays → Arrays) (a a' : Arrays) (t t' : List ℕ) (p : ℕ) → LeadsBack step a t a' t' → has t p ≡ true → has t' p ≡ true
 goes_has step a a' t t' p g e = ap (λ x. has x p) g.longer ∙ has_left t g.more p e
 
-module _ (primaries items options : ℕ) (entries : List Entry) (starts : List ℕ) (table : IsNodeTable primaries items options entries starts) (links : List Link) (sizes trail : List ℕ) (right : AreRight items entries starts links sizes trail) (item : ℕ) (in_ : item < items) (Q : ℕ → Type 0) where
+module _ (takable items options : ℕ) (entries : List Entry) (starts : List ℕ) (table : IsNodeTable takable items options entries starts) (links : List Link) (sizes trail : List ℕ) (right : AreRight items entries starts links sizes trail) (item : ℕ) (in_ : item < items) (Q : ℕ → Type 0) where
   shown : ℕ → Bool
   shown = shown_by items entries trail
 
@@ -107,11 +107,11 @@ module _ (primaries items options : ℕ) (entries : List Entry) (starts : List �
           (eqb_tells x.down item)))
           (eqb_tells node item)
 
-module _ (primaries items options : ℕ) (entries : List Entry) (starts : List ℕ) (table : IsNodeTable primaries items options entries starts) (links : List Link) (sizes trail : List ℕ) (right : AreRight items entries starts links sizes trail) (item : ℕ) (in_ : item < items) (keep : ℕ) where
+module _ (takable items options : ℕ) (entries : List Entry) (starts : List ℕ) (table : IsNodeTable takable items options entries starts) (links : List Link) (sizes trail : List ℕ) (right : AreRight items entries starts links sizes trail) (item : ℕ) (in_ : item < items) (keep : ℕ) where
   pub only_hid : (node : ℕ) → IsWalking items entries trail item (λ n. colour_of entries n ≡ keep) node → node ≢ item → colour_of entries node ≢ keep → HasOtherColour items entries item keep (option_of entries node)
   only_hid node at ne off =
-      let p = parts primaries items options entries starts table links sizes trail right item in_ (λ n. colour_of entries n ≡ keep) node at ne in
-      let h = here primaries items options entries starts table links sizes trail right item in_ (λ n. colour_of entries n ≡ keep) node at ne in
+      let p = parts takable items options entries starts table links sizes trail right item in_ (λ n. colour_of entries n ≡ keep) node at ne in
+      let h = here takable items options entries starts table links sizes trail right item in_ (λ n. colour_of entries n ≡ keep) node at ne in
       record { node = node; from = p.0; to = p.1; option = refl; there = h.1; colour = off }
 
   -- the walk is back

@@ -4,7 +4,7 @@ use Rattle.std.proofs.lemmas.Bool.{cases_eq, cases_lt, cases_order}
 use Rattle.std.proofs.lemmas.List.{get_or_past}
 use Rattle.std.proofs.lemmas.Option.{slice_get_within, get_or_from_slice_get}
 use Rattle.match_board.specs.Board.{cell_count}
-use Rattle.xcc_form.specs.Options.{Choice, Compiled, IsCompiled, primary_count}
+use Rattle.xcc_form.specs.Options.{Choice, Compiled, IsCompiled, item_count}
 use Rattle.xcc_form.specs.declared.edges.Edge.{Edge}
 use Rattle.xcc_form.proofs.OptionLemmas.{contains_at, read_in, option_pair, has_tile}
 use Rattle.xcc_form.proofs.CoverLemmas.{coloured_cover}
@@ -36,10 +36,10 @@ module _ (x : Compiled) (is : IsCompiled x) where
   cell_below : (option : ℕ) (c : Choice) → slice_get x.options option ≡ Some c → c.pair.cell < cell_count x.puzzle.board
   cell_below option c at = (option_pair x is option c.pair (c, at, refl)).cell
 
-  tile_below : (option : ℕ) (c : Choice) → slice_get x.options option ≡ Some c → cell_count x.puzzle.board + c.pair.placement.tile < primary_count x.puzzle
+  tile_below : (option : ℕ) (c : Choice) → slice_get x.options option ≡ Some c → cell_count x.puzzle.board + c.pair.placement.tile < item_count x.puzzle
   tile_below option c at = (coloured_cover x is).cover.primary option (cell_count x.puzzle.board + c.pair.placement.tile) (has_tile x is option c.pair (c, at, refl))
 
-  edge_within : (option : ℕ) (c : Choice) (k : ℕ) (e : Edge) → slice_get x.options option ≡ Some c → slice_get c.edges k ≡ Some e → (primary_count x.puzzle ≤ e.item) × (e.item < primary_count x.puzzle + length x.shared)
+  edge_within : (option : ℕ) (c : Choice) (k : ℕ) (e : Edge) → slice_get x.options option ≡ Some c → slice_get c.edges k ≡ Some e → (item_count x.puzzle ≤ e.item) × (e.item < item_count x.puzzle + length x.shared)
   edge_within option c k e at there = (coloured_cover x is).cover.secondary option e.item e.colour (edge_has x is option e.item e.colour c.edges (c, at, refl) (contains_at c.edges k e there))
 
   edges_rise : (option : ℕ) (c : Choice) (k k' : ℕ) (e f : Edge) → slice_get x.options option ≡ Some c → slice_get c.edges k ≡ Some e → slice_get c.edges k' ≡ Some f → k < k' → e.item < f.item
@@ -49,7 +49,7 @@ module _ (x : Compiled) (is : IsCompiled x) where
       let b = ap (λ (g : Edge). g.item) (get_or_from_slice_get c.edges k' f e there) in
       omega (arith, less, a, b)
 
-  module _ (primaries items options : ℕ) (entries : List Entry) (starts : List ℕ) (h : IsLaidOutTo x items options primaries entries starts) (is_primaries : primaries ≡ primary_count x.puzzle) (is_items : items ≡ primary_count x.puzzle + length x.shared + 1) (is_options : options ≡ length x.options) (few : length entries < 2 ^ 32) (few_starts : options + primaries + 1 < 2 ^ 32) where
+  module _ (takable items options : ℕ) (entries : List Entry) (starts : List ℕ) (h : IsLaidOutTo x items options takable entries starts) (is_takable : takable ≡ item_count x.puzzle) (is_items : items ≡ item_count x.puzzle + length x.shared + 1) (is_options : options ≡ length x.options) (few : length entries < 2 ^ 32) (few_starts : options + takable + 1 < 2 ^ 32) where
     choice : (option : ℕ) → option < options → (c : Choice) × (slice_get x.options option ≡ Some c)
     choice option lt = read_in x.options option (omega (arith, lt, is_options))
 
@@ -69,13 +69,13 @@ module _ (x : Compiled) (is : IsCompiled x) where
     at_place P option n lt (at_edge k d there e) a b c = subst P (sym (ap (λ m. get_or entries m no_entry) e ∙ (run option lt).edge k d there)) (c k d there)
 
     -- a node of the root's list
-    root_node : (n : ℕ) → items ≤ n → n < length entries → options ≤ option_of entries n → (item : ℕ) × (item < primaries) × (option_of entries n ≡ options + item) × (n ≡ start_of starts (options + item)) × (get_or entries n no_entry ≡ primary_entry (options + item) (items - 1))
+    root_node : (n : ℕ) → items ≤ n → n < length entries → options ≤ option_of entries n → (item : ℕ) × (item < takable) × (option_of entries n ≡ options + item) × (n ≡ start_of starts (options + item)) × (get_or entries n no_entry ≡ primary_entry (options + item) (items - 1))
     root_node n from to ge =
         let w = h.runs.around n from to in
         let x0 = w.0 in
         let item = option_of entries n - options in
         let long = h.starts_long in
-        let lt : item < primaries = omega (arith, x0, long, ge) in
+        let lt : item < takable = omega (arith, x0, long, ge) in
         let of : option_of entries n ≡ options + item = omega (arith, ge) in
         let r = h.root item lt in
         let width = r.width in
@@ -113,10 +113,10 @@ module _ (x : Compiled) (is : IsCompiled x) where
       cell_low : (choice option lt).0.pair.cell < cell_count x.puzzle.board
       cell_low = cell_below option (choice option lt).0 (choice option lt).1
 
-      tile_low : cell_count x.puzzle.board + (choice option lt).0.pair.placement.tile < primary_count x.puzzle
+      tile_low : cell_count x.puzzle.board + (choice option lt).0.pair.placement.tile < item_count x.puzzle
       tile_low = tile_below option (choice option lt).0 (choice option lt).1
 
-      edge_high : (k : ℕ) (d : Edge) → slice_get (choice option lt).0.edges k ≡ Some d → primary_count x.puzzle ≤ d.item
+      edge_high : (k : ℕ) (d : Edge) → slice_get (choice option lt).0.edges k ≡ Some d → item_count x.puzzle ≤ d.item
       edge_high k d there = (edge_within option (choice option lt).0 k d (choice option lt).1 there).0
 
       items_rise : (m n : ℕ) → m < n → Place (cell_count x.puzzle.board) option (choice option lt).0 (start_of starts option) m → Place (cell_count x.puzzle.board) option (choice option lt).0 (start_of starts option) n → item_of entries m < item_of entries n
@@ -150,7 +150,7 @@ module _ (x : Compiled) (is : IsCompiled x) where
         v.3 ∙ ap (λ k. start_of starts (options + k)) i ∙ sym w.3)
         (cases_lt (option_of entries n) options)
 
-    singles : (i : ℕ) → i ≤ primaries → start_of starts (options + i) ≡ start_of starts options + i
+    singles : (i : ℕ) → i ≤ takable → start_of starts (options + i) ≡ start_of starts options + i
     singles zero le = let e : options + 0 ≡ options = omega arith in ap (start_of starts) e ∙ omega arith
     singles (suc i) le =
         let r = (h.root i (omega arith)).width in
@@ -158,9 +158,9 @@ module _ (x : Compiled) (is : IsCompiled x) where
         let before = singles i (omega arith) in
         ap (start_of starts) e ∙ omega (arith, r, before)
 
-    pub laid_table : IsNodeTable primaries items options entries starts
+    pub laid_table : IsNodeTable takable items options entries starts
     laid_table = record {
-      some = omega (arith, is_primaries, is_items);
+      some = omega (arith, is_takable, is_items);
       few = few;
       few_starts = omega (arith, few_starts, h.starts_long);
       starts_long = h.starts_long;

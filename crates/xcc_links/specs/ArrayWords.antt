@@ -9,7 +9,7 @@ use Rattle.xcc_links.specs.declared.links.tables.NodeTable.{NodeTable}
 
 -- It is a table of nodes.
 abbrev pub IsTable : NodeTable → Type 0
-IsTable t = IsNodeTable t.primaries t.items t.options t.entries.items t.starts.items
+IsTable t = IsNodeTable t.takable t.items t.options t.entries.items t.starts.items
 
 -- There is this option of the table, of the puzzle or of the root's list.
 abbrev pub HasOption : NodeTable → (option : ℕ) → Type 0
@@ -35,11 +35,11 @@ ListTheOpen t a = AreRight t.items t.entries.items t.starts.items a.links.items 
 abbrev pub IsHidden : LinkArrays → (option : ℕ) → Type 0
 IsHidden a option = has a.trail.items option ≡ true
 
--- The node's item is not covered, where it is primary: its node in the root's list isn't hidden.
+-- The node's item is not covered, where it is a takable one: its node in the root's list isn't hidden.
 abbrev pub HasUncoveredItem : NodeTable → LinkArrays → (node : ℕ) → Type 0
-HasUncoveredItem t a node = item_at t node < t.primaries → has a.trail.items (t.options + item_at t node) ≡ false
+HasUncoveredItem t a node = item_at t node < t.takable → has a.trail.items (t.options + item_at t node) ≡ false
 
--- No primary item of the option is covered.
+-- No item that the option takes is covered.
 abbrev pub HasUncoveredItems : NodeTable → LinkArrays → (option : ℕ) → Type 0
 HasUncoveredItems t a option = (node : ℕ) → start_of t.starts.items option ≤ node
     → node < start_of t.starts.items (option + 1) → HasUncoveredItem t a node
@@ -58,8 +58,8 @@ DiffersAt t item colour option = HasOtherColour t.items t.entries.items item col
 
 -- Choosing the option of the node excludes this option by the node's item.
 abbrev pub IsExcludedAt : NodeTable → (node option : ℕ) → Type 0
-IsExcludedAt t node option = ExcludesAt t.primaries t.items t.options t.entries.items node option
+IsExcludedAt t node option = ExcludesAt t.takable t.items t.options t.entries.items node option
 
 -- Choosing the one option excludes the other.
 abbrev pub IsExcludedBy : NodeTable → (chosen option : ℕ) → Type 0
-IsExcludedBy t chosen option = Excludes t.primaries t.items t.options t.entries.items chosen option
+IsExcludedBy t chosen option = Excludes t.takable t.items t.options t.entries.items chosen option

@@ -59,5 +59,5 @@ taken_back s = record {
 pub record AreLinksOf (x : Compiled) (t : NodeTable) (a : LinkArrays) (marks chosen : List ℕ) : Type 0 where
   pub compiled : IsCompiled x
   pub table : IsTableOf x t
-  pub right : WereAlwaysRight t.primaries t.items t.options t.entries.items t.starts.items (arrays_of a) a.trail.items
+  pub right : WereAlwaysRight t.takable t.items t.options t.entries.items t.starts.items (arrays_of a) a.trail.items
       marks chosen

@@ -14,30 +14,30 @@ abbrev pub arrays_before : List Entry → List ℕ → Arrays → List ℕ → L
 arrays_before entries starts a trail marks k = back (put_back entries starts) (drop (mark_of trail marks k) trail) a
 
 -- An option among them excludes p.
-pub record IsExcluded (primaries items options : ℕ) (entries : List Entry) (chosen : List ℕ) (p : ℕ) : Type 0 where
+pub record IsExcluded (takable items options : ℕ) (entries : List Entry) (chosen : List ℕ) (p : ℕ) : Type 0 where
   pub by : ℕ
   pub among : Contains chosen by
-  pub excludes : Excludes primaries items options entries by p
+  pub excludes : Excludes takable items options entries by p
 
 -- Hidden is just what the chosen options exclude.
-pub record HidesJust (primaries items options : ℕ) (entries : List Entry) (chosen trail : List ℕ) : Type 0 where
-  pub only : (p : ℕ) → has trail p ≡ true → IsExcluded primaries items options entries chosen p
-  pub all : (p : ℕ) → IsExcluded primaries items options entries chosen p → has trail p ≡ true
+pub record HidesJust (takable items options : ℕ) (entries : List Entry) (chosen trail : List ℕ) : Type 0 where
+  pub only : (p : ℕ) → has trail p ≡ true → IsExcluded takable items options entries chosen p
+  pub all : (p : ℕ) → IsExcluded takable items options entries chosen p → has trail p ≡ true
 
 -- The arrays are right for the chosen options.
-pub record AreRightFor (primaries items options : ℕ) (entries : List Entry) (starts chosen : List ℕ) (a : Arrays)
+pub record AreRightFor (takable items options : ℕ) (entries : List Entry) (starts chosen : List ℕ) (a : Arrays)
     (trail : List ℕ) : Type 0 where
-  pub hides : HidesJust primaries items options entries chosen trail
+  pub hides : HidesJust takable items options entries chosen trail
   pub right : AreRight items entries starts a.0 a.1 trail
 
 -- The arrays are right, and were before each choice.
-pub record WereAlwaysRight (primaries items options : ℕ) (entries : List Entry) (starts : List ℕ) (a : Arrays)
+pub record WereAlwaysRight (takable items options : ℕ) (entries : List Entry) (starts : List ℕ) (a : Arrays)
     (trail marks chosen : List ℕ) : Type 0 where
   pub as_many : length marks ≡ length chosen
   pub rising : (k : ℕ) → k < length marks → mark_of trail marks k ≤ mark_of trail marks (k + 1)
   pub real : (o : ℕ) → Contains chosen o → o < options
   pub apart : (i j d : ℕ) → i < j → j < length chosen
-      → NodesClash primaries items entries (slice_index_or chosen i d) (slice_index_or chosen j d) → ⊥
+      → NodesClash takable items entries (slice_index_or chosen i d) (slice_index_or chosen j d) → ⊥
   pub right : (k : ℕ) → k ≤ length chosen
-      → AreRightFor primaries items options entries starts (take k chosen)
+      → AreRightFor takable items options entries starts (take k chosen)
       (arrays_before entries starts a trail marks k) (take (mark_of trail marks k) trail)

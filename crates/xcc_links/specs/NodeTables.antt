@@ -26,13 +26,13 @@ pub record AreRuns (first : ℕ) (entries : List Entry) (starts : List ℕ) : Ty
   pub around : (n : ℕ) → first ≤ n → n < length entries → (option_of entries n + 1 < length starts)
       × (start_of starts (option_of entries n) ≤ n) × (n < start_of starts (option_of entries n + 1))
 
--- The nodes of option o are those from its start up to the next. The options from `options` on stand for the primary
--- items: each has one node, in the list of the last item, the root.
-pub record IsNodeTable (primaries items options : ℕ) (entries : List Entry) (starts : List ℕ) : Type 0 where
-  pub some : primaries < items
+-- The nodes of option o are those from its start up to the next. The options from `options` on stand for the takable
+-- items, those that options take: each has one node, in the list of the last item, the root.
+pub record IsNodeTable (takable items options : ℕ) (entries : List Entry) (starts : List ℕ) : Type 0 where
+  pub some : takable < items
   pub few : length entries < 2 ^ 32
   pub few_starts : length starts < 2 ^ 32
-  pub starts_long : length starts ≡ options + primaries + 1
+  pub starts_long : length starts ≡ options + takable + 1
   pub own : (i : ℕ) → i < items → item_of entries i ≡ i
   pub small : (n : ℕ) → item_of entries n < items
   pub runs : AreRuns items entries starts
@@ -42,7 +42,7 @@ pub record IsNodeTable (primaries items options : ℕ) (entries : List Entry) (s
   pub real : (n : ℕ) → items ≤ n → n < length entries → option_of entries n < options → item_of entries n + 1 < items
   pub rooted : (n : ℕ) → items ≤ n → n < length entries → options ≤ option_of entries n → item_of entries n + 1 ≡ items
   -- they have one node each, in their order
-  pub single : (i : ℕ) → i ≤ primaries → start_of starts (options + i) ≡ start_of starts options + i
+  pub single : (i : ℕ) → i ≤ takable → start_of starts (options + i) ≡ start_of starts options + i
   -- no entry has the colour that stands for none
   pub coloured : (n : ℕ) → colour_of entries n < 255
 

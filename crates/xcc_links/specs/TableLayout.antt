@@ -2,7 +2,7 @@
 use Rattle.std.specs.Prelude.{◌≡◌, ◌<◌, ◌≤◌, ◌+◌, ◌-◌, ℕ, List, Some, length, drop, slice_get, slice_index_or}
 use Rattle.match_board.specs.Board.{cell_count}
 use Rattle.xcc_form.specs.ExactCover.{entry_count}
-use Rattle.xcc_form.specs.Options.{Compiled, Choice, cover_of, entries_of, primary_count}
+use Rattle.xcc_form.specs.Options.{Compiled, Choice, cover_of, entries_of, item_count, primary_count}
 use Rattle.xcc_form.specs.declared.edges.Edge.{Edge}
 use Rattle.xcc_links.specs.declared.links.tables.Entry.{Entry}
 use Rattle.xcc_links.specs.declared.links.tables.NodeTable.{NodeTable}
@@ -13,7 +13,7 @@ use Rattle.xcc_links.specs.NodeTables.{AreRuns, IsNodeTable, start_of}
 abbrev pub own_entry : ℕ → Entry
 own_entry item = record { item = item; option = 0; colour = 0 }
 
--- an option's node at a primary item
+-- an option's node at an item that it takes
 abbrev pub primary_entry : (option item : ℕ) → Entry
 primary_entry option item = record { item = item; option = option; colour = 0 }
 
@@ -47,14 +47,15 @@ pub record IsLaidOutTo (x : Compiled) (items options roots : ℕ) (entries : Lis
 -- The nodes are those of the compiled puzzle.
 pub record IsTableOf (x : Compiled) (t : NodeTable) : Type 0 where
   pub primaries : t.primaries ≡ primary_count x.puzzle
-  pub items : t.items ≡ primary_count x.puzzle + length x.shared + 1
+  pub takable : t.takable ≡ item_count x.puzzle
+  pub items : t.items ≡ item_count x.puzzle + length x.shared + 1
   pub options : t.options ≡ length x.options
-  pub table : IsNodeTable t.primaries t.items t.options t.entries.items t.starts.items
+  pub table : IsNodeTable t.takable t.items t.options t.entries.items t.starts.items
   pub own : (item : ℕ) → item < t.items → slice_index_or t.entries.items item no_entry ≡ own_entry item
   pub nodes : (option : ℕ) (c : Choice) → slice_get x.options option ≡ Some c
       → AreNodesOf (cell_count x.puzzle.board) option c t.entries.items (start_of t.starts.items option)
       (start_of t.starts.items (option + 1))
-  pub root : (item : ℕ) → item < t.primaries → IsRootNode (t.items - 1) t.options t.entries.items t.starts.items item
+  pub root : (item : ℕ) → item < t.takable → IsRootNode (t.items - 1) t.options t.entries.items t.starts.items item
 
 -- The node is the option's at the item.
 pub record IsNodeAt (t : NodeTable) (option item node : ℕ) : Type 0 where

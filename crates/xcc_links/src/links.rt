@@ -17,9 +17,9 @@ use std::marker::Model;
 use tables::NodeTable;
 use xcc_form::{FromCompiled, OpenOptions, Xcc};
 
-/// Chosen options of a compiled puzzle, no two of which clash: they share no primary item, and give no secondary item
-/// two colours. The other options are in linked lists, one for each item: dancing links with colours (Knuth, TAOCP 4B,
-/// 7.2.2.1, Algorithm C), in arrays of numbered nodes. It borrows the compiled puzzle.
+/// Chosen options of a compiled puzzle, no two of which clash: they share no cell and no tile, and give no secondary
+/// item two colours. The other options are in linked lists, one for each item: dancing links with colours (Knuth,
+/// TAOCP 4B, 7.2.2.1, Algorithm C), in arrays of numbered nodes. It borrows the compiled puzzle.
 ///
 /// An option is open where it clashes with no chosen option. An item is covered where a chosen option has it. The list
 /// of an item has its open options, so the next one and their number are read off. A choice takes all options that
@@ -92,10 +92,12 @@ impl<'a> Links<'a> {
     {
         let root = self.table.items - 1;
         let first = self.table.starts[self.table.options as usize];
+        let end = first + self.table.primaries;
         let mut best = None;
         let mut fewest = 0;
         let mut node = self.arrays.links[root as usize].down;
-        while node != root {
+        // the list rises by item, and its first items are the primary ones
+        while node != root && node < end {
             let item = node - first;
             let size = self.arrays.sizes[item as usize];
             if best.is_none() || size < fewest {
@@ -116,12 +118,13 @@ impl<'a> Links<'a> {
     {
         let root = self.table.items - 1;
         let first = self.table.starts[self.table.options as usize];
+        let end = first + self.table.primaries;
         let node = match after {
             None => root,
             Some(item) => first + item,
         };
         let next = self.arrays.links[node as usize].down;
-        if next == root {
+        if next == root || next >= end {
             None
         } else {
             Some(next - first)

@@ -1,4 +1,4 @@
-//! What a job answers when it is asked for a child: it cites, gives away, or searches on.
+//! What a job does with a child: it cites a lemma, gives the child away, or searches on.
 
 ghost use Rattle.std.specs.Prelude.{◌≡◌, IfOk, IfSome};
 ghost use Rattle.live_crew.specs.LiveHands.{Gave};
@@ -59,8 +59,8 @@ impl<'a, 'h, W: Watch> Choices<'a, 'h, W> {
         }
     }
 
-    // Gives the planned branches away, if this is the first child that the root's job is asked for. They have the numbers
-    // from 1 on then: nobody drew before.
+    // Gives the planned branches away, if this is the first child that the root's job is asked for. They have the
+    // numbers from 1 on then: nobody drew before.
     fn give_planned(&mut self) -> Result<(), AllocError>
         ensures same { self.new.hand.ghost_name ≡ self.old.hand.ghost_name }
         ensures gave { Gave self.old.hand.now self.new.hand.now }

@@ -1,7 +1,8 @@
-//! Guesses of how many nodes a search has, by dives (D. E. Knuth, Estimating the efficiency of backtrack programs,
-//! 1975). A dive goes from a node to a leaf, and takes a child at random at each node. Where all children had as much
-//! below them as the one that is taken, a node had one node more than it has children times as many as that child. The
-//! mean of many dives comes near to how many there are.
+//! Guesses how many nodes a search has, by dives (D. E. Knuth, Estimating the efficiency of backtrack programs, 1975).
+//!
+//! A dive goes from a node down to a leaf, and at each node takes one of the children at random. It assumes that the
+//! other children have as many nodes below them as that one. So for a node it guesses one, plus the number of its
+//! children times the guess for the child that was taken. The mean of many dives comes near to the true number.
 
 ghost use Rattle.std.specs.Prelude.{◌≡◌, IfSome};
 ghost use Rattle.xcc_form.specs.Options.{cover_of};

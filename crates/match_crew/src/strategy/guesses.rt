@@ -1,5 +1,5 @@
-//! Plans for several items, and guesses of the nodes of several plans: jobs of a crew. What comes of them doesn't depend
-//! on how many workers there are, since the dives of each job have random numbers of their own.
+//! Plans for several items, and guesses of how many nodes each plan leaves: jobs of a crew. Each job's dives have
+//! random numbers of their own, so the results don't depend on how many workers there are.
 
 ghost use Rattle.std.specs.Prelude.{◌≤◌};
 ghost use Rattle.match_limits.specs.declared.TheConstants.{MOST_WORKERS};

@@ -1,4 +1,4 @@
-//! The item at the root, where a guess of the work that it leaves can tell a better one.
+//! Chooses the item to branch on at the root, by guesses of how much work each leaves.
 
 ghost use Rattle.std.specs.Prelude.{◌≡◌, ◌≤◌};
 ghost use Rattle.match_limits.specs.declared.TheConstants.{MOST_WORKERS};
@@ -183,8 +183,8 @@ impl<'a, R: Threads + Sync> Comparison<'a, R> {
         Ok(if is_better { other } else { plan })
     }
 
-    // The plan, which is by this item at the root, or one by another item, with which there are guessed to be much fewer
-    // nodes. It is asked on one worker whether another item is looked for, and compared by all of them.
+    // The plan, which is by this item at the root, or one by another item, with which there are guessed to be much
+    // fewer nodes. It is asked on one worker whether another item is looked for, and compared by all of them.
     fn best_beside(
         &mut self,
         plan: Plan,
@@ -251,8 +251,8 @@ fn best_of(alloc: Global, ranked: Vec<Ranked>, most: usize) -> Result<Vec<u32>, 
 }
 
 // A plan of at most `depth` levels, which is at most 3. Where the planner's rule takes an item of its own at the root,
-// it may be by another item, with which there are guessed to be much fewer nodes. The plan is the same for any number of
-// workers.
+// it may be by another item, with which there are guessed to be much fewer nodes. The plan is the same for any number
+// of workers.
 pub fn plan_by_dives<R: Threads + Sync>(
     rt: &R,
     planner: Planner<'_>,

@@ -1,6 +1,7 @@
 //! Link arrays: the open options in the lists of their items, and the options that were taken out.
 
-ghost use Rattle.std.specs.Prelude.{◌≡◌, ◌<◌, ◌≤◌, ◌++◌, ◌∷◌, [], false, IfOk, length, replicate, slice_index_or, take, drop};
+ghost use Rattle.std.specs.Prelude.{◌≡◌, ◌<◌, ◌≤◌, ◌++◌, ◌∷◌, [], false, IfOk, length};
+ghost use Rattle.std.specs.Prelude.{replicate, slice_index_or, take, drop};
 ghost use Rattle.xcc_links.specs.ArrayWords.{IsTable, HasOption, FitTable, ListTheOpen, CanGoBack};
 ghost use Rattle.xcc_links.specs.ArrayWords.{arrays_of, item_at, with_back};
 ghost use Rattle.xcc_links.specs.NodeTables.{AreOptions, has};
@@ -10,8 +11,8 @@ ghost use Rattle.xcc_links.specs.Trails.{back};
 use crate::links::tables::NodeTable;
 use std::alloc::{AllocError, Global};
 
-/// The neighbours of a node in the list of its item, which goes round. A node that is taken out keeps them, so that it
-/// can be put back between them.
+/// The neighbours of a node in the list of its item, which is a ring. A node that is taken out keeps its neighbours, so
+/// it can be put back between them.
 #[derive(Clone, Copy)]
 pub(crate) struct Link {
     pub(crate) up: u32,
@@ -41,9 +42,9 @@ fn links_alone(alloc: Global, nodes: u32) -> Result<Vec<Link>, AllocError>
 }
 
 impl LinkArrays {
-    /// Nothing is hidden: the nodes of all options stand in their lists.
+    /// Nothing is hidden: the nodes of all options are in their lists.
     ///
-    /// An error where memory is refused. The trail has room for each option once.
+    /// An `Err` comes where memory is refused. The trail has room for each option once.
     pub(crate) fn new(alloc: Global, table: &NodeTable) -> Result<LinkArrays, AllocError>
         requires table { IsTable table.now }
         ensures trail { IfOk result (λ t. t.trail.items ≡ []) }
@@ -133,7 +134,7 @@ impl LinkArrays {
 
     /// Takes the nodes of an option out of the lists of their items.
     ///
-    /// An error where the trail cannot grow; then nothing changes.
+    /// An `Err` comes where the trail can't grow. Then nothing changes.
     pub(crate) fn hide(&mut self, table: &NodeTable, option: u32) -> Result<(), AllocError>
         requires table { IsTable table.now }
         requires option { HasOption table.now option }
@@ -167,7 +168,7 @@ impl LinkArrays {
         }
     }
 
-    /// Puts back the options that were hidden since the trail was so long, the last first.
+    /// Puts back the options that were hidden after the trail had this length, the last one first.
     pub(crate) fn show_back(&mut self, table: &NodeTable, mark: usize)
         requires table { IsTable table.now }
         requires mark { mark ≤ length self.old.trail.items }

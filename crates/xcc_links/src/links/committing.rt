@@ -1,4 +1,4 @@
-//! A choice: what the chosen option excludes is taken out of the lists.
+//! Choosing an option: what it excludes is taken out of the lists.
 
 ghost use Rattle.std.specs.Prelude.{◌≡◌, ◌⊎◌, ◌<◌, ◌≤◌, ◌+◌, ℕ, IfOk, OnErr, length};
 ghost use Rattle.xcc_links.specs.ArrayWords.{IsTable, ListTheOpen, CanGoBack, IsHidden};
@@ -38,8 +38,8 @@ impl LinkArrays {
         Ok(())
     }
 
-    // Hides what a node of a chosen option excludes: where its item is primary, the item and all options that have
-    // it, and else the options that have it with another colour.
+    // Hides what a node of a chosen option excludes: where its item is a cell or a tile, the item and all options that
+    // take it, and else the options that have it with another colour.
     fn commit(&mut self, table: &NodeTable, node: u32) -> Result<(), AllocError>
         requires table { IsTable table.now }
         requires from { table.now.items ≤ node }
@@ -55,7 +55,7 @@ impl LinkArrays {
             → IsHidden self.old option ⊎ IsExcludedAt table.now node option) }
     {
         let entry = table.entries[node as usize];
-        if entry.item >= table.primaries {
+        if entry.item >= table.takable {
             return self.purify(table, entry.item, entry.colour);
         }
         self.hide(table, table.options + entry.item)?;
@@ -83,9 +83,9 @@ impl LinkArrays {
         Ok(())
     }
 
-    /// Hides all that an option excludes, itself too.
+    /// Hides the option, and all options that it excludes.
     ///
-    /// An error where the trail cannot grow; then nothing changes.
+    /// An `Err` comes where the trail can't grow. Then nothing changes.
     pub(crate) fn hide_excluded(&mut self, table: &NodeTable, option: u32) -> Result<(), AllocError>
         requires table { IsTable table.now }
         requires option { option < table.now.options }

@@ -8,7 +8,7 @@ ghost use Rattle.xcc_links.specs.TableLayout.{IsLaidOutTo, IsTableOf, IsNodeAt, 
 use std::alloc::{AllocError, Global};
 use xcc_form::{Edge, Xcc};
 
-/// What a node stands for: an option's item, with the colour that it has there. A primary item has colour 0.
+/// What a node stands for: an option's item, with the colour that it has there. A cell or a tile has colour 0.
 #[derive(Clone, Copy)]
 pub(crate) struct Entry {
     pub(crate) item: u32,
@@ -16,15 +16,19 @@ pub(crate) struct Entry {
     pub(crate) colour: u8,
 }
 
-/// The nodes by number. First comes one for each item, its own, and one for the root, which counts as one item more,
-/// the last. Then come those of the options, one option after another: of its cell, of its tile, of its edges. Then
-/// one for each primary item, which stands in the root's list; each of these counts as an option of its own, so that
-/// the list of items is one more list of options.
+/// All nodes, by number:
 ///
-/// It has where each option's nodes start, and one start more, the end of the last.
+/// - a node for each item, the head of the list of its options, and one for the root, which counts as the last item;
+/// - the nodes of the options, one option after another: of its cell, of its tile, of its edges;
+/// - a node for each cell and each tile, in the list of the root. Each of these counts as an option of its own, so the
+///   list of items is one more list of options.
+///
+/// Items that options take are `takable`: the cells, then the tiles. The first of them are the `primaries`, which have
+/// to be taken. `starts` says where the nodes of each option begin, and last where those of the last one end.
 #[derive(Drop)]
 pub(crate) struct NodeTable {
     pub(crate) primaries: u32,
+    pub(crate) takable: u32,
     pub(crate) items: u32,
     pub(crate) options: u32,
     pub(crate) entries: Vec<Entry>,
@@ -38,18 +42,20 @@ impl NodeTable {
         ensures { IfOk result (IsTableOf xcc.now) }
     {
         let primaries = xcc.primaries();
-        let items = primaries + xcc.secondaries() + 1;
+        let takable = u32::from(xcc.cells()) + u32::from(xcc.puzzle().tile_count());
+        let items = takable + xcc.secondaries() + 1;
         let options = xcc.options();
-        let nodes = items + xcc.entries() + primaries;
+        let nodes = items + xcc.entries() + takable;
         let mut entries = Vec::with_capacity(alloc, nodes as usize)?;
-        let mut starts = Vec::with_capacity(alloc, (options + primaries + 1) as usize)?;
+        let mut starts = Vec::with_capacity(alloc, (options + takable + 1) as usize)?;
         add_items(&mut entries, &mut starts, items)?;
         for option in 0..options {
             add_option(&mut entries, &mut starts, xcc, option)?;
         }
-        add_roots(&mut entries, &mut starts, items, options, primaries)?;
+        add_roots(&mut entries, &mut starts, items, options, takable)?;
         Ok(NodeTable {
             primaries,
+            takable,
             items,
             options,
             entries,
@@ -57,7 +63,7 @@ impl NodeTable {
         })
     }
 
-    /// The node of an option at a primary item that it has. It is one of its first two.
+    /// The node of the option for the cell or the tile that it takes. It is one of the option's first two nodes.
     pub(crate) fn node_at(&self, option: u32, item: u32) -> u32
         requires { (x : Compiled) × IsCompiled x × IsTableOf x self.now × HasPrimary (cover_of x) option item }
         ensures { IsNodeAt self.now option item result }
@@ -131,22 +137,22 @@ fn add_edges(entries: &mut Vec<Entry>, edges: &[Edge], option: u32) -> Result<()
     Ok(())
 }
 
-// Lays out the nodes of the root's list: one for each primary item, which is an option of its own.
+// Lays out the nodes of the root's list: one for each item that options take, which is an option of its own.
 fn add_roots(
     entries: &mut Vec<Entry>,
     starts: &mut Vec<u32>,
     items: u32,
     options: u32,
-    primaries: u32,
+    takable: u32,
 ) -> Result<(), AllocError>
     requires items { 0 < items }
-    requires options { options + primaries < 2 ^ 32 }
-    requires few { length entries.old.items + primaries < 2 ^ 32 }
+    requires options { options + takable < 2 ^ 32 }
+    requires few { length entries.old.items + takable < 2 ^ 32 }
     ensures { IfOk result (λ _. (x : Compiled)
         → IsLaidOutTo x items options 0 entries.old.items starts.old.items
-        → IsLaidOutTo x items options primaries entries.new.items starts.new.items) }
+        → IsLaidOutTo x items options takable entries.new.items starts.new.items) }
 {
-    for item in 0..primaries {
+    for item in 0..takable {
         entries.push(Entry {
             item: items - 1,
             option: options + item,

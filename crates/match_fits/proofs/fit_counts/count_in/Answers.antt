@@ -16,9 +16,8 @@ at-requires c =
 pub places_of-requires : goal.places_of-requires
 places_of-requires c =
     let lt = subst (IsItem c.args.partial.now.puzzle) c.in-Tile.is c.requires.item in
-    let long = c.requires.rows.long in
-    let tiles = c.requires.puzzle.tiles in
-    omega (arith, lt, long, tiles)
+    let few = c.requires.puzzle.tiles.few in
+    omega (arith, lt, few)
 
 pub returns-in-Cell : goal.returns-in-Cell
 returns-in-Cell c =

@@ -8,7 +8,7 @@ use Rattle.match_fits.proofs.fit_counts.new_sizes.Goals as goal
 use Rattle.match_fits.proofs.fit_counts.new_sizes.Goals.{After-cells-cells}
 
 cells_are : (c : After-cells-cells) → c.cells-cells.result ≡ cell_count c.args.partial.now.puzzle.board
-cells_are c = c.cells-cells.ensures.count ∙ ap cell_count c.board.ensures.value ∙ ap (λ (t : Task). cell_count t.board) c.puzzle.ensures.same
+cells_are c = c.cells-cells.ensures.count ∙ ap cell_count c.board.ensures.value ∙ ap (λ (t : Task). cell_count t.board) c.puzzle-puzzle.ensures.same
 
 pub loop-place-preserved : goal.loop-place-preserved
 loop-place-preserved c =
@@ -36,5 +36,6 @@ returns c =
     let inv = c.loop-place.invariant in
     let long = inv.long in
     let cells = cells_are (goal.at.returns c).After-cells-cells in
-    let end : c.loop-place.place ≡ 2 * cell_count p.board = omega (arith, cells, c.loop-place-test.false, c.loop-place.auto) in
-    all_entries p q c.loop-place.sizes.items c.puzzle.ensures.puzzle c.requires.empty (long ∙ end) (subst (AreEntriesBelow p q c.loop-place.sizes.items) end inv.entries)
+    let tiles : c.tile_count.result ≡ length p.words = c.tile_count.ensures.count ∙ ap (λ (t : Task). length t.words) c.puzzle-puzzle.ensures.same in
+    let end : c.loop-place.place ≡ cell_count p.board + length p.words = omega (arith, cells, tiles, c.loop-place-test.false, c.loop-place.auto) in
+    all_entries p q c.loop-place.sizes.items c.puzzle-puzzle.ensures.puzzle c.requires.empty (long ∙ end) (subst (AreEntriesBelow p q c.loop-place.sizes.items) end inv.entries)

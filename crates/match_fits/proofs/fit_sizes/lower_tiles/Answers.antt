@@ -11,7 +11,7 @@ place : (c : After-from) → c.args.cells + c.from.result ≡ c.args.cells + c.i
 place c = omega (arith, c.from.ensures)
 
 place_in : (c : After-from) → c.args.cells + c.in-Some.number / 4 < length c.loop-number.sizes.items
-place_in c = tile_in_table c.args.numbers.now c.in-Some.number c.take_first.new.self c.args.cells c.args.sizes.now.items c.loop-number.sizes.items (before c) c.requires.long c.requires.enough
+place_in c = tile_in_table c.args.numbers.now c.in-Some.number c.take_first.new.self c.args.cells c.args.sizes.now.items c.loop-number.sizes.items (before c) c.requires.enough
 
 entry : (c : After-from) (size : ℕ) → size ≡ get_or c.loop-number.sizes.items (c.args.cells + c.from.result) size → size ≡ get_or c.loop-number.sizes.items (c.args.cells + c.in-Some.number / 4) 0
 entry c size read =
@@ -33,7 +33,7 @@ index_mut-requires c =
 pub overflow_sub-index_mut : goal.overflow_sub-index_mut
 overflow_sub-index_mut c =
     let there = (goal.at.overflow_sub-index_mut c).After-from in
-    let some = enough_for_one c.args.numbers.now c.in-Some.number c.take_first.new.self c.args.cells c.args.sizes.now.items c.loop-number.sizes.items (before there) c.requires.long c.requires.enough in
+    let some = enough_for_one c.args.numbers.now c.in-Some.number c.take_first.new.self c.args.cells c.args.sizes.now.items c.loop-number.sizes.items (before there) c.requires.enough in
     let at = entry there c.index_mut.result.now c.index_mut.ensures.value in
     omega (arith, some, at)
 
@@ -44,7 +44,7 @@ loop-number-preserved c =
     let at = entry there c.index_mut.result.now c.index_mut.ensures.value in
     subst (AreTilesLowered c.args.numbers.now c.take_first.new.self c.args.cells c.args.sizes.now.items)
     (sym (ap (λ k. set sizes k (c.index_mut.result.now - 1024)) (place there) ∙ ap (λ n. set sizes (c.args.cells + c.in-Some.number / 4) (n - 1024)) at))
-    (one_tile_lowered c.args.numbers.now c.in-Some.number c.take_first.new.self c.args.cells c.args.sizes.now.items sizes (before there) c.requires.long c.requires.enough)
+    (one_tile_lowered c.args.numbers.now c.in-Some.number c.take_first.new.self c.args.cells c.args.sizes.now.items sizes (before there) c.requires.enough)
 
 pub returns-clause-tiles : goal.returns-clause-tiles
 returns-clause-tiles c =

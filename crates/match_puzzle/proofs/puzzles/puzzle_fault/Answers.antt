@@ -4,20 +4,20 @@ use Rattle.match_board.specs.Tile.{word}
 use Rattle.match_board.specs.Clues.{clue_of}
 use Rattle.match_puzzle.specs.Puzzle.{task_by}
 use Rattle.match_board.specs.Borders.{rule_of, IsAsLongAsBorder}
-use Rattle.match_puzzle.proofs.PuzzleFaultLemmas.{first_bad_colour, first_bad_mate, first_bad_clue}
+use Rattle.match_puzzle.proofs.PuzzleFaultLemmas.{enough_words, first_bad_colour, first_bad_mate, first_bad_clue}
 use Rattle.match_puzzle.proofs.TableLemmas.{words_coloured}
 use Rattle.match_puzzle.proofs.puzzles.puzzle_fault.Goals as goal
 use Rattle.match_puzzle.proofs.puzzles.puzzle_fault.Goals.{else-sides-eq3-via-then-sides-eq3+else-not-rules, else-sides-eq3-via-else-sides-eq3}
 
 pub returns : goal.returns
 returns c = record {
-  board = c.cells.ensures.board;
+  board = c.are_enough.ensures.board;
   triangles = λ three.
       elim c.else-sides-eq3.branch [
         | else-sides-eq3-via-then-sides-eq3+else-not-rules w ↦ w.if-not-rules.false
         | else-sides-eq3-via-else-sides-eq3 w ↦ absurd (w.if-sides-eq3.false (c.sides.ensures.count ∙ three))
       ];
-  tiles = length-map c.args.tiles.now word ∙ c.if-tiles-from.false ∙ c.from.ensures ∙ c.cells.ensures.count;
+  tiles = enough_words _ _ c.args.tiles.now _ c.if-not-are_enough.false c.are_enough.ensures.enough;
   sides = c.in_default.ensures;
   tile_colours = words_coloured c.args.tiles.now;
   border_colours = c.in_default-bad_colour.ensures;
@@ -36,7 +36,7 @@ returns-in-Some-bad_colour c =
       | else-sides-eq3-via-then-sides-eq3+else-not-rules w ↦ true≢false (sym w.if-not-rules.false ∙ unturned)
       | else-sides-eq3-via-else-sides-eq3 w ↦ w.if-sides-eq3.false (c.sides.ensures.count ∙ three)
     ])
-    (length-map c.args.tiles.now word ∙ c.if-tiles-from.false ∙ c.from.ensures ∙ c.cells.ensures.count) c.in_default.ensures c.in-Some-bad_colour.ensures
+    (enough_words _ _ c.args.tiles.now _ c.if-not-are_enough.false c.are_enough.ensures.enough) c.in_default.ensures c.in-Some-bad_colour.ensures
 
 pub returns-in-Some-broken_mate : goal.returns-in-Some-broken_mate
 returns-in-Some-broken_mate c =
@@ -46,7 +46,7 @@ returns-in-Some-broken_mate c =
       | else-sides-eq3-via-then-sides-eq3+else-not-rules w ↦ true≢false (sym w.if-not-rules.false ∙ unturned)
       | else-sides-eq3-via-else-sides-eq3 w ↦ w.if-sides-eq3.false (c.sides.ensures.count ∙ three)
     ])
-    (length-map c.args.tiles.now word ∙ c.if-tiles-from.false ∙ c.from.ensures ∙ c.cells.ensures.count) c.in_default.ensures c.in_default-bad_colour.ensures
+    (enough_words _ _ c.args.tiles.now _ c.if-not-are_enough.false c.are_enough.ensures.enough) c.in_default.ensures c.in_default-bad_colour.ensures
     (subst (λ b. MatchBool b (IsAsLongAsBorder c.args.board.now (rule_of c.args.rules.now.border.now)) (IsAsLongAsBorder c.args.board.now (rule_of c.args.rules.now.border.now) → ⊥)) c.if-not-is_as_long_as.false c.is_as_long_as.ensures)
     c.in-Some-broken_mate.ensures
 
@@ -58,6 +58,6 @@ returns-in-Some-broken_clue c =
       | else-sides-eq3-via-then-sides-eq3+else-not-rules w ↦ true≢false (sym w.if-not-rules.false ∙ unturned)
       | else-sides-eq3-via-else-sides-eq3 w ↦ w.if-sides-eq3.false (c.sides.ensures.count ∙ three)
     ])
-    (length-map c.args.tiles.now word ∙ c.if-tiles-from.false ∙ c.from.ensures ∙ c.cells.ensures.count) c.in_default.ensures c.in_default-bad_colour.ensures
+    (enough_words _ _ c.args.tiles.now _ c.if-not-are_enough.false c.are_enough.ensures.enough) c.in_default.ensures c.in_default-bad_colour.ensures
     (subst (λ b. MatchBool b (IsAsLongAsBorder c.args.board.now (rule_of c.args.rules.now.border.now)) (IsAsLongAsBorder c.args.board.now (rule_of c.args.rules.now.border.now) → ⊥)) c.if-not-is_as_long_as.false c.is_as_long_as.ensures)
     c.in_default-broken_mate.ensures (c.in-Some-broken_clue.ensures c.args.version c.args.tiles.now)

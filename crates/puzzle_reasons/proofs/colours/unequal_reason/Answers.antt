@@ -20,7 +20,7 @@ returns c =
     let left = is_left c.args.puzzle.now (mate_of c.args.puzzle.now c.args.colour) c.args.of_mate.asked c.args.of_mate.shown c.requires.asked c.requires.shown c.if-of_mate.false in (
       record {
         few = c.requires.colour;
-        everywhere = c.requires.everywhere;
+        inside = c.requires.inside;
         mates = mate;
         lesser = omega (arith, mate, c.requires.lesser);
         counted = c.requires.left;

@@ -1,41 +1,23 @@
-use Rattle.std.proofs.Common.{◌≢◌, ◌<◌, ℕ, not, eqb, IsTrue, length, get_or, arith, refl, sym, subst, ap, ◌∙◌, ⊎_elim}
+use Rattle.std.proofs.Common.{MatchBool, sym, subst}
 use Rattle.std.proofs.lemmas.Bool.{false≢true}
-use Rattle.std.proofs.lemmas.Bool.Decides.{eqb_tells}
-use Rattle.std.proofs.lemmas.List.{get_or_read}
+use Rattle.match_puzzle.specs.Puzzle.{Task}
+use Rattle.match_puzzle.specs.Fitting.{HasToBeSettled}
 use Rattle.match_fits.specs.Placing.{placed_by}
-use Rattle.match_fits.specs.FitSizes.{AreSizes}
-use Rattle.match_fits.specs.declared.fit_sizes.TheConstants.{COVERED}
-use Rattle.match_fits.proofs.CountedLemmas.{kept_sizes, place_within, is_open_entry, not_covered}
+use Rattle.match_fits.proofs.CountedLemmas.{open_parts, open_by}
 use Rattle.match_fits.proofs.fit_counts.FitCounts.is_open.Goals as goal
-use Rattle.match_fits.proofs.fit_counts.FitCounts.is_open.Goals.{After-place_of}
 
-are_sizes : (c : After-place_of) → AreSizes c.args.self.now.puzzle (placed_by c.args.self.now) c.self.inside.counts.sizes.items
-are_sizes c = kept_sizes c.self.inside.partial.puzzle c.self.inside.pairs.items c.self.inside.partial.placed c.self.inside.counts.rows c.self.inside.counts.sizes.items c.self.inside.saved.items c.self.invariant c.args.self.now c.self.view_is
-
-within : (c : After-place_of) → c.place_of.result < length c.self.inside.counts.sizes.items
-within c =
-    let e = c.place_of.ensures in
-    place_within c.args.self.now.puzzle (placed_by c.args.self.now) e.puzzle e.prefix c.self.inside.counts.sizes.items (are_sizes c) c.args.item c.requires c.place_of.result e.place
-
-pub index-requires : goal.index-requires
-index-requires c = let lt = within (goal.at.index-requires c).After-place_of in omega (arith, lt)
-
-differs : (a b : ℕ) → (IsTrue (not (eqb a b)) → a ≢ b) × (a ≢ b → IsTrue (not (eqb a b)))
-differs a b =
-    ⊎_elim
-    (λ e. (λ h. absurd (false≢true (subst (λ t. IsTrue (not t)) e.0 h)), λ ne. absurd (ne e.1)))
-    (λ n. (λ _. n.1, λ _. subst (λ t. IsTrue (not t)) (sym n.0) refl))
-    (eqb_tells a b)
+pub returns-then-not-has_to_be_settled : goal.returns-then-not-has_to_be_settled
+returns-then-not-has_to_be_settled c =
+    let v = c.args.self.now in
+    let item = c.args.item in
+    let told = subst (λ (p : Task). MatchBool c.has_to_be_settled.result (HasToBeSettled p item) (HasToBeSettled p item → ⊥)) c.puzzle.ensures.same c.has_to_be_settled.ensures in
+    let not = subst (λ b. MatchBool b (HasToBeSettled v.puzzle item) (HasToBeSettled v.puzzle item → ⊥)) c.if-not-has_to_be_settled.true told in
+    (λ h. absurd (false≢true h), λ is_open. absurd (not (open_parts v.puzzle (placed_by v) item is_open).1))
 
 pub returns : goal.returns
 returns c =
-    let p = c.args.self.now.puzzle in
-    let q = placed_by c.args.self.now in
-    let e = c.place_of.ensures in
-    let a = (goal.at.returns c).After-place_of in
-    let sizes = c.self.inside.counts.sizes.items in
-    let read = get_or_read sizes c.place_of.result c.index.result.now (within a) c.index.ensures 0 ∙ ap (λ n. get_or sizes n 0) e.place in
-    let test = differs c.index.result.now COVERED in (
-      λ h. is_open_entry p q e.puzzle e.prefix sizes (are_sizes a) c.args.item c.requires (λ same. test.0 h (read ∙ same)),
-      λ h. test.1 (λ same. not_covered p q e.puzzle e.prefix sizes (are_sizes a) c.args.item h (sym read ∙ same)),
-    )
+    let v = c.args.self.now in
+    let item = c.args.item in
+    let told = subst (λ (p : Task). MatchBool c.has_to_be_settled.result (HasToBeSettled p item) (HasToBeSettled p item → ⊥)) c.puzzle.ensures.same c.has_to_be_settled.ensures in
+    let has = subst (λ b. MatchBool b (HasToBeSettled v.puzzle item) (HasToBeSettled v.puzzle item → ⊥)) c.if-not-has_to_be_settled.false told in
+    (λ h. open_by v.puzzle (placed_by v) item (c.is_unsettled.ensures.0 h) has, λ is_open. c.is_unsettled.ensures.1 (open_parts v.puzzle (placed_by v) item is_open).0)

@@ -16,8 +16,8 @@ cells_is c = c.from-cells.ensures ∙ c.cells.ensures.count ∙ ap cell_count (c
 cell_in : (c : After-from-cells) → c.args.pair.cell < cell_count c.args.partial.now.puzzle.board
 cell_in c = pair_cell_in c.args.partial.now.puzzle c.args.partial.now.placed c.args.pair c.requires.fits c.puzzle.ensures.prefix
 
-tile_in : (c : After-from-cells) → c.args.pair.placement.tile < cell_count c.args.partial.now.puzzle.board
-tile_in c = pair_tile_in c.args.partial.now.puzzle c.args.partial.now.placed c.args.pair c.requires.fits c.puzzle.ensures.puzzle
+tile_in : (c : After-from-cells) → c.args.pair.placement.tile < length c.args.partial.now.puzzle.words
+tile_in c = pair_tile_in c.args.partial.now.puzzle c.args.partial.now.placed c.args.pair c.requires.fits
 
 rows_are : (c : After-clear) → AreRowsBeside c.args.partial.now.puzzle c.args.partial.now.placed c.args.pair 0 c.clear.new.self
 rows_are c =
@@ -56,10 +56,11 @@ lower_cells-requires c =
     let long = are.long in
     let size_long = c.take_out_cell.ensures.sizes.open_items.long in
     let tile = tile_in there in
+    let few = c.puzzle.ensures.puzzle.tiles.few in
     let most = c.puzzle.ensures.puzzle.board.most in
     record {
       long = omega (arith, long, size_long);
-      tile = omega (arith, long, tile);
+      tile = omega (arith, few, tile);
       most = omega (arith, long, most);
       enough = enough_in_rows c.args.partial.now.puzzle c.args.partial.now.placed c.args.pair c.requires.fits c.clear.new.self are c.puzzle.ensures.puzzle c.puzzle.ensures.prefix c.take_out_cell.new.self.sizes.items c.take_out_cell.ensures.sizes.open_items;
     }

@@ -11,9 +11,7 @@ cells_is c = c.from-cells.ensures ∙ c.cells.ensures.count ∙ ap cell_count (c
 pub lower_tiles-requires : goal.lower_tiles-requires
 lower_tiles-requires c =
     let there = (goal.at.lower_tiles-requires c).After-remove_group in
-    let long = c.requires.counts.sizes.open_items.long in
     record {
-      long = omega (arith, long, cells_is there);
       below = cell_below c.args.partial.now.puzzle c.args.partial.now.placed c.args.pair c.requires.fits c.puzzle.ensures.puzzle c.puzzle.ensures.prefix c.args.self.now.rows c.requires.counts.rows c.at.result.now c.at.ensures
           c.free.result.now c.put_both.new.self c.remove_group.new.self c.free.ensures c.put_both.ensures c.remove_group.ensures c.from-cells.result (cells_is there) c.args.self.now.sizes.items c.requires.counts.sizes;
       enough = cell_enough c.args.partial.now.puzzle c.args.partial.now.placed c.args.pair c.requires.fits c.puzzle.ensures.puzzle c.puzzle.ensures.prefix c.args.self.now.rows c.requires.counts.rows c.at.result.now c.at.ensures

@@ -91,7 +91,8 @@ overflow_sub-index_mut c =
 pub lower_tiles-requires-clause-below : goal.lower_tiles-requires-clause-below
 lower_tiles-requires-clause-below c =
     let at = goal.at.lower_tiles-requires-clause-below c in
-    side_below _ _ _ _ _ _ _ _ _ _ _ _ (are_gone at.After-remove_group) c.len-in-Some.result (cells_is at.After-len-in-Some) c.args.self.now.sizes.items c.requires.counts.open_items
+    rw c.from-in-Some.ensures (side_below _ _ _ _ _ _ _ _ _ _ _ _ (are_gone at.After-remove_group) c.len-in-Some.result (cells_is at.After-len-in-Some) c.args.self.now.sizes.items c.requires.counts.open_items
+    (c.index_mut.result.now - 1024 * c.from.result))
 
 pub lower_tiles-requires-clause-enough : goal.lower_tiles-requires-clause-enough
 lower_tiles-requires-clause-enough c =

@@ -17,9 +17,8 @@ tile_in c =
     let kept = c.self.invariant in
     let legal = kept.prefix.legal c.args.cell c.in-Some.placement (stands c) in
     let tile = legal.tile in
-    let tiles = kept.puzzle.tiles in
-    let cells = kept.puzzle.board.most in
-    omega (arith, tile, tiles, cells)
+    let few = kept.puzzle.tiles.few in
+    omega (arith, tile, few)
 
 pub group-turns-requires : goal.group-turns-requires
 group-turns-requires c = tile_in (goal.at.group-turns-requires c).In-Some

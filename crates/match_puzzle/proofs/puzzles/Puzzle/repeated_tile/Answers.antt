@@ -11,7 +11,7 @@ use Rattle.match_puzzle.proofs.puzzles.Puzzle.repeated_tile.Goals as goal
 
 -- a tile of a puzzle is below the most
 small_tile : (p : Task) (tile : ℕ) → IsPuzzle p → tile < length p.words → tile < MOST_TILES
-small_tile p tile is lt = omega (arith, is.tiles, is.board.most)
+small_tile p tile is lt = let few = is.tiles.few in omega (arith, lt, few)
 
 pub loop-cell-init : goal.loop-cell-init
 loop-cell-init c = record {

@@ -1,4 +1,4 @@
-use Rattle.std.proofs.Common.{◌≡◌, ◌∙◌, List, Bool, true, false, not, Some, slice_get, get_or, replicate, set, take, ap, arith, refl, subst, sym}
+use Rattle.std.proofs.Common.{◌≡◌, ◌∙◌, List, Bool, true, false, not, Some, slice_get, get_or, length, replicate, set, take, ap, arith, refl, subst, sym}
 use Rattle.match_limits.specs.declared.TheConstants.{MOST_CELLS}
 use Rattle.std.proofs.lemmas.Bool.{false≢true}
 use Rattle.std.proofs.lemmas.Option.{slice_get-get_or}
@@ -26,20 +26,21 @@ unturned_first = record { tile = 0; turn = 0 }
 
 pub loop-option-init : goal.loop-option-init
 loop-option-init c =
-    let nothing : Placement = record { tile = c.cells.result; turn = 0 } in
-    none_put c.args.self.now c.puzzle-puzzle.ensures.compiled nothing c.args.options.now (replicate MOST_CELLS nothing) MOST_CELLS (omega (arith, c.cells.ensures.count, c.cells.ensures.most)) refl
+    let nothing : Placement = record { tile = c.tile_count.result; turn = 0 } in
+    none_put c.args.self.now c.puzzle-puzzle.ensures.compiled nothing c.args.options.now (replicate MOST_CELLS nothing) MOST_CELLS (let most = c.puzzle-puzzle.ensures.compiled.puzzle.board.most in omega (arith, most)) refl
 
 pub returns-then-option-options-clause-refused : goal.returns-then-option-options-clause-refused
 returns-then-option-options-clause-refused c = λ _ solution.
     let options = c.args.options.now in
     let k = c.loop-option.option-index in
-    let nothing : Placement = record { tile = c.cells.result; turn = 0 } in
-    out_of_range c.args.self.now c.puzzle-puzzle.ensures.compiled nothing options c.cells.ensures.count k (get_or options k 0) (slice_get-get_or options k 0 c.loop-option-test.true) (omega (arith, c.if-option-options.true, c.options.ensures.count)) solution
+    let nothing : Placement = record { tile = c.tile_count.result; turn = 0 } in
+    out_of_range c.args.self.now c.puzzle-puzzle.ensures.compiled nothing options (c.tile_count.ensures.count ∙ ap (λ (p : Task). length p.words) c.puzzle-puzzle.ensures.value) k (get_or options k 0) (slice_get-get_or options k 0 c.loop-option-test.true) (omega (arith, c.if-option-options.true, c.options.ensures.count)) solution
 
 pub bounds-placements-cell : goal.bounds-placements-cell
 bounds-placements-cell c =
     let within = (option_pair c.args.self.now c.puzzle-puzzle.ensures.compiled (get_or c.args.options.now c.loop-option.option-index 0) c.pair-pair.result c.pair-pair.ensures).cell in
-    omega (arith, within, c.from-cell.ensures, c.cells.ensures.count, c.cells.ensures.most)
+    let most = c.puzzle-puzzle.ensures.compiled.puzzle.board.most in
+    omega (arith, within, c.from-cell.ensures, most)
 
 pub returns-then-ne-clause-refused : goal.returns-then-ne-clause-refused
 returns-then-ne-clause-refused c = λ _ solution.
@@ -50,15 +51,16 @@ returns-then-ne-clause-refused c = λ _ solution.
     let y = c.pair-pair.result in
     let a = c.loop-option.placements in
     let z = get_or a c.from-cell.result unturned_first in
-    let nothing : Placement = record { tile = c.cells.result; turn = 0 } in
+    let nothing : Placement = record { tile = c.tile_count.result; turn = 0 } in
     let within = (option_pair x is (get_or options k 0) y c.pair-pair.ensures).cell in
     let here : Stands a y.cell z = ap (slice_get a) (sym c.from-cell.ensures) ∙ slice_get-get_or a c.from-cell.result unturned_first (omega (arith, within, c.from-cell.ensures, c.loop-option.invariant.room)) in
-    taken_twice x is nothing options c.cells.ensures.count k (get_or options k 0) y a z (slice_get-get_or options k 0 c.loop-option-test.true) c.pair-pair.ensures here (is_other z nothing (not_false _ (sym c.ne.ensures ∙ c.if-ne.true))) c.loop-option.invariant solution
+    taken_twice x is nothing options (c.tile_count.ensures.count ∙ ap (λ (p : Task). length p.words) c.puzzle-puzzle.ensures.value) k (get_or options k 0) y a z (slice_get-get_or options k 0 c.loop-option-test.true) c.pair-pair.ensures here (is_other z nothing (not_false _ (sym c.ne.ensures ∙ c.if-ne.true))) c.loop-option.invariant solution
 
 pub bounds-placements-cell-in-loop-option : goal.bounds-placements-cell-in-loop-option
 bounds-placements-cell-in-loop-option c =
     let within = (option_pair c.args.self.now c.puzzle-puzzle.ensures.compiled (get_or c.args.options.now c.loop-option.option-index 0) c.pair-pair.result c.pair-pair.ensures).cell in
-    omega (arith, within, c.from-cell.ensures, c.cells.ensures.count, c.cells.ensures.most)
+    let most = c.puzzle-puzzle.ensures.compiled.puzzle.board.most in
+    omega (arith, within, c.from-cell.ensures, most)
 
 pub loop-option-preserved : goal.loop-option-preserved
 loop-option-preserved c =
@@ -69,20 +71,20 @@ loop-option-preserved c =
     let y = c.pair-pair.result in
     let a = c.loop-option.placements in
     let z = get_or a c.from-cell.result unturned_first in
-    let nothing : Placement = record { tile = c.cells.result; turn = 0 } in
+    let nothing : Placement = record { tile = c.tile_count.result; turn = 0 } in
     let within = (option_pair x is (get_or options k 0) y c.pair-pair.ensures).cell in
     let here : Stands a y.cell z = ap (slice_get a) (sym c.from-cell.ensures) ∙ slice_get-get_or a c.from-cell.result unturned_first (omega (arith, within, c.from-cell.ensures, c.loop-option.invariant.room)) in
     let empty : z ≡ nothing = is_that z nothing (not_true _ (sym c.ne.ensures ∙ c.if-ne.false)) in
-    one_put x is nothing options c.cells.ensures.count k (get_or options k 0) y a (set a c.from-cell.result y.placement) (slice_get-get_or options k 0 c.loop-option-test.true) c.pair-pair.ensures (here ∙ ap Some empty) (ap (λ n. set a n y.placement) c.from-cell.ensures) c.loop-option.invariant
+    one_put x is nothing options (c.tile_count.ensures.count ∙ ap (λ (p : Task). length p.words) c.puzzle-puzzle.ensures.value) k (get_or options k 0) y a (set a c.from-cell.result y.placement) (slice_get-get_or options k 0 c.loop-option-test.true) c.pair-pair.ensures (here ∙ ap Some empty) (ap (λ n. set a n y.placement) c.from-cell.ensures) c.loop-option.invariant
 
 pub returns-then-is_some-clause-refused : goal.returns-then-is_some-clause-refused
 returns-then-is_some-clause-refused c = λ _ solution.
     let x = c.args.self.now in
     let a = c.loop-option.placements in
     let b = take c.from.result a in
-    let nothing : Placement = record { tile = c.cells.result; turn = 0 } in
-    let front : b ≡ take (cell_count x.puzzle.board) a = ap (λ n. take n a) (c.from.ensures ∙ c.cells-2.ensures.count) in
-    let whole = solution_was_put x c.puzzle-puzzle.ensures.compiled nothing c.args.options.now c.cells.ensures.count c.loop-option.option-index a b c.loop-option-test.false c.loop-option.invariant front solution in
+    let nothing : Placement = record { tile = c.tile_count.result; turn = 0 } in
+    let front : b ≡ take (cell_count x.puzzle.board) a = ap (λ n. take n a) (c.from.ensures ∙ c.cells.ensures.count) in
+    let whole = solution_was_put x c.puzzle-puzzle.ensures.compiled nothing c.args.options.now (c.tile_count.ensures.count ∙ ap (λ (p : Task). length p.words) c.puzzle-puzzle.ensures.value) c.loop-option.option-index a b c.loop-option-test.false c.loop-option.invariant front solution in
     is_refused c.puzzle-puzzle.result.now b c.arrangement_fault.result c.arrangement_fault.ensures (sym c.is_some.ensures ∙ c.if-is_some.true)
     (subst (λ (p : Task). IsArrangement p b) (sym c.puzzle-puzzle.ensures.value) whole)
 
@@ -91,10 +93,10 @@ returns-in_err-to_vec-clause-memory c = λ _.
     let x = c.args.self.now in
     let a = c.loop-option.placements in
     let b = take c.from.result a in
-    let nothing : Placement = record { tile = c.cells.result; turn = 0 } in
-    let front : b ≡ take (cell_count x.puzzle.board) a = ap (λ n. take n a) (c.from.ensures ∙ c.cells-2.ensures.count) in
+    let nothing : Placement = record { tile = c.tile_count.result; turn = 0 } in
+    let front : b ≡ take (cell_count x.puzzle.board) a = ap (λ n. take n a) (c.from.ensures ∙ c.cells.ensures.count) in
     let whole = subst (λ (p : Task). IsArrangement p b) c.puzzle-puzzle.ensures.value (is_whole c.puzzle-puzzle.result.now b c.arrangement_fault.result c.arrangement_fault.ensures (sym c.is_some.ensures ∙ c.if-is_some.false)) in
-    (put_solves x c.puzzle-puzzle.ensures.compiled nothing c.args.options.now c.cells.ensures.count c.loop-option.option-index a b c.loop-option-test.false c.loop-option.invariant front whole).solution
+    (put_solves x c.puzzle-puzzle.ensures.compiled nothing c.args.options.now (c.tile_count.ensures.count ∙ ap (λ (p : Task). length p.words) c.puzzle-puzzle.ensures.value) c.loop-option.option-index a b c.loop-option-test.false c.loop-option.invariant front whole).solution
 
 pub returns-clause-solution : goal.returns-clause-solution
 returns-clause-solution c =
@@ -102,12 +104,12 @@ returns-clause-solution c =
     let options = c.args.options.now in
     let a = c.loop-option.placements in
     let b = take c.from.result a in
-    let nothing : Placement = record { tile = c.cells.result; turn = 0 } in
-    let front : b ≡ take (cell_count x.puzzle.board) a = ap (λ n. take n a) (c.from.ensures ∙ c.cells-2.ensures.count) in
+    let nothing : Placement = record { tile = c.tile_count.result; turn = 0 } in
+    let front : b ≡ take (cell_count x.puzzle.board) a = ap (λ n. take n a) (c.from.ensures ∙ c.cells.ensures.count) in
     let whole = subst (λ (p : Task). IsArrangement p b) c.puzzle-puzzle.ensures.value (is_whole c.puzzle-puzzle.result.now b c.arrangement_fault.result c.arrangement_fault.ensures (sym c.is_some.ensures ∙ c.if-is_some.false)) in
     let copied : c.new.result ≡ b = c.new.ensures ∙ c.in_ok-to_vec.ensures.items_if_clones_equal (λ y z e. e) in
     subst (λ (d : List Placement). IsSolutionOf x d options) (sym copied)
-    (put_solves x c.puzzle-puzzle.ensures.compiled nothing options c.cells.ensures.count c.loop-option.option-index a b c.loop-option-test.false c.loop-option.invariant front whole)
+    (put_solves x c.puzzle-puzzle.ensures.compiled nothing options (c.tile_count.ensures.count ∙ ap (λ (p : Task). length p.words) c.puzzle-puzzle.ensures.value) c.loop-option.option-index a b c.loop-option-test.false c.loop-option.invariant front whole)
 
 pub returns-clause-undone : goal.returns-clause-undone
 returns-clause-undone c = λ other of option.

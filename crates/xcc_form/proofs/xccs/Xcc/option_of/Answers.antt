@@ -6,19 +6,20 @@ use Rattle.xcc_form.specs.Correspondence.{IsPairOf}
 use Rattle.xcc_form.specs.Numbers.{pair_number}
 use Rattle.xcc_form.proofs.NumberLemmas.{IsSmall, number_within, small_pair, told}
 use Rattle.xcc_form.proofs.xccs.Xcc.option_of.Goals as goal
-use Rattle.xcc_form.proofs.xccs.Xcc.option_of.Goals.{then-pair-cells-via-then-pair-cells, then-pair-cells-via-else-pair-cells+then-tile-cells, then-pair-cells-via-else-pair-cells+else-tile-cells+then-turn-ge-MOST_TURNS}
+use Rattle.xcc_form.proofs.xccs.Xcc.option_of.Goals.{then-pair-cells-via-then-pair-cells, then-pair-cells-via-else-pair-cells+then-tile-tiles, then-pair-cells-via-else-pair-cells+else-tile-tiles+then-turn-ge-MOST_TURNS}
 
 pub returns-then-pair-cells : goal.returns-then-pair-cells
 returns-then-pair-cells c = λ good.
-    let small = small_pair c.args.self.now.puzzle c.args.pair c.cells-cells.ensures.puzzle good in
-    let cell = small.cell in
-    let tile = small.tile in
-    let turn = small.turn in
-    let count = c.cells-cells.ensures.count in
+    let i = c.self.inside in
+    let kept = c.self.invariant in
+    let good' : IsOptionPair i.puzzle.now c.args.pair = subst (λ (x : Compiled). IsOptionPair x.puzzle c.args.pair) (sym c.self.view_is) good in
+    let cell = good.cell in
+    let tile = good'.legal.tile in
+    let turn = (small_pair i.puzzle.now c.args.pair kept.puzzle good').turn in
     elim c.then-pair-cells.branch [
-      | then-pair-cells-via-then-pair-cells w ↦ omega (arith, w.if-pair-cells.true, cell, count)
-      | then-pair-cells-via-else-pair-cells+then-tile-cells w ↦ omega (arith, w.if-tile-cells.true, tile, count)
-      | then-pair-cells-via-else-pair-cells+else-tile-cells+then-turn-ge-MOST_TURNS w ↦ omega (arith, w.if-turn-ge-MOST_TURNS.true, turn)
+      | then-pair-cells-via-then-pair-cells w ↦ let count = c.cells.ensures.count in omega (arith, w.if-pair-cells.true, cell, count)
+      | then-pair-cells-via-else-pair-cells+then-tile-tiles w ↦ let many = c.tile_count-tiles.ensures.count in omega (arith, w.if-tile-tiles.true, tile, many)
+      | then-pair-cells-via-else-pair-cells+else-tile-tiles+then-turn-ge-MOST_TURNS w ↦ omega (arith, w.if-turn-ge-MOST_TURNS.true, turn)
     ]
 
 pub returns : goal.returns
@@ -27,14 +28,15 @@ returns c =
     let p = i.puzzle.now in
     let kept = c.self.invariant in
     let y = c.args.pair in
-    let count : c.cells-cells.result ≡ cell_count p.board = c.cells-cells.ensures.count ∙ sym (ap (λ (x : Compiled). cell_count x.puzzle.board) c.self.view_is) in
-    let small : IsSmall (cell_count p.board) y = record {
-      cell = omega (arith, c.if-pair-cells.false, count);
-      tile = omega (arith, c.if-tile-cells.false, count);
+    let count : c.tile_count-tiles.result ≡ length p.words = c.tile_count-tiles.ensures.count in
+    let cells : c.cells.result ≡ cell_count p.board = c.cells.ensures.count ∙ sym (ap (λ (x : Compiled). cell_count x.puzzle.board) c.self.view_is) in
+    let small : IsSmall (length p.words) y = record {
+      cell = let enough = kept.puzzle.tiles.enough in omega (arith, c.if-pair-cells.false, cells, enough);
+      tile = omega (arith, c.if-tile-tiles.false, count);
       turn = omega (arith, c.if-turn-ge-MOST_TURNS.false);
     } in
     let number = c.number_of.ensures ∙ ap (λ n. pair_number n y) count in
-    let within = number_within (cell_count p.board) y small in
+    let within = number_within (length p.words) y small in
     let numbers = i.numbers.items in
     let here : slice_get numbers c.number_of.result ≡ Some c.index.result.now = slice_get_read numbers (length numbers) c.number_of.result c.index.result.now refl (let long = kept.numbered.long in omega (arith, within, number, long)) c.index.ensures in
     subst (λ (x : Compiled). MatchOption c.index.result.now (IsOptionPair x.puzzle y → ⊥) (λ option. IsPairOf x option y)) c.self.view_is

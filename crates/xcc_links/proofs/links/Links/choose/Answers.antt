@@ -42,7 +42,7 @@ hide_excluded-requires-clause-uncovered c =
     let t = i.table in
     let r = right_now i.xcc.now t i.arrays i.marks.items i.chosen.items h in
     let is = subst (λ (s : LinkState). IsOpen (cover_of s.compiled) s.chosen c.args.option) (sym c.self.view_is) c.requires in
-    uncovered t.primaries t.items t.options t.entries.items t.starts.items h.table.table i.chosen.items i.arrays.trail.items r.hides h.right.real c.args.option
+    uncovered t.takable t.items t.options t.entries.items t.starts.items h.table.table i.chosen.items i.arrays.trail.items r.hides h.right.real c.args.option
     (few_options i.xcc.now h.compiled t h.table c.args.option is.real)
     (open_free i.xcc.now h.compiled t h.table i.chosen.items h.right.real c.args.option is)
 
@@ -55,7 +55,7 @@ invariant_of-self c =
     record {
       compiled = h.compiled;
       table = h.table;
-      right = moved t.primaries t.items t.options t.entries.items t.starts.items a a i.arrays.trail.items i.arrays.trail.items i.marks.items _ i.chosen.items _
+      right = moved t.takable t.items t.options t.entries.items t.starts.items a a i.arrays.trail.items i.arrays.trail.items i.marks.items _ i.chosen.items _
           refl refl c.in_err-note_choice.ensures.no_mark c.in_err-note_choice.ensures.none_chosen h.right;
     }
 
@@ -69,7 +69,7 @@ invariant_of-self-then-is_err c =
     record {
       compiled = h.compiled;
       table = h.table;
-      right = moved t.primaries t.items t.options t.entries.items t.starts.items a _ i.arrays.trail.items _ i.marks.items _ i.chosen.items _
+      right = moved t.takable t.items t.options t.entries.items t.starts.items a _ i.arrays.trail.items _ i.marks.items _ i.chosen.items _
           (err_holds c.hide_excluded.result _ c.if-is_err.ensures.value e.arrays)
           (err_holds c.hide_excluded.result _ c.if-is_err.ensures.value e.trail)
           (popped _ _ _ _ _ c.note_choice.new.marks.ok.0 c.in_ok-note_choice.ensures.marks c.pop.ensures.rest)
@@ -91,18 +91,18 @@ invariant_of-self-else-is_err c =
     let goes = ok_holds c.hide_excluded.result _ c.if-is_err.ensures.value e.goes in
     let all = ok_holds c.hide_excluded.result _ c.if-is_err.ensures.value e.all in
     let only = ok_holds c.hide_excluded.result _ c.if-is_err.ensures.value e.only in
-    let now : AreRightFor t.primaries t.items t.options t.entries.items t.starts.items (i.chosen.items ++ c.args.option ∷ []) a c.hide_excluded.new.self.trail.items = record {
-      hides = hides_more t.primaries t.items t.options t.entries.items t.starts.items h.table.table i.chosen.items i.arrays.trail.items r.hides h.right.real c.args.option within free c.hide_excluded.new.self.trail.items (λ p k. goes_has _ _ _ _ _ p goes k) all only;
+    let now : AreRightFor t.takable t.items t.options t.entries.items t.starts.items (i.chosen.items ++ c.args.option ∷ []) a c.hide_excluded.new.self.trail.items = record {
+      hides = hides_more t.takable t.items t.options t.entries.items t.starts.items h.table.table i.chosen.items i.arrays.trail.items r.hides h.right.real c.args.option within free c.hide_excluded.new.self.trail.items (λ p k. goes_has _ _ _ _ _ p goes k) all only;
       right = ok_holds c.hide_excluded.result _ c.if-is_err.ensures.value e.right;
     } in
     record {
       compiled = h.compiled;
       table = h.table;
-      right = moved t.primaries t.items t.options t.entries.items t.starts.items a _ c.hide_excluded.new.self.trail.items _ (i.marks.items ++ length i.arrays.trail.items ∷ []) _ (i.chosen.items ++ c.args.option ∷ []) _
+      right = moved t.takable t.items t.options t.entries.items t.starts.items a _ c.hide_excluded.new.self.trail.items _ (i.marks.items ++ length i.arrays.trail.items ∷ []) _ (i.chosen.items ++ c.args.option ∷ []) _
           refl refl
           (c.in_ok-note_choice.ensures.marks ∙ ap (λ n. i.marks.items ++ n ∷ []) (c.len-mark.ensures ∙ i.arrays.trail.ok.0))
           c.in_ok-note_choice.ensures.chosen
-          (all_right_more t.primaries t.items t.options t.entries.items t.starts.items (i.arrays.links.items, i.arrays.sizes.items) a i.arrays.trail.items c.hide_excluded.new.self.trail.items i.marks.items i.chosen.items h.right goes c.args.option within free now);
+          (all_right_more t.takable t.items t.options t.entries.items t.starts.items (i.arrays.links.items, i.arrays.sizes.items) a i.arrays.trail.items c.hide_excluded.new.self.trail.items i.marks.items i.chosen.items h.right goes c.args.option within free now);
     }
 
 pub returns-in_err-note_choice-clause-refused : goal.returns-in_err-note_choice-clause-refused
@@ -135,6 +135,6 @@ returns-clause-before c =
     let new = c.hide_excluded.new.self in
     let goes = ok_holds c.hide_excluded.result _ c.if-is_err.ensures.value c.hide_excluded.ensures.goes in
     let marks = c.in_ok-note_choice.ensures.marks ∙ ap (λ n. i.marks.items ++ n ∷ []) (c.len-mark.ensures ∙ i.arrays.trail.ok.0) in
-    back_before t.primaries t.items t.options t.entries.items t.starts.items (i.arrays.links.items, i.arrays.sizes.items) (new.links.items, new.sizes.items) i.arrays.trail.items new.trail.items i.marks.items i.chosen.items c.self.invariant.right goes i.xcc.now c.args.option _
+    back_before t.takable t.items t.options t.entries.items t.starts.items (i.arrays.links.items, i.arrays.sizes.items) (new.links.items, new.sizes.items) i.arrays.trail.items new.trail.items i.marks.items i.chosen.items c.self.invariant.right goes i.xcc.now c.args.option _
     (same_state i.xcc.now t.entries.items t.starts.items refl refl marks c.in_ok-note_choice.ensures.chosen)
     ∙ c.self.view_is

@@ -14,7 +14,7 @@ show_back-requires-clause-mark c =
     let last = length i.chosen.items - 1 in
     let n2 : i.marks.len - 1 ≡ last = omega (arith, i.marks.ok.0, i.chosen.ok.0, h.right.as_many) in
     let mark : c.in-Some.mark ≡ mark_of i.arrays.trail.items i.marks.items last = inner _ _ (c.in-Some.ensures.value (length i.arrays.trail.items) (omega (arith, i.marks.ok.0, h.right.as_many, some))) ∙ ap (mark_of i.arrays.trail.items i.marks.items) n2 in
-    mark_in t.primaries t.items t.options t.entries.items t.starts.items (i.arrays.links.items, i.arrays.sizes.items) i.arrays.trail.items i.marks.items i.chosen.items h.right last (omega (arith, some)) c.in-Some.mark mark
+    mark_in t.takable t.items t.options t.entries.items t.starts.items (i.arrays.links.items, i.arrays.sizes.items) i.arrays.trail.items i.marks.items i.chosen.items h.right last (omega (arith, some)) c.in-Some.mark mark
 
 pub show_back-requires-clause-fits : goal.show_back-requires-clause-fits
 show_back-requires-clause-fits c =
@@ -42,9 +42,9 @@ invariant_of-self c =
     record {
       compiled = h.compiled;
       table = h.table;
-      right = moved t.primaries t.items t.options t.entries.items t.starts.items _ _ _ _ _ _ _ _
+      right = moved t.takable t.items t.options t.entries.items t.starts.items _ _ _ _ _ _ _ _
           c.show_back.ensures.back c.show_back.ensures.trail
           (c.pop-2.ensures.rest ∙ ap (λ n. take n i.marks.items) n2)
           (c.pop.ensures.rest ∙ ap (λ n. take n i.chosen.items) n1)
-          (all_right_less t.primaries t.items t.options t.entries.items t.starts.items (i.arrays.links.items, i.arrays.sizes.items) i.arrays.trail.items i.marks.items i.chosen.items h.right last (omega (arith, some)) c.in-Some.mark mark);
+          (all_right_less t.takable t.items t.options t.entries.items t.starts.items (i.arrays.links.items, i.arrays.sizes.items) i.arrays.trail.items i.marks.items i.chosen.items h.right last (omega (arith, some)) c.in-Some.mark mark);
     }

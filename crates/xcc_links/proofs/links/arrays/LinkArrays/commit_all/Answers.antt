@@ -26,13 +26,13 @@ ended c long z =
     omega (arith, y, z, r, up)
 
 pub commit-requires-clause-uncovered : goal.commit-requires-clause-uncovered
-commit-requires-clause-uncovered c = λ primary.
+commit-requires-clause-uncovered c = λ can_take.
     let f = c.args.table.now in
     let n = c.loop-node.node in
     let i = c.loop-node.invariant in
     let to : n < start_of f.starts.items (c.args.option + 1) = omega (arith, end (goal.at.commit-requires-clause-uncovered c).After-index-node-end) in
-    let first = c.requires.uncovered n i.from to primary in
-    not_yet f.primaries f.items f.options f.entries.items f.starts.items c.requires.table c.args.option c.requires.option n i.from to _ (λ e. ⊎_elim (λ h. absurd (true≢false (sym h ∙ first))) (λ w. w) (i.only (f.options + item_of f.entries.items n) e))
+    let first = c.requires.uncovered n i.from to can_take in
+    not_yet f.takable f.items f.options f.entries.items f.starts.items c.requires.table c.args.option c.requires.option n i.from to _ (λ e. ⊎_elim (λ h. absurd (true≢false (sym h ∙ first))) (λ w. w) (i.only (f.options + item_of f.entries.items n) e))
 
 pub returns-in_err-commit-clause-goes : goal.returns-in_err-commit-clause-goes
 returns-in_err-commit-clause-goes c = goes_on _ _ _ _ _ _ _ c.loop-node.invariant.goes c.in_err-commit.ensures.goes
@@ -49,7 +49,7 @@ loop-node-preserved c =
       goes = goes_on _ _ _ _ _ _ _ i.goes e.goes;
       all = λ m mf mt p b. ⊎_elim
           (λ (lt : m < n). goes_has _ _ _ _ _ p e.goes (i.all m mf lt p b))
-          (λ (ge : n ≤ m). let same : m ≡ n = omega (arith, mt) in e.all p (subst (λ k. ExcludesAt f.primaries f.items f.options f.entries.items k p) same b))
+          (λ (ge : n ≤ m). let same : m ≡ n = omega (arith, mt) in e.all p (subst (λ k. ExcludesAt f.takable f.items f.options f.entries.items k p) same b))
           (cases_lt m n);
       only = λ p h. ⊎_elim
           (λ x. ⊎_elim (λ y. inl y) (λ w. inr (w.0, w.1, (let lt = w.2 in omega (arith, lt)), w.3)) (i.only p x))
@@ -62,11 +62,11 @@ returns-clause-all c =
     let f = c.args.table.now in
     let at = goal.at.returns-clause-all c in
     let same = ended at.After-loop-node (in_starts at.After-index-node-end) (end at.After-index-node-end) in
-    all_barred f.primaries f.items f.options f.entries.items f.starts.items c.requires.table c.args.option c.requires.option c.loop-node.self.trail.items (λ m mf mt p b. c.loop-node.invariant.all m mf (omega (arith, mt, same)) p b)
+    all_barred f.takable f.items f.options f.entries.items f.starts.items c.requires.table c.args.option c.requires.option c.loop-node.self.trail.items (λ m mf mt p b. c.loop-node.invariant.all m mf (omega (arith, mt, same)) p b)
 
 pub returns-clause-only : goal.returns-clause-only
 returns-clause-only c = λ p h.
     let f = c.args.table.now in
     let at = goal.at.returns-clause-only c in
     let same = ended at.After-loop-node (in_starts at.After-index-node-end) (end at.After-index-node-end) in
-    ⊎_elim (λ x. inl x) (λ w. inr (only_barred f.primaries f.items f.options f.entries.items f.starts.items c.requires.table c.args.option c.requires.option p (w.0, w.1, (let lt = w.2 in omega (arith, lt, same)), w.3))) (c.loop-node.invariant.only p h)
+    ⊎_elim (λ x. inl x) (λ w. inr (only_barred f.takable f.items f.options f.entries.items f.starts.items c.requires.table c.args.option c.requires.option p (w.0, w.1, (let lt = w.2 in omega (arith, lt, same)), w.3))) (c.loop-node.invariant.only p h)

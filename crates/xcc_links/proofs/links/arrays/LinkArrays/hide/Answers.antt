@@ -20,10 +20,10 @@ unlink-requires-clause-some c =
     let n = c.loop-node.node in
     let i = c.loop-node.invariant in
     let z = get_or_read f.starts.items (c.args.option + 1) c.index-node-end.result.now (omega (arith, c.requires.option)) c.index-node-end.ensures 0 in
-    let w = end_is f.primaries f.items f.options f.entries.items f.starts.items c.requires.table s.trail.items c.args.option c.requires.option c.requires.free in
+    let w = end_is f.takable f.items f.options f.entries.items f.starts.items c.requires.table s.trail.items c.args.option c.requires.option c.requires.free in
     let lt : n - a < width_of f.starts.items c.args.option = omega (arith, z, i.from) in
     let e : a + (n - a) ≡ n = omega (arith, i.from) in
-    let h = can_size f.primaries f.items f.options f.entries.items f.starts.items c.requires.table (shown_by f.items f.entries.items s.trail.items) s.links.items s.sizes.items c.requires.right.kept c.requires.right.counted a (width_of f.starts.items c.args.option) (nodes_shown f.primaries f.items f.options f.entries.items f.starts.items c.requires.table s.trail.items c.args.option c.requires.option c.requires.free) (n - a) lt in
+    let h = can_size f.takable f.items f.options f.entries.items f.starts.items c.requires.table (shown_by f.items f.entries.items s.trail.items) s.links.items s.sizes.items c.requires.right.kept c.requires.right.counted a (width_of f.starts.items c.args.option) (nodes_shown f.takable f.items f.options f.entries.items f.starts.items c.requires.table s.trail.items c.args.option c.requires.option c.requires.free) (n - a) lt in
     let h2 = subst (λ k. 1 ≤ get_or (hidden_sizes f.entries.items s.sizes.items a (n - a)) (item_of f.entries.items k) 0) e h in
     subst (λ (x : List ℕ). 0 < get_or x (item_of f.entries.items n) 0) (sym i.sizes) (omega (arith, h2))
 
@@ -52,7 +52,7 @@ width c =
     let f = c.args.table.now in
     let y = get_or_read f.starts.items c.args.option c.index-node.result.now (omega (arith, c.requires.option)) c.index-node.ensures 0 in
     let z = get_or_read f.starts.items (c.args.option + 1) c.index-node-end.result.now (omega (arith, c.requires.option)) c.index-node-end.ensures 0 in
-    let r = rise f.primaries f.items f.options f.entries.items f.starts.items c.requires.table c.args.self.now.trail.items c.args.option c.requires.option c.requires.free in
+    let r = rise f.takable f.items f.options f.entries.items f.starts.items c.requires.table c.args.self.now.trail.items c.args.option c.requires.option c.requires.free in
     let up = c.loop-node.auto.node-end (omega (arith, y, z, r)) in
     omega (arith, y, z, r, up)
 
@@ -68,7 +68,7 @@ returns-clause-right c =
     let s = c.args.self.now in
     let at = (goal.at.returns-clause-right c).After-loop-node in
     let i = c.loop-node.invariant in
-    let h = right_hidden f.primaries f.items f.options f.entries.items f.starts.items c.requires.table s.trail.items c.args.option c.requires.option c.requires.free s.links.items s.sizes.items c.requires.right (moved f.items f.entries.items _ _ _ _ (sym (links at)) (sym (sizes at)) i.fits) in
+    let h = right_hidden f.takable f.items f.options f.entries.items f.starts.items c.requires.table s.trail.items c.args.option c.requires.option c.requires.free s.links.items s.sizes.items c.requires.right (moved f.items f.entries.items _ _ _ _ (sym (links at)) (sym (sizes at)) i.fits) in
     rw (links at, sizes at, i.trail, c.in_ok-push.ensures.items) h
 
 pub returns-clause-goes : goal.returns-clause-goes
@@ -76,5 +76,5 @@ returns-clause-goes c =
     let f = c.args.table.now in
     let s = c.args.self.now in
     let at = (goal.at.returns-clause-goes c).After-loop-node in
-    let g = goes_hidden f.primaries f.items f.options f.entries.items f.starts.items c.requires.table s.trail.items c.args.option c.requires.option c.requires.free s.links.items s.sizes.items c.requires.right in
+    let g = goes_hidden f.takable f.items f.options f.entries.items f.starts.items c.requires.table s.trail.items c.args.option c.requires.option c.requires.free s.links.items s.sizes.items c.requires.right in
     rw (links at, sizes at, c.loop-node.invariant.trail, c.in_ok-push.ensures.items) g

@@ -14,7 +14,7 @@ loop-node-init c =
     let f = c.args.table.now in
     let w = c.args.self.now in
     record {
-      built = built_first f.primaries f.items f.options f.entries.items f.starts.items c.requires.table w.links.items w.sizes.items c.requires.alone c.requires.sizes;
+      built = built_first f.takable f.items f.options f.entries.items f.starts.items c.requires.table w.links.items w.sizes.items c.requires.alone c.requires.sizes;
       trail = c.requires.trail;
     }
 
@@ -41,7 +41,7 @@ relink-requires-clause-inside c =
     let f = c.args.table.now in
     let t = c.loop-node.self in
     let at = (goal.at.relink-requires-clause-inside c).After-index-in-loop-node in
-    inside0 f.primaries f.items f.options f.entries.items f.starts.items c.requires.table t.links.items t.sizes.items c.loop-node.node c.loop-node.invariant.built (within at) _ (placed at)
+    inside0 f.takable f.items f.options f.entries.items f.starts.items c.requires.table t.links.items t.sizes.items c.loop-node.node c.loop-node.invariant.built (within at) _ (placed at)
 
 moved : (items : ℕ) (entries : List Entry) (l l' : List Link) (s s' : List ℕ) (n : ℕ) → l' ≡ l → s' ≡ s → IsBuilt items entries l s n → IsBuilt items entries l' s' n
 moved items entries l l' s s' n el es h = subst (λ x. IsBuilt items entries x s' n) (sym el) (subst (λ x. IsBuilt items entries l x n) (sym es) h)
@@ -52,7 +52,7 @@ loop-node-preserved c =
     let t = c.loop-node.self in
     let m = c.loop-node.node in
     let at = (goal.at.loop-node-preserved c).After-index-in-loop-node in
-    let h = built_more f.primaries f.items f.options f.entries.items f.starts.items c.requires.table t.links.items t.sizes.items m c.loop-node.invariant.built (within at) _ (placed at) in
+    let h = built_more f.takable f.items f.options f.entries.items f.starts.items c.requires.table t.links.items t.sizes.items m c.loop-node.invariant.built (within at) _ (placed at) in
     record {
       built = moved f.items f.entries.items _ _ _ _ (m + 1) c.relink.ensures.links c.relink.ensures.sizes h;
       trail = c.relink.ensures.trail ∙ c.loop-node.invariant.trail;
@@ -62,8 +62,8 @@ pub returns-clause-right : goal.returns-clause-right
 returns-clause-right c =
     let f = c.args.table.now in
     let nodes : c.len-nodes.result ≡ length f.entries.items = omega (arith, c.len-nodes.ensures, f.entries.ok.0) in
-    let le = items_in f.primaries f.items f.options f.entries.items f.starts.items c.requires.table in
+    let le = items_in f.takable f.items f.options f.entries.items f.starts.items c.requires.table in
     let up = c.loop-node.auto.node-end (omega (arith, le, nodes)) in
     let e : c.loop-node.node ≡ length f.entries.items = omega (arith, up, nodes) in
     subst (λ t. AreRight f.items f.entries.items f.starts.items c.loop-node.self.links.items c.loop-node.self.sizes.items t) (sym c.loop-node.invariant.trail)
-    (built_right f.primaries f.items f.options f.entries.items f.starts.items c.requires.table c.loop-node.self.links.items c.loop-node.self.sizes.items c.loop-node.node e c.loop-node.invariant.built)
+    (built_right f.takable f.items f.options f.entries.items f.starts.items c.requires.table c.loop-node.self.links.items c.loop-node.self.sizes.items c.loop-node.node e c.loop-node.invariant.built)

@@ -17,7 +17,7 @@ loop-node-init c =
     record {
       right = c.requires.right;
       goes = goes_none _ _ _;
-      at = begun f.primaries f.items f.options f.entries.items f.starts.items c.requires.table w.links.items w.sizes.items w.trail.items c.requires.right c.args.item c.requires.item (λ n. colour_of f.entries.items n ≡ c.args.colour) c.index.result.now c.index.ensures;
+      at = begun f.takable f.items f.options f.entries.items f.starts.items c.requires.table w.links.items w.sizes.items w.trail.items c.requires.right c.args.item c.requires.item (λ n. colour_of f.entries.items n ≡ c.args.colour) c.index.result.now c.index.ensures;
       only = λ p e. inl e;
     }
 
@@ -26,10 +26,10 @@ hide-requires-clause-free c =
     let f = c.args.table.now in
     let w = c.loop-node.self in
     let i = c.loop-node.invariant in
-    let entry = get_or_read f.entries.items c.loop-node.node c.index-entry.result.now (parts f.primaries f.items f.options f.entries.items f.starts.items c.requires.table w.links.items w.sizes.items w.trail.items i.right c.args.item c.requires.item (λ n. colour_of f.entries.items n ≡ c.args.colour) c.loop-node.node i.at (omega arith)).1 c.index-entry.ensures no_entry in
+    let entry = get_or_read f.entries.items c.loop-node.node c.index-entry.result.now (parts f.takable f.items f.options f.entries.items f.starts.items c.requires.table w.links.items w.sizes.items w.trail.items i.right c.args.item c.requires.item (λ n. colour_of f.entries.items n ≡ c.args.colour) c.loop-node.node i.at (omega arith)).1 c.index-entry.ensures no_entry in
     let o : c.index-entry.result.now.option ≡ option_of f.entries.items c.loop-node.node = ap (λ (e : Entry). e.option) entry in
     let k : c.index-entry.result.now.colour ≡ colour_of f.entries.items c.loop-node.node = ap (λ (e : Entry). e.colour) entry in
-    ap (has w.trail.items) o ∙ (parts f.primaries f.items f.options f.entries.items f.starts.items c.requires.table w.links.items w.sizes.items w.trail.items i.right c.args.item c.requires.item (λ n. colour_of f.entries.items n ≡ c.args.colour) c.loop-node.node i.at (omega arith)).2
+    ap (has w.trail.items) o ∙ (parts f.takable f.items f.options f.entries.items f.starts.items c.requires.table w.links.items w.sizes.items w.trail.items i.right c.args.item c.requires.item (λ n. colour_of f.entries.items n ≡ c.args.colour) c.loop-node.node i.at (omega arith)).2
 
 pub returns-in_err-hide-clause-goes : goal.returns-in_err-hide-clause-goes
 returns-in_err-hide-clause-goes c = goes_on _ _ _ _ _ _ _ c.loop-node.invariant.goes c.in_err-hide.ensures.goes
@@ -39,14 +39,14 @@ loop-node-smaller-in_ok-hide c =
     let f = c.args.table.now in
     let w = c.loop-node.self in
     let i = c.loop-node.invariant in
-    goes_down f.primaries f.items f.options f.entries.items f.starts.items c.requires.table w.links.items w.sizes.items w.trail.items i.right c.args.item c.requires.item (λ n. colour_of f.entries.items n ≡ c.args.colour) c.loop-node.node i.at (omega arith) c.index-link.result.now c.index-link.ensures
+    goes_down f.takable f.items f.options f.entries.items f.starts.items c.requires.table w.links.items w.sizes.items w.trail.items i.right c.args.item c.requires.item (λ n. colour_of f.entries.items n ≡ c.args.colour) c.loop-node.node i.at (omega arith) c.index-link.result.now c.index-link.ensures
 
 pub loop-node-preserved-in_ok-hide : goal.loop-node-preserved-in_ok-hide
 loop-node-preserved-in_ok-hide c =
     let f = c.args.table.now in
     let w = c.loop-node.self in
     let i = c.loop-node.invariant in
-    let entry = get_or_read f.entries.items c.loop-node.node c.index-entry.result.now (parts f.primaries f.items f.options f.entries.items f.starts.items c.requires.table w.links.items w.sizes.items w.trail.items i.right c.args.item c.requires.item (λ n. colour_of f.entries.items n ≡ c.args.colour) c.loop-node.node i.at (omega arith)).1 c.index-entry.ensures no_entry in
+    let entry = get_or_read f.entries.items c.loop-node.node c.index-entry.result.now (parts f.takable f.items f.options f.entries.items f.starts.items c.requires.table w.links.items w.sizes.items w.trail.items i.right c.args.item c.requires.item (λ n. colour_of f.entries.items n ≡ c.args.colour) c.loop-node.node i.at (omega arith)).1 c.index-entry.ensures no_entry in
     let o : c.index-entry.result.now.option ≡ option_of f.entries.items c.loop-node.node = ap (λ (e : Entry). e.option) entry in
     let k : c.index-entry.result.now.colour ≡ colour_of f.entries.items c.loop-node.node = ap (λ (e : Entry). e.colour) entry in
     let t : c.hide.new.self.trail.items ≡ w.trail.items ++ c.index-entry.result.now.option ∷ [] = c.in_ok-hide.ensures.hidden in
@@ -55,9 +55,9 @@ loop-node-preserved-in_ok-hide c =
     record {
       right = c.in_ok-hide.ensures.right;
       goes = goes_on _ _ _ _ _ _ _ i.goes c.in_ok-hide.ensures.goes;
-      at = subst (λ x. IsWalking f.items f.entries.items x c.args.item (λ n. colour_of f.entries.items n ≡ c.args.colour) c.index-link.result.now.down) (sym t2) (hid f.primaries f.items f.options f.entries.items f.starts.items c.requires.table w.links.items w.sizes.items w.trail.items i.right c.args.item c.requires.item (λ n. colour_of f.entries.items n ≡ c.args.colour) c.loop-node.node i.at (omega arith) c.index-link.result.now c.index-link.ensures);
+      at = subst (λ x. IsWalking f.items f.entries.items x c.args.item (λ n. colour_of f.entries.items n ≡ c.args.colour) c.index-link.result.now.down) (sym t2) (hid f.takable f.items f.options f.entries.items f.starts.items c.requires.table w.links.items w.sizes.items w.trail.items i.right c.args.item c.requires.item (λ n. colour_of f.entries.items n ≡ c.args.colour) c.loop-node.node i.at (omega arith) c.index-link.result.now c.index-link.ensures);
       only = λ p e. ⊎_elim (λ h. i.only p h)
-          (λ (same : p ≡ option_of f.entries.items c.loop-node.node). inr (subst (HasOtherColour f.items f.entries.items c.args.item c.args.colour) (sym same) (only_hid f.primaries f.items f.options f.entries.items f.starts.items c.requires.table w.links.items w.sizes.items w.trail.items i.right c.args.item c.requires.item c.args.colour c.loop-node.node i.at (omega arith) off)))
+          (λ (same : p ≡ option_of f.entries.items c.loop-node.node). inr (subst (HasOtherColour f.items f.entries.items c.args.item c.args.colour) (sym same) (only_hid f.takable f.items f.options f.entries.items f.starts.items c.requires.table w.links.items w.sizes.items w.trail.items i.right c.args.item c.requires.item c.args.colour c.loop-node.node i.at (omega arith) off)))
           (has_cases w.trail.items (option_of f.entries.items c.loop-node.node) p (ap (λ x. has x p) (sym t2) ∙ e));
     }
 
@@ -66,13 +66,13 @@ loop-node-preserved c =
     let f = c.args.table.now in
     let w = c.loop-node.self in
     let i = c.loop-node.invariant in
-    let entry = get_or_read f.entries.items c.loop-node.node c.index-entry.result.now (parts f.primaries f.items f.options f.entries.items f.starts.items c.requires.table w.links.items w.sizes.items w.trail.items i.right c.args.item c.requires.item (λ n. colour_of f.entries.items n ≡ c.args.colour) c.loop-node.node i.at (omega arith)).1 c.index-entry.ensures no_entry in
+    let entry = get_or_read f.entries.items c.loop-node.node c.index-entry.result.now (parts f.takable f.items f.options f.entries.items f.starts.items c.requires.table w.links.items w.sizes.items w.trail.items i.right c.args.item c.requires.item (λ n. colour_of f.entries.items n ≡ c.args.colour) c.loop-node.node i.at (omega arith)).1 c.index-entry.ensures no_entry in
     let o : c.index-entry.result.now.option ≡ option_of f.entries.items c.loop-node.node = ap (λ (e : Entry). e.option) entry in
     let k : c.index-entry.result.now.colour ≡ colour_of f.entries.items c.loop-node.node = ap (λ (e : Entry). e.colour) entry in
     record {
       right = i.right;
       goes = i.goes;
-      at = passed f.primaries f.items f.options f.entries.items f.starts.items c.requires.table w.links.items w.sizes.items w.trail.items i.right c.args.item c.requires.item (λ n. colour_of f.entries.items n ≡ c.args.colour) c.loop-node.node i.at (omega arith) c.index-link.result.now c.index-link.ensures (let s = c.if-entry-colour.false in omega (arith, k, s));
+      at = passed f.takable f.items f.options f.entries.items f.starts.items c.requires.table w.links.items w.sizes.items w.trail.items i.right c.args.item c.requires.item (λ n. colour_of f.entries.items n ≡ c.args.colour) c.loop-node.node i.at (omega arith) c.index-link.result.now c.index-link.ensures (let s = c.if-entry-colour.false in omega (arith, k, s));
       only = i.only;
     }
 
@@ -81,7 +81,7 @@ loop-node-smaller c =
     let f = c.args.table.now in
     let w = c.loop-node.self in
     let i = c.loop-node.invariant in
-    goes_down f.primaries f.items f.options f.entries.items f.starts.items c.requires.table w.links.items w.sizes.items w.trail.items i.right c.args.item c.requires.item (λ n. colour_of f.entries.items n ≡ c.args.colour) c.loop-node.node i.at (omega arith) c.index-link.result.now c.index-link.ensures
+    goes_down f.takable f.items f.options f.entries.items f.starts.items c.requires.table w.links.items w.sizes.items w.trail.items i.right c.args.item c.requires.item (λ n. colour_of f.entries.items n ≡ c.args.colour) c.loop-node.node i.at (omega arith) c.index-link.result.now c.index-link.ensures
 
 pub returns-clause-all : goal.returns-clause-all
 returns-clause-all c =
@@ -89,4 +89,4 @@ returns-clause-all c =
     let w = c.loop-node.self in
     let i = c.loop-node.invariant in
     let same : c.loop-node.node ≡ c.args.item = omega arith in
-    cleared f.primaries f.items f.options f.entries.items f.starts.items c.requires.table w.links.items w.sizes.items w.trail.items i.right c.args.item c.requires.item c.args.colour (subst (IsWalking f.items f.entries.items w.trail.items c.args.item (λ n. colour_of f.entries.items n ≡ c.args.colour)) same i.at)
+    cleared f.takable f.items f.options f.entries.items f.starts.items c.requires.table w.links.items w.sizes.items w.trail.items i.right c.args.item c.requires.item c.args.colour (subst (IsWalking f.items f.entries.items w.trail.items c.args.item (λ n. colour_of f.entries.items n ≡ c.args.colour)) same i.at)
