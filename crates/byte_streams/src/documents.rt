@@ -57,7 +57,7 @@ impl OwnedDocuments {
     ghost use Rattle.byte_streams.specs.Documents.{AreShort, texts_in, three};
     ghost use Rattle.byte_streams.specs.LentTexts.{texts_of};
 
-    /// These three.
+    /// The documents, each with a text of its own.
     pub fn apart(puzzle: Text, list: Text, certificate: Text) -> OwnedDocuments
         ensures { result ≡ three puzzle list certificate }
     {
@@ -70,7 +70,7 @@ impl OwnedDocuments {
         }
     }
 
-    /// The three in this input.
+    /// The documents of an input that has the three joined.
     pub fn joined(input: Text) -> OwnedDocuments
         ensures { result ≡ texts_in input }
     {
@@ -79,7 +79,7 @@ impl OwnedDocuments {
         }
     }
 
-    /// The documents, lent. Of an input that has them joined that takes time in the length of the first two.
+    /// The documents, borrowed. Where an input has them joined, this takes time in the length of the first two.
     pub fn lend(&self) -> Documents<'_>
         ensures texts { texts_of result ≡ self.now }
         ensures short { AreShort (texts_of result) }

@@ -9,9 +9,10 @@ use std::alloc::Global;
 // How many bytes are written without a further request for memory.
 const ROOM: usize = 16_384;
 
-/// Moves at most so many bytes a call, and fails once so many have moved.
+/// A source and a sink for tests: it moves a limited number of bytes a call, and fails after a number of bytes.
 ///
-/// Where it moves at most 0 a call, a write is idle; a read gives a byte nevertheless, since none means the end.
+/// Where it moves at most 0 bytes a call, a write does nothing. A read gives one byte nevertheless, since none would
+/// mean the end.
 #[derive(Drop)]
 pub struct Fake<'a> {
     bytes: &'a [u8],
@@ -26,8 +27,8 @@ pub struct Fake<'a> {
 }
 
 impl<'a> Fake<'a> {
-    /// Gives these bytes, and holds what is written. A read fails where `fails_after` bytes were
-    /// taken, a write where so many were written.
+    /// A source of these bytes, which also keeps what is written to it. A read fails after `fails_after` bytes were
+    /// read, and a write after that many were written.
     pub fn new(alloc: Global, bytes: &'a [u8], most: usize, fails_after: usize) -> Fake<'a>
         ensures bytes { result.bytes.now ≡ bytes.now }
         ensures bounds { (result.most ≡ most) × (result.fails_after ≡ fails_after) }
@@ -53,14 +54,14 @@ impl<'a> Fake<'a> {
         &self.written
     }
 
-    /// How many bytes were taken.
+    /// How many bytes were read.
     pub fn taken(&self) -> usize
         ensures { result ≡ self.now.taken }
     {
         self.taken
     }
 
-    /// How many errors were answered.
+    /// How many calls failed.
     pub fn errors(&self) -> u64
         ensures { result ≡ self.now.errors }
     {

@@ -12,7 +12,7 @@ use std::alloc::{AllocError, Global};
 
 /// Where files are opened by their names, and made beside them.
 ///
-/// What is done to files is told by what a call did between two states; what opens a file does nothing.
+/// Contracts say what is done to files by what a call did between two states. Opening a file does nothing to it.
 pub trait FileSystem {
     type Reader: Source + Drop;
 
@@ -33,25 +33,26 @@ pub trait FileSystem {
     // that the name leads to the file that was put under it, with the text
     ghost leads: { Self → List ℕ → List ℕ → Type 0 };
 
-    /// The file of this name, opened, with nothing read of it.
+    /// Opens the file of this name. Nothing is read yet.
     fn open(&self, name: &str) -> Result<Self::Reader, Refusal>
         ensures opened { IfOk result (opens self.now name.now) }
         ensures unread { IfOk result (IsUnread Self.Reader.Source) }
         ensures refused { OnErr result (refuses self.now name.now) };
 
-    /// A file that is to be put under this name, made beside it, empty. What stands under the name stands there still.
+    /// Makes an empty file beside this name, which can be put under the name later. What is under the name now stays
+    /// there.
     fn make(&mut self, alloc: Global, name: &str) -> Result<Self::Writer, FileFault>
         ensures made { IfOk result (makes self.old name.now) }
         ensures unwritten { IfOk result (IsUnwritten Self.Writer.Sink) }
         ensures does { OnOk result (does self.old (did_make name.now) self.new) }
         ensures err { OnErr result (self.new ≡ self.old) };
 
-    /// Has all that the file took written to the disk.
+    /// Makes sure that all that was written to the file is on the disk.
     fn sync(&self, file: &Self::Writer) -> Result<(), Refusal>
         ensures { OnOk result (synced file.now) };
 
-    /// Puts the file that was made beside this name under it, with the text that it took, in place of what stands there,
-    /// and hands it back. Where that fails, the file is removed.
+    /// Puts the file that was made beside this name under the name, with all that was written to it, in place of what
+    /// is there, and returns it. Where that fails, the file is removed.
     fn put(&mut self, file: Self::Writer, name: &str) -> Result<Self::Writer, Refusal>
         requires whole { (text : List ℕ) × IsFileOf makes Self.Writer.written name.now file text }
         requires synced { synced file }
@@ -72,6 +73,6 @@ pub trait FileSystem {
     /// Why no file can be made under this name, as far as the system says before it is tried.
     fn refusal_at(&self, alloc: Global, name: &str) -> Option<Refusal>;
 
-    /// Whether both names lead to one file, be it there or not, or it can't be told that they don't.
+    /// Whether both names lead to one file, which needn't be there yet; also where it isn't known that they don't.
     fn may_lead_to_one(&self, alloc: Global, first: &str, second: &str) -> Result<bool, AllocError>;
 }

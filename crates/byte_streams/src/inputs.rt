@@ -13,7 +13,7 @@ use std::alloc::Global;
 
 /// Where texts come from.
 ///
-/// Contracts see it as what it tells before a call and after it.
+/// Contracts see it as what it says before a call and after it.
 pub trait Inputs {
     type Texts: Drop;
 
@@ -22,7 +22,7 @@ pub trait Inputs {
     // what it tells before a call and after it
     ghost reads: { Self → Self → Origin Self.Texts };
 
-    /// Reads each to its end, in order. After a fault those that follow are not touched.
+    /// Reads each source to its end, in order. After a fault the sources that follow are not read.
     fn read_all(&mut self, alloc: Global) -> Result<Self::Texts, InputFault>
         ensures same { same self.old self.new }
         ensures gave { IfOk result (λ texts. (reads self.old self.new).Gave texts) }
@@ -115,7 +115,7 @@ impl<P: Source, L: Source, C: Source> Inputs for ThreeSources<'_, '_, '_, P, L, 
     }
 }
 
-/// One source that has the three joined.
+/// One source that has the three documents joined.
 #[derive(Drop)]
 pub struct JoinedSource<'a, S: Source> {
     pub input: &'a mut S,

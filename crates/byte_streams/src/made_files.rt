@@ -24,16 +24,16 @@ pub struct MadeFiles<W> {
     pub certificate: W,
 }
 
-/// The name under which no file was made, and why.
+/// The name beside which no file could be made, and why.
 #[derive(Drop)]
 pub struct NotMade<'a> {
     pub name: &'a str,
     pub fault: FileFault,
 }
 
-/// Makes both, the list's first, or none of them.
+/// Makes both files, first that of the list, or none of them.
 ///
-/// `NotMade` where one can't be made, with its name, and what was made before is removed.
+/// An `Err` is `NotMade` with the name of the first that can't be made. What was made before is removed.
 pub fn make_both<'a, S: FileSystem>(
     alloc: Global,
     names: &ProductNames<'a>,
@@ -72,22 +72,26 @@ pub struct NotPut<'a> {
     pub refusal: Refusal,
 }
 
-/// Why the files don't stand under their names.
+/// Why the files are not under their names.
 #[derive(Drop)]
 pub enum Unsettled<'a, E> {
     /// Not all was written, and both were removed.
     Stopped(E),
     /// One could not be put there.
     NotPut(NotPut<'a>),
-    /// Both were put there, and this name leads to another file by now.
+    /// Both were put there, but now this name leads to another file.
     Replaced(&'a str),
 }
 
-/// Puts both under their names where all was written into them, the list first, once both lie on the disk, and then looks
-/// whether the names lead to them. Else removes both, and hands the fault back: `Stopped`.
+/// Puts both files under their names, if all was written into them: first it makes sure that both are on the disk, then
+/// it puts the list, then the certificate, and then it looks whether the names lead to these files.
 ///
-/// `NotPut` where one can't be synced, or the list can't be put under its name, and both are removed; or where the
-/// certificate can't, and that is. `Replaced` where all was done, and a name leads to another file.
+/// An `Err` is
+///
+/// - `Stopped`, where not all was written: both are removed;
+/// - `NotPut`, where a file can't be synced or the list can't be put under its name: both are removed; or where the
+///   certificate can't be put under its name: it is removed;
+/// - `Replaced`, where all was done, but a name leads to another file.
 pub fn settle<'a, S: FileSystem, E>(
     made: MadeFiles<S::Writer>,
     names: &ProductNames<'a>,

@@ -1,4 +1,4 @@
-//! Where what is made goes: one sink or several, which are written to in order.
+//! Where results go: one sink or several, which are written to in order.
 
 ghost use Rattle.std.specs.Prelude.{◌≡◌, OnErr, OnOk, refl};
 ghost use Rattle.byte_streams.specs.Moves.{writing_of};
@@ -8,7 +8,7 @@ use crate::sinks::Sink;
 use crate::sources::Failed;
 use crate::texts::{MadeText, write_made};
 
-/// Where what is made goes.
+/// Where results go.
 pub trait Outputs {
     type Made: Drop;
 
@@ -17,7 +17,7 @@ pub trait Outputs {
     // what it tells before a call and after it
     ghost writes: { Self → Self → Target Self.Made };
 
-    /// Writes all that was made, in order. Where that fails, a front of it went out.
+    /// Writes all results, in order. Where that fails, the beginning of them was written.
     fn write_all(&mut self, made: &Self::Made) -> Result<(), Failed>
         ensures same { same self.old self.new }
         ensures took { OnOk result ((writes self.old self.new).Took made.now) }

@@ -1,4 +1,4 @@
-//! Documents that are read whole.
+//! Reads whole documents.
 
 ghost use Rattle.std.specs.Prelude.{◌<◌, IfErr, IfOk, length};
 ghost use Rattle.match_limits.specs.declared.TheConstants.{MOST_BYTES};
@@ -27,10 +27,10 @@ pub fn read_text<R: Source>(
     Ok(Text::new(read_whole(alloc, reader, MOST_BYTES, document)?))
 }
 
-/// All bytes of a document, up to the end that a read found, at most `bound`. Takes a buffer of 64 KiB beside them.
+/// All bytes of a document, up to the end that a read found, and at most `bound`. It also takes a buffer of 64 KiB.
 ///
-/// `Read` of the document where the source answered an error, `TooLong` of it exactly where more bytes than `bound`
-/// came without one.
+/// An `Err` is `Read` with the document where the source answered an error, and `TooLong` with the document exactly
+/// where more than `bound` bytes came without an error.
 pub fn read_whole<R: Source>(
     alloc: Global,
     reader: &mut R,

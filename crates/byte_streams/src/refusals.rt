@@ -2,12 +2,12 @@
 
 use std::io::{self, ErrorKind};
 
-/// Why the system refuses a file, as far as it says. Nothing depends on it but what is told.
+/// Why the system refuses a file, as far as it says. It is used for messages alone.
 #[derive(Clone, Copy, PartialEq, Eq, Debug)]
 pub enum Refusal {
     NoFile,
     NoFolder,
-    /// A folder stands there.
+    /// There is a folder in its place.
     Folder,
     NotAllowed,
     /// No space is left.
@@ -39,7 +39,7 @@ impl Refusal {
         }
     }
 
-    /// The same in words.
+    /// The reason in words.
     pub fn words(self) -> &'static str {
         match self {
             Refusal::NoFile => "there is no such file",

@@ -17,7 +17,7 @@ pub trait Sink {
     // how many errors were answered, up to the greatest number of 64 bits
     ghost errors: { Self → ℕ };
 
-    /// Takes bytes from the front, and says how many. Where it fails, it took none.
+    /// Takes bytes from the beginning of the slice, and returns how many. Where it fails, it took none.
     fn write(&mut self, bytes: &[u8]) -> Result<usize, Failed>
         ensures count { IfOk result (λ n. n ≤ length bytes.now) }
         ensures bytes { IfOk result (λ n. Appends (written self.old) (written self.new) (take n bytes.now)) }
@@ -28,7 +28,7 @@ pub trait Sink {
         ensures not_idle { OnErr result (idle self.new ≡ false) }
         ensures err { OnErr result (errors self.new ≡ one_more (errors self.old)) };
 
-    /// Why the last write failed, where that is known. Nothing depends on it but what is told.
+    /// Why the last write failed, where that is known. It is used for messages alone.
     fn refusal(&self) -> Option<Refusal> {
         None
     }

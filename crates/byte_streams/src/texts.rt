@@ -78,7 +78,7 @@ impl MadeText {
         }
     }
 
-    /// The text of these parts, one behind the other. They are not copied.
+    /// The text of these parts, one after the other. They are not copied.
     pub fn of_parts(parts: Vec<Vec<u8>>) -> MadeText
         ensures { result ≡ flat_map (λ part. part.items) parts.items }
     {
@@ -88,8 +88,8 @@ impl MadeText {
     }
 }
 
-/// Writes the whole text, part by part. Where that fails, a front of it went out, and the sink answered an error, or took
-/// no byte of what was left.
+/// Writes the whole text, part by part. Where that fails, the beginning of it was written, and the sink answered an
+/// error, or took no byte of the rest.
 pub fn write_made<W: Sink>(writer: &mut W, text: &MadeText) -> Result<(), Failed>
     ensures { Writes (writing_of W.Sink writer.old writer.new) text.now result }
 {

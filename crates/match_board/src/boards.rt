@@ -13,7 +13,7 @@ use std::error::Error;
 use std::fmt;
 use std::marker::Model;
 
-/// Why there is no such board: it has no cells, or too many.
+/// Why a board can't be made: it would have no cells, or too many.
 #[derive(Clone, Copy, PartialEq, Eq, Debug)]
 pub enum BoardFault {
     Empty,
@@ -155,7 +155,7 @@ impl Board {
         })
     }
 
-    /// A rectangle as the shape with every cell of it, and the other boards as they are.
+    /// A rectangle becomes the shape that has all its cells. Other boards stay as they are.
     pub fn second_form(&self) -> Board
         ensures { result ≡ second_figure self.now }
     {
@@ -199,7 +199,7 @@ impl Board {
 
     /// How many border pairs there are: sides of cells that meet nothing.
     ///
-    /// It asks `meets` for each side of each cell.
+    /// It calls `meets` for each side of each cell.
     pub fn border_len(&self) -> u16
         ensures { (pairs : List (ℕ × ℕ)) × IsBorderOrder self.now pairs × (length pairs ≡ result) }
     {
@@ -242,9 +242,9 @@ impl Board {
         }
     }
 
-    /// What the side of the cell meets: another cell and its side, or nothing at the border.
+    /// The cell and the side that this side of the cell meets; `None` at the border.
     ///
-    /// It goes through the rows down to the cells.
+    /// It goes through the rows down to the cell.
     pub fn meets(&self, cell: u16, side: u8) -> Option<(u16, u8)>
         requires cell { cell < cell_count self.now }
         requires side { side < side_count self.now }

@@ -8,8 +8,7 @@ use match_limits::MOST_COLOURS;
 use std::alloc::{AllocError, Global};
 use std::marker::Model;
 
-/// A colour, or nothing, for each border pair, in border order: by cell, then by side.
-/// Nothing is promised of them.
+/// For each outer side a colour, or nothing: by cell, then by side. The list needn't fit any board.
 #[derive(Debug, Drop)]
 pub struct BorderRules {
     rules: Vec<Option<u8>>,
@@ -120,21 +119,21 @@ fn count_with(count: u8, rule: Option<u8>) -> u8
     }
 }
 
-/// What is asked of the sides that meet nothing.
+/// What the border asks for: which colours outer sides have to show. An outer side is one that meets no other.
 #[derive(Debug, Drop)]
 pub enum Border {
-    /// Nothing.
+    /// Nothing is asked for.
     Free,
-    /// This colour on each.
+    /// Each outer side has to show this colour.
     One(u8),
-    /// A colour, or nothing, for each.
+    /// For each outer side a colour, or nothing.
     Each(BorderRules),
 }
 
 impl Border {
     ghost use Rattle.match_board.specs.Borders.{rule_of, AsksAt, StandsInRule, IsAsLongAsBorder, IsShortRule};
 
-    /// An equal border.
+    /// A copy.
     pub fn copy(&self, alloc: Global) -> Result<Border, AllocError>
         ensures { IfOk result (λ border. border ≡ self.now) }
     {
@@ -145,7 +144,7 @@ impl Border {
         }
     }
 
-    /// What is asked of the border pair with this number, in border order.
+    /// What is asked of the outer side with this number, counted by cell, then by side.
     pub fn rule_at(&self, number: u16) -> Option<u8>
         ensures { (colour : ℕ) → (result ≡ Some colour) ↔ AsksAt (rule_of self.now) number colour }
     {
@@ -156,7 +155,7 @@ impl Border {
         }
     }
 
-    /// The first place that asks for no colour that there is.
+    /// The first place that asks for 36 or more, which is no colour.
     pub fn bad_colour(&self) -> Option<u32>
         requires { IsShortRule (rule_of self.now) }
         ensures { MatchOption result
@@ -190,7 +189,7 @@ impl Border {
         }
     }
 
-    /// Whether a list of rules has one for each border pair.
+    /// Whether a list of rules has one for each outer side.
     pub fn is_as_long_as(&self, board: &Board) -> bool
         ensures { MatchBool result (IsAsLongAsBorder board.now (rule_of self.now))
             (IsAsLongAsBorder board.now (rule_of self.now) → ⊥) }

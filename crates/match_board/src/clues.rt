@@ -9,8 +9,8 @@ use match_limits::SIDES;
 
 /// What a cell has to show: a colour from 0 to 35, or nothing in particular, on each of its three or four sides.
 ///
-/// Cells are numbered from 0, and sides from 0, clockwise. Clues are equal where they are of the same cell, have as many
-/// sides and ask the same.
+/// Cells are numbered from 0, and sides from 0, clockwise. Clues are equal where they are of the same cell, have as
+/// many sides and ask the same.
 #[derive(Clone, Copy, PartialEq, Eq, Debug)]
 pub struct Clue {
     cell: u16,
@@ -37,7 +37,7 @@ fn asked_alone(asks: [Option<u8>; SIDES], sides: u8) -> [Option<u8>; SIDES]
 impl Clue {
     ghost use Rattle.match_board.specs.Clues.{Clue, clue_of};
 
-    /// The clue that asks this of a cell, of which it takes as much as the cell has sides.
+    /// The clue that asks a cell for these colours. It takes as many of them as the cell has sides.
     ///
     /// `BadColour` where it asks for a colour of 36 or more.
     pub fn new(cell: u16, asks: [Option<u8>; SIDES], sides: u8) -> Result<Clue, TileFault>
@@ -71,7 +71,7 @@ impl Clue {
         self.sides
     }
 
-    /// What is asked of the side: a colour from 0 to 35, or nothing.
+    /// The colour, from 0 to 35, that the side has to show, if there is one.
     pub fn asks(&self, side: u8) -> Option<u8>
         requires { side < length (clue_of self.now).asks }
         ensures asked { slice_get (clue_of self.now).asks side ≡ Some result }

@@ -7,7 +7,7 @@ ghost use Rattle.match_board.specs.Board.{LiesAgainst, IsBoard, IsPlain, IsFille
 use crate::{hexagons, rectangles, shapes, triangles};
 use match_limits::{MOST_PLACES, MOST_SIDES};
 
-/// The figure that a board covers, by its numbers of cells.
+/// The figure that a board covers, and how large it is.
 #[derive(Clone, Copy, PartialEq, Eq, Debug)]
 pub enum Figure {
     /// Columns and rows of squares; their sides are 0 north, 1 east, 2 south and 3 west.
@@ -15,11 +15,11 @@ pub enum Figure {
         width: u16,
         height: u16,
     },
-    /// A triangle of triangles that points up, with so many at each side.
+    /// A triangle of triangles that points up, with `size` of them at each side.
     Triangle {
         size: u16,
     },
-    /// A hexagon of triangles with level top and bottom, with so many at each side.
+    /// A hexagon of triangles with level top and bottom, with `size` of them at each side.
     Hexagon {
         size: u16,
     },
@@ -101,7 +101,7 @@ impl Figure {
         }
     }
 
-    /// What the side of the cell meets: another cell and its side, or nothing at the border.
+    /// The cell and the side that this side of the cell meets; `None` at the border.
     pub(crate) fn meets(&self, cell: u16, side: u8) -> Option<(u16, u8)>
         requires board { IsBoard self.now }
         requires cell { cell < cell_count self.now }

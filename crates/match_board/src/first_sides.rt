@@ -6,9 +6,10 @@ ghost use Rattle.match_board.specs.FirstSides.{ArePassed, AreAskable, IsFirstSid
 
 use crate::boards::Board;
 
-/// The first side, of the first cell, of which the test says yes, behind its cell; or none.
+/// The first side that passes the test, with its cell: sides are tested by cell, then by number. `None` where none
+/// passes.
 ///
-/// The sides are asked cell by cell, each once, up to the one that is found.
+/// Each side is tested once, up to the one that is found.
 pub fn first_side<F: Fn(u16, u8) -> bool>(board: &Board, test: F) -> Option<(u16, u8)>
     requires { AreAskable board.now (F.post test) (F.pre test) }
     ensures { MatchOption result (ArePassed board.now (F.post test)) (IsFirstSide board.now (F.post test)) }

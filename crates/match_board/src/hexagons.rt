@@ -15,7 +15,7 @@ pub fn row_length(size: u16, row: u16) -> u16
     2 * size + 1 + 2 * row.min(2 * size - 1 - row)
 }
 
-/// The place that a side of this place lies against, and its side there.
+/// The place next to this place on the side, and which side of that place lies there.
 pub fn beside(size: u16, row: u16, place: u16, side: u8) -> Option<(u16, u16, u8)>
     requires size { size ≤ MOST_LENGTH }
     requires here { IsPlace (Hexagon size) row place }

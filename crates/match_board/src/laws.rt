@@ -5,8 +5,8 @@ ghost use Rattle.match_board.specs.Board.{IsBoard, IsMarked, AreAlike, IsBorderO
 ghost use Rattle.match_board.specs.declared.figures.Figure.{Figure};
 ghost use Rattle.match_board.specs.declared.figures.Figure.TheVariants.{Shape};
 
-/// Does nothing. Its promise is a law: a rectangle and the shape with every cell of it are boards with as many cells
-/// and sides, on which the same sides meet, and which have the same border.
+/// Does nothing. Its promise is a law: a rectangle and the shape that has all its cells have as many cells and sides,
+/// the same sides meet, and the border is the same.
 pub fn second_form_is_alike()
     ensures board { (s : Figure) → IsBoard s → IsBoard (second_figure s) }
     ensures alike { (s : Figure) → AreAlike s (second_figure s) }

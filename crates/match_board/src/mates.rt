@@ -7,7 +7,7 @@ ghost use Rattle.match_board.specs.Mates as listed;
 
 use match_limits::MOST_COLOURS;
 
-/// The mate of a colour by the list of mates: the colour itself, where the list has no entry for it.
+/// The mate of a colour by the list of mates. It is the colour itself where the list has no entry for it.
 pub fn mate_in(mates: &[u8], colour: u8) -> u8
     ensures { result ≡ listed.mate_in mates.now colour }
 {
@@ -19,8 +19,8 @@ pub fn mate_in(mates: &[u8], colour: u8) -> u8
     }
 }
 
-/// The first colour that has no mate in the list, or one with another mate; the place after the last colour, where the
-/// list is longer.
+/// The first colour of the list that has no mate, or a mate that has another mate. It is 36, one more than the last
+/// colour, where the list is longer than there are colours.
 pub fn broken_mate(mates: &[u8]) -> Option<u32>
     requires { length mates.now < 2 ^ 32 }
     ensures { MatchOption result (AreMates mates.now) (IsLeast (BreaksMatesAt mates.now)) }

@@ -4,7 +4,7 @@ ghost use Rattle.std.specs.Prelude.{◌≡◌, ◌<◌, ◌≤◌, ℕ, IfSome};
 ghost use Rattle.match_board.specs.Board.{IsPlace, LiesAgainst};
 ghost use Rattle.match_board.specs.declared.figures.Figure.TheVariants.{Rectangle};
 
-/// The place that a side of this place lies against, and its side there.
+/// The place next to this place on the side, and which side of that place lies there.
 pub fn beside(width: u16, height: u16, row: u16, place: u16, side: u8) -> Option<(u16, u16, u8)>
     requires row { row < height }
     requires place { place < width }

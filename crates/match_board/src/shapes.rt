@@ -7,7 +7,7 @@ ghost use Rattle.match_board.specs.declared.figures.Figure.TheVariants.{Shape};
 use crate::rectangles;
 use match_limits::{MOST_PLACES, MOST_PLAIN_CELLS};
 
-/// How many cells the mask has among so many places from the first on.
+/// How many cells the mask has among the first places, as many as are asked for.
 pub fn marks(mask: &[bool], first: usize, more: usize) -> usize
     requires { first + more ≤ length mask.now }
     ensures count { result ≡ marks_from mask.now first more }
@@ -22,7 +22,7 @@ pub fn marks(mask: &[bool], first: usize, more: usize) -> usize
     count
 }
 
-/// The place of the row at which there is a cell, with so many left of it.
+/// The place in the row of the cell that has this many cells to its left.
 pub fn place_with(width: u16, mask: &[bool; MOST_PLACES], first: u16, left: u16) -> u16
     requires room { first + width ≤ MOST_PLACES }
     requires left { left < marks_from mask.now first width }
@@ -42,7 +42,7 @@ pub fn place_with(width: u16, mask: &[bool; MOST_PLACES], first: u16, left: u16)
     unreachable!()
 }
 
-/// The mask with as many places as a board keeps: there is no cell at those that are added.
+/// The mask with as many places as a board keeps. The added places have no cells.
 pub fn kept(mask: &[bool]) -> [bool; MOST_PLACES]
     requires { length mask.now ≤ MOST_PLACES }
     ensures { result ≡ mask_of mask.now }
@@ -54,7 +54,7 @@ pub fn kept(mask: &[bool]) -> [bool; MOST_PLACES]
     kept
 }
 
-/// The mask with a cell at each of so many places.
+/// The mask with a cell at each of the first places, as many as are asked for.
 pub fn full(places: u16) -> [bool; MOST_PLACES]
     requires { places ≤ MOST_PLAIN_CELLS }
     ensures { result ≡ mask_of (replicate places true) }
@@ -63,7 +63,7 @@ pub fn full(places: u16) -> [bool; MOST_PLACES]
     kept(&every[..usize::from(places)])
 }
 
-/// The place that a side of this place lies against, and its side there, where there is a cell.
+/// The place next to this place on the side, and which side of that place lies there, if it has a cell.
 pub fn beside(
     width: u16,
     height: u16,

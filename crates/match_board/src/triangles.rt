@@ -6,7 +6,7 @@ ghost use Rattle.match_board.specs.declared.figures.Figure.TheVariants.{Triangle
 
 use match_limits::MOST_LENGTH;
 
-/// The place that a side of this place lies against, and its side there.
+/// The place next to this place on the side, and which side of that place lies there.
 pub fn beside(size: u16, row: u16, place: u16, side: u8) -> Option<(u16, u16, u8)>
     requires size { size ≤ MOST_LENGTH }
     requires here { IsPlace (Triangle size) row place }

@@ -1,5 +1,5 @@
-//! Limits, each in this one place; numbers within them, and sets of numbers. Code, contracts and specifications name the
-//! limits. Numbers begin at 0, so that of `MOST_CELLS` cells the greatest number is `LAST_CELL`.
+//! Limits, numbers within them, and sets of numbers. Code, contracts and definitions name the limits that are set here.
+//! Numbers begin at 0: where there are `MOST_CELLS` cells, the last one is `LAST_CELL`.
 #![tactic(auto)]
 
 mod number_sets;
@@ -24,7 +24,7 @@ pub const MOST_PLACES: usize = 1_024;
 /// The greatest number of a cell.
 pub const LAST_CELL: u16 = MOST_CELLS - 1;
 
-/// The most tiles of a puzzle: one for each cell.
+/// The most tiles of a puzzle. It may have more tiles than cells.
 pub const MOST_TILES: u16 = MOST_CELLS;
 
 /// The greatest number of a tile.
@@ -51,13 +51,13 @@ pub const LAST_SIDE: u8 = MOST_SIDES - 1;
 /// The greatest number of turns: as many turns as a tile has sides leave it as it was.
 pub const LAST_TURN: u8 = MOST_TURNS - 1;
 
-/// The most rules of a border, which has one for each border pair: one for each side of each cell at most.
+/// The most rules of a border: one for each side of each cell.
 pub const MOST_RULES: u16 = MOST_SIDES as u16 * MOST_CELLS;
 
 /// How many colours there are: texts write them `0` to `9`, and then `a` to `z`.
 pub const MOST_COLOURS: u8 = 36;
 
-/// The most classes of tiles that turn into each other of which a list of tiles has one for each.
+/// The most tiles of a list that has one of each class of tiles that turn into each other.
 pub const MOST_CLASSES: usize = 100;
 
 /// The most items that the options of a compiled puzzle have together.
@@ -81,26 +81,26 @@ pub const MOST_LEMMAS: u32 = 1_000_000;
 /// The greatest number of a lemma.
 pub const LAST_LEMMA: u32 = MOST_LEMMAS - 1;
 
-/// The most children of a branch: at a cell at most four turns of each tile fit, and of a tile four at each cell.
+/// The most children of a branch: four turns of each tile at a cell, or of a tile four turns at each cell.
 pub const MOST_CHILDREN: u32 = TURNS as u32 * MOST_TILES as u32;
 
-/// The most levels of a tree: a branch for each cell, and below the last of them one node more.
+/// The most levels of a tree: a branch for each cell, and one node below the last branch.
 pub const MOST_LEVELS: u16 = MOST_CELLS + 1;
 
 /// The most branch nodes that a search may be asked to make.
 pub const MOST_FUEL: u32 = 1_000_000;
 
-/// The most levels of branches that a solve makes lemmas of before it searches.
+/// The greatest depth of a solve: of how many levels of branches it makes lemmas before it searches.
 pub const MOST_DEPTH: u8 = 3;
 
 /// The most workers that share a check or a search.
 pub const MOST_WORKERS: u8 = 64;
 
-/// The most levels of a tree in which the halves of a branch's children are walked at once.
+/// The most levels of a tree at which two halves of a branch's children are walked side by side.
 pub const MOST_FORKS: u8 = 6;
 
 /// The most bytes of a document that are read.
 pub const MOST_BYTES: u32 = 1_073_741_824;
 
-/// The most arrangements that a sheet is asked to have.
+/// The most arrangements that can be asked for on a sheet.
 pub const MOST_DRAWN: u32 = 100;

@@ -19,7 +19,7 @@ const WORD_BITS: u16 = 64;
 /// How many groups of four numbers a word has.
 const WORD_GROUPS: u16 = WORD_BITS / TURNS;
 
-/// The numbers of a set are below this one.
+/// All numbers of a set are below this one.
 const NUMBERS: u16 = WORD_BITS * WORDS as u16;
 
 /// How many groups of four numbers there are.
@@ -48,7 +48,8 @@ impl Model for NumberSet {
     ghost invariant = { λ s. AreWordsOfSet s.words s.end };
 }
 
-/// A set that is kept as it is. It goes without its end: sets of 128 bytes are found in a table by a shift.
+/// A set that no longer changes. It doesn't keep where its last number is, so it takes just 128 bytes, and a table of
+/// such sets finds each by a shift.
 #[derive(Drop)]
 pub struct FixedSet {
     words: [u64; WORDS],
@@ -67,7 +68,7 @@ impl Model for FixedSet {
     ghost invariant = { λ s. AreWordsOfSet s.words WORDS };
 }
 
-/// The numbers of a set that were not yet taken, from the least on.
+/// The numbers of a set that were not taken yet. They are taken from the least on.
 #[derive(Drop)]
 pub struct Members<'a> {
     words: &'a [u64; WORDS],
@@ -110,7 +111,7 @@ impl<'a> Members<'a> {
 }
 
 impl NumberSet {
-    /// No number.
+    /// The empty set.
     pub fn new() -> NumberSet
         ensures { result ≡ [] }
     {
@@ -120,7 +121,7 @@ impl NumberSet {
         }
     }
 
-    /// The same numbers.
+    /// A copy.
     pub fn copy(&self) -> NumberSet
         ensures { result ≡ self.now }
     {
@@ -130,7 +131,7 @@ impl NumberSet {
         }
     }
 
-    /// The same numbers, to be kept as they are.
+    /// A copy that no longer changes.
     pub fn fixed(&self) -> FixedSet
         ensures { result ≡ self.now }
     {
@@ -149,7 +150,7 @@ impl NumberSet {
         count
     }
 
-    /// Its numbers, to be taken one after the other.
+    /// The numbers of the set, to be taken one after the other.
     #[inline]
     pub fn members(&self) -> Members<'_>
         ensures { result ≡ self.now }
@@ -162,7 +163,7 @@ impl NumberSet {
         }
     }
 
-    /// Takes the least number off.
+    /// Removes the least number, and returns it.
     pub fn take_first(&mut self) -> Option<u16>
         ensures { MatchOption result ((self.old ≡ []) × (self.new ≡ [])) (λ n. self.old ≡ n ∷ self.new) }
     {
@@ -177,7 +178,7 @@ impl NumberSet {
         None
     }
 
-    /// Puts the number in.
+    /// Adds the number.
     pub fn put(&mut self, number: u16)
         requires { number < NUMBERS }
         ensures { IsListing ◌<◌ (λ n. Contains self.old n ⊎ (n ≡ number)) self.new }
@@ -187,7 +188,7 @@ impl NumberSet {
         self.end = self.end.max(place + 1);
     }
 
-    /// Takes the number off.
+    /// Removes the number.
     pub fn remove(&mut self, number: u16)
         requires { number < NUMBERS }
         ensures { IsListing ◌<◌ (λ n. Contains self.old n × (n ≢ number)) self.new }
@@ -195,7 +196,7 @@ impl NumberSet {
         self.words[usize::from(number / WORD_BITS)] &= !(1 << (number % WORD_BITS));
     }
 
-    /// Takes all numbers off.
+    /// Removes all numbers.
     pub fn clear(&mut self)
         ensures { self.new ≡ [] }
     {
@@ -206,10 +207,10 @@ impl NumberSet {
         }
     }
 
-    /// Makes this the numbers that are in each of five sets.
+    /// Replaces this set by the numbers that are in each of five sets.
     ///
-    /// Each word is made at once, in its place, so that a set is written and not read again on the way; four go
-    /// together, up to the last one that is or was looked at, since loops to an end known beforehand are faster.
+    /// Each word is made at once, in its place, so the set is written and not read again on the way. Four words go
+    /// together, up to the last one that is or was in use: a loop whose end is known beforehand is faster.
     pub fn put_common(
         &mut self,
         all: &NumberSet,
@@ -234,7 +235,7 @@ impl NumberSet {
         }
     }
 
-    /// Makes this the numbers that are in both sets.
+    /// Replaces this set by the numbers that are in both sets.
     pub fn put_both(&mut self, first: &NumberSet, second: &NumberSet)
         ensures { IsListing ◌<◌ (λ n. Contains first.now n × Contains second.now n) self.new }
     {
@@ -245,7 +246,7 @@ impl NumberSet {
         }
     }
 
-    /// Makes this the numbers that are in the first and the last set, and not in the second.
+    /// Replaces this set by the numbers that are in the first and in the last set, and not in the second.
     pub fn put_without(&mut self, first: &NumberSet, without: &FixedSet, last: &NumberSet)
         ensures { IsListing ◌<◌ (λ n. Contains first.now n × (Contains without.now n → ⊥)
             × Contains last.now n) self.new }
@@ -257,7 +258,7 @@ impl NumberSet {
         }
     }
 
-    /// Takes all numbers off that are not in the other set.
+    /// Removes all numbers that are not in the other set.
     pub fn keep(&mut self, kept: &FixedSet)
         ensures { IsListing ◌<◌ (λ n. Contains self.old n × Contains kept.now n) self.new }
     {
@@ -286,7 +287,7 @@ impl NumberSet {
         None
     }
 
-    /// How many numbers of the group there are.
+    /// How many numbers of the group are in the set.
     pub fn group_len(&self, group: u16) -> u8
         requires { group < GROUPS }
         ensures count { result ≡ count_of_group self.now group }
@@ -297,7 +298,8 @@ impl NumberSet {
         digits.count_ones() as u8
     }
 
-    /// Which numbers of the group are in this set and in each of four others: the first by the lowest bit.
+    /// Which numbers of the group are in this set and in each of four others, as bits: the first number is the lowest
+    /// bit.
     pub fn common_group(
         &self,
         first: &FixedSet,
@@ -321,7 +323,7 @@ impl NumberSet {
         (word >> (TURNS * (group % WORD_GROUPS)) & 15) as u8
     }
 
-    /// Which numbers of the group there are: the first by the lowest bit.
+    /// Which numbers of the group are in the set, as bits: the first number is the lowest bit.
     pub fn group(&self, group: u16) -> u8
         requires { group < GROUPS }
         ensures few { result < 16 }
@@ -331,7 +333,7 @@ impl NumberSet {
         (word >> (TURNS * (group % WORD_GROUPS)) & 15) as u8
     }
 
-    /// Puts these numbers of the group in.
+    /// Adds these numbers of the group.
     pub fn put_group(&mut self, group: u16, digits: u8)
         requires group { group < GROUPS }
         requires digits { digits < 16 }
@@ -342,7 +344,7 @@ impl NumberSet {
         self.end = self.end.max(place + 1);
     }
 
-    /// Takes all numbers of the group off.
+    /// Removes all numbers of the group.
     pub fn remove_group(&mut self, group: u16)
         requires { group < GROUPS }
         ensures { IsListing ◌<◌ (λ n. Contains self.old n × (n / 4 ≢ group)) self.new }

@@ -1,16 +1,16 @@
-//! The ranges of the numbers in a text, by its version.
+//! The ranges of the numbers in a text, which depend on its version.
 
 ghost use Rattle.std.specs.Prelude.{◌≡◌};
 ghost use Rattle.match_limits.specs.Ranges.{ranges_of, AreRanges};
 
 use crate::{LAST_CELL, MOST_CELLS, MOST_CHILDREN, MOST_LEVELS, MOST_PLAIN_CELLS, MOST_RULES};
 
-/// The ranges of the numbers in a text. Tiles have those of cells.
+/// The ranges of the numbers in a text. The numbers of tiles have the range of those of cells.
 #[derive(Clone, Copy)]
 pub struct Ranges {
-    /// The most cells, and so the most tiles, placements of an arrangement and pairs of a prefix.
+    /// The most cells, the most tiles, the most placements of an arrangement and the most pairs of a prefix.
     pub most_cells: u16,
-    /// The greatest number of a cell, and so of a tile.
+    /// The greatest number of a cell, and of a tile.
     pub last_cell: u16,
     /// The most rules of a border.
     pub most_rules: u16,

@@ -31,7 +31,7 @@ impl<const LEAST: u32, const MOST: u32> Model for Within<LEAST, MOST> {
 }
 
 impl<const LEAST: u32, const MOST: u32> Within<LEAST, MOST> {
-    /// This number, which is in the range.
+    /// The number, which has to be in the range.
     pub fn new(number: u32) -> Self
         requires { (LEAST ≤ number) × (number ≤ MOST) }
         ensures { result ≡ number }
@@ -50,10 +50,10 @@ impl<const LEAST: u32, const MOST: u32> Within<LEAST, MOST> {
 /// How many workers share the work.
 pub type Workers = Within<1, 64>;
 
-/// In how many levels of a tree the halves of a branch are walked at once.
+/// At how many levels of a tree the two halves of a branch's children are walked side by side.
 pub type Forks = Within<0, 6>;
 
-/// Of how many levels of branches lemmas are made before a search begins.
+/// The depth of a solve: of how many levels of branches lemmas are made before the search begins.
 pub type Depth = Within<0, 3>;
 
 /// The most branch nodes of one lemma.
@@ -62,7 +62,7 @@ pub type Fuel = Within<1, 1_000_000>;
 /// The number of an arrangement in a list, from 0.
 pub type ArrangementNumber = Within<0, 999_999>;
 
-/// How many arrangements a sheet is asked to have; 0 asks for none.
+/// How many arrangements are asked for on a sheet; 0 where no sheet is asked for.
 pub type Drawn = Within<0, 100>;
 
 /// How many sides a tile has.
@@ -71,7 +71,7 @@ pub type Sides = Within<3, 4>;
 /// How many colours there are.
 pub type Colours = Within<1, 36>;
 
-/// How many parts of a search come before one, or behind it.
+/// How many parts of a search come before one part, or after it.
 pub type OtherParts = Within<0, 999_999>;
 
 // A type's bounds can't name the limits, so they have their digits.

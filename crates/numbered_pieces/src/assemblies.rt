@@ -1,4 +1,4 @@
-//! Pieces are assembled by their numbers.
+//! Assembles pieces by their numbers.
 
 ghost use Rattle.std.specs.Prelude.{◌↔◌, Ok, Err, IfOk, IfErr, IsErrOf, IsTrue};
 ghost use Rattle.numbered_pieces.specs.Assembly.{Assembles, HaveNoStranger};
@@ -40,12 +40,13 @@ fn are_assembled<N: Numbered>(pieces: &[N], count: u32) -> bool
     true
 }
 
-/// The pieces by number: the one at place i is the only piece with number i. Those that stand so already stay as they
-/// are; others are put into a table first.
+/// The pieces, sorted by number: the one at place i is the only piece with number i. The order in which they come
+/// doesn't matter. Where they are sorted already, they stay as they are; else they are put into a table first.
 ///
-/// An `Err` is the first fault in the order of [`AssembleFault`], with its least number; `Memory` only where memory is
-/// refused, and then no number is at or past the count. The order of the pieces doesn't matter. On an `Err` all are
-/// dropped. It takes a step for each piece and each number below the count.
+/// An `Err` is the first fault in the order of [`AssembleFault`], with its least number. It is `Memory` only where
+/// memory is refused, and then no number is at or past the count. On an `Err` all pieces are dropped.
+///
+/// It takes a step for each piece and each number below the count.
 pub fn assembled<N: Numbered + Drop>(
     alloc: Global,
     count: u32,

@@ -8,7 +8,8 @@ use std::alloc::{AllocError, AllocFailed};
 use std::error::Error;
 use std::fmt;
 
-/// Why pieces are not assembled, in the order in which it is looked for; each names its least number.
+/// Why pieces can't be assembled. Faults are looked for in the order in which they are listed here, and each names the
+/// least number that has it.
 #[derive(Clone, Copy, PartialEq, Eq, Debug)]
 pub enum AssembleFault {
     /// A piece has this number, which is at or past the count.

@@ -8,7 +8,7 @@ ghost use Rattle.numbered_pieces.specs.Slots.{lesser_of, stranger_of};
 pub trait Numbered {
     ghost numbered: { Self → ℕ };
 
-    /// Its number, from 0, by which it is put in order.
+    /// Its number, from 0, by which pieces are sorted.
     fn number(&self) -> u32
         ensures { result ≡ numbered self.now };
 }

@@ -1,4 +1,4 @@
-//! Where a line ends, and a word of it.
+//! Cuts a text into lines, and a line into words.
 
 ghost use Rattle.std.specs.Prelude.{◌≡◌, ◌==◌, ◌+◌, ◌<◌, ◌∷◌, IfSome, length};
 ghost use Rattle.std.specs.Option.{option_copied, option_map};
@@ -7,8 +7,8 @@ ghost use Rattle.plain_words.specs.Bytes.{cut_at, words_left, words_of};
 
 use memchr::memchr;
 
-/// What stands before the first LF, and what stands after it. A line may be long: the search goes
-/// by many bytes at a time.
+/// What comes before the first LF, and what comes after it. A line may be long, so the search for LF goes by many bytes
+/// at a time.
 pub fn cut_line(text: &[u8]) -> Option<(&[u8], &[u8])>
     ensures parts { option_map (λ x. (x.0.now, x.1.now)) result ≡ cut_at 10 text.now }
     ensures shorter { IfSome result (λ x. length x.0.now + length x.1.now < length text.now) }
@@ -25,7 +25,7 @@ fn place_of(bytes: &[u8], at: u8) -> Option<usize>
     bytes.iter().position(|byte| *byte == at)
 }
 
-/// What stands before the first `at`, and what stands after it.
+/// What comes before the first `at`, and what comes after it.
 #[inline]
 pub fn cut(bytes: &[u8], at: u8) -> Option<(&[u8], &[u8])>
     ensures { option_map (λ x. (x.0.now, x.1.now)) result ≡ cut_at at bytes.now }
@@ -34,7 +34,7 @@ pub fn cut(bytes: &[u8], at: u8) -> Option<(&[u8], &[u8])>
     Some((&bytes[..place], &bytes[place + 1..]))
 }
 
-/// The first word of a line, and what stands after the space that ends it.
+/// The first word of a line, and what comes after the space that ends it.
 #[inline]
 pub fn front(line: &[u8]) -> (&[u8], Option<&[u8]>)
     ensures { words_of line.now ≡ result.0.now ∷ words_left (option_copied result.1) }
@@ -51,8 +51,8 @@ pub fn front(line: &[u8]) -> (&[u8], Option<&[u8]>)
     }
 }
 
-/// What stands after this word and the space that ends it; none, where the line begins with something
-/// else, or the word ends it.
+/// What comes after this word and the space that ends it. `None` where the line begins with something else, or ends
+/// with the word.
 #[inline]
 pub fn after_word<'a>(line: &'a [u8], word: &[u8]) -> Option<&'a [u8]>
     ensures { IfSome result (λ others. words_of line.now ≡ word.now ∷ words_of others.now) }

@@ -13,15 +13,15 @@ use std::fmt;
 pub enum TextKind {
     /// The text is of another version.
     Version,
-    /// A word is missing, or is none that may stand there.
+    /// A word is missing, or isn't one that may be there.
     Word,
-    /// A word is no number: digits, of which a first 0 is the only one.
+    /// A word isn't a number: it has to have digits alone, and only the number 0 begins with a 0.
     Number,
     /// A number is out of its range, or there are too many entries.
     Limit,
     /// The text ends before the line does.
     Ends,
-    /// Something stands after the last line.
+    /// Something comes after the last line.
     After,
     /// A tree has more levels than are read.
     TooDeep,

@@ -27,7 +27,7 @@ fn number_up_to(word: &[u8], ceiling: u32) -> Result<u32, TextKind>
     Ok(value as u32)
 }
 
-/// A number from `least` to `most`; Limit outside them, however many digits it has.
+/// A number from `least` to `most`. An `Err` is `Limit` where it is outside, however many digits it has.
 #[tactic(auto, unfolding(crate::specs::Words::number_in))]
 pub fn number_word(word: &[u8], least: u32, most: u32) -> Result<u32, TextKind>
     requires { most + 1 < 2 ^ 32 }
@@ -41,8 +41,8 @@ pub fn number_word(word: &[u8], least: u32, most: u32) -> Result<u32, TextKind>
     Ok(value)
 }
 
-/// The number of one digit or two that bytes begin with, and what stands after it; none, where they begin with something
-/// else.
+/// The number of one or two digits that bytes begin with, and what comes after it. `None` where they begin with
+/// something else.
 #[inline]
 pub fn short_digits(bytes: &[u8]) -> Option<(u8, &[u8])>
     ensures digits { IfSome result (λ x. (word : List ℕ) × (bytes.now ≡ word ++ x.1.now)
@@ -58,8 +58,8 @@ pub fn short_digits(bytes: &[u8]) -> Option<(u8, &[u8])>
     None
 }
 
-/// The number of one digit or two that a line begins with, and what stands after the space that
-/// ends it; none, where the line begins with something else, or the number ends it.
+/// The number of one or two digits that a line begins with, and what comes after the space that ends it. `None` where
+/// the line begins with something else, or ends with the number.
 #[inline]
 pub fn short_number(line: &[u8]) -> Option<(u32, &[u8])>
     ensures { IfSome result (λ x. (word : List ℕ) × (words_of line.now ≡ word ∷ words_of x.1.now)

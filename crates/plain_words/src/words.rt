@@ -1,4 +1,4 @@
-//! Words that are fixed.
+//! Fixed words.
 
 ghost use Rattle.std.specs.Prelude.{IfOk};
 ghost use Rattle.match_limits.specs.Ranges.{IsVersion};
@@ -6,7 +6,7 @@ ghost use Rattle.plain_words.specs.Words.{Judges, fixed_in, version_in};
 
 use crate::faults::TextKind;
 
-/// The wanted word and no other.
+/// Reads the wanted word, and no other.
 pub fn fixed_word(word: &[u8], wanted: &[u8]) -> Result<(), TextKind>
     ensures { Judges (λ _. tt) result (fixed_in wanted.now word.now) }
 {

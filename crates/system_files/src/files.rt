@@ -24,17 +24,17 @@ const MODE_BITS: u32 = 0o7777;
 // How often a name is looked at again, where what it leads to changes between two looks.
 const MOST_LOOKS: u32 = 100;
 
-/// The files of the system. What they hold, and what is done to them, is not told.
+/// The files of the system. Contracts say nothing of what they hold, or of what is done to them.
 ///
-/// A file is made in the folder of its name, under another name with 64 random bits, and renamed when it is put there, so
-/// that what stands under the name is there whole at any time, the old or the new. Links are followed, and the new file
-/// has the mode, the group and the owner of the old one, the last two as far as each is allowed. No file is made in place
-/// of a folder. Where a signal or a loss of power comes between the renames of two files, the new one stands under the
-/// first name, and the old one under the second.
-///
-/// What is no plain file, as a device or a pipe, is written directly. So is a plain file that is open already: what
-/// standard output or standard error has open is written through that stream, and to what standard input has open, or a
-/// link of /proc leads to, is appended.
+/// - A new file is made in the folder of its name, under another name with 64 random bits, and renamed when it is put
+///   under its name. So at any time there is a whole file under the name, the old one or the new one.
+/// - Links are followed. The new file has the mode of the old one, and its group and owner as far as that is allowed.
+/// - No file is made in place of a folder.
+/// - Where a signal or a loss of power comes between the renames of two files, the new file is under the first name,
+///   and the old one under the second.
+/// - What is no plain file, such as a device or a pipe, is written directly. So is a plain file that is open already:
+///   what standard output or standard error has open is written through that stream; to what standard input has open,
+///   or a link of /proc leads to, is appended.
 #[derive(Drop)]
 pub struct System<'a, R: Files + RandomSource, O: Write + Copy, E: Write + Copy> {
     runtime: &'a R,
@@ -43,7 +43,7 @@ pub struct System<'a, R: Files + RandomSource, O: Write + Copy, E: Write + Copy>
 }
 
 impl<'a, R: Files + RandomSource, O: Write + Copy, E: Write + Copy> System<'a, R, O, E> {
-    /// The files that this runtime reaches, of a process with this standard output and standard error.
+    /// The files that this runtime reaches, in a process with this standard output and standard error.
     pub fn new(runtime: &'a R, output: O, errors: E) -> System<'a, R, O, E> {
         System {
             runtime,
@@ -53,7 +53,7 @@ impl<'a, R: Files + RandomSource, O: Write + Copy, E: Write + Copy> System<'a, R
     }
 }
 
-/// A file of the system that is written.
+/// A file of the system that is written to.
 #[derive(Drop)]
 pub struct SystemFile<F: Write + Drop, O: Write + Drop, E: Write + Drop> {
     output: Output<Target<F, O, E>>,
@@ -110,8 +110,8 @@ impl<R: Files + RandomSource, O: Write + Copy, E: Write + Copy> System<'_, R, O,
         }
     }
 
-    // Where what goes to a plain file that was found under this name is written: through the standard stream that has it
-    // open, behind what it holds where it is open otherwise, and else beside it.
+    // Where what goes to a plain file that was found under this name is written: through the standard stream that has
+    // it open, behind what it holds where it is open otherwise, and else beside it.
     fn make_over(
         &self,
         alloc: Global,
@@ -300,8 +300,8 @@ fn make_beside<R: Files + RandomSource, O: Write + Drop, E: Write + Drop>(
     Ok(Some(SystemFile::new(Target::File(file), Some(place))))
 }
 
-// A file with the mode of the one that was found, and with its group and its owner as far as each is allowed. Nobody else
-// can open it before.
+// A file with the mode of the one that was found, and with its group and its owner as far as each is allowed. Nobody
+// else can open it before.
 fn make_alike<R: Files>(runtime: &R, part: &str, found: &Metadata) -> Result<R::File, FileFault> {
     let file = OpenOptions::new()
         .write(true)

@@ -1,4 +1,4 @@
-//! Where a file of the system stands, and where it is made.
+//! Where a file of the system is, and where it is made.
 
 use byte_streams::{FileFault, Refusal};
 use std::alloc::{AllocError, Global};

@@ -9,7 +9,8 @@ use std::io::{ErrorKind, Read, Write};
 // How often an interrupted call is tried in all.
 const MOST_TRIES: u32 = 1000;
 
-/// A reader with a count of its errors, up to `u64::MAX` of them. It tells what is left where the reader does.
+/// A reader with a count of its errors, up to `u64::MAX` of them. Contracts know what is left to read where they know
+/// it of the reader.
 ///
 /// An interrupted read is tried again, up to 1000 times in all.
 #[derive(Drop)]
@@ -81,7 +82,8 @@ impl<R: Read> Source for Input<R> {
     }
 }
 
-/// A writer with a count of its errors, up to `u64::MAX` of them. It tells its bytes where the writer does.
+/// A writer with a count of its errors, up to `u64::MAX` of them. Contracts know the bytes written where they know them
+/// of the writer.
 ///
 /// An interrupted write is tried again, up to 1000 times in all.
 #[derive(Drop)]

@@ -1,44 +1,46 @@
-//! What a reader asks for, for those who are told of a fault.
+//! What a reader asks for, so that a message can say it.
 
 use plain_words::TextFault;
 
 /// What a reader asks of a word.
 #[derive(Clone, Copy)]
 pub enum Asked {
-    /// To be this word.
+    /// It has to be this word.
     Word(&'static [u8]),
-    /// To be one of some words, named in a sentence.
+    /// It has to be one of several words, which this sentence names.
     OneOf(&'static str),
-    /// To be the number of a version, from 1 to the last.
+    /// It has to be the number of a version, from 1 to `last`.
     Version { last: u8 },
-    /// To be a number from `least` to `most`.
+    /// It has to be a number from `least` to `most`.
     Number { least: u32, most: u32 },
-    /// To be a colour.
+    /// It has to be a colour.
     Colour,
-    /// To be a colour, or `-`.
+    /// It has to be a colour, or `-`.
     Rule,
-    /// To be a tile: a colour for each of its three or four sides.
+    /// It has to be a tile: a colour for each of its three or four sides.
     Tile,
-    /// To be what a clue asks: a colour, or `-`, for each of three or four sides.
+    /// It has to be what a clue asks of a cell: a colour, or `-`, for each of its three or four sides.
     Clue,
-    /// To be a row of a shape, with so many places.
+    /// It has to be a row of a shape, with this number of places.
     Row { width: u16 },
-    /// To be a placement, of a tile up to this number.
+    /// It has to be a placement of a tile with at most this number.
     Placement { last_tile: u16 },
-    /// To be a cell up to this number, and a placement of a tile up to it.
+    /// It has to be a cell with at most this number, and a placement of a tile with at most this number.
     Pair { last_cell: u16 },
 }
 
-/// Where a text has its first fault, and what stands there.
+/// Where a text has its first fault, and what is there.
 #[derive(Clone, Copy)]
 pub struct FaultPlace<'a> {
     pub fault: TextFault,
-    /// What is asked of the word there, which is another, or isn't there. None where no word is asked for: of `Ends` and
-    /// `After`; of `Word` where a word too many stands there, or no entry of those of which there has to be one; of
-    /// `Limit` where no further entry may stand there.
+    /// What is asked of the word there, which is another word or is missing. `None` where no word is asked for:
+    ///
+    /// - for `Ends` and `After`
+    /// - for `Word`, where the line has a word too many, or no entry where it has to have one at least
+    /// - for `Limit`, where no further entry is allowed
     pub missed: Option<Asked>,
-    /// What is left of the line, from the word that has the fault; none where no word is left, and of `Ends` and `After`.
+    /// The rest of the line, from the word with the fault. `None` where no word is left, and for `Ends` and `After`.
     pub rest: Option<&'a [u8]>,
-    /// What stands after the line; of `Ends` and `After`, after the line before.
+    /// What follows the line; for `Ends` and `After`, what follows the line before.
     pub ahead: &'a [u8],
 }

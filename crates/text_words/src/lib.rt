@@ -1,4 +1,4 @@
-//! Texts of lines and words: what stands at a place of one, and how one is written. No puzzle is made here.
+//! Texts of lines and words: reads what is at a place of a text, and writes words and lines. No puzzle is made here.
 #![tactic(auto)]
 
 mod asked;

@@ -1,4 +1,4 @@
-//! Lines and words, one after the other.
+//! Reads lines and words, one after the other.
 
 ghost use Rattle.std.specs.Prelude.{◌≡◌, ◌≢◌, MatchBool, MatchResult, ◌+◌, ◌<◌, ◌≤◌, ◌^◌, [], Some, length, OnErr};
 ghost use Rattle.std.specs.Prelude.{IfOk};
@@ -26,16 +26,16 @@ use plain_words::{
 };
 use std::marker::Model;
 
-/// Reads a text line by line, and a line word by word. What is asked of a word costs its length.
+/// Reads a text line by line, and a line word by word. Asking something of a word costs its length.
 ///
-/// A fault at a single word leaves it as it was; one on a line that is read whole leaves it at that
-/// fault.
+/// After a fault at a single word the scan is where it was. After a fault in a line that is read as a whole it is at
+/// that fault.
 #[derive(Drop)]
 pub struct Scan<'a> {
     line: u32,
-    // what is left of the line, where a word stands there
+    // the rest of the line, where it has a further word
     rest: Option<&'a [u8]>,
-    // what stands after the line
+    // what follows the line
     ahead: &'a [u8],
     // the word that was asked for and wasn't there; no value that is read depends on it
     missed: Option<Asked>,
@@ -54,7 +54,7 @@ impl<'a> Model for Scan<'a> {
 }
 
 impl<'a> Scan<'a> {
-    /// Before the first line of the text.
+    /// Starts before the first line of the text. The text has to be shorter than 2^32 - 1 bytes.
     pub fn new(text: &'a [u8]) -> Scan<'a>
         requires { length text.now + 1 < 2 ^ 32 }
         ensures { result ≡ start text.now }
@@ -67,7 +67,7 @@ impl<'a> Scan<'a> {
         }
     }
 
-    /// The same place, to be read from apart from this one. It takes no memory.
+    /// Returns a second scan at the same place, which reads on its own. It takes no memory.
     pub fn copy(&self) -> Scan<'a>
         ensures { result ≡ self.now }
     {
@@ -79,7 +79,7 @@ impl<'a> Scan<'a> {
         }
     }
 
-    /// Notes which word is asked for here and isn't there, for those who are told of a fault.
+    /// Notes that this word is asked for here and is missing, so that a message can say it.
     #[inline]
     pub fn miss(&mut self, asked: Asked)
         ensures { self.new ≡ self.old }
@@ -87,7 +87,7 @@ impl<'a> Scan<'a> {
         self.missed = Some(asked);
     }
 
-    /// The place of this fault, at which reading ended.
+    /// Returns the place of this fault, at which reading ended.
     pub fn fault_place(&self, fault: TextFault) -> FaultPlace<'a>
         ensures { result.fault ≡ fault }
     {
@@ -99,7 +99,7 @@ impl<'a> Scan<'a> {
         }
     }
 
-    /// A fault on the line that is read.
+    /// Returns a fault of this kind on the current line.
     #[inline]
     pub fn fault(&self, kind: TextKind) -> TextFault
         ensures { result ≡ record { line = self.now.line; kind = kind } }
@@ -110,14 +110,14 @@ impl<'a> Scan<'a> {
         }
     }
 
-    /// How many bytes stand after the line.
+    /// Returns how many bytes follow the current line.
     pub fn bytes_ahead(&self) -> usize
         ensures { result ≡ length self.now.ahead }
     {
         self.ahead.len()
     }
 
-    /// Goes on to the next line. Ends, where no LF is ahead.
+    /// Goes on to the next line. `Ends` comes where no LF follows.
     #[tactic(auto, unfolding(crate::specs::Place::next_line))]
     pub fn next_line(&mut self) -> Result<(), TextFault>
         ensures gives { Gives (λ _. tt) result self.new (next_line self.old) }
@@ -135,7 +135,7 @@ impl<'a> Scan<'a> {
         Ok(())
     }
 
-    /// Goes past the next line, whatever it says. Ends, where no LF is ahead.
+    /// Passes the next line, whatever it says. `Ends` comes where no LF follows.
     #[tactic(auto, unfolding(crate::specs::Place::skip_line))]
     pub fn skip_line(&mut self) -> Result<(), TextFault>
         ensures gives { Gives (λ _. tt) result self.new (skip_line self.old) }
@@ -146,7 +146,7 @@ impl<'a> Scan<'a> {
         Ok(())
     }
 
-    /// The next word of the line, if one stands there.
+    /// Returns the next word of the line, if there is one, and stays before it.
     #[inline]
     pub fn peek(&self) -> Option<&'a [u8]>
         ensures { option_copied result ≡ first_word self.now.words }
@@ -162,7 +162,7 @@ impl<'a> Scan<'a> {
         self.rest.is_some()
     }
 
-    /// Goes past a word.
+    /// Passes a word. There has to be one.
     #[inline]
     pub fn advance(&mut self)
         requires { self.old.words ≢ [] }
@@ -173,7 +173,7 @@ impl<'a> Scan<'a> {
         }
     }
 
-    /// The line has no further word. Word, where it has one.
+    /// Checks that the line has no further word. `Word` comes where it has one.
     #[inline]
     #[tactic(auto, unfolding(crate::specs::Place::end_of_line))]
     pub fn end_of_line(&self) -> Result<(), TextFault>
@@ -185,7 +185,7 @@ impl<'a> Scan<'a> {
         }
     }
 
-    /// The text has nothing after the line. After, where it has.
+    /// Checks that nothing follows the line. `After` comes where something does.
     #[tactic(auto, unfolding(crate::specs::Place::end_of_text))]
     pub fn end_of_text(&self) -> Result<(), TextFault>
         ensures { Gives (λ _. tt) result self.now (end_of_text self.now) }
@@ -200,7 +200,7 @@ impl<'a> Scan<'a> {
         }
     }
 
-    /// The next word, which is asked for. Word, where none stands there.
+    /// Returns the next word, which has to be what `asked` says, and stays before it. `Word` comes where there is none.
     #[inline]
     pub fn next_word(&mut self, asked: Asked) -> Result<&'a [u8], TextFault>
         ensures word { MatchResult result
@@ -215,7 +215,7 @@ impl<'a> Scan<'a> {
         Ok(word)
     }
 
-    /// A word stands there. Word, where none does.
+    /// Checks that the line has a further word. `Word` comes where it has none.
     #[inline]
     #[tactic(auto, unfolding(crate::specs::Place::some_word))]
     pub fn some_word(&self) -> Result<(), TextFault>
@@ -227,7 +227,7 @@ impl<'a> Scan<'a> {
         }
     }
 
-    /// A further entry may follow those that were read. Limit, where they are as many as may stand.
+    /// Checks that another entry may follow the `read` entries. `Limit` comes where they are `most` or more.
     #[inline]
     pub fn further_entry(&self, read: usize, most: u16) -> Result<(), TextFault>
         ensures { MatchResult result
@@ -241,7 +241,8 @@ impl<'a> Scan<'a> {
         }
     }
 
-    /// Goes past the next word, which is asked for, where it was judged good, and else says what is wrong with it.
+    /// Passes the next word and returns its value where the judgement is good. Otherwise it returns the judgement's
+    /// fault on this line, and notes what was asked. There has to be a word.
     #[inline]
     pub fn accept<X>(
         &mut self,
@@ -264,7 +265,7 @@ impl<'a> Scan<'a> {
         }
     }
 
-    // This word, whatever stands after it.
+    // Reads this word, whatever follows it.
     #[inline(never)]
     #[tactic(auto, unfolding(crate::specs::Place::word_by))]
     fn any_word(&mut self, wanted: &'static [u8]) -> Result<(), TextFault>
@@ -276,14 +277,14 @@ impl<'a> Scan<'a> {
         self.accept(asked, fixed_word(word, wanted))
     }
 
-    /// This word.
+    /// Reads this word. `Word` comes where there is another, or none.
     #[inline]
     #[tactic(auto, unfolding(crate::specs::Place::word_by))]
     pub fn word(&mut self, wanted: &'static [u8]) -> Result<(), TextFault>
         ensures gives { Gives (λ _. tt) result self.new (word_by (fixed_in wanted.now) self.old) }
         ensures err { OnErr result (self.new ≡ self.old) }
     {
-        // Nearly every wanted word stands there, with a further one after it.
+        // Nearly every wanted word is there, with a further word after it.
         if let Some(rest) = self.rest
             && let Some(others) = after_word(rest, wanted)
         {
@@ -293,7 +294,7 @@ impl<'a> Scan<'a> {
         self.any_word(wanted)
     }
 
-    /// The version, 1 or 2.
+    /// Reads the version, 1 or 2.
     #[tactic(auto, unfolding(crate::specs::Place::word_by))]
     pub fn version(&mut self) -> Result<u8, TextFault>
         ensures gives { Gives (λ version. version) result self.new (word_by version_in self.old) }
@@ -305,7 +306,7 @@ impl<'a> Scan<'a> {
         self.accept(asked, version_word(word))
     }
 
-    // A number of any length.
+    // Reads a number of any length.
     #[inline(never)]
     #[tactic(auto, unfolding(crate::specs::Place::word_by))]
     fn any_number(&mut self, least: u32, most: u32) -> Result<u32, TextFault>
@@ -319,7 +320,7 @@ impl<'a> Scan<'a> {
         self.accept(asked, number_word(word, least, most))
     }
 
-    /// A number from `least` to `most`.
+    /// Reads a number from `least` to `most`.
     #[inline]
     #[tactic(auto, unfolding(crate::specs::Place::word_by))]
     pub fn number(&mut self, least: u32, most: u32) -> Result<u32, TextFault>
@@ -341,7 +342,7 @@ impl<'a> Scan<'a> {
         Ok(self.any_number(least, most)?)
     }
 
-    /// A colour, below 36.
+    /// Reads a colour, 0 to 35.
     #[tactic(auto, unfolding(crate::specs::Place::word_by))]
     pub fn colour(&mut self) -> Result<u8, TextFault>
         ensures gives { Gives (λ n. n) result self.new (word_by colour_in self.old) }
@@ -352,7 +353,7 @@ impl<'a> Scan<'a> {
         self.accept(asked, colour_word(word))
     }
 
-    /// What is asked of a border pair: a colour below 36, or nothing.
+    /// Reads what is asked of a border pair (a cell and a side at the border): a colour from 0 to 35, or nothing.
     #[tactic(auto, unfolding(crate::specs::Place::word_by))]
     pub fn rule(&mut self) -> Result<Option<u8>, TextFault>
         ensures gives { Gives (λ rule. rule) result self.new (word_by rule_in self.old) }
@@ -363,7 +364,7 @@ impl<'a> Scan<'a> {
         self.accept(asked, rule_word(word))
     }
 
-    /// A tile of three or four sides.
+    /// Reads a tile of three or four sides.
     #[tactic(auto, unfolding(crate::specs::Place::word_by))]
     pub fn tile(&mut self) -> Result<Tile, TextFault>
         ensures gives { Gives tile_colours result self.new (word_by tile_in self.old) }
@@ -374,7 +375,7 @@ impl<'a> Scan<'a> {
         self.accept(asked, tile_word(word))
     }
 
-    /// A clue of the cell: a colour below 36, or nothing, for each of its three or four sides.
+    /// Reads a clue of this cell: a colour from 0 to 35, or nothing, for each of its three or four sides.
     #[tactic(auto, unfolding(crate::specs::Place::word_by))]
     pub fn clue(&mut self, cell: u16) -> Result<Clue, TextFault>
         ensures gives { Gives clue_of result self.new (word_by (clue_in cell) self.old) }
@@ -385,7 +386,7 @@ impl<'a> Scan<'a> {
         self.accept(asked, clue_word(word, cell))
     }
 
-    // A placement, whatever stands after it.
+    // Reads a placement, whatever follows it.
     #[inline(never)]
     #[tactic(auto, unfolding(crate::specs::Place::word_by))]
     fn any_placement(&mut self, ranges: &Ranges) -> Result<Placement, TextFault>
@@ -399,7 +400,7 @@ impl<'a> Scan<'a> {
         self.accept(asked, placement_word(word, ranges))
     }
 
-    /// A placement: a tile in its range, and a turn below 4.
+    /// Reads a placement: a tile within its range, and a turn below 4.
     #[inline]
     #[tactic(auto, unfolding(crate::specs::Place::word_by))]
     pub fn placement(&mut self, ranges: &Ranges) -> Result<Placement, TextFault>
@@ -417,7 +418,7 @@ impl<'a> Scan<'a> {
         self.any_placement(ranges)
     }
 
-    /// A pair: a cell in its range, and a placement.
+    /// Reads a pair: a cell within its range, and a placement.
     #[tactic(auto, unfolding(crate::specs::Place::word_by))]
     pub fn pair(&mut self, ranges: &Ranges) -> Result<Pair, TextFault>
         ensures gives { Gives (λ p. p) result self.new (word_by (pair_in ranges.now) self.old) }
@@ -430,7 +431,7 @@ impl<'a> Scan<'a> {
         self.accept(asked, pair_word(word, ranges))
     }
 
-    /// The first line of a text: its name and the version, 1 or 2.
+    /// Reads the first line of a text, its name and its version, and returns the version, 1 or 2.
     #[tactic(auto, unfolding(crate::specs::Place::opening))]
     pub fn opening(&mut self, name: &'static [u8]) -> Result<u8, TextFault>
         ensures gives { Gives (λ version. version) result self.new (opening name.now self.old) }
@@ -443,7 +444,7 @@ impl<'a> Scan<'a> {
         Ok(version)
     }
 
-    /// A line of a name and a number from `least` to `most`.
+    /// Reads a line of a name and a number from `least` to `most`, and returns the number.
     #[tactic(auto, unfolding(crate::specs::Place::counted))]
     pub fn counted(&mut self, name: &'static [u8], least: u32, most: u32) -> Result<u32, TextFault>
         requires { most + 1 < 2 ^ 32 }
@@ -457,7 +458,7 @@ impl<'a> Scan<'a> {
         Ok(number)
     }
 
-    /// The line `end`, and nothing after it.
+    /// Reads the line `end`, and checks that nothing follows it.
     #[tactic(auto, unfolding(crate::specs::Place::closing))]
     pub fn closing(&mut self) -> Result<(), TextFault>
         ensures { Gives (λ _. tt) result self.new (closing self.old) }

@@ -1,4 +1,4 @@
-//! Words and lines are written one after the other.
+//! Writes words and lines, one after the other.
 
 ghost use Rattle.std.specs.Prelude.{◌≡◌, ◌++◌, ◌∷◌, [], ◌<◌, decimal, OnOk};
 ghost use Rattle.text_words.specs.Spelling.{colour_character, count_words, end_lines, placement_word, text_of};
@@ -8,7 +8,7 @@ use match_limits::MOST_COLOURS;
 use match_puzzle::Placement;
 use std::alloc::AllocError;
 
-/// The character of a colour.
+/// Returns the character of a colour: `0` to `9`, then `a` to `z`.
 pub fn character(colour: u8) -> u8
     requires { colour < MOST_COLOURS }
     ensures { result ≡ colour_character colour }
@@ -20,7 +20,7 @@ pub fn character(colour: u8) -> u8
     }
 }
 
-/// The character of a colour, for a sentence; `?` where there is no such colour.
+/// Returns the character of a colour, for a sentence; `?` for a number of 36 or more.
 pub fn letter(colour: u32) -> char {
     if colour < u32::from(MOST_COLOURS) {
         char::from(character(colour as u8))
@@ -29,7 +29,7 @@ pub fn letter(colour: u32) -> char {
     }
 }
 
-/// Writes a number.
+/// Writes a number in decimal. An error comes where memory is refused.
 pub fn put_number(text: &mut Vec<u8>, number: u64) -> Result<(), AllocError>
     ensures { OnOk result (text.new.items ≡ text.old.items ++ decimal number) }
 {
@@ -38,7 +38,7 @@ pub fn put_number(text: &mut Vec<u8>, number: u64) -> Result<(), AllocError>
     Ok(())
 }
 
-/// Writes a placement.
+/// Writes a placement: the tile, a dot and the turn. An error comes where memory is refused.
 pub fn put_placement(text: &mut Vec<u8>, placement: Placement) -> Result<(), AllocError>
     ensures { OnOk result (text.new.items ≡ text.old.items ++ placement_word placement) }
 {
@@ -48,7 +48,7 @@ pub fn put_placement(text: &mut Vec<u8>, placement: Placement) -> Result<(), All
     Ok(())
 }
 
-/// Writes a line of words and a number behind them.
+/// Writes a line of these words and a number after them. An error comes where memory is refused.
 #[tactic(auto, unfolding(crate::specs::Spelling::text_of, crate::specs::Spelling::line_text))]
 pub fn put_number_line(text: &mut Vec<u8>, words: &[u8], number: u64) -> Result<(), AllocError>
     ensures { OnOk result (text.new.items ≡ text.old.items ++ text_of (count_words words.now number ∷ [])) }
@@ -60,7 +60,7 @@ pub fn put_number_line(text: &mut Vec<u8>, words: &[u8], number: u64) -> Result<
     Ok(())
 }
 
-/// Writes the last line.
+/// Writes the last line, `end`. An error comes where memory is refused.
 #[tactic(auto, unfolding(crate::specs::Spelling::text_of, crate::specs::Spelling::line_text))]
 pub fn put_end(text: &mut Vec<u8>) -> Result<(), AllocError>
     ensures { OnOk result (text.new.items ≡ text.old.items ++ text_of end_lines) }

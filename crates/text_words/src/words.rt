@@ -1,4 +1,4 @@
-//! Words of puzzles: what one has to be, or what is wrong with it.
+//! Judges single words of puzzles: returns their value, or what is wrong with them.
 
 ghost use Rattle.std.specs.Prelude.{◌≡◌, ◌<◌, ◌∷◌, [], ◌⊎◌, ℕ, List, All, IfOk, IfSome, Ok, map, take};
 ghost use Rattle.std.specs.List.{list_all, AllByRecursion};
@@ -17,7 +17,7 @@ use match_limits::{LAST_TURN, MOST_COLOURS, Ranges, SIDES};
 use match_puzzle::{Pair, Placement};
 use plain_words::{TextKind, cut, number_word, short_digits};
 
-// The colour that a character stands for.
+// The colour with this character.
 fn colour(character: u8) -> Result<u8, TextKind>
     ensures judges { Judges (λ n. n) result (or_word (colour_of character)) }
     ensures few { IfOk result (λ n. n < MOST_COLOURS) }
@@ -29,7 +29,7 @@ fn colour(character: u8) -> Result<u8, TextKind>
     }
 }
 
-/// A colour, below 36.
+/// Reads a colour, 0 to 35.
 #[tactic(auto, unfolding(crate::specs::Words::colour_in))]
 pub fn colour_word(word: &[u8]) -> Result<u8, TextKind>
     ensures judges { Judges (λ n. n) result (colour_in word.now) }
@@ -47,7 +47,8 @@ fn are_marks(word: &[u8]) -> bool
     word.iter().all(|byte| *byte == b'#' || *byte == b'.')
 }
 
-/// A row of a shape: so many characters, each `#` for a cell or `.` for a place without one.
+/// Checks a row of a shape: `width` characters, each `#` for a cell or `.` for a place without one. `Word` comes where
+/// it is anything else.
 #[tactic(auto, unfolding(crate::specs::Words::marks_in))]
 pub fn row_word(word: &[u8], width: u16) -> Result<(), TextKind>
     ensures { Judges (λ _. map is_cell word.now) result (marks_in width word.now) }
@@ -61,7 +62,7 @@ pub fn row_word(word: &[u8], width: u16) -> Result<(), TextKind>
     Ok(())
 }
 
-/// What is asked of a border pair: a colour, or nothing.
+/// Reads what is asked of a border pair: a colour, or nothing (`-`).
 #[tactic(auto, unfolding(crate::specs::Words::rule_in))]
 pub fn rule_word(word: &[u8]) -> Result<Option<u8>, TextKind>
     ensures { Judges (λ rule. rule) result (rule_in word.now) }
@@ -72,7 +73,7 @@ pub fn rule_word(word: &[u8]) -> Result<Option<u8>, TextKind>
     Ok(Some(colour_word(word)?))
 }
 
-// The tile of these colours.
+// The tile with these colours.
 fn tile_of(colours: [u8; 4], sides: u8) -> Tile
     requires sides { (sides ≡ 3) ⊎ (sides ≡ 4) }
     requires colours { All (λ c. c < MOST_COLOURS) (take sides colours) }
@@ -106,7 +107,7 @@ fn square(characters: [u8; 4]) -> Result<Tile, TextKind>
     Ok(tile_of(colours, 4))
 }
 
-/// A tile's three or four colours, a character for each side.
+/// Reads a tile's three or four colours, a character for each side.
 #[tactic(auto, unfolding(crate::specs::Words::tile_in))]
 pub fn tile_word(word: &[u8]) -> Result<Tile, TextKind>
     ensures { Judges tile_colours result (tile_in word.now) }
@@ -130,7 +131,7 @@ fn ask(character: u8) -> Result<Option<u8>, TextKind>
     }
 }
 
-// The clue that asks this of so many sides of a cell.
+// The clue that asks the first `sides` of these of a cell.
 fn clue_asking(cell: u16, asks: [Option<u8>; SIDES], sides: u8) -> Clue
     requires sides { (sides ≡ 3) ⊎ (sides ≡ 4) }
     requires asks { AllByRecursion IsRuleWithin (take sides asks) }
@@ -161,7 +162,7 @@ fn square_clue(cell: u16, characters: [u8; 4]) -> Result<Clue, TextKind>
     Ok(clue_asking(cell, asks, 4))
 }
 
-/// A clue of a cell: what is asked of its three or four sides, a character for each.
+/// Reads a clue of a cell: what is asked of its three or four sides, a character for each.
 #[tactic(auto, unfolding(crate::specs::Words::clue_in))]
 pub fn clue_word(word: &[u8], cell: u16) -> Result<Clue, TextKind>
     ensures { Judges clue_of result (clue_in cell word.now) }
@@ -173,7 +174,7 @@ pub fn clue_word(word: &[u8], cell: u16) -> Result<Clue, TextKind>
     }
 }
 
-/// A tile and its turn, with a dot between.
+/// Reads a tile and its turn, with a dot between.
 #[tactic(auto, unfolding(crate::specs::Words::placement_in))]
 pub fn placement_word(word: &[u8], ranges: &Ranges) -> Result<Placement, TextKind>
     ensures { Judges (λ p. p) result (placement_in ranges.now word.now) }
@@ -186,9 +187,8 @@ pub fn placement_word(word: &[u8], ranges: &Ranges) -> Result<Placement, TextKin
     Ok(Placement { tile, turn })
 }
 
-/// The placement, of a tile below 100, that a line begins with, and what stands after the space that
-/// ends it; none, where the line begins with something else, or the placement ends it. Such a tile is
-/// in every range.
+/// Returns the placement that the line begins with, of a tile below 100, and what follows the space that ends it. Such
+/// a tile is in every range. `None` where the line begins with something else, or ends after the placement.
 #[inline]
 pub fn short_placement(line: &[u8]) -> Option<(Placement, &[u8])>
     ensures { IfSome result (λ x. (word : List ℕ) × (words_of line.now ≡ word ∷ words_of x.1.now)
@@ -205,7 +205,7 @@ pub fn short_placement(line: &[u8]) -> Option<(Placement, &[u8])>
     Some((placement, others))
 }
 
-/// A cell, and a placement there, with a colon between.
+/// Reads a cell and a placement there, with a colon between.
 #[tactic(auto, unfolding(crate::specs::Words::pair_in))]
 pub fn pair_word(word: &[u8], ranges: &Ranges) -> Result<Pair, TextKind>
     ensures { Judges (λ p. p) result (pair_in ranges.now word.now) }

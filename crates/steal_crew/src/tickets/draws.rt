@@ -13,8 +13,8 @@ use match_limits::MOST_WORKERS;
 use std::alloc::{AllocError, Global};
 
 impl Tickets {
-    /// A source of the numbers from 0 up to `limit` and without it, which may be 0, and its 1 to 65 seats: one for each
-    /// worker that there may be, and one more. All memory is taken here, and want of memory is the one error.
+    /// A source of the numbers below `limit`, which may be 0, and its 1 to 65 seats: one for each worker that there may
+    /// be, and one more. All memory is taken here. The only error is want of memory.
     pub fn new(
         alloc: Global,
         limit: u32,
@@ -39,8 +39,8 @@ impl Tickets {
         Ok((Tickets { table, limit }, list))
     }
 
-    /// A source of the numbers from 0 up to `limit` and without it, at least 1, and its 1 to 65 seats, of which the one
-    /// that comes apart has drawn 0. All memory is taken here, and want of memory is the one error.
+    /// A source of the numbers below `limit`, which is at least 1, and its 1 to 65 seats. One of them is returned
+    /// apart, and has drawn the number 0. All memory is taken here. The only error is want of memory.
     pub fn begun(
         alloc: Global,
         limit: u32,
@@ -69,8 +69,9 @@ impl Tickets {
         Ok((Tickets { table, limit }, seat, list))
     }
 
-    /// The least number that nobody drew yet, or none where each below the limit was drawn. Once a seat answered none
-    /// it does so always, and no longer looks at the source. A draw takes no memory, and waits for nobody.
+    /// Draws the least number that nobody drew yet. `None` where each number below the limit was drawn; from then on
+    /// this seat always answers `None`, and no longer looks at the source. A draw takes no memory, and waits for
+    /// nobody.
     pub fn draw(&self, seat: &mut TicketSeat) -> Option<u32>
         requires { seat_source seat.old ≡ source_of self.now }
         ensures same { seat_source seat.new ≡ seat_source seat.old }
@@ -92,8 +93,8 @@ impl Tickets {
         }
     }
 
-    /// All seats in one, once they came back in any order, and how many numbers were drawn. The numbers below it are
-    /// those that were drawn, and where a seat is out it is the limit.
+    /// All seats together, once they came back, in any order, and how many numbers were drawn: these are the numbers
+    /// below that count. Where a seat got no number, all were drawn.
     pub fn join_all(self, mut seats: Vec<TicketSeat>) -> (u32, AllDrawn)
         requires ours { All (λ s. seat_source s ≡ source_of self) seats.items }
         requires all { vec_len seats ≡ seats_of self }
@@ -117,8 +118,8 @@ impl Tickets {
         (count, AllDrawn { seat })
     }
 
-    /// How many numbers were drawn, once all seats came back, in any order. The numbers below it are those that were
-    /// drawn, and where a seat is out it is the limit.
+    /// How many numbers were drawn, once all seats came back, in any order: these are the numbers below that count.
+    /// Where a seat got no number, all were drawn.
     pub fn finish(self, seats: Vec<TicketSeat>) -> u32
         requires ours { All (λ s. seat_source s ≡ source_of self) seats.items }
         requires all { vec_len seats ≡ seats_of self }

@@ -6,7 +6,7 @@ use super::rules::{EachOnce, SeatView};
 use atomic_table::{Seat, Table};
 use std::alloc::Global;
 
-/// The numbers from 0 up to a limit, each of which is drawn once, by whichever thread comes first.
+/// A source of the numbers from 0 up to a limit. Each number is drawn once, by the thread that comes first.
 #[derive(Drop)]
 pub struct Tickets {
     // One word: the next number. At the limit and above, nothing is left.
@@ -18,7 +18,7 @@ pub struct Tickets {
     ghost told: { table.shared.key.0 ≡ limit },
 }
 
-/// What one thread at a time draws by. It is out once it answered none.
+/// What a thread needs to draw numbers; one thread at a time has it. Once it got no number, it never gets one again.
 #[derive(Drop)]
 pub struct TicketSeat {
     pub(crate) seat: Seat<(), SeatView>,
@@ -28,8 +28,8 @@ pub struct TicketSeat {
     ghost marked: { seat.me.0.marks ≡ cond out 1 0 },
 }
 
-/// All seats of a number source in one, which knows what was drawn: nobody else has a part of the source, so nobody
-/// else can have drawn. It has no bytes, and is there for contracts alone.
+/// All seats of a number source together. Nobody else has a seat, so nobody else can have drawn a number, and it is
+/// known which were drawn. It takes no memory, and is there for contracts alone.
 #[derive(Drop)]
 pub struct AllDrawn {
     pub(crate) seat: Seat<(), SeatView>,
