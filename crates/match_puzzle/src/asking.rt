@@ -89,9 +89,8 @@ pub(crate) fn put(asks: &mut Vec<u8>, cell: u16, colours: [u8; SIDES])
     ensures others { (place : ℕ) → (place < FIRST_PLACE + 4 * cell) ⊎ (FIRST_PLACE + 4 * cell + 4 ≤ place)
         → slice_index asks.new.items place ≡ slice_index asks.old.items place }
 {
-    for side in 0..SIDES {
-        asks[FIRST_PLACE + SIDES * usize::from(cell) + side] = colours[side];
-    }
+    let first = FIRST_PLACE + SIDES * usize::from(cell);
+    asks[first..first + SIDES].copy_from_slice(&colours);
 }
 
 /// The four numbers from this place on.
@@ -108,7 +107,9 @@ pub(crate) fn four_from(asks: &[u8], place: usize) -> [u8; SIDES]
 }
 
 /// What the sides of a cell ask, which ask for the ones by clues and for the others by what stands there: `NO_COLOUR`
-/// where these are two colours.
+/// where these are two colours. Few puzzles have clues, so it stands apart from the walk that asks it.
+#[cold]
+#[inline(never)]
 pub(crate) fn both_asked(begins: [u8; SIDES], placed: [u8; SIDES]) -> [u8; SIDES]
     ensures { (side : ℕ) → side < 4
         → JoinsTo (slice_index begins side) (slice_index placed side) (slice_index result side) }
