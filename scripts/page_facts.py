@@ -58,12 +58,12 @@ LIMITS = {
     "docs/MACHINE.md": ["1 to {MOST_WORKERS} workers and 1 to {MOST_WORKERS} queues"],
     "docs/SOLVING.md": ["(over {MOST_ENTRIES} items)", "(over {MOST_ARRANGEMENTS} to be listed)"],
     "crates/match_limits/README.md": ["`MOST_CELLS` ({MOST_CELLS})", "`MOST_PLAIN_CELLS` ({MOST_PLAIN_CELLS})"],
-    "crates/live_crew/README.md": ["At most {MOST_GIVEN} jobs are given by a job"],
+    "crates/giving_crew/README.md": ["At most {MOST_GIVEN} jobs are given by a job"],
     "crates/system_files/README.md": ["tried {MOST_TRIES} times"],
     "crates/cert_check/README.md": ["a tree of under {LEAST_FORKED} nodes"],
     "crates/cert_text/README.md": ["Below {LEAST_NODES} nodes the caller"],
-    "crates/census_splits/README.md": ["at most {MOST_BRANCHES} branches"],
-    "crates/match_crew/README.md": [
+    "crates/count_search/README.md": ["at most {MOST_BRANCHES} branches"],
+    "crates/solver/README.md": [
         "at most {MOST_PLANNED} branches",
         "At most {MOST_PLANS} items",
         "under {FEW_NODES} nodes",
@@ -94,7 +94,7 @@ OF_THE_CODE = [ARCHITECTURE, DECISIONS, PROVED, "docs/MACHINE.md"]
 # The heading of the calls that the program doesn't make.
 TEST_CALLS = "Calls that only tests make"
 KINDS = "must-fail", "further-edits"
-CONSTANT = re.compile(r"^(?:pub )?const (\w+): \w+ = ([\w ]+(?: [-+*<]+ [\w ]+)?);$", re.M)
+CONSTANT = re.compile(r"^(?:pub(?:\(crate\))? )?const (\w+): \w+ = ([\w ]+(?: [-+*<]+ [\w ]+)?);$", re.M)
 SIGNS = {"+": operator.add, "-": operator.sub, "*": operator.mul, "<<": operator.lshift}
 LINK = re.compile(r"\]\(([^)\s]+)\)|(?:src|href)=\"([^\"]+)\"")
 FENCED = re.compile(r"^```.*?^```$", re.M | re.S)
@@ -214,7 +214,7 @@ def carrier_faults():
     """The runs of which the page promises something and that the program doesn't make, and those that it leaves out."""
     told = {it for it in SPAN.findall(text_of(PROVED).replace("::", "` `")) if it.startswith("run_")}
     runs = {it for it in SPAN.findall(section_of(PROVED, "Runs")) if it.startswith("run_")}
-    made = {*re.findall(r"\brun_\w+", code_of("match_program"))}
+    made = {*re.findall(r"\brun_\w+", code_of("command_orders"))}
     yield from (f"{PROVED}: the program makes no {it}" for it in sorted(runs - made))
     yield from (f"{PROVED} leaves out {it}" for it in sorted(made - told))
 

@@ -29,7 +29,7 @@ COUNT = [
     ("match_report/specs/CompleteLists.antt", "count_text"),
 ]
 SEARCH = [HAS, ("match_puzzle/specs/Numbers.antt", "AreMoreThan")]
-SPELLED = "match_runs/specs/Checking.antt", "SpellCompleteList"
+SPELLED = "command_runs/specs/Checking.antt", "SpellCompleteList"
 # The rows of the page's table, with the definitions that say it. The README has the numbers of the first.
 ROWS = {
     "a list is complete": [COMPLETE],

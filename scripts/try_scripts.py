@@ -31,12 +31,12 @@ AGAIN = "This sentence has more than a dozen words, and stands in two places for
 # What is done to a page, or to what it speaks of: a text in the place of another, or behind all; and what is told then.
 WRONG_PAGES = [
     ("crates/match_report/README.md", "# `match_report`", "# `match_reports`", "begins with another line"),
-    ("docs/ARCHITECTURE.md", "\n  8  ", "\n  0  ", "edgematch stands no higher than match_program"),
+    ("docs/ARCHITECTURE.md", "\n  8  ", "\n  0  ", "edgematch stands no higher than command_orders"),
     ("docs/PROVED.md", "`sha2`", "`sha3`", "docs/PROVED.md: what is trusted leaves out sha2"),
     ("docs/PROVED.md", "(`run_tiles`)", "(`run_check`)", "docs/PROVED.md: the program makes no run_check"),
-    ("docs/ARCHITECTURE.md", "`SearchOver::run`", "`SearchOver::new`", "match_crew calls SearchOver::new"),
+    ("docs/ARCHITECTURE.md", "`SearchOver::run`", "`SearchOver::new`", "solver calls SearchOver::new"),
     ("crates/match_text/README.md", "let list = ", "let lists = ", "list_again of test_samples/src/writings.rt"),
-    ("crates/match_show/README.md", "`write_facts`", "`write_fax`", "there is no write_fax, "),
+    ("crates/show_text/README.md", "`write_facts`", "`write_fax`", "there is no write_fax, "),
     ("docs/ARCHITECTURE.md", "`cert_tree/src/nodes.rt`", "`cert_tree/src/node.rt`", "no cert_tree/src/node.rt"),
     ("README.md", "| `symmetries PUZZLE`", "| `symmetry PUZZLE`", "differ in symmetry"),
     ("crates/match_limits/src/lib.rt", "MOST_COLOURS: u8 = 36", "MOST_COLOURS: u8 = 35", "doesn't say: 35 colours"),

@@ -42,20 +42,20 @@ ReadsWhole source text = GivesWhole source.before source.after source.ended text
 abbrev pub ReadsToEnd : Reading → Type 0
 ReadsToEnd source = IsReadToEnd source.after source.ended
 
--- it answered an error, and at most so many bytes came before
+-- it answered an error, and at most `bound` bytes came before
 abbrev pub FailsToRead : ℕ → Reading → Type 0
 FailsToRead bound source =
     GivesUpTo bound source.before source.after × (source.errors_after ≡ one_more source.errors_before)
 
--- more bytes came, and no error
+-- more than `bound` bytes came, and no error
 abbrev pub ReadsPast : ℕ → Reading → Type 0
 ReadsPast bound source = GivesPast bound source.before source.after × (source.errors_after ≡ source.errors_before)
 
--- at most so many bytes came, and no error
+-- at most `bound` bytes came, and no error
 abbrev pub ReadsAtMost : ℕ → Reading → Type 0
 ReadsAtMost bound source = GivesUpTo bound source.before source.after × (source.errors_after ≡ source.errors_before)
 
--- A text of at most so many bytes came whole, and no error.
+-- A text of at most `bound` bytes came whole, and no error.
 pub record Gives (bound : ℕ) (source : Reading) (text : List ℕ) : Type 0 where
   pub whole : ReadsWhole source text
   pub short : length text ≤ bound

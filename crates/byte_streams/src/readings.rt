@@ -44,7 +44,7 @@ pub fn read_whole<R: Source>(
     read_through(alloc, reader, &mut buffer, bound, document)
 }
 
-// The same, through this buffer.
+// All bytes of a document, up to its end and at most `bound`, read through this buffer.
 fn read_through<R: Source>(
     alloc: Global,
     reader: &mut R,

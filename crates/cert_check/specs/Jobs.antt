@@ -15,7 +15,7 @@ abbrev pub fault_of : Finding → Option TreeFault
 fault_of None = None
 fault_of (Some box) = Some box.value
 
--- The tree of the lemma with this number can be walked, with so many forks.
+-- There is a lemma with this number, and its tree can be walked with `forks` forks: no more than `MOST_FORKS`.
 pub record IsJob (question : Question) (forks number : ℕ) : Type 0 where
   pub lemma : number < length question.lemmas
   pub few : forks ≤ MOST_FORKS

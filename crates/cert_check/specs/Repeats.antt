@@ -40,6 +40,6 @@ abbrev pub entry_cmp : List (List Placement) → KeyedPlace → KeyedPlace → O
 entry_cmp listed =
     then_cmp (on (λ x. x.key) nat_cmp) (on (λ x. slice_get listed x.place) (option_cmp (slice_cmp placement_cmp)))
 
--- the same, and then by place
+-- by key, then by what stands there, and then by place
 abbrev pub keyed_cmp : List (List Placement) → KeyedPlace → KeyedPlace → Ordering
 keyed_cmp listed = then_cmp (entry_cmp listed) (on (λ x. x.place) nat_cmp)

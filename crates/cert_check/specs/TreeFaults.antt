@@ -28,7 +28,7 @@ ItemFails p q (Tile tile) TileRange = length p.words ≤ tile
 ItemFails p q (Tile tile) TileTaken = IsUsed q tile
 ItemFails p q item fault = ⊥
 
--- What may be wrong with a branch of so many children, but for the children themselves.
+-- What may be wrong with a branch of `number` children, except in the children themselves.
 abbrev pub BranchFails : Task → Prefix → Item → ℕ → NodeFault → Type 0
 BranchFails p q item number (WrongCount fits children) =
     (xs : List Pair) × AreFitting p q item xs × (fits ≡ length xs) × (children ≡ number)

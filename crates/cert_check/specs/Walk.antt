@@ -36,7 +36,7 @@ IsAtTop (Some fault) said = said ≡ Some (record { path = []; fault = fault })
 abbrev pub below : ℕ → TreeFault → TreeFault
 below number fault = record { path = number ∷ fault.path; fault = fault.fault }
 
--- The item is one of the puzzle, and so many pairs fit and settle it and so many trees are there.
+-- The item is one of the puzzle, at least `number` pairs fit and settle it, and there are at least `number` trees.
 pub record HasChildren (s : Setting) (w : Layout) (item : Item) (trees : Forest) (number : ℕ) : Type 0 where
   pub made : w.puzzle ≡ s.puzzle
   pub is : IsItem w.puzzle item
@@ -83,7 +83,7 @@ pub record IsPart (part : Part) : Type 0 where
   pub children : HasChildren part.setting.now part.partial.now part.item part.trees.now part.end
   pub range : part.start ≤ part.end
 
--- the same, said of a part
+-- What is said of the children that a part is of: that each holds, or the first fault.
 abbrev pub TellsOfPart : Part → Option TreeFault → Type 0
 TellsOfPart part =
     TellsOfChildren part.setting.now part.item part.trees.now part.partial.now.placed part.start part.end

@@ -1,11 +1,11 @@
 //! The check of a certificate, on one thread.
 
-ghost use Rattle.std.specs.Prelude.{◌≡◌, ◌<◌, ◌^◌, ◌↔◌, IfOk, OnErr, length, map};
+ghost use Rattle.std.specs.Prelude.{◌≡◌, ◌<◌, ◌^◌, IfOk, OnErr, length, map};
 ghost use Rattle.puzzle_symmetry.specs.Motion.{motion_of};
-ghost use Rattle.cert_check.specs.Setting.{Question, question_of, BeginWithPrefixes, in_second_form};
+ghost use Rattle.cert_check.specs.Setting.{Question, question_of, BeginWithPrefixes};
 ghost use Rattle.cert_check.specs.Walk.{TellsOfLemma};
 ghost use Rattle.match_puzzle.specs.Arrangement.{AreArrangements};
-ghost use Rattle.cert_check.specs.Answer.{IsAnswer, IsSound, IsCovering, OneAnswer};
+ghost use Rattle.cert_check.specs.Answer.{IsAnswer, IsSound, IsCovering};
 
 use crate::faults::{Answer, TreeFault};
 use crate::gates::Open;
@@ -66,15 +66,3 @@ pub fn tree_fault(
     let lemma = certificate.lemmas().at(lemma as usize);
     lemma_fault(alloc, &setting, &lemma, &mut partial)
 }
-
-/// A law; the call does nothing. There is at most one answer to a puzzle, a list and a certificate.
-pub fn one_answer()
-    ensures { OneAnswer }
-{}
-
-/// A law; the call does nothing. A puzzle and its second form (the puzzle in version 2 or 3, with a shape in place of a
-/// rectangle) have the same answer for each list and certificate.
-pub fn second_form_has_the_same_answers()
-    ensures { (question : Question) (answer : Answer)
-        → IsAnswer question answer ↔ IsAnswer (in_second_form question) answer }
-{}

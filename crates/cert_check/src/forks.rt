@@ -1,7 +1,7 @@
 //! Walks of trees on several threads: in the first levels, the two halves of a branch's children are walked at the same
 //! time.
 
-ghost use Rattle.std.specs.Prelude.{◌≡◌, ◌≢◌, ◌<◌, ◌≤◌, ◌^◌, ℕ, List, Option, IfOk, IfSome, None, Ok, Some, length, map};
+ghost use Rattle.std.specs.Prelude.{◌≡◌, ◌≢◌, ◌<◌, ◌≤◌, ◌^◌, List, Option, IfOk, IfSome, None, Ok, Some, length, map};
 ghost use Rattle.std.specs.Option.{option_or};
 ghost use Rattle.std.specs.Fn.{FnReturnsAt};
 ghost use Rattle.std.specs.Thread.{IsSync};

@@ -1,6 +1,6 @@
 //! What is wrong with the prefixes of lemmas (the pairs that they begin with).
 
-ghost use Rattle.std.specs.Prelude.{◌≡◌, ◌<◌, ◌^◌, MatchBool, length};
+ghost use Rattle.std.specs.Prelude.{◌<◌, ◌^◌, MatchBool, length};
 ghost use Rattle.cert_check.specs.Lines.{TellsOfPrefixes};
 ghost use Rattle.cert_check.specs.Derivation.{HasRoot};
 

@@ -1,9 +1,9 @@
 //! Walks trees by their heads (nodes without their children).
 
-ghost use Rattle.std.specs.Prelude.{◌≡◌, ◌≢◌, ◌<◌, ◌≤◌, ◌^◌, ℕ, List, [], ◌∷◌, Option, IfOk, MatchBool, MatchOption, None, length};
+ghost use Rattle.std.specs.Prelude.{◌≡◌, ◌≢◌, ◌<◌, ◌≤◌, ℕ, List, [], ◌∷◌, Option, IfOk, MatchBool, None};
 ghost use Rattle.std.specs.Option.{option_map};
 ghost use Rattle.match_puzzle.specs.Fitting.{Fits};
-ghost use Rattle.match_puzzle.specs.Prefix.{Prefix, empty_prefix, with_pair};
+ghost use Rattle.match_puzzle.specs.Prefix.{empty_prefix, with_pair};
 ghost use Rattle.match_puzzle.specs.declared.items.Item.{Item};
 ghost use Rattle.match_puzzle.specs.declared.placements.Pair.{Pair};
 ghost use Rattle.match_puzzle.specs.PrefixFaults.{IsPairList};

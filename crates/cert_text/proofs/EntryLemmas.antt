@@ -1,10 +1,10 @@
 -- Reading entries up to a word, one after the other, as a loop does.
 use Rattle.std.proofs.Common.{◌≡◌, ℕ, zero, suc, Bool, true, false, not, List, [], ◌∷◌, Result, Ok, Err, refl, ap, subst}
 use Rattle.std.specs.Str.{bytes_eq}
-use Rattle.plain_words.specs.declared.faults.TextFault.{TextFault}
-use Rattle.plain_words.specs.declared.faults.TextKind.{TextKind}
-use Rattle.plain_words.specs.declared.faults.TextKind.TheVariants.{Limit}
-use Rattle.plain_words.specs.Words.{◌>>=◌}
+use Rattle.text_words.specs.declared.faults.TextFault.{TextFault}
+use Rattle.text_words.specs.declared.faults.TextKind.{TextKind}
+use Rattle.text_words.specs.declared.faults.TextKind.TheVariants.{Limit}
+use Rattle.text_words.specs.PlainWords.{◌>>=◌}
 use Rattle.text_words.specs.Place.{Place, fail, judged, word_from, word_by}
 use Rattle.text_words.proofs.CutLemmas.{place, ok_is}
 use Rattle.text_words.proofs.LoopLemmas.{with_front, err_is, ReadsEntries}

@@ -3,13 +3,13 @@ use Rattle.std.proofs.Common.{◌≡◌, ℕ, zero, suc, ◌≤◌, Bool, true, 
 use Rattle.std.specs.List.{AllByRecursion, flat_map}
 use Rattle.std.specs.Str.{bytes_eq}
 use Rattle.std.proofs.lemmas.Slice.Eq.{bytes_eq-Decides}
-use Rattle.plain_words.specs.declared.faults.TextKind.{TextKind}
-use Rattle.plain_words.specs.declared.faults.TextKind.TheVariants.{Limit}
-use Rattle.plain_words.specs.Words.{fixed_in}
+use Rattle.text_words.specs.declared.faults.TextKind.{TextKind}
+use Rattle.text_words.specs.declared.faults.TextKind.TheVariants.{Limit}
+use Rattle.text_words.specs.PlainWords.{fixed_in}
 use Rattle.text_words.specs.Words.{entries_in}
 use Rattle.text_words.specs.Place.{Place, Read, ◌>>=◌, give, word_by, entries_from, entries, times}
 use Rattle.text_words.proofs.CutLemmas.{LineOnly, CutsShort, place, bind_ok, ok_is, cuts_line_only}
-use Rattle.plain_words.proofs.WordLemmas.{Spells, spells_fixed, judged_ok_is, judged_bind, after_word}
+use Rattle.text_words.proofs.WordLemmas.{Spells, spells_fixed, judged_ok_is, judged_bind, after_word}
 use Rattle.text_words.proofs.LineLemmas.{TakesWords, TakesRest, takes_word, entries_is, entries_again}
 use Rattle.cert_text.specs.Entries.{entries_before_in, before_from, entries_before}
 

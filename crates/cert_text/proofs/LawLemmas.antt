@@ -3,11 +3,11 @@ use Rattle.std.proofs.Common.{◌≡◌, ◌≢◌, ℕ, Bool, true, false, List
 use Rattle.std.specs.Prelude.{MatchBool}
 use Rattle.std.specs.List.Sorted.{IsPermutation}
 use Rattle.std.proofs.lemmas.List.Sorted.{length_permutation}
-use Rattle.numbered_pieces.specs.declared.faults.AssembleFault.{AssembleFault}
-use Rattle.numbered_pieces.specs.declared.faults.AssembleFault.TheVariants as assemble
-use Rattle.numbered_pieces.specs.Assembly.{Assembles, IsSettled}
-use Rattle.numbered_pieces.proofs.OrderLemmas.{one_in_any_order}
-use Rattle.plain_words.specs.declared.faults.TextFault.{TextFault}
+use Rattle.cert_tree.specs.declared.faults.AssembleFault.{AssembleFault}
+use Rattle.cert_tree.specs.declared.faults.AssembleFault.TheVariants as assemble
+use Rattle.cert_tree.specs.Assembly.{Assembles, IsSettled}
+use Rattle.cert_tree.proofs.OrderLemmas.{one_in_any_order}
+use Rattle.text_words.specs.declared.faults.TextFault.{TextFault}
 use Rattle.text_words.specs.Laws.{ReadsSpellingsAlone, ReadsEachSpelling}
 use Rattle.match_board.specs.declared.symmetry_lines.SymmetryLine.{SymmetryLine}
 use Rattle.cert_tree.specs.Certificate.{Contents, Piece, piece_number}

@@ -13,15 +13,15 @@ use Rattle.match_puzzle.specs.declared.placements.Pair.{Pair}
 use Rattle.match_board.specs.declared.symmetry_lines.SymmetryLine.{SymmetryLine}
 use Rattle.match_limits.specs.declared.ranges.Ranges.{Ranges}
 use Rattle.match_limits.specs.Ranges.{AreRanges}
-use Rattle.plain_words.specs.declared.faults.TextKind.{TextKind}
-use Rattle.plain_words.specs.declared.faults.TextKind.TheVariants.{Word, Number}
-use Rattle.plain_words.specs.Bytes.{cut_at}
-use Rattle.plain_words.specs.Words.{fixed_in, number_in, or_word}
+use Rattle.text_words.specs.declared.faults.TextKind.{TextKind}
+use Rattle.text_words.specs.declared.faults.TextKind.TheVariants.{Word, Number}
+use Rattle.text_words.specs.Bytes.{cut_at}
+use Rattle.text_words.specs.PlainWords.{fixed_in, number_in, or_word}
 use Rattle.text_words.specs.Words.{colour_in, pair_in}
 use Rattle.text_words.specs.Place.{Read, ◌>>=◌, give, word_by, entries}
 use Rattle.text_words.specs.Spelling.{colour_word, placement_word}
 use Rattle.text_words.proofs.CutLemmas.{CutsShort, cuts_bind, cuts_give, cuts_word, cuts_entries, cuts_line}
-use Rattle.plain_words.proofs.WordLemmas.{Spells, after_word, judged_ok, judged_ok_is, judged_bind, or_word_is, cut_parts, cut_dot, own, spells_number, has_no, decimal_lacks, clean-decimal, clean-append, is_clean, are_clean}
+use Rattle.text_words.proofs.WordLemmas.{Spells, after_word, judged_ok, judged_ok_is, judged_bind, or_word_is, cut_parts, cut_dot, own, spells_number, has_no, decimal_lacks, clean-decimal, clean-append, is_clean, are_clean}
 use Rattle.text_words.proofs.PlacementLemmas.{last_fits, clean-placement}
 use Rattle.text_words.proofs.ColourLemmas.{spells_colour, clean-colour}
 use Rattle.text_words.proofs.LineLemmas.{TakesRest, TakesLines, takes_word, takes_then_rest, takes_all, takes_line}

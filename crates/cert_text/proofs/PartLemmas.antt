@@ -2,9 +2,9 @@
 use Rattle.std.proofs.Common.{◌≡◌, ℕ, zero, suc, ◌+◌, ◌<◌, ◌≤◌, List, [], ◌∷◌, ◌++◌, Some, Result, Ok, Err, length, get_or, drop, slice_get, refl, sym, ap, subst, ◌∙◌, append_assoc, arith}
 use Rattle.std.proofs.lemmas.List.{append-nil}
 use Rattle.std.proofs.Math.ListN.{drop_of_length-le}
-use Rattle.plain_words.specs.declared.faults.TextFault.{TextFault}
-use Rattle.plain_words.specs.declared.faults.ReadFault.{ReadFault}
-use Rattle.plain_words.specs.declared.faults.ReadFault.TheVariants as faults
+use Rattle.text_words.specs.declared.faults.TextFault.{TextFault}
+use Rattle.text_words.specs.declared.faults.ReadFault.{ReadFault}
+use Rattle.text_words.specs.declared.faults.ReadFault.TheVariants as faults
 use Rattle.match_limits.specs.declared.ranges.Ranges.{Ranges}
 use Rattle.match_limits.specs.Ranges.{ranges_of}
 use Rattle.text_words.specs.Place.{Place, Read, Fails, Reads, Says, closing, give, go_on, skip_lines, start, times, value_of}

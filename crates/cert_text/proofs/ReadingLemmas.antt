@@ -4,20 +4,20 @@ use Rattle.match_limits.specs.declared.TheConstants.{MOST_CELLS, MOST_SYMMETRIES
 use Rattle.std.specs.Prelude.{IfOk, All, Contains}
 use Rattle.std.specs.List.{AllByRecursion}
 use Rattle.match_limits.proofs.ListLemmas.{all_by_place}
-use Rattle.plain_words.specs.declared.faults.TextFault.{TextFault}
-use Rattle.plain_words.specs.declared.faults.TextKind.TheVariants.{Ends}
+use Rattle.text_words.specs.declared.faults.TextFault.{TextFault}
+use Rattle.text_words.specs.declared.faults.TextKind.TheVariants.{Ends}
 use Rattle.match_limits.specs.declared.ranges.Ranges.{Ranges}
 use Rattle.match_limits.specs.Ranges.{AreRanges, ranges_of}
-use Rattle.numbered_pieces.specs.declared.faults.AssembleFault.{AssembleFault}
-use Rattle.numbered_pieces.specs.declared.faults.AssembleFault.TheVariants.{Stranger, Double, Missing, Memory}
-use Rattle.numbered_pieces.specs.Assembly.{Assembles}
-use Rattle.plain_words.specs.Bytes.{line_ends}
+use Rattle.cert_tree.specs.declared.faults.AssembleFault.{AssembleFault}
+use Rattle.cert_tree.specs.declared.faults.AssembleFault.TheVariants.{Stranger, Double, Missing, Memory}
+use Rattle.cert_tree.specs.Assembly.{Assembles}
+use Rattle.text_words.specs.Bytes.{line_ends}
 use Rattle.text_words.specs.Place.{Says, fail}
 use Rattle.match_puzzle.specs.declared.placements.Pair.{Pair}
 use Rattle.cert_tree.specs.declared.certificates.Lemma.{Lemma}
 use Rattle.cert_tree.specs.declared.flat_lemmas.LemmaSpan.{LemmaSpan}
 use Rattle.cert_tree.specs.declared.heads.Head.{Head}
-use Rattle.plain_words.specs.declared.faults.ReadFault.{ReadFault}
+use Rattle.text_words.specs.declared.faults.ReadFault.{ReadFault}
 use Rattle.cert_tree.specs.Certificate.{Contents, Piece, piece_of, piece_number}
 use Rattle.cert_tree.specs.Heads.{first, trees_in}
 use Rattle.cert_tree.specs.Limits.{IsLemmaWithin}

@@ -2,14 +2,14 @@
 use Rattle.std.proofs.Common.{◌≡◌, ℕ, zero, suc, ◌+◌, ◌-◌, ◌<◌, List, [], ◌∷◌, ◌++◌, Some, Result, Ok, Err, true, false, inl, inr, is_err, refl, sym, ap, subst, ◌∙◌, append_assoc, arith}
 use Rattle.std.specs.List.{join_with_byte}
 use Rattle.std.proofs.lemmas.List.{append-nil}
-use Rattle.plain_words.specs.declared.faults.TextFault.{TextFault}
+use Rattle.text_words.specs.declared.faults.TextFault.{TextFault}
 use Rattle.match_limits.specs.declared.ranges.Ranges.{Ranges}
 use Rattle.match_limits.specs.Ranges.{AreRanges}
-use Rattle.plain_words.specs.Bytes.{cut_at, line_ends, words_of}
+use Rattle.text_words.specs.Bytes.{cut_at, line_ends, words_of}
 use Rattle.text_words.specs.Place.{Place, Read, ◌>>=◌, Gives, give, next_line, skip_line, skip_lines, times}
 use Rattle.text_words.specs.Spelling.{line_text, text_of}
 use Rattle.text_words.proofs.CutLemmas.{CutsShort, bind_ok, cuts_next_line, ok_is, place, runs_out}
-use Rattle.plain_words.proofs.WordLemmas.{are_clean}
+use Rattle.text_words.proofs.WordLemmas.{are_clean}
 use Rattle.text_words.proofs.LineLemmas.{TakesLines, cut_join}
 use Rattle.cert_tree.specs.Certificate.{Piece}
 use Rattle.cert_tree.specs.Limits.{IsLemmaWithin}

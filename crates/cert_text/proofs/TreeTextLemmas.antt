@@ -8,11 +8,11 @@ use Rattle.std.proofs.lemmas.Slice.Eq.{bytes_eq-Decides}
 use Rattle.match_puzzle.specs.declared.items.Item.TheVariants as items
 use Rattle.match_limits.specs.declared.ranges.Ranges.{Ranges}
 use Rattle.match_limits.specs.Ranges.{AreRanges}
-use Rattle.plain_words.specs.declared.faults.TextKind.TheVariants.{Word, TooDeep}
-use Rattle.plain_words.specs.Words.{number_in}
+use Rattle.text_words.specs.declared.faults.TextKind.TheVariants.{Word, TooDeep}
+use Rattle.text_words.specs.PlainWords.{number_in}
 use Rattle.text_words.specs.Place.{Place, Read, ◌>>=◌, give, fail, word_by, times}
 use Rattle.text_words.proofs.CutLemmas.{CutsShort, LineOnly, place, bind_ok, ok_is, cuts_bind, cuts_give, cuts_word, cuts_times, cuts_line_only}
-use Rattle.plain_words.proofs.WordLemmas.{Spells, judged_ok, judged_ok_is, spells_number}
+use Rattle.text_words.proofs.WordLemmas.{Spells, judged_ok, judged_ok_is, spells_number}
 use Rattle.text_words.proofs.PlacementLemmas.{last_fits}
 use Rattle.text_words.proofs.LineLemmas.{TakesWords, takes_word}
 use Rattle.cert_tree.specs.Tree.{Tree, Forest, branch, dead, found, same, image, none, more, count}

@@ -5,7 +5,7 @@ use Rattle.match_limits.specs.declared.TheConstants.{MOST_LEMMAS}
 use Rattle.std.proofs.lemmas.Option.{slice_get_within}
 use Rattle.match_limits.proofs.ListLemmas.{all_by_place, at_each_place}
 use Rattle.match_limits.specs.Ranges.{IsVersion, ranges_of}
-use Rattle.numbered_pieces.proofs.NumberedLemmas.{numbered_assembly}
+use Rattle.cert_tree.proofs.NumberedLemmas.{numbered_assembly}
 use Rattle.text_words.specs.Spelling.{text_of, first_words, count_words, end_lines}
 use Rattle.text_words.proofs.WritingLemmas.{text_of-append}
 use Rattle.cert_tree.specs.Certificate.{Contents, piece_number, IsNumbered}

@@ -1,9 +1,10 @@
 -- A certificate's lemmas in parts, one behind the other.
-use Rattle.std.proofs.Common.{◌≡◌, ◌≤◌, ◌<◌, ◌+◌, ◌-◌, ◌++◌, ℕ, zero, suc, Bool, true, false, List, [], ◌∷◌, Vec, length, map, take, get_or, append_assoc, arith, refl, sym, ap, subst, ◌∙◌, ⊎_elim}
+use Rattle.std.proofs.Common.{◌≡◌, ◌≤◌, ◌<◌, ◌+◌, ◌-◌, ◌++◌, ◌↔◌, ℕ, zero, suc, All, Bool, IsTrue, true, false, List, [], ◌∷◌, Vec, length, map, take, get_or, append_assoc, arith, refl, sym, ap, subst, ◌∙◌, true≢false, ⊎_elim}
 use Rattle.std.specs.declared.alloc.Global.{Global}
 use Rattle.std.specs.List.{flat_map}
 use Rattle.std.proofs.lemmas.Option.{slice_get_within}
 use Rattle.std.proofs.lemmas.List.{append-nil, take_all, take_more, map-append}
+use Rattle.std.proofs.lemmas.List.Elements.{All-from_get_or}
 use Rattle.std.proofs.lemmas.List.Concat.{flat_map-append}
 use Rattle.match_limits.proofs.ListLemmas.{member_at}
 use Rattle.match_limits.proofs.Listings.{lt_or_le}
@@ -82,18 +83,41 @@ abbrev pub AreFirstWithin : (version : ℕ) → List Piece → (starts : List �
 AreFirstWithin version pieces starts n = AreWithinBetween (ranges_of version) pieces 0 (part_start starts n)
 
 module _ (version : ℕ) (pieces : List Piece) (starts : List ℕ) (told : List Bool) (cut : AreCut pieces starts) (are : AreOfParts (TellsOfLimits version pieces) starts told) where
-  pub none_first : AreFirstWithin version pieces starts 0
+  none_first : AreFirstWithin version pieces starts 0
   none_first number piece from below at = let none = cut.from_first in absurd (omega (arith, below, none))
 
-  pub part_more : (n : ℕ) → n < length told → get_or told n false ≡ true → AreFirstWithin version pieces starts n → AreFirstWithin version pieces starts (n + 1)
+  part_more : (n : ℕ) → n < length told → get_or told n false ≡ true → AreFirstWithin version pieces starts n → AreFirstWithin version pieces starts (n + 1)
   part_more n lt is before = within_more version pieces (part_start starts n) (part_start starts (n + 1)) before (subst (TellsOfLimits version pieces (part_start starts n) (part_start starts (n + 1))) is (are.each n false lt))
 
-  pub part_fails : (n : ℕ) → n < length told → get_or told n false ≡ false → AreWithinBetween (ranges_of version) pieces 0 (length pieces) → ⊥
+  part_fails : (n : ℕ) → n < length told → get_or told n false ≡ false → AreWithinBetween (ranges_of version) pieces 0 (length pieces) → ⊥
   part_fails n lt is all =
       subst (TellsOfLimits version pieces (part_start starts n) (part_start starts (n + 1))) is (are.each n false lt)
       (λ number piece from below at. all number piece (omega arith) (slice_get_within pieces number piece at) at)
 
-  pub all_first : (n : ℕ) → n ≡ length told → AreFirstWithin version pieces starts n → AreWithinBetween (ranges_of version) pieces 0 (length pieces)
+  all_first : (n : ℕ) → n ≡ length told → AreFirstWithin version pieces starts n → AreWithinBetween (ranges_of version) pieces 0 (length pieces)
   all_first n is before number piece from below at =
       let all : part_start starts n ≡ length pieces = last_start pieces starts cut n (are.many ∙ ap (λ k. k + 1) (sym is)) in
       before number piece from (omega (arith, all, below)) at
+
+  -- where all told so
+  within_where_all : All (λ one. IsTrue one) told → (n : ℕ) → n ≤ length told → AreFirstWithin version pieces starts n
+  within_where_all all zero le = none_first
+  within_where_all all (suc n) le =
+      let lt : n < length told = omega (arith, le) in
+      let next : n + 1 ≡ suc n = omega arith in
+      let before = within_where_all all n (omega (arith, le)) in
+      subst (AreFirstWithin version pieces starts) next (part_more n lt (all n false lt) before)
+
+  -- none told otherwise
+  true_or_fails : (n : ℕ) → n < length told → AreWithinBetween (ranges_of version) pieces 0 (length pieces) → (b : Bool) → get_or told n false ≡ b → IsTrue b
+  true_or_fails n lt within true is = refl
+  true_or_fails n lt within false is = absurd (part_fails n lt is within)
+
+  all_where_within : AreWithinBetween (ranges_of version) pieces 0 (length pieces) → All (λ one. IsTrue one) told
+  all_where_within within =
+      All-from_get_or (λ one. IsTrue one) told false (λ n lt. true_or_fails n lt within (get_or told n false) refl)
+
+  -- whether all told so tells of all lemmas
+  pub told_by_all : (result : Bool) → (IsTrue result ↔ All (λ one. IsTrue one) told) → TellsOfLimits version pieces 0 (length pieces) result
+  told_by_all true is = all_first (length told) refl (within_where_all (is.0 refl) (length told) (omega arith))
+  told_by_all false is = λ within. true≢false (sym (is.1 (all_where_within within)))

@@ -4,15 +4,15 @@ use Rattle.match_limits.specs.declared.TheConstants.{LAST_SIDE, MOST_COLOURS, MO
 use Rattle.match_limits.specs.declared.TheConstants.{LAST_LEMMA}
 use Rattle.std.specs.Str.{bytes_eq}
 use Rattle.match_board.specs.declared.symmetry_lines.SymmetryLine.{SymmetryLine}
-use Rattle.plain_words.specs.declared.faults.TextFault.{TextFault}
-use Rattle.plain_words.specs.declared.faults.TextKind.{TextKind}
-use Rattle.plain_words.specs.declared.faults.TextKind.TheVariants.{Word}
+use Rattle.text_words.specs.declared.faults.TextFault.{TextFault}
+use Rattle.text_words.specs.declared.faults.TextKind.{TextKind}
+use Rattle.text_words.specs.declared.faults.TextKind.TheVariants.{Word}
 use Rattle.match_limits.specs.declared.ranges.Ranges.{Ranges}
 use Rattle.match_limits.specs.declared.ranges.TheConstants.{SECOND}
 use Rattle.match_limits.specs.Ranges.{ranges_of}
-use Rattle.numbered_pieces.specs.declared.faults.AssembleFault.TheVariants.{Memory}
-use Rattle.numbered_pieces.specs.Assembly.{Assembles}
-use Rattle.plain_words.specs.Words.{fixed_in, number_in}
+use Rattle.cert_tree.specs.declared.faults.AssembleFault.TheVariants.{Memory}
+use Rattle.cert_tree.specs.Assembly.{Assembles}
+use Rattle.text_words.specs.PlainWords.{fixed_in, number_in}
 use Rattle.text_words.specs.Words.{colour_in, pair_in}
 use Rattle.text_words.specs.Place.{Read, ◌>>=◌, give, line_of, word_by, entries, opening, counted, closing, end_of_text}
 use Rattle.text_words.specs.Place.{times, start, value_of}
@@ -73,7 +73,7 @@ pub record Said : Type 0 where
   pub symmetries : List SymmetryLine
   pub pieces : List Piece
 
--- so many lemmas and the end, behind what stands before them
+-- `count` lemmas and the end of the text, where the version and the symmetries were read before them
 abbrev pub lemmas_then_end : ℕ → List SymmetryLine → ℕ → Read Said
 lemmas_then_end version symmetries count = do
   pieces ← times count (lemma_line (ranges_of version))

@@ -1,10 +1,10 @@
 -- Entries of a line up to a word.
 use Rattle.std.specs.Prelude.{ℕ, zero, suc, List, [], ◌∷◌, Bool, false, not, Result, Ok, Err, if◌then◌else◌}
 use Rattle.std.specs.Str.{bytes_eq}
-use Rattle.plain_words.specs.declared.faults.TextFault.{TextFault}
-use Rattle.plain_words.specs.declared.faults.TextKind.{TextKind}
-use Rattle.plain_words.specs.declared.faults.TextKind.TheVariants.{Limit}
-use Rattle.plain_words.specs.Words.{◌>>=◌}
+use Rattle.text_words.specs.declared.faults.TextFault.{TextFault}
+use Rattle.text_words.specs.declared.faults.TextKind.{TextKind}
+use Rattle.text_words.specs.declared.faults.TextKind.TheVariants.{Limit}
+use Rattle.text_words.specs.PlainWords.{◌>>=◌}
 use Rattle.text_words.specs.Place.{Place, Read, fail}
 
 -- whether a further word stands there, other than this one
@@ -12,8 +12,8 @@ abbrev pub goes_on : List ℕ → List (List ℕ) → Bool
 goes_on stop [] = false
 goes_on stop (word ∷ others) = not (bytes_eq word stop)
 
--- Each word before the first `stop`, or the end of the line, is an entry, and there are at most so many; the entries,
--- and what follows them.
+-- Each word before the first `stop`, or the end of the line, is an entry, and there are at most `room` entries; the
+-- entries, and what follows them.
 unfoldable pub entries_before_in : {X : Type 0} → (stop : List ℕ) → ℕ → (List ℕ → Result X TextKind) → List (List ℕ)
     → Result (List X × List (List ℕ)) TextKind
 entries_before_in stop room test [] = Ok ([], [])

@@ -1,7 +1,7 @@
 -- How a fault of a certificate's text is told.
 use Rattle.std.specs.Prelude.{ℕ, List, codes}
-use Rattle.numbered_pieces.specs.FaultText.{assemble_fault_text}
-use Rattle.plain_words.specs.FaultText.{text_fault_text}
+use Rattle.cert_tree.specs.FaultText.{assemble_fault_text}
+use Rattle.text_words.specs.FaultText.{text_fault_text}
 use Rattle.cert_text.specs.declared.faults.CertTextFault.{CertTextFault}
 use Rattle.cert_text.specs.declared.faults.CertTextFault.TheVariants as cert_text
 

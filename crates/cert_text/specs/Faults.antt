@@ -1,8 +1,8 @@
 -- Faults of what is read and made, as those of a document.
-use Rattle.numbered_pieces.specs.declared.faults.AssembleFault.{AssembleFault}
-use Rattle.numbered_pieces.specs.declared.faults.AssembleFault.TheVariants as assemble
-use Rattle.plain_words.specs.declared.faults.ReadFault.{ReadFault}
-use Rattle.plain_words.specs.declared.faults.ReadFault.TheVariants as read
+use Rattle.cert_tree.specs.declared.faults.AssembleFault.{AssembleFault}
+use Rattle.cert_tree.specs.declared.faults.AssembleFault.TheVariants as assemble
+use Rattle.text_words.specs.declared.faults.ReadFault.{ReadFault}
+use Rattle.text_words.specs.declared.faults.ReadFault.TheVariants as read
 use Rattle.cert_text.specs.declared.faults.CertTextFault.{CertTextFault}
 use Rattle.cert_text.specs.declared.faults.CertTextFault.TheVariants as certificate_text
 

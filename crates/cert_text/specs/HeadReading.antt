@@ -1,10 +1,10 @@
 -- Trees that are read head by head.
 use Rattle.std.specs.Prelude.{◌≡◌, ℕ, List, ◌++◌, Result, Ok, Err}
 use Rattle.match_limits.specs.declared.TheConstants.{LAST_ARRANGEMENT, LAST_SYMMETRY, LAST_LEMMA}
-use Rattle.plain_words.specs.declared.faults.TextFault.{TextFault}
-use Rattle.plain_words.specs.declared.faults.ReadFault.{ReadFault}
+use Rattle.text_words.specs.declared.faults.TextFault.{TextFault}
+use Rattle.text_words.specs.declared.faults.ReadFault.{ReadFault}
 use Rattle.match_limits.specs.declared.ranges.Ranges.{Ranges}
-use Rattle.plain_words.specs.Words.{number_in}
+use Rattle.text_words.specs.PlainWords.{number_in}
 use Rattle.text_words.specs.Place.{Place, Read, ◌>>=◌, give, word_by, Fails}
 use Rattle.cert_tree.specs.declared.heads.Head.{Head}
 use Rattle.cert_tree.specs.declared.heads.Head.TheVariants as heads
@@ -58,7 +58,7 @@ abbrev pub ReadsOnto : Result (Unit {0}) ReadFault → Place → (old new : List
 ReadsOnto (Ok _) after old new read = (tree : Tree) × (read ≡ Ok (tree, after)) × (new ≡ old ++ heads_of tree)
 ReadsOnto (Err e) after old new read = Fails e read
 
--- The same of several trees.
+-- Reading gives several trees, one after the other, and the heads of all of them went behind the old ones.
 abbrev pub ReadAllOnto : Result (Unit {0}) ReadFault → Place → (old new : List Head)
     → Result (List Tree × Place) TextFault → Type 0
 ReadAllOnto (Ok _) after old new read =

@@ -10,7 +10,7 @@ use Rattle.cert_text.specs.CertificateSpelling.{AreLinesBetween, AreWithinBetwee
 abbrev pub part_start : (starts : List ℕ) → (number : ℕ) → ℕ
 part_start starts number = slice_index_or starts number 0
 
--- Parts of so many lemmas begin there, one behind the other, and the last number is where the last of them ends.
+-- `count` lemmas are cut into parts that begin there, one behind the other; the last part ends at the last number.
 pub record AreStarts (count : ℕ) (starts : List ℕ) : Type 0 where
   pub some : 1 ≤ length starts
   pub few : length starts ≤ MOST_LEMMAS

@@ -1,7 +1,7 @@
 -- A certificate's text whose lemma lines are cut into parts, each read by itself.
 use Rattle.std.specs.Prelude.{◌≡◌, ◌<◌, ℕ, List, [], ◌∷◌, ◌++◌, Result, Ok, Err, Some, length, slice_get, slice_index_or}
-use Rattle.plain_words.specs.declared.faults.TextFault.{TextFault}
-use Rattle.plain_words.specs.declared.faults.ReadFault.{ReadFault}
+use Rattle.text_words.specs.declared.faults.TextFault.{TextFault}
+use Rattle.text_words.specs.declared.faults.ReadFault.{ReadFault}
 use Rattle.match_limits.specs.Ranges.{ranges_of}
 use Rattle.text_words.specs.Place.{Place, Says, closing, times, value_of}
 use Rattle.cert_tree.specs.Certificate.{Piece}
@@ -46,6 +46,11 @@ IsReadAt parts n one = (part : LemmaPart) → slice_get parts n ≡ Some part �
 pub record AreRead (parts : List LemmaPart) (read : List (Result (List Piece) ReadFault)) : Type 0 where
   pub many : length read ≡ length parts
   pub each : (n : ℕ) (d : Result (List Piece) ReadFault) → n < length read → IsReadAt parts n (slice_index_or read n d)
+
+-- The lemmas are joined from what was read: whatever parts this was read of, it is what they say.
+abbrev pub AreJoined : (read : List (Result (List Piece) ReadFault)) → Result (List Piece) ReadFault → Type 0
+AreJoined read result =
+    (parts : List LemmaPart) → AreRead parts read → Says (λ pieces. pieces) result (parts_say parts)
 
 -- what was read, and where reading goes on
 abbrev pub left_at : {X : Type 0} → Place → Result X TextFault → Result (X × Place) TextFault

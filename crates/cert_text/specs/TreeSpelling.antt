@@ -9,7 +9,7 @@ abbrev pub branch_words : Item → List (List ℕ)
 branch_words (items.Cell cell) = codes "c" ∷ decimal cell ∷ []
 branch_words (items.Tile tile) = codes "t" ∷ decimal tile ∷ []
 
--- the same where nothing fits
+-- the letter and the item of a dead end, where nothing fits
 abbrev pub dead_words : Item → List (List ℕ)
 dead_words (items.Cell cell) = codes "d" ∷ decimal cell ∷ []
 dead_words (items.Tile tile) = codes "e" ∷ decimal tile ∷ []

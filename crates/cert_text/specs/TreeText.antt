@@ -3,11 +3,11 @@ use Rattle.std.specs.Prelude.{ℕ, zero, suc, List, [], ◌∷◌, Result, Ok, E
 use Rattle.match_limits.specs.declared.TheConstants.{LAST_ARRANGEMENT, LAST_SYMMETRY, LAST_LEMMA}
 use Rattle.std.specs.Str.{bytes_eq}
 use Rattle.match_puzzle.specs.declared.items.Item.TheVariants as items
-use Rattle.plain_words.specs.declared.faults.TextFault.{TextFault}
-use Rattle.plain_words.specs.declared.faults.TextKind.{TextKind}
-use Rattle.plain_words.specs.declared.faults.TextKind.TheVariants.{Word, TooDeep}
+use Rattle.text_words.specs.declared.faults.TextFault.{TextFault}
+use Rattle.text_words.specs.declared.faults.TextKind.{TextKind}
+use Rattle.text_words.specs.declared.faults.TextKind.TheVariants.{Word, TooDeep}
 use Rattle.match_limits.specs.declared.ranges.Ranges.{Ranges}
-use Rattle.plain_words.specs.Words.{number_in}
+use Rattle.text_words.specs.PlainWords.{number_in}
 use Rattle.text_words.specs.Place.{Place, Read, ◌>>=◌, give, fail, word_by, times}
 use Rattle.cert_tree.specs.Tree.{Tree, Forest, branch, dead, found, same, image, none, more}
 use Rattle.cert_text.specs.declared.tree_readers.NodeKind.{NodeKind}
@@ -69,7 +69,7 @@ abbrev pub too_deep_from : ℕ → List (List ℕ) → Result (Tree × Place) Te
 too_deep_from line [] = fail line Word
 too_deep_from line (word ∷ words) = fail line TooDeep
 
--- a tree of up to so many levels, each node before its children
+-- a tree of up to `room` levels, each node before its children
 unfoldable pub tree_by : Ranges → ℕ → Read Tree
 tree_by ranges zero p = too_deep_from p.line p.words
 tree_by ranges (suc room) p = (word_by node_kind_in >>= node_by ranges (tree_by ranges room)) p

@@ -1,11 +1,11 @@
 //! Whether a certificate is within the limits of its text, found by a crew of workers (threads).
 
-ghost use Rattle.std.specs.Prelude.{◌≤◌, IfOk, MatchBool, length};
+ghost use Rattle.std.specs.Prelude.{◌≤◌, ◌↔◌, All, IfOk, IsTrue, MatchBool, length};
 ghost use Rattle.match_limits.specs.declared.TheConstants.{MOST_WORKERS};
 ghost use Rattle.match_limits.specs.Ranges.{IsVersion};
 ghost use Rattle.cert_text.specs.CertificateSpelling.{IsCertificateWithin};
 ghost use Rattle.cert_text.specs.Writing.{said_by};
-ghost use Rattle.cert_text.specs.LemmaParts.{AreCut, AreOfParts, TellsOfLimits};
+ghost use Rattle.cert_text.specs.LemmaParts.{AreCut, TellsOfLimits};
 
 use crate::lemma_parts::LemmaParts;
 use crate::limits::{are_lemmas_within_limits, are_symmetries_within_limits};
@@ -54,14 +54,12 @@ fn are_parts_within<R: Threads + Sync>(
 {
     let limits = Limits { version, parts };
     let told = run_from_last(rt, alloc, &limits, parts.count(), workers)?;
-    Ok(are_all(parts, version, &told))
+    Ok(are_all(&told))
 }
 
-// Whether all parts are within the limits.
-fn are_all(_parts: &LemmaParts<'_>, _version: u8, told: &[bool]) -> bool
-    requires cut { AreCut _parts.now.lemmas.now _parts.now.starts.items }
-    requires told { AreOfParts (TellsOfLimits _version _parts.now.lemmas.now) _parts.now.starts.items told.now }
-    ensures { TellsOfLimits _version _parts.now.lemmas.now 0 (length _parts.now.lemmas.now) result }
+// Whether all of these are true.
+fn are_all(told: &[bool]) -> bool
+    ensures { IsTrue result ↔ All (λ one. IsTrue one) told.now }
 {
     for number in 0..told.len() {
         if !told[number] {

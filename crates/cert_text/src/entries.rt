@@ -2,7 +2,7 @@
 
 ghost use Rattle.std.specs.Prelude.{◌≡◌, ◌+◌, ◌<◌, ◌++◌, codes, length, drop};
 ghost use Rattle.match_limits.specs.Ranges.{AreRanges};
-ghost use Rattle.plain_words.specs.Words.{number_in};
+ghost use Rattle.text_words.specs.PlainWords.{number_in};
 ghost use Rattle.text_words.specs.Words.{colour_in, pair_in};
 ghost use Rattle.text_words.specs.Place.{Gives, Reads, entries, word_by};
 ghost use Rattle.cert_text.specs.Entries.{goes_on, entries_before};

@@ -2,7 +2,6 @@
 
 ghost use Rattle.std.specs.Prelude.{◌≡◌, ◌≤◌, IfOk, length};
 ghost use Rattle.match_limits.specs.declared.TheConstants.{MOST_LEMMAS};
-ghost use Rattle.cert_tree.specs.Certificate.{Piece};
 ghost use Rattle.cert_text.specs.LemmaParts.{AreCut, AreStarts, IsPart, part_start};
 
 use cert_tree::Lemmas;

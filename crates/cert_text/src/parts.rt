@@ -5,7 +5,7 @@ ghost use Rattle.match_limits.specs.Ranges.{ranges_of};
 ghost use Rattle.text_words.specs.Place.{Place, Fails, Says, skip_lines, times};
 ghost use Rattle.cert_text.specs.CertificateText.{CertificateGives, certificate_of, lemma_line};
 ghost use Rattle.cert_text.specs.Lines.{said_of};
-ghost use Rattle.cert_text.specs.Parts.{AreRead, IsCutOf, cut_says, left_at, part_says, parts_say};
+ghost use Rattle.cert_text.specs.Parts.{AreJoined, AreRead, IsCutOf, cut_says, left_at, part_says, parts_say};
 
 use crate::faults::CertTextFault;
 use crate::readers::{Beginning, CertificateLines, made, read_beginning, read_lemmas};
@@ -118,13 +118,8 @@ pub fn cut_certificate(
 }
 
 // All lemmas in the order of the parts, or the first fault. What was read of a part stays where it lies.
-fn joined(
-    alloc: Global,
-    _parts: &[LemmaPart<'_>],
-    read: Vec<Result<Lemmas, ReadFault>>,
-) -> Result<Lemmas, ReadFault>
-    requires { AreRead _parts.now read.items }
-    ensures { Says (λ lemmas. lemmas) result (parts_say _parts.now) }
+fn joined(alloc: Global, read: Vec<Result<Lemmas, ReadFault>>) -> Result<Lemmas, ReadFault>
+    ensures { AreJoined read.items result }
 {
     let mut all = Lemmas::none(alloc);
     for one in read {
@@ -152,10 +147,10 @@ impl<'a> CutCertificate<'a> {
     {
         let CutCertificate {
             beginning,
-            parts,
             mut end,
+            ..
         } = self;
-        let lemmas = joined(alloc, &parts, read)?;
+        let lemmas = joined(alloc, read)?;
         end.closing()?;
         Ok(CertificateLines {
             version: beginning.version,

@@ -1,12 +1,12 @@
 //! Reads lemmas and certificates.
 
-ghost use Rattle.std.specs.Prelude.{◌≡◌, ◌+◌, ◌<◌, ◌≤◌, ◌^◌, ◌++◌, ℕ, Ok, Err, IfOk, IfSome};
+ghost use Rattle.std.specs.Prelude.{◌≡◌, ◌+◌, ◌<◌, ◌≤◌, ◌^◌, ℕ, Ok, Err, IfOk, IfSome};
 ghost use Rattle.std.specs.Prelude.{length, take};
 ghost use Rattle.match_limits.specs.Ranges.{AreRanges};
-ghost use Rattle.plain_words.specs.Words.{Judges};
+ghost use Rattle.text_words.specs.PlainWords.{Judges};
 ghost use Rattle.text_words.specs.Place.{Gives, Reads, Says, fail, times, word_by};
-ghost use Rattle.plain_words.specs.declared.faults.TextKind.TheVariants as kinds;
-ghost use Rattle.plain_words.specs.Bytes.{line_ends};
+ghost use Rattle.text_words.specs.declared.faults.TextKind.TheVariants as kinds;
+ghost use Rattle.text_words.specs.Bytes.{line_ends};
 ghost use Rattle.cert_tree.specs.Certificate.{Piece, piece_of};
 ghost use Rattle.cert_tree.specs.Limits.{IsLemmaWithin};
 ghost use Rattle.cert_text.specs.Lines.{said_of, Begins, ReadsBehind};

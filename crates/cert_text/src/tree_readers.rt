@@ -3,7 +3,7 @@
 ghost use Rattle.std.specs.Prelude.{◌≡◌, ◌+◌, ◌<◌, ◌≤◌, ◌^◌, ◌++◌, Err, OnOk, length, drop};
 ghost use Rattle.match_limits.specs.declared.ranges.Ranges.{Ranges as RangesOf};
 ghost use Rattle.match_limits.specs.Ranges.{AreRanges};
-ghost use Rattle.plain_words.specs.Words.{Judges};
+ghost use Rattle.text_words.specs.PlainWords.{Judges};
 ghost use Rattle.text_words.specs.Place.{Gives, Reads, times, word_by};
 ghost use Rattle.cert_tree.specs.Heads.{trees_in, first, AreOfTree};
 ghost use Rattle.cert_text.specs.TreeText.{node_kind_in, tree_by};

@@ -1,3 +1,7 @@
+pub mod AssemblyLemmas
+pub mod NumberedLemmas
+pub mod OrderLemmas
+pub mod MadeLemmas
 pub mod TreeLemmas
 pub mod HeadLemmas
 pub mod SpanLemmas

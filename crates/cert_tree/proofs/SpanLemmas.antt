@@ -10,7 +10,7 @@ use Rattle.cert_tree.specs.declared.flat_lemmas.LemmaSpan.{LemmaSpan}
 use Rattle.cert_tree.specs.Heads.{heads_of, trees_in, first, AreOfTree}
 use Rattle.std.specs.Prelude.{All}
 use Rattle.match_limits.proofs.ListLemmas.{place_of}
-use Rattle.numbered_pieces.specs.Assembly.{Assembles}
+use Rattle.cert_tree.specs.Assembly.{Assembles}
 use Rattle.match_puzzle.proofs.Prefixes.{inside}
 use Rattle.cert_tree.specs.declared.certificates.Lemma.{Lemma}
 use Rattle.cert_tree.specs.Tree.{Tree, tree_of, IsNarrow}

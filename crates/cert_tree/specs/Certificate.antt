@@ -22,11 +22,11 @@ pub record Contents : Type 0 where
 abbrev pub piece_of : Lemma → Piece
 piece_of lemma = record { number = lemma.number; prefix = lemma.prefix; tree = tree_of lemma.tree }
 
--- the same of a lemma that is lent
+-- a lemma that is lent, without where it lies in memory
 abbrev pub lent_piece : Bor Lemma → Piece
 lent_piece lemma = piece_of lemma.now
 
--- the same of a lemma of a certificate
+-- a lemma of a certificate, without where it lies in memory
 abbrev pub flat_piece : FlatLemma → Piece
 flat_piece lemma = record { number = lemma.number; prefix = lemma.prefix.now; tree = lemma.tree }
 

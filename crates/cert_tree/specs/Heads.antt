@@ -6,7 +6,7 @@ use Rattle.cert_tree.specs.declared.heads.Head.{Head}
 use Rattle.cert_tree.specs.declared.heads.Head.TheVariants as heads
 use Rattle.cert_tree.specs.Tree.{Tree, Forest, branch, dead, found, same, image, none, more, count}
 
--- a branch over the item, with so many children
+-- the head of a branch over the item, with this number of children
 abbrev pub branch_head : Item → ℕ → Head
 branch_head (items.Cell cell) children = heads.Cell cell children
 branch_head (items.Tile tile) children = heads.Tile tile children
@@ -37,13 +37,13 @@ abbrev pub join : Forest → Forest → Forest
 join none others = others
 join (more tree trees) others = more tree (join trees others)
 
--- the first so many of the trees
+-- the first `n` of the trees
 abbrev pub front : ℕ → Forest → Forest
 front zero trees = none
 front (suc n) none = none
 front (suc n) (more tree trees) = more tree (front n trees)
 
--- the trees after these
+-- the trees after the first `n`
 abbrev pub past : ℕ → Forest → Forest
 past zero trees = trees
 past (suc n) none = none

@@ -1,3 +1,6 @@
+pub mod Assembly
+pub mod Slots
+pub mod FaultText
 pub mod Tree
 pub mod Heads
 pub mod HeadCode

@@ -1,4 +1,4 @@
--- Which trees and lemmas are within limits: those of a board that has at most so many cells, and as many tiles.
+-- Which trees and lemmas are within limits: those of a board of at most `cells` cells and as many tiles.
 use Rattle.std.specs.Prelude.{◌≤◌, ◌<◌, ◌+◌, ◌*◌, ℕ, zero, suc, length}
 use Rattle.match_limits.specs.declared.TheConstants.{LAST_ARRANGEMENT, LAST_LEMMA, LAST_SYMMETRY, LAST_TURN}
 use Rattle.std.specs.List.{AllByRecursion}
@@ -9,7 +9,7 @@ use Rattle.cert_tree.specs.Tree.{Tree, Forest, branch, dead, found, same, image,
 use Rattle.cert_tree.specs.Certificate.{Piece}
 
 abbrev mutual
-  -- The tree has at most so many levels of nodes.
+  -- The tree has at most `room` levels of nodes.
   pub HasLevels : (room : ℕ) → Tree → Type 0
   HasLevels zero tree = ⊥
   HasLevels (suc room) (branch item children) = HaveLevels room children
@@ -27,8 +27,8 @@ IsItemWithin cells (items.Cell cell) = cell < cells
 IsItemWithin cells (items.Tile tile) = tile < cells
 
 abbrev mutual
-  -- The tree has at most so many levels, and its numbers are within the limits. A branch has at most four children for
-  -- each cell, or each tile.
+  -- The tree has at most `room` levels, and its numbers are within the limits of a board of at most `cells` cells and
+  -- as many tiles. A branch has at most four children for each cell, or each tile.
   pub IsTreeWithin : (cells room : ℕ) → Tree → Type 0
   IsTreeWithin cells zero tree = ⊥
   IsTreeWithin cells (suc room) (branch item children) =

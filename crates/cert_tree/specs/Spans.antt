@@ -60,7 +60,7 @@ pub record IsPlaced (blocks : List Block) (span : LemmaSpan) : Type 0 where
 abbrev pub ArePlaced : List Block → List LemmaSpan → Type 0
 ArePlaced blocks spans = (span : LemmaSpan) → Contains spans span → IsPlaced blocks span
 
--- the same, so many blocks further on
+-- the span of the same lemma once there are `blocks` more blocks before its own
 abbrev pub moved_by : (blocks : ℕ) → LemmaSpan → LemmaSpan
 moved_by blocks span = record {
   number = span.number;
@@ -71,6 +71,6 @@ moved_by blocks span = record {
   heads_end = span.heads_end;
 }
 
--- Its block can be named so much further on.
+-- There may be `blocks` more blocks before the span's own: its block's number stays below 2^64.
 abbrev pub CanMove : (blocks : ℕ) → LemmaSpan → Type 0
 CanMove blocks span = blocks + span.block < 2 ^ 64

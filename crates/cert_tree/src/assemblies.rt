@@ -1,17 +1,19 @@
 //! Puts certificates together from numbered pieces.
 
 ghost use Rattle.std.specs.Prelude.{◌≡◌, ◌≤◌, ◌<◌, ◌^◌, Ok, Err, All, IfOk, IfErr, IsErrOf, length, map};
-ghost use Rattle.numbered_pieces.specs.Assembly.{Assembles, HaveNoStranger, IsOneInAnyOrder};
+ghost use Rattle.cert_tree.specs.Assembly.{Assembles, HaveNoStranger};
 ghost use Rattle.cert_tree.specs.Certificate.{piece_number, piece_of};
 ghost use Rattle.cert_tree.specs.Spans.{number_of};
 ghost use Rattle.cert_tree.specs.Tree.{tree_of, IsNarrow};
 
 use crate::certificates::{Certificate, Lemma};
 use crate::conversions::flat_lemmas;
+use crate::faults::AssembleFault;
 use crate::flat_lemmas::{FlatLemma, LemmaSpan, Lemmas};
+use crate::numbered::assembled;
+use crate::strangers::{Numbered, least_stranger};
 use match_board::SymmetryLine;
 use match_limits::MOST_LEMMAS;
-use numbered_pieces::{AssembleFault, Numbered, assembled, least_stranger};
 use std::alloc::Global;
 
 impl Numbered for LemmaSpan {
@@ -96,9 +98,3 @@ pub fn assemble(
     let flat = flat_lemmas(alloc, &pieces)?;
     assemble_flat(alloc, count, symmetries, flat)
 }
-
-/// A law; the call does nothing. Whatever order lemmas come in, they make the same certificate or have the same first
-/// fault.
-pub fn assembly_laws()
-    ensures pieces { IsOneInAnyOrder piece_number }
-{}

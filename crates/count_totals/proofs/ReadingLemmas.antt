@@ -4,9 +4,9 @@ use Rattle.std.specs.Str.{IsUtf8}
 use Rattle.std.specs.Str.Parse.{ParsesUnsigned}
 use Rattle.std.proofs.lemmas.Fmt.{IsAscii-decimal, decimal_injective, parse-decimal}
 use Rattle.std.proofs.lemmas.Str.{IsUtf8-from_ascii}
-use Rattle.plain_words.specs.Bytes.{cut_at}
-use Rattle.plain_words.proofs.FrontLemmas.{has_no-append}
-use Rattle.plain_words.proofs.WordLemmas.{cut_dot, cut_parts, decimal_lacks, has_no, some_is}
+use Rattle.text_words.specs.Bytes.{cut_at}
+use Rattle.text_words.proofs.WordEndLemmas.{has_no-append}
+use Rattle.text_words.proofs.WordLemmas.{cut_dot, cut_parts, decimal_lacks, has_no, some_is}
 use Rattle.count_totals.specs.Lines.{part_words}
 
 pub number_is_text : (n : ℕ) (text : List ℕ) → n < 2 ^ 64 → text ≡ decimal n → IsUtf8 text

@@ -1,6 +1,6 @@
 -- What lines tell, line by line.
 use Rattle.std.proofs.Common.{◌≡◌, ◌≢◌, ◌∙◌, ◌<◌, ◌≤◌, ◌+◌, ◌-◌, ◌++◌, ◌∷◌, [], ℕ, List, Option, Some, None, Contains, length, map, slice_get, set, get_or, length-set, get_or-set_same, get_or-set_other, replicate, arith, ap, sym, subst, refl, inl, inr, ⊎_elim, ◌&&◌, true, false, is_some, eqb, eqb-true, ap₂}
-use Rattle.plain_words.proofs.WordLemmas.{both}
+use Rattle.text_words.proofs.WordLemmas.{both}
 use Rattle.std.proofs.lemmas.Bool.{cases_eq}
 use Rattle.std.proofs.lemmas.List.{get_or-replicate, length-map, length-replicate}
 use Rattle.std.proofs.lemmas.List.Elements.{Contains-append_left, Contains-push, Contains-push_cases}

@@ -1,7 +1,7 @@
 -- Lines of a text.
 use Rattle.std.proofs.Common.{◌≡◌, ◌≢◌, ◌∙◌, ◌+◌, ◌++◌, ◌∷◌, [], ℕ, List, Option, Some, None, Bool, true, false, length, cond, eqb, ap, sym, subst, refl, ⊎_elim, append_assoc, eq-eqb}
-use Rattle.plain_words.specs.Bytes.{cut_at, onto}
-use Rattle.plain_words.proofs.WordLemmas.{some_is}
+use Rattle.text_words.specs.Bytes.{cut_at, onto}
+use Rattle.text_words.proofs.WordLemmas.{some_is}
 use Rattle.std.proofs.lemmas.List.Elements.{Contains-push_cases}
 use Rattle.count_totals.specs.Lines.{AreInRange, AreLinesOf, IsInRange, line_text, text_of}
 use Rattle.count_totals.specs.Tallies.{BeginsWith, BeginsWithNone}

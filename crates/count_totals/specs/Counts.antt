@@ -3,7 +3,7 @@ use Rattle.std.specs.Prelude.{◌≡◌, ◌≤◌, ◌<◌, ◌+◌, ◌-◌, �
 use Rattle.count_totals.specs.declared.faults.PartsFault.{PartsFault}
 use Rattle.count_totals.specs.declared.faults.PartsFault.TheVariants as faults
 
--- The first part that has no count, of so many.
+-- The fault names the first part that has no count, by its number from 1, and how many parts there are.
 abbrev pub IsFirstWithout : (counts : List (Option ℕ)) → PartsFault → Type 0
 IsFirstWithout counts (faults.Missing number parts) =
     (parts ≡ length counts) × (1 ≤ number) × (slice_get counts (number - 1) ≡ Some None)

@@ -69,7 +69,7 @@ NameNoPart lines = (part : CountedPart) → Contains lines (Part part) → ⊥
 abbrev pub NamePart : List Line → (number : ℕ) → Type 0
 NamePart lines number = (part : CountedPart) × Contains lines (Part part) × (part.number ≡ number)
 
--- The lines name parts of so many, and the least one that none of them names has this number.
+-- A line names one of `parts` parts, and `number` is the least part, from 1 to `parts`, that no line names.
 pub record LackPart (lines : List Line) (number parts : ℕ) : Type 0 where
   pub named : (part : CountedPart) × Contains lines (Part part) × (part.parts ≡ parts)
   pub some : 1 ≤ number

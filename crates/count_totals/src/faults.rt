@@ -15,7 +15,7 @@ pub enum Clash {
     Puzzle,
     /// It names another split.
     Split,
-    /// It names a part of so many, and one before a part of so many others.
+    /// It names one of `parts` parts, and a line before it names one of `earlier`.
     Parts {
         parts: u32,
         earlier: u32,
@@ -63,7 +63,7 @@ pub enum PartsFault {
     NoSplit,
     /// No line names a part.
     NoPart,
-    /// No line names the part of this number, of so many.
+    /// No line names the part of this number, of `parts` parts.
     Missing { number: u32, parts: u32 },
     Memory,
 }

@@ -1,9 +1,8 @@
 //! The lines that a count of a part prints.
 
-ghost use Rattle.std.specs.Prelude.{◌≡◌, ◌++◌, ◌∷◌, [], OnOk, codes, decimal};
+ghost use Rattle.std.specs.Prelude.{◌≡◌, ◌++◌, ◌∷◌, [], OnOk};
 ghost use Rattle.count_totals.specs.Lines.{line_text};
 ghost use Rattle.count_totals.specs.declared.lines.Line.TheVariants as lines;
-ghost use Rattle.hex.specs.Hex.{encode_lower};
 
 use std::alloc::{AllocError, Global};
 

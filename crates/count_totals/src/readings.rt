@@ -12,8 +12,8 @@ use crate::MOST_PARTS;
 use crate::lines::{CountedPart, Line, SplitLine};
 use hex::FromHex;
 use itoa::Buffer;
-use plain_words::cut;
 use std::str;
+use text_words::cut;
 
 /// The line that stands there, without its end; none where it is not one that a count of a part prints, to the byte.
 pub fn read_line(text: &[u8]) -> Option<Line>

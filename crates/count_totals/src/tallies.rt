@@ -1,6 +1,6 @@
 //! What lines of counted parts told so far.
 
-ghost use Rattle.std.specs.Prelude.{◌≡◌, ◌≤◌, ◌<◌, length};
+ghost use Rattle.std.specs.Prelude.{◌≤◌, ◌<◌, length};
 
 use crate::counts::{first_counts, sum_of};
 use crate::faults::{Clash, PartsFault};

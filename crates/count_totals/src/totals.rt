@@ -1,6 +1,6 @@
 //! Sums of counted parts.
 
-ghost use Rattle.std.specs.Prelude.{◌≡◌, ◌<◌, ◌+◌, ◌^◌, List, IfErr, IfOk, length};
+ghost use Rattle.std.specs.Prelude.{◌<◌, ◌+◌, ◌^◌, List, IfErr, IfOk, length};
 ghost use Rattle.count_totals.specs.Lines.{AreLinesOf};
 ghost use Rattle.count_totals.specs.Tallies.{BeginsWith, BeginsWithNone, Tells};
 ghost use Rattle.count_totals.specs.Totals.{FailsToTotal, HasTotal};
@@ -10,8 +10,8 @@ use crate::faults::PartsFault;
 use crate::lines::Line;
 use crate::readings::read_line;
 use crate::tallies::Tally;
-use plain_words::cut_line;
 use std::alloc::Global;
+use text_words::cut_line;
 
 /// How many arrangements all parts have together of which the text has the lines, in any order, as counts of parts print
 /// them: it names one puzzle, one split, and each part of it with one count, be it once or more often.

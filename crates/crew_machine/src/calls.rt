@@ -10,7 +10,7 @@ use crate::steps::StepFault;
 use match_limits::MOST_WORKERS;
 use std::alloc::{AllocError, Global};
 
-// So many queues in which nothing waits.
+// `count` queues in which nothing waits.
 fn empty_queues(alloc: Global, count: u8) -> Result<Vec<Queue>, AllocError>
     ensures { IfOk result (λ v. v.items ≡ copies count []) }
 {
@@ -22,7 +22,7 @@ fn empty_queues(alloc: Global, count: u8) -> Result<Vec<Queue>, AllocError>
     Ok(queues)
 }
 
-// So many workers that did nothing.
+// `count` workers that did nothing.
 fn idle_workers(alloc: Global, count: u8) -> Result<Vec<Worker>, AllocError>
     ensures { IfOk result (λ v. v.items ≡ copies count nobody) }
 {

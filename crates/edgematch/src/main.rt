@@ -3,7 +3,7 @@
 
 ghost use Rattle.std.specs.Prelude.{◌≤◌, IfSome, length};
 
-use match_program::{
+use command_orders::{
     Exit, Input, Output, RunFault, Streams, System, SystemLimits, run_words, stopped,
 };
 use std::env::{Env, FillError};

@@ -31,7 +31,7 @@ row_length (Shape width height mask) row = width
 abbrev pub IsMarked : List Bool → ℕ → Type 0
 IsMarked mask n = slice_index_or mask n false ≡ true
 
--- how many cells a mask has among so many places from the first on
+-- how many cells a mask has at the `more` places from `first` on
 abbrev pub marks_from : List Bool → (first more : ℕ) → ℕ
 marks_from mask first zero = 0
 marks_from mask first (suc more) =
@@ -125,7 +125,7 @@ LiesBefore (Triangle size) row place side row' place' side' =
 LiesBefore (Hexagon size) row place side row' place' side' =
     TrianglesLieBefore (Hexagon size) row place side row' place' side'
 
--- The same, in either order.
+-- The side of the one place lies against that of the other, whichever place is further left or above.
 abbrev pub LiesAgainst : Figure → (row place side row' place' side' : ℕ) → Type 0
 LiesAgainst s row place side row' place' side' =
     LiesBefore s row place side row' place' side' ⊎ LiesBefore s row' place' side' row place side

@@ -3,11 +3,11 @@ use Rattle.std.specs.Prelude.{◌≡◌, ◌⊎◌, ◌<◌, ◌≤◌, ◌+◌,
 use Rattle.std.specs.Prelude.{slice_index, slice_index_or}
 use Rattle.match_limits.specs.Listing.{IsListing}
 
--- the colour on a side of a tile with this word, after so many turns
+-- the colour on side `side` of a tile with this word, after `turn` turns
 unfoldable pub shown : List ℕ → (turn side : ℕ) → ℕ
 shown word turn side = slice_index word ((side + turn) % length word)
 
--- So many turns give the same word.
+-- After `turns` turns the word is the same as before.
 unfoldable pub IsSameAfter : List ℕ → ℕ → Type 0
 IsSameAfter word turns = (side : ℕ) → side < length word → shown word turns side ≡ shown word 0 side
 
@@ -30,7 +30,7 @@ WordComesBefore (colour ∷ word) [] = ⊥
 WordComesBefore (colour ∷ word) (other_colour ∷ other) =
     (colour < other_colour) ⊎ ((colour ≡ other_colour) × WordComesBefore word other)
 
--- so many sides, each of so many colours, and no turn of the word comes before it
+-- a word of `sides` sides, each with one of `colours` colours; no turn of the word comes before it
 pub record IsLeastWord (sides colours : ℕ) (word : List ℕ) : Type 0 where
   pub long : length word ≡ sides
   pub coloured : All (λ colour. colour < colours) word
@@ -40,7 +40,7 @@ pub record IsLeastWord (sides colours : ℕ) (word : List ℕ) : Type 0 where
 abbrev pub AreLeastWords : (sides colours : ℕ) → List (List ℕ) → Type 0
 AreLeastWords sides colours words = IsListing WordComesBefore (IsLeastWord sides colours) words
 
--- There are more than so many least words: a longer rising list of them.
+-- There are more than `most` least words: a rising list of them has more.
 pub record HasMoreLeastWords (sides colours most : ℕ) : Type 0 where
   pub words : List (List ℕ)
   pub least : (word : List ℕ) → Contains words word → IsLeastWord sides colours word
@@ -48,14 +48,14 @@ pub record HasMoreLeastWords (sides colours most : ℕ) : Type 0 where
       → WordComesBefore (slice_index_or words i d) (slice_index_or words j d)
   pub more : most < length words
 
--- After so many turns the word has a lesser colour where it first differs.
+-- At the first side where the word after `turns` turns differs from the word itself, it has the lesser colour.
 pub record IsLessAfter (word : List ℕ) (turns : ℕ) : Type 0 where
   pub side : ℕ
   pub side_in : side < length word
   pub same : (before : ℕ) → before < side → shown word turns before ≡ shown word 0 before
   pub less : shown word turns side < shown word 0 side
 
--- how many words of the same length, over so many colours, come before the word
+-- how many words of the same length, over `colours` colours, come before the word
 unfoldable pub number_of : (colours : ℕ) → List ℕ → ℕ
 number_of colours [] = 0
 number_of colours (colour ∷ word) = colour * colours ^ length word + number_of colours word

@@ -21,7 +21,7 @@ pub struct Clue {
         → colour < MOST_COLOURS },
 }
 
-// What so many sides are asked for, and nothing of a fourth that isn't there: what nobody sees makes no difference.
+// What the first `sides` sides are asked for, and nothing of a missing fourth: what nobody sees makes no difference.
 fn asked_alone(asks: [Option<u8>; SIDES], sides: u8) -> [Option<u8>; SIDES]
     requires { (sides ≡ 3) ⊎ (sides ≡ 4) }
     ensures asked { take sides result ≡ take sides asks }

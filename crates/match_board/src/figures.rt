@@ -163,7 +163,7 @@ impl Figure {
         }
     }
 
-    // The place of the row at which there is a cell, with so many left of it.
+    // The place of the row at which there is a cell with `left` cells left of it.
     fn place_with(&self, row: u16, left: u16) -> u16
         requires board { IsBoard self.now }
         requires row { row < row_count self.now }

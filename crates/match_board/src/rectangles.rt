@@ -1,6 +1,6 @@
 //! The cells of a rectangle, which are squares.
 
-ghost use Rattle.std.specs.Prelude.{◌≡◌, ◌<◌, ◌≤◌, ℕ, IfSome};
+ghost use Rattle.std.specs.Prelude.{◌≡◌, ◌<◌, ℕ, IfSome};
 ghost use Rattle.match_board.specs.Board.{IsPlace, LiesAgainst};
 ghost use Rattle.match_board.specs.declared.figures.Figure.TheVariants.{Rectangle};
 

@@ -1,16 +1,6 @@
-//! Finds the arrangements of a puzzle and a certificate for their list, with a crew: workers that give each other
-//! branches to search. `cert_check` has the check by a crew.
+//! Solves a puzzle, and checks a list by its certificate, with a crew of workers. The check is that of `cert_check`, the
+//! search that of `solver`: neither uses the other, and this crate only hands on both.
 #![tactic(auto)]
 
-mod branches;
-mod faults;
-mod searches;
-mod shared;
-mod solves;
-mod strategy;
-
 pub use cert_check::{Gate, Open, check_with};
-pub use faults::SolveFault;
-pub use match_symmetry::Suggested;
-pub use solves::{SearchPlan, Solved, solve_watched, solve_with};
-pub use xcc_dance::{Unwatched, Watch};
+pub use solver::{SolveFault, Solved, solve_with};

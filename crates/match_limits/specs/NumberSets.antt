@@ -9,7 +9,7 @@ unfoldable pub joined : List ℕ → ℕ
 joined [] = 0
 joined (word ∷ words) = joined words * 2 ^ WORD_BITS + word
 
--- the places of the ones among so many lowest binary digits, rising, counted from the first place
+-- the places of the ones among the number's `digits` lowest binary digits, rising, where the lowest has place `first`
 unfoldable pub places_of_ones : (digits first number : ℕ) → List ℕ
 places_of_ones zero first number = []
 places_of_ones (suc digits) first number =
@@ -20,7 +20,7 @@ places_of_ones (suc digits) first number =
 unfoldable pub members : List ℕ → List ℕ
 members words = places_of_ones NUMBERS 0 (joined words)
 
--- so many words, with no ones from the end on
+-- the words of a set, with no ones from word `end` on
 pub record AreWordsOfSet (words : List ℕ) (end : ℕ) : Type 0 where
   pub long : length words ≡ WORDS
   pub small : (i : ℕ) → slice_index words i < 2 ^ WORD_BITS

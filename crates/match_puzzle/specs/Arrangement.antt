@@ -61,7 +61,7 @@ abbrev pub AreDistinct : {X : Type 0} → List X → Type 0
 AreDistinct {X} xs =
     (place other : ℕ) (x : X) → slice_get xs place ≡ Some x → slice_get xs other ≡ Some x → place ≡ other
 
--- The puzzle has so many arrangements: there is a list of them all, each once, and this is its length.
+-- The puzzle has `count` arrangements: there is a list of them all, each once, and `count` is its length.
 pub record HasArrangements (p : Task) (count : ℕ) : Type 0 where
   pub all : List (List Placement)
   pub just : (a : List Placement) → Contains all a ↔ IsArrangement p a

@@ -90,7 +90,7 @@ abbrev pub numbered_pair : Item → ℕ → Pair
 numbered_pair (Cell cell) n = record { cell = cell; placement = turned_tile (n / 4) (n % 4) }
 numbered_pair (Tile tile) n = record { cell = n / 4; placement = turned_tile tile (n % 4) }
 
--- The item has this number, where there are so many cells: tiles follow the cells.
+-- The item has this number on a board of `cells` cells: tiles follow the cells.
 abbrev pub IsNumberOf : (cells : ℕ) → (number : ℕ) → Item → Type 0
 IsNumberOf cells number (Cell cell) = (number ≡ cell) × (cell < cells)
 IsNumberOf cells number (Tile tile) = number ≡ cells + tile
@@ -102,7 +102,7 @@ IsNotAfter (Cell cell) (Tile other) = Unit {0}
 IsNotAfter (Tile tile) (Cell other) = ⊥
 IsNotAfter (Tile tile) (Tile other) = tile ≤ other
 
--- Of the open items it has the fewest pairs that fit, and of those with so many it is the first.
+-- The item is the first of those open items that have the fewest pairs that fit: cells by number, then tiles by number.
 pub record HasFewestFitting (p : Task) (q : Prefix) (item : Item) : Type 0 where
   pub is_open : IsOpen p q item
   pub fewest : (other : Item) (xs ys : List Pair) → IsOpen p q other → AreFitting p q item xs → AreFitting p q other ys
@@ -122,7 +122,7 @@ pub record IsNextFitting (p : Task) (q : Prefix) (item : Item) (after : Option P
 abbrev pub IsLastFitting : Task → Prefix → Item → (after : Option Pair) → Type 0
 IsLastFitting p q item after = (y : Pair) → FitsItem p q item y → ComesAfterPair item after y → ⊥
 
--- the place of the item in a table, where there are so many cells
+-- the place of the item in a table for a board of `cells` cells
 abbrev pub item_place : (cells : ℕ) → Item → ℕ
 item_place cells (Cell cell) = cell
 item_place cells (Tile tile) = cells + tile

@@ -95,7 +95,7 @@ pub record IsMade (p : Task) (tables : Tables) : Type 0 where
   pub asks : AreAsking p (empty_prefix p) tables.asks.items
   pub clued : tables.clued ≡ false → p.clues ≡ []
 
--- So many border pairs come before this pair.
+-- Just `number` border pairs come before this pair, `n`.
 pub record IsNextNumber (s : Figure) (n : ℕ × ℕ) (number : ℕ) : Type 0 where
   pub pairs : List (ℕ × ℕ)
   pub before : IsBorderBefore s n pairs

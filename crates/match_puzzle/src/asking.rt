@@ -30,7 +30,7 @@ pub(crate) fn beginning(alloc: Global, table: &[CellSides]) -> Result<Vec<u8>, A
     Ok(asks)
 }
 
-// What is asked where nothing is placed on so many cells, and there are no clues.
+// What is asked on a board of `cells` cells where nothing is placed and there are no clues.
 fn nothing_asked(alloc: Global, cells: usize) -> Result<Vec<u8>, AllocError>
     requires { cells ≤ MOST_CELLS }
     ensures long { IfOk result (λ v. length v.items ≡ FIRST_PLACE + 4 * cells) }
@@ -106,8 +106,8 @@ pub(crate) fn four_from(asks: &[u8], place: usize) -> [u8; SIDES]
     ]
 }
 
-/// What the sides of a cell ask, which ask for the ones by clues and for the others by what stands there: `NO_COLOUR`
-/// where these are two colours. Few puzzles have clues, so it stands apart from the walk that asks it.
+/// What is asked of the sides that meet those of a cell: by clues, and by the tile at the cell. It is `NO_COLOUR` at a
+/// side of which these ask two colours. Few puzzles have clues, so this is kept out of the walk's code.
 #[cold]
 #[inline(never)]
 pub(crate) fn both_asked(begins: [u8; SIDES], placed: [u8; SIDES]) -> [u8; SIDES]

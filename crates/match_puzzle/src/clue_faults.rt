@@ -41,7 +41,7 @@ pub(crate) fn broken_clue(board: &Board, rules: &Rules<'_>) -> Option<u32>
     None
 }
 
-// Whether the clue's cell comes before the least or isn't there, or the clue hasn't so many sides.
+// Whether the clue's cell is before cell `least`, or isn't one of the `cells` cells, or the clue hasn't `sides` sides.
 fn is_misplaced(clue: &Clue, least: u16, cells: u16, sides: u8) -> bool
     ensures { MatchBool result
         (((clue_of clue.now).cell < least) ⊎ (cells ≤ (clue_of clue.now).cell)
@@ -52,7 +52,7 @@ fn is_misplaced(clue: &Clue, least: u16, cells: u16, sides: u8) -> bool
     clue.cell() < least || clue.cell() >= cells || clue.sides() != sides
 }
 
-// How many border pairs come before the cell, where so many come before an earlier one.
+// How many border pairs come before the cell, where `number` come before the cell `earlier`.
 fn number_at(board: &Board, earlier: u16, cell: u16, number: u16) -> u16
     requires board { IsBoard board.now }
     requires order { earlier ≤ cell }
@@ -67,7 +67,7 @@ fn number_at(board: &Board, earlier: u16, cell: u16, number: u16) -> u16
     count
 }
 
-// Whether the border asks a side of the clue's cell for another colour, where so many border pairs come before it.
+// Whether the border asks a side of the clue's cell for another colour. `number` border pairs come before the cell.
 fn defies_border(board: &Board, border: &Border, clue: &Clue, number: u16) -> bool
     requires board { IsBoard board.now }
     requires cell { (clue_of clue.now).cell < cell_count board.now }

@@ -1,8 +1,8 @@
 //! Which placements fit a partial arrangement.
 
-ghost use Rattle.std.specs.Prelude.{◌≡◌, ◌↔◌, ◌<◌, ◌≤◌, ◌/◌, ◌%◌, ℕ, List, IfOk, IfSome, IsTrue, Some, length};
+ghost use Rattle.std.specs.Prelude.{◌≡◌, ◌↔◌, ◌<◌, ◌/◌, ◌%◌, ℕ, List, IfOk, IsTrue, Some, length};
 ghost use Rattle.std.specs.Int.{bit_at};
-ghost use Rattle.match_board.specs.Board.{cell_count, side_count};
+ghost use Rattle.match_board.specs.Board.{cell_count};
 ghost use Rattle.match_limits.specs.Listing.{IsListing, ByKey};
 ghost use Rattle.match_puzzle.specs.declared.placements.Placement.{Placement as Standing};
 ghost use Rattle.match_puzzle.specs.declared.placements.Pair.{Pair as StandingPair};

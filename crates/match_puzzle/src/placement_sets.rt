@@ -130,7 +130,8 @@ fn legal_set(turn_counts: &[u8]) -> NumberSet
 }
 
 impl PlacementSets {
-    /// The sets of these tiles, of each of which so many turns are legal, where colours have these mates.
+    /// The sets of these tiles, where `turn_counts` says for each tile how many of its turns are legal, and colours
+    /// have these mates.
     pub(crate) fn new(
         alloc: Global,
         tiles: &[Tile],

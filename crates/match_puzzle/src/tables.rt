@@ -1,7 +1,7 @@
 //! What a puzzle looks up and does not work out anew.
 
-ghost use Rattle.std.specs.Prelude.{◌≡◌, ◌≢◌, ◌<◌, ◌≤◌, ◌+◌, ◌*◌, ◌^◌, ℕ, Bool, List, IfOk, MatchOption, MatchBool};
-ghost use Rattle.std.specs.Prelude.{None, Some, [], false, length, map, slice_get, slice_index, slice_index_or};
+ghost use Rattle.std.specs.Prelude.{◌≡◌, ◌≢◌, ◌<◌, ◌≤◌, ◌+◌, ◌*◌, ◌^◌, ℕ, List, IfOk, MatchOption, MatchBool};
+ghost use Rattle.std.specs.Prelude.{None, Some, [], false, length, map, slice_get, slice_index_or};
 ghost use Rattle.match_board.specs.Board.{cell_count, side_count, IsBoard};
 ghost use Rattle.match_board.specs.declared.figures.Figure.{Figure};
 ghost use Rattle.match_limits.specs.First.{IsLeast};

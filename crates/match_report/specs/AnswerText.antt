@@ -43,7 +43,7 @@ fault_words faults.Root = codes "root" ∷ []
 fault_words (faults.Tree lemma fault) =
     codes "tree" ∷ decimal lemma ∷ codes "at" ∷ path_text fault.path ∷ node_fault_words fault.fault
 
--- the line of an answer on a list of so many arrangements
+-- the line of an answer on a list of `listed` arrangements
 unfoldable pub answer_line : Answer → ℕ → List ℕ
 answer_line Complete listed = line_text (codes "complete" ∷ decimal listed ∷ [])
 answer_line (Refused fault) listed = line_text (codes "refused" ∷ fault_words fault)

@@ -29,7 +29,8 @@ count_text count symmetries =
     text_of (count_words (codes "arrangements") count.arrangements ∷ count_words (codes "pictures") count.pictures
     ∷ count_words (codes "orbits") count.orbits ∷ count_words (codes "symmetries") symmetries ∷ [])
 
--- So many arrangements and orbits are reached from the list, and so many arrangements and pictures the puzzle has.
+-- The count says how many arrangements are reached from the list and in how many orbits, and how many arrangements and
+-- pictures the puzzle has.
 pub record IsCountOf (question : Question) (count : Count) : Type 0 where
   pub reached : IsCount question.puzzle question.symmetries question.listed count
   pub arrangements : HasArrangements question.puzzle count.arrangements

@@ -10,18 +10,18 @@ use Rattle.std.proofs.lemmas.Slice.Eq.{bytes_eq-Decides}
 use Rattle.match_board.specs.Board.{mask_of, shape_of, MarksItsPlaces}
 use Rattle.match_board.specs.declared.figures.Figure.{Figure}
 use Rattle.match_board.specs.declared.figures.Figure.TheVariants as figures
-use Rattle.plain_words.specs.declared.faults.TextKind.TheVariants.{Word}
+use Rattle.text_words.specs.declared.faults.TextKind.TheVariants.{Word}
 use Rattle.match_text.specs.declared.puzzles.BoardKind.{BoardKind}
 use Rattle.match_text.specs.declared.puzzles.BoardKind.TheVariants.{Rectangle, Triangle, Hexagon, Shape}
 use Rattle.match_text.specs.declared.puzzles.BoardLine.{BoardLine}
 use Rattle.match_text.specs.declared.puzzles.BoardLine.TheVariants as lines
-use Rattle.plain_words.specs.Words.{fixed_in, number_in}
+use Rattle.text_words.specs.PlainWords.{fixed_in, number_in}
 use Rattle.text_words.specs.Place.{Place, Read, ◌>>=◌, give, word_by, times}
 use Rattle.match_text.specs.Puzzles.{board_kind_in, board_size, board_line, row_line, shape_by, shape_rows, board_rows, board_part}
 use Rattle.text_words.specs.Spelling.{text_of}
 use Rattle.match_text.specs.PuzzleSpelling.{board_words, row_words, row_lines, mask_lines, board_lines, IsShapeLength, IsFigureWithin}
 use Rattle.text_words.proofs.CutLemmas.{CutsShort, place, bind_ok, ok_is, cuts_bind, cuts_give, cuts_word, cuts_times, cuts_word_line}
-use Rattle.plain_words.proofs.WordLemmas.{Spells, judged_ok, judged_ok_is, both, spells_fixed, spells_number, clean-decimal, are_clean}
+use Rattle.text_words.proofs.WordLemmas.{Spells, judged_ok, judged_ok_is, both, spells_fixed, spells_number, clean-decimal, are_clean}
 use Rattle.text_words.proofs.LineLemmas.{TakesWords, TakesLines, takes_word, takes_then_rest, takes_choice, takes_all, takes_line, takes_same, times_is, times_again, lines_then, lines_apart}
 use Rattle.match_text.proofs.ShapeLemmas.{IsRowOf, takes_row, cuts_row, joined, joined_length, lines_of_rows, rows_cut, rows_are_cut}
 

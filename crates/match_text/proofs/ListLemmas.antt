@@ -7,13 +7,13 @@ use Rattle.std.specs.List.{flat_map, AllByRecursion}
 use Rattle.std.proofs.lemmas.List.{append-nil}
 use Rattle.std.proofs.lemmas.List.Concat.{flat_map_single}
 use Rattle.match_puzzle.specs.declared.placements.Placement.{Placement}
-use Rattle.plain_words.specs.declared.faults.TextKind.TheVariants.{Ends}
-use Rattle.plain_words.specs.declared.faults.ReadFault.{ReadFault}
-use Rattle.plain_words.specs.Bytes.{line_ends}
+use Rattle.text_words.specs.declared.faults.TextKind.TheVariants.{Ends}
+use Rattle.text_words.specs.declared.faults.ReadFault.{ReadFault}
+use Rattle.text_words.specs.Bytes.{line_ends}
 use Rattle.text_words.specs.Laws.{ReadsSpellingsAlone, ReadsEachSpelling, EndsWhereCut}
 use Rattle.text_words.specs.Words.{placement_in}
 use Rattle.text_words.specs.Place.{Place, Read, ◌>>=◌, give, fail, Says, some_entries, times, opening, counted, closing, start}
-use Rattle.plain_words.specs.declared.faults.TextFault.{TextFault}
+use Rattle.text_words.specs.declared.faults.TextFault.{TextFault}
 use Rattle.match_limits.specs.declared.ranges.Ranges.{Ranges}
 use Rattle.match_limits.specs.declared.ranges.TheConstants.{FIRST, SECOND}
 use Rattle.match_limits.specs.Ranges.{ranges_of, AreRanges}

@@ -9,21 +9,21 @@ use Rattle.std.proofs.lemmas.List.Concat.{flat_map_single}
 use Rattle.std.specs.Str.{bytes_eq}
 use Rattle.std.proofs.lemmas.Slice.Eq.{bytes_eq-Decides}
 use Rattle.match_board.specs.Borders.{BorderRule, free, one, each}
-use Rattle.plain_words.specs.declared.faults.TextKind.TheVariants.{Word}
+use Rattle.text_words.specs.declared.faults.TextKind.TheVariants.{Word}
 use Rattle.match_board.specs.Mates.{Mating, unmated, mating_of, IsOfVersion}
 use Rattle.match_board.specs.Clues.{Clue}
 use Rattle.match_limits.specs.declared.ranges.Ranges.{Ranges}
 use Rattle.match_limits.specs.Ranges.{IsVersion}
 use Rattle.match_text.specs.declared.puzzles.BorderKind.{BorderKind}
 use Rattle.match_text.specs.declared.puzzles.BorderKind.TheVariants as kinds
-use Rattle.plain_words.specs.Words.{fixed_in, number_in, version_in}
+use Rattle.text_words.specs.PlainWords.{fixed_in, number_in, version_in}
 use Rattle.text_words.specs.Words.{colour_in, rule_in, tile_in, clue_in}
 use Rattle.text_words.specs.Place.{Place, Read, ◌>>=◌, give, word_by, entries, some_entries, counted, times}
 use Rattle.match_text.specs.Puzzles.{IsPuzzleVersion, puzzle_version_in, match_line, clue_line, counted_clues, clues_part, turns_in, turns_line, border_kind_in, border_rule, border_line, tile_line, mates_line, mated_part, mating_part}
 use Rattle.text_words.specs.Spelling.{text_of, colour_word, rule_word, tile_word, asks_word, first_words, count_words}
 use Rattle.match_text.specs.PuzzleSpelling.{clue_words, counted_lines, clues_lines, AreCluesWithin, turns_word, turns_words, border_words, tile_words, IsBorderWithin, IsMatingWithin, mates_words, mates_lines}
 use Rattle.text_words.proofs.CutLemmas.{CutsShort, place, bind_ok, ok_is, cuts_bind, cuts_give, cuts_word, cuts_entries, cuts_some_entries, cuts_word_line, cuts_counted, cuts_times}
-use Rattle.plain_words.proofs.WordLemmas.{Spells, judged_ok, judged_ok_is, spells_fixed, spells_number, spells_version, clean-decimal, clean-words, is_clean, are_clean}
+use Rattle.text_words.proofs.WordLemmas.{Spells, judged_ok, judged_ok_is, spells_fixed, spells_number, spells_version, clean-decimal, clean-words, is_clean, are_clean}
 use Rattle.text_words.proofs.ColourLemmas.{spells_colour, spells_rule, spells_tile, spells_clue, word_of_clue, clean-colour, clean-rule, clean-tile, clean-asks}
 use Rattle.text_words.proofs.LineLemmas.{TakesRest, TakesLines, takes_word, takes_then_rest, takes_choice, takes_all, takes_line, takes_same, takes_entries, takes_any_entries, takes_two_words, takes_counted, times_is, times_again, lines_then, lines_apart}
 use Rattle.text_words.specs.Within.{IsRuleWithin, IsWordWithin, IsClueWithin}

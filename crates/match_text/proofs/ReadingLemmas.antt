@@ -16,11 +16,11 @@ use Rattle.match_board.specs.Borders.{BorderRule, free, one, each, IsShortRule}
 use Rattle.match_puzzle.specs.PuzzleFaults.{PuzzleFails, DefiesBorder}
 use Rattle.match_puzzle.specs.declared.faults.PuzzleFault.{PuzzleFault}
 use Rattle.match_puzzle.specs.declared.faults.PuzzleFault.TheVariants as puzzle
-use Rattle.plain_words.specs.declared.faults.TextFault.{TextFault}
-use Rattle.plain_words.specs.declared.faults.TextKind.TheVariants.{Ends}
+use Rattle.text_words.specs.declared.faults.TextFault.{TextFault}
+use Rattle.text_words.specs.declared.faults.TextKind.TheVariants.{Ends}
 use Rattle.match_text.specs.declared.faults.PuzzleTextFault.{PuzzleTextFault}
 use Rattle.match_text.specs.declared.faults.PuzzleTextFault.TheVariants as faults
-use Rattle.plain_words.specs.Bytes.{line_ends}
+use Rattle.text_words.specs.Bytes.{line_ends}
 use Rattle.text_words.specs.Place.{fail}
 use Rattle.match_text.specs.Puzzles.{puzzle_of, BoardFails, PuzzleReads, PuzzleGives}
 use Rattle.match_text.specs.PuzzleSpelling.{puzzle_spelling, IsFigureWithin, IsBorderWithin, IsTaskWithin}

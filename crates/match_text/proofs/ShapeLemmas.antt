@@ -4,12 +4,12 @@ use Rattle.std.specs.Fmt.{decimal}
 use Rattle.std.specs.List.{flat_map, list_all, AllByRecursion}
 use Rattle.std.proofs.lemmas.List.{append-nil, length-map, length-take, length-drop, take-append-drop, take_all}
 use Rattle.std.proofs.lemmas.Bool.{eqb-true, eq-eqb}
-use Rattle.plain_words.specs.declared.faults.TextFault.{TextFault}
-use Rattle.plain_words.specs.declared.faults.TextKind.{TextKind}
-use Rattle.plain_words.specs.declared.faults.TextKind.TheVariants.{Word}
-use Rattle.plain_words.specs.declared.faults.ReadFault.{ReadFault}
-use Rattle.plain_words.specs.declared.faults.ReadFault.TheVariants as faults
-use Rattle.plain_words.specs.Words.{fixed_in, Judges}
+use Rattle.text_words.specs.declared.faults.TextFault.{TextFault}
+use Rattle.text_words.specs.declared.faults.TextKind.{TextKind}
+use Rattle.text_words.specs.declared.faults.TextKind.TheVariants.{Word}
+use Rattle.text_words.specs.declared.faults.ReadFault.{ReadFault}
+use Rattle.text_words.specs.declared.faults.ReadFault.TheVariants as faults
+use Rattle.text_words.specs.PlainWords.{fixed_in, Judges}
 use Rattle.text_words.specs.Words.{is_cell, is_mark, marks_in}
 use Rattle.text_words.specs.Place.{Place, Read, go_on, give, first_word, other_words, next_line, judged, word_from, word_by, end_of_line, times, fail, Fails}
 use Rattle.text_words.specs.Spelling.{line_text, text_of}
@@ -20,7 +20,7 @@ use Rattle.match_board.specs.declared.figures.Figure.{Figure}
 use Rattle.match_board.specs.declared.figures.Figure.TheVariants.{Shape}
 use Rattle.match_text.specs.Puzzles.{row_line, shape_by, shape_rows, AddsRow}
 use Rattle.text_words.proofs.CutLemmas.{CutsShort, place, ok_is, cuts_word, cuts_word_line}
-use Rattle.plain_words.proofs.WordLemmas.{Spells, judged_ok, judged_ok_is, if_ok, both, is_clean, some, some_is}
+use Rattle.text_words.proofs.WordLemmas.{Spells, judged_ok, judged_ok_is, if_ok, both, is_clean, some, some_is}
 use Rattle.text_words.proofs.LineLemmas.{TakesLines, takes_two_words}
 use Rattle.text_words.proofs.LoopLemmas.{with_front, err_is, times_goes_on, times_fail, times_done}
 

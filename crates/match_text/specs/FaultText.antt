@@ -2,7 +2,7 @@
 use Rattle.std.specs.Prelude.{ℕ, List, codes}
 use Rattle.match_board.specs.FaultText.{board_fault_text}
 use Rattle.match_puzzle.specs.FaultText.{puzzle_fault_text}
-use Rattle.plain_words.specs.FaultText.{text_fault_text}
+use Rattle.text_words.specs.FaultText.{text_fault_text}
 use Rattle.match_text.specs.declared.faults.PuzzleTextFault.{PuzzleTextFault}
 use Rattle.match_text.specs.declared.faults.PuzzleTextFault.TheVariants as puzzle_text
 

@@ -1,8 +1,8 @@
 -- Faults of texts, as those of a document.
 use Rattle.match_puzzle.specs.declared.faults.PuzzleFault.{PuzzleFault}
 use Rattle.match_puzzle.specs.declared.faults.PuzzleFault.TheVariants as puzzle
-use Rattle.plain_words.specs.declared.faults.ReadFault.{ReadFault}
-use Rattle.plain_words.specs.declared.faults.ReadFault.TheVariants as read
+use Rattle.text_words.specs.declared.faults.ReadFault.{ReadFault}
+use Rattle.text_words.specs.declared.faults.ReadFault.TheVariants as read
 use Rattle.match_text.specs.declared.faults.PuzzleTextFault.{PuzzleTextFault}
 use Rattle.match_text.specs.declared.faults.PuzzleTextFault.TheVariants as puzzle_text
 

@@ -55,7 +55,7 @@ mark_character mark = if mark then 35 else 46
 abbrev pub row_words : List Bool → List (List ℕ)
 row_words row = codes "row" ∷ map mark_character row ∷ []
 
--- so many rows from the front of a mask
+-- the first `rows` rows of a mask, each of `width` places
 abbrev pub row_lines : (width rows : ℕ) → List Bool → List (List (List ℕ))
 row_lines width zero mask = []
 row_lines width (suc rows) mask = row_words (take width mask) ∷ row_lines width rows (drop width mask)

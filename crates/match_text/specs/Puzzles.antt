@@ -16,10 +16,10 @@ use Rattle.match_board.specs.Clues.{Clue, clue_of}
 use Rattle.match_puzzle.specs.Puzzle.{Task, IsPuzzle}
 use Rattle.match_board.specs.Borders.{BorderRule, free, one, each, rule_of}
 use Rattle.match_puzzle.specs.PuzzleFaults.{PuzzleFails, puzzle_rank}
-use Rattle.plain_words.specs.declared.faults.TextFault.{TextFault}
-use Rattle.plain_words.specs.declared.faults.TextKind.{TextKind}
-use Rattle.plain_words.specs.declared.faults.TextKind.TheVariants.{Word}
-use Rattle.plain_words.specs.declared.faults.ReadFault.{ReadFault}
+use Rattle.text_words.specs.declared.faults.TextFault.{TextFault}
+use Rattle.text_words.specs.declared.faults.TextKind.{TextKind}
+use Rattle.text_words.specs.declared.faults.TextKind.TheVariants.{Word}
+use Rattle.text_words.specs.declared.faults.ReadFault.{ReadFault}
 use Rattle.match_text.specs.declared.faults.PuzzleTextFault.{PuzzleTextFault}
 use Rattle.match_text.specs.declared.faults.PuzzleTextFault.TheVariants as faults
 use Rattle.match_text.specs.declared.puzzles.BoardKind.{BoardKind}
@@ -31,7 +31,7 @@ use Rattle.match_text.specs.declared.puzzles.BorderKind.TheVariants as kinds
 use Rattle.match_text.specs.declared.puzzles.PuzzleText as code
 use Rattle.match_limits.specs.declared.ranges.Ranges.{Ranges}
 use Rattle.match_limits.specs.Ranges.{ranges_of}
-use Rattle.plain_words.specs.Words.{fixed_in, number_in, version_in}
+use Rattle.text_words.specs.PlainWords.{fixed_in, number_in, version_in}
 use Rattle.text_words.specs.Words.{marks_in, colour_in, rule_in, tile_in, clue_in}
 use Rattle.text_words.specs.Place.{Place, Read, ◌>>=◌, give, line_of, word_by, entries, some_entries, counted}
 use Rattle.text_words.specs.Place.{closing, times, start, value_of, Fails}

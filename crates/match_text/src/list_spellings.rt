@@ -1,8 +1,8 @@
 //! Writes lists of arrangements.
 
-ghost use Rattle.std.specs.Prelude.{◌≡◌, ◌≢◌, ◌<◌, ◌≤◌, ◌++◌, ◌∷◌, [], ◌&&◌, ℕ, List, Ok, nat_le, length, map, codes};
+ghost use Rattle.std.specs.Prelude.{◌≡◌, ◌≢◌, ◌<◌, ◌≤◌, ◌++◌, [], ◌&&◌, ℕ, List, Ok, length, map};
 ghost use Rattle.std.specs.Prelude.{IfOk, OnOk, MatchBool};
-ghost use Rattle.std.specs.List.{list_all, AllByRecursion};
+ghost use Rattle.std.specs.List.{AllByRecursion};
 ghost use Rattle.match_text.specs.Lists.{list_of};
 ghost use Rattle.text_words.specs.Spelling.{line_text, text_of, space_before, placement_word};
 ghost use Rattle.text_words.specs.Within.{IsPlacementWithin};
@@ -92,7 +92,7 @@ pub(crate) fn put_rows(text: &mut Vec<u8>, rows: &[Arrangement]) -> Result<(), A
     Ok(())
 }
 
-// What stands before so many arrangements in this version.
+// The lines that come before the arrangements in a list of `count` arrangements, in this version.
 pub(crate) fn heading(alloc: Global, version: u8, count: usize) -> Result<Vec<u8>, AllocError>
     ensures { IfOk result (λ text. text.items ≡ text_of (list_head version count)) }
 {

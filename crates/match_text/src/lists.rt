@@ -6,8 +6,8 @@ ghost use Rattle.match_limits.specs.declared.ranges.TheConstants.{SECOND};
 ghost use Rattle.text_words.specs.Words.{placement_in};
 ghost use Rattle.text_words.specs.Place.{Reads, Says, entries, some_entries, times, fail};
 ghost use Rattle.match_puzzle.specs.declared.placements.Placement.{Placement as PlacementOf};
-ghost use Rattle.plain_words.specs.Bytes.{line_ends};
-ghost use Rattle.plain_words.specs.declared.faults.TextKind.TheVariants as kinds;
+ghost use Rattle.text_words.specs.Bytes.{line_ends};
+ghost use Rattle.text_words.specs.declared.faults.TextKind.TheVariants as kinds;
 ghost use Rattle.match_text.specs.ListSpelling.{list_spelling, IsListWithin, IsSpelledIn};
 ghost use Rattle.match_text.specs.Lists.{arrangement_line, list_text, list_of, list_said, said_of};
 

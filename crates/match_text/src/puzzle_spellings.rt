@@ -1,6 +1,6 @@
 //! Writes puzzles.
 
-ghost use Rattle.std.specs.Prelude.{◌≡◌, ◌<◌, ◌≤◌, ◌*◌, ◌++◌, ◌∷◌, [], Ok, length, map, codes, decimal, IfOk, OnOk};
+ghost use Rattle.std.specs.Prelude.{◌≡◌, ◌<◌, ◌≤◌, ◌*◌, ◌++◌, ◌∷◌, [], Ok, length, map, decimal, IfOk, OnOk};
 ghost use Rattle.std.specs.List.{AllByRecursion};
 ghost use Rattle.match_board.specs.declared.figures.Figure.{Figure};
 ghost use Rattle.match_board.specs.declared.figures.Figure.TheVariants.{Rectangle, Triangle, Hexagon, Shape};
@@ -10,7 +10,7 @@ ghost use Rattle.match_board.specs.Mates.{mating_of};
 ghost use Rattle.match_board.specs.Clues.{clue_of};
 ghost use Rattle.match_board.specs.Borders.{rule_of, each, one, free};
 ghost use Rattle.match_text.specs.Puzzles.{PuzzleReads};
-ghost use Rattle.text_words.specs.Spelling.{line_text, text_of, colour_character, colour_word, rule_word};
+ghost use Rattle.text_words.specs.Spelling.{line_text, text_of, colour_word, rule_word};
 ghost use Rattle.text_words.specs.Spelling.{tile_word, ask_character, asks_word};
 ghost use Rattle.text_words.specs.Within.{IsRuleWithin};
 ghost use Rattle.match_text.specs.PuzzleSpelling.{mark_character, row_words, row_lines, board_lines};

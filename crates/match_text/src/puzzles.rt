@@ -10,10 +10,10 @@ ghost use Rattle.match_board.specs.Clues.{clue_of};
 ghost use Rattle.match_puzzle.specs.Puzzle.{Task, IsPuzzle};
 ghost use Rattle.match_board.specs.Borders.{IsShortRule, rule_of};
 ghost use Rattle.match_puzzle.specs.PuzzleFaults.{PuzzleFails, puzzle_rank};
-ghost use Rattle.plain_words.specs.declared.faults.TextKind.TheVariants as kinds;
-ghost use Rattle.plain_words.specs.Bytes.{line_ends};
+ghost use Rattle.text_words.specs.declared.faults.TextKind.TheVariants as kinds;
+ghost use Rattle.text_words.specs.Bytes.{line_ends};
 ghost use Rattle.match_text.specs.PuzzleSpelling.{puzzle_spelling, IsTaskWithin};
-ghost use Rattle.plain_words.specs.Words.{Judges, number_in};
+ghost use Rattle.text_words.specs.PlainWords.{Judges, number_in};
 ghost use Rattle.text_words.specs.Words.{marks_in, is_cell, colour_in, rule_in};
 ghost use Rattle.text_words.specs.Place.{Gives, Reads, Says, times, entries, some_entries, word_by, fail};
 ghost use Rattle.match_text.specs.Puzzles.{board_kind_in, board_size, board_line, turns_in, turns_line, border_kind_in};
@@ -29,9 +29,8 @@ use match_limits::{
     LAST_CELL, MOST_CELLS, MOST_COLOURS, MOST_LENGTH, MOST_PLACES, Ranges, ranges_of,
 };
 use match_puzzle::{Border, BorderRules, Puzzle, PuzzleFault, Rules};
-use plain_words::version_word;
 use std::alloc::{AllocError, Global};
-use text_words::{Asked, FaultPlace, ReadFault, Scan, TextFault, TextKind, row_word};
+use text_words::{Asked, FaultPlace, ReadFault, Scan, TextFault, TextKind, row_word, version_word};
 
 /// What a text says of a puzzle. There may be no such puzzle: tiles may be too few, for instance.
 #[derive(Drop)]

@@ -1,6 +1,6 @@
 //! Writes tiles by themselves.
 
-ghost use Rattle.std.specs.Prelude.{◌≡◌, ◌++◌, ◌∷◌, [], map, IfOk, OnOk};
+ghost use Rattle.std.specs.Prelude.{◌≡◌, ◌++◌, [], map, IfOk, OnOk};
 ghost use Rattle.match_board.specs.Tile.{word as colours_of};
 ghost use Rattle.text_words.specs.Spelling.{line_text, text_of};
 ghost use Rattle.match_text.specs.PuzzleSpelling.{lone_tile_words, tiles_spelling};

@@ -8,10 +8,10 @@ use Rattle.std.proofs.lemmas.Option.{slice_get_within, slice_get-get_or, get_or_
 use Rattle.std.proofs.Math.Seq.{take-append_seam, drop-append_seam}
 use Rattle.match_limits.specs.declared.TheConstants.{MOST_ARRANGEMENTS, MOST_CELLS, MOST_LEMMAS}
 use Rattle.match_limits.proofs.ListLemmas.{mapped_at}
-use Rattle.numbered_pieces.specs.declared.faults.AssembleFault.{AssembleFault}
-use Rattle.numbered_pieces.specs.declared.faults.AssembleFault.TheVariants.{Stranger, Double, Missing, Memory}
-use Rattle.numbered_pieces.specs.Assembly.{IsAssembly, Assembles}
-use Rattle.numbered_pieces.proofs.AssemblyLemmas.{assembled_all}
+use Rattle.cert_tree.specs.declared.faults.AssembleFault.{AssembleFault}
+use Rattle.cert_tree.specs.declared.faults.AssembleFault.TheVariants.{Stranger, Double, Missing, Memory}
+use Rattle.cert_tree.specs.Assembly.{IsAssembly, Assembles}
+use Rattle.cert_tree.proofs.AssemblyLemmas.{assembled_all}
 use Rattle.match_puzzle.specs.declared.items.Item.{Item}
 use Rattle.match_puzzle.specs.declared.items.Item.TheVariants as items
 use Rattle.match_board.specs.declared.symmetry_lines.SymmetryLine.{SymmetryLine}

@@ -15,7 +15,7 @@ IsOf desk receipt = Shows desk.posted receipt
 abbrev pub lemma_of : Receipt → Lemma
 lemma_of receipt = receipt.value
 
--- the same as plain data
+-- the lemma that a receipt stands for, as plain data
 abbrev pub posted_piece : Receipt → Piece
 posted_piece receipt = piece_of (lemma_of receipt)
 

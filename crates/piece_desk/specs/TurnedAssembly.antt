@@ -1,9 +1,9 @@
 -- Turned assembly: numbers that run upwards from the root are counted from the other end.
 use Rattle.std.specs.Prelude.{◌≡◌, ◌+◌, ◌-◌, ℕ, List, Result, Ok, Err, map, reverse, nat_lt, if◌then◌else◌, slice_index}
 use Rattle.match_limits.specs.First.{IsFirst}
-use Rattle.numbered_pieces.specs.declared.faults.AssembleFault.{AssembleFault}
-use Rattle.numbered_pieces.specs.declared.faults.AssembleFault.TheVariants.{Memory}
-use Rattle.numbered_pieces.specs.Assembly.{IsAssembly, AssemblyFails, assembly_rank}
+use Rattle.cert_tree.specs.declared.faults.AssembleFault.{AssembleFault}
+use Rattle.cert_tree.specs.declared.faults.AssembleFault.TheVariants.{Memory}
+use Rattle.cert_tree.specs.Assembly.{IsAssembly, AssemblyFails, assembly_rank}
 use Rattle.cert_tree.specs.Tree.{Tree, Forest, branch, dead, found, same, image, none, more}
 use Rattle.cert_tree.specs.Certificate.{Piece, piece_number}
 

@@ -5,15 +5,14 @@ ghost use Rattle.std.specs.Prelude.{reverse, take, drop};
 ghost use Rattle.cert_tree.specs.Certificate.{flat_piece, piece_number};
 ghost use Rattle.cert_tree.specs.Limits.{IsLemmaWithin};
 ghost use Rattle.cert_tree.specs.Spans.{piece_in, IsSpan};
-ghost use Rattle.numbered_pieces.specs.Assembly.{Assembles, HaveNoStranger};
+ghost use Rattle.cert_tree.specs.Assembly.{Assembles, HaveNoStranger};
 ghost use Rattle.piece_desk.specs.TurnedAssembly.{turned_number as number_of_turned, turned_piece, AssemblesTurned};
 ghost use Rattle.piece_desk.specs.TurnedHeads.{turned_head as head_of_turned, IsFoundUpTo};
 
-use cert_tree::{AssembleFault, Certificate, FlatLemma, Head, LemmaSpan, Lemmas};
+use cert_tree::{AssembleFault, Certificate, FlatLemma, Head, LemmaSpan, Lemmas, assembled};
 use match_board::SymmetryLine;
 use match_limits::{MOST_ARRANGEMENTS, MOST_CELLS, MOST_LEMMAS};
 use match_puzzle::Pair;
-use numbered_pieces::assembled;
 use std::alloc::{AllocError, Global};
 
 // A number below `count`, counted from the other end; any other number stays as it is.

@@ -28,7 +28,7 @@ Owner = Worker ℕ Global View InOrder
 abbrev pub Place : Type 0
 Place = Pass ℕ View Global
 
--- of the numbers below n, those dealt to queue q, where there are so many queues, rising
+-- of the numbers below n, those dealt to queue q of `queues` queues, rising
 abbrev pub dealt_to : (queues q n : ℕ) → List ℕ
 dealt_to queues q zero = []
 dealt_to queues q (suc n) = cond (n % queues == q) (dealt_to queues q n ++ n ∷ []) (dealt_to queues q n)
@@ -72,7 +72,7 @@ pub record IsShare {X : Type 0} (queues count : ℕ) (handles : List Handle) (gi
 
 -- ---- what the caller has
 
--- queue q, to which those of the numbers below n were dealt that are its own, and of which so many parts are out
+-- queue q, to which those of the numbers below n were dealt that are its own, and of which `out` parts are out
 pub record IsOwner (out queues n q : ℕ) (handle : Handle) (owner : Owner) : Type 0 where
   pub deque : worker_deque owner ≡ stealer_deque handle
   pub fifo : worker_flavor owner ≡ 0
@@ -92,7 +92,7 @@ pub record Owners (out : ℕ → ℕ) (queues n : ℕ) (list : List Handle) (own
 abbrev pub AreQueues : Queues → Type 0
 AreQueues q = Owners (λ _. q.out) (vec_len q.handles) q.count q.handles.items q.owners.items
 
--- The queues have these handles, the numbers below n were dealt to them, and so many parts of each are out.
+-- The queues have these handles, the numbers below n were dealt to them, and `away` parts of each are out.
 pub record AreDealt (handles : Vec Handle Global) (n away : ℕ) (q : Queues) : Type 0 where
   pub same : q.handles ≡ handles
   pub count : q.count ≡ n

@@ -1,10 +1,10 @@
 //! A crew of workers.
 
-ghost use Rattle.std.specs.Prelude.{◌≡◌, ◌≤◌, ◌<◌, ◌+◌, ℕ, Vec, Some, IfOk, OnOk, All, length, vec_len};
+ghost use Rattle.std.specs.Prelude.{◌≡◌, ◌≤◌, ◌<◌, ◌+◌, ℕ, Vec, Some, IfOk, All, length, vec_len};
 ghost use Rattle.std.specs.Prelude.{slice_index_or};
 ghost use Rattle.std.specs.declared.alloc.Global.{Global};
 ghost use Rattle.crew_machine.specs.Counts.{total, times, once_below};
-ghost use Rattle.steal_crew.specs.Results.{Entered, Belongs, AreDone, filled};
+ghost use Rattle.steal_crew.specs.Results.{Belongs, AreDone, filled};
 ghost use Rattle.steal_crew.specs.Queues.{IsStation, IsShare, ShowSpent};
 
 use crate::queues::{Queues, View};

@@ -10,7 +10,7 @@ use match_limits::MOST_WORKERS;
 use std::alloc::{AllocError, Global};
 
 impl Queues {
-    // So many queues, which are empty.
+    // `queues` queues, which are empty.
     pub fn open(alloc: Global, queues: usize) -> Result<Queues, AllocError>
         ensures len { IfOk result (λ q. vec_len q.handles ≡ queues) }
         ensures queues { IfOk result (λ q. AreDealt q.handles 0 0 q) }

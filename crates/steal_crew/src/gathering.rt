@@ -1,6 +1,6 @@
 //! What the workers bring back.
 
-ghost use Rattle.std.specs.Prelude.{◌≡◌, ◌≤◌, ◌<◌, ◌+◌, ◌-◌, ℕ, IfOk, OnOk, All, vec_len};
+ghost use Rattle.std.specs.Prelude.{◌≡◌, ◌≤◌, ◌<◌, ◌-◌, ℕ, IfOk, OnOk, All, vec_len};
 ghost use Rattle.crossbeam_deque.specs.Handles.{worker_view, worker_deque, worker_flavor};
 ghost use Rattle.crew_machine.specs.Counts.{times};
 ghost use Rattle.steal_crew.specs.QueueRule.{part_count};

@@ -1,6 +1,6 @@
 //! Results and tallies are entered by number.
 
-ghost use Rattle.std.specs.Prelude.{◌≡◌, ◌≤◌, ◌<◌, ◌+◌, ◌^◌, ◌++◌, ℕ, IfOk, OnOk, IfSome, All, length, vec_len};
+ghost use Rattle.std.specs.Prelude.{◌≡◌, ◌<◌, ◌+◌, ◌^◌, ◌++◌, ℕ, IfOk, OnOk, IfSome, All, vec_len};
 ghost use Rattle.crew_machine.specs.Counts.{total, times, once_below};
 ghost use Rattle.steal_crew.specs.Results.{Entered, Belongs, AreDone, filled, left_out, done_numbers};
 

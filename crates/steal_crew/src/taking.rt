@@ -1,7 +1,7 @@
 //! What one worker does.
 
-ghost use Rattle.std.specs.Prelude.{◌≡◌, ◌<◌, ◌≤◌, ◌+◌, ◌++◌, ◌∷◌, [], ℕ, IfOk, IfSome};
-ghost use Rattle.std.specs.Prelude.{MatchOption, option_to_list, All, length, vec_len};
+ghost use Rattle.std.specs.Prelude.{◌≡◌, ◌<◌, ◌+◌, ◌++◌, ◌∷◌, [], ℕ, IfOk, IfSome};
+ghost use Rattle.std.specs.Prelude.{MatchOption, option_to_list, vec_len};
 ghost use Rattle.crossbeam_deque.specs.Handles.{view};
 ghost use Rattle.crew_machine.specs.Counts.{times};
 ghost use Rattle.steal_crew.specs.Queues.{IsPlace, Places, IsStation, IsShare, taken_by};

@@ -92,7 +92,7 @@ impl Gate for Watch {
     }
 }
 
-// Whether a check by so many workers, who are all at lemmas at once, ends well.
+// Whether a check by as many workers as the watch says, who are all at lemmas at once, ends well.
 fn is_complete<R: Threads + Sync>(
     rt: &R,
     alloc: Global,
@@ -109,7 +109,7 @@ fn is_complete<R: Threads + Sync>(
     Ok(matches!(answer, Answer::Complete))
 }
 
-// The same of the turning triangle.
+// Whether a check of the turning triangle by as many workers as the watch says, all at lemmas at once, ends well.
 fn holds_by<R: Threads + Sync>(rt: &R, alloc: Global, watch: &Watch) -> Result<bool, Fail> {
     let puzzle = turning_triangle(alloc)?;
     let list = turning_triangle_list(alloc)?;

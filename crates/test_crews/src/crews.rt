@@ -42,7 +42,7 @@ impl Work for Callers {
     }
 }
 
-// The numbers that so many workers took, in order.
+// The numbers that the first `workers` workers took, in order.
 fn taken_by(alloc: Global, crew: &Crew<u64>, workers: u8) -> Result<Vec<u32>, AllocError>
     requires { workers ≤ vec_len crew.now.tallies }
 {
@@ -54,7 +54,7 @@ fn taken_by(alloc: Global, crew: &Crew<u64>, workers: u8) -> Result<Vec<u32>, Al
     Ok(taken)
 }
 
-// Whether so many workers come to these squares, each of whose numbers one of them took.
+// Whether `workers` workers come to these squares, and each of these numbers was taken by one of them.
 fn squares_by<R: Threads + Sync>(
     rt: &R,
     alloc: Global,

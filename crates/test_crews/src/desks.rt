@@ -1,4 +1,4 @@
-ghost use Rattle.std.specs.Prelude.{◌≡◌, ◌<◌, All, IfOk};
+ghost use Rattle.std.specs.Prelude.{◌<◌, All, IfOk};
 ghost use Rattle.match_limits.specs.declared.TheConstants.{MOST_CELLS};
 ghost use Rattle.cert_tree.specs.Certificate.{piece_of};
 ghost use Rattle.cert_tree.specs.Limits.{IsLemmaWithin};
@@ -94,7 +94,7 @@ fn post_by_turns<R: Wait>(
     Ok(receipts)
 }
 
-// What is gathered of these receipts, where so many arrangements are listed before those of each lemma.
+// What is gathered of these receipts, where `listed` says how many arrangements are listed before those of each lemma.
 fn gathered(
     alloc: Global,
     desk: &Desk,

@@ -52,7 +52,7 @@ fn holds_by<R: Threads + Sync>(
     Ok(matches!(answer, Answer::Complete))
 }
 
-// The same where it is solved.
+// Whether the puzzle is solved, and a check of what was solved, by these halves, ends well.
 fn solves_and_holds<R: Threads + Wait + Sync>(
     rt: &R,
     alloc: Global,
@@ -63,7 +63,7 @@ fn solves_and_holds<R: Threads + Wait + Sync>(
     holds_by(rt, alloc, puzzle, &solved, halves)
 }
 
-// The same of the seven squares.
+// Whether the seven squares are solved, and a check of what was solved, by these halves, ends well.
 fn seven_squares_hold<R: Threads + Wait + Sync>(
     rt: &R,
     alloc: Global,
@@ -138,7 +138,7 @@ fn finds_first<R: Threads + Sync>(
     Ok(is_right && is_first(fault_of(rt, alloc, prepared, 2, forks)?))
 }
 
-// The same of a question that isn't prepared yet.
+// Whether nothing is found of lemma 0, and of lemma 2 the first of its faults, once the question is prepared.
 fn finds_in<R: Threads + Sync>(
     rt: &R,
     alloc: Global,
@@ -156,7 +156,7 @@ fn finds_in<R: Threads + Sync>(
     }
 }
 
-// The same of the lemmas with wrong children.
+// Whether nothing is found of lemma 0, and of lemma 2 the first of its faults, by the lemmas with wrong children.
 fn finds_in_lemmas<R: Threads + Sync>(
     rt: &R,
     alloc: Global,
@@ -178,7 +178,8 @@ fn finds_in_lemmas<R: Threads + Sync>(
     )
 }
 
-// The same of the turning triangle.
+// Whether of the turning triangle, by the lemmas with wrong children, nothing is found of lemma 0, and of lemma 2 the
+// first of its faults.
 fn finds_in_triangle<R: Threads + Sync>(rt: &R, alloc: Global, forks: u8) -> Result<bool, Fail>
     requires { forks ≤ MOST_FORKS }
 {

@@ -1,7 +1,7 @@
 ghost use Rattle.std.specs.Prelude.{◌≤◌};
 
 use crate::meetings::{Meeting, all_met};
-use live_crew::{Hand, LiveWork, run_live};
+use giving_crew::{Hand, LiveWork, run_live};
 use match_limits::{MOST_LEMMAS, MOST_WORKERS};
 use std::alloc::{AllocError, Global};
 use std::sync::Wait;
@@ -72,7 +72,7 @@ fn counts_up(crew: Crew<u32>, count: u32) -> bool {
 // Each row is the last job, the limit and how many jobs are done.
 const ROWS: [(u32, u32, u32); 3] = [(3, 9, 4), (3, 2, 2), (150, MOST_LEMMAS, 151)];
 
-// Whether so many workers do all jobs of each row. Where memory is refused, that is the outcome: no job is lost.
+// Whether `workers` workers do all jobs of each row. Where memory is refused, that is the outcome: no job is lost.
 fn all_are_done<R: Threads + Wait + Sync>(
     rt: &R,
     alloc: Global,

@@ -68,7 +68,7 @@ fn goes_back(mut links: Links<'_>) -> Result<bool, AllocError>
     Ok(is_at_first(&links) && has_chosen(&mut links)? && is_at_first(&links))
 }
 
-// The same of new linked lists.
+// Whether items and sizes are right in new linked lists: at first, once the choice is made, and after it is undone.
 fn has_sizes<'a>(alloc: Global, xcc: &'a Xcc<'a>) -> Result<bool, AllocError> {
     if xcc.primaries() != 8 {
         return Ok(false);
@@ -85,7 +85,7 @@ fn is_tree(alloc: Global, tree: Node, line: &[u8]) -> Result<bool, AllocError> {
     is_lemma_line(alloc, &lemma, line)
 }
 
-// Whether a run found so many, and its tree is this line of a lemma.
+// Whether a run found `count` arrangements, and its tree is this line of a lemma.
 fn tells(alloc: Global, outcome: Outcome, count: usize, line: &[u8]) -> Result<bool, AllocError> {
     match outcome {
         Outcome::Done { tree, found } => Ok(is_tree(alloc, tree, line)? && found.len() == count),
@@ -182,7 +182,7 @@ fn searches<E: OpenOptions + Drop>(
     Ok(finds && cites_known(alloc, search)? && gives_up(search)?)
 }
 
-// The same of a search that is let go then.
+// Whether a search finds all twice, cites what is known, and then gives up. It is let go then.
 fn searches_once<E: OpenOptions + Drop>(
     alloc: Global,
     mut search: SearchOver<E>,
@@ -205,7 +205,7 @@ fn are_right<'a>(alloc: Global, xcc: &'a Xcc<'a>) -> Result<bool, SearchFault> {
     Ok(has_sizes(alloc, xcc)? && searches_by_links(alloc, xcc)? && searches_by_sets(alloc, xcc)?)
 }
 
-// The same of the puzzle.
+// Whether the sizes of the puzzle and the searches of it are right, once it is compiled.
 fn is_searched(alloc: Global, puzzle: &Puzzle) -> Result<bool, Fail> {
     let xcc = compile(alloc, puzzle)?;
     Ok(are_right(alloc, &xcc)?)

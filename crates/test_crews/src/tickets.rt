@@ -9,7 +9,7 @@ use std::thread;
 use std::thread::Threads;
 use steal_crew::{TicketSeat, Tickets};
 
-// Asserts that so many draws, by each seat in its turn, answer the numbers below the limit, and then none.
+// Asserts that `draws` draws, by each seat in its turn, answer the numbers below the limit, and then none.
 fn assert_turns<R: Abort>(
     rt: &R,
     alloc: Global,

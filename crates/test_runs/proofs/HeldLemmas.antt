@@ -5,7 +5,7 @@ use Rattle.std.specs.Io.KnownBytes.{Consumes, IsAtEnd}
 use Rattle.match_limits.specs.declared.TheConstants.{MOST_BYTES}
 use Rattle.byte_streams.specs.Documents.{Texts, three}
 use Rattle.byte_streams.specs.Moves.{Gives, Reading}
-use Rattle.match_runs.specs.Checking.{SpellCompleteList}
+use Rattle.command_runs.specs.Checking.{SpellCompleteList}
 
 same_texts : (texts : Texts) (puzzle list certificate : List ℕ) → puzzle ≡ texts.puzzle → list ≡ texts.list → certificate ≡ texts.certificate → texts ≡ three puzzle list certificate
 same_texts texts puzzle list certificate p l c = rw (p, l, c) refl

@@ -3,8 +3,8 @@
 use crate::fakes::{FakeSources, NEVER};
 use crate::outcomes::is_as_wanted;
 use byte_streams::Fake;
+use command_runs::{Document, Documents, RunFault, Status, run_check, run_joined};
 use match_limits::{Forks, Workers};
-use match_runs::{Document, Documents, RunFault, Status, run_check, run_joined};
 use std::alloc::{AllocError, Global};
 use std::process::Abort;
 use std::test::Fail;

@@ -4,7 +4,7 @@ use crate::checks::{TRIANGLE, TWINS};
 use crate::fakes::{FakeSources, NEVER};
 use crate::outcomes::is_as_wanted;
 use byte_streams::Fake;
-use match_runs::{Documents, RunFault, Status, run_expand};
+use command_runs::{Documents, RunFault, Status, run_expand};
 use std::alloc::{AllocError, Global};
 use std::io::{self, ErrorKind};
 use std::random::RandomSource;

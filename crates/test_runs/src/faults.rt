@@ -2,10 +2,10 @@
 
 use cert_text::CertTextFault;
 use cert_tree::AssembleFault;
-use match_crew::SolveFault;
+use command_runs::{Document, RunFault, fault_text};
 use match_puzzle::PuzzleFault;
-use match_runs::{Document, RunFault, fault_text};
 use match_text::{ListTextFault, PuzzleTextFault};
+use solver::SolveFault;
 use std::alloc::{AllocError, Global};
 use std::test::Fail;
 use text_words::{TextFault, TextKind};

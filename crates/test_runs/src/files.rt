@@ -4,7 +4,7 @@ ghost use Rattle.std.specs.Prelude.{◌≡◌};
 ghost use Rattle.test_runs.specs.HeldFiles.{held_by};
 
 use byte_streams::{Fake, FileFault, Refusal};
-use match_runs::FileSystem;
+use command_runs::FileSystem;
 use std::alloc::{AllocError, Global};
 
 /// The files of three documents, whose names begin with `p`, with `l` and with anything else. It tells what they hold.

@@ -2,17 +2,17 @@
 
 ghost use Rattle.std.specs.Prelude.{◌≡◌, IfOk};
 ghost use Rattle.std.specs.String.{string_bytes};
-ghost use Rattle.match_runs.specs.Checking.{SpellCompleteList};
+ghost use Rattle.command_runs.specs.Checking.{SpellCompleteList};
 
 use crate::checks::TWINS;
 use crate::files::HeldFiles;
 use crate::outcomes::with_memory;
 use byte_streams::Fake;
+use command_orders::{Exit, HintedFault, Streams, run_order};
+use command_runs::RunFault;
 use command_words::{Files, Order};
-use match_crew::SolveFault;
 use match_limits::{Forks, Workers};
-use match_program::{Exit, HintedFault, Streams, run_order};
-use match_runs::RunFault;
+use solver::SolveFault;
 use std::alloc::{AllocError, Global};
 use std::random::RandomSource;
 use std::sync::Wait;

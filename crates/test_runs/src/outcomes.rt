@@ -1,7 +1,7 @@
 //! What runs come to.
 
 use byte_streams::Fake;
-use match_runs::{RunFault, Status};
+use command_runs::{RunFault, Status};
 use std::alloc::AllocError;
 
 // What a run comes to; where it wants memory, so does the test.

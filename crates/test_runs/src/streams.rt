@@ -2,7 +2,7 @@
 
 use crate::outcomes::with_memory;
 use byte_streams::Fake;
-use match_runs::{Document, Failed, RunFault, Sink, Source, read_whole, write_whole};
+use command_runs::{Document, Failed, RunFault, Sink, Source, read_whole, write_whole};
 use std::alloc::{AllocError, Global};
 use std::io::{self, ErrorKind, Read, Write};
 use std::test::Fail;

@@ -1,7 +1,7 @@
 //! What the system gives: files, limits and random bytes.
 
-use match_program::{SystemLimits, open};
-use match_runs::{Document, FileSystem, RandomFold, RunFault, read_whole};
+use command_orders::{SystemLimits, open};
+use command_runs::{Document, FileSystem, RandomFold, RunFault, read_whole};
 use std::alloc::Global;
 use std::hash::BuildHasher;
 use std::io;

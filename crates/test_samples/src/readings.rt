@@ -12,7 +12,7 @@ use match_text::{read_list, read_puzzle};
 use std::alloc::Global;
 use std::test::Fail;
 
-// No test has a text of so many bytes.
+// No test has a text of this number of bytes, or more.
 const TOO_LONG: usize = 100_000;
 
 pub(crate) fn short(text: &[u8]) -> Result<(), Fail>

@@ -28,7 +28,7 @@ pub const TWIN_TILES_LIST: &[u8] = b"list 1\narrangements 1\n0.0 1.0\nend\n";
 pub const TWIN_TILES_CERTIFICATE: &[u8] =
     b"certificate 1\nsymmetries 1\nsymmetry 0 + cells 0 1 colours 0 1 tiles 1 0\nlemmas 2\nlemma 0 prefix 0:0.0 tree c 1 1 f 0\nlemma 1 prefix tree c 0 2 s 0 i 0 0\nend\n";
 
-/// The same where five arrangements are listed before that of lemma 0.
+/// The certificate of the twin tiles where five arrangements are listed before that of lemma 0.
 pub const TWIN_TILES_AFTER_FIVE: &[u8] =
     b"certificate 1\nsymmetries 1\nsymmetry 0 + cells 0 1 colours 0 1 tiles 1 0\nlemmas 2\nlemma 0 prefix 0:0.0 tree c 1 1 f 5\nlemma 1 prefix tree c 0 2 s 0 i 0 0\nend\n";
 

@@ -6,7 +6,7 @@ use Rattle.match_puzzle.specs.declared.placements.Placement.{Placement}
 use Rattle.match_text.specs.ListSpelling.{IsListWithin}
 use Rattle.match_text.specs.Lists.{list_of}
 use Rattle.text_words.specs.Place.{Says}
-use Rattle.plain_words.specs.declared.faults.ReadFault.{ReadFault}
+use Rattle.text_words.specs.declared.faults.ReadFault.{ReadFault}
 use Rattle.match_limits.specs.declared.ranges.TheConstants.{SECOND}
 use Rattle.cert_tree.specs.Certificate.{Contents}
 use Rattle.cert_text.specs.CertificateSpelling.{certificate_spelling, IsCertificateWithin}

@@ -2,9 +2,9 @@
 
 ghost use Rattle.std.specs.Prelude.{◌≡◌, ◌+◌, ◌<◌, ◌≤◌, ◌^◌, ℕ, Ok, IfOk, length, take};
 ghost use Rattle.match_limits.specs.declared.TheConstants.{MOST_LEMMAS, MOST_WORKERS};
-ghost use Rattle.plain_words.specs.Bytes.{line_ends};
+ghost use Rattle.text_words.specs.Bytes.{line_ends};
 ghost use Rattle.text_words.specs.Place.{fail};
-ghost use Rattle.plain_words.specs.declared.faults.TextKind.TheVariants as kinds;
+ghost use Rattle.text_words.specs.declared.faults.TextKind.TheVariants as kinds;
 ghost use Rattle.cert_text.specs.CertificateSpelling.{certificate_spelling, IsCertificateWithin};
 ghost use Rattle.cert_text.specs.CertificateText.{CertificateGives, Makes, Said, certificate_of};
 ghost use Rattle.cert_text.specs.Parts.{AreRead, IsReadAt};

@@ -6,12 +6,12 @@ use Rattle.std.specs.Str.{bytes_eq}
 use Rattle.std.proofs.lemmas.Bool.{cases_lt, eqb-true, ne_eqb, lt-ltb, le-ltb, leb-true, le-leb, lt-leb}
 use Rattle.std.proofs.lemmas.List.{length-map}
 use Rattle.std.proofs.lemmas.Slice.Eq.{bytes_eq-Decides}
-use Rattle.plain_words.specs.declared.faults.TextKind.TheVariants.{Word}
-use Rattle.plain_words.specs.Words.{or_word}
+use Rattle.text_words.specs.declared.faults.TextKind.TheVariants.{Word}
+use Rattle.text_words.specs.PlainWords.{or_word}
 use Rattle.match_board.specs.Clues.{Clue}
 use Rattle.text_words.specs.Words.{colour_of, colour_in, colours_in, rule_in, tile_in, asks_in, clue_with, clue_in}
 use Rattle.text_words.specs.Spelling.{colour_character, colour_word, rule_word, tile_word, ask_character, asks_word}
-use Rattle.plain_words.proofs.WordLemmas.{Spells, judged_ok, judged_ok_is, judged_bind, or_word_is, if_ok, both, some, some_is, is_clean, after_word}
+use Rattle.text_words.proofs.WordLemmas.{Spells, judged_ok, judged_ok_is, judged_bind, or_word_is, if_ok, both, some, some_is, is_clean, after_word}
 use Rattle.text_words.specs.Within.{IsRuleWithin, IsWordWithin, AreAsksWithin}
 
 -- ---- a colour

@@ -1,11 +1,11 @@
 -- A text that is cut short ends at its last line.
 use Rattle.std.proofs.Common.{◌≡◌, ℕ, zero, suc, ◌+◌, ◌<◌, Bool, true, false, cond, eqb, List, [], ◌∷◌, ◌++◌, length, take, drop, Option, Some, None, Result, Ok, Err, refl, sym, ap, subst, ◌∙◌, arith, codes, inl, inr, ◌⊎◌}
 use Rattle.std.proofs.lemmas.List.{take-append-drop, length-append, length-drop}
-use Rattle.plain_words.specs.declared.faults.TextFault.{TextFault}
-use Rattle.plain_words.specs.declared.faults.TextKind.{TextKind}
-use Rattle.plain_words.specs.declared.faults.TextKind.TheVariants.{Ends, Word}
-use Rattle.plain_words.specs.Bytes.{onto, cut_at, words_of, line_ends}
-use Rattle.plain_words.specs.Words.{fixed_in, version_in, number_in}
+use Rattle.text_words.specs.declared.faults.TextFault.{TextFault}
+use Rattle.text_words.specs.declared.faults.TextKind.{TextKind}
+use Rattle.text_words.specs.declared.faults.TextKind.TheVariants.{Ends, Word}
+use Rattle.text_words.specs.Bytes.{onto, cut_at, words_of, line_ends}
+use Rattle.text_words.specs.PlainWords.{fixed_in, version_in, number_in}
 use Rattle.text_words.specs.Words.{entries_in}
 use Rattle.text_words.specs.Place.{Place, Read, ◌>>=◌, go_on, give, fail, line_from, next_line, judged, word_by, end_of_line, text_end_from, end_of_text, line_of, some_word, some_entries, entries_from, entries, times, opening, counted, closing, start}
 

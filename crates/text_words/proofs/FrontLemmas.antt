@@ -7,13 +7,13 @@ use Rattle.std.specs.Str.{bytes_eq}
 use Rattle.std.proofs.lemmas.Slice.Eq.{bytes_eq-Decides}
 use Rattle.std.specs.Str.Parse.{digits_value}
 use Rattle.std.proofs.lemmas.Bool.{ne_eqb}
-use Rattle.plain_words.specs.declared.faults.TextKind.TheVariants.{Word}
-use Rattle.plain_words.specs.Bytes.{cut_at, words_of}
-use Rattle.plain_words.specs.Words.{is_number, fixed_in, number_in}
+use Rattle.text_words.specs.declared.faults.TextKind.TheVariants.{Word}
+use Rattle.text_words.specs.Bytes.{cut_at, words_of}
+use Rattle.text_words.specs.PlainWords.{is_number, fixed_in, number_in}
 use Rattle.text_words.specs.Words.{placement_in}
 use Rattle.text_words.specs.Place.{Place, fail, end_of_line, some_word, word_by}
-use Rattle.plain_words.proofs.WordLemmas.{has_no, number_lacks, cut_dot}
-use Rattle.plain_words.proofs.FrontLemmas.{first_of, all_left, one_is, words_after, has_no-append, number_in_range, IsDigitsFront, IsNumberFront}
+use Rattle.text_words.proofs.WordLemmas.{has_no, number_lacks, cut_dot}
+use Rattle.text_words.proofs.WordEndLemmas.{first_of, all_left, one_is, words_after, has_no-append, number_in_range, IsDigitsFront, IsNumberFront}
 use Rattle.match_puzzle.specs.declared.placements.Placement.{Placement}
 
 pub end_at_word : (p : Place) (line : List ℕ) → p.words ≡ words_of line → end_of_line p ≡ fail p.line Word

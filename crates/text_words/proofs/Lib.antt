@@ -1,3 +1,6 @@
+pub mod BytesLemmas
+pub mod WordEndLemmas
+pub mod WordLemmas
 pub mod FrontLemmas
 pub mod LoopLemmas
 pub mod PlacementLemmas

@@ -4,13 +4,13 @@ use Rattle.std.specs.Fmt.{decimal}
 use Rattle.std.specs.List.{flat_map, join_with_byte, AllByRecursion}
 use Rattle.std.proofs.lemmas.List.Splits.{slice_split_none, slice_split_at, join_with_byte-slice_split}
 use Rattle.std.proofs.lemmas.List.{append-nil}
-use Rattle.plain_words.specs.declared.faults.TextFault.{TextFault}
-use Rattle.plain_words.specs.declared.faults.TextKind.{TextKind}
-use Rattle.plain_words.specs.Bytes.{cut_at, words_of}
-use Rattle.plain_words.specs.Words.{fixed_in, version_in, number_in}
+use Rattle.text_words.specs.declared.faults.TextFault.{TextFault}
+use Rattle.text_words.specs.declared.faults.TextKind.{TextKind}
+use Rattle.text_words.specs.Bytes.{cut_at, words_of}
+use Rattle.text_words.specs.PlainWords.{fixed_in, version_in, number_in}
 use Rattle.text_words.specs.Words.{entries_in}
 use Rattle.match_limits.specs.Ranges.{IsVersion}
-use Rattle.plain_words.proofs.WordLemmas.{is_clean, are_clean, clean-decimal, clean-version, Spells, spells_fixed, spells_version, spells_number, after_word, both, not_so, judged_ok_is, judged_bind, cut_parts}
+use Rattle.text_words.proofs.WordLemmas.{is_clean, are_clean, clean-decimal, clean-version, Spells, spells_fixed, spells_version, spells_number, after_word, both, not_so, judged_ok_is, judged_bind, cut_parts}
 use Rattle.text_words.specs.Place.{Place, Read, ◌>>=◌, give, line_from, next_line, judged, word_from, word_by, end_from, end_of_line, line_of, some_word_from, some_word, entries_from, entries, some_entries, times, opening, counted, closing, end_of_text, value_of}
 use Rattle.text_words.specs.Spelling.{line_text, text_of, first_words, count_words, end_lines}
 use Rattle.text_words.proofs.CutLemmas.{place, bind_ok, ok_is, end_is_reached}

@@ -1,12 +1,12 @@
 -- Reading entries one after the other, as a loop does.
 use Rattle.std.proofs.Common.{◌≡◌, ◌≢◌, ℕ, zero, suc, ◌+◌, ◌-◌, ◌<◌, ◌≤◌, List, [], ◌∷◌, ◌++◌, length, Result, Ok, Err, refl, sym, ap, subst, ◌∙◌, append_assoc, arith}
 use Rattle.std.proofs.lemmas.List.{append-nil, length-append}
-use Rattle.plain_words.specs.declared.faults.TextFault.{TextFault}
-use Rattle.plain_words.specs.declared.faults.TextKind.{TextKind}
-use Rattle.plain_words.specs.declared.faults.TextKind.TheVariants.{Limit}
-use Rattle.plain_words.specs.declared.faults.ReadFault.{ReadFault}
-use Rattle.plain_words.specs.declared.faults.ReadFault.TheVariants as faults
-use Rattle.plain_words.specs.Words.{◌>>=◌}
+use Rattle.text_words.specs.declared.faults.TextFault.{TextFault}
+use Rattle.text_words.specs.declared.faults.TextKind.{TextKind}
+use Rattle.text_words.specs.declared.faults.TextKind.TheVariants.{Limit}
+use Rattle.text_words.specs.declared.faults.ReadFault.{ReadFault}
+use Rattle.text_words.specs.declared.faults.ReadFault.TheVariants as faults
+use Rattle.text_words.specs.PlainWords.{◌>>=◌}
 use Rattle.text_words.specs.Words.{entries_in}
 use Rattle.text_words.specs.Place.{Place, Read, go_on, give, fail, judged, word_from, word_by, Fails, entries_from, entries, times}
 use Rattle.text_words.proofs.CutLemmas.{ok_is}

@@ -6,12 +6,12 @@ use Rattle.match_limits.specs.Ranges.{AreRanges}
 use Rattle.std.specs.List.{AllByRecursion}
 use Rattle.std.specs.Fmt.{decimal}
 use Rattle.match_puzzle.specs.declared.placements.Placement.{Placement}
-use Rattle.plain_words.specs.Words.{◌>>=◌, number_in, or_word}
+use Rattle.text_words.specs.PlainWords.{◌>>=◌, number_in, or_word}
 use Rattle.text_words.specs.Words.{placement_in}
-use Rattle.plain_words.specs.Bytes.{cut_at}
+use Rattle.text_words.specs.Bytes.{cut_at}
 use Rattle.text_words.specs.Spelling.{placement_word}
 use Rattle.text_words.specs.Within.{IsPlacementWithin}
-use Rattle.plain_words.proofs.WordLemmas.{Spells, judged_bind, judged_ok_is, or_word_is, spells_number, cut_parts, cut_dot, decimal_lacks, is_clean, are_clean, clean-append, clean-decimal, clean-words}
+use Rattle.text_words.proofs.WordLemmas.{Spells, judged_bind, judged_ok_is, or_word_is, spells_number, cut_parts, cut_dot, decimal_lacks, is_clean, are_clean, clean-append, clean-decimal, clean-words}
 
 abbrev placed : ℕ → ℕ → Placement
 placed tile turn = record { tile = tile; turn = turn }

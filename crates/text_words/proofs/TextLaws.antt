@@ -1,6 +1,6 @@
 -- What follows for a text that is read exactly where it spells a value.
 use Rattle.std.proofs.Common.{◌≡◌, ℕ, [], List, Result, Ok, refl, sym, ap, ◌∙◌, zero-add}
-use Rattle.plain_words.specs.declared.faults.TextFault.{TextFault}
+use Rattle.text_words.specs.declared.faults.TextFault.{TextFault}
 use Rattle.text_words.specs.Place.{Place, Read, start, value_of}
 use Rattle.text_words.specs.Laws.{ReadsSpellingsAlone, ReadsEachSpelling, HasOneSpelling, IsOneValue, EndsWhereCut, ReadsWhatIsSpelled}
 use Rattle.text_words.proofs.CutLemmas.{CutsShort, LeavesNothing, place, ok_is, ends_early}

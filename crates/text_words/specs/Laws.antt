@@ -1,8 +1,8 @@
 -- Laws of texts and of what they spell.
 use Rattle.std.specs.Prelude.{◌≡◌, ◌<◌, ◌+◌, ℕ, List, Result, Ok, length, take}
-use Rattle.plain_words.specs.declared.faults.TextFault.{TextFault}
-use Rattle.plain_words.specs.declared.faults.TextKind.TheVariants.{Ends}
-use Rattle.plain_words.specs.Bytes.{line_ends}
+use Rattle.text_words.specs.declared.faults.TextFault.{TextFault}
+use Rattle.text_words.specs.declared.faults.TextKind.TheVariants.{Ends}
+use Rattle.text_words.specs.Bytes.{line_ends}
 use Rattle.text_words.specs.Place.{fail}
 
 -- What is read is what has a spelling, and its text is that spelling.

@@ -1,3 +1,6 @@
+pub mod Bytes
+pub mod PlainWords
+pub mod FaultText
 pub mod Within
 pub mod Words
 pub mod Place

@@ -1,12 +1,12 @@
 -- Where reading stands in a text, and what it meets there.
 use Rattle.std.specs.Prelude.{◌≡◌, ℕ, zero, suc, ◌+◌, List, [], ◌∷◌, Option, Some, None, Result, Ok, Err, codes}
-use Rattle.plain_words.specs.declared.faults.TextFault.{TextFault}
-use Rattle.plain_words.specs.declared.faults.TextKind.{TextKind}
-use Rattle.plain_words.specs.declared.faults.TextKind.TheVariants.{Word, Ends, After}
-use Rattle.plain_words.specs.declared.faults.ReadFault.{ReadFault}
-use Rattle.plain_words.specs.declared.faults.ReadFault.TheVariants as faults
-use Rattle.plain_words.specs.Bytes.{cut_at, words_of}
-use Rattle.plain_words.specs.Words.{fixed_in, version_in, number_in}
+use Rattle.text_words.specs.declared.faults.TextFault.{TextFault}
+use Rattle.text_words.specs.declared.faults.TextKind.{TextKind}
+use Rattle.text_words.specs.declared.faults.TextKind.TheVariants.{Word, Ends, After}
+use Rattle.text_words.specs.declared.faults.ReadFault.{ReadFault}
+use Rattle.text_words.specs.declared.faults.ReadFault.TheVariants as faults
+use Rattle.text_words.specs.Bytes.{cut_at, words_of}
+use Rattle.text_words.specs.PlainWords.{fixed_in, version_in, number_in}
 use Rattle.text_words.specs.Words.{entries_in}
 
 pub record Place : Type 0 where
@@ -79,7 +79,7 @@ skip_line = do
   _ ← next_line
   skip_words
 
--- the same of so many lines
+-- the next `n` lines, whatever they say
 unfoldable pub skip_lines : ℕ → Read (Unit {0})
 skip_lines zero = give tt
 skip_lines (suc n) = do
@@ -134,7 +134,7 @@ entries_from p (Err k) = fail p.line k
 unfoldable pub entries : {X : Type 0} → ℕ → (List ℕ → Result X TextKind) → Read (List X)
 entries room test p = entries_from p (entries_in room test p.words)
 
--- the same, and at least one
+-- the rest of the line, as entries, at least one
 unfoldable pub some_entries : {X : Type 0} → ℕ → (List ℕ → Result X TextKind) → Read (List X)
 some_entries room test = do
   _ ← some_word
@@ -160,7 +160,7 @@ closing = do
   _ ← line_of (word_by (fixed_in (codes "end")))
   end_of_text
 
--- ---- the same, n times
+-- ---- reading n times
 
 unfoldable pub times : {X : Type 0} → ℕ → Read X → Read (List X)
 times zero r = give []
@@ -176,7 +176,7 @@ abbrev pub Gives : {X Y : Type 0} → (X → Y) → Result X TextFault → Place
 Gives view (Ok x) after read = read ≡ Ok (view x, after)
 Gives view (Err e) after read = read ≡ Err e
 
--- the same where memory may run out
+-- What reading gives where a call failed: its fault, or anything if memory ran out.
 abbrev pub Fails : {Y : Type 0} → ReadFault → Result Y TextFault → Type 0
 Fails faults.Memory read = Unit {0}
 Fails (faults.Text f) read = read ≡ Err f

@@ -8,10 +8,10 @@ use Rattle.match_board.specs.Clues.{Clue}
 use Rattle.match_puzzle.specs.declared.placements.Pair.{Pair}
 use Rattle.match_puzzle.specs.declared.placements.Placement.{Placement}
 use Rattle.match_limits.specs.declared.ranges.Ranges.{Ranges}
-use Rattle.plain_words.specs.declared.faults.TextKind.{TextKind}
-use Rattle.plain_words.specs.declared.faults.TextKind.TheVariants.{Word, Limit}
-use Rattle.plain_words.specs.Bytes.{cut_at}
-use Rattle.plain_words.specs.Words.{◌>>=◌, number_in, or_word}
+use Rattle.text_words.specs.declared.faults.TextKind.{TextKind}
+use Rattle.text_words.specs.declared.faults.TextKind.TheVariants.{Word, Limit}
+use Rattle.text_words.specs.Bytes.{cut_at}
+use Rattle.text_words.specs.PlainWords.{◌>>=◌, number_in, or_word}
 
 -- the colour that a digit or a small letter stands for
 abbrev pub colour_of : ℕ → Option ℕ
@@ -43,7 +43,7 @@ is_cell c = c == 35
 abbrev pub is_mark : ℕ → Bool
 is_mark c = is_cell c || c == 46
 
--- a row of so many places: which of them have a cell
+-- a row of `width` places: which of them have a cell
 unfoldable pub marks_in : ℕ → List ℕ → Result (List Bool) TextKind
 marks_in width word = if length word == width && list_all is_mark word then Ok (map is_cell word) else Err Word
 
@@ -89,7 +89,7 @@ pair_in ranges word = do
   turn ← number_in 0 LAST_TURN placed.1
   Ok (record { cell = cell; placement = record { tile = tile; turn = turn } })
 
--- each of these words is an entry, and there are at most so many
+-- each of these words is an entry, and there are at most `room` words
 unfoldable pub entries_in : {X : Type 0} → ℕ → (List ℕ → Result X TextKind) → List (List ℕ) → Result (List X) TextKind
 entries_in room test [] = Ok []
 entries_in zero test (word ∷ others) = Err Limit

@@ -1,6 +1,6 @@
 //! What a reader asks for, so that a message can say it.
 
-use plain_words::TextFault;
+use crate::faults::TextFault;
 
 /// What a reader asks of a word.
 #[derive(Clone, Copy)]

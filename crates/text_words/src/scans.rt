@@ -4,9 +4,9 @@ ghost use Rattle.std.specs.Prelude.{◌≡◌, ◌≢◌, MatchBool, MatchResult
 ghost use Rattle.std.specs.Prelude.{IfOk};
 ghost use Rattle.std.specs.Option.{option_copied};
 ghost use Rattle.match_board.specs.Tile.{word as tile_colours};
-ghost use Rattle.plain_words.specs.Bytes.{words_left};
+ghost use Rattle.text_words.specs.Bytes.{words_left};
 ghost use Rattle.match_limits.specs.Ranges.{IsVersion, AreRanges};
-ghost use Rattle.plain_words.specs.Words.{fixed_in, version_in, number_in};
+ghost use Rattle.text_words.specs.PlainWords.{fixed_in, version_in, number_in};
 ghost use Rattle.text_words.specs.Words.{colour_in, rule_in, tile_in, placement_in};
 ghost use Rattle.text_words.specs.Words.{pair_in, clue_in};
 ghost use Rattle.match_board.specs.Clues.{clue_of};
@@ -14,16 +14,16 @@ ghost use Rattle.text_words.specs.Place.{Place, start, first_word, other_words, 
 ghost use Rattle.text_words.specs.Place.{end_of_line, end_of_text, skip_line, some_word, word_by, opening, counted, closing};
 
 use crate::asked::{Asked, FaultPlace};
+use crate::cuts::{after_word, cut_line, front};
+use crate::faults::{TextFault, TextKind};
+use crate::fixed_words::{fixed_word, version_word};
+use crate::numbers::{number_word, short_number};
 use crate::words::{
     clue_word, colour_word, pair_word, placement_word, rule_word, short_placement, tile_word,
 };
 use match_board::{Clue, Tile};
 use match_limits::Ranges;
 use match_puzzle::{Pair, Placement};
-use plain_words::{
-    TextFault, TextKind, after_word, cut_line, fixed_word, front, number_word, short_number,
-    version_word,
-};
 use std::marker::Model;
 
 /// Reads a text line by line, and a line word by word. Asking something of a word costs its length.

@@ -5,17 +5,19 @@ ghost use Rattle.std.specs.List.{list_all, AllByRecursion};
 ghost use Rattle.match_board.specs.Tile.{word as tile_colours};
 ghost use Rattle.match_limits.specs.declared.ranges.Ranges.{Ranges as RangesOf};
 ghost use Rattle.match_limits.specs.Ranges.{AreRanges};
-ghost use Rattle.plain_words.specs.Bytes.{words_of};
-ghost use Rattle.plain_words.specs.Words.{Judges, or_word};
+ghost use Rattle.text_words.specs.Bytes.{words_of};
+ghost use Rattle.text_words.specs.PlainWords.{Judges, or_word};
 ghost use Rattle.text_words.specs.Words.{colour_in, colour_of, colours_in, is_cell, is_mark, marks_in};
 ghost use Rattle.text_words.specs.Words.{clue_in, clue_with, pair_in, placement_in, rule_in, tile_in};
 ghost use Rattle.text_words.specs.Within.{IsRuleWithin};
 ghost use Rattle.match_board.specs.Clues.{clue_of};
 
+use crate::cuts::cut;
+use crate::faults::TextKind;
+use crate::numbers::{number_word, short_digits};
 use match_board::{Clue, Tile};
 use match_limits::{LAST_TURN, MOST_COLOURS, Ranges, SIDES};
 use match_puzzle::{Pair, Placement};
-use plain_words::{TextKind, cut, number_word, short_digits};
 
 // The colour with this character.
 fn colour(character: u8) -> Result<u8, TextKind>

@@ -17,8 +17,8 @@ use Rattle.match_puzzle.specs.declared.placements.Placement.{Placement}
 use Rattle.match_puzzle.specs.declared.placements.Pair.{Pair}
 use Rattle.match_puzzle.proofs.UsedTiles.{has_none, used_or_unused}
 use Rattle.match_puzzle.proofs.TogetherLemmas.{together_turned}
-use Rattle.match_fits.proofs.ItemLemmas.{item_of, not_after, at_most}
-use Rattle.match_fits.proofs.PlacedPairLemmas.{fit_pushed, at_end}
+use Rattle.fit_counts.proofs.ItemLemmas.{item_of, not_after, at_most}
+use Rattle.fit_counts.proofs.PlacedPairLemmas.{fit_pushed, at_end}
 use Rattle.match_puzzle.proofs.PairLemmas.{has_of_pairs, free_of_pairs, free_in_empty, length-with_pairs}
 use Rattle.match_puzzle.proofs.Prefixes.{inside, free_or_has}
 use Rattle.xcc_form.specs.ExactCover.{HasPrimary}
@@ -29,7 +29,7 @@ use Rattle.xcc_form.proofs.PairsLemmas.{in_first, in_rest}
 use Rattle.xcc_form.specs.Clashes.{IsPartialSolution, IsOpen, IsOpenAt}
 use Rattle.xcc_form.specs.Chosen.{AreOpenAt, HasSize, IsUncovered, IsCovered}
 use Rattle.match_puzzle.specs.Fitting.{IsNumberOf}
-use Rattle.match_fits.specs.Placing.{prefix_of}
+use Rattle.fit_counts.specs.Placing.{prefix_of}
 use Rattle.xcc_dance.specs.Placing.{ArePairsOf}
 use Rattle.xcc_dance.specs.FittingOptions.{AreOpenWhereFitting, AreOpenWhereSettling, AreOpenWhereListed, AreOpenInOrder, AreFittingInOrder, AreAsManyAsFitting, AreUncoveredWhereOpen, AreBranchedOnWhereFewest, StandAsPairs, AreFittingAt}
 use Rattle.xcc_dance.proofs.ItemLemmas.{share_cell, share_tile, cell_has, tile_has, is_item}

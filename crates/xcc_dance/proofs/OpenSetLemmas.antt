@@ -7,13 +7,13 @@ use Rattle.match_puzzle.specs.Puzzle.{Task}
 use Rattle.match_puzzle.specs.Prefix.{empty_prefix}
 use Rattle.match_puzzle.specs.Fitting.{Fits, FitsItem, AreFitting, Settles, HasFewestFitting, IsNextFitting, IsLastFitting, ComesAfterPair, IsNumberOf, item_key}
 use Rattle.match_puzzle.specs.Fitting as items
-use Rattle.match_fits.specs.Placing.{Placing, placed_by, prefix_of, with_next, without_last}
+use Rattle.fit_counts.specs.Placing.{Placing, placed_by, prefix_of, with_next, without_last}
 use Rattle.match_puzzle.specs.Fitting.{item_place}
 use Rattle.match_puzzle.specs.declared.items.Item.{Item}
 use Rattle.match_puzzle.specs.declared.items.Item.TheVariants.{Cell, Tile}
 use Rattle.match_puzzle.specs.declared.placements.Placement.{Placement}
 use Rattle.match_puzzle.specs.declared.placements.Pair.{Pair}
-use Rattle.match_fits.proofs.ItemLemmas.{item_of}
+use Rattle.fit_counts.proofs.ItemLemmas.{item_of}
 use Rattle.match_puzzle.proofs.PairLemmas.{length-with_pairs}
 use Rattle.xcc_form.specs.Options.{Compiled, IsCompiled, IsOptionPair, cover_of}
 use Rattle.xcc_form.specs.Correspondence.{IsPairOf}

@@ -4,7 +4,7 @@ use Rattle.std.proofs.lemmas.List.{get_or-take, length-take}
 use Rattle.std.proofs.lemmas.List.Elements.{Contains-push_cases}
 use Rattle.std.proofs.lemmas.Option.{slice_get_within}
 use Rattle.match_puzzle.proofs.PairLemmas.{taken_at}
-use Rattle.match_fits.proofs.PlacedPairLemmas.{pushed_at}
+use Rattle.fit_counts.proofs.PlacedPairLemmas.{pushed_at}
 use Rattle.xcc_form.proofs.OptionLemmas.{contains_at}
 use Rattle.xcc_form.specs.ExactCover.{Cover}
 use Rattle.xcc_form.specs.Clashes.{Clash, IsOpen, IsPartialSolution}

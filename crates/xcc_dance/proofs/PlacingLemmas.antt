@@ -12,7 +12,7 @@ use Rattle.match_puzzle.specs.Prefix.{Prefix, Has, IsFree, empty_prefix, with_pa
 use Rattle.match_puzzle.specs.declared.placements.Placement.{Placement}
 use Rattle.match_puzzle.specs.declared.placements.Pair.{Pair}
 use Rattle.match_puzzle.proofs.Prefixes.{inside, has_new, has_still}
-use Rattle.match_fits.proofs.PlacedPairLemmas.{pushed_at}
+use Rattle.fit_counts.proofs.PlacedPairLemmas.{pushed_at}
 use Rattle.match_puzzle.proofs.PairLemmas.{has_of_pairs, free_of_pairs, free_in_empty, length-with_pairs, taken_at, next_pair}
 use Rattle.match_puzzle.proofs.UsedTiles.{has_none}
 use Rattle.match_board.specs.Board.{cell_count}
@@ -26,7 +26,7 @@ use Rattle.xcc_form.proofs.GivenLemmas.{given_alike, met}
 use Rattle.xcc_form.proofs.ShownLemmas.{shared_at}
 use Rattle.xcc_form.specs.Clashes.{Clash, IsPartialSolution, IsOpen}
 use Rattle.xcc_form.specs.Chosen.{Selection, IsFoundFrom}
-use Rattle.match_fits.specs.Placing.{prefix_of, FitInTurn}
+use Rattle.fit_counts.specs.Placing.{prefix_of, FitInTurn}
 use Rattle.xcc_dance.specs.Placing.{ArePairsOf, IsArrangementWith}
 use Rattle.xcc_dance.proofs.ItemLemmas.{share_cell, share_tile, shares}
 

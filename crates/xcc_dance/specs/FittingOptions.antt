@@ -4,7 +4,7 @@ use Rattle.match_board.specs.Board.{cell_count}
 use Rattle.match_limits.specs.Listing.{ByKey}
 use Rattle.match_puzzle.specs.Fitting.{Fits, FitsItem, Settles, AreFitting, HasFewestFitting, IsNumberOf, item_key}
 use Rattle.match_puzzle.specs.Fitting as items
-use Rattle.match_fits.specs.Placing.{prefix_of}
+use Rattle.fit_counts.specs.Placing.{prefix_of}
 use Rattle.match_puzzle.specs.declared.items.Item.{Item}
 use Rattle.match_puzzle.specs.declared.placements.Pair.{Pair}
 use Rattle.xcc_form.specs.Options.{Compiled, cover_of}

@@ -29,9 +29,9 @@ pub record SearchState (S : Type 0) : Type 0 where
   pub branches : ℕ
   pub failed : Bool
 
--- What was found are arrangements that extend the prefix, which the tree numbers; it has so many branch nodes, and no
--- more levels than a lemma's text may have. It is within all limits of that text where no more was found than may be
--- listed.
+-- What was found are arrangements that extend the prefix, and the tree names them by number. The tree has `branches`
+-- branch nodes, and no more levels than a lemma's text may have. It is within all limits of that text where no more was
+-- found than may be listed.
 pub record IsSearched (x : Compiled) (prefix : List Pair) (tree : Tree) (found : List (List Placement))
     (branches : ℕ) : Type 0 where
   pub found_are : (a : List Placement) → Contains found a → IsArrangementWith x.puzzle prefix a
@@ -70,7 +70,7 @@ abbrev pub IsTreeFrom : Picks → Answers → Compiled → List Pair → Tree �
 IsTreeFrom picks answers x prefix tree found = (chosen : List ℕ) × ArePairsOf x chosen prefix
     × IsSearchTree picks answers found (record { compiled = x; chosen = chosen }) tree
 
--- A search from these options is unfinished after so many branch nodes.
+-- A search from these options is unfinished after `nodes` branch nodes.
 abbrev pub IsUnfinishedFrom : Picks → Answers → Compiled → List Pair → (nodes : ℕ) → Type 0
 IsUnfinishedFrom picks answers x prefix nodes = (chosen : List ℕ) × ArePairsOf x chosen prefix
     × ((all : List (List Placement)) × IsUnfinished picks answers all (record { compiled = x; chosen = chosen }) nodes)

@@ -2,7 +2,7 @@
 use Rattle.std.specs.Prelude.{◌≡◌, ℕ, List, Option, None, Some, Contains, length, slice_get}
 use Rattle.match_puzzle.specs.Puzzle.{Task}
 use Rattle.match_puzzle.specs.Arrangement.{IsArrangement, Stands}
-use Rattle.match_fits.specs.Placing.{Placing}
+use Rattle.fit_counts.specs.Placing.{Placing}
 use Rattle.match_puzzle.specs.declared.placements.Placement.{Placement}
 use Rattle.match_puzzle.specs.declared.placements.Pair.{Pair}
 use Rattle.xcc_form.specs.Options.{Compiled}

@@ -53,11 +53,11 @@ IsPartOfSearch picks answers all s (wanted number) = picks s number
 IsPartOfSearch picks answers all s (begun number done next) = picks s number
     × AreFirstChildren picks answers all s number done (λ t. IsPartOfSearch picks answers all t next)
 
--- A search from these choices is unfinished after so many branch nodes: another is wanted.
+-- A search from these choices is unfinished after `nodes` branch nodes: another one is wanted.
 abbrev pub IsUnfinished : Picks → Answers → List (List Placement) → Selection → (nodes : ℕ) → Type 0
 IsUnfinished picks answers all s nodes = (part : Part) × IsPartOfSearch picks answers all s part × (made part ≡ nodes)
 
--- The children of a branch on the item with this number are unfinished after so many branch nodes.
+-- The children of a branch on the item with this number are unfinished after `nodes` branch nodes.
 abbrev pub AreUnfinished : Picks → Answers → List (List Placement) → Selection → (number nodes : ℕ) → Type 0
 AreUnfinished picks answers all s number nodes = (done : Forest) × (next : Part)
     × AreFirstChildren picks answers all s number done (λ t. IsPartOfSearch picks answers all t next)

@@ -5,7 +5,7 @@ use Rattle.match_limits.specs.declared.TheConstants.{MOST_CELLS, MOST_CHILDREN}
 use Rattle.match_board.specs.Board.{cell_count}
 use Rattle.match_puzzle.specs.Fitting.{IsNumberOf}
 use Rattle.match_puzzle.specs.declared.placements.Pair.{Pair}
-use Rattle.match_fits.specs.Placing.{FitInTurn}
+use Rattle.fit_counts.specs.Placing.{FitInTurn}
 use Rattle.xcc_form.specs.Options.{cover_of}
 use Rattle.xcc_form.specs.Chosen.{Selection, Picks, IsSelection, IsUncovered, HasSize}
 use Rattle.xcc_dance.specs.Progress.{GoesOn, IsTreeOf, AreTreesOf, PutsTree, PutsTrees}
@@ -14,7 +14,7 @@ use Rattle.xcc_dance.specs.Unfinished.{IsNotCited, IsUnfinished, AreUnfinished}
 use Rattle.xcc_dance.specs.declared.paths.Branch.{Branch}
 use Rattle.xcc_dance.specs.declared.progress.Progress.{Progress}
 
--- The rule may branch on this uncovered item, which has this number and so many open options.
+-- The rule may branch on this uncovered item, which has the number `node.number` and `node.size` open options.
 pub record IsBranchAt (picks : Picks) (s : Selection) (node : Branch) : Type 0 where
   pub right : IsSelection s.compiled s.chosen
   pub uncovered : IsUncovered (cover_of s.compiled) s.chosen node.number
@@ -24,8 +24,8 @@ pub record IsBranchAt (picks : Picks) (s : Selection) (node : Branch) : Type 0 w
   pub most : cell_count s.compiled.puzzle.board ≤ MOST_CELLS
   pub few : node.number < 2 * cell_count s.compiled.puzzle.board
 
--- A walk may begin: it may ask about all pairs that fit in turn, and numbers of 32 bits do for all that it may find with
--- its fuel, and for so many more.
+-- A walk may begin: it may ask about all pairs that fit in turn, and numbers of 32 bits are enough for what was found,
+-- all that it may find with its fuel, and `more` beyond that.
 pub record MayWalk (s : Selection) (Takes : List Pair → Type 0) (progress : Progress) (more : ℕ) : Type 0 where
   pub takes : (pairs : List Pair) → FitInTurn s.compiled.puzzle pairs → Takes pairs
   pub room : length progress.found.items + MOST_CHILDREN * progress.fuel + more < 2 ^ 32

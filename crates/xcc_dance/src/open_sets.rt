@@ -5,7 +5,7 @@ ghost use Rattle.xcc_form.specs.Options.{cover_of};
 ghost use Rattle.xcc_form.specs.Chosen.{IsUncovered};
 ghost use Rattle.xcc_dance.specs.Placing.{IsPairOfAny};
 
-use match_fits::FitCounts;
+use fit_counts::FitCounts;
 use match_puzzle::{Item, Pair};
 use std::alloc::{AllocError, Global};
 use std::marker::Model;

@@ -7,7 +7,7 @@ ghost use Rattle.xcc_form.specs.Options.{IsCompiled, IsOptionPair, cover_of};
 ghost use Rattle.xcc_form.specs.Correspondence.{IsPairOf, IsSolutionOf};
 ghost use Rattle.xcc_form.specs.Clashes.{IsOpen, IsOpenAt};
 ghost use Rattle.xcc_form.specs.Chosen.{IsSelection, IsUncovered, AreAllCovered, IsLast, IsNext, with_option, before_any};
-ghost use Rattle.match_fits.specs.Placing.{FitInTurn};
+ghost use Rattle.fit_counts.specs.Placing.{FitInTurn};
 ghost use Rattle.xcc_dance.specs.Placing.{ArePairsOf};
 ghost use Rattle.xcc_dance.specs.Walking.{IsBranchAt};
 

@@ -5,7 +5,7 @@ ghost use Rattle.match_limits.specs.declared.TheConstants.{MOST_LEVELS};
 ghost use Rattle.cert_tree.specs.Limits.{HasLevels};
 ghost use Rattle.cert_tree.specs.Tree.{tree_of};
 ghost use Rattle.match_puzzle.specs.declared.placements.Pair.{Pair as Placed};
-ghost use Rattle.match_fits.specs.Placing.{FitInTurn};
+ghost use Rattle.fit_counts.specs.Placing.{FitInTurn};
 ghost use Rattle.xcc_dance.specs.Outcome.{IsOutcome, IsPackedOutcome, IsPackedSearchOf, IsSearchOf};
 ghost use Rattle.xcc_form.specs.Chosen.{picks_fewest};
 

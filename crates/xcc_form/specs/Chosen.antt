@@ -25,7 +25,7 @@ with_option s option = record { compiled = s.compiled; chosen = s.chosen ++ opti
 abbrev pub without_last : Selection → Selection
 without_last s = record { compiled = s.compiled; chosen = take (length s.chosen - 1) s.chosen }
 
--- the state before the last so many choices, of which each is taken back by the same step
+-- the state before the last `choices` choices, of which each is taken back by the same step
 abbrev pub before_last : {S : Type 0} → (taken_back : S → S) → (choices : ℕ) → S → S
 before_last taken_back zero s = s
 before_last taken_back (suc choices) s = before_last taken_back choices (taken_back s)
@@ -51,11 +51,11 @@ pub record IsUncovered (x : Cover) (chosen : List ℕ) (item : ℕ) : Type 0 whe
 abbrev pub AreOpenAt : Cover → (chosen : List ℕ) → (item : ℕ) → (options : List ℕ) → Type 0
 AreOpenAt x chosen item options = IsListing ◌<◌ (IsOpenAt x chosen item) options
 
--- There are just so many open options of the item.
+-- There are just `size` open options of the item.
 abbrev pub HasSize : Cover → (chosen : List ℕ) → (item size : ℕ) → Type 0
 HasSize x chosen item size = (options : List ℕ) × AreOpenAt x chosen item options × (length options ≡ size)
 
--- Of the uncovered items it has the fewest open options, and of those with so many the least number.
+-- Of the uncovered items that have the fewest open options, the item is the one with the least number.
 pub record IsToBranchOn (x : Cover) (chosen : List ℕ) (item : ℕ) : Type 0 where
   pub uncovered : IsUncovered x chosen item
   pub fewest : (other size other_size : ℕ) → IsUncovered x chosen other → HasSize x chosen item size

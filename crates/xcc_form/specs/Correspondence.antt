@@ -31,6 +31,6 @@ pub record IsSolutionOf (x : Compiled) (a : List Placement) (chosen : List ℕ) 
   pub arrangement : IsArrangement x.puzzle a
   pub filled : IsFilledBy x chosen a
 
--- The same options are in both lists, in whatever order.
+-- Both lists have the same options, in whatever order and however often.
 abbrev pub HaveSameOptions : (chosen other : List ℕ) → Type 0
 HaveSameOptions chosen other = (option : ℕ) → Contains chosen option ↔ Contains other option

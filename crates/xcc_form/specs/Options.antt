@@ -89,7 +89,7 @@ pub record IsCompiled (x : Compiled) : Type 0 where
   pub edges : (option : ℕ) (c : Choice) → slice_get x.options option ≡ Some c
       → AreShownEdges x.puzzle x.shared c.pair c.edges
 
--- an option as the items that it has, where there are so many cells
+-- an option as the items that it has, on a board of `cells` cells
 abbrev pub items_of : ℕ → Choice → ItemSet
 items_of cells c = record { primary = c.pair.cell ∷ (cells + c.pair.placement.tile) ∷ []; coloured = c.edges }
 

@@ -4,7 +4,7 @@ ghost use Rattle.std.specs.Prelude.{◌≡◌, ℕ, List, IfOk, IsErrOf};
 ghost use Rattle.match_puzzle.specs.Arrangement.{IsArrangement};
 ghost use Rattle.match_puzzle.specs.declared.placements.Placement.{Placement as Placed};
 ghost use Rattle.xcc_form.specs.ExactCover.{IsSolution};
-ghost use Rattle.xcc_form.specs.Options.{IsCompiled, cover_of};
+ghost use Rattle.xcc_form.specs.Options.{cover_of};
 ghost use Rattle.xcc_form.specs.Correspondence.{AreByCell, HaveSameOptions, IsSolutionOf};
 
 use crate::faults::FormFault;

@@ -3,7 +3,6 @@
 ghost use Rattle.std.specs.Prelude.{◌≡◌, ◌<◌, ◌≤◌, ◌+◌, ◌*◌, ℕ, IfOk, MatchOption, length};
 ghost use Rattle.match_board.specs.Board.{cell_count, side_count};
 ghost use Rattle.match_limits.specs.Listing.{IsListing, ByKey, HoldsBefore};
-ghost use Rattle.match_puzzle.specs.Puzzle.{IsPuzzle};
 ghost use Rattle.xcc_form.specs.Options.{IsSharedEdge, AreSharedEdges, IsSideOf, colour_given, least_place};
 
 use match_limits::{MOST_CELLS, MOST_COLOURS};

@@ -1,7 +1,6 @@
 //! The options of a puzzle, as flat vectors.
 
-ghost use Rattle.std.specs.Prelude.{◌≡◌, ◌<◌, ◌≤◌, ◌+◌, ◌*◌, ◌∷◌, ◌++◌, [], ℕ, Contains, IfOk, length};
-ghost use Rattle.match_board.specs.Board.{cell_count};
+ghost use Rattle.std.specs.Prelude.{◌≡◌, ◌<◌, ◌≤◌, ◌+◌, ◌*◌, ◌∷◌, ◌++◌, [], Contains, IfOk, length};
 ghost use Rattle.match_limits.specs.Listing.{IsListing};
 ghost use Rattle.match_puzzle.specs.Puzzle.{IsPuzzle, IsLegal};
 ghost use Rattle.match_puzzle.specs.declared.placements.Pair.{Pair as StandingPair};

@@ -1,7 +1,6 @@
 //! Numbers for pairs of a cell and a placement: by cell, tile and turn.
 
 ghost use Rattle.std.specs.Prelude.{◌≡◌, ◌<◌, ◌≤◌, ◌*◌, IfOk, length};
-ghost use Rattle.match_board.specs.Board.{cell_count};
 ghost use Rattle.match_limits.specs.Listing.{IsListing};
 ghost use Rattle.match_puzzle.specs.Puzzle.{IsPuzzle};
 ghost use Rattle.xcc_form.specs.Options.{IsOptionPair, PairComesBefore};
@@ -11,7 +10,7 @@ use match_limits::{MOST_ENTRIES, TURNS};
 use match_puzzle::{Pair, Puzzle};
 use std::alloc::{AllocError, Global};
 
-/// The number of a pair of so many tiles, of which each has four turns at most, and as many cells or fewer.
+/// The number of a pair, where there are `tiles` tiles, each with four turns at most, and as many cells or fewer.
 pub(crate) fn number_of(tiles: u16, pair: Pair) -> usize
     ensures { result ≡ pair_number tiles pair }
 {

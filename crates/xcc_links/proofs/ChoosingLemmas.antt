@@ -157,7 +157,7 @@ module _ (takable items options : ℕ) (entries : List Entry) (starts : List ℕ
       right = λ k le. let in_ : k ≤ last = omega (arith, length-take last chosen) in right_at _ _ _ _ _ _ (take-take k last chosen in_) (before_left k in_) (trail_left k in_) (all.right k (omega arith));
     }
 
-  -- The same at equal lists.
+  -- Arrays that were always right are so at equal arrays and lists too.
   pub moved : (a a' : Arrays) (t t' m m' c c' : List ℕ) → a' ≡ a → t' ≡ t → m' ≡ m → c' ≡ c → WereAlwaysRight takable items options entries starts a t m c → WereAlwaysRight takable items options entries starts a' t' m' c'
   moved a a' t t' m m' c c' ea et em ec h =
       subst (λ x. WereAlwaysRight takable items options entries starts x t' m' c') (sym ea) (subst (λ x. WereAlwaysRight takable items options entries starts a x m' c') (sym et) (subst (λ x. WereAlwaysRight takable items options entries starts a t x c') (sym em) (subst (λ x. WereAlwaysRight takable items options entries starts a t m x) (sym ec) h)))

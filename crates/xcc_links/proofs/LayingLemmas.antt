@@ -10,13 +10,13 @@ use Rattle.xcc_form.specs.Options.{Choice, Compiled, cover_of, entries_of, items
 use Rattle.xcc_form.specs.declared.edges.Edge.{Edge}
 use Rattle.xcc_links.specs.Rings.{no_entry, option_of}
 use Rattle.xcc_links.specs.NodeTables.{AreRuns, start_of}
-use Rattle.xcc_links.specs.TableLayout.{AreNodesOf, IsLaidOutTo, own_entry, primary_entry, edge_entry}
+use Rattle.xcc_links.specs.TableLayout.{AreNodesOf, IsLaidOutTo, own_entry, taken_entry, edge_entry}
 use Rattle.xcc_links.specs.declared.links.tables.Entry.{Entry}
 use Rattle.xcc_dance.proofs.ItemLemmas.{to_map}
 
 -- what option_nodes lays out
 abbrev pub option_nodes : (cells option : ℕ) → Choice → List Entry
-option_nodes cells option c = primary_entry option c.pair.cell ∷ primary_entry option (cells + c.pair.placement.tile) ∷ map (edge_entry option) c.edges
+option_nodes cells option c = taken_entry option c.pair.cell ∷ taken_entry option (cells + c.pair.placement.tile) ∷ map (edge_entry option) c.edges
 
 map_at : {X Y : Type 0} (f : X → Y) (xs : List X) (k : ℕ) (x : X) (d : Y) → slice_get xs k ≡ Some x → get_or (map f xs) k d ≡ f x
 map_at f [] k x d at = absurd (none-some x at)
@@ -190,9 +190,9 @@ module _ (x : Compiled) (items option : ℕ) (entries : List Entry) (starts : Li
 -- ---- one node of the root more
 
 module _ (x : Compiled) (items options roots : ℕ) (entries : List Entry) (starts : List ℕ) (h : IsLaidOutTo x items options roots entries starts) where
-  pub root_more : IsLaidOutTo x items options (roots + 1) (entries ++ primary_entry (options + roots) (items - 1) ∷ []) (starts ++ length (entries ++ primary_entry (options + roots) (items - 1) ∷ []) ∷ [])
+  pub root_more : IsLaidOutTo x items options (roots + 1) (entries ++ taken_entry (options + roots) (items - 1) ∷ []) (starts ++ length (entries ++ taken_entry (options + roots) (items - 1) ∷ []) ∷ [])
   root_more =
-      let more = primary_entry (options + roots) (items - 1) ∷ [] in
+      let more = taken_entry (options + roots) (items - 1) ∷ [] in
       let starts_long = h.starts_long in
       let new : (k : ℕ) → k < length more → option_of more k + 1 ≡ length starts = λ k lt. let e : k ≡ 0 = omega (arith, lt) in let f = ap (option_of more) e in omega (arith, f, starts_long) in
       let long = length-append entries more in
@@ -224,7 +224,7 @@ module _ (x : Compiled) (items options roots : ℕ) (entries : List Entry) (star
               entry = ap (λ n. get_or (entries ++ more) n no_entry) at
                   ∙ entry_new items entries more starts h.runs new (length entries) (omega arith)
                   ∙ (let e : length entries - length entries ≡ 0 = omega arith in ap (λ n. get_or more n no_entry) e)
-                  ∙ ap (λ n. primary_entry (options + n) (items - 1)) (sym same);
+                  ∙ ap (λ n. taken_entry (options + n) (items - 1)) (sym same);
               width = omega (arith, at, b, long);
             })
             (cases_lt item roots);

@@ -11,7 +11,7 @@ use Rattle.xcc_links.specs.Rings.{no_link, no_entry, up_of, down_of, item_of, op
 use Rattle.xcc_links.specs.NodeLists.{IsIn, IsLast, IsAfter, Linked}
 use Rattle.xcc_links.specs.NodeTables.{AreRight, has, shown_by, start_of}
 use Rattle.xcc_links.specs.Marks.{HidesJust}
-use Rattle.xcc_links.specs.TableLayout.{IsTableOf, primary_entry}
+use Rattle.xcc_links.specs.TableLayout.{IsTableOf, taken_entry}
 use Rattle.xcc_links.specs.LinkStates.{AreLinksOf, link_state}
 use Rattle.xcc_links.specs.declared.links.arrays.Link.{Link}
 use Rattle.xcc_links.specs.declared.links.arrays.LinkArrays.{LinkArrays}
@@ -99,7 +99,7 @@ module _ (x : Compiled) (t t' : NodeTable) (tab : IsTableOf x t) (tab' : IsTable
   same_root item n lt at =
       let at' = at ∙ start_is (t.options + item) ∙ ap (λ o. start_of t'.starts.items (o + item)) same_options in
       ap (λ m. get_or t.entries.items m no_entry) at ∙ (tab.root item lt).entry
-      ∙ ap (λ o. primary_entry (o + item) (t.items - 1)) same_options ∙ ap (λ i. primary_entry (t'.options + item) (i - 1)) same_items
+      ∙ ap (λ o. taken_entry (o + item) (t.items - 1)) same_options ∙ ap (λ i. taken_entry (t'.options + item) (i - 1)) same_items
       ∙ sym (ap (λ m. get_or t'.entries.items m no_entry) at' ∙ (tab'.root item (omega (arith, lt, same_takable))).entry)
 
   same_entry : (n : ℕ) → n < length t.entries.items → get_or t.entries.items n no_entry ≡ get_or t'.entries.items n no_entry

@@ -10,7 +10,7 @@ use Rattle.xcc_form.proofs.OptionLemmas.{contains_at, read_in, option_pair, has_
 use Rattle.xcc_form.proofs.CoverLemmas.{coloured_cover}
 use Rattle.xcc_links.specs.Rings.{no_entry, item_of, option_of}
 use Rattle.xcc_links.specs.NodeTables.{IsNodeTable, start_of}
-use Rattle.xcc_links.specs.TableLayout.{AreNodesOf, IsLaidOutTo, own_entry, primary_entry, edge_entry}
+use Rattle.xcc_links.specs.TableLayout.{AreNodesOf, IsLaidOutTo, own_entry, taken_entry, edge_entry}
 use Rattle.xcc_links.specs.declared.links.tables.Entry.{Entry}
 use Rattle.xcc_dance.proofs.ItemLemmas.{edge_has}
 
@@ -63,13 +63,13 @@ module _ (x : Compiled) (is : IsCompiled x) where
         place_in (cell_count x.puzzle.board) option (choice option lt).0 entries (start_of starts option) (start_of starts (option + 1)) n (run option lt)
         (subst (λ o. start_of starts o ≤ n) of w.1) (subst (λ o. n < start_of starts (o + 1)) of w.2)
 
-    at_place : (P : Entry → Type 0) (option n : ℕ) (lt : option < options) → Place (cell_count x.puzzle.board) option (choice option lt).0 (start_of starts option) n → P (primary_entry option (choice option lt).0.pair.cell) → P (primary_entry option (cell_count x.puzzle.board + (choice option lt).0.pair.placement.tile)) → ((k : ℕ) (e : Edge) → slice_get (choice option lt).0.edges k ≡ Some e → P (edge_entry option e)) → P (get_or entries n no_entry)
+    at_place : (P : Entry → Type 0) (option n : ℕ) (lt : option < options) → Place (cell_count x.puzzle.board) option (choice option lt).0 (start_of starts option) n → P (taken_entry option (choice option lt).0.pair.cell) → P (taken_entry option (cell_count x.puzzle.board + (choice option lt).0.pair.placement.tile)) → ((k : ℕ) (e : Edge) → slice_get (choice option lt).0.edges k ≡ Some e → P (edge_entry option e)) → P (get_or entries n no_entry)
     at_place P option n lt (at_cell e) a b c = subst P (sym (ap (λ m. get_or entries m no_entry) e ∙ (run option lt).cell)) a
     at_place P option n lt (at_tile e) a b c = subst P (sym (ap (λ m. get_or entries m no_entry) e ∙ (run option lt).tile)) b
     at_place P option n lt (at_edge k d there e) a b c = subst P (sym (ap (λ m. get_or entries m no_entry) e ∙ (run option lt).edge k d there)) (c k d there)
 
     -- a node of the root's list
-    root_node : (n : ℕ) → items ≤ n → n < length entries → options ≤ option_of entries n → (item : ℕ) × (item < takable) × (option_of entries n ≡ options + item) × (n ≡ start_of starts (options + item)) × (get_or entries n no_entry ≡ primary_entry (options + item) (items - 1))
+    root_node : (n : ℕ) → items ≤ n → n < length entries → options ≤ option_of entries n → (item : ℕ) × (item < takable) × (option_of entries n ≡ options + item) × (n ≡ start_of starts (options + item)) × (get_or entries n no_entry ≡ taken_entry (options + item) (items - 1))
     root_node n from to ge =
         let w = h.runs.around n from to in
         let x0 = w.0 in
@@ -85,7 +85,7 @@ module _ (x : Compiled) (is : IsCompiled x) where
         (item, lt, of, at, ap (λ m. get_or entries m no_entry) at ∙ r.entry)
 
     -- what holds of each entry
-    by_entry : (P : Entry → Type 0) (n : ℕ) → ((item : ℕ) → item < items → P (own_entry item)) → ((option : ℕ) (c : Choice) → slice_get x.options option ≡ Some c → P (primary_entry option c.pair.cell) × P (primary_entry option (cell_count x.puzzle.board + c.pair.placement.tile)) × ((k : ℕ) (e : Edge) → slice_get c.edges k ≡ Some e → P (edge_entry option e))) → ((item : ℕ) → P (primary_entry (options + item) (items - 1))) → P no_entry → P (get_or entries n no_entry)
+    by_entry : (P : Entry → Type 0) (n : ℕ) → ((item : ℕ) → item < items → P (own_entry item)) → ((option : ℕ) (c : Choice) → slice_get x.options option ≡ Some c → P (taken_entry option c.pair.cell) × P (taken_entry option (cell_count x.puzzle.board + c.pair.placement.tile)) × ((k : ℕ) (e : Edge) → slice_get c.edges k ≡ Some e → P (edge_entry option e))) → ((item : ℕ) → P (taken_entry (options + item) (items - 1))) → P no_entry → P (get_or entries n no_entry)
     by_entry P n own options_have root none = ⊎_elim
         (λ (lt : n < items). subst P (sym (h.own n lt)) (own n lt))
         (λ (from : items ≤ n). ⊎_elim

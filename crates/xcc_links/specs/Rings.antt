@@ -24,7 +24,7 @@ colour_of entries n = (slice_index_or entries n no_entry).colour
 abbrev pub option_of : List Entry → ℕ → ℕ
 option_of entries n = (slice_index_or entries n no_entry).option
 
--- There are so many nodes, and each is its own neighbour.
+-- There are `n` nodes, and each is its own neighbour.
 pub record AreAlone (links : List Link) (n : ℕ) : Type 0 where
   pub long : length links ≡ n
   pub up : (k : ℕ) → k < n → up_of links k ≡ k

@@ -14,8 +14,8 @@ abbrev pub own_entry : ℕ → Entry
 own_entry item = record { item = item; option = 0; colour = 0 }
 
 -- an option's node at an item that it takes
-abbrev pub primary_entry : (option item : ℕ) → Entry
-primary_entry option item = record { item = item; option = option; colour = 0 }
+abbrev pub taken_entry : (option item : ℕ) → Entry
+taken_entry option item = record { item = item; option = option; colour = 0 }
 
 -- an option's node at an edge
 abbrev pub edge_entry : (option : ℕ) → Edge → Entry
@@ -24,17 +24,17 @@ edge_entry option e = record { item = e.item; option = option; colour = e.colour
 -- The option's nodes stand from its start up to its end: those of its cell and its tile, then those of its edges.
 pub record AreNodesOf (cells option : ℕ) (c : Choice) (entries : List Entry) (start end : ℕ) : Type 0 where
   pub width : end ≡ start + 2 + length c.edges
-  pub cell : slice_index_or entries start no_entry ≡ primary_entry option c.pair.cell
-  pub tile : slice_index_or entries (start + 1) no_entry ≡ primary_entry option (cells + c.pair.placement.tile)
+  pub cell : slice_index_or entries start no_entry ≡ taken_entry option c.pair.cell
+  pub tile : slice_index_or entries (start + 1) no_entry ≡ taken_entry option (cells + c.pair.placement.tile)
   pub edge : (k : ℕ) (e : Edge) → slice_get c.edges k ≡ Some e
       → slice_index_or entries (start + 2 + k) no_entry ≡ edge_entry option e
 
 -- The node of the root's list that stands for an item lies alone, after those before it.
 pub record IsRootNode (root options : ℕ) (entries : List Entry) (starts : List ℕ) (item : ℕ) : Type 0 where
-  pub entry : slice_index_or entries (start_of starts (options + item)) no_entry ≡ primary_entry (options + item) root
+  pub entry : slice_index_or entries (start_of starts (options + item)) no_entry ≡ taken_entry (options + item) root
   pub width : start_of starts (options + item + 1) ≡ start_of starts (options + item) + 1
 
--- Laid out are the items' own nodes, those of so many options, and so many of the root's list.
+-- Laid out are the items' own nodes, those of the first `options` options, and the first `roots` of the root's list.
 pub record IsLaidOutTo (x : Compiled) (items options roots : ℕ) (entries : List Entry) (starts : List ℕ) : Type 0 where
   pub starts_long : length starts ≡ options + roots + 1
   pub long : length entries + entry_count (drop options (cover_of x).options) ≡ items + entries_of x + roots

@@ -27,7 +27,7 @@ pub(crate) struct LinkArrays {
     pub(crate) trail: Vec<u32>,
 }
 
-// So many nodes, each of which is its own neighbour.
+// `nodes` nodes, each of which is its own neighbour.
 fn links_alone(alloc: Global, nodes: u32) -> Result<Vec<Link>, AllocError>
     ensures { IfOk result (λ links. AreAlone links.items nodes) }
 {

@@ -1,7 +1,7 @@
 use Rattle.std.proofs.Common.{◌<◌, ◌≤◌, length, sym, ◌∙◌, arith, codes}
 use Rattle.std.proofs.lemmas.Result.{err_from_is_err_and}
-use Rattle.plain_words.specs.declared.faults.ReadFault.TheVariants as faults
-use Rattle.plain_words.specs.Words.{number_in}
+use Rattle.text_words.specs.declared.faults.ReadFault.TheVariants as faults
+use Rattle.text_words.specs.PlainWords.{number_in}
 use Rattle.text_words.proofs.LoopLemmas.{none_read, one_read, entry_fails, too_many, all_read, word_shorter}
 use Rattle.cert_text.specs.Entries.{entries_before}
 use Rattle.cert_text.proofs.EntryLemmas.{reads_before}

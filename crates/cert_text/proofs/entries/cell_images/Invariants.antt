@@ -1,5 +1,5 @@
 use Rattle.std.proofs.Common.{length, codes}
-use Rattle.plain_words.specs.Words.{number_in}
+use Rattle.text_words.specs.PlainWords.{number_in}
 use Rattle.text_words.proofs.LoopLemmas.{AreRead}
 use Rattle.cert_text.specs.Entries.{entries_before}
 use Rattle.cert_text.proofs.entries.cell_images.Given as goal

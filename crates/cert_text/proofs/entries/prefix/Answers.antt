@@ -2,7 +2,7 @@ use Rattle.std.proofs.Common.{◌≡◌, ◌-◌, ◌<◌, ◌≤◌, ◌++◌, 
 use Rattle.std.proofs.lemmas.List.{append-nil}
 use Rattle.std.proofs.lemmas.Result.{err_from_is_err_and}
 use Rattle.match_puzzle.specs.declared.placements.Pair.{Pair}
-use Rattle.plain_words.specs.declared.faults.ReadFault.TheVariants as faults
+use Rattle.text_words.specs.declared.faults.ReadFault.TheVariants as faults
 use Rattle.text_words.specs.Words.{pair_in}
 use Rattle.text_words.proofs.LoopLemmas.{none_read, one_read, entry_fails, too_many, all_read, word_shorter}
 use Rattle.cert_text.specs.Entries.{entries_before}

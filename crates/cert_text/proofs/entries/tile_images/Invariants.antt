@@ -1,5 +1,5 @@
 use Rattle.std.proofs.Common.{length}
-use Rattle.plain_words.specs.Words.{number_in}
+use Rattle.text_words.specs.PlainWords.{number_in}
 use Rattle.text_words.specs.Place.{entries}
 use Rattle.text_words.proofs.LoopLemmas.{AreRead}
 use Rattle.cert_text.proofs.entries.tile_images.Given as goal

@@ -3,7 +3,7 @@ use Rattle.std.proofs.lemmas.Result.{err_from_is_err_and}
 use Rattle.std.proofs.Common.{◌≡◌, length, Ok, Err, subst}
 use Rattle.match_limits.specs.Ranges.{ranges_of}
 use Rattle.match_limits.proofs.RangesLemmas.{are_ranges}
-use Rattle.numbered_pieces.specs.Assembly.{Assembles}
+use Rattle.cert_tree.specs.Assembly.{Assembles}
 use Rattle.cert_text.specs.Lines.{said_of}
 use Rattle.cert_text.proofs.ReadingLemmas.{short_within, made_fault}
 use Rattle.cert_text.proofs.readers.made.Goals as goal

@@ -1,8 +1,8 @@
 use Rattle.std.proofs.Common.{◌≡◌, ◌≢◌, ◌≤◌, ◌<◌, ◌^◌, List, None, length, map, ap, sym, subst, ◌∙◌}
 use Rattle.std.specs.Prelude.{All}
-use Rattle.numbered_pieces.specs.Assembly.{HaveNoStranger, TellsLeast, how_often}
-use Rattle.numbered_pieces.proofs.AssemblyLemmas.{first_stranger, no_strangers}
-use Rattle.numbered_pieces.proofs.MadeLemmas.{tells_of_made}
+use Rattle.cert_tree.specs.Assembly.{HaveNoStranger, TellsLeast, how_often}
+use Rattle.cert_tree.proofs.AssemblyLemmas.{first_stranger, no_strangers}
+use Rattle.cert_tree.proofs.MadeLemmas.{tells_of_made}
 use Rattle.cert_tree.specs.declared.certificates.Lemma.{Lemma}
 use Rattle.cert_tree.specs.Certificate.{Piece, piece_number, piece_of}
 use Rattle.cert_tree.proofs.ConversionLemmas.{short_pieces}

@@ -1,9 +1,9 @@
 use Rattle.std.proofs.Common.{ℕ, List, ◌<◌, ◌≤◌, ◌^◌, length, sym, subst, arith}
 use Rattle.match_limits.specs.declared.TheConstants.{MOST_LEMMAS}
 use Rattle.std.specs.Prelude.{All}
-use Rattle.numbered_pieces.specs.Assembly.{IsAssembly}
-use Rattle.numbered_pieces.proofs.AssemblyLemmas.{assembled_all}
-use Rattle.numbered_pieces.proofs.MadeLemmas.{assembled_made}
+use Rattle.cert_tree.specs.Assembly.{IsAssembly}
+use Rattle.cert_tree.proofs.AssemblyLemmas.{assembled_all}
+use Rattle.cert_tree.proofs.MadeLemmas.{assembled_made}
 use Rattle.match_board.specs.declared.symmetry_lines.SymmetryLine.{SymmetryLine}
 use Rattle.cert_tree.specs.Certificate.{Contents, Piece, IsNumbered, piece_number}
 use Rattle.cert_tree.specs.Spans.{piece_at}

@@ -1,6 +1,6 @@
 use Rattle.std.proofs.Common.{◌≡◌, ◌∙◌, ◌≤◌, ◌++◌, ◌∷◌, List, ℕ, codes, decimal, arith, ap, ap₂, sym, true}
 use Rattle.std.proofs.lemmas.List.{append_cancel_left}
-use Rattle.plain_words.proofs.WordLemmas.{has_no}
+use Rattle.text_words.proofs.WordLemmas.{has_no}
 use Rattle.count_totals.specs.Lines.{IsInRange, part_words}
 use Rattle.count_totals.specs.declared.lines.CountedPart.{CountedPart}
 use Rattle.count_totals.specs.declared.lines.Line.TheVariants.{Part}

@@ -1,5 +1,5 @@
 use Rattle.std.proofs.Common.{◌∙◌, ◌++◌, ◌∷◌, List, ℕ, decimal, arith, ap₂}
-use Rattle.plain_words.proofs.WordLemmas.{decimal_lacks}
+use Rattle.text_words.proofs.WordLemmas.{decimal_lacks}
 use Rattle.count_totals.proofs.ReadingLemmas.{joined, parted, unparted}
 use Rattle.count_totals.proofs.readings.two_numbers.Goals as goal
 

@@ -1,5 +1,5 @@
 use Rattle.std.proofs.Common.{◌∙◌, ◌∷◌, ◌++◌, List, ℕ, arith, ap, sym, refl}
-use Rattle.plain_words.proofs.WordLemmas.{cut_parts}
+use Rattle.text_words.proofs.WordLemmas.{cut_parts}
 use Rattle.count_totals.proofs.TextLemmas.{endless, whole_before}
 use Rattle.count_totals.proofs.totals.first_line.Goals as goal
 

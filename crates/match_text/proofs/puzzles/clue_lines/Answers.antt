@@ -2,7 +2,7 @@ use Rattle.std.proofs.Common.{◌+◌, ◌-◌, map, arith}
 use Rattle.std.proofs.lemmas.Result.{err_from_is_err_and}
 use Rattle.std.proofs.lemmas.List.{map_push}
 use Rattle.match_board.specs.Clues.{clue_of}
-use Rattle.plain_words.specs.declared.faults.ReadFault.TheVariants as faults
+use Rattle.text_words.specs.declared.faults.ReadFault.TheVariants as faults
 use Rattle.text_words.specs.Place.{times}
 use Rattle.match_text.specs.Puzzles.{clue_line}
 use Rattle.text_words.proofs.LoopLemmas.{times_goes_on, times_fail, times_done}

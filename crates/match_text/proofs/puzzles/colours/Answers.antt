@@ -1,7 +1,7 @@
 use Rattle.std.proofs.Common.{◌<◌, ◌≤◌, length, arith}
 use Rattle.match_limits.specs.declared.TheConstants.{MOST_COLOURS}
 use Rattle.std.proofs.lemmas.Result.{err_from_is_err_and}
-use Rattle.plain_words.specs.declared.faults.ReadFault.TheVariants as faults
+use Rattle.text_words.specs.declared.faults.ReadFault.TheVariants as faults
 use Rattle.text_words.specs.Words.{colour_in}
 use Rattle.text_words.specs.Place.{entries}
 use Rattle.text_words.proofs.LoopLemmas.{reads_rest, none_read, one_read, entry_fails, too_many, all_read, word_shorter}

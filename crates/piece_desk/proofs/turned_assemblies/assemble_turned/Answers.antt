@@ -2,8 +2,8 @@ use Rattle.std.proofs.Common.{◌≡◌, ◌<◌, Err, List, length, map, revers
 use Rattle.std.specs.Prelude.{All}
 use Rattle.std.proofs.lemmas.Result.{err_from_is_err_and}
 use Rattle.match_limits.specs.declared.TheConstants.{MOST_CELLS}
-use Rattle.numbered_pieces.specs.declared.faults.AssembleFault.TheVariants.{Memory}
-use Rattle.numbered_pieces.proofs.MadeLemmas.{all_made}
+use Rattle.cert_tree.specs.declared.faults.AssembleFault.TheVariants.{Memory}
+use Rattle.cert_tree.proofs.MadeLemmas.{all_made}
 use Rattle.cert_tree.specs.declared.flat_lemmas.FlatLemma.{FlatLemma}
 use Rattle.cert_tree.specs.Certificate.{Contents, Piece, IsNumbered, flat_piece}
 use Rattle.cert_tree.specs.Limits.{IsLemmaWithin}

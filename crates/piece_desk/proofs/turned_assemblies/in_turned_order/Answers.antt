@@ -1,9 +1,9 @@
 use Rattle.std.proofs.Common.{◌≡◌, Err, ap}
 use Rattle.std.proofs.lemmas.Result.{err_from_is_err_and}
 use Rattle.match_limits.specs.declared.TheConstants.{MOST_CELLS}
-use Rattle.numbered_pieces.specs.declared.faults.AssembleFault.TheVariants.{Memory}
-use Rattle.numbered_pieces.proofs.AssemblyLemmas.{assembled_below, assembled_each}
-use Rattle.numbered_pieces.proofs.MadeLemmas.{assembly_map, assembles_map, none_made}
+use Rattle.cert_tree.specs.declared.faults.AssembleFault.TheVariants.{Memory}
+use Rattle.cert_tree.proofs.AssemblyLemmas.{assembled_below, assembled_each}
+use Rattle.cert_tree.proofs.MadeLemmas.{assembly_map, assembles_map, none_made}
 use Rattle.cert_tree.specs.declared.flat_lemmas.FlatLemma.{FlatLemma}
 use Rattle.cert_tree.specs.Certificate.{flat_piece, piece_number}
 use Rattle.cert_tree.specs.Limits.{IsLemmaWithin}

@@ -1,7 +1,7 @@
 use Rattle.std.proofs.Common.{◌≡◌, ◌<◌, ◌-◌, ◌∷◌, ◌++◌, [], List, Some, None, IfSome, inl, inr, MatchOption, length, length-append, arith, refl, ap, sym, ◌∙◌, subst}
 use Rattle.match_limits.specs.declared.TheConstants.{MOST_CHILDREN}
 use Rattle.cert_tree.specs.declared.heads.Head.{Head}
-use Rattle.match_fits.specs.Placing.{FitInTurn}
+use Rattle.fit_counts.specs.Placing.{FitInTurn}
 use Rattle.xcc_form.specs.Options.{Compiled, cover_of}
 use Rattle.xcc_form.specs.Correspondence.{IsSolutionOf}
 use Rattle.xcc_form.specs.Chosen.{Selection, IsUncovered, AreAllCovered, IsNext, IsLast, with_option}

@@ -1,6 +1,6 @@
 use Rattle.std.proofs.Common.{◌≡◌, List, map, reverse, ap, sym, subst, ◌∙◌}
 use Rattle.match_limits.specs.declared.TheConstants.{MOST_CELLS}
-use Rattle.numbered_pieces.proofs.MadeLemmas.{all_made}
+use Rattle.cert_tree.proofs.MadeLemmas.{all_made}
 use Rattle.cert_tree.specs.declared.flat_lemmas.FlatLemma.{FlatLemma}
 use Rattle.cert_tree.specs.Certificate.{Piece, IsNumbered, flat_piece}
 use Rattle.cert_tree.specs.Limits.{IsLemmaWithin}

@@ -1,5 +1,5 @@
 use Rattle.std.proofs.Common.{◌++◌, ◌∷◌, [], ap, sym, ◌∙◌, subst}
-use Rattle.match_fits.specs.Placing.{Placing, with_next}
+use Rattle.fit_counts.specs.Placing.{Placing, with_next}
 use Rattle.xcc_form.specs.Options.{cover_of}
 use Rattle.xcc_form.specs.Correspondence.{IsPairOf}
 use Rattle.xcc_form.specs.Clashes.{IsOpen}

@@ -1,5 +1,5 @@
 use Rattle.std.proofs.Common.{◌≡◌, ◌-◌, length, take, arith, ap, sym, ◌∙◌, subst}
-use Rattle.match_fits.specs.Placing.{Placing, without_last}
+use Rattle.fit_counts.specs.Placing.{Placing, without_last}
 use Rattle.xcc_dance.specs.Placing.{IsPlacingOf}
 use Rattle.xcc_dance.proofs.OpenSetLemmas.{placing_popped}
 use Rattle.xcc_dance.proofs.open_sets.OpenSetsOpenOptions.undo.Goals as goal

@@ -4,7 +4,7 @@ use Rattle.match_puzzle.specs.declared.placements.Pair.{Pair}
 use Rattle.match_puzzle.proofs.PairLemmas.{read_pair, taken_more}
 use Rattle.xcc_form.specs.Options.{Compiled, IsOptionPair}
 use Rattle.xcc_form.specs.Chosen.{Selection}
-use Rattle.match_fits.specs.Placing.{FitInTurn}
+use Rattle.fit_counts.specs.Placing.{FitInTurn}
 use Rattle.xcc_dance.specs.Placing.{ArePairsOf}
 use Rattle.xcc_dance.proofs.PlacingLemmas.{option_pair_at, next_is_open, no_pairs, pairs_pushed}
 use Rattle.xcc_dance.proofs.BackLemmas.{one_back, none_back}

@@ -1,6 +1,6 @@
 use Rattle.std.proofs.Common.{ap, sym, subst}
 use Rattle.xcc_form.specs.Chosen.{Selection}
-use Rattle.match_fits.specs.Placing.{FitInTurn}
+use Rattle.fit_counts.specs.Placing.{FitInTurn}
 use Rattle.xcc_dance.proofs.PlacingLemmas.{fit_in_turn}
 use Rattle.xcc_dance.proofs.paths.SearchPath.pairs.Goals as goal
 

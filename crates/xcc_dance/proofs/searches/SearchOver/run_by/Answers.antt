@@ -6,7 +6,7 @@ use Rattle.cert_tree.specs.Tree.{Tree}
 use Rattle.cert_tree.proofs.HeadLemmas.{of_tree}
 use Rattle.xcc_form.specs.Options.{Compiled}
 use Rattle.xcc_form.specs.Chosen.{before_any}
-use Rattle.match_fits.specs.Placing.{FitInTurn}
+use Rattle.fit_counts.specs.Placing.{FitInTurn}
 use Rattle.xcc_dance.specs.Placing.{IsArrangementWith}
 use Rattle.xcc_dance.specs.Outcome.{IsSearched, IsTreeFrom, IsUnfinishedFrom}
 use Rattle.xcc_dance.specs.Progress.{levels_below}

@@ -5,7 +5,7 @@ use Rattle.match_puzzle.specs.declared.placements.Pair.{Pair}
 use Rattle.match_puzzle.proofs.Prefixes.{inside}
 use Rattle.xcc_form.specs.Options.{pair_of}
 use Rattle.xcc_form.specs.declared.edges.Edge.{Edge}
-use Rattle.xcc_links.specs.TableLayout.{IsLaidOutTo, edge_entry, primary_entry}
+use Rattle.xcc_links.specs.TableLayout.{IsLaidOutTo, edge_entry, taken_entry}
 use Rattle.xcc_links.proofs.LayingLemmas.{option_nodes, option_more, entries_left}
 use Rattle.xcc_links.specs.declared.links.tables.Entry.{Entry}
 use Rattle.xcc_links.proofs.links.tables.add_option.Goals as goal
@@ -19,7 +19,7 @@ overflow_cast-len c =
     let e = entries_left c.args.xcc.now c.args.option w.0 w.1 in
     let long = length-append c.push-2.new.self.items (map (edge_entry c.args.option) c.edges.result.now) in
     let edges = length-map c.edges.result.now (edge_entry c.args.option) in
-    omega (arith, c.len.ensures, ap length c.in_ok-add_edges.ensures, long, edges, ap length c.in_ok-push-2.ensures.items, ap length c.in_ok-push.ensures.items, length-append c.push.new.self.items (primary_entry 0 0 ∷ []), length-append c.args.entries.now.items (primary_entry 0 0 ∷ []), c.requires.few, e, ap length w.2)
+    omega (arith, c.len.ensures, ap length c.in_ok-add_edges.ensures, long, edges, ap length c.in_ok-push-2.ensures.items, ap length c.in_ok-push.ensures.items, length-append c.push.new.self.items (taken_entry 0 0 ∷ []), length-append c.args.entries.now.items (taken_entry 0 0 ∷ []), c.requires.few, e, ap length w.2)
 
 pub returns : goal.returns
 returns c = λ items h.
@@ -31,13 +31,13 @@ returns c = λ items h.
     let pair : d.pair ≡ c.pair-pair.result = ap pair_of (inside (sym w.1 ∙ v.1)) ∙ v.2 in
     let cells = c.cells.ensures.count in
     let front = c.args.entries.now.items in
-    let to : List ℕ → List Edge → List Entry = λ items es. front ++ primary_entry o (get_or items 0 0) ∷ primary_entry o (get_or items 1 0) ∷ map (edge_entry o) es in
+    let to : List ℕ → List Edge → List Entry = λ items es. front ++ taken_entry o (get_or items 0 0) ∷ taken_entry o (get_or items 1 0) ∷ map (edge_entry o) es in
     let cell : c.from.result ≡ d.pair.cell = c.from.ensures ∙ ap (λ (p : Pair). p.cell) (sym pair) in
     let tile : c.from-2.result + c.from-3.result ≡ cell_count x.puzzle.board + d.pair.placement.tile = omega (arith, c.from-2.ensures, c.from-3.ensures, cells, ap (λ (p : Pair). p.placement.tile) pair) in
     let nodes : c.add_edges.new.entries.items ≡ c.args.entries.now.items ++ option_nodes (cell_count x.puzzle.board) o d =
     c.in_ok-add_edges.ensures
-    ∙ ap (λ l. l ++ map (edge_entry o) c.edges.result.now) (c.in_ok-push-2.ensures.items ∙ ap (λ l. l ++ primary_entry o (c.from-2.result + c.from-3.result) ∷ []) c.in_ok-push.ensures.items)
-    ∙ two_first front (primary_entry o c.from.result) (primary_entry o (c.from-2.result + c.from-3.result)) (map (edge_entry o) c.edges.result.now)
+    ∙ ap (λ l. l ++ map (edge_entry o) c.edges.result.now) (c.in_ok-push-2.ensures.items ∙ ap (λ l. l ++ taken_entry o (c.from-2.result + c.from-3.result) ∷ []) c.in_ok-push.ensures.items)
+    ∙ two_first front (taken_entry o c.from.result) (taken_entry o (c.from-2.result + c.from-3.result)) (map (edge_entry o) c.edges.result.now)
     ∙ ap (to (c.from.result ∷ (c.from-2.result + c.from-3.result) ∷ [])) (sym w.2)
     ∙ ap (λ n. to (n ∷ (c.from-2.result + c.from-3.result) ∷ []) d.edges) cell
     ∙ ap (λ n. to (d.pair.cell ∷ n ∷ []) d.edges) tile in

@@ -1,5 +1,5 @@
 use Rattle.std.proofs.Common.{◌≡◌, ◌+◌, ◌-◌, ◌++◌, ◌∷◌, [], length, length-append, arith, ap, sym, ◌∙◌, subst}
-use Rattle.xcc_links.specs.TableLayout.{IsLaidOutTo, primary_entry}
+use Rattle.xcc_links.specs.TableLayout.{IsLaidOutTo, taken_entry}
 use Rattle.xcc_links.proofs.LayingLemmas.{root_more}
 use Rattle.xcc_links.proofs.links.tables.add_roots.Goals as goal
 
@@ -10,7 +10,7 @@ loop-item-preserved c =
     let roots = c.loop-item.item in
     let entries = c.loop-item.entries.items in
     let starts = c.loop-item.starts.items in
-    let more = primary_entry (options + roots) (items - 1) ∷ [] in
+    let more = taken_entry (options + roots) (items - 1) ∷ [] in
     let nodes = c.in_ok-push.ensures.items in
     let long : c.len.result ≡ length c.push.new.self.items = omega (arith, c.len.ensures, c.push.new.self.ok.0) in
     let ends = c.in_ok-push-2.ensures.items ∙ ap (λ n. starts ++ n ∷ []) (long ∙ ap length nodes) in

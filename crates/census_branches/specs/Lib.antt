@@ -1,5 +1,0 @@
-pub mod Extensions
-pub mod Branches
-pub mod Symmetries
-pub mod Looks
-pub mod Hash

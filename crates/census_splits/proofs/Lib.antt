@@ -1,2 +1,0 @@
-pub mod SplitLemmas
-pub mod ChildLemmas

@@ -1,4 +1,0 @@
-use Rattle.census_splits.proofs.dives.Dives.+dive.Given as goal
-
-abbrev pub decreases-dive : goal.decreases-dive
-decreases-dive g l = l.levels

@@ -1,5 +1,0 @@
-use Rattle.cert_check.proofs.AnswerLemmas.{one_answer}
-use Rattle.cert_check.proofs.checks.one_answer.Goals as goal
-
-pub returns : goal.returns
-returns c = one_answer

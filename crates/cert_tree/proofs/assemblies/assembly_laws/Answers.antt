@@ -1,6 +1,0 @@
-use Rattle.numbered_pieces.proofs.OrderLemmas.{one_in_any_order}
-use Rattle.cert_tree.specs.Certificate.{piece_number}
-use Rattle.cert_tree.proofs.assemblies.assembly_laws.Goals as goal
-
-pub returns : goal.returns
-returns c = record { pieces = one_in_any_order piece_number }

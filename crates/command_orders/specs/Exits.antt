@@ -1,0 +1,25 @@
+-- How the program ends.
+use Rattle.std.specs.Prelude.{ℕ}
+use Rattle.command_runs.specs.declared.faults.RunFault.{RunFault}
+use Rattle.command_runs.specs.declared.faults.RunFault.TheVariants as runs
+use Rattle.match_report.specs.declared.statuses.Status.{Status}
+use Rattle.match_report.specs.declared.statuses.Status.TheVariants as status
+use Rattle.command_orders.specs.declared.exits.Exit.{Exit}
+use Rattle.command_orders.specs.declared.exits.Exit.TheVariants.{Done, Refused, Failed, Unsolved}
+
+-- the exit status
+abbrev pub code_of : Exit → ℕ
+code_of Done = 0
+code_of Refused = 1
+code_of Failed = 2
+code_of Unsolved = 3
+
+-- how a check ends
+abbrev pub status_exit : Status → Exit
+status_exit status.Complete = Done
+status_exit status.Refused = Refused
+
+-- how a run ends that a fault stopped: that a puzzle was not solved is told apart
+abbrev pub fault_exit : RunFault → Exit
+fault_exit (runs.Solve fault) = Unsolved
+fault_exit fault = Failed

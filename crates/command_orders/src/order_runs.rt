@@ -1,0 +1,566 @@
+//! Runs orders: over which files each runs, and with which exit status it ends.
+
+ghost use Rattle.std.specs.Prelude.{◌≡◌, false, map, true};
+ghost use Rattle.std.specs.String.{string_bytes};
+ghost use Rattle.byte_streams.specs.Moves.{reading_of, writing_of};
+ghost use Rattle.byte_streams.specs.Origins.{joined_source, one_source};
+ghost use Rattle.byte_streams.specs.declared.faults.Document.TheVariants as documents;
+ghost use Rattle.command_orders.specs.FileOrigins.{one_file, three_files};
+ghost use Rattle.command_orders.specs.InputUse.{LeavesInput, are_parts_on_input, is_subject_on_input};
+ghost use Rattle.command_orders.specs.OrderRuns.{CheckOf, PictureOf, RunOver, ShowOf, SolveOf, TilesOf, TotalOf};
+ghost use Rattle.command_orders.specs.OrderRuns.{list_printed};
+ghost use Rattle.command_orders.specs.PartFiles.{given_parts, part_files};
+ghost use Rattle.command_runs.specs.Runs.{unhinted};
+ghost use Rattle.command_orders.specs.SameStreams.{AreSameStreams};
+ghost use Rattle.command_orders.specs.SolvedFiles.{PutsAll, solved_files};
+
+use crate::document_readers::open_all;
+use crate::exits::Exit;
+use crate::files::{are_apart, hint_on, open};
+use crate::made_files::{make_files, not_put, replaced};
+use crate::part_files::PartFiles;
+use crate::place_runs::{
+    CensusOrder, DescriptionOrder, Drawing, DrawingOrder, PrintingOrder, describe, draw,
+};
+use crate::progress::{CheckProgress, SolveProgress};
+use crate::streams::Streams;
+use byte_streams::{
+    Document, FileSystem, JoinedSource, MadeFiles, OneSink, OneSource, ProductNames, Sink, Source,
+    ThreeSinks, Unsettled, settle,
+};
+use command_runs::{
+    CheckPlan, Description, HintedFault, PicturePlan, Printing, PrintingPlan, RunFault, SearchPlan,
+    Watched, run_check_watched, run_solve_watched, run_tile_lines, run_tiles, run_total,
+};
+use command_words::{Files, Order, PartPlaces, Subject};
+use match_limits::{Colours, Drawn, Forks, Sides, Workers};
+use match_report::Status;
+use std::alloc::Global;
+use std::random::RandomSource;
+use std::sync::Wait;
+use std::thread::Threads;
+use std::time::Clock;
+
+/// Does what is ordered, and returns how the program ends where there was no fault: `Done`, or `Refused` where a list
+/// is not shown to be complete.
+///
+/// All files of an order are opened before one is read: the puzzle's, the list's, the certificate's. `Read` of the
+/// first that can't be opened comes then. A document on standard input is read from there in its turn; where none is,
+/// nothing is taken from standard input. A solve opens the puzzle's file, and makes the other two beside their names.
+/// `Write` comes where two of the three are one file, or one can't be made. What it made is put under the names once
+/// everything is written, the list first; after a fault it is removed.
+///
+/// A hint says why a file is refused, or what has to be changed in a text that has a fault. There is none where memory
+/// is refused to it. A check and a solve have no hint on a text where none is asked for and nobody reads it on a
+/// terminal.
+pub fn run_order<
+    S: FileSystem,
+    I: Source,
+    W: Sink,
+    E: Sink,
+    R: Threads + Wait + Sync + RandomSource + Clock + Eprint,
+>(
+    rt: &R,
+    alloc: Global,
+    order: &Order,
+    system: &mut S,
+    streams: &mut Streams<'_, '_, '_, I, W, E>,
+) -> Result<Exit, HintedFault>
+    ensures same { AreSameStreams streams.old streams.new }
+    ensures errors { streams.new.errors.now ≡ streams.old.errors.now }
+    ensures run { RunOver S.FileSystem S.Reader.Source I.Source W.Sink system.old streams.old system.new streams.new
+        order.now (unhinted result) }
+{
+    match order {
+        Order::Joined => {
+            let is_watched = streams.terminal;
+            check_joined(rt, alloc, is_watched, streams.input, streams.output)
+        }
+        Order::Check {
+            files,
+            workers,
+            forks,
+            progress,
+            hints,
+        } => {
+            let plan = CheckPlan {
+                workers: *workers,
+                forks: *forks,
+            };
+            let order = CheckOrder {
+                files,
+                plan,
+                progress: *progress,
+                hints: are_told(*hints, streams.terminal),
+                is_watched: streams.terminal,
+            };
+            check(rt, alloc, &order, system, streams.output)
+        }
+        Order::Solve {
+            files,
+            depth,
+            fuel,
+            workers,
+            symmetries,
+            keep: _,
+            progress,
+            hints,
+        } => {
+            let plan = SearchPlan {
+                depth: *depth,
+                fuel: *fuel,
+                workers: *workers,
+                symmetries: *symmetries,
+            };
+            let order = SolveOrder {
+                files,
+                plan,
+                progress: *progress,
+                hints: are_told(*hints, streams.terminal),
+            };
+            solve(rt, alloc, &order, system, streams.output)
+        }
+        Order::Explain(given) => {
+            let order = PrintingOrder {
+                rt,
+                alloc,
+                plan: PrintingPlan {
+                    printing: Printing::Explanation,
+                    hints: true,
+                },
+            };
+            order.print(given, system, streams.input, streams.output)
+        }
+        Order::ExplainPuzzle(puzzle) => {
+            let order = DescriptionOrder {
+                puzzle,
+                description: Description::NoFault,
+            };
+            describe(alloc, &order, system, streams.input, streams.output)
+        }
+        Order::Expand {
+            given,
+            orbits,
+            hints,
+        } => {
+            let order = PrintingOrder {
+                rt,
+                alloc,
+                plan: PrintingPlan {
+                    printing: listing_of(*orbits),
+                    hints: are_told(*hints, streams.terminal),
+                },
+            };
+            order.print(given, system, streams.input, streams.output)
+        }
+        Order::Count(given) => {
+            let order = PrintingOrder {
+                rt,
+                alloc,
+                plan: PrintingPlan {
+                    printing: Printing::Count,
+                    hints: true,
+                },
+            };
+            order.print(given, system, streams.input, streams.output)
+        }
+        Order::Census {
+            puzzle,
+            extent,
+            workers,
+            progress,
+        } => {
+            let order = CensusOrder {
+                rt,
+                alloc,
+                extent: *extent,
+                workers: *workers,
+                progress: *progress,
+            };
+            order.count(puzzle, system, streams.input, streams.output)
+        }
+        Order::Total(parts) => add_up(alloc, parts, system, streams.input, streams.output),
+        Order::Show(subject) => show(alloc, subject, system, streams.input, streams.output),
+        Order::Draw {
+            subject,
+            first,
+            numbers,
+        } => {
+            let order = PictureOrder {
+                subject,
+                first: *first,
+                numbers: *numbers,
+            };
+            picture(alloc, &order, system, streams.input, streams.output)
+        }
+        Order::Symmetries(puzzle) => {
+            let order = DescriptionOrder {
+                puzzle,
+                description: Description::Symmetries,
+            };
+            describe(alloc, &order, system, streams.input, streams.output)
+        }
+        Order::Tiles {
+            sides,
+            colours,
+            lines,
+        } => list_tiles(alloc, *sides, *colours, *lines, streams.output),
+    }
+}
+
+// Whether hints are given: where they are asked for, or somebody reads them on a terminal.
+fn are_told(hints: bool, terminal: bool) -> bool {
+    hints || terminal
+}
+
+// Checks joined documents. Where somebody watches on a terminal, says there what has to be changed, and what the listed
+// arrangements stand for.
+fn check_joined<I: Source, W: Sink, R: Threads + Sync + Clock + Eprint>(
+    rt: &R,
+    alloc: Global,
+    is_watched: bool,
+    input: &mut I,
+    output: &mut W,
+) -> Result<Exit, HintedFault>
+    ensures { CheckOf (joined_source (reading_of I.Source input.old input.new))
+        (writing_of W.Sink output.old output.new) (unhinted result) }
+{
+    let plan = CheckPlan {
+        workers: Workers::new(1),
+        forks: Forks::new(0),
+    };
+    let progress = CheckProgress::new(rt, false);
+    let check = Watched {
+        plan,
+        watch: &progress,
+        hints: is_watched,
+    };
+    let status = run_check_watched(
+        rt,
+        alloc,
+        &check,
+        &mut JoinedSource { input },
+        &mut OneSink { sink: output },
+    )?;
+    tell_scope(&progress, is_watched, status);
+    Ok(Exit::of_status(status))
+}
+
+// Where a list is complete and somebody watches on a terminal, says what the listed arrangements stand for.
+fn tell_scope<R: Clock + Eprint>(
+    progress: &CheckProgress<'_, R>,
+    is_watched: bool,
+    status: Status,
+) {
+    if let (true, Status::Complete) = (is_watched, status) {
+        progress.tell_scope();
+    }
+}
+
+// A check that is ordered.
+#[derive(Clone, Copy)]
+struct CheckOrder<'a> {
+    files: &'a Files,
+    plan: CheckPlan,
+    progress: bool,
+    hints: bool,
+    // on a terminal
+    is_watched: bool,
+}
+
+fn check<S: FileSystem, W: Sink, R: Threads + Sync + Clock + Eprint>(
+    rt: &R,
+    alloc: Global,
+    order: &CheckOrder<'_>,
+    system: &S,
+    output: &mut W,
+) -> Result<Exit, HintedFault>
+    ensures { CheckOf (three_files S.FileSystem S.Reader.Source system.now order.now.files.now)
+        (writing_of W.Sink output.old output.new) (unhinted result) }
+{
+    let mut opened = open_all(alloc, system, order.files)?;
+    let progress = CheckProgress::new(rt, order.progress);
+    let check = Watched {
+        plan: order.plan,
+        watch: &progress,
+        hints: order.hints,
+    };
+    let status = run_check_watched(
+        rt,
+        alloc,
+        &check,
+        &mut opened.sources(),
+        &mut OneSink { sink: output },
+    )?;
+    tell_scope(&progress, order.is_watched, status);
+    Ok(Exit::of_status(status))
+}
+
+// A solve that is ordered.
+#[derive(Clone, Copy)]
+struct SolveOrder<'a> {
+    files: &'a Files,
+    plan: SearchPlan,
+    progress: bool,
+    hints: bool,
+}
+
+// Opens the puzzle's file, and makes the others beside their names, before anything is read. Puts them there when
+// everything is written. A file that is one of the others is not made.
+fn solve<S: FileSystem, W: Sink, R: Threads + Wait + Sync + Clock + Eprint>(
+    rt: &R,
+    alloc: Global,
+    order: &SolveOrder<'_>,
+    system: &mut S,
+    output: &mut W,
+) -> Result<Exit, HintedFault>
+    ensures { SolveOf order.now.plan.symmetries order.now.plan.workers
+        (one_file S.FileSystem S.Reader.Source system.old (string_bytes order.now.files.now.puzzle))
+        (solved_files order.now.files.now S.does S.leads system.old system.new (writing_of W.Sink output.old output.new))
+        (PutsAll order.now.files.now S.does system.old system.new (writing_of W.Sink output.old output.new)) (unhinted result) }
+{
+    let files = order.files;
+    let mut puzzle = open(alloc, system, &files.puzzle, Document::Puzzle)?;
+    if !are_apart(alloc, files, system)? {
+        return Err(not_apart(alloc, files, system));
+    }
+    let names = ProductNames {
+        list: &files.list,
+        certificate: &files.certificate,
+    };
+    let mut made = make_files(alloc, &names, system)?;
+    let progress = SolveProgress::new(rt, order.progress);
+    let search = Watched {
+        plan: order.plan,
+        watch: &progress,
+        hints: order.hints,
+    };
+    let solved = run_solve_watched(
+        rt,
+        alloc,
+        &search,
+        &mut OneSource {
+            source: &mut puzzle,
+            document: Document::Puzzle,
+        },
+        &mut ThreeSinks {
+            list: &mut made.list,
+            certificate: &mut made.certificate,
+            report: output,
+        },
+    );
+    let refused = hint_on_writing(alloc, files, &made);
+    let told = progress.told(alloc, solved, refused);
+    match settle(made, &names, system, told) {
+        Ok(()) => Ok(Exit::Done),
+        Err(Unsettled::Stopped(hinted)) => Err(hinted),
+        Err(Unsettled::NotPut(refused)) => Err(not_put(alloc, &refused)),
+        Err(Unsettled::Replaced(name)) => Err(replaced(alloc, name)),
+    }
+}
+
+// The fault where two of three names lead to one file, or it isn't known that they don't.
+fn not_apart<S: FileSystem>(alloc: Global, files: &Files, system: &S) -> HintedFault
+    ensures { result.fault ≡ RunFault.Write }
+{
+    HintedFault {
+        fault: RunFault::Write,
+        hint: hint_on_places(alloc, files, system),
+    }
+}
+
+// The names under which no file can be made, and why, or that two of them lead to one file.
+fn hint_on_places<S: FileSystem>(alloc: Global, files: &Files, system: &S) -> Option<String> {
+    for name in [&files.list, &files.certificate] {
+        if let Some(refusal) = system.refusal_at(alloc, name) {
+            return hint_on(alloc, name, refusal);
+        }
+    }
+    String::from_str(alloc, "two of the names lead to one file").ok()
+}
+
+// Which of the files could not be written, and why, if one couldn't.
+fn hint_on_writing<F: Sink>(alloc: Global, files: &Files, made: &MadeFiles<F>) -> Option<String> {
+    if let Some(refusal) = made.list.refusal() {
+        return hint_on(alloc, &files.list, refusal);
+    }
+    let refusal = made.certificate.refusal()?;
+    hint_on(alloc, &files.certificate, refusal)
+}
+
+// The list of one arrangement of each orbit, or of all arrangements.
+fn listing_of(orbits: bool) -> Printing
+    ensures { result ≡ list_printed orbits }
+{
+    if orbits {
+        Printing::Orbits
+    } else {
+        Printing::All
+    }
+}
+
+// The sum over all parts of a search, by the lines at these places.
+fn add_up<S: FileSystem, I: Source, W: Sink>(
+    alloc: Global,
+    places: &PartPlaces,
+    system: &S,
+    input: &mut I,
+    output: &mut W,
+) -> Result<Exit, HintedFault>
+    ensures total { TotalOf (given_parts S.FileSystem S.Reader.Source I.Source system.now input.old input.new places.now)
+        (writing_of W.Sink output.old output.new) (unhinted result) }
+    ensures unread { LeavesInput (are_parts_on_input places.now) input.old input.new }
+{
+    match places {
+        PartPlaces::Input => add_up_input(alloc, input, output),
+        PartPlaces::Files(names) => add_up_files(alloc, names, system, output),
+    }
+}
+
+// The sum by the lines on standard input.
+fn add_up_input<I: Source, W: Sink>(
+    alloc: Global,
+    input: &mut I,
+    output: &mut W,
+) -> Result<Exit, HintedFault>
+    ensures { TotalOf (one_source documents.Parts (reading_of I.Source input.old input.new))
+        (writing_of W.Sink output.old output.new) (unhinted result) }
+{
+    let mut parts = OneSource {
+        source: input,
+        document: Document::Parts,
+    };
+    run_total(alloc, &mut parts, output)?;
+    Ok(Exit::Done)
+}
+
+// The sum by the lines in these files.
+fn add_up_files<S: FileSystem, W: Sink>(
+    alloc: Global,
+    names: &[String],
+    system: &S,
+    output: &mut W,
+) -> Result<Exit, HintedFault>
+    ensures { TotalOf (part_files S.FileSystem S.Reader.Source system.now (map string_bytes names.now))
+        (writing_of W.Sink output.old output.new) (unhinted result) }
+{
+    let mut files = PartFiles::new(alloc, system, names);
+    if let Err(fault) = run_total(alloc, &mut files, output) {
+        let hint = files.hint(alloc, &fault);
+        return Err(HintedFault { fault, hint });
+    }
+    Ok(Exit::Done)
+}
+
+// Draws the board of the puzzle, or the listed arrangement.
+fn show<S: FileSystem, I: Source, W: Sink>(
+    alloc: Global,
+    subject: &Subject,
+    system: &S,
+    input: &mut I,
+    output: &mut W,
+) -> Result<Exit, HintedFault>
+    ensures run { ShowOf S.FileSystem S.Reader.Source I.Source system.now input.old input.new subject.now
+        (writing_of W.Sink output.old output.new) (unhinted result) }
+    ensures unread { LeavesInput (is_subject_on_input subject.now) input.old input.new }
+{
+    match subject {
+        Subject::Board(puzzle) => {
+            let order = DescriptionOrder {
+                puzzle,
+                description: Description::Board,
+            };
+            describe(alloc, &order, system, input, output)
+        }
+        Subject::Listed { places, number } => {
+            let order = DrawingOrder {
+                places,
+                drawing: Drawing::Arrangement(*number),
+            };
+            draw(alloc, &order, system, input, output)
+        }
+    }
+}
+
+// A picture that is ordered.
+#[derive(Clone, Copy)]
+struct PictureOrder<'a> {
+    subject: &'a Subject,
+    first: Drawn,
+    numbers: bool,
+}
+
+// Draws a picture of the puzzle's empty board and its tiles, or of listed arrangements.
+fn picture<S: FileSystem, I: Source, W: Sink>(
+    alloc: Global,
+    order: &PictureOrder<'_>,
+    system: &S,
+    input: &mut I,
+    output: &mut W,
+) -> Result<Exit, HintedFault>
+    ensures run { PictureOf S.FileSystem S.Reader.Source I.Source system.now input.old input.new order.now.subject.now
+        order.now.first (writing_of W.Sink output.old output.new) (unhinted result) }
+    ensures unread { LeavesInput (is_subject_on_input order.now.subject.now) input.old input.new }
+{
+    match order.subject {
+        Subject::Board(puzzle) => {
+            let order = DescriptionOrder {
+                puzzle,
+                description: Description::Picture,
+            };
+            describe(alloc, &order, system, input, output)
+        }
+        Subject::Listed { places, number } => {
+            let plan = PicturePlan {
+                number: *number,
+                first: order.first,
+                numbers: order.numbers,
+            };
+            let order = DrawingOrder {
+                places,
+                drawing: Drawing::Picture(plan),
+            };
+            draw(alloc, &order, system, input, output)
+        }
+    }
+}
+
+fn list_tiles<W: Sink>(
+    alloc: Global,
+    sides: Sides,
+    colours: Colours,
+    lines: bool,
+    output: &mut W,
+) -> Result<Exit, HintedFault>
+    ensures { TilesOf sides colours lines (writing_of W.Sink output.old output.new) (unhinted result) }
+{
+    if lines {
+        list_tile_lines(alloc, sides, colours, output)
+    } else {
+        list_tile_words(alloc, sides, colours, output)
+    }
+}
+
+fn list_tile_lines<W: Sink>(
+    alloc: Global,
+    sides: Sides,
+    colours: Colours,
+    output: &mut W,
+) -> Result<Exit, HintedFault>
+    ensures { TilesOf sides colours true (writing_of W.Sink output.old output.new) (unhinted result) }
+{
+    run_tile_lines(alloc, sides, colours, output)?;
+    Ok(Exit::Done)
+}
+
+fn list_tile_words<W: Sink>(
+    alloc: Global,
+    sides: Sides,
+    colours: Colours,
+    output: &mut W,
+) -> Result<Exit, HintedFault>
+    ensures { TilesOf sides colours false (writing_of W.Sink output.old output.new) (unhinted result) }
+{
+    run_tiles(alloc, sides, colours, output)?;
+    Ok(Exit::Done)
+}

@@ -1,0 +1,247 @@
+//! Runs of the solver.
+
+ghost use Rattle.std.specs.Prelude.{◌≡◌, ℕ, List, IfOk, Ok, length};
+ghost use Rattle.match_text.specs.Puzzles.{PuzzleReads};
+ghost use Rattle.match_puzzle.specs.Arrangement.{AreArrangements};
+ghost use Rattle.byte_streams.specs.Moves.{reading_of, writing_of};
+ghost use Rattle.byte_streams.specs.Origins.{one_source};
+ghost use Rattle.byte_streams.specs.Targets.{three_sinks};
+ghost use Rattle.byte_streams.specs.declared.faults.Document.TheVariants as documents;
+ghost use Rattle.command_runs.specs.Runs.{MadeOf, Runs, unhinted};
+ghost use Rattle.command_runs.specs.Solving.{AreProducts, IsFound, SolveFails, SolveGives, SolveGivesOf, first_board, report_text, shares_of};
+
+use crate::advice::{solve_hint, word_before};
+use crate::faults::RunFault;
+use crate::hints::{HintedFault, with_hint, without_hint};
+use crate::running::run_by;
+use crate::watches::{SolveWatch, Watched};
+use byte_streams::{
+    Document, Inputs, MadeText, OneSource, Outputs, Products, Sink, Source, Text, ThreeSinks,
+};
+use cert_tree::Certificate;
+use match_limits::{Depth, Fuel, MOST_WORKERS, Workers};
+use match_puzzle::{Arrangement, Puzzle};
+use match_report::{Taken, write_board, write_tally};
+use match_text::read_puzzle;
+use solver::{SearchPlan, Solved, Suggested, Unwatched, solve_watched};
+use std::alloc::{AllocError, Global};
+use std::sync::Wait;
+use std::thread::Threads;
+use text_crew::write_texts_with;
+use text_words::put_number_line;
+
+/// Reads a puzzle to its end, and searches for all its arrangements. Writes their list, then a certificate for it, then
+/// a report: how many were found, by how many lemmas, who took which lemma, and the first arrangement as it lies on the
+/// board.
+///
+/// Branches in the first `depth` levels, 0 to 3, become lemmas before the search begins. Each lemma (a numbered claim
+/// of the certificate) has at most `fuel` branch nodes, 1 to 1,000,000; `workers` workers search, 1 to 64.
+///
+/// `Read` and `TooLong` are about the puzzle. `Puzzle` comes where its text has a fault; `Solve` where the search gave
+/// up, or the puzzle has too many options or arrangements. After a fault other than `Write` nothing was written.
+pub fn run_solve<R: Threads + Wait + Sync, P: Source, L: Sink, C: Sink, W: Sink>(
+    rt: &R,
+    alloc: Global,
+    puzzle: &mut P,
+    depth: Depth,
+    fuel: Fuel,
+    workers: Workers,
+    list: &mut L,
+    certificate: &mut C,
+    writer: &mut W,
+) -> Result<(), RunFault>
+    ensures { Runs (one_source documents.Puzzle (reading_of P.Source puzzle.old puzzle.new)) (SolveGives workers)
+        SolveFails (three_sinks (writing_of L.Sink list.old list.new)
+        (writing_of C.Sink certificate.old certificate.new) (writing_of W.Sink writer.old writer.new)) result }
+{
+    let mut inputs = OneSource {
+        source: puzzle,
+        document: Document::Puzzle,
+    };
+    let mut outputs = ThreeSinks {
+        list,
+        certificate,
+        report: writer,
+    };
+    let plan = SearchPlan {
+        depth,
+        fuel,
+        workers,
+        symmetries: Suggested::All,
+    };
+    let search = Watched {
+        plan,
+        watch: &Unwatched,
+        hints: false,
+    };
+    without_hint(run_solve_watched(rt, alloc, &search, &mut inputs, &mut outputs))
+}
+
+/// Solves as [`run_solve`] does, by this plan, wherever the puzzle comes from and the texts go to. The watch is told of
+/// the search while it runs. Each symmetry of the certificate is one of those that the plan asks for. Where a hint is
+/// wanted, it says what has to be changed in a text that has a fault; for a search that gave up or found too many, how
+/// many arrangements may be expected, and what may help. There is no hint where memory is refused to it.
+pub fn run_solve_watched<
+    R: Threads + Wait + Sync,
+    T: SolveWatch + Sync,
+    I: Inputs<Texts = Text>,
+    O: Outputs<Made = Products>,
+>(
+    rt: &R,
+    alloc: Global,
+    search: &Watched<'_, SearchPlan, T>,
+    inputs: &mut I,
+    outputs: &mut O,
+) -> Result<(), HintedFault>
+    ensures same { I.same inputs.old inputs.new × O.same outputs.old outputs.new }
+    ensures run { Runs (I.reads inputs.old inputs.new) (SolveGivesOf search.now.plan.symmetries search.now.plan.workers) SolveFails
+        (O.writes outputs.old outputs.new) (unhinted result) }
+{
+    let mut hint = None;
+    let make = |text: &Text| -> Result<(Products, ()), RunFault>
+        ensures { MadeOf (SolveGivesOf search.entry.now.plan.symmetries search.entry.now.plan.workers) SolveFails
+            text.now result }
+    {
+        let made = make_products(rt, alloc, text, search);
+        if let (true, Err(fault)) = (search.hints, &made) {
+            hint = solve_hint(alloc, text.bytes(), &search.plan, fault);
+        }
+        made
+    };
+    let ended = run_by(alloc, inputs, make, outputs);
+    with_hint(ended, hint)
+}
+
+// What to write for a puzzle's text.
+fn make_products<R: Threads + Wait + Sync, T: SolveWatch + Sync>(
+    rt: &R,
+    alloc: Global,
+    text: &Text,
+    search: &Watched<'_, SearchPlan, T>,
+) -> Result<(Products, ()), RunFault>
+    ensures { MadeOf (SolveGivesOf search.now.plan.symmetries search.now.plan.workers) SolveFails text.now result }
+{
+    let puzzle = read_puzzle(alloc, text.bytes())?;
+    tell_before(alloc, &puzzle, search);
+    solved(rt, alloc, &puzzle, search)
+}
+
+// Where hints are wanted, says that more arrangements may be expected than a list can have.
+fn tell_before<T: SolveWatch>(alloc: Global, puzzle: &Puzzle, search: &Watched<'_, SearchPlan, T>) {
+    if !search.hints {
+        return;
+    }
+    if let Some(advice) = word_before(alloc, puzzle, &search.plan) {
+        search.watch.expects_many(&advice);
+    }
+}
+
+// What to write for a puzzle that was read.
+fn solved<R: Threads + Wait + Sync, T: SolveWatch + Sync>(
+    rt: &R,
+    alloc: Global,
+    puzzle: &Puzzle,
+    search: &Watched<'_, SearchPlan, T>,
+) -> Result<(Products, ()), RunFault>
+    ensures { (text : List ℕ) → PuzzleReads text (Ok puzzle.now)
+        → MadeOf (SolveGivesOf search.now.plan.symmetries search.now.plan.workers) SolveFails text result }
+{
+    // There are at most 64, and so are the lines of the report.
+    let _workers_in_range = search.plan.workers.get();
+    let Solved {
+        list: listed,
+        certificate,
+        tally,
+    } = solve_watched(rt, alloc, puzzle, search.plan, search.watch)?;
+    let shares = shares(alloc, tally)?;
+    let found = Found {
+        puzzle,
+        listed: &listed,
+        certificate: &certificate,
+        shares: &shares,
+    };
+    let products = products_of(rt, alloc, &found, search)?;
+    Ok((products, ()))
+}
+
+// What a solve of a puzzle found, and who took which lemma.
+#[derive(Clone, Copy)]
+struct Found<'a> {
+    puzzle: &'a Puzzle,
+    listed: &'a [Arrangement],
+    certificate: &'a Certificate,
+    shares: &'a [Taken],
+}
+
+// The texts of what was found.
+fn products_of<R: Threads + Wait + Sync, T: SolveWatch + Sync>(
+    rt: &R,
+    alloc: Global,
+    found: &Found<'_>,
+    search: &Watched<'_, SearchPlan, T>,
+) -> Result<Products, AllocError>
+    requires found { IsFound found.now }
+    ensures { IfOk result (AreProducts found.now.puzzle.now found.now.listed.now found.now.certificate.now
+        found.now.shares.now) }
+{
+    let workers = search.plan.workers.get() as u8;
+    let texts = write_texts_with(rt, alloc, found.listed, found.certificate, workers)?;
+    let report = report_on(alloc, found)?;
+    search
+        .watch
+        .made(bytes_in(&texts.list), bytes_in(&texts.certificate));
+    Ok(Products {
+        list: MadeText::of_parts(texts.list),
+        certificate: MadeText::of_parts(texts.certificate),
+        report: MadeText::new(report),
+    })
+}
+
+// How many bytes these parts have, for the watch.
+fn bytes_in(parts: &[Vec<u8>]) -> usize {
+    let mut sum: usize = 0;
+    for part in parts {
+        sum = sum.saturating_add(part.len());
+    }
+    sum
+}
+
+// The numbers that each worker took.
+fn shares(alloc: Global, tally: Vec<Vec<u32>>) -> Result<Vec<Taken>, AllocError>
+    ensures { IfOk result (λ shares. shares.items ≡ shares_of tally.items) }
+{
+    tally.into_iter().map(Taken::new).collect(alloc)
+}
+
+// The report: how many were found, by how many lemmas, who took them, and the first arrangement.
+fn report_on(alloc: Global, found: &Found<'_>) -> Result<Vec<u8>, AllocError>
+    requires { IsFound found.now }
+    ensures { IfOk result (λ text. text.items ≡ report_text found.now.puzzle.now found.now.listed.now
+        (length found.now.certificate.now.lemmas) found.now.shares.now) }
+{
+    let mut text = Vec::new(alloc);
+    put_number_line(&mut text, b"found", found.listed.len() as u64)?;
+    put_number_line(
+        &mut text,
+        b"lemmas",
+        found.certificate.lemmas().len() as u64,
+    )?;
+    text.extend_from_slice(&write_tally(alloc, found.shares)?)?;
+    text.extend_from_slice(&board_of_first(alloc, found.puzzle, found.listed)?)?;
+    Ok(text)
+}
+
+// The first arrangement as it lies on the board, if there is one.
+fn board_of_first(
+    alloc: Global,
+    puzzle: &Puzzle,
+    listed: &[Arrangement],
+) -> Result<Vec<u8>, AllocError>
+    requires { AreArrangements puzzle.now listed.now }
+    ensures { IfOk result (λ text. text.items ≡ first_board puzzle.now listed.now) }
+{
+    match listed.first() {
+        None => Ok(Vec::new(alloc)),
+        Some(arrangement) => write_board(alloc, puzzle, arrangement.placements()),
+    }
+}

@@ -1,0 +1,9 @@
+pub mod OptionExtensions
+pub mod Branches
+pub mod Symmetries
+pub mod Looks
+pub mod Hash
+pub mod Children
+pub mod Extensions
+pub mod Weights
+pub mod ChunkTotals

@@ -1,6 +1,0 @@
-use Rattle.std.proofs.Common.{[]}
-use Rattle.live_crew.specs.LiveWorkers.{Did}
-use Rattle.live_crew.proofs.working.put_all.Given as goal
-
-abbrev pub invariant-loop : goal.invariant-loop
-invariant-loop g l = Did l.shared.queue (g.W.LiveWork.gives l.work) [] l.initial.worker l.worker

@@ -1,4 +1,0 @@
-use Rattle.match_explain.proofs.findings.missing_laws.Goals as goal
-
-pub returns : goal.returns
-returns c = λ question placed missing complete. let (a, unlisted, not) = missing in not (complete.reached a unlisted.arrangement)

@@ -1,5 +1,0 @@
-use Rattle.match_fits.proofs.LowerLemmas.{IsLeastBefore}
-use Rattle.match_fits.proofs.fit_sizes.least_size.Given as goal
-
-abbrev pub invariant-loop-size : goal.invariant-loop-size
-invariant-loop-size l = IsLeastBefore l.sizes l.size-index l.least

@@ -1,5 +1,0 @@
-use Rattle.match_fits.specs.Counts.{AreCountsBeside}
-use Rattle.match_fits.proofs.placing.Counts.take_out_beside.Given as goal
-
-abbrev pub invariant-loop-side : goal.invariant-loop-side
-invariant-loop-side l = AreCountsBeside l.partial l.pair l.side l.self

@@ -1,5 +1,0 @@
-mod GrownLemmas
-mod SiteLemmas
-mod TileLemmas
-mod PictureLemmas
-mod LawLemmas

@@ -1,5 +1,0 @@
-use Rattle.match_picture.proofs.GrownLemmas.{wrapped_grows}
-use Rattle.match_picture.proofs.cells.put_outlines.Goals as goal
-
-pub returns : goal.returns
-returns c = wrapped_grows c.in_ok-put_group.ensures

@@ -1,5 +1,0 @@
-use Rattle.match_picture.proofs.TileLemmas.{have_tiles}
-use Rattle.match_picture.proofs.pictures.begin_arrangement.Goals as goal
-
-pub describe_arrangement-requires : goal.describe_arrangement-requires
-describe_arrangement-requires c = have_tiles c.args.puzzle.now c.args.arrangement.now c.requires

@@ -1,6 +1,0 @@
-use Rattle.match_board.specs.Board.{cells_above}
-use Rattle.match_picture.specs.Sites.{AreSitesTo}
-use Rattle.match_picture.proofs.sites.sites_of.Given as goal
-
-abbrev pub invariant-loop-row : goal.invariant-loop-row
-invariant-loop-row l = AreSitesTo l.figure (cells_above l.figure l.row) l.sites.items

@@ -1,5 +1,0 @@
-use Rattle.std.proofs.Common.{◌≡◌, length}
-use Rattle.match_picture.proofs.trays.tray_sites.Given as goal
-
-abbrev pub invariant-loop-tile : goal.invariant-loop-tile
-invariant-loop-tile l = length l.sites.items ≡ l.tile

@@ -1,4 +1,0 @@
-use Rattle.match_program.proofs.word_runs.refuse.Goals as goal
-
-pub returns-in-Words : goal.returns-in-Words
-returns-in-Words g c = rw c.in-Words.is c.explained.ensures

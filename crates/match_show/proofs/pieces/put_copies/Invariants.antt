@@ -1,5 +1,0 @@
-use Rattle.std.proofs.Common.{◌≡◌, ◌++◌, replicate}
-use Rattle.match_show.proofs.pieces.put_copies.Given as goal
-
-abbrev pub invariant-loop-copy : goal.invariant-loop-copy
-invariant-loop-copy l = l.line.items ≡ l.fn.line.items ++ replicate l._copy l.byte

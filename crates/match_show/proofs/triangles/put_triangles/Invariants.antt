@@ -1,8 +1,0 @@
-use Rattle.std.proofs.Common.{◌≡◌, ◌++◌, drop}
-use Rattle.match_show.specs.Pieces.{sheet_text}
-use Rattle.match_show.specs.Triangles.{triangle_lines}
-use Rattle.match_show.proofs.triangles.put_triangles.Given as goal
-
--- the text so far, and that of the rows that are left
-abbrev pub invariant-loop-row : goal.invariant-loop-row
-invariant-loop-row l = l.text.items ++ sheet_text (triangle_lines l.size l.row (drop l.row l.rows)) ≡ l.fn.text.items ++ sheet_text (triangle_lines l.size 0 l.rows)

@@ -1,4 +1,0 @@
-pub mod AssemblyLemmas
-pub mod NumberedLemmas
-pub mod OrderLemmas
-pub mod MadeLemmas

@@ -1,6 +1,0 @@
-use Rattle.std.proofs.Common.{◌≢◌, ◌≤◌, take}
-use Rattle.numbered_pieces.specs.Assembly.{how_often, TellsLeast}
-use Rattle.numbered_pieces.proofs.strangers.least_stranger.Given as goal
-
-abbrev pub invariant-loop-piece : goal.invariant-loop-piece
-invariant-loop-piece g l = TellsLeast (λ n. (l.count ≤ n) × (how_often g.N.Numbered.numbered (take l.piece-index l.pieces) n ≢ 0)) l.least

@@ -1,3 +1,0 @@
-pub mod Assembly
-pub mod Slots
-pub mod FaultText

@@ -1,4 +1,0 @@
-mod EdgeLemmas
-mod ClueLemmas
-pub mod JoinedLemmas
-pub mod PaletteLemmas

@@ -1,7 +1,0 @@
-use Rattle.picture_parts.specs.Joined.{IsJoined}
-use Rattle.picture_parts.specs.Elements.{IsBandLineAt}
-use Rattle.picture_parts.proofs.bands.band_lines.Given as goal
-
-abbrev pub invariant-loop-cell : goal.invariant-loop-cell
-invariant-loop-cell l =
-    IsJoined (IsBandLineAt l.canvas.puzzle.now l.canvas.left l.canvas.top l.canvas.sites.items) l.cell l.lines.items

@@ -1,5 +1,0 @@
-use Rattle.std.specs.String.{string_bytes}
-use Rattle.picture_parts.proofs.numbers.number.Goals as goal
-
-pub returns : goal.returns
-returns c = record { before = string_bytes c.in_ok-begin.begin; said = c.in_ok-label.ensures.ok }

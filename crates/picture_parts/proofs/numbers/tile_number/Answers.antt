@@ -1,7 +1,0 @@
-use Rattle.std.proofs.Common.{IfOk, subst}
-use Rattle.std.specs.String.{string_bytes}
-use Rattle.picture_parts.specs.Elements.{SaysNumber}
-use Rattle.picture_parts.proofs.numbers.tile_number.Goals as goal
-
-pub returns : goal.returns
-returns c = subst (λ n. IfOk c.number.result (λ label. SaysNumber n (string_bytes label))) c.from.ensures c.number.ensures

@@ -1,7 +1,0 @@
-use Rattle.picture_parts.specs.Elements.{IsPart}
-use Rattle.picture_parts.specs.Joined.{IsJoined}
-use Rattle.picture_parts.proofs.parts.part_line.Given as goal
-
-abbrev pub invariant-loop-side : goal.invariant-loop-side
-invariant-loop-side l =
-    IsJoined (IsPart l.canvas.puzzle.now l.canvas.left l.canvas.top l.site l.placement) l.side l.line.items

@@ -1,7 +1,0 @@
-use Rattle.std.specs.String.{string_bytes}
-use Rattle.picture_parts.proofs.EdgeLemmas.{is_along}
-use Rattle.picture_parts.proofs.parts.path_along.Goals as goal
-
-pub returns : goal.returns
-returns c =
-    is_along c.args.puzzle.now c.args.colour c.edge_of-edge.result (string_bytes c.in_ok-path.path) c.edge_of-edge.ensures c.in_ok-path.ensures

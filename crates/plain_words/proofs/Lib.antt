@@ -1,3 +1,0 @@
-pub mod BytesLemmas
-pub mod FrontLemmas
-pub mod WordLemmas

@@ -1,5 +1,0 @@
-use Rattle.puzzle_reasons.specs.Reasons.{AreReasonsBefore}
-use Rattle.puzzle_reasons.proofs.finding.put_colours.Given as goal
-
-abbrev pub invariant-loop-colour : goal.invariant-loop-colour
-invariant-loop-colour l = AreReasonsBefore l.puzzle (0, l.colour) l.reasons.items

@@ -1,5 +1,0 @@
-use Rattle.puzzle_reasons.specs.Reasons.{AreReasonsBefore}
-use Rattle.puzzle_reasons.proofs.finding.put_tiles.Given as goal
-
-abbrev pub invariant-loop-tile : goal.invariant-loop-tile
-invariant-loop-tile l = AreReasonsBefore l.partial.puzzle (2, l.tile) l.reasons.items

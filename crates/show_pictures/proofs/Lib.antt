@@ -1,0 +1,9 @@
+mod EdgeLemmas
+mod ClueLemmas
+pub mod JoinedLemmas
+pub mod PaletteLemmas
+mod GrownLemmas
+mod SiteLemmas
+mod TileLemmas
+mod PictureLemmas
+mod LawLemmas

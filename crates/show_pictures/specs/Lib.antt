@@ -1,0 +1,13 @@
+pub mod Joined
+pub mod Forms
+pub mod Edges
+pub mod Palette
+pub mod Elements
+pub mod Clued
+pub mod Arrows
+pub mod Plans
+pub mod Grown
+pub mod Sites
+pub mod Pictures
+pub mod Listed
+pub mod Laws

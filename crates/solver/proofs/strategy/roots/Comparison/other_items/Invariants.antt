@@ -1,0 +1,11 @@
+use Rattle.std.proofs.Common.{IfSome}
+use Rattle.xcc_form.specs.Options.{cover_of}
+use Rattle.xcc_form.specs.Chosen.{IsUncovered}
+use Rattle.xcc_form.proofs.NextLemmas.{left_after}
+use Rattle.solver.proofs.strategy.roots.Comparison.other_items.Given as goal
+
+abbrev pub invariant-loop-next : goal.invariant-loop-next
+invariant-loop-next g l = IfSome l.next (IsUncovered (cover_of l.engine.compiled) l.engine.chosen)
+
+abbrev pub decreases-loop-next : goal.decreases-loop-next
+decreases-loop-next g l = left_after (cover_of l.engine.compiled).primaries l.next
