@@ -2,8 +2,8 @@
 """Holds the pages to the files that they speak of: crates, calls, counts, commands, limits, links, names, quotations,
 keys of cases, numbers that two pages have, and the libraries that are trusted.
 
-The pages are README.md, CONTRIBUTING.md, CHANGELOG.md, those of docs/, and a README.md in cases/ and in the folder of
-each crate. It also looks at how long lines of prose are, whether a sentence stands twice, and whether two empty lines
+The pages are README.md, CONTRIBUTING.md, CHANGELOG.md, those of docs/, and a README.md in cases/, in web/ and in the
+folder of each crate. It also looks at how long lines of prose are, whether a sentence stands twice, and whether two empty lines
 follow each other. With --write the counts are made anew. It takes a second or two, and ends with 0 where all pages are
 right, and with 1 where one isn't, and says where. A quotation of the code begins with its file and the function that
 has it, as `// match_board/src/boards.rt, meets`; `..` in a line of its own stands for lines that are left out.
@@ -85,7 +85,7 @@ TOLD_TWICE = [
 ]
 TIMES = {"half an hour": 30, "an hour": 60, "two hours": 120, "three hours": 180}
 # Where paths begin that are looked at, beside crates.
-FOLDERS = ["src", "specs", "proofs", "crates", "scripts", "cases", "docs"]
+FOLDERS = ["src", "specs", "proofs", "crates", "scripts", "cases", "docs", "web"]
 # What is of the kit alone.
 OF_THE_KIT = {"atomic_blocks", "crossbeam_queue", "RandomState"}
 # The pages whose names are those of the code, beside those of the crates.
@@ -151,7 +151,7 @@ def page_of(crate):
 
 @functools.cache
 def pages():
-    named = [README, CONTRIBUTING, "CHANGELOG.md", "cases/README.md", *found("docs/*.md")]
+    named = [README, CONTRIBUTING, "CHANGELOG.md", "cases/README.md", "web/README.md", *found("docs/*.md")]
     return [*named, *filter(is_there, map(page_of, crates()))]
 
 
