@@ -4,8 +4,9 @@
 It has to answer as each case of `cases/` and each example wants it, with the three texts apart and joined, and each
 text cut at every byte. On texts that are generated, most of them faulty, it has to answer as the program does: N of
 them, 300 unless given, each a solved puzzle's texts with some words or bytes changed. The command line, web/cli.js, has
-to give the same lines on the same streams with the same status, for files that aren't there too. With --mutants wrong
-checkers are made, each by one change of check.js, and one of the cases has to notice each.
+to give the same lines on the same streams with the same status, for files that aren't there too. The page's pictures,
+web/draw.js, have to be those of docs/pictures, byte for byte. With --mutants wrong checkers are made, each by one
+change of check.js that scripts/wrong_checkers.toml has, and one of the cases has to notice each.
 
 Where there is no node on the path it says so, and tries nothing. It ends with 0 where all is as wanted, else with 1. It
 takes some seconds.
@@ -27,7 +28,9 @@ from check_cases import DOCUMENTS, EXAMPLES, GALLERY, TOP, Outcome, outcome_of, 
 
 WEB = os.path.join(TOP, "web")
 CHECKER, COMMAND = os.path.join(WEB, "check.js"), os.path.join(WEB, "cli.js")
-WRONG = os.path.join(TOP, "scripts/wrong_checkers.toml")
+WRONG, PICTURES = os.path.join(TOP, "scripts/wrong_checkers.toml"), os.path.join(TOP, "docs/pictures")
+# Pictures of the first arrangement that have more than the page's: numbers of tiles, or tiles that are left over.
+WITH_MORE = ("nine_cards", "macmahon_16_of_24")
 # Puzzles of the gallery that are solved at once, whose texts are changed.
 QUICK = ("nine_cards", "sixteen_cards", "sixteen_squares", "squares_of_two_colours", "triangles_of_two_colours")
 # The most bytes of a case's texts that are changed, and of one's that wrong checkers are tried on.
@@ -62,6 +65,17 @@ else {
     const wrong = checkerOf(other), found = trials.findIndex((it, i) => answer(wrong, it) !== answers[i]);
     process.stdout.write(`${found < 0 ? null : found}\n`);
   }
+}
+"""
+
+# It draws arrangements: each line of its input is a JSON list of a puzzle's file and the line of a list.
+DRAWER = r"""
+const fs = require("fs"), path = require("path"), folder = process.argv[1];
+const { edgematchPuzzle } = require(path.join(folder, "check.js"));
+const { edgematchPicture } = require(path.join(folder, "draw.js"));
+for (const [file, row] of fs.readFileSync(0, "utf8").split("\n").slice(0, -1).map((it) => JSON.parse(it))) {
+  const puzzle = edgematchPuzzle(new Uint8Array(fs.readFileSync(file)));
+  process.stdout.write(`${JSON.stringify(edgematchPicture(puzzle, row, 0, true))}\n`);
 }
 """
 
@@ -272,6 +286,23 @@ def of_command(node_path, folder, trials):
     return found
 
 
+def of_pictures(node_path):
+    """The pictures of docs/pictures that the page draws otherwise, of those that are of an arrangement."""
+    drawn = {}
+    for name in sorted(os.listdir(os.path.join(EXAMPLES, GALLERY))):
+        picture = contents(os.path.join(PICTURES, f"{name}.svg")).decode("utf-8")
+        said = re.search(r"By cell the tile, its turns and its colours: (.*)</desc>", picture)
+        if said and name not in WITH_MORE:
+            row = " ".join(it.split(" ")[0] for it in said[1].split(", "))
+            drawn[name] = picture, [os.path.join(EXAMPLES, GALLERY, name), row]
+    lines = "".join(json.dumps(asked) + "\n" for _, asked in drawn.values())
+    words = [node_path, "-e", DRAWER, WEB]
+    done = subprocess.run(words, input=lines.encode(), stdout=subprocess.PIPE, check=True)
+    got = [json.loads(it) for it in done.stdout.decode().split("\n")[:-1]]
+    return {f"the picture of {name}": [] if one == picture else ["it is another than that of docs/pictures"]
+            for (name, (picture, _)), one in zip(drawn.items(), got, strict=True)}
+
+
 def is_small(trial):
     """Whether a wrong checker is tried on it: a cut text shows no more than another one, and a long one is dear."""
     return not trial.name.endswith(" cut") and sum(map(len, trial.texts)) < MOST_TRIED
@@ -304,7 +335,7 @@ def main():
     trials = [trial for kind, case in check_cases.every_case() for trial in of_case(kind, case)]
     with tempfile.TemporaryDirectory() as folder:
         found = differences(node_path, trials + list(generated(given.program, folder, trials, given.generated)))
-        found |= of_command(node_path, folder, trials)
+        found |= of_command(node_path, folder, trials) | of_pictures(node_path)
         if given.mutants:
             small = list(filter(is_small, trials))
             # In this order most wrong checkers are noticed soon.
