@@ -1,12 +1,12 @@
 #!/usr/bin/env python3
 """Tries the second checker, web/check.js, which node runs.
 
-It has to answer as each case of `cases/` and each example wants it, with the three texts apart and joined, and each
-text cut at every byte. On texts that are generated, most of them faulty, it has to answer as the program does: N of
-them, 300 unless given, each a solved puzzle's texts with some words or bytes changed. The command line, web/cli.js, has
-to give the same lines on the same streams with the same status, for files that aren't there too. The page's pictures,
-web/draw.js, have to be those of docs/pictures, byte for byte. With --mutants wrong checkers are made, each by one
-change of check.js that scripts/wrong_checkers.toml has, and one of the cases has to notice each.
+It has to answer as each case of `cases/` and each example wants it, with the three texts apart and joined, and with
+texts cut at every byte. On texts that are generated, most of them faulty, it has to answer as the program does: N of
+them, 300 unless given, each the texts of an example or a case with some words or bytes changed. The command line,
+web/cli.js, has to give the same lines on the same streams with the same status, for files that aren't there too. The
+page's pictures, web/draw.js, have to be those of docs/pictures, byte for byte. With --mutants wrong checkers are made,
+each by one change of check.js that scripts/wrong_checkers.toml has, and one of the cases has to notice each.
 
 Where there is no node on the path it says so, and tries nothing. It ends with 0 where all is as wanted, else with 1. It
 takes some seconds.
@@ -25,14 +25,13 @@ from dataclasses import dataclass
 
 import check_cases
 from check_cases import DOCUMENTS, EXAMPLES, GALLERY, TOP, Outcome, outcome_of, program_at
+from plain_search import ItemSearch, Search, read_puzzle
 
 WEB = os.path.join(TOP, "web")
 CHECKER, COMMAND = os.path.join(WEB, "check.js"), os.path.join(WEB, "cli.js")
 WRONG, PICTURES = os.path.join(TOP, "scripts/wrong_checkers.toml"), os.path.join(TOP, "docs/pictures")
 # Pictures of the first arrangement that have more than the page's: numbers of tiles, or tiles that are left over.
 WITH_MORE = ("nine_cards", "macmahon_16_of_24")
-# Puzzles of the gallery that are solved at once, whose texts are changed.
-QUICK = ("nine_cards", "sixteen_cards", "sixteen_squares", "squares_of_two_colours", "triangles_of_two_colours")
 # The most bytes of a case's texts that are changed, and of one's that wrong checkers are tried on.
 MOST_CHANGED, MOST_TRIED = 4_000, 100_000
 # The characters that texts have, and some that they haven't.
@@ -143,29 +142,26 @@ def of_case(kind, case):
 # Texts that are generated
 
 
-def solved(program, folder, puzzle, options):
-    """The three texts that a solve of a puzzle makes."""
-    paths = [os.path.join(folder, it) for it in DOCUMENTS]
-    with open(paths[0], "wb") as file:
-        file.write(puzzle)
-    subprocess.run([program, "solve", *paths, *options], stdout=subprocess.DEVNULL, check=True)
-    return [contents(it) for it in paths]
-
-
 def contents(path):
     with open(path, "rb") as file:
         return file.read()
 
 
-def seeds(program, folder, trials):
-    """Texts that are right or nearly so: those of solves, and of cases that are answered."""
-    names = [os.path.join(it, "puzzle") for it in sorted(os.listdir(EXAMPLES)) if it != GALLERY]
-    for name in [*names, *(os.path.join(GALLERY, it) for it in QUICK)]:
-        for depth in ("0", "2"):
-            yield solved(program, folder, contents(os.path.join(EXAMPLES, name)), ["--depth", depth])
+def searched(puzzle):
+    """A puzzle with the lists and certificates that two plain searches make."""
+    for kind in (Search, ItemSearch):
+        search = kind(read_puzzle(puzzle.decode("latin-1")), 0, sys.maxsize)
+        search.run()
+        yield [puzzle, search.list_text().encode("latin-1"), search.certificate_text().encode("latin-1")]
+
+
+def seeds(trials):
+    """Texts that are right or nearly so: those of searches of the examples, and of cases that are answered."""
     for trial in trials:
         if len(trial.texts) == 3 and outcome_of(trial.line).status < 2 and sum(map(len, trial.texts)) < MOST_CHANGED:
             yield trial.texts
+            if re.fullmatch(r"examples/\w+", trial.name):
+                yield from searched(trial.texts[0])
 
 
 def other_number(rng, word):
@@ -216,7 +212,7 @@ def other_text(rng, text):
 
 def generated(program, folder, trials, count):
     """So many texts that are changed, each with what the program answers."""
-    rng, kept = random.Random("second checker"), list(seeds(program, folder, trials))
+    rng, kept = random.Random("second checker"), list(seeds(trials))
     paths = [os.path.join(folder, it) for it in DOCUMENTS]
     for number in range(count):
         texts = list(rng.choice(kept))
