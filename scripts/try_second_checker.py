@@ -254,7 +254,8 @@ def differences(node_path, trials):
 
 
 def of_command(node_path, folder, trials):
-    """The same of the command line: of examples, apart and joined, and of files that can't be read."""
+    """What the command line answers otherwise than wanted: of examples, apart and joined, of files that can't be read, and
+    of an answer that can't be written."""
     paths = [os.path.join(folder, it) for it in DOCUMENTS]
     calls = []
     for trial in trials:
@@ -279,6 +280,11 @@ def of_command(node_path, folder, trials):
     got = run([node_path, COMMAND, paths[0]])
     right = (got.status, got.stdout) == (2, b"") and got.stderr.startswith(b"usage: ")
     found["one word, by cli.js"] = [] if right else [f"got    {got}"]
+    with open("/dev/full", "wb") as full:
+        done = subprocess.run([node_path, COMMAND, *(os.path.join(EXAMPLES, "square_of_four", it) for it in DOCUMENTS)],
+                              stdout=full, stderr=subprocess.PIPE, check=False)
+    got = done.returncode, done.stderr
+    found["a full disk, by cli.js"] = [] if got == (2, b"cannot write\n") else [f"got    {got}"]
     return found
 
 

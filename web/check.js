@@ -33,7 +33,7 @@
   const LF = 10, SPACE = 32, DASH = 45, DOT = 46, ZERO = 48, COLON = 58, HASH = 35;
   const MOST_BYTES = 1073741824, MOST_COLOURS = 36, MOST_LENGTH = 100, MOST_PLACES = 1024;
   const MOST_ARRANGEMENTS = 1000000, MOST_LEMMAS = 1000000, MOST_SYMMETRIES = 1024;
-  const TOLD_EACH = 1048576; // after so many bytes it is told how far the check is
+  const TOLD_EACH = 1048576; // after this many bytes it is told how far the check is
 
   // What a text of each version may have. Only a puzzle has version 3, with the numbers of version 2.
   const SMALL = { cells: 100, asked: 400, children: 400, levels: 101 };
@@ -166,7 +166,7 @@
       return word;
     }
 
-    // Takes entries up to a word, or up to the end of the line, where no word is given: at most so many.
+    // Takes entries up to a word, or up to the end of the line, where no word is given: at most `most` of them.
     entries(before, most, entry) {
       const entries = [];
       while (this.at <= this.end && !(before && this.sees(before))) {
@@ -266,7 +266,7 @@
     return { cells, sides: 3, meets };
   }
 
-  // The rows of a hexagon with so many cells at each side: they grow to the middle, and shrink again.
+  // The rows of a hexagon with `size` cells at each side: they grow to the middle, and shrink again.
   function hexagonRows(size) {
     return Array.from({ length: 2 * size }, (_, y) => {
       const upper = y < size, length = 2 * size + 1 + 2 * Math.min(y, 2 * size - 1 - y);
@@ -713,8 +713,8 @@
           this.want(c * 4 + k, asked[c * 4 + k]);
         }
       }
-      // Of the branch at each level, which is one at most for each cell: the pairs that fit, so many at most, how many
-      // children it has, and which of them is looked at.
+      // Of the branch at each level, which is one at most for each cell: the pairs that fit, at most `most` of them,
+      // how many children it has, and which of them is looked at.
       this.most = 4 * Math.max(cells, tiles);
       this.fits = new Uint32Array(cells * this.most);
       this.children = new Uint16Array(cells);
@@ -793,7 +793,7 @@
       return set;
     }
 
-    // The same as fittingAt for a tile: by cell, then turn.
+    // Counts the pairs with this tile that fit, by cell, then turn; they are listed from `begin` on, where it isn't -1.
     fittingOf(tile, begin) {
       const turns = this.puzzle.turnsOf[tile], sets = [0, 0, 0, 0];
       let count = 0;
@@ -914,7 +914,7 @@
     }
   }
 
-  // Where so many pairs fit: whether a branch has as many children, or a dead end none.
+  // What is wrong where `found` pairs fit: a branch has to have as many children, and at a dead end none may fit.
   function countFault(isBranch, found, children) {
     if (isBranch) return found === children ? null : `wrong-count ${found} ${children}`;
     return found === 0 ? null : `not-dead ${found}`;

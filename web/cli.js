@@ -65,14 +65,26 @@ function answerOf(paths) {
   }
 }
 
+// Writes a line to standard output, 1, or standard error, 2: whether that could be done.
+function isWritten(stream, line) {
+  try {
+    fs.writeSync(stream, `${line}\n`);
+    return true;
+  } catch {
+    return false;
+  }
+}
+
+// Prints the answer, and gives the exit status. An answer that can't be written is a fault: status 1 is for `refused`.
 function main(paths) {
   if (paths.length !== 0 && paths.length !== 3) {
-    process.stderr.write("usage: node cli.js PUZZLE LIST CERTIFICATE, or node cli.js with the three joined\n");
+    isWritten(2, "usage: node cli.js PUZZLE LIST CERTIFICATE, or node cli.js with the three joined");
     return 2;
   }
   const { line, status } = answerOf(paths);
-  (status === 2 ? process.stderr : process.stdout).write(`${line}\n`);
-  return status;
+  if (isWritten(status === 2 ? 2 : 1, line)) return status;
+  isWritten(2, "cannot write");
+  return 2;
 }
 
 process.exitCode = main(process.argv.slice(2));
