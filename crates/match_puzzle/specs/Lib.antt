@@ -1,4 +1,5 @@
 pub mod Puzzle
+pub mod Parts
 pub mod Colours
 pub mod PuzzleFaults
 pub mod Arrangement

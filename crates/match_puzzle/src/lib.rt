@@ -13,6 +13,7 @@ mod fitting_pairs;
 mod items;
 mod laws;
 mod partials;
+mod parts;
 mod placement_sets;
 mod placements;
 mod prefix_faults;

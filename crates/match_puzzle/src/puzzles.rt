@@ -1,25 +1,26 @@
 //! A puzzle: a board, tiles, and what is asked of them.
 
-ghost use Rattle.std.specs.Prelude.{◌≡◌, ◌≢◌, ◌⊎◌, ◌<◌, ◌≤◌, ◌↔◌, ◌^◌, ℕ, IfOk, IfErr, IsErrOf, IfSome, IsTrue, MatchOption};
+ghost use Rattle.std.specs.Prelude.{◌≡◌, ◌≢◌, ◌⊎◌, ◌<◌, ◌≤◌, ◌↔◌, ◌^◌, ℕ, IfOk, IfErr, IsErrOf, IfSome, IsTrue};
 ghost use Rattle.std.specs.Prelude.{MatchBool};
-ghost use Rattle.std.specs.Prelude.{Some, length, map, [], slice_index};
-ghost use Rattle.match_board.specs.Board.{cell_count, side_count, IsBoard, IsShape, Meets};
+ghost use Rattle.std.specs.Prelude.{Some, length, map, slice_index};
+ghost use Rattle.match_board.specs.Board.{cell_count, side_count, Meets};
 ghost use Rattle.match_limits.specs.First.{IsFirst};
-ghost use Rattle.match_board.specs.Mates.{IsOfVersion, mating_of, mated};
+ghost use Rattle.match_board.specs.Mates.{IsOfVersion, mated};
 ghost use Rattle.match_puzzle.specs.Puzzle.{Task, task_of, task_by, mating_for, second_form_of, IsPuzzle};
-ghost use Rattle.match_puzzle.specs.Puzzle.{AreEnough, AllHaveToStand};
+ghost use Rattle.match_puzzle.specs.Puzzle.{AllHaveToStand};
 ghost use Rattle.match_board.specs.Borders.{rule_of, IsShortRule};
+ghost use Rattle.match_puzzle.specs.Parts.{AreParts, task_of_parts};
 ghost use Rattle.match_puzzle.specs.PuzzleFaults.{PuzzleFails, puzzle_rank};
 
 use crate::asking::{both_asked, four_from};
-use crate::clue_faults::broken_clue;
 use crate::clue_rules::asked_by_clue;
 use crate::faults::PuzzleFault;
+use crate::parts::PuzzleParts;
 use crate::placement_sets::{ANY_COLOUR, NO_COLOUR};
 use crate::placements::Placement;
 use crate::rules::Rules;
-use crate::tables::{FIRST_PLACE, Side, Tables, odd_tile};
-use match_board::{Board, Border, Clue, Figure, Tile, broken_mate, mate_in};
+use crate::tables::{FIRST_PLACE, Side, Tables};
+use match_board::{Board, Border, Clue, Figure, Tile, mate_in};
 use match_limits::{FixedSet, MOST_COLOURS, MOST_TILES, NumberSet, SIDES, TURNS};
 use std::alloc::{AllocError, Global};
 use std::marker::Model;
@@ -97,7 +98,13 @@ impl Puzzle {
             mates: &[],
             clues: &[],
         };
-        Puzzle::make(alloc, board, &rules, version, tiles)
+        let parts = PuzzleParts {
+            board,
+            rules: &rules,
+            version,
+            tiles,
+        };
+        Puzzle::make(alloc, &parts)
     }
 
     /// The puzzle of version 2 of this board and these tiles, where entry i of the list is the mate of colour i.
@@ -127,7 +134,13 @@ impl Puzzle {
             mates,
             clues: &[],
         };
-        Puzzle::make(alloc, board, &rules, 2, tiles)
+        let parts = PuzzleParts {
+            board,
+            rules: &rules,
+            version: 2,
+            tiles,
+        };
+        Puzzle::make(alloc, &parts)
     }
 
     /// The puzzle of version 3 of this board, these rules and these tiles: with clues, and as many tiles as cells or
@@ -149,7 +162,13 @@ impl Puzzle {
             → IsFirst puzzle_rank (PuzzleFails (task_by board rules.now 3 tiles.now)) f) }
         ensures memory { IsErrOf result PuzzleFault.Memory → IsPuzzle (task_by board rules.now 3 tiles.now) }
     {
-        Puzzle::make(alloc, board, rules, 3, tiles)
+        let parts = PuzzleParts {
+            board,
+            rules,
+            version: 3,
+            tiles,
+        };
+        Puzzle::make(alloc, &parts)
     }
 
     /// A copy in which a rectangle is written as the shape that has all its cells. It is of version 3 where the puzzle
@@ -166,57 +185,45 @@ impl Puzzle {
             mates: &self.mates,
             clues: &self.clues,
         };
-        Puzzle::from_parts(alloc, board, &rules, version, &self.tiles)
+        let parts = PuzzleParts {
+            board,
+            rules: &rules,
+            version,
+            tiles: &self.tiles,
+        };
+        Puzzle::from_parts(alloc, &parts)
     }
 
-    // The puzzle of this version.
-    fn make(
-        alloc: Global,
-        board: Board,
-        rules: &Rules<'_>,
-        version: u8,
-        tiles: &[Tile],
-    ) -> Result<Puzzle, PuzzleFault>
-        requires tiles { length tiles.now < 2 ^ 32 }
-        requires border { IsShortRule (rule_of rules.now.border.now) }
-        requires mates { length rules.now.mates.now < 2 ^ 32 }
-        requires clues { length rules.now.clues.now < 2 ^ 32 }
-        requires version { IsOfVersion (mating_of version rules.now.mates.now) }
-        requires shapes { IsShape board → 2 ≤ version }
-        requires without { version < 3 → rules.now.clues.now ≡ [] }
-        ensures puzzle { IfOk result (λ p. (p ≡ task_by board rules.now version tiles.now) × IsPuzzle p) }
+    // The puzzle of these parts, or its first fault.
+    fn make(alloc: Global, parts: &PuzzleParts<'_, '_>) -> Result<Puzzle, PuzzleFault>
+        requires { AreParts parts.now }
+        ensures puzzle { IfOk result (λ p. (p ≡ task_of_parts parts.now) × IsPuzzle p) }
         ensures fault { IfErr result (λ f. f ≢ PuzzleFault.Memory
-            → IsFirst puzzle_rank (PuzzleFails (task_by board rules.now version tiles.now)) f) }
-        ensures memory { IsErrOf result PuzzleFault.Memory → IsPuzzle (task_by board rules.now version tiles.now) }
+            → IsFirst puzzle_rank (PuzzleFails (task_of_parts parts.now)) f) }
+        ensures memory { IsErrOf result PuzzleFault.Memory → IsPuzzle (task_of_parts parts.now) }
     {
-        if let Some(fault) = puzzle_fault(&board, rules, version, tiles) {
+        if let Some(fault) = parts.fault() {
             return Err(fault);
         }
-        let puzzle = Puzzle::from_parts(alloc, board, rules, version, tiles)?;
+        let puzzle = Puzzle::from_parts(alloc, parts)?;
         Ok(puzzle)
     }
 
     // The puzzle of these parts, of which nothing is wrong.
-    fn from_parts(
-        alloc: Global,
-        board: Board,
-        rules: &Rules<'_>,
-        version: u8,
-        tiles: &[Tile],
-    ) -> Result<Puzzle, AllocError>
-        requires { IsPuzzle (task_by board rules.now version tiles.now) }
-        ensures { IfOk result (λ p. (p ≡ task_by board rules.now version tiles.now) × IsPuzzle p) }
+    fn from_parts(alloc: Global, parts: &PuzzleParts<'_, '_>) -> Result<Puzzle, AllocError>
+        requires { IsPuzzle (task_of_parts parts.now) }
+        ensures { IfOk result (λ p. (p ≡ task_of_parts parts.now) × IsPuzzle p) }
     {
-        let tables = Tables::new(alloc, &board, rules, tiles)?;
-        let border = rules.border.copy(alloc)?;
-        let mates = rules.mates.to_vec(alloc)?;
-        let clues = rules.clues.to_vec(alloc)?;
-        let tiles = tiles.to_vec(alloc)?;
+        let tables = Tables::new(alloc, parts)?;
+        let border = parts.rules.border.copy(alloc)?;
+        let mates = parts.rules.mates.to_vec(alloc)?;
+        let clues = parts.rules.clues.to_vec(alloc)?;
+        let tiles = parts.tiles.to_vec(alloc)?;
         Ok(Puzzle {
-            board,
-            turns: rules.turns,
+            board: parts.board,
+            turns: parts.rules.turns,
             border,
-            version,
+            version: parts.version,
             mates,
             clues,
             tiles,
@@ -471,61 +478,5 @@ impl Puzzle {
         ensures sides { length (word result.now) ≡ side_count self.now.board }
     {
         &self.tiles[usize::from(tile)]
-    }
-}
-
-// What is wrong with the puzzle of this board, these rules and these tiles.
-fn puzzle_fault(
-    board: &Board,
-    rules: &Rules<'_>,
-    version: u8,
-    tiles: &[Tile],
-) -> Option<PuzzleFault>
-    requires tiles { length tiles.now < 2 ^ 32 }
-    requires border { IsShortRule (rule_of rules.now.border.now) }
-    requires mates { length rules.now.mates.now < 2 ^ 32 }
-    requires clues { length rules.now.clues.now < 2 ^ 32 }
-    requires version { IsOfVersion (mating_of version rules.now.mates.now) }
-    requires shapes { IsShape board.now → 2 ≤ version }
-    requires without { version < 3 → rules.now.clues.now ≡ [] }
-    ensures { MatchOption result
-        (IsPuzzle (task_by board.now rules.now version tiles.now))
-        (IsFirst puzzle_rank (PuzzleFails (task_by board.now rules.now version tiles.now))) }
-{
-    if board.sides() == 3 && !rules.turns {
-        return Some(PuzzleFault::FixedTriangles);
-    }
-    if !are_enough(board, version, tiles) {
-        return Some(PuzzleFault::TileCount);
-    }
-    if let Some(tile) = odd_tile(board, tiles) {
-        return Some(PuzzleFault::TileSides(tile));
-    }
-    if let Some(place) = rules.border.bad_colour() {
-        return Some(PuzzleFault::BadColour(place));
-    }
-    if !rules.border.is_as_long_as(board) {
-        return Some(PuzzleFault::BorderLength);
-    }
-    if let Some(place) = broken_mate(rules.mates) {
-        return Some(PuzzleFault::Mates(place));
-    }
-    if let Some(number) = broken_clue(board, rules) {
-        return Some(PuzzleFault::Clue(number));
-    }
-    None
-}
-
-// Whether there are as many tiles as cells; in version 3 at least as many, and no more than there are numbers for.
-fn are_enough(board: &Board, version: u8, tiles: &[Tile]) -> bool
-    ensures enough { MatchBool result (AreEnough version (cell_count board.now) (length tiles.now))
-        (AreEnough version (cell_count board.now) (length tiles.now) → ⊥) }
-    ensures board { IsBoard board.now }
-{
-    let cells = usize::from(board.cells());
-    if version < 3 {
-        tiles.len() == cells
-    } else {
-        cells <= tiles.len() && tiles.len() <= usize::from(MOST_TILES)
     }
 }

@@ -9,6 +9,7 @@ ghost use Rattle.match_board.specs.Tile.{word};
 ghost use Rattle.match_board.specs.Turns.{IsPeriod};
 ghost use Rattle.match_board.specs.declared.tiles.Tile.{Tile as BoardTile};
 ghost use Rattle.match_board.specs.Clues.{clue_of, AsksByClue};
+ghost use Rattle.match_puzzle.specs.Parts.{task_of_parts};
 ghost use Rattle.match_puzzle.specs.Puzzle.{AreClues, IsPuzzle, task_by};
 ghost use Rattle.match_board.specs.Borders.{rule_of, StandsInRule, IsAsLongAsBorder};
 ghost use Rattle.match_puzzle.specs.Colours.{IsColourCount};
@@ -18,6 +19,7 @@ ghost use Rattle.match_puzzle.specs.declared.tables.Side.TheVariants as sides;
 
 use crate::asking::beginning;
 use crate::clue_rules::{asked_by_clue, clue_colour_count};
+use crate::parts::PuzzleParts;
 use crate::placement_sets::{ANY_COLOUR, PlacementSets};
 use crate::rules::Rules;
 use match_board::{Board, Tile};
@@ -79,18 +81,14 @@ pub(crate) struct Tables {
 }
 
 impl Tables {
-    /// The tables of the puzzle of these parts, of whichever version.
-    pub(crate) fn new(
-        alloc: Global,
-        board: &Board,
-        rules: &Rules<'_>,
-        tiles: &[Tile],
-    ) -> Result<Tables, AllocError>
-        requires { (version : ℕ) × IsPuzzle (task_by board.now rules.now version tiles.now) }
-        ensures { IfOk result (λ tables. (version : ℕ) → IsPuzzle (task_by board.now rules.now version tiles.now)
-            → IsMade (task_by board.now rules.now version tiles.now) tables) }
+    /// The tables of the puzzle of these parts.
+    pub(crate) fn new(alloc: Global, parts: &PuzzleParts<'_, '_>) -> Result<Tables, AllocError>
+        requires { IsPuzzle (task_of_parts parts.now) }
+        ensures { IfOk result (IsMade (task_of_parts parts.now)) }
     {
-        let sides = sides_table(alloc, board, rules)?;
+        let rules = parts.rules;
+        let tiles = parts.tiles;
+        let sides = sides_table(alloc, &parts.board, rules)?;
         let turn_counts = turn_counts(alloc, rules, tiles)?;
         let sets = PlacementSets::new(alloc, tiles, &turn_counts, rules.mates)?;
         let asks = beginning(alloc, &sides)?;
