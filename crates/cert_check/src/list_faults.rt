@@ -14,12 +14,7 @@ pub fn list_fault(puzzle: &Puzzle, listed: &[Arrangement]) -> Option<(u32, Arran
     requires { length listed.now < 2 ^ 32 }
     ensures { TellsOfArrangements puzzle.now listed.now result }
 {
-    for (number, arrangement) in listed.iter().enumerate() {
-        if let Some(fault) = puzzle.arrangement_fault(arrangement.placements()) {
-            return Some((number as u32, fault));
-        }
-    }
-    None
+    puzzle.first_wrong(listed)
 }
 
 // Returns what `list_fault` returns, found by as many threads as the machine has processors.

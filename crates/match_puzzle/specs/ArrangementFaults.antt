@@ -1,9 +1,9 @@
 -- What may be wrong with an arrangement.
-use Rattle.std.specs.Prelude.{◌≡◌, ◌≢◌, ◌<◌, ◌≤◌, ℕ, List, length}
+use Rattle.std.specs.Prelude.{◌≡◌, ◌≢◌, ◌<◌, ◌≤◌, ℕ, List, Some, length, slice_get}
 use Rattle.match_board.specs.Board.{cell_count, Meets}
 use Rattle.match_limits.specs.First.{Rank, IsFirst, rank_by, rank_by_two, rank_by_three}
 use Rattle.match_puzzle.specs.Puzzle.{Task, colour_of, GoTogether, IsLegalTurn, HasRule}
-use Rattle.match_puzzle.specs.Arrangement.{Stands}
+use Rattle.match_puzzle.specs.Arrangement.{IsArrangement, Stands}
 use Rattle.match_puzzle.specs.declared.placements.Placement.{Placement}
 use Rattle.match_puzzle.specs.declared.faults.ArrangementFault.{ArrangementFault}
 use Rattle.match_puzzle.specs.declared.faults.ArrangementFault.TheVariants.{Length, TileRange, Turn, TileTwice}
@@ -62,3 +62,10 @@ arrangement_rank (EdgeBroken cell side) = rank_by_three 6 cell side
 -- the first kind that occurs, at its least place
 abbrev pub IsArrangementFault : Task → List Placement → ArrangementFault → Type 0
 IsArrangementFault p a = IsFirst arrangement_rank (ArrangementFails p a)
+
+-- The one with this number, from 0, is no arrangement of the puzzle, by this fault; each before it is one.
+pub record IsFirstWrong (p : Task) (listed : List (List Placement)) (number : ℕ) (fault : ArrangementFault)
+    : Type 0 where
+  pub wrong : (a : List Placement) × (slice_get listed number ≡ Some a) × IsArrangementFault p a fault
+  pub before : (earlier : ℕ) (a : List Placement) → earlier < number → slice_get listed earlier ≡ Some a
+      → IsArrangement p a

@@ -1,14 +1,15 @@
 //! What is wrong with a list of placements that is no arrangement.
 
-ghost use Rattle.std.specs.Prelude.{◌≡◌, ◌<◌, ℕ, MatchOption, MatchBool, length};
+ghost use Rattle.std.specs.Prelude.{◌≡◌, ◌<◌, ◌^◌, ℕ, MatchOption, MatchBool, length};
 ghost use Rattle.match_board.specs.Board.{cell_count, side_count};
 ghost use Rattle.match_limits.specs.First.{IsLeast, IsLeastPair};
 ghost use Rattle.match_puzzle.specs.Puzzle.{IsPuzzle};
 ghost use Rattle.match_puzzle.specs.Arrangement.{IsArrangement, MatchesEdgeAt, HaveTiles, AreLegal, StandOnce};
-ghost use Rattle.match_puzzle.specs.Arrangement.{ObeyBorder, MatchEdges};
+ghost use Rattle.match_puzzle.specs.Arrangement.{AreArrangements, ObeyBorder, MatchEdges};
 ghost use Rattle.match_puzzle.specs.ArrangementFaults.{IsArrangementFault, HasNoTileAt, HasNoTurnAt, RepeatsTileAt};
-ghost use Rattle.match_puzzle.specs.ArrangementFaults.{ObeysBorderAt, BreaksBorderAt, BreaksEdgeAt};
+ghost use Rattle.match_puzzle.specs.ArrangementFaults.{ObeysBorderAt, BreaksBorderAt, BreaksEdgeAt, IsFirstWrong};
 
+use crate::arrangements::Arrangement;
 use crate::faults::ArrangementFault;
 use crate::placements::Placement;
 use crate::puzzles::Puzzle;
@@ -41,6 +42,21 @@ impl Puzzle {
         }
         if let Some((cell, side)) = self.broken_edge(placements) {
             return Some(ArrangementFault::EdgeBroken(u32::from(cell), u32::from(side)));
+        }
+        None
+    }
+
+    /// The first of these that is no arrangement of the puzzle, by its number from 0, with its first fault; none where
+    /// each is one.
+    pub fn first_wrong(&self, listed: &[Arrangement]) -> Option<(u32, ArrangementFault)>
+        requires { length listed.now < 2 ^ 32 }
+        ensures { MatchOption result (AreArrangements self.now listed.now)
+            (λ found. IsFirstWrong self.now listed.now found.0 found.1) }
+    {
+        for (number, arrangement) in listed.iter().enumerate() {
+            if let Some(fault) = self.arrangement_fault(arrangement.placements()) {
+                return Some((number as u32, fault));
+            }
         }
         None
     }

@@ -1,9 +1,7 @@
 -- Which arrangements of a list are drawn.
-use Rattle.std.specs.Prelude.{◌≡◌, ◌+◌, ◌<◌, ◌≤◌, ℕ, List, Some, drop, length, max, slice_get, take}
-use Rattle.match_puzzle.specs.Arrangement.{IsArrangement}
-use Rattle.match_puzzle.specs.ArrangementFaults.{IsArrangementFault}
+use Rattle.std.specs.Prelude.{◌≡◌, ◌+◌, ◌≤◌, ℕ, List, Some, drop, length, max, slice_get, take}
+use Rattle.match_puzzle.specs.ArrangementFaults.{IsFirstWrong}
 use Rattle.match_puzzle.specs.Puzzle.{Task}
-use Rattle.match_puzzle.specs.declared.faults.ArrangementFault.{ArrangementFault}
 use Rattle.match_puzzle.specs.declared.placements.Placement.{Placement}
 use Rattle.show_pictures.specs.declared.plans.NotDrawn.{NotDrawn}
 use Rattle.show_pictures.specs.declared.plans.NotDrawn.TheVariants.{NoArrangement, Arrangement, Memory}
@@ -16,12 +14,6 @@ IsListedAt number Is listed = (a : List Placement) × (slice_get listed number �
 -- just the one of this number where `first` is 0.
 abbrev pub to_be_drawn : (number first : ℕ) → List (List Placement) → List (List Placement)
 to_be_drawn number first listed = take (max first 1) (drop number listed)
-
--- The one at `index` of these, counted from 0, is no arrangement of the puzzle, by this fault; each before it is one.
-pub record IsFirstWrong (p : Task) (drawn : List (List Placement)) (index : ℕ) (fault : ArrangementFault) : Type 0 where
-  pub wrong : IsListedAt index (λ a. IsArrangementFault p a fault) drawn
-  pub before : (earlier : ℕ) (a : List Placement) → earlier < index → slice_get drawn earlier ≡ Some a
-      → IsArrangement p a
 
 -- Why nothing is drawn of a list: it is too short; or one of those that are to be drawn is no arrangement of the puzzle,
 -- the first of them by its number in the list; or want of memory.

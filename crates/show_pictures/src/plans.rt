@@ -1,8 +1,8 @@
 //! Which arrangements of a list are drawn.
 
-ghost use Rattle.std.specs.Prelude.{◌≡◌, ◌≢◌, ◌<◌, ◌≤◌, IfOk, IfErr, MatchOption, length};
+ghost use Rattle.std.specs.Prelude.{◌≡◌, ◌≢◌, ◌<◌, ◌≤◌, IfOk, IfErr, length};
 ghost use Rattle.match_puzzle.specs.Arrangement.{AreArrangements};
-ghost use Rattle.show_pictures.specs.Plans.{IsFirstWrong, IsNotDrawn, to_be_drawn};
+ghost use Rattle.show_pictures.specs.Plans.{IsNotDrawn, to_be_drawn};
 ghost use Rattle.show_pictures.specs.declared.plans.NotDrawn.TheVariants.{Memory as memory};
 
 use match_limits::{ArrangementNumber, Drawn};
@@ -59,7 +59,7 @@ pub(crate) fn arrangements_to_draw<'a>(
         return Err(NotDrawn::NoArrangement(number));
     }
     let drawn = drawn_of(listed, plan);
-    if let Some((index, fault)) = first_wrong(puzzle, drawn) {
+    if let Some((index, fault)) = puzzle.first_wrong(drawn) {
         return Err(NotDrawn::Arrangement(number + index, fault));
     }
     Ok(drawn)
@@ -75,18 +75,4 @@ fn drawn_of<'a>(listed: &'a [Arrangement], plan: &PicturePlan) -> &'a [Arrangeme
     let rest = &listed[plan.number.get() as usize..];
     let count = plan.first.get().max(1) as usize;
     &rest[..count.min(rest.len())]
-}
-
-// The first of these that is no arrangement of the puzzle, with its first fault, or none where each is one.
-fn first_wrong(puzzle: &Puzzle, drawn: &[Arrangement]) -> Option<(u32, ArrangementFault)>
-    requires { length drawn.now ≤ 100 }
-    ensures { MatchOption result (AreArrangements puzzle.now drawn.now)
-        (λ found. IsFirstWrong puzzle.now drawn.now found.0 found.1) }
-{
-    for (index, arrangement) in drawn.iter().enumerate() {
-        if let Some(fault) = puzzle.arrangement_fault(arrangement.placements()) {
-            return Some((index as u32, fault));
-        }
-    }
-    None
 }

@@ -1,22 +1,16 @@
-use Rattle.std.proofs.Common.{List, refl, subst, arith}
-use Rattle.std.proofs.lemmas.Option.{slice_get_within, slice_get_read}
-use Rattle.match_puzzle.specs.Arrangement.{IsArrangement}
-use Rattle.match_puzzle.specs.ArrangementFaults.{IsArrangementFault}
+use Rattle.std.proofs.Common.{ℕ, List, MatchOption, Option, None, Some}
+use Rattle.match_puzzle.specs.Arrangement.{AreArrangements}
+use Rattle.match_puzzle.specs.ArrangementFaults.{IsFirstWrong}
+use Rattle.match_puzzle.specs.Puzzle.{Task}
+use Rattle.match_puzzle.specs.declared.faults.ArrangementFault.{ArrangementFault}
 use Rattle.match_puzzle.specs.declared.placements.Placement.{Placement}
-use Rattle.match_limits.proofs.ListLemmas.{each_more}
+use Rattle.cert_check.specs.Walk.{TellsOfArrangements}
 use Rattle.cert_check.proofs.list_faults.list_fault.Goals as goal
 
-pub returns-in-Some : goal.returns-in-Some
-returns-in-Some c =
-    let a = c.index-listed-number.result in
-    let here = slice_get_read c.args.listed.now _ c.loop-number.number a refl c.loop-number-test.true c.index-listed-number.is in
-    let fails = subst (λ (b : List Placement). IsArrangementFault c.args.puzzle.now b c.in-Some.fault) c.placements.ensures c.in-Some.ensures in
-    record { occurs = (a, here, fails); before = c.loop-number.invariant }
-
-pub loop-number-preserved : goal.loop-number-preserved
-loop-number-preserved c =
-    let here = slice_get_read c.args.listed.now _ c.loop-number.number c.index-listed-number.result refl c.loop-number-test.true c.index-listed-number.is in
-    each_more (IsArrangement c.args.puzzle.now) c.args.listed.now c.loop-number.number c.index-listed-number.result c.loop-number.invariant here (subst (IsArrangement c.args.puzzle.now) c.placements.ensures c.in_default.ensures)
+-- what is wrong with the list is the first that is wrong
+told : (p : Task) (listed : List (List Placement)) (said : Option (ℕ × ArrangementFault)) → MatchOption said (AreArrangements p listed) (λ found. IsFirstWrong p listed found.0 found.1) → TellsOfArrangements p listed said
+told p listed None are = are
+told p listed (Some found) wrong = record { occurs = wrong.wrong; before = wrong.before }
 
 pub returns : goal.returns
-returns c = λ number a at. c.loop-number.invariant number a (let lt = slice_get_within c.args.listed.now number a at in omega arith) at
+returns c = told c.args.puzzle.now c.args.listed.now c.first_wrong.result c.first_wrong.ensures
