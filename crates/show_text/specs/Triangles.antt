@@ -38,6 +38,10 @@ level_stroke up = if up then 95 else 32
 abbrev pub sign_on : (stroke sign : ℕ) → ℕ
 sign_on stroke sign = if sign == 32 then stroke else sign
 
+-- a cell's number, and a star where it is marked
+abbrev pub number_part : Face → List ℕ
+number_part face = (32 ∷ padded 2 (Some face.cell)) ++ star face.marked ∷ []
+
 -- What is inside a triangle, from the tip to the base: nothing; blanks; its number, and a star where it is marked; the
 -- tile between the signs at its left and its right side; the sign at its level side. Cell 7 is marked, and tile 12 stands
 -- there and shows 0 1 2; nothing stands at cell 8:
@@ -50,7 +54,7 @@ sign_on stroke sign = if sign == 32 then stroke else sign
 abbrev pub triangle_part : (up : Bool) → Level → Face → List ℕ
 triangle_part up Tip face = []
 triangle_part up Blank face = spaces 2
-triangle_part up Number face = (32 ∷ padded 2 (Some face.cell)) ++ star face.marked ∷ []
+triangle_part up Number face = number_part face
 triangle_part true Tile face =
     (slice_index face.signs 2 ∷ padded 3 face.tile) ++ 32 ∷ slice_index face.signs 0 ∷ []
 triangle_part false Tile face =

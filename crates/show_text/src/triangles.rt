@@ -1,7 +1,7 @@
 //! Draws boards of triangles.
 
 ghost use Rattle.std.specs.Prelude.{◌≡◌, ◌+◌, ◌*◌, ◌++◌, ◌^◌, ◌<◌, ◌≤◌, OnOk, length};
-ghost use Rattle.show_text.specs.Triangles.{turned, above_base, own_level, slant, sign_on, triangle_part};
+ghost use Rattle.show_text.specs.Triangles.{turned, above_base, own_level, slant, sign_on, number_part, triangle_part};
 ghost use Rattle.show_text.specs.Triangles.{crossed, crossed_piece, level_line, row_lines, rows_in, roofs, roof_line};
 ghost use Rattle.show_text.specs.Triangles.{triangle_lines};
 ghost use Rattle.show_text.specs.Pieces.{sheet_text, trimmed_line};
@@ -169,14 +169,14 @@ fn put_part(line: &mut Vec<u8>, up: bool, level: Level, face: &Face) -> Result<(
     match level {
         Level::Tip => Ok(()),
         Level::Blank => put_copies(line, b' ', 2),
-        Level::Number => put_number(line, up, face),
+        Level::Number => put_number(line, face),
         Level::Tile => put_tile(line, up, face),
         Level::Base => put_base(line, up, face),
     }
 }
 
-fn put_number(line: &mut Vec<u8>, up: bool, face: &Face) -> Result<(), AllocError>
-    ensures { OnOk result (line.new.items ≡ line.old.items ++ triangle_part up Level.Number face.now) }
+fn put_number(line: &mut Vec<u8>, face: &Face) -> Result<(), AllocError>
+    ensures { OnOk result (line.new.items ≡ line.old.items ++ number_part face.now) }
 {
     line.push(b' ')?;
     put_padded(line, Some(face.cell), 2)?;
