@@ -4,7 +4,7 @@ ghost use Rattle.std.specs.Prelude.{◌≡◌, ◌<◌, ◌↔◌, ℕ, List, No
 ghost use Rattle.std.specs.Prelude.{slice_get};
 ghost use Rattle.match_board.specs.Board.{IsBorderOrder};
 ghost use Rattle.match_limits.specs.declared.TheConstants.{MOST_COLOURS};
-ghost use Rattle.match_puzzle.specs.Puzzle.{IsPuzzle, mate_of};
+ghost use Rattle.match_puzzle.specs.Puzzle.{IsPuzzle, Task, mate_of};
 ghost use Rattle.show_text.specs.Facts.{tile_count};
 ghost use Rattle.show_reasons.specs.Reasons.{AsksEverywhere, FillsInside, IsAskedCount, IsLeft, IsReasonAt};
 ghost use Rattle.show_reasons.specs.Reasons.{HasNoReasonAt};
@@ -105,7 +105,7 @@ fn inner_reason(puzzle: &Puzzle, outer: u16, colour: u8, left: usize) -> Option<
 {
     let mate = puzzle.mate(colour);
     if mate == colour {
-        return odd_reason(puzzle, colour, left);
+        return odd_reason(colour, left);
     }
     if colour < mate {
         return unequal_reason(puzzle, colour, left, Sides::of(puzzle, outer, mate));
@@ -114,12 +114,10 @@ fn inner_reason(puzzle: &Puzzle, outer: u16, colour: u8, left: usize) -> Option<
 }
 
 // The reason of a colour that meets itself.
-fn odd_reason(puzzle: &Puzzle, colour: u8, left: usize) -> Option<Reason>
-    requires colour { colour < MOST_COLOURS }
-    requires inside { FillsInside puzzle.now }
-    requires left { IsLeft puzzle.now colour left }
-    requires own { mate_of puzzle.now colour ≡ colour }
-    ensures { MatchOption result (HasNoReasonAt puzzle.now (0, colour)) (IsReasonAt puzzle.now (0, colour)) }
+fn odd_reason(colour: u8, left: usize) -> Option<Reason>
+    requires { colour < MOST_COLOURS }
+    ensures { (p : Task) → FillsInside p → IsLeft p colour left → mate_of p colour ≡ colour
+        → MatchOption result (HasNoReasonAt p (0, colour)) (IsReasonAt p (0, colour)) }
 {
     if left % 2 == 1 {
         return Some(Reason::Odd { colour, left });
