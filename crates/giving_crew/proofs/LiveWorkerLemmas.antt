@@ -387,7 +387,7 @@ module _ {J X : Type 0} (queue : SharedQueue J) (source : Source) (gives : Sourc
       → all ≡ workers.items ++ record { pass = pass; hand = own.hand; done = own.done } ∷ []
       → AllWorked queue gives all ended → length ended ≡ length all → ended ≡ rest ++ last ∷ [] → last ≡ Ok new
       → m ≡ length rest
-      → All (λ t. IfOk t (IsAtEnd queue source gives)) rest × IsFirst queue source gives (part_count - m) new
+      → All (λ t. IfOk t (IsAtEnd queue source gives)) rest × IsFirst queue source gives (part_count - m) new × (m ≡ n)
   all_back n m own new pass workers all ended rest last first forked few is worked same ends ok len =
       let own' : LiveWorker J X = record { pass = pass; hand = own.hand; done = own.done } in
       let a : length all ≡ length workers.items + 1 = ap length is ∙ length-append workers.items (own' ∷ []) in
@@ -400,6 +400,7 @@ module _ {J X : Type 0} (queue : SharedQueue J) (source : Source) (gives : Sourc
             (first_worked (part_count - n) own' new
             (first_forked part_count n own pass first forked.pass few forked.view_is)
             (subst (λ t. IfOk t (Worked queue gives [] own')) ok back.1)),
+        omega arith,
       )
 
   -- what all drew is 0 and what was done, once the queue was found empty

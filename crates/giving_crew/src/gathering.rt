@@ -11,8 +11,8 @@ use crate::working::work_on;
 use crate::works::LiveWork;
 use std::alloc::{AllocError, Global};
 use std::sync::Wait;
+use steal_crew::TicketSeat;
 use steal_crew::jobs::{JobQueue, Parts};
-use steal_crew::{TicketSeat, Tickets};
 
 // The seats and the results of all workers but the caller.
 pub(crate) struct Brought<X: Drop> {
@@ -60,15 +60,14 @@ pub(crate) fn finish<W: LiveWork, R: Wait>(
     alloc: Global,
     work: &W,
     shared: &SharedJobs<W::Job>,
-    source: &Tickets,
     ended: Vec<Result<LiveWorker<'_, W::Job, W::R>, AllocError>>,
     mut worker: LiveWorker<'_, W::Job, W::R>,
 ) -> Result<LiveRun<W::R>, AllocError>
     requires ended { All
-        (λ t. IfOk t (IsAtEnd shared.now.queue (source_of source.now) (W.gives work.now))) ended.items }
-    requires worker { IsFirst shared.now.queue (source_of source.now) (W.gives work.now)
+        (λ t. IfOk t (IsAtEnd shared.now.queue (source_of worker.hand.source.now) (W.gives work.now))) ended.items }
+    requires worker { IsFirst shared.now.queue (source_of worker.hand.source.now) (W.gives work.now)
         (part_count - vec_len ended) worker }
-    ensures { IfOk result (AreRun (source_of source.now) (W.gives work.now) (vec_len ended.entry)) }
+    ensures { IfOk result (AreRun (source_of worker.entry.hand.source.now) (W.gives work.now) (vec_len ended.entry)) }
 {
     let Brought { mut seats, others } = collect::<W>(
         alloc,

@@ -42,7 +42,7 @@ fn do_given<'a, W: LiveWork + Sync, R: Threads + Wait + Sync>(
     let Some(last) = ended.pop() else {
         unreachable!()
     };
-    finish(rt, alloc, work, shared, source, ended, last?)
+    finish(rt, alloc, work, shared, ended, last?)
 }
 
 // Does the first job, and then those that are given away, by one worker for each seat.
