@@ -1,14 +1,14 @@
 -- The table of counts where nothing is placed.
 use Rattle.std.proofs.Common.{◌≡◌, ◌<◌, ◌+◌, ◌*◌, ◌/◌, ◌%◌, ◌++◌, ◌∷◌, [], ℕ, List, Contains, Option, None, length, map, get_or, arith, refl, sym, ◌∙◌, subst, ⊎_elim}
 use Rattle.std.proofs.lemmas.Bool.Decides.{eqb_tells}
-use Rattle.std.proofs.lemmas.List.{get_or_append_left, get_or_push, length-replicate}
+use Rattle.std.proofs.lemmas.List.{get_or_append_left, get_or_push, length-map, length-replicate}
 use Rattle.std.proofs.lemmas.Option.{slice_get_within}
 use Rattle.match_board.specs.Board.{cell_count}
 use Rattle.match_puzzle.specs.Puzzle.{Task, IsPuzzle}
 use Rattle.match_limits.specs.Listing.{IsListing}
 use Rattle.match_puzzle.specs.Prefix.{Prefix, Has, IsFree, IsUnused, empty_prefix}
 use Rattle.match_puzzle.specs.PlacementSets.{numbered}
-use Rattle.fit_counts.specs.FitRows.{StandsInRow, IsRow, AreRows}
+use Rattle.fit_counts.specs.FitRows.{StandsInRow, IsRow, AreRows, HasRowsOf, IsCountIn}
 use Rattle.match_puzzle.specs.Fitting.{Fits, AreFitting, IsItem, IsUnsettled, IsNumberOf, numbered_pair, turned_tile}
 use Rattle.fit_counts.specs.FitSizes.{AreSizes}
 use Rattle.match_puzzle.specs.Fitting.{item_place}
@@ -50,6 +50,11 @@ module _ (p : Task) (q : Prefix) where
 
   pub no_entries : AreEntriesBelow p q [] 0
   no_entries place lt item is = absurd (omega (arith, lt))
+
+-- a number below that of cells and tiles is that of an item of the puzzle
+pub item_within : (p : Task) (place : ℕ) (item : Item) → IsNumberOf (cell_count p.board) place item → place < cell_count p.board + length p.words → IsItem p item
+item_within p place (Cell cell) is lt = is.1
+item_within p place (Tile tile) is lt = omega (arith, is, lt)
 
 -- where nothing is placed, each item is open
 all_open : (p : Task) (item : Item) → IsItem p item → IsUnsettled p (empty_prefix p) item
@@ -104,3 +109,16 @@ module _ (p : Task) (q : Prefix) (puzzle : IsPuzzle p) (empty : q ≡ empty_pref
       let lt = within_board p (n / 4) (subst (λ r. IsFree r (n / 4)) empty fits.free) in
       (omega (arith, lt, long), fits_in_row p q (n / 4) (get_or rows (n / 4) []) (are.is (n / 4) lt) (turned_tile tile (n % 4)) fits puzzle))
       is)
+
+  -- what the rows have of an item is all that fits
+  pub counted_in : (item : Item) (count : ℕ) → IsItem p item → IsCountIn rows item count → (xs : List Pair) × AreFitting p q item xs × (length xs ≡ count)
+  counted_in (Cell cell) count lt long =
+      let row = get_or rows cell [] in
+      (map (numbered_pair (Cell cell)) row, fitting_in_row cell row lt refl, length-map row (numbered_pair (Cell cell)) ∙ long)
+  counted_in (Tile tile) count lt found =
+      (map (numbered_pair (Tile tile)) found.0, fitting_in_rows tile found.0 found.1, length-map found.0 (numbered_pair (Tile tile)) ∙ found.2)
+
+  -- an item of the puzzle can be counted
+  pub has_rows_of : (item : Item) → IsItem p item → HasRowsOf rows item
+  has_rows_of (Cell cell) lt = let long = are.long in omega (arith, lt, long)
+  has_rows_of (Tile tile) lt = let few = puzzle.tiles.few in omega (arith, lt, few)

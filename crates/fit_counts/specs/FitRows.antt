@@ -1,12 +1,14 @@
 -- What shows at each cell what is asked there, by number: four turns to a tile.
-use Rattle.std.specs.Prelude.{◌≡◌, ◌<◌, ◌≤◌, ℕ, List, [], Contains, length, slice_index_or}
-use Rattle.match_limits.specs.declared.TheConstants.{MOST_CELLS}
+use Rattle.std.specs.Prelude.{◌≡◌, ◌<◌, ◌≤◌, ◌+◌, ◌*◌, ◌/◌, ◌%◌, ℕ, List, [], Contains, length, slice_index_or}
+use Rattle.match_limits.specs.declared.TheConstants.{MOST_CELLS, MOST_TILES}
 use Rattle.match_board.specs.Board.{cell_count, Meets}
 use Rattle.match_limits.specs.Listing.{IsListing}
 use Rattle.match_puzzle.specs.Puzzle.{Task, IsLegal, colour_of, mate_of}
 use Rattle.match_puzzle.specs.Prefix.{Prefix, IsFree, with_pair}
 use Rattle.match_puzzle.specs.Fitting.{IsAsked}
 use Rattle.match_puzzle.specs.PlacementSets.{numbered}
+use Rattle.match_puzzle.specs.declared.items.Item.{Item}
+use Rattle.match_puzzle.specs.declared.items.Item.TheVariants.{Cell, Tile}
 use Rattle.match_puzzle.specs.declared.placements.Pair.{Pair}
 
 -- The cell is empty, and the placement is legal and shows there what is asked, whether its tile is used or not.
@@ -18,6 +20,18 @@ pub record StandsInRow (p : Task) (q : Prefix) (cell number : ℕ) : Type 0 wher
 -- all numbers of placements that stand in the cell's row, rising
 abbrev pub IsRow : Task → Prefix → (cell : ℕ) → List ℕ → Type 0
 IsRow p q cell numbers = IsListing ◌<◌ (StandsInRow p q cell) numbers
+
+-- The item can be counted in the rows: a cell that has one, or a tile that there may be.
+abbrev pub HasRowsOf : List (List ℕ) → Item → Type 0
+HasRowsOf rows (Cell cell) = cell < length rows
+HasRowsOf rows (Tile tile) = tile < MOST_TILES
+
+-- The rows have this many placements at the cell, or of the tile.
+abbrev pub IsCountIn : List (List ℕ) → Item → (count : ℕ) → Type 0
+IsCountIn rows (Cell cell) count = length (slice_index_or rows cell []) ≡ count
+IsCountIn rows (Tile tile) count =
+    (places : List ℕ) × IsListing ◌<◌ (λ n. (n / 4 < length rows)
+    × Contains (slice_index_or rows (n / 4) []) (4 * tile + n % 4)) places × (length places ≡ count)
 
 -- a row for each cell
 pub record AreRows (p : Task) (q : Prefix) (rows : List (List ℕ)) : Type 0 where

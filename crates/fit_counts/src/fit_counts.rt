@@ -9,7 +9,7 @@ ghost use Rattle.match_puzzle.specs.Fitting.{Fits, FitsItem, AreFitting, HasToBe
 ghost use Rattle.match_puzzle.specs.Fitting.{IsUnsettled};
 ghost use Rattle.match_puzzle.specs.Fitting.{HasFewestFitting, IsNextFitting, IsLastFitting};
 ghost use Rattle.fit_counts.specs.Placing.{FitInTurn, placed_by, with_next, without_last};
-ghost use Rattle.fit_counts.specs.FitRows.{AreRows};
+ghost use Rattle.fit_counts.specs.FitRows.{AreRows, HasRowsOf, IsCountIn};
 ghost use Rattle.fit_counts.specs.FitSizes.{AreSizes, AreToSettle};
 ghost use Rattle.match_puzzle.specs.Fitting.{item_place};
 ghost use Rattle.match_puzzle.specs.declared.items.Item.{Item as PuzzleItem};
@@ -267,19 +267,16 @@ fn new_sizes(alloc: Global, partial: &Partial<'_>, rows: &FitRows) -> Result<Vec
     let items = u32::from(cells) + u32::from(puzzle.tile_count());
     let mut sizes = Vec::with_capacity(alloc, items as usize)?;
     for place in 0..items {
-        let count = count_in(partial, rows, Item::numbered(cells, place));
+        let count = count_in(rows, Item::numbered(cells, place));
         sizes.push(STEP * u32::from(count) + place)?;
     }
     Ok(sizes)
 }
 
-// How many pairs fit and settle the item where nothing is placed: as many as the rows have.
-fn count_in(partial: &Partial<'_>, rows: &FitRows, item: Item) -> u16
-    requires item { IsItem partial.now.puzzle item }
-    requires empty { partial.now.placed ≡ empty_prefix partial.now.puzzle }
-    requires rows { AreRows partial.now.puzzle partial.now.placed rows.now }
-    requires puzzle { IsPuzzle partial.now.puzzle }
-    ensures { (xs : List Placed) × AreFitting partial.now.puzzle partial.now.placed item xs × (length xs ≡ result) }
+// How many pairs of the item the rows have.
+fn count_in(rows: &FitRows, item: Item) -> u16
+    requires { HasRowsOf rows.now item }
+    ensures { IsCountIn rows.now item result }
 {
     match item {
         Item::Cell(cell) => rows.at(cell).len(),
