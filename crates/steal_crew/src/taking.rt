@@ -12,7 +12,7 @@ use crossbeam_deque::{Pass, Steal};
 use std::alloc::{AllocError, Global};
 use std::thread;
 
-// The number at the front of a queue.
+// The number at the front of a queue. `count` is for the clauses: without it each would speak of any bound of the place.
 fn steal_from(handle: &Handle, place: &mut Pass<u32, View>, count: u32) -> Option<u32>
     requires { IsPlace count handle.now place.old }
     ensures same { IsPlace count handle.now place.new }
