@@ -5,6 +5,7 @@ ghost use Rattle.puzzle_symmetry.specs.Motion.{AreOfPuzzle};
 ghost use Rattle.show_text.specs.Facts.{number_line};
 ghost use Rattle.xcc_form.specs.Chosen.{IsSelection};
 ghost use Rattle.count_search.specs.Branches.{AllChoose, HaveTogether, IsSplit};
+ghost use Rattle.count_search.specs.declared.splits.TheConstants.{MOST_BRANCHES};
 ghost use Rattle.byte_streams.specs.Moves.{reading_of, writing_of};
 ghost use Rattle.byte_streams.specs.Origins.{one_source};
 ghost use Rattle.byte_streams.specs.Targets.{one_sink};
@@ -167,7 +168,7 @@ fn counted_together<R: Threads + Sync, T: CensusWatch + Sync>(
     plan: &CensusPlan<'_, T>,
 ) -> Result<u64, RunFault>
     requires selections { AllChoose (IsSelection xcc.now) branches.items }
-    requires few { vec_len branches ≤ 1000000 }
+    requires few { vec_len branches ≤ MOST_BRANCHES }
     ensures counted { IfOk result (HaveTogether xcc.now branches.items) }
     ensures fails { IfErr result (AreNotCounted extents.All xcc.now branches.items) }
 {
@@ -262,7 +263,7 @@ fn counts_of<R: Threads + Sync, T: CensusWatch + Sync>(
     plan: &CensusPlan<'_, T>,
 ) -> Result<Vec<u64>, RunFault>
     requires selections { AllChoose (IsSelection xcc.now) branches.now }
-    requires few { length branches.now ≤ 1000000 }
+    requires few { length branches.now ≤ MOST_BRANCHES }
     ensures counted { IfOk result (λ v. AreCounts xcc.now branches.now parts.now v.items) }
     ensures fails { IfErr result (AreNotCounted (extents.Parts parts.now) xcc.now branches.now) }
 {
@@ -285,7 +286,7 @@ fn parts_text(
     parts: &Parts,
     counts: &[u64],
 ) -> Result<Vec<u8>, AllocError>
-    requires branches { length branches.now ≤ 1000000 }
+    requires branches { length branches.now ≤ MOST_BRANCHES }
     requires counts { length counts.now ≤ 1000000 }
     ensures { IfOk result (λ text. text.items
         ≡ text_of (count_lines spelled.now branches.now parts.now counts.now)) }
@@ -333,7 +334,7 @@ fn digest_of(text: &[u8]) -> [u8; 32]
 fn branches_of(alloc: Global, xcc: &Xcc<'_>, least: u32) -> Result<Vec<Branch>, AllocError>
     ensures split { IfOk result (λ v. IsSplit xcc.now v.items) }
     ensures selections { IfOk result (λ v. AllChoose (IsSelection xcc.now) v.items) }
-    ensures few { IfOk result (λ v. vec_len v ≤ 1000000) }
+    ensures few { IfOk result (λ v. vec_len v ≤ MOST_BRANCHES) }
 {
     let symmetries = symmetries_of(alloc, xcc.puzzle())?;
     split(alloc, xcc, &symmetries, least)
@@ -366,7 +367,7 @@ fn count_line(alloc: Global, word: &[u8], number: u64) -> Result<Vec<u8>, AllocE
 
 // How large a split is, and its hash.
 fn split_line(branches: &[Branch]) -> SplitLine
-    requires { length branches.now ≤ 1000000 }
+    requires { length branches.now ≤ MOST_BRANCHES }
     ensures { result ≡ split_of branches.now }
 {
     SplitLine {

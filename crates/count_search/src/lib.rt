@@ -26,6 +26,6 @@ pub use laws::{
     selections_have_a_number, symmetric_options_have_as_many,
 };
 pub use parts::part_of;
-pub use splits::split;
+pub use splits::{MOST_BRANCHES, split};
 pub use totals::count_arrangements;
 pub use watches::CensusWatch;
