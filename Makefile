@@ -87,9 +87,9 @@ package: ## makes an archive in FOLDER (.) for readers who only check, and print
 	trap 'rm -rf "$$made"' EXIT
 	root=$$made/$$name
 	$(put)
-	mkdir "$$root/docs"
+	mkdir "$$root/docs" "$$root/web"
 	# The page for readers stands above the others, and so do its links.
-	sed -E 's/\]\(([A-Z_]+\.md)/](docs\/\1/g' docs/CHECKING.md >"$$root/README.md"
+	sed -E -e 's/\]\(([A-Z_]+\.md)/](docs\/\1/g' -e 's/\]\(\.\.\//](/g' docs/CHECKING.md >"$$root/README.md"
 	sources="its sources"
 	if commit=$$(git rev-parse HEAD 2>/dev/null) && [ -z "$$(git status --porcelain 2>/dev/null)" ]; then
 	  sources="the sources at commit $$commit"
@@ -99,16 +99,18 @@ package: ## makes an archive in FOLDER (.) for readers who only check, and print
 	  echo 'The folder `examples/gallery` has a list and a certificate beside most puzzles of the gallery, as'
 	  echo '`nine_cards.list` and `nine_cards.certificate`. Those of the larger ones are made in seconds, by'
 	  echo '`bin/edgematch solve` with the options that [GALLERY](docs/GALLERY.md) has.'
-	  printf '\nThe archive was made beside %s. They have further pages: those that the pages here\n' "$$sources"
-	  echo 'name without a link. To be sure that the program came of them, build it anew there, as their README says, with'
-	  echo 'the kit that `bin/edgematch --version` names. The SHA-256 of this one is'
+	  printf '\nThe archive was made beside %s. They have further pages and scripts: those that\n' "$$sources"
+	  echo 'the pages here name without a link. To be sure that the program came of them, build it anew there, as their'
+	  echo 'README says, with the kit that `bin/edgematch --version` names. The SHA-256 of this one is'
 	  printf '`%s`.\n' "$$(sha256sum <$(PROGRAM) | cut -d ' ' -f 1)"
 	} >>"$$root/README.md"
 	# The other pages for readers. What they lead to beside stands with the sources, and is a name alone here.
-	for page in FORMATS BY_HAND SOLVING LARGE GALLERY THEOREM PROVED MEASURED; do
-	  sed -E 's/\[([^]]+)\]\((ARCHITECTURE\.md[^)]*|\.\.\/(CONTRIBUTING\.md|crates\/[^)]*))\)/\1/g' "docs/$$page.md" \
-	    >"$$root/docs/$$page.md"
+	for page in docs/{FORMATS,BY_HAND,SOLVING,LARGE,GALLERY,THEOREM,PROVED,MEASURED} web/README; do
+	  sed -E 's/\[([^]]+)\]\((ARCHITECTURE\.md[^)]*|\.\.\/(CONTRIBUTING\.md|(crates|cases)\/[^)]*))\)/\1/g' "$$page.md" \
+	    >"$$root/$$page.md"
 	done
+	# The second checker, for readers whose system doesn't run the program.
+	cp web/{check.html,check.js,cli.js} "$$root/web"
 	cp -R docs/pictures "$$root/docs"
 	cp CHANGELOG.md "$$root"
 	cp -R examples "$$root"

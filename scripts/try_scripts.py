@@ -8,6 +8,7 @@ and ends with 0 where all is as wanted, else with 1.
 """
 import argparse
 import concurrent.futures
+import filecmp
 import os
 import re
 import shutil
@@ -18,6 +19,7 @@ import tempfile
 HERE = os.path.dirname(os.path.abspath(__file__))
 TOP = os.path.dirname(HERE)
 PROGRAM = "crates/edgematch/out/edgematch"
+WEB_FILES = ["check.html", "check.js", "cli.js"]
 TARGETS = ["build", "run", "test", "docs", "install", "uninstall", "package", "help"]
 LINK = re.compile(r"\]\(([^)\s#]+)[^)\s]*\)|(?:src|href)=\"([^\"#]+)")
 # A stand-in for the program: its version, and empty texts of a solve.
@@ -75,7 +77,7 @@ def helps(name):
 def copy_of_the_top(folder):
     """A copy of what is installed and packed, with a stand-in for the program."""
     top = os.path.join(folder, "the top")
-    for name in ("scripts", "docs", "completions", "examples"):
+    for name in ("scripts", "docs", "completions", "examples", "web"):
         shutil.copytree(os.path.join(TOP, name), os.path.join(top, name))
     for name in ("CHANGELOG.md", "Makefile"):
         shutil.copy(os.path.join(TOP, name), top)
@@ -171,6 +173,29 @@ def packs(top, folder):
     for page in files_in(unpacked):
         if page.endswith(".md"):
             yield from (f"{os.path.basename(page)} leads to {link}, which isn't there" for link in dead_links(page))
+    (root,) = os.listdir(unpacked)
+    yield from second_checker_in(os.path.join(unpacked, root))
+
+
+def second_checker_in(root):
+    """What isn't as wanted of an archive for who can't run the program: the README begins with the page, which is there as
+    the sources have it, beside the checker for node; and that checks an example of the archive, where there is node."""
+    with open(os.path.join(root, "README.md"), encoding="utf-8") as file:
+        text = file.read()
+    if not 0 < text.find("`web/check.html`") < text.find("bin/edgematch"):
+        yield "the README of the archive doesn't begin with web/check.html"
+    web = os.path.join(root, "web")
+    if (names := [os.path.relpath(it, web) for it in files_in(web)]) != ["README.md", *WEB_FILES]:
+        yield f"web has {names}"
+        return
+    for name in WEB_FILES:
+        if not filecmp.cmp(os.path.join(web, name), os.path.join(TOP, "web", name), shallow=False):
+            yield f"web/{name} isn't that of the sources"
+    example = [os.path.join(root, "examples/square_of_four", it) for it in ("puzzle", "list", "certificate")]
+    if node := shutil.which("node"):
+        run = subprocess.run([node, os.path.join(web, "cli.js"), *example], capture_output=True, text=True, check=False)
+        if (run.returncode, run.stdout, run.stderr) != (0, "complete 1\n", ""):
+            yield f"web/cli.js: status {run.returncode}, {run.stdout!r} {run.stderr!r}"
 
 
 def dead_links(page):
