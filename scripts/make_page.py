@@ -43,11 +43,11 @@ def policy(scripts, styles):
     return "; ".join(["default-src 'none'", *own, *RULES])
 
 
-def page():
-    """The page that its parts make."""
-    parts = {name: text_of(name) for name in (STYLE, *SCRIPTS)}
+def page(read=text_of):
+    """The page that its parts make, which are read by their names."""
+    parts = {name: read(name) for name in (STYLE, *SCRIPTS)}
     parts["policy"] = policy([parts[it] for it in SCRIPTS], [parts[STYLE]])
-    return re.sub(r"\{([\w.]+)\}", lambda found: parts[found[1]], text_of(FRAME))
+    return re.sub(r"\{([\w.]+)\}", lambda found: parts[found[1]], read(FRAME))
 
 
 class Reader(html.parser.HTMLParser):

@@ -5,7 +5,7 @@ It has to answer as each case of `cases/` and each example wants it, with the th
 texts cut at every byte. On texts that are generated, most of them faulty, it has to answer as the program does: N of
 them, 300 unless given, each the texts of an example or a case with some words or bytes changed. The command line,
 web/cli.js, has to give the same lines on the same streams with the same status, for files that aren't there too. The
-page's pictures, web/draw.js, have to be those of docs/pictures, byte for byte. With --mutants wrong checkers are made,
+page's pictures, web/draw.js, have to be those of docs/pictures and of cases, byte for byte. With --mutants wrong checkers are made,
 each by one change of check.js that scripts/wrong_checkers.toml has, and one of the cases has to notice each.
 
 Where there is no node on the path it says so, and tries nothing. It ends with 0 where all is as wanted, else with 1. It
@@ -25,13 +25,12 @@ from dataclasses import dataclass
 
 import check_cases
 from check_cases import DOCUMENTS, EXAMPLES, GALLERY, TOP, Outcome, outcome_of, program_at
+from pictures import NUMBERED
 from plain_search import ItemSearch, Search, read_puzzle
 
 WEB = os.path.join(TOP, "web")
 CHECKER, COMMAND = os.path.join(WEB, "check.js"), os.path.join(WEB, "cli.js")
 WRONG, PICTURES = os.path.join(TOP, "scripts/wrong_checkers.toml"), os.path.join(TOP, "docs/pictures")
-# Pictures of the first arrangement that have more than the page's: numbers of tiles, or tiles that are left over.
-WITH_MORE = ("nine_cards", "macmahon_16_of_24")
 # The most bytes of a case's texts that are changed, and of one's that wrong checkers are tried on.
 MOST_CHANGED, MOST_TRIED = 4_000, 100_000
 # The characters that texts have, and some that they haven't.
@@ -67,14 +66,15 @@ else {
 }
 """
 
-# It draws arrangements: each line of its input is a JSON list of a puzzle's file and the line of a list.
+# It draws arrangements: each line of its input is a JSON list of a puzzle, the line of a list, its number there, and
+# whether tiles have numbers.
 DRAWER = r"""
 const fs = require("fs"), path = require("path"), folder = process.argv[1];
 const { edgematchPuzzle } = require(path.join(folder, "check.js"));
 const { edgematchPicture } = require(path.join(folder, "draw.js"));
-for (const [file, row] of fs.readFileSync(0, "utf8").split("\n").slice(0, -1).map((it) => JSON.parse(it))) {
-  const puzzle = edgematchPuzzle(new Uint8Array(fs.readFileSync(file)));
-  process.stdout.write(`${JSON.stringify(edgematchPicture(puzzle, row, 0, true))}\n`);
+for (const it of fs.readFileSync(0, "utf8").split("\n").slice(0, -1)) {
+  const [text, row, number, numbers] = JSON.parse(it), puzzle = edgematchPuzzle(new Uint8Array(Buffer.from(text)));
+  process.stdout.write(`${JSON.stringify(edgematchPicture(puzzle, row, number, true, numbers))}\n`);
 }
 """
 
@@ -288,21 +288,38 @@ def of_command(node_path, folder, trials):
     return found
 
 
-def of_pictures(node_path):
-    """The pictures of docs/pictures that the page draws otherwise, of those that are of an arrangement."""
-    drawn = {}
+def gallery_pictures():
+    """The pictures of docs/pictures that are of an arrangement: the name of each, with it and what it is drawn of."""
     for name in sorted(os.listdir(os.path.join(EXAMPLES, GALLERY))):
-        picture = contents(os.path.join(PICTURES, f"{name}.svg")).decode("utf-8")
+        picture = contents(os.path.join(PICTURES, f"{name}.svg")).decode("ascii")
         said = re.search(r"By cell the tile, its turns and its colours: (.*)</desc>", picture)
-        if said and name not in WITH_MORE:
+        if said:
             row = " ".join(it.split(" ")[0] for it in said[1].split(", "))
-            drawn[name] = picture, [os.path.join(EXAMPLES, GALLERY, name), row]
-    lines = "".join(json.dumps(asked) + "\n" for _, asked in drawn.values())
+            puzzle = contents(os.path.join(EXAMPLES, GALLERY, name)).decode("ascii")
+            yield f"the picture of {name}", picture, [puzzle, row, 0, name in NUMBERED]
+
+
+def case_pictures():
+    """The pictures of arrangements that cases want as a whole."""
+    for _, case in check_cases.every_case():
+        words, wanted = case.keys.get("words", ()), case.keys.get("stdout", "")
+        if [*words[:3]] == ["draw", "PUZZLE", "LIST"] and "--first" not in words and wanted:
+            number = int(next(filter(str.isdigit, words[3:]), "0"))
+            row = case.documents["list"].decode("ascii").splitlines()[2 + number]
+            picture = check_cases.text_of(wanted).decode("ascii").removeprefix("\n")
+            yield f"the picture of {case.name}", picture, [case.documents["puzzle"].decode("ascii"), row, number,
+                                                           "--numbers" in words]
+
+
+def of_pictures(node_path):
+    """The pictures of docs/pictures and of cases that the page draws otherwise."""
+    drawn = [*gallery_pictures(), *case_pictures()]
+    lines = "".join(json.dumps(asked) + "\n" for _, _, asked in drawn)
     words = [node_path, "-e", DRAWER, WEB]
     done = subprocess.run(words, input=lines.encode(), stdout=subprocess.PIPE, check=True)
     got = [json.loads(it) for it in done.stdout.decode().split("\n")[:-1]]
-    return {f"the picture of {name}": [] if one == picture else ["it is another than that of docs/pictures"]
-            for (name, (picture, _)), one in zip(drawn.items(), got, strict=True)}
+    return {name: [] if one == picture else ["it is another than the one that is stored"]
+            for (name, picture, _), one in zip(drawn, got, strict=True)}
 
 
 def is_small(trial):

@@ -1,8 +1,10 @@
-/* Pictures (SVG) of arrangements, for the page: as `edgematch draw` makes them, without the tiles that are left over.
+/* Pictures (SVG) of arrangements, for the page: as `edgematch draw` makes them.
 
-     edgematchPicture(puzzle, line, number, large)
+     edgematchPicture(puzzle, line, number, large, numbers)
 
-   takes a puzzle that edgematchPuzzle of check.js read, and the line of an arrangement of a list that was checked. */
+   takes a puzzle that edgematchPuzzle of check.js read, and the line of an arrangement of a list that was checked. A
+   large picture has the signs of colours, numbers of tiles where they are wanted, and below the board the tiles that are
+   left over. */
 
 "use strict";
 
@@ -12,6 +14,8 @@
   const FILLS = ("ddd 34a e60 912 4cf 188 fd2 e99 96e 964 8c6 222 535 99b 555 995 cea 66a "
     + "240 b37 fdf 797 79d 606 824 bb1 9f7 fbb c22 e6a 3b7 15d 737 bbd 977 660").split(" ");
   const WHITE_SIGNS = "139bcehijnosvwz";
+  // Below a board: how far tiles are apart, and how wide a row may be where the board is narrower.
+  const GAP = 28, TRAY = 836;
 
   // Of each side of a cell: where it begins, the way to its end, the way from there to the middle, the straight part
   // and the neck where it has a knob or a hollow, where its sign stands, and where at a hollow, and the way out.
@@ -41,6 +45,8 @@
   const from = ([x, y]) => `M${x} ${y}`;
   const step = ([x, y]) => (y === 0 ? `h${x}` : x === 0 ? `v${y}` : `l${x}${spaced(y)}`);
   const spaced = (number) => (number < 0 ? `${number}` : ` ${number}`);
+  const JOINED = 'stroke="#fff" stroke-linejoin="round"', LINES = 'stroke="#222"', BOLD = 'font-weight="bold"';
+  const font = (size) => `font-family="monospace" font-size="${size}" text-anchor="middle"`;
   const group = (open, parts) => {
     const lines = parts.filter((it) => it !== "");
     return lines.length > 0 ? `<g ${open}>\n${lines.map((it) => `${it}\n`).join("")}</g>\n` : "";
@@ -95,63 +101,114 @@
     return [corner(2, 0), corner(1, 1)];
   }
 
-  function edgematchPicture(puzzle, line, number, large) {
-    const { drawn, mate, meets, asked, shows, sides, turns } = puzzle;
-    const layout = layoutOf(drawn), { cells, knob } = layout;
-    const placements = line.split(" ").map((it) => it.split(".").map(Number)), [width, height] = layout.size;
-    const fill = (colour) => `#${FILLS[Math.min(colour, mate[colour])]}`;
-    const part = (colour, d) => `<path fill="${fill(colour)}" d="${d}z"/>`;
-    const sign = ([x, y], colour) => {
-      const white = WHITE_SIGNS.includes(Math.min(colour, mate[colour]).toString(36)) ? ' fill="#fff"' : "";
-      return `<text x="${x}" y="${y + 5}"${white}>${colour.toString(36)}</text>`;
+  // Where tiles lie below a board: in as few rows as it takes, with as few in each.
+  function trayOf(count, sides, [boardWidth, top]) {
+    const [width, height, middle, table] = sides === 4 ? [80, 80, 0, SQUARE] : [104, 90, 52, UP];
+    const most = Math.floor((Math.max(boardWidth - 80, TRAY) + GAP) / (width + GAP));
+    const rows = Math.ceil(count / most), columns = Math.ceil(count / rows);
+    const places = Array.from({ length: count }, (_, i) => {
+      const x = 40 + middle + (i % columns) * (width + GAP), y = top + Math.floor(i / columns) * (height + GAP);
+      return { point: [x, y], table };
+    });
+    return { places, size: [columns * (width + GAP) - GAP + 80, top + rows * (height + GAP) - GAP + 40] };
+  }
+
+  // What shows a colour: a part, a sign, the edge of a side.
+  function inksOf({ mate }, knob) {
+    const lesser = (colour) => Math.min(colour, mate[colour]);
+    return {
+      part: (colour, d) => `<path fill="#${FILLS[lesser(colour)]}" d="${d}z"/>`,
+      sign: ([x, y], colour) => {
+        const white = WHITE_SIGNS.includes(lesser(colour).toString(36)) ? ' fill="#fff"' : "";
+        return `<text x="${x}" y="${y + 5}"${white}>${colour.toString(36)}</text>`;
+      },
+      // A side is straight where its colour is its own mate. Else the lesser has a knob, and the greater a hollow.
+      edge: (colour, side) => {
+        if (mate[colour] === colour) return step(side[1]);
+        const [x, y] = side[4], turn = colour < mate[colour] ? 1 : 0;
+        return `${step(side[3])}a${knob} ${knob} 0 1 ${turn}${spaced(x)}${spaced(y)}${step(side[3])}`;
+      },
     };
-    // A side is straight where its colour is its own mate. Else the lesser has a knob, and the greater a hollow.
-    const edge = (colour, side) => {
-      if (mate[colour] === colour) return step(side[1]);
-      const [x, y] = side[4], turn = colour < mate[colour] ? 1 : 0;
-      return `${step(side[3])}a${knob} ${knob} 0 1 ${turn}${spaced(x)}${spaced(y)}${step(side[3])}`;
-    };
-    const bands = [], bandSigns = [], parts = [], outlines = [], signs = [], arrows = [], words = [];
-    cells.forEach(({ point, table }, cell) => {
-      const [tile, turn] = placements[cell];
-      let band = "", bandSign = "", own = "", outline = from(plus(point, table[0][0])), letters = "", word = "";
+  }
+
+  // The bands along outer sides of which a colour is asked.
+  function bandsOf(puzzle, layout, { part, sign, edge }, signs) {
+    const { mate, meets, asked, sides } = puzzle, bands = [], letters = [];
+    layout.cells.forEach(({ point, table }, cell) => {
+      let band = "", letter = "";
       for (let k = 0; k < sides; k++) {
         const side = table[k], wanted = asked[cell * 4 + k], begin = from(plus(point, side[0]));
-        if (wanted !== ANY && meets[cell * 4 + k] < 0) {
-          const [first, last] = cornersOf(puzzle, layout, cell, k), by = mate[wanted] === wanted ? 2 : 4;
-          band += part(wanted, `${begin}${edge(wanted, side)}${step(last)}${step(minus(minus(first, last), side[1]))}`);
-          const at = [0, 1].map((i) => point[i] + side[0][i] + Math.trunc(side[1][i] / by) + side[7][i] / 2);
-          bandSign += sign(at, wanted);
-        }
-        const colour = shows[tile * 16 + turn * 4 + k], curve = edge(colour, side);
-        own += part(colour, `${begin}${curve}${step(side[2])}`);
-        outline += curve;
-        letters += sign(plus(point, side[mate[colour] < colour ? 6 : 5]), colour);
-        word += colour.toString(36);
+        if (wanted === ANY || meets[cell * 4 + k] >= 0) continue;
+        const [first, last] = cornersOf(puzzle, layout, cell, k), by = mate[wanted] === wanted ? 2 : 4;
+        band += part(wanted, `${begin}${edge(wanted, side)}${step(last)}${step(minus(minus(first, last), side[1]))}`);
+        const at = [0, 1].map((i) => point[i] + side[0][i] + Math.trunc(side[1][i] / by) + side[7][i] / 2);
+        letter += sign(at, wanted);
       }
       bands.push(band);
-      bandSigns.push(bandSign);
+      letters.push(letter);
+    });
+    return group(JOINED, bands) + (signs ? group(`${font(13)} ${BOLD}`, letters) : "");
+  }
+
+  // Tiles, each [tile, turn], at places on the board or below it.
+  function tilesAt(puzzle, places, placements, { part, sign, edge }, { thick, signs, numbers }) {
+    const { mate, shows, sides, turns } = puzzle, parts = [], outlines = [], letters = [], arrows = [], discs = [], labels = [];
+    const [radius, size, away] = sides === 4 ? [13, 13, [40, 40]] : [9, 12, [0, 60]];
+    places.forEach(({ point, table }, place) => {
+      const [tile, turn] = placements[place], middle = table === DOWN ? minus(point, away) : plus(point, away);
+      let own = "", outline = from(plus(point, table[0][0])), letter = "";
+      for (let k = 0; k < sides; k++) {
+        const side = table[k], colour = shows[tile * 16 + turn * 4 + k], curve = edge(colour, side);
+        own += part(colour, `${from(plus(point, side[0]))}${curve}${step(side[2])}`);
+        outline += curve;
+        letter += sign(plus(point, side[mate[colour] < colour ? 6 : 5]), colour);
+      }
       parts.push(own);
       outlines.push(`<path d="${outline}z"/>`);
-      signs.push(letters);
+      letters.push(letter);
+      discs.push(`<circle cx="${middle[0]}" cy="${middle[1]}" r="${radius}"/>`);
+      labels.push(`<text x="${middle[0]}" y="${middle[1] + 5}">${tile}</text>`);
       if (!turns) arrows.push(`<path d="${from(plus(point, [12, 6]))}l6 8h-4v7h-4v-7h-4z"/>`);
-      words.push(`${tile}.${turn} ${word}`);
     });
-    const joined = 'stroke="#fff" stroke-linejoin="round"', lines = 'stroke="#222"';
-    const font = (size) => `font-family="monospace" font-size="${size}" text-anchor="middle" font-weight="bold"`;
-    const thick = large ? 2 : Math.ceil(Math.max(width, height) / 200);
-    const numbers = drawn.kind === "rect" || drawn.kind === "shape" ? `${drawn.width} ${drawn.height}` : drawn.width;
+    return [
+      group(JOINED, parts),
+      group(`fill="none" ${LINES} stroke-width="${thick}" stroke-linejoin="round"`, outlines),
+      signs ? group(`${font(14)} ${BOLD}`, letters) : "",
+      numbers ? group(`fill="#fff" ${LINES}`, discs) + group(font(size), labels) : "",
+      group(`fill="#fff" ${LINES} stroke-linejoin="round"`, arrows),
+    ].join("");
+  }
+
+  function describe({ shows, sides, turns }, placements) {
+    const words = placements.map(([tile, turn]) => {
+      const colours = Array.from({ length: sides }, (_, k) => shows[tile * 16 + turn * 4 + k].toString(36));
+      return `${tile}.${turn} ${colours.join("")}`;
+    });
+    const begin = turns ? "" : "Tiles may not be turned. ";
+    return `${begin}By cell the tile, its turns and its colours: ${words.join(", ")}`;
+  }
+
+  // The tiles that an arrangement leaves over, unturned.
+  function spareOf({ tiles }, placements) {
+    const placed = new Set(placements.map(([tile]) => tile));
+    return Array.from({ length: tiles }, (_, tile) => [tile, 0]).filter(([tile]) => !placed.has(tile));
+  }
+
+  function edgematchPicture(puzzle, line, number, large, numbers) {
+    const { drawn, sides } = puzzle, layout = layoutOf(drawn), inks = inksOf(puzzle, layout.knob);
+    const placements = line.split(" ").map((it) => it.split(".").map(Number));
+    const spare = large ? spareOf(puzzle, placements) : [], thick = Math.ceil(Math.max(...layout.size) / 200);
+    const labels = large ? { thick: 2, signs: true, numbers } : { thick, signs: false, numbers: false };
+    const tray = spare.length > 0 ? trayOf(spare.length, sides, layout.size) : { places: [], size: [0, 0] };
+    const [width, height] = [0, 1].map((i) => Math.max(layout.size[i], tray.size[i]));
+    const size = drawn.kind === "rect" || drawn.kind === "shape" ? `${drawn.width} ${drawn.height}` : drawn.width;
     return [
       `<svg xmlns="http://www.w3.org/2000/svg" width="${width}" height="${height}" viewBox="0 0 ${width} ${height}" `,
-      `role="img">\n<title>Arrangement ${number}: board ${drawn.kind} ${numbers}</title>\n`,
-      `<desc>${turns ? "" : "Tiles may not be turned. "}By cell the tile, its turns and its colours: `,
-      `${words.join(", ")}</desc>\n<path fill="#fff" d="M0 0h${width}v${height}H0z"/>\n`,
-      group(joined, bands),
-      large ? group(font(13), bandSigns) : "",
-      group(joined, parts),
-      group(`fill="none" ${lines} stroke-width="${thick}" stroke-linejoin="round"`, outlines),
-      large ? group(font(14), signs) : "",
-      group(`fill="#fff" ${lines} stroke-linejoin="round"`, arrows),
+      `role="img">\n<title>Arrangement ${number}: board ${drawn.kind} ${size}</title>\n`,
+      `<desc>${describe(puzzle, placements)}</desc>\n<path fill="#fff" d="M0 0h${width}v${height}H0z"/>\n`,
+      bandsOf(puzzle, layout, inks, labels.signs),
+      tilesAt(puzzle, layout.cells, placements, inks, labels),
+      tilesAt(puzzle, tray.places, spare, inks, { ...labels, numbers: true }),
       "</svg>\n",
     ].join("");
   }

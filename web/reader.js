@@ -202,7 +202,7 @@
     element("answer-words").textContent = inWords(answer);
     element("answer").hidden = false;
     NAMES.forEach((name, i) => (element(`${name}-digest`).textContent = digests[i]));
-    say(`Checked in ${seconds.toFixed(1)} seconds: ${answer.line}.`);
+    say(`Checked in ${seconds.toFixed(1)} seconds.`);
     if (answer.status < 2) showChecked(answer.status === 0);
   }
 
@@ -292,13 +292,15 @@
 
   function picture(number, large) {
     const line = latin(list.subarray(starts[number], list.indexOf(10, starts[number])));
-    const text = edgematchPicture(puzzle, line, number, large);
+    const text = edgematchPicture(puzzle, line, number, large, puzzle.tiles > puzzle.cells);
     return document.importNode(new DOMParser().parseFromString(text, "image/svg+xml").documentElement, true);
   }
 
   function showLarge(number) {
     element("large").replaceChildren(picture(number, true));
-    element("large-name").textContent = `Arrangement ${grouped(number)}`;
+    const spare = puzzle.tiles - puzzle.cells, below = spare === 1 ? "is the tile" : `are the ${spare} tiles`;
+    const name = `Arrangement ${grouped(number)}`;
+    element("large-name").textContent = spare > 0 ? `${name}. Below it ${below} left over.` : name;
   }
 
   function figureOf(number) {
