@@ -59,7 +59,8 @@
   function ready() {
     const absent = missing();
     if (absent.length === 0) return "All three texts are here.";
-    return `Still wanted: the ${absent.join(" and the ")}.`;
+    const last = `the ${absent.pop()}`;
+    return `Still wanted: ${absent.map((name) => `the ${name}`).join(", ")}${absent.length > 0 ? " and " : ""}${last}.`;
   }
 
   // An answer is of the texts that were checked: it goes where others come.
@@ -202,16 +203,27 @@
     element("answer-words").textContent = inWords(answer);
     element("answer").hidden = false;
     NAMES.forEach((name, i) => (element(`${name}-digest`).textContent = digests[i]));
-    say(`Checked in ${seconds.toFixed(1)} seconds.`);
+    say(seconds < 0.1 ? "Checked in less than 0.1 seconds." : `Checked in ${seconds.toFixed(1)} seconds.`);
     if (answer.status < 2) showChecked(answer.status === 0);
+  }
+
+  // What a refusal means, as docs/FORMATS.md has it. The line itself says what exactly, and where.
+  function refusalInWords(line) {
+    const [, kind, number] = line.split(" ");
+    if (kind === "list") return `Arrangement ${number} of the list is no arrangement of the puzzle.`;
+    if (kind === "repeated") return `Arrangement ${number} of the list stands there before.`;
+    const fault = {
+      symmetry: `its symmetry ${number} is none of the puzzle`,
+      prefix: `its lemma ${number} begins with tiles that can’t stand there`,
+      root: "it has no last lemma about the empty board",
+      tree: `its lemma ${number} says what isn’t so`,
+    }[kind];
+    return `The certificate doesn’t show that the list is complete: ${fault}. The list may be complete all the same.`;
   }
 
   function inWords({ status, line, symmetries }) {
     if (status === 2) return "The texts aren’t a puzzle, a list and a certificate. The first fault is named above.";
-    if (status === 1) {
-      return "The certificate doesn’t show that the list is complete. The list may be complete all the same. "
-        + "The first fault is named above; “edgematch explain” says more of it.";
-    }
+    if (status === 1) return `${refusalInWords(line)} “edgematch explain” says more of it.`;
     const number = Number(line.split(" ")[1]), one = number === 1;
     if (number === 0) return "Nothing is listed, and that is right: the puzzle has no arrangement.";
     const listed = one ? "The listed arrangement is right" : `All ${grouped(number)} listed arrangements are right`;
@@ -268,10 +280,12 @@
       ["Tiles may be turned", turns ? "yes" : "no"],
       ["Colours", grouped(colours)],
       ["Where sides meet", own ? "equal colours" : "a colour and its mate"],
-      ["Outer sides", `${grouped(outer)}, of which ${grouped(askedOuter)} have to show a certain colour`],
+      ["Outer sides", `${grouped(outer)}; ${asking(askedOuter, outer)} to show a certain colour`],
       ...(askedInner > 0 ? [["Other sides with a clue", grouped(askedInner)]] : []),
     ];
   }
+
+  const asking = (some, all) => (some === 0 ? "none has" : some === all ? "each has" : `${grouped(some)} of them have`);
 
   function factRow([name, value]) {
     const row = document.createElement("tr"), head = document.createElement("th"), cell = document.createElement("td");
@@ -298,9 +312,10 @@
 
   function showLarge(number) {
     element("large").replaceChildren(picture(number, true));
-    const spare = puzzle.tiles - puzzle.cells, below = spare === 1 ? "is the tile" : `are the ${spare} tiles`;
+    const spare = puzzle.tiles - puzzle.cells, be = spare === 1 ? "is" : "are";
+    const below = spare === 1 ? "is the tile" : `are the ${grouped(spare)} tiles`;
     const name = `Arrangement ${grouped(number)}`;
-    element("large-name").textContent = spare > 0 ? `${name}. Below it ${below} left over.` : name;
+    element("large-name").textContent = spare > 0 ? `${name}. Below it ${below} that ${be} left over.` : name;
   }
 
   function figureOf(number) {
