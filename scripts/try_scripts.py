@@ -178,8 +178,8 @@ def packs(top, folder):
 
 
 def second_checker_in(root):
-    """What isn't as wanted of an archive for who can't run the program: the README begins with the page, which is there as
-    the sources have it, beside the checker for node; and that checks an example of the archive, where there is node."""
+    """What isn't as wanted of an archive for who can't run the program: its README begins with the page, which is there
+    as the sources have it, beside the checker for node; and where there is node, that checks an example."""
     with open(os.path.join(root, "README.md"), encoding="utf-8") as file:
         text = file.read()
     if not 0 < text.find("`web/check.html`") < text.find("bin/edgematch"):

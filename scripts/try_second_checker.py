@@ -5,8 +5,9 @@ It has to answer as each case of `cases/` and each example wants it, with the th
 texts cut at every byte. On texts that are generated, most of them faulty, it has to answer as the program does: N of
 them, 300 unless given, each the texts of an example or a case with some words or bytes changed. The command line,
 web/cli.js, has to give the same lines on the same streams with the same status, for files that aren't there too. The
-page's pictures, web/draw.js, have to be those of docs/pictures and of cases, byte for byte. With --mutants wrong checkers are made,
-each by one change of check.js that scripts/wrong_checkers.toml has, and one of the cases has to notice each.
+page's pictures, web/draw.js, have to be those of docs/pictures and of cases, byte for byte. With --mutants wrong
+checkers are made, each by one change of check.js that scripts/wrong_checkers.toml has, and one of the cases has to
+notice each.
 
 Where there is no node on the path it says so, and tries nothing. It ends with 0 where all is as wanted, else with 1. It
 takes some seconds.
